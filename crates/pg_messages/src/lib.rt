@@ -1,0 +1,16 @@
+// Messages of the PostgreSQL frontend/backend protocol: their values, their bytes, and the frames of a stream.
+#![tactic(auto)]
+
+mod backend;
+mod codec;
+mod frontend;
+mod values;
+
+pub use backend::{
+    AuthenticationOk, BackendKeyData, BindComplete, CommandComplete, DataRow, ErrorInfo,
+    ErrorResponse, ParameterStatus, ParseComplete, PgWireBackendMessage, ReadyForQuery,
+    TransactionStatus,
+};
+pub use codec::{DecodeContext, FrameError, PgWireMessageServerCodec, ProtocolVersion};
+pub use frontend::{Bind, Execute, Parse, PgSync, PgWireFrontendMessage, Startup, Terminate};
+pub use values::{PgBytes, PgList, PgStr};
