@@ -33,6 +33,14 @@ impl PgStr {
     {
         self.text.as_str()
     }
+
+    /// The text as a `String`, which is kept where it is.
+    pub fn into_string(self) -> String
+        ensures { string_bytes result ≡ self }
+    {
+        let PgStr { text } = self;
+        text
+    }
 }
 
 /// Bytes that the protocol carries without a meaning of its own.

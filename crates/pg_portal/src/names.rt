@@ -1,0 +1,64 @@
+ghost use Rattle.std.specs.Prelude.{◌≡◌, OnOk, OnErr};
+ghost use Rattle.std.specs.Option.{option_copied};
+ghost use Rattle.std.specs.FinMap as map;
+
+use pg_messages::PgStr;
+use std::alloc::{AllocError, Global};
+use std::collections::BTreeMap;
+use std::marker::Model;
+
+/// Entries under names, which are compared by their bytes.
+#[derive(Drop)]
+pub struct Named<T> {
+    entries: BTreeMap<String, T>,
+}
+
+impl<T> Model for Named<T> {
+    ghost use Rattle.std.specs.FinMap as fin;
+    ghost use Rattle.std.specs.Coded.{coded_list, coded_ℕ};
+    ghost use Rattle.pg_portal.specs.Names.{NameMap, name_map};
+
+    ghost Value = { NameMap T };
+
+    ghost coded = { fin.code (coded_list coded_ℕ) T.code };
+
+    ghost view = { λ n. name_map n.entries.entries };
+}
+
+impl<T> Named<T> {
+    /// No entry, which takes no memory.
+    pub fn new(alloc: Global) -> Named<T>
+        ensures { result ≡ map.empty }
+    {
+        Named {
+            entries: BTreeMap::new(alloc),
+        }
+    }
+
+    /// The entry under a name, or None exactly where there is none.
+    pub fn get(&self, name: &str) -> Option<&T>
+        ensures { option_copied result ≡ map.get self.now name.now }
+    {
+        self.entries.get(name)
+    }
+
+    /// Puts an entry under a name, in the place of one that is there. After an error nothing has changed.
+    pub fn put(&mut self, name: PgStr, entry: T) -> Result<(), AllocError>
+    where
+        T: Drop,
+        ensures ok { OnOk result (self.new ≡ map.insert self.old name entry) }
+        ensures err { OnErr result (self.new ≡ self.old) }
+    {
+        self.entries.insert(name.into_string(), entry)?;
+        Ok(())
+    }
+
+    /// Removes the entry under a name, if there is one.
+    pub fn remove(&mut self, name: &str)
+    where
+        T: Drop,
+        ensures { self.new ≡ map.remove self.old name.now }
+    {
+        self.entries.remove(name);
+    }
+}
