@@ -1,0 +1,5 @@
+pub mod Script
+pub mod Streams
+pub mod Queries
+pub mod Conversation
+pub mod Run

@@ -1,0 +1,135 @@
+ghost use Rattle.std.specs.Prelude.{◌≡◌, ℕ, ℤ, List, ◌++◌, [], ◌∷◌, IfOk, OnOk, OnErr};
+ghost use Rattle.pg_session.specs.declared.desk.DeskCall.{DeskCall};
+ghost use Rattle.pg_session.specs.Script.{first_or_no};
+
+use pg_messages::PgList;
+use std::alloc::{AllocError, Global};
+use std::marker::Model;
+
+/// A call of the cancel registry, with its answer.
+#[derive(Clone, Copy, Debug, PartialEq, Eq)]
+pub enum DeskCall {
+    /// A query was started.
+    Start,
+    /// Whether the running query was canceled.
+    Ask(bool),
+    /// The pid and key whose query was to be canceled, and whether there is such a registration.
+    Cancel(i32, [u8; 4], bool),
+}
+
+/// What a session sees of the cancel registry: its own registration.
+pub trait CancelDesk {
+    // the pid and the key of the registration
+    ghost registration: { Self → ℤ × List ℕ };
+
+    // the calls so far, with their answers
+    ghost calls: { Self → List DeskCall };
+
+    /// The pid and the key that the client is told.
+    fn identity(&self) -> (i32, [u8; 4])
+        ensures { result ≡ registration self.now };
+
+    /// Notes that a query starts. After an error nothing has changed.
+    fn start(&mut self) -> Result<(), AllocError>
+        ensures ok { OnOk result (calls self.new ≡ calls self.old ++ DeskCall.Start ∷ []) }
+        ensures err { OnErr result (calls self.new ≡ calls self.old) }
+        ensures same { registration self.new ≡ registration self.old };
+
+    /// Whether the running query was canceled. After an error nothing has changed.
+    fn ask(&mut self) -> Result<bool, AllocError>
+        ensures ok { IfOk result (λ yes. calls self.new ≡ calls self.old ++ DeskCall.Ask yes ∷ []) }
+        ensures err { OnErr result (calls self.new ≡ calls self.old) }
+        ensures same { registration self.new ≡ registration self.old };
+
+    /// Cancels the query of the registration with this pid and key, and tells whether there is one.
+    /// After an error nothing has changed.
+    fn cancel(&mut self, pid: i32, key: [u8; 4]) -> Result<bool, AllocError>
+        ensures ok { IfOk result
+            (λ yes. calls self.new ≡ calls self.old ++ DeskCall.Cancel pid key yes ∷ []) }
+        ensures err { OnErr result (calls self.new ≡ calls self.old) }
+        ensures same { registration self.new ≡ registration self.old };
+}
+
+/// A desk that answers from a list, in its order, and no past its end.
+#[derive(Drop)]
+pub struct ScriptDesk {
+    pid: i32,
+    key: [u8; 4],
+    answers: PgList<bool>,
+    taken: usize,
+    calls: Vec<DeskCall>,
+}
+
+impl Model for ScriptDesk {
+    ghost use Rattle.std.specs.Prelude.{drop};
+    ghost use Rattle.pg_session.specs.Script.{Script};
+
+    ghost Value = { Script };
+
+    ghost view = { λ d. record { pid = d.pid; key = d.key; answers = drop d.taken d.answers; calls = d.calls.items } };
+}
+
+impl ScriptDesk {
+    /// A desk of this registration, with these answers to come.
+    pub fn new(alloc: Global, pid: i32, key: [u8; 4], answers: PgList<bool>) -> ScriptDesk
+        ensures pid { result.pid ≡ pid }
+        ensures key { result.key ≡ key }
+        ensures answers { result.answers ≡ answers }
+        ensures calls { result.calls ≡ [] }
+    {
+        ScriptDesk {
+            pid,
+            key,
+            answers,
+            taken: 0,
+            calls: Vec::new(alloc),
+        }
+    }
+
+    /// The calls so far, with their answers.
+    pub fn calls(&self) -> &[DeskCall]
+        ensures { result.now ≡ self.now.calls }
+    {
+        self.calls.as_slice()
+    }
+
+    /// The next answer, or no past the end of the list.
+    fn next_answer(&self) -> bool
+        ensures { result ≡ first_or_no self.now.answers }
+    {
+        self.answers
+            .as_slice()
+            .get(self.taken)
+            .copied()
+            .unwrap_or(false)
+    }
+}
+
+impl CancelDesk for ScriptDesk {
+    ghost registration = { λ d. (d.pid, d.key) };
+
+    ghost calls = { λ d. d.calls };
+
+    fn identity(&self) -> (i32, [u8; 4]) {
+        (self.pid, self.key)
+    }
+
+    fn start(&mut self) -> Result<(), AllocError> {
+        self.calls.push(DeskCall::Start)?;
+        Ok(())
+    }
+
+    fn ask(&mut self) -> Result<bool, AllocError> {
+        let yes = self.next_answer();
+        self.calls.push(DeskCall::Ask(yes))?;
+        self.taken = self.taken.saturating_add(1);
+        Ok(yes)
+    }
+
+    fn cancel(&mut self, pid: i32, key: [u8; 4]) -> Result<bool, AllocError> {
+        let yes = self.next_answer();
+        self.calls.push(DeskCall::Cancel(pid, key, yes))?;
+        self.taken = self.taken.saturating_add(1);
+        Ok(yes)
+    }
+}

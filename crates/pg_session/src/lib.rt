@@ -1,0 +1,16 @@
+// The conversation of a server with one client: what each message is answered, and the session that answers it.
+#![tactic(auto)]
+
+mod desk;
+mod ends;
+mod outbox;
+mod rows;
+mod state;
+mod streams;
+
+pub use desk::{CancelDesk, DeskCall, ScriptDesk};
+pub use ends::{EndKind, Progress, ServeError, Turns};
+pub use outbox::Outbox;
+pub use rows::FirstRows;
+pub use state::SessionState;
+pub use streams::{Sink, SinkError, Source, SourceFailed};
