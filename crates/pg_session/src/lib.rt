@@ -4,6 +4,8 @@
 mod desk;
 mod ends;
 mod outbox;
+mod query;
+mod replies;
 mod rows;
 mod state;
 mod streams;
