@@ -10,11 +10,20 @@ use Rattle.pg_portal.specs.declared.portal.Store.{Store}
 use Rattle.pg_session.specs.declared.state.SessionState.{SessionState}
 use Rattle.pg_session.specs.declared.desk.DeskCall.{DeskCall}
 use Rattle.pg_session.specs.declared.ends.EndKind.{EndKind}
-use Rattle.pg_session.specs.Conversation.{Setting, Answer, Next, Goes, Ends}
-use Rattle.pg_session.specs.Run.{awaits}
+use Rattle.pg_session.specs.Conversation.{Told, Setting, Answer, Next, Goes, Ends}
+use Rattle.pg_session.specs.Streams.{BeginsWith}
+
+abbrev pub told_by : (List ℕ → Option ℕ) → (ℕ → List DataRow) → Told
+told_by relation_of rows_of = record { relation_of = relation_of; rows_of = rows_of }
 
 abbrev pub setting_of : (List ℕ → Option ℕ) → (ℕ → List DataRow) → ℤ → List ℕ → Setting
-setting_of relation_of rows_of pid key = record { told = record { relation_of = relation_of; rows_of = rows_of }; pid = pid; key = key }
+setting_of relation_of rows_of pid key = record { told = told_by relation_of rows_of; pid = pid; key = key }
+
+-- a list has grown by a front of others
+pub record GrowsByFrontOf {A : Type 0} (others old new : List A) : Type 0 where
+  pub front : List A
+  pub begins : BeginsWith others front
+  pub grown : new ≡ old ++ front
 
 -- The bytes that wait to be sent have grown by those of the replies.
 pub record Appends (out new_out : List ℕ) (replies : List PgWireBackendMessage) : Type 0 where

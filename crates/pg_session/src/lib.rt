@@ -7,6 +7,7 @@ mod outbox;
 mod query;
 mod replies;
 mod rows;
+mod rules;
 mod state;
 mod streams;
 
