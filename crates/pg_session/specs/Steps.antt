@@ -1,11 +1,13 @@
 -- What one message does to a session: the outbox and the registry's calls grow by its answer, and the state is the next one.
-use Rattle.std.specs.Prelude.{ℕ, ℤ, Bool, List, ◌++◌, ◌≡◌, ◌≢◌, Option, Some, None, IfSome}
+use Rattle.std.specs.Prelude.{ℕ, ℤ, Bool, List, ◌++◌, ◌≡◌, ◌<◌, Option, Some, None}
 use Rattle.std.specs.FinMap as fin
 use Rattle.pg_messages.specs.declared.backend.DataRow.{DataRow}
 use Rattle.pg_messages.specs.declared.frontend.PgWireFrontendMessage.{PgWireFrontendMessage}
 use Rattle.pg_messages.specs.declared.backend.PgWireBackendMessage.{PgWireBackendMessage}
 use Rattle.pg_messages.specs.Frames.{IsFrame}
 use Rattle.pg_messages.specs.Replies.{replies_bytes}
+use Rattle.pg_portal.specs.declared.portal.Statement.{Statement}
+use Rattle.pg_portal.specs.declared.portal.Portal.{Portal}
 use Rattle.pg_portal.specs.declared.portal.Store.{Store}
 use Rattle.pg_session.specs.declared.state.SessionState.{SessionState}
 use Rattle.pg_session.specs.declared.desk.DeskCall.{DeskCall}
@@ -40,14 +42,10 @@ abbrev pub next_of : Option EndKind → SessionState → Next
 next_of None s = Goes s
 next_of (Some kind) s = Ends kind
 
--- a relation that a query can name
-abbrev pub IsNamed : (List ℕ → Option ℕ) → ℕ → Type 0
-IsNamed relation_of relation = (name : List ℕ) × (relation_of name ≡ Some relation)
-
--- each stored statement and portal is of a relation that a query can name
-pub record IsGoodStore (relation_of : List ℕ → Option ℕ) (store : Store) : Type 0 where
-  pub statements : (name : List ℕ) → IfSome (fin.get store.statements name) (λ statement. IsNamed relation_of statement.relation)
-  pub portals : (name : List ℕ) → IfSome (fin.get store.portals name) (λ portal. IsNamed relation_of portal.relation)
+-- Each stored statement and portal is of one of the relations, of which there are so many.
+pub record IsGoodStore (count : ℕ) (store : Store) : Type 0 where
+  pub statements : (name : List ℕ) (statement : Statement) → fin.get store.statements name ≡ Some statement → statement.relation < count
+  pub portals : (name : List ℕ) (portal : Portal) → fin.get store.portals name ≡ Some portal → portal.relation < count
 
 -- the message is one that a good frame carries
 abbrev pub IsGiven : Bool → PgWireFrontendMessage → Type 0

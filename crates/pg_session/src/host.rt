@@ -83,11 +83,11 @@ impl<H: FirstRows> Host<H> {
         message: PgWireFrontendMessage,
     ) -> Result<Option<EndKind>, AllocError>
         requires given { IsGiven (awaits state.old) message }
-        requires good { IsGoodStore (H.relation_of (arc_value self.now.handlers)) state.old.store }
+        requires good { IsGoodStore (H.count (arc_value self.now.handlers)) state.old.store }
         ensures answer { IfOk result (λ end. (answers : List Bool) → IsCarriedOut
             (answer (setting_of (H.relation_of (arc_value self.now.handlers)) (H.rows_of (arc_value self.now.handlers)) self.now.pid self.now.key) answers state.old message)
             outbox.old outbox.new (D.calls desk.old) (D.calls desk.new) (next_of end state.new)) }
-        ensures good { OnOk result (IsGoodStore (H.relation_of (arc_value self.now.handlers)) state.new.store) }
+        ensures good { OnOk result (IsGoodStore (H.count (arc_value self.now.handlers)) state.new.store) }
         ensures err { OnErr result ((answers : List Bool) → GrowsByFrontOf
             (answer (setting_of (H.relation_of (arc_value self.now.handlers)) (H.rows_of (arc_value self.now.handlers)) self.now.pid self.now.key) answers state.old message).calls
             (D.calls desk.old) (D.calls desk.new)) }
@@ -118,8 +118,8 @@ impl<H: FirstRows> Host<H> {
         ensures answer { IfOk result (λ end. (answers : List Bool) → IsCarriedOut
             (row (setting_of (H.relation_of (arc_value self.now.handlers)) (H.rows_of (arc_value self.now.handlers)) self.now.pid self.now.key) answers state.old phase.AwaitingStartup message.now)
             outbox.old outbox.new [] [] (next_of end state.new)) }
-        ensures good { (relation_of : List ℕ → Option ℕ) → IsGoodStore relation_of state.old.store
-            → OnOk result (IsGoodStore relation_of state.new.store) }
+        ensures good { (count : ℕ) → IsGoodStore count state.old.store
+            → OnOk result (IsGoodStore count state.new.store) }
     {
         let PgWireFrontendMessage::Startup(_) = message else {
             return Ok(Some(EndKind::BadFrame));
@@ -144,11 +144,11 @@ impl<H: FirstRows> Host<H> {
         message: PgWireFrontendMessage,
     ) -> Result<Option<EndKind>, AllocError>
         requires given { IsGiven false message }
-        requires good { IsGoodStore (H.relation_of (arc_value self.now.handlers)) state.old.store }
+        requires good { IsGoodStore (H.count (arc_value self.now.handlers)) state.old.store }
         ensures answer { IfOk result (λ end. (answers : List Bool) → IsCarriedOut
             (row (setting_of (H.relation_of (arc_value self.now.handlers)) (H.rows_of (arc_value self.now.handlers)) self.now.pid self.now.key) answers state.old phase.ReadyForQuery message)
             outbox.old outbox.new (D.calls desk.old) (D.calls desk.new) (next_of end state.new)) }
-        ensures good { OnOk result (IsGoodStore (H.relation_of (arc_value self.now.handlers)) state.new.store) }
+        ensures good { OnOk result (IsGoodStore (H.count (arc_value self.now.handlers)) state.new.store) }
         ensures err { OnErr result ((answers : List Bool) → GrowsByFrontOf
             (row (setting_of (H.relation_of (arc_value self.now.handlers)) (H.rows_of (arc_value self.now.handlers)) self.now.pid self.now.key) answers state.old phase.ReadyForQuery message).calls
             (D.calls desk.old) (D.calls desk.new)) }
@@ -176,8 +176,8 @@ fn on_awaiting_sync(
 ) -> Result<Option<EndKind>, AllocError>
     ensures answer { IfOk result (λ end. (setting : Setting) (answers : List Bool) → IsCarriedOut
         (row setting answers state.old phase.AwaitingSync message.now) outbox.old outbox.new [] [] (next_of end state.new)) }
-    ensures good { (relation_of : List ℕ → Option ℕ) → IsGoodStore relation_of state.old.store
-        → OnOk result (IsGoodStore relation_of state.new.store) }
+    ensures good { (count : ℕ) → IsGoodStore count state.old.store
+        → OnOk result (IsGoodStore count state.new.store) }
 {
     match message {
         PgWireFrontendMessage::Startup(_) => Ok(Some(EndKind::BadFrame)),
