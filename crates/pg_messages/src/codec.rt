@@ -5,6 +5,7 @@ ghost use Rattle.pg_messages.specs.declared.codec.ProtocolVersion.TheVariants.{P
 
 use crate::backend::PgWireBackendMessage;
 use crate::frontend::PgWireFrontendMessage;
+use crate::writing::{body_len, put_body, type_byte};
 use bytes::BytesMut;
 use std::alloc::{AllocError, Global};
 
@@ -92,8 +93,11 @@ impl PgWireMessageServerCodec {
         ensures err { OnErr result (dst.new.items ≡ dst.old.items) }
         ensures context { self.new ≡ self.old }
     {
-        let _ = item;
-        let _ = dst;
-        Err(AllocError)
+        let len = body_len(item);
+        dst.reserve(len + 5)?;
+        dst.extend_reserved(&[type_byte(item)]);
+        dst.extend_reserved(&(len as u32 + 4).to_be_bytes());
+        put_body(item, dst);
+        Ok(())
     }
 }

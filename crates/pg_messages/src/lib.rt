@@ -5,6 +5,7 @@ mod backend;
 mod codec;
 mod frontend;
 mod values;
+mod writing;
 
 pub use backend::{
     AuthenticationOk, BackendKeyData, BindComplete, CommandComplete, DataRow, ErrorInfo,
