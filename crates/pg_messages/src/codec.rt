@@ -34,6 +34,17 @@ pub enum FrameError {
     NoMemory,
 }
 
+impl From<AllocError> for FrameError {
+    ghost use Rattle.std.specs.Prelude.{◌≡◌};
+    ghost use Rattle.pg_messages.specs.declared.codec.FrameError.TheVariants.{NoMemory};
+
+    ghost from_gives = { λ _ e. e ≡ NoMemory };
+
+    fn from(_e: AllocError) -> FrameError {
+        FrameError::NoMemory
+    }
+}
+
 /// Reads the frames of a client and writes the replies to it.
 #[derive(Drop)]
 pub struct PgWireMessageServerCodec {

@@ -3,6 +3,7 @@
 
 mod backend;
 mod codec;
+mod fields;
 mod frontend;
 mod values;
 mod writing;

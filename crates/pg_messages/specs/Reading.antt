@@ -1,0 +1,65 @@
+-- Reading fields from left to right, as functions on lists: the value and the bytes after it, or None where
+-- no value stands there. They tie the private readers to the layouts; no public promise cites them.
+use Rattle.std.specs.Prelude.{◌≡◌, ℕ, ℤ, zero, suc, ◌+◌, ◌-◌, ◌^◌, Bool, List, [], ◌∷◌, length, take, drop, Option, Some, None, option_and_then, Result, Ok, Err, nat_lt, ◌==◌, if◌then◌else◌}
+use Rattle.std.specs.List.{position}
+use Rattle.std.specs.Int.{Width, w16, w32, byte_len, from_be_bytes, cast_signed}
+use Rattle.std.specs.Str.{is_utf8}
+use Rattle.pg_messages.specs.declared.codec.FrameError.{FrameError}
+use Rattle.pg_messages.specs.declared.codec.FrameError.TheVariants as errors
+use Rattle.pg_messages.specs.declared.frontend.Startup.{Startup}
+use Rattle.pg_messages.specs.declared.frontend.Parse.{Parse}
+use Rattle.pg_messages.specs.declared.frontend.Bind.{Bind}
+use Rattle.pg_messages.specs.declared.frontend.Execute.{Execute}
+
+-- What a call returned, seen by view, is what reading gives, unless memory ran out.
+abbrev pub Gives : {X Y : Type 0} → (X → Y) → Result X FrameError → Option Y → Type 0
+Gives view (Ok x) read = read ≡ Some (view x)
+Gives view (Err errors.Bad) read = read ≡ None
+Gives view (Err errors.NoMemory) read = Unit {0}
+
+infixl 10 ◌>>=◌
+abbrev pub ◌>>=◌ : {A B : Type 0} → Option A → (A → Option B) → Option B
+o >>= f = option_and_then f o
+
+-- one field, and another behind it
+abbrev pub both_at : {X Y : Type 0} → (List ℕ → Option (X × List ℕ)) → (List ℕ → Option (Y × List ℕ)) → List ℕ → Option ((X × Y) × List ℕ)
+both_at first second bytes = first bytes >>= λ x. second x.1 >>= λ y. Some ((x.0, y.0), y.1)
+
+-- a field seen as another value
+abbrev pub as_at : {X Y : Type 0} → (X → Y) → (List ℕ → Option (X × List ℕ)) → List ℕ → Option (Y × List ℕ)
+as_at f field bytes = field bytes >>= λ x. Some (f x.0, x.1)
+
+-- n fields of one kind
+abbrev pub items_at : {X : Type 0} → (List ℕ → Option (X × List ℕ)) → ℕ → List ℕ → Option (List X × List ℕ)
+items_at field zero bytes = Some ([], bytes)
+items_at field (suc n) bytes = field bytes >>= λ x. items_at field n x.1 >>= λ xs. Some (x.0 ∷ xs.0, xs.1)
+
+-- a field that is all of the bytes
+abbrev pub whole : {X : Type 0} → Option (X × List ℕ) → Option X
+whole read = read >>= λ x. if length x.1 == 0 then Some x.0 else None
+
+-- a number without a sign
+abbrev pub number_at : Width → List ℕ → Option (ℕ × List ℕ)
+number_at w bytes = if nat_lt (length bytes) (byte_len w) then None else Some (from_be_bytes w (take (byte_len w) bytes), drop (byte_len w) bytes)
+
+-- a number with a sign
+abbrev pub signed_at : Width → List ℕ → Option (ℤ × List ℕ)
+signed_at w bytes = as_at (cast_signed w) (number_at w) bytes
+
+-- Int16 of a count, which isn't negative
+unfoldable pub count_at : List ℕ → Option (ℕ × List ℕ)
+count_at bytes = number_at w16 bytes >>= λ n. if nat_lt n.0 (2 ^ 15) then Some n else None
+
+-- a count, and as many fields
+abbrev pub list_at : {X : Type 0} → (List ℕ → Option (X × List ℕ)) → List ℕ → Option (List X × List ℕ)
+list_at field bytes = count_at bytes >>= λ n. items_at field n.0 n.1
+
+-- a text up to its zero byte
+unfoldable pub string_at : List ℕ → Option (List ℕ × List ℕ)
+string_at bytes = position (λ byte. byte == 0) bytes >>= λ n. if is_utf8 (take n bytes) then Some (take n bytes, drop (n + 1) bytes) else None
+
+-- a value behind its length, or null
+unfoldable pub value_at : List ℕ → Option (Option (List ℕ) × List ℕ)
+value_at bytes = number_at w32 bytes >>= λ n.
+    if n.0 == 4294967295 then Some (None, n.1)
+    else (if nat_lt n.0 (2 ^ 31) then (if nat_lt (length n.1) n.0 then None else Some (Some (take n.0 n.1), drop n.0 n.1)) else None)
