@@ -3,6 +3,7 @@
 use Rattle.std.specs.Prelude.{◌≡◌, ℕ, ℤ, zero, suc, ◌+◌, ◌-◌, ◌^◌, Bool, List, [], ◌∷◌, length, take, drop, Option, Some, None, option_and_then, Result, Ok, Err, nat_lt, ◌==◌, if◌then◌else◌}
 use Rattle.std.specs.List.{position}
 use Rattle.std.specs.Int.{Width, w16, w32, byte_len, from_be_bytes, cast_signed}
+use Rattle.std.specs.Option.{option_map_or}
 use Rattle.std.specs.Str.{is_utf8}
 use Rattle.pg_messages.specs.declared.codec.FrameError.{FrameError}
 use Rattle.pg_messages.specs.declared.codec.FrameError.TheVariants as errors
@@ -63,3 +64,35 @@ unfoldable pub value_at : List ℕ → Option (Option (List ℕ) × List ℕ)
 value_at bytes = number_at w32 bytes >>= λ n.
     if n.0 == 4294967295 then Some (None, n.1)
     else (if nat_lt n.0 (2 ^ 31) then (if nat_lt (length n.1) n.0 then None else Some (Some (take n.0 n.1), drop n.0 n.1)) else None)
+
+-- what follows a zero byte, where one stands in front
+abbrev pub after_zero : List ℕ → Option (List ℕ)
+after_zero [] = None
+after_zero (zero ∷ rest) = Some rest
+after_zero (suc byte ∷ rest) = None
+
+-- pairs of texts up to a zero byte in the place of a name; fewer than n of them
+unfoldable pub parameters_at : ℕ → List ℕ → Option (List (List ℕ × List ℕ) × List ℕ)
+parameters_at zero bytes = None
+parameters_at (suc n) bytes = option_map_or (λ rest. Some ([], rest)) (after_zero bytes) (both_at string_at string_at bytes >>= λ x. parameters_at n x.1 >>= λ xs. Some (x.0 ∷ xs.0, xs.1))
+
+-- a pair takes two bytes at least, so there are fewer pairs than bytes
+abbrev pub all_parameters_at : List ℕ → Option (List (List ℕ × List ℕ) × List ℕ)
+all_parameters_at bytes = parameters_at (length bytes) bytes
+
+-- Int32 of a version that is spoken
+unfoldable pub version_at : List ℕ → Option (ℕ × List ℕ)
+version_at bytes = number_at w32 bytes >>= λ n. if n.0 == 196608 then Some n else (if n.0 == 196610 then Some n else None)
+
+unfoldable pub startup_at : List ℕ → Option (Startup × List ℕ)
+startup_at = as_at (λ x. record { code = x.0; parameters = x.1 }) (both_at version_at all_parameters_at)
+
+unfoldable pub parse_at : List ℕ → Option (Parse × List ℕ)
+parse_at = as_at (λ x. record { name = x.0.0; query = x.0.1; type_oids = x.1 }) (both_at (both_at string_at string_at) (list_at (number_at w32)))
+
+unfoldable pub bind_at : List ℕ → Option (Bind × List ℕ)
+bind_at = as_at (λ x. record { portal_name = x.0.0.0.0; statement_name = x.0.0.0.1; parameter_format_codes = x.0.0.1; parameters = x.0.1; result_column_format_codes = x.1 })
+    (both_at (both_at (both_at (both_at string_at string_at) (list_at (signed_at w16))) (list_at value_at)) (list_at (signed_at w16)))
+
+unfoldable pub execute_at : List ℕ → Option (Execute × List ℕ)
+execute_at = as_at (λ x. record { name = x.0; max_rows = x.1 }) (both_at string_at (signed_at w32))

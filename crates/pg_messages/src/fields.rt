@@ -67,6 +67,34 @@ impl Field for PgStr {
     }
 }
 
+impl Field for i32 {
+    ghost use Rattle.std.specs.Int.{w32};
+    ghost use Rattle.pg_messages.specs.Reading.{signed_at};
+
+    ghost field_at = { signed_at w32 };
+
+    fn read(_alloc: Global, bytes: &[u8]) -> Result<(i32, &[u8]), FrameError> {
+        if bytes.len() < 4 {
+            return Err(FrameError::Bad);
+        }
+        let (front, rest) = bytes.split_at(4);
+        let number = i32::from_be_bytes([front[0], front[1], front[2], front[3]]);
+        Ok((number, rest))
+    }
+}
+
+impl Field for (PgStr, PgStr) {
+    ghost use Rattle.pg_messages.specs.Reading.{both_at, string_at};
+
+    ghost field_at = { both_at string_at string_at };
+
+    fn read(alloc: Global, bytes: &[u8]) -> Result<((PgStr, PgStr), &[u8]), FrameError> {
+        let (first, rest) = PgStr::read(alloc, bytes)?;
+        let (second, rest) = PgStr::read(alloc, rest)?;
+        Ok(((first, second), rest))
+    }
+}
+
 fn first_zero(bytes: &[u8]) -> Option<usize>
     ensures value { result ≡ position (λ byte. byte == 0) bytes.now }
     ensures within { IfSome result (λ place. place < length bytes.now) }

@@ -2,6 +2,7 @@
 #![tactic(auto)]
 
 mod backend;
+mod bodies;
 mod codec;
 mod fields;
 mod frontend;
