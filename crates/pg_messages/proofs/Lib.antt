@@ -1,2 +1,4 @@
 pub mod Utf8
 pub mod Loops
+pub mod Laws
+pub mod FieldLaws

@@ -59,11 +59,14 @@ list_at field bytes = count_at bytes >>= λ n. items_at field n.0 n.1
 unfoldable pub string_at : List ℕ → Option (List ℕ × List ℕ)
 string_at bytes = position (λ byte. byte == 0) bytes >>= λ n. if is_utf8 (take n bytes) then Some (take n bytes, drop (n + 1) bytes) else None
 
+-- null, or as many bytes as a length told
+abbrev pub value_behind : ℕ × List ℕ → Option (Option (List ℕ) × List ℕ)
+value_behind n = if n.0 == 4294967295 then Some (None, n.1)
+    else (if nat_lt n.0 (2 ^ 31) then (if nat_lt (length n.1) n.0 then None else Some (Some (take n.0 n.1), drop n.0 n.1)) else None)
+
 -- a value behind its length, or null
 unfoldable pub value_at : List ℕ → Option (Option (List ℕ) × List ℕ)
-value_at bytes = number_at w32 bytes >>= λ n.
-    if n.0 == 4294967295 then Some (None, n.1)
-    else (if nat_lt n.0 (2 ^ 31) then (if nat_lt (length n.1) n.0 then None else Some (Some (take n.0 n.1), drop n.0 n.1)) else None)
+value_at bytes = number_at w32 bytes >>= value_behind
 
 -- what follows a zero byte, where one stands in front
 abbrev pub after_zero : List ℕ → Option (List ℕ)
@@ -80,9 +83,12 @@ parameters_at (suc n) bytes = option_map_or (λ rest. Some ([], rest)) (after_ze
 abbrev pub all_parameters_at : List ℕ → Option (List (List ℕ × List ℕ) × List ℕ)
 all_parameters_at bytes = parameters_at (length bytes) bytes
 
--- Int32 of a version that is spoken
+-- a version that is spoken
+abbrev pub spoken : ℕ × List ℕ → Option (ℕ × List ℕ)
+spoken n = if n.0 == 196608 then Some n else (if n.0 == 196610 then Some n else None)
+
 unfoldable pub version_at : List ℕ → Option (ℕ × List ℕ)
-version_at bytes = number_at w32 bytes >>= λ n. if n.0 == 196608 then Some n else (if n.0 == 196610 then Some n else None)
+version_at bytes = number_at w32 bytes >>= spoken
 
 unfoldable pub startup_at : List ℕ → Option (Startup × List ℕ)
 startup_at = as_at (λ x. record { code = x.0; parameters = x.1 }) (both_at version_at all_parameters_at)
