@@ -2,3 +2,4 @@ pub mod Utf8
 pub mod Loops
 pub mod Laws
 pub mod FieldLaws
+pub mod MessageLaws

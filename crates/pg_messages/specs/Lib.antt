@@ -1,3 +1,4 @@
+pub mod Bodies
 pub mod Fields
 pub mod Frames
 pub mod Reading

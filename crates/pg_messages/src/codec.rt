@@ -4,6 +4,7 @@ ghost use Rattle.pg_messages.specs.Replies.{IsEncodable, reply_bytes};
 ghost use Rattle.pg_messages.specs.declared.codec.ProtocolVersion.TheVariants.{PROTOCOL3_0};
 
 use crate::backend::PgWireBackendMessage;
+use crate::frames::first_frame;
 use crate::frontend::PgWireFrontendMessage;
 use crate::writing::{body_len, put_body, type_byte};
 use bytes::BytesMut;
@@ -88,9 +89,13 @@ impl PgWireMessageServerCodec {
         ensures err { OnErr result (src.new.items ≡ src.old.items) }
         ensures err_context { OnErr result (self.new ≡ self.old) }
     {
-        let _ = src;
-        let _ = alloc;
-        Err(FrameError::NoMemory)
+        let found = first_frame(alloc, self.context.awaiting_startup, src.as_slice())?;
+        let Some((message, len)) = found else {
+            return Ok(None);
+        };
+        src.advance(len);
+        self.context = after(&message, self.context);
+        Ok(Some(message))
     }
 
     /// Appends the bytes of a reply. After an error the bytes are as they were.
@@ -110,5 +115,22 @@ impl PgWireMessageServerCodec {
         dst.extend_reserved(&(len as u32 + 4).to_be_bytes());
         put_body(item, dst);
         Ok(())
+    }
+}
+
+fn after(message: &PgWireFrontendMessage, context: DecodeContext) -> DecodeContext
+    ensures { result ≡ context_after message.now context }
+{
+    let PgWireFrontendMessage::Startup(startup) = message else {
+        return context;
+    };
+    let protocol = match startup.code {
+        196608 => ProtocolVersion::PROTOCOL3_0,
+        196610 => ProtocolVersion::PROTOCOL3_2,
+        _ => context.protocol,
+    };
+    DecodeContext {
+        awaiting_startup: false,
+        protocol,
     }
 }

@@ -5,7 +5,9 @@ mod backend;
 mod bodies;
 mod codec;
 mod fields;
+mod frames;
 mod frontend;
+mod headers;
 mod values;
 mod writing;
 
