@@ -21,7 +21,7 @@ use Rattle.pg_messages.specs.Reading.{◌>>=◌, both_at, as_at, items_at, numbe
 use Rattle.pg_messages.proofs.Utf8.{false_from}
 use Rattle.pg_messages.proofs.Laws.{IsBytes, Reads, bind_some, rest_fits, Reads-as, Reads-both, items_take, items_again}
 
-IsBytes-take : (n : ℕ) (bytes : List ℕ) → IsBytes bytes → IsBytes (take n bytes)
+pub IsBytes-take : (n : ℕ) (bytes : List ℕ) → IsBytes bytes → IsBytes (take n bytes)
 IsBytes-take n bytes h i =
     elim (cases_lt i n) [
       | inl lt ↦ rw (get_or-take n bytes i 0 lt) (h i)

@@ -3,3 +3,4 @@ pub mod Loops
 pub mod Laws
 pub mod FieldLaws
 pub mod MessageLaws
+pub mod FrameLaws

@@ -1,5 +1,5 @@
 // The first frame of bytes, and its message.
-ghost use Rattle.std.specs.Prelude.{◌≡◌, ◌≤◌, true, false, [], length, take, IfOk, IfSome, IfNone, IsErrOf};
+ghost use Rattle.std.specs.Prelude.{◌≡◌, ◌≢◌, ◌≤◌, true, false, [], length, take, IfOk, IfSome, IfNone, IsErrOf, OnOk, OnErr};
 ghost use Rattle.pg_messages.specs.Frames.{IsFrame, IsUnfinished, IsBad, told_len, parse_body, IsParse, bind_body, IsBind, execute_body, IsExecute, startup_body, IsStartup};
 ghost use Rattle.pg_messages.specs.Bodies.{Decodes, IsTypedBody, IsStartupBody};
 
@@ -118,7 +118,8 @@ fn execute(alloc: Global, body: &[u8]) -> Result<Execute, FrameError>
 }
 
 fn empty(body: &[u8]) -> Result<(), FrameError>
-    ensures { Decodes (λ _. body.now ≡ []) result }
+    ensures ok { OnOk result (body.now ≡ []) }
+    ensures err { OnErr result (body.now ≢ []) }
 {
     if !body.is_empty() {
         return Err(FrameError::Bad);
