@@ -1,23 +1,23 @@
 -- The fields of messages: what is read is spelled so, and what is spelled so is read.
-use Rattle.std.proofs.Common.{◌≡◌, ◌≢◌, ℕ, ℤ, zero, suc, ◌+◌, ◌-◌, ◌^◌, ◌<◌, ◌≤◌, Bool, true, false, cond, eqb, ltb, not, List, [], ◌∷◌, ◌++◌, length, get_or, take, drop, Option, Some, None, refl, sym, ap, subst, ◌∙◌, append_assoc, arith, inl, inr, ◌⊎◌}
-use Rattle.std.specs.Prelude.{IfSome, FitsSigned}
-use Rattle.std.specs.List.{flat_map, AllByRecursion, position, position_or_len, before_first}
+use Rattle.std.proofs.Common.{◌≡◌, ◌≢◌, ℕ, ℤ, zero, suc, ◌+◌, ◌^◌, ◌<◌, ◌≤◌, Bool, true, false, cond, eqb, ltb, List, [], ◌∷◌, ◌++◌, length, get_or, take, drop, Option, Some, None, refl, sym, ap, subst, ◌∙◌, append_assoc, arith, inl, inr, ◌⊎◌}
+use Rattle.std.specs.Prelude.{FitsSigned}
+use Rattle.std.specs.List.{flat_map, AllByRecursion, position, position_or_len}
 use Rattle.std.specs.Int.{Width, w16, w32, byte_len, from_be_bytes, to_be_bytes, cast_signed, cast_unsigned}
 use mir.Val.{bits}
 use mir.ValLaws.{of_z_fits}
-use Rattle.std.specs.Str.{IsUtf8, is_utf8}
+use Rattle.std.specs.Str.{is_utf8}
 use Rattle.std.proofs.lemmas.Bool.{cases_lt, ltb-false, ltb-true, le-ltb, lt-ltb, eqb-true, eqb-false}
 use Rattle.std.proofs.lemmas.Int.{to_z-of_z, of_z-to_z}
 use Rattle.std.proofs.Math.Facts.{sfits_to_z}
-use Rattle.std.proofs.lemmas.List.{take_at, drop_at, take-append-drop, length-append, length-take, get_or-drop, get_or-take, get_or_past, get_or_append_left, get_or_at}
+use Rattle.std.proofs.lemmas.List.{take_at, drop_at, take-append-drop, length-append, length-take, get_or-take, get_or_past, get_or_append_left, get_or_at}
 use Rattle.std.proofs.lemmas.List.Elements.{recursion_from_All, All-from_recursion}
 use Rattle.std.proofs.lemmas.List.Sums.{split_at_first, fails_before_first, passes_at_first, position_or_len_is}
 use Rattle.std.proofs.lemmas.Nat.{be_bytes_2, be_bytes_4, from_be_bytes-to_be_bytes_2, from_be_bytes-to_be_bytes_4}
 use Rattle.std.proofs.lemmas.Option.{same_Some, cond_some, none-some}
 use Rattle.std.proofs.lemmas.Str.{is_utf8-from_IsUtf8, IsUtf8-from_is_utf8}
-use Rattle.pg_messages.specs.Fields.{int16, int32, count16, count32, string, IsText}
+use Rattle.pg_messages.specs.Fields.{count16, count32, string, IsText}
 use Rattle.pg_messages.specs.Frames.{parameter_value, IsParameterValue, IsParameter}
-use Rattle.pg_messages.specs.Reading.{◌>>=◌, both_at, as_at, items_at, number_at, signed_at, count_at, list_at, string_at, value_behind, value_at, after_zero, parameters_at, all_parameters_at, spoken, version_at}
+use Rattle.pg_messages.specs.Reading.{◌>>=◌, both_at, items_at, number_at, signed_at, count_at, list_at, string_at, value_behind, value_at, after_zero, parameters_at, all_parameters_at, spoken, version_at}
 use Rattle.pg_messages.proofs.Utf8.{false_from}
 use Rattle.pg_messages.proofs.Laws.{IsBytes, Reads, bind_some, rest_fits, Reads-as, Reads-both, items_take, items_again}
 
@@ -88,25 +88,25 @@ pub Reads-count : Reads (λ (n : ℕ). n < 2 ^ 15) count16 count_at
 unfolding count_at
 Reads-count = record {
   takes = λ bytes n rest fits e.
-    let a = bind_some (number_at w16 bytes) (λ x. cond (ltb x.0 (2 ^ 15)) (Some x) None) (n, rest) e in
-    let g = cond_some (ltb a.0.0 (2 ^ 15)) a.0 (n, rest) a.2 in
-    let t = number_takes w16 (2 ^ 16) wide16 bytes a.0.0 a.0.1 fits a.1 in
-    subst (λ (w : ℕ × List ℕ). (bytes ≡ count16 w.0 ++ w.1) × (w.0 < 2 ^ 15)) g.1 (t.0, ltb-true _ _ g.0);
+      let a = bind_some (number_at w16 bytes) (λ x. cond (ltb x.0 (2 ^ 15)) (Some x) None) (n, rest) e in
+      let g = cond_some (ltb a.0.0 (2 ^ 15)) a.0 (n, rest) a.2 in
+      let t = number_takes w16 (2 ^ 16) wide16 bytes a.0.0 a.0.1 fits a.1 in
+      subst (λ (w : ℕ × List ℕ). (bytes ≡ count16 w.0 ++ w.1) × (w.0 < 2 ^ 15)) g.1 (t.0, ltb-true _ _ g.0);
   again = λ n rest lt.
-    rw (number_again w16 (2 ^ 16) wide16 n rest (omega (arith, lt)), lt-ltb n (2 ^ 15) lt) refl;
+      rw (number_again w16 (2 ^ 16) wide16 n rest (omega (arith, lt)), lt-ltb n (2 ^ 15) lt) refl;
 }
 
 pub Reads-list : {X : Type 0} (G : X → Type 0) (s : X → List ℕ) (r : List ℕ → Option (X × List ℕ)) → Reads G s r
     → Reads (λ (xs : List X). (length xs < 2 ^ 15) × AllByRecursion G xs) (λ (xs : List X). count16 (length xs) ++ flat_map s xs) (list_at r)
 Reads-list {X} G s r base = record {
   takes = λ bytes xs rest fits e.
-    let a = bind_some (count_at bytes) (λ n. items_at r n.0 n.1) (xs, rest) e in
-    let one = Reads-count.takes bytes a.0.0 a.0.1 fits a.1 in
-    let two = items_take G s r base a.0.0 a.0.1 xs rest (rest_fits bytes (count16 a.0.0) a.0.1 one.0 fits) a.2 in
-    let parts : bytes ≡ (count16 a.0.0 ++ flat_map s xs) ++ rest = one.0 ∙ ap (λ (x : List ℕ). count16 a.0.0 ++ x) two.0 ∙ sym (append_assoc (count16 a.0.0) (flat_map s xs) rest) in
-    (parts ∙ ap (λ (k : ℕ). (count16 k ++ flat_map s xs) ++ rest) (sym two.1), (omega (arith, two.1, one.1), two.2));
+      let a = bind_some (count_at bytes) (λ n. items_at r n.0 n.1) (xs, rest) e in
+      let one = Reads-count.takes bytes a.0.0 a.0.1 fits a.1 in
+      let two = items_take G s r base a.0.0 a.0.1 xs rest (rest_fits bytes (count16 a.0.0) a.0.1 one.0 fits) a.2 in
+      let parts : bytes ≡ (count16 a.0.0 ++ flat_map s xs) ++ rest = one.0 ∙ ap (λ (x : List ℕ). count16 a.0.0 ++ x) two.0 ∙ sym (append_assoc (count16 a.0.0) (flat_map s xs) rest) in
+      (parts ∙ ap (λ (k : ℕ). (count16 k ++ flat_map s xs) ++ rest) (sym two.1), (omega (arith, two.1, one.1), two.2));
   again = λ xs rest good.
-    ap (list_at r) (append_assoc (count16 (length xs)) (flat_map s xs) rest) ∙ rw (Reads-count.again (length xs) (flat_map s xs ++ rest) good.0) (items_again G s r base xs rest good.1);
+      ap (list_at r) (append_assoc (count16 (length xs)) (flat_map s xs) rest) ∙ rw (Reads-count.again (length xs) (flat_map s xs ++ rest) good.0) (items_again G s r base xs rest good.1);
 }
 
 -- ---- texts
@@ -132,9 +132,9 @@ split_at_zero bytes n e =
     let split : bytes ≡ take first bytes ++ (get_or bytes first 0 ∷ drop (first + 1) bytes) = split_at_first is_zero bytes 0 short in
     let zero_there : get_or bytes first 0 ≡ 0 = zero_found (get_or bytes first 0) (passes_at_first is_zero bytes 0 short) in
     let parts : bytes ≡ string (take first bytes) ++ drop (first + 1) bytes =
-      split ∙ ap (λ (x : ℕ). take first bytes ++ (x ∷ drop (first + 1) bytes)) zero_there ∙ sym (append_assoc (take first bytes) (0 ∷ []) (drop (first + 1) bytes)) in
+    split ∙ ap (λ (x : ℕ). take first bytes ++ (x ∷ drop (first + 1) bytes)) zero_there ∙ sym (append_assoc (take first bytes) (0 ∷ []) (drop (first + 1) bytes)) in
     let none : AllByRecursion (λ byte. byte ≢ 0) (take first bytes) = recursion_from_All (λ byte. byte ≢ 0) (take first bytes)
-      (λ k d lt. let below : k < first = omega (arith, length-take first bytes) in rw (get_or-take first bytes k d below) (not_zero (get_or bytes k d) (fails_before_first is_zero bytes k d below))) in
+    (λ k d lt. let below : k < first = omega (arith, length-take first bytes) in rw (get_or-take first bytes k d below) (not_zero (get_or bytes k d) (fails_before_first is_zero bytes k d below))) in
     subst (λ (m : ℕ). (bytes ≡ string (take m bytes) ++ drop (m + 1) bytes) × AllByRecursion (λ byte. byte ≢ 0) (take m bytes)) p.1 (parts, none)
 
 -- a text that is ended by a zero byte ends there
@@ -144,25 +144,25 @@ zero_after text rest none =
     let long : length text < length u = omega (arith, length-append text (0 ∷ rest)) in
     let all = All-from_recursion (λ byte. byte ≢ 0) text none in
     let place : position_or_len is_zero u ≡ length text = position_or_len_is is_zero u (length text) 0 (omega arith)
-      (λ k lt. rw (get_or_append_left text (0 ∷ rest) 0 k lt) (is_not_zero (get_or text k 0) (all k 0 lt)))
-      (λ lt. ap is_zero (get_or_at text 0 rest 0 (length text) refl)) in
+    (λ k lt. rw (get_or_append_left text (0 ∷ rest) 0 k lt) (is_not_zero (get_or text k 0) (all k 0 lt)))
+    (λ lt. ap is_zero (get_or_at text 0 rest 0 (length text) refl)) in
     rw (place, lt-ltb (length text) (length u) long) refl
 
 pub Reads-string : Reads IsText string string_at
 unfolding string_at
 Reads-string = record {
   takes = λ bytes text rest fits e.
-    let a = bind_some (position is_zero bytes) (λ n. cond (is_utf8 (take n bytes)) (Some (take n bytes, drop (n + 1) bytes)) None) (text, rest) e in
-    let g = cond_some (is_utf8 (take a.0 bytes)) (take a.0 bytes, drop (a.0 + 1) bytes) (text, rest) a.2 in
-    let s = split_at_zero bytes a.0 a.1 in
-    let good : IsText (take a.0 bytes) = record { utf8 = IsUtf8-from_is_utf8 (take a.0 bytes) g.0; no_zero = s.1 } in
-    subst (λ (w : List ℕ × List ℕ). (bytes ≡ string w.0 ++ w.1) × IsText w.0) g.1 (s.0, good);
+      let a = bind_some (position is_zero bytes) (λ n. cond (is_utf8 (take n bytes)) (Some (take n bytes, drop (n + 1) bytes)) None) (text, rest) e in
+      let g = cond_some (is_utf8 (take a.0 bytes)) (take a.0 bytes, drop (a.0 + 1) bytes) (text, rest) a.2 in
+      let s = split_at_zero bytes a.0 a.1 in
+      let good : IsText (take a.0 bytes) = record { utf8 = IsUtf8-from_is_utf8 (take a.0 bytes) g.0; no_zero = s.1 } in
+      subst (λ (w : List ℕ × List ℕ). (bytes ≡ string w.0 ++ w.1) × IsText w.0) g.1 (s.0, good);
   again = λ text rest good.
-    let e : string text ++ rest ≡ text ++ 0 ∷ rest = append_assoc text (0 ∷ []) rest in
-    let dropped : drop (length text + 1) (text ++ 0 ∷ rest) ≡ rest = ap (drop (length text + 1)) (sym e) ∙ drop_at (string text) rest (length text + 1) (length-append text (0 ∷ [])) in
-    let read : string_at (text ++ 0 ∷ rest) ≡ Some (text, rest) =
+      let e : string text ++ rest ≡ text ++ 0 ∷ rest = append_assoc text (0 ∷ []) rest in
+      let dropped : drop (length text + 1) (text ++ 0 ∷ rest) ≡ rest = ap (drop (length text + 1)) (sym e) ∙ drop_at (string text) rest (length text + 1) (length-append text (0 ∷ [])) in
+      let read : string_at (text ++ 0 ∷ rest) ≡ Some (text, rest) =
       rw (zero_after text rest good.no_zero, take_at text (0 ∷ rest) (length text) refl, is_utf8-from_IsUtf8 text good.utf8, dropped) refl in
-    ap string_at e ∙ read;
+      ap string_at e ∙ read;
 }
 
 -- ---- values behind their length
@@ -180,21 +180,21 @@ value_taken n bytes value rest e =
     let some : Option (List ℕ) × List ℕ = (Some (take n bytes), drop n bytes) in
     elim (chosen (eqb n 4294967295) (Some null) (cond (ltb n (2 ^ 31)) (cond (ltb (length bytes) n) None (Some some)) None) (Some (value, rest)) e) [
       | inl h ↦
-        let is : n ≡ 4294967295 = eqb-true _ _ h.0 in
-        subst (λ (w : Option (List ℕ) × List ℕ). (count32 n ++ bytes ≡ parameter_value w.0 ++ w.1) × IsParameterValue w.0) (same_Some null (value, rest) h.1) (ap (λ (k : ℕ). count32 k ++ bytes) is, tt)
+          let is : n ≡ 4294967295 = eqb-true _ _ h.0 in
+          subst (λ (w : Option (List ℕ) × List ℕ). (count32 n ++ bytes ≡ parameter_value w.0 ++ w.1) × IsParameterValue w.0) (same_Some null (value, rest) h.1) (ap (λ (k : ℕ). count32 k ++ bytes) is, tt)
       | inr h ↦
-        elim (chosen (ltb n (2 ^ 31)) (cond (ltb (length bytes) n) None (Some some)) None (Some (value, rest)) h.1) [
-          | inl k ↦
-            let g = guard_some (ltb (length bytes) n) some (value, rest) k.1 in
-            let long : n ≤ length bytes = ltb-false _ _ g.0 in
-            let len : length (take n bytes) ≡ n = omega (arith, length-take n bytes) in
-            let small : n < 2 ^ 31 = ltb-true _ _ k.0 in
-            let parts : count32 n ++ bytes ≡ (count32 (length (take n bytes)) ++ take n bytes) ++ drop n bytes =
-              ap (λ (x : List ℕ). count32 n ++ x) (sym (take-append-drop n bytes)) ∙ sym (append_assoc (count32 n) (take n bytes) (drop n bytes)) ∙ ap (λ (m : ℕ). (count32 m ++ take n bytes) ++ drop n bytes) (sym len) in
-            let fits : length (take n bytes) < 2 ^ 31 = omega arith in
-            subst (λ (w : Option (List ℕ) × List ℕ). (count32 n ++ bytes ≡ parameter_value w.0 ++ w.1) × IsParameterValue w.0) g.1 (parts, fits)
-          | inr k ↦ absurd (none-some (value, rest) k.1)
-        ]
+          elim (chosen (ltb n (2 ^ 31)) (cond (ltb (length bytes) n) None (Some some)) None (Some (value, rest)) h.1) [
+            | inl k ↦
+                let g = guard_some (ltb (length bytes) n) some (value, rest) k.1 in
+                let long : n ≤ length bytes = ltb-false _ _ g.0 in
+                let len : length (take n bytes) ≡ n = omega (arith, length-take n bytes) in
+                let small : n < 2 ^ 31 = ltb-true _ _ k.0 in
+                let parts : count32 n ++ bytes ≡ (count32 (length (take n bytes)) ++ take n bytes) ++ drop n bytes =
+                ap (λ (x : List ℕ). count32 n ++ x) (sym (take-append-drop n bytes)) ∙ sym (append_assoc (count32 n) (take n bytes) (drop n bytes)) ∙ ap (λ (m : ℕ). (count32 m ++ take n bytes) ++ drop n bytes) (sym len) in
+                let fits : length (take n bytes) < 2 ^ 31 = omega arith in
+                subst (λ (w : Option (List ℕ) × List ℕ). (count32 n ++ bytes ≡ parameter_value w.0 ++ w.1) × IsParameterValue w.0) g.1 (parts, fits)
+            | inr k ↦ absurd (none-some (value, rest) k.1)
+          ]
     ]
 
 value_again : (value : Option (List ℕ)) (rest : List ℕ) → IsParameterValue value → value_at (parameter_value value ++ rest) ≡ Some (value, rest)
@@ -215,10 +215,10 @@ pub Reads-value : Reads IsParameterValue parameter_value value_at
 unfolding value_at
 Reads-value = record {
   takes = λ bytes value rest fits e.
-    let a = bind_some (number_at w32 bytes) value_behind (value, rest) e in
-    let one = number_takes w32 (2 ^ 32) wide32 bytes a.0.0 a.0.1 fits a.1 in
-    let two = value_taken a.0.0 a.0.1 value rest a.2 in
-    (one.0 ∙ two.0, two.1);
+      let a = bind_some (number_at w32 bytes) value_behind (value, rest) e in
+      let one = number_takes w32 (2 ^ 32) wide32 bytes a.0.0 a.0.1 fits a.1 in
+      let two = value_taken a.0.0 a.0.1 value rest a.2 in
+      (one.0 ∙ two.0, two.1);
   again = value_again;
 }
 
@@ -228,24 +228,24 @@ pub Reads-version : Reads (λ (n : ℕ). (n ≡ 196608) ⊎ (n ≡ 196610)) coun
 unfolding version_at
 Reads-version = record {
   takes = λ bytes n rest fits e.
-    let a = bind_some (number_at w32 bytes) spoken (n, rest) e in
-    let one = number_takes w32 (2 ^ 32) wide32 bytes a.0.0 a.0.1 fits a.1 in
-    let P : ℕ × List ℕ → Type 0 = λ w. (bytes ≡ count32 w.0 ++ w.1) × ((w.0 ≡ 196608) ⊎ (w.0 ≡ 196610)) in
-    elim (chosen (eqb a.0.0 196608) (Some a.0) (cond (eqb a.0.0 196610) (Some a.0) None) (Some (n, rest)) a.2) [
-      | inl h ↦ subst P (same_Some a.0 (n, rest) h.1) (one.0, inl (eqb-true _ _ h.0))
-      | inr h ↦
-        elim (chosen (eqb a.0.0 196610) (Some a.0) None (Some (n, rest)) h.1) [
-          | inl k ↦ subst P (same_Some a.0 (n, rest) k.1) (one.0, inr (eqb-true _ _ k.0))
-          | inr k ↦ absurd (none-some (n, rest) k.1)
-        ]
-    ];
+      let a = bind_some (number_at w32 bytes) spoken (n, rest) e in
+      let one = number_takes w32 (2 ^ 32) wide32 bytes a.0.0 a.0.1 fits a.1 in
+      let P : ℕ × List ℕ → Type 0 = λ w. (bytes ≡ count32 w.0 ++ w.1) × ((w.0 ≡ 196608) ⊎ (w.0 ≡ 196610)) in
+      elim (chosen (eqb a.0.0 196608) (Some a.0) (cond (eqb a.0.0 196610) (Some a.0) None) (Some (n, rest)) a.2) [
+        | inl h ↦ subst P (same_Some a.0 (n, rest) h.1) (one.0, inl (eqb-true _ _ h.0))
+        | inr h ↦
+            elim (chosen (eqb a.0.0 196610) (Some a.0) None (Some (n, rest)) h.1) [
+              | inl k ↦ subst P (same_Some a.0 (n, rest) k.1) (one.0, inr (eqb-true _ _ k.0))
+              | inr k ↦ absurd (none-some (n, rest) k.1)
+            ]
+      ];
   again = λ n rest good.
-    let at : (k : ℕ) → k < 2 ^ 32 → version_at (count32 k ++ rest) ≡ spoken (k, rest) = λ k lt. ap (λ (o : Option (ℕ × List ℕ)). o >>= spoken) (number_again w32 (2 ^ 32) wide32 k rest lt) in
-    let Q : ℕ → Type 0 = λ k. version_at (count32 k ++ rest) ≡ Some (k, rest) in
-    elim good [
-      | inl e ↦ subst Q (sym e) (at 196608 (omega arith))
-      | inr e ↦ subst Q (sym e) (at 196610 (omega arith))
-    ];
+      let at : (k : ℕ) → k < 2 ^ 32 → version_at (count32 k ++ rest) ≡ spoken (k, rest) = λ k lt. ap (λ (o : Option (ℕ × List ℕ)). o >>= spoken) (number_again w32 (2 ^ 32) wide32 k rest lt) in
+      let Q : ℕ → Type 0 = λ k. version_at (count32 k ++ rest) ≡ Some (k, rest) in
+      elim good [
+        | inl e ↦ subst Q (sym e) (at 196608 (omega arith))
+        | inr e ↦ subst Q (sym e) (at 196610 (omega arith))
+      ];
 }
 
 -- ---- pairs of texts up to a zero byte
@@ -278,20 +278,20 @@ parameters_take zero bytes ps rest fits e = absurd (none-some (ps, rest) e)
 parameters_take (suc n) bytes ps rest fits e =
     elim (zero_cases bytes) [
       | inl h ↦
-        let read : Some ([], h.0) ≡ Some (ps, rest) = rw h.1 at e in
-        let made : List (List ℕ × List ℕ) × List ℕ = ([], h.0) in
-        subst (λ (w : List (List ℕ × List ℕ) × List ℕ). (bytes ≡ parameters_bytes w.0 ++ w.1) × AllByRecursion IsParameter w.0) (same_Some made (ps, rest) read) (h.2, tt)
+          let read : Some ([], h.0) ≡ Some (ps, rest) = rw h.1 at e in
+          let made : List (List ℕ × List ℕ) × List ℕ = ([], h.0) in
+          subst (λ (w : List (List ℕ × List ℕ) × List ℕ). (bytes ≡ parameters_bytes w.0 ++ w.1) × AllByRecursion IsParameter w.0) (same_Some made (ps, rest) read) (h.2, tt)
       | inr ahead ↦
-        let read : (both_at string_at string_at bytes >>= λ x. parameters_at n x.1 >>= λ xs. Some (x.0 ∷ xs.0, xs.1)) ≡ Some (ps, rest) = rw ahead at e in
-        let a = bind_some (both_at string_at string_at bytes) (λ x. parameters_at n x.1 >>= λ xs. Some (x.0 ∷ xs.0, xs.1)) (ps, rest) read in
-        let b = bind_some (parameters_at n a.0.1) (λ xs. Some (a.0.0 ∷ xs.0, xs.1)) (ps, rest) a.2 in
-        let one = Reads-pair.takes bytes a.0.0 a.0.1 fits a.1 in
-        let others = parameters_take n a.0.1 b.0.0 b.0.1 (rest_fits bytes (pair_bytes a.0.0) a.0.1 one.0 fits) b.1 in
-        let parts : bytes ≡ parameters_bytes (a.0.0 ∷ b.0.0) ++ b.0.1 = one.0 ∙ ap (λ (x : List ℕ). pair_bytes a.0.0 ++ x) others.0 ∙ simp append_assoc in
-        let named : a.0.0.0 ≢ [] = named_from bytes a.0.0.0 (string a.0.0.1 ++ a.0.1) (one.0 ∙ append_assoc (string a.0.0.0) (string a.0.0.1) a.0.1) ahead in
-        let good : IsParameter a.0.0 = record { name = one.1.0; named = named; value = one.1.1 } in
-        let made : List (List ℕ × List ℕ) × List ℕ = (a.0.0 ∷ b.0.0, b.0.1) in
-        subst (λ (w : List (List ℕ × List ℕ) × List ℕ). (bytes ≡ parameters_bytes w.0 ++ w.1) × AllByRecursion IsParameter w.0) (same_Some made (ps, rest) b.2) (parts, (good, others.1))
+          let read : (both_at string_at string_at bytes >>= λ x. parameters_at n x.1 >>= λ xs. Some (x.0 ∷ xs.0, xs.1)) ≡ Some (ps, rest) = rw ahead at e in
+          let a = bind_some (both_at string_at string_at bytes) (λ x. parameters_at n x.1 >>= λ xs. Some (x.0 ∷ xs.0, xs.1)) (ps, rest) read in
+          let b = bind_some (parameters_at n a.0.1) (λ xs. Some (a.0.0 ∷ xs.0, xs.1)) (ps, rest) a.2 in
+          let one = Reads-pair.takes bytes a.0.0 a.0.1 fits a.1 in
+          let others = parameters_take n a.0.1 b.0.0 b.0.1 (rest_fits bytes (pair_bytes a.0.0) a.0.1 one.0 fits) b.1 in
+          let parts : bytes ≡ parameters_bytes (a.0.0 ∷ b.0.0) ++ b.0.1 = one.0 ∙ ap (λ (x : List ℕ). pair_bytes a.0.0 ++ x) others.0 ∙ simp append_assoc in
+          let named : a.0.0.0 ≢ [] = named_from bytes a.0.0.0 (string a.0.0.1 ++ a.0.1) (one.0 ∙ append_assoc (string a.0.0.0) (string a.0.0.1) a.0.1) ahead in
+          let good : IsParameter a.0.0 = record { name = one.1.0; named = named; value = one.1.1 } in
+          let made : List (List ℕ × List ℕ) × List ℕ = (a.0.0 ∷ b.0.0, b.0.1) in
+          subst (λ (w : List (List ℕ × List ℕ) × List ℕ). (bytes ≡ parameters_bytes w.0 ++ w.1) × AllByRecursion IsParameter w.0) (same_Some made (ps, rest) b.2) (parts, (good, others.1))
     ]
 
 parameters_again : (ps : List (List ℕ × List ℕ)) (n : ℕ) (rest : List ℕ) → length ps < n → AllByRecursion IsParameter ps → parameters_at n (parameters_bytes ps ++ rest) ≡ Some (ps, rest)

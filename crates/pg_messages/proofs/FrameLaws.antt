@@ -1,8 +1,8 @@
 -- A frame is its header and its body.
-use Rattle.std.proofs.Common.{◌≡◌, ℕ, suc, ◌+◌, ◌-◌, ◌<◌, ◌≤◌, true, false, List, [], ◌∷◌, ◌++◌, length, get_or, take, drop, Result, Ok, Err, refl, sym, ap, subst, ◌∙◌, arith, inl, inr}
+use Rattle.std.proofs.Common.{◌≡◌, ℕ, suc, ◌+◌, ◌-◌, ◌≤◌, true, false, List, [], ◌∷◌, ◌++◌, length, get_or, take, drop, Err, sym, ap, subst, ◌∙◌, arith, inr}
 use Rattle.std.specs.Prelude.{IsErrOf}
 use Rattle.std.specs.Int.{w32, from_be_bytes}
-use Rattle.std.proofs.lemmas.List.{take-append-drop, take-take, drop-take, length-take, length-drop, length-take-le}
+use Rattle.std.proofs.lemmas.List.{take-append-drop, take-take, drop-take, length-drop, length-take-le}
 use Rattle.std.proofs.lemmas.Nat.{be_bytes_4}
 use Rattle.pg_messages.specs.declared.codec.FrameError.{FrameError}
 use Rattle.pg_messages.specs.declared.codec.FrameError.TheVariants as errors
@@ -10,7 +10,7 @@ use Rattle.pg_messages.specs.declared.frontend.PgWireFrontendMessage.{PgWireFron
 use Rattle.pg_messages.specs.declared.frontend.PgWireFrontendMessage.TheVariants as client
 use Rattle.pg_messages.specs.Bodies.{Decodes, IsStartupBody, IsTypedBody}
 use Rattle.pg_messages.specs.Fields.{count32}
-use Rattle.pg_messages.specs.Frames.{IsStartupFrame, IsTypedFrame, IsFrame, IsGoodHeader, IsBad, told_len, startup_body, parse_body, bind_body, execute_body}
+use Rattle.pg_messages.specs.Frames.{IsTypedFrame, IsFrame, IsGoodHeader, IsBad, told_len, parse_body, bind_body, execute_body}
 use Rattle.pg_messages.proofs.Laws.{IsBytes}
 use Rattle.pg_messages.proofs.FieldLaws.{IsBytes-take}
 
@@ -74,7 +74,7 @@ told_in_front bytes len told whole good =
     let size : length (take len bytes) ≡ len = length-take-le len bytes whole in
     let split : len ≡ 1 + (len - 1) = omega (arith, good.1) in
     let front : take 4 (drop 1 (take len bytes)) ≡ take 4 (drop 1 bytes) =
-      ap (λ (n : ℕ). take 4 (drop 1 (take n bytes))) split ∙ ap (take 4) (drop-take 1 (len - 1) bytes) ∙ take-take 4 (len - 1) (drop 1 bytes) (omega (arith, good.1)) in
+    ap (λ (n : ℕ). take 4 (drop 1 (take n bytes))) split ∙ ap (take 4) (drop-take 1 (len - 1) bytes) ∙ take-take 4 (len - 1) (drop 1 bytes) (omega (arith, good.1)) in
     let same : told_len false (take len bytes) ≡ told_len false bytes = ap (λ (x : List ℕ). 1 + from_be_bytes w32 x) front in
     (same ∙ sym told ∙ sym size, omega (arith, good.1), omega (arith, good.2))
 
@@ -86,6 +86,12 @@ typed_found bytes len kind m told whole good fits k h =
 pub typed_bad : {T : Type 0} (bytes : List ℕ) (len kind : ℕ) (e : FrameError) → len ≡ told_len false bytes → len ≤ length bytes → IsGoodHeader false bytes → kind ≡ get_or (take len bytes) 0 0 → Decodes (IsTypedBody kind (drop 5 (take len bytes))) (Err e)
     → IsErrOf {T = T} (Err e) errors.Bad → IsBad false bytes
 typed_bad bytes len kind errors.NoMemory told whole good k none err = absurd cc
-typed_bad bytes len kind errors.Bad told whole good k none err =
-    (omega (arith, good.1), inr (good, omega arith, λ m h. none m (subst (λ (x : ℕ). IsTypedBody x (drop 5 (take len bytes)) m) (sym k)
-      (typed_inside (take len bytes) m (subst (λ (n : ℕ). IsFrame false (take n bytes) m) (sym told) h)))))
+typed_bad bytes len kind errors.Bad told whole good k none err = (
+  omega (arith, good.1),
+  inr (
+    good,
+    omega arith,
+    λ m h. none m (subst (λ (x : ℕ). IsTypedBody x (drop 5 (take len bytes)) m) (sym k)
+        (typed_inside (take len bytes) m (subst (λ (n : ℕ). IsFrame false (take n bytes) m) (sym told) h))),
+  ),
+)

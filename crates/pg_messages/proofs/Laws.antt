@@ -1,9 +1,8 @@
 -- Reading and spelling are one relation: what is read is spelled so, and what is spelled so is read.
-use Rattle.std.proofs.Common.{◌≡◌, ℕ, zero, suc, ◌+◌, ◌-◌, ◌^◌, ◌<◌, ◌≤◌, Bool, true, false, cond, eqb, ltb, List, [], ◌∷◌, ◌++◌, length, get_or, take, drop, Option, Some, None, refl, sym, ap, subst, ◌∙◌, append_assoc, arith}
+use Rattle.std.proofs.Common.{◌≡◌, ℕ, zero, suc, ◌+◌, ◌<◌, Bool, true, false, cond, eqb, List, [], ◌∷◌, ◌++◌, length, get_or, Option, Some, None, refl, sym, ap, subst, ◌∙◌, append_assoc}
 use Rattle.std.specs.List.{flat_map, AllByRecursion}
 use Rattle.std.proofs.lemmas.Option.{same_Some}
 use Rattle.std.proofs.lemmas.List.{get_or-append-add, append-nil, nil_from_length}
-use Rattle.std.proofs.lemmas.List.Concat.{flat_map-cons}
 use Rattle.std.proofs.lemmas.Bool.{eqb-true}
 use Rattle.pg_messages.specs.Reading.{◌>>=◌, both_at, as_at, items_at, whole}
 
@@ -32,15 +31,15 @@ pub Reads-both : {X Y : Type 0} (G : X → Type 0) (H : Y → Type 0) (s : X →
     → Reads (λ (p : X × Y). G p.0 × H p.1) (λ (p : X × Y). s p.0 ++ t p.1) (both_at r q)
 Reads-both {X} {Y} G H s t r q first second = record {
   takes = λ bytes p rest fits e.
-    let a = bind_some (r bytes) (λ x. q x.1 >>= λ y. Some ((x.0, y.0), y.1)) (p, rest) e in
-    let b = bind_some (q a.0.1) (λ y. Some ((a.0.0, y.0), y.1)) (p, rest) a.2 in
-    let one = first.takes bytes a.0.0 a.0.1 fits a.1 in
-    let two = second.takes a.0.1 b.0.0 b.0.1 (rest_fits bytes (s a.0.0) a.0.1 one.0 fits) b.1 in
-    let parts : bytes ≡ (s a.0.0 ++ t b.0.0) ++ b.0.1 = one.0 ∙ ap (λ (x : List ℕ). s a.0.0 ++ x) two.0 ∙ sym (append_assoc (s a.0.0) (t b.0.0) b.0.1) in
-    let made : (X × Y) × List ℕ = ((a.0.0, b.0.0), b.0.1) in
-    subst (λ (w : (X × Y) × List ℕ). (bytes ≡ (s w.0.0 ++ t w.0.1) ++ w.1) × (G w.0.0 × H w.0.1)) (same_Some made (p, rest) b.2) (parts, (one.1, two.1));
+      let a = bind_some (r bytes) (λ x. q x.1 >>= λ y. Some ((x.0, y.0), y.1)) (p, rest) e in
+      let b = bind_some (q a.0.1) (λ y. Some ((a.0.0, y.0), y.1)) (p, rest) a.2 in
+      let one = first.takes bytes a.0.0 a.0.1 fits a.1 in
+      let two = second.takes a.0.1 b.0.0 b.0.1 (rest_fits bytes (s a.0.0) a.0.1 one.0 fits) b.1 in
+      let parts : bytes ≡ (s a.0.0 ++ t b.0.0) ++ b.0.1 = one.0 ∙ ap (λ (x : List ℕ). s a.0.0 ++ x) two.0 ∙ sym (append_assoc (s a.0.0) (t b.0.0) b.0.1) in
+      let made : (X × Y) × List ℕ = ((a.0.0, b.0.0), b.0.1) in
+      subst (λ (w : (X × Y) × List ℕ). (bytes ≡ (s w.0.0 ++ t w.0.1) ++ w.1) × (G w.0.0 × H w.0.1)) (same_Some made (p, rest) b.2) (parts, (one.1, two.1));
   again = λ p rest good.
-    ap (both_at r q) (append_assoc (s p.0) (t p.1) rest) ∙ rw (first.again p.0 (t p.1 ++ rest) good.0, second.again p.1 rest good.1) refl;
+      ap (both_at r q) (append_assoc (s p.0) (t p.1) rest) ∙ rw (first.again p.0 (t p.1 ++ rest) good.0, second.again p.1 rest good.1) refl;
 }
 
 -- a field seen as another value
@@ -48,17 +47,17 @@ pub Reads-as : {X Y : Type 0} (G : X → Type 0) (H : Y → Type 0) (s : X → L
     → ((x : X) → G x → (t (f x) ≡ s x) × H (f x)) → ((y : Y) → H y → (t y ≡ s (g y)) × (f (g y) ≡ y) × G (g y)) → Reads G s r → Reads H t (as_at f r)
 Reads-as {X} {Y} G H s t r f g to from base = record {
   takes = λ bytes y rest fits e.
-    let a = bind_some (r bytes) (λ x. Some (f x.0, x.1)) (y, rest) e in
-    let one = base.takes bytes a.0.0 a.0.1 fits a.1 in
-    let seen = to a.0.0 one.1 in
-    let parts : bytes ≡ t (f a.0.0) ++ a.0.1 = one.0 ∙ ap (λ (x : List ℕ). x ++ a.0.1) (sym seen.0) in
-    let made : Y × List ℕ = (f a.0.0, a.0.1) in
-    subst (λ (w : Y × List ℕ). (bytes ≡ t w.0 ++ w.1) × H w.0) (same_Some made (y, rest) a.2) (parts, seen.1);
+      let a = bind_some (r bytes) (λ x. Some (f x.0, x.1)) (y, rest) e in
+      let one = base.takes bytes a.0.0 a.0.1 fits a.1 in
+      let seen = to a.0.0 one.1 in
+      let parts : bytes ≡ t (f a.0.0) ++ a.0.1 = one.0 ∙ ap (λ (x : List ℕ). x ++ a.0.1) (sym seen.0) in
+      let made : Y × List ℕ = (f a.0.0, a.0.1) in
+      subst (λ (w : Y × List ℕ). (bytes ≡ t w.0 ++ w.1) × H w.0) (same_Some made (y, rest) a.2) (parts, seen.1);
   again = λ y rest good.
-    let back = from y good in
-    let other : as_at f r (t y ++ rest) ≡ as_at f r (s (g y) ++ rest) = ap (λ (x : List ℕ). as_at f r (x ++ rest)) back.0 in
-    let read : as_at f r (s (g y) ++ rest) ≡ Some (f (g y), rest) = rw (base.again (g y) rest back.2) refl in
-    other ∙ read ∙ ap (λ (z : Y). Some (z, rest)) back.1;
+      let back = from y good in
+      let other : as_at f r (t y ++ rest) ≡ as_at f r (s (g y) ++ rest) = ap (λ (x : List ℕ). as_at f r (x ++ rest)) back.0 in
+      let read : as_at f r (s (g y) ++ rest) ≡ Some (f (g y), rest) = rw (base.again (g y) rest back.2) refl in
+      other ∙ read ∙ ap (λ (z : Y). Some (z, rest)) back.1;
 }
 
 -- n fields of one kind

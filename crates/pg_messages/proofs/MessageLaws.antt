@@ -1,5 +1,5 @@
 -- The bodies of messages: what is read is spelled so, and what is spelled so is read.
-use Rattle.std.proofs.Common.{◌≡◌, ℕ, ℤ, ◌^◌, ◌<◌, List, [], ◌∷◌, ◌++◌, length, Option, Some, None, Result, Ok, Err, refl, sym, ap, ◌∙◌, append_assoc, arith, ◌⊎◌}
+use Rattle.std.proofs.Common.{◌≡◌, ℕ, ℤ, ◌^◌, ◌<◌, List, [], ◌∷◌, ◌++◌, length, Option, Result, Ok, Err, refl, sym, ap, ◌∙◌, append_assoc, ◌⊎◌}
 use Rattle.std.specs.Prelude.{FitsSigned}
 use Rattle.std.specs.List.{flat_map, AllByRecursion}
 use Rattle.std.specs.Int.{w16, w32}
@@ -12,7 +12,7 @@ use Rattle.pg_messages.specs.declared.frontend.Bind.{Bind}
 use Rattle.pg_messages.specs.declared.frontend.Execute.{Execute}
 use Rattle.pg_messages.specs.Bodies.{Decodes}
 use Rattle.pg_messages.specs.Fields.{int16, int32, count16, count32, string, IsText}
-use Rattle.pg_messages.specs.Frames.{startup_body, IsStartup, IsParameter, parse_body, IsParse, format_codes, AreFormatCodes, parameter_value, IsParameterValue, bind_body, IsBind, execute_body, IsExecute}
+use Rattle.pg_messages.specs.Frames.{startup_body, IsStartup, IsParameter, parse_body, IsParse, parameter_value, IsParameterValue, bind_body, IsBind, execute_body, IsExecute}
 use Rattle.pg_messages.specs.Reading.{Gives, whole, both_at, number_at, signed_at, list_at, string_at, value_at, all_parameters_at, version_at, startup_at, parse_at, bind_at, execute_at}
 use Rattle.pg_messages.proofs.Laws.{IsBytes, Reads, Reads-both, Reads-as, whole_takes, whole_again}
 use Rattle.pg_messages.proofs.FieldLaws.{wide16, wide32, Reads-number, Reads-signed, Reads-list, Reads-string, Reads-value, Reads-version, parameters_bytes, Reads-parameters}
@@ -115,11 +115,15 @@ Reads-bind =
     (both_at (both_at (both_at (both_at string_at string_at) (list_at (signed_at w16))) (list_at value_at)) (list_at (signed_at w16)))
     (λ x. record { portal_name = x.0.0.0.0; statement_name = x.0.0.0.1; parameter_format_codes = x.0.0.1; parameters = x.0.1; result_column_format_codes = x.1 })
     (λ (m : Bind). ((((m.portal_name, m.statement_name), m.parameter_format_codes), m.parameters), m.result_column_format_codes))
-    (λ x good. (ap (λ (w : List ℕ). w ++ formats x.1) (append_assoc (front x.0.0) (count16 (length x.0.1)) (flat_map parameter_value x.0.1)),
-      record { portal_name = good.0.0.0.0; statement_name = good.0.0.0.1; parameter_format_codes = record { count = good.0.0.1.0; each = good.0.0.1.1 }; count = good.0.1.0; parameters = good.0.1.1; result_column_format_codes = record { count = good.1.0; each = good.1.1 } }))
-    (λ m good. (ap (λ (w : List ℕ). w ++ formats m.result_column_format_codes) (append_assoc (front ((m.portal_name, m.statement_name), m.parameter_format_codes)) (count16 (length m.parameters)) (flat_map parameter_value m.parameters)),
+    (λ x good. (
+      ap (λ (w : List ℕ). w ++ formats x.1) (append_assoc (front x.0.0) (count16 (length x.0.1)) (flat_map parameter_value x.0.1)),
+      record { portal_name = good.0.0.0.0; statement_name = good.0.0.0.1; parameter_format_codes = record { count = good.0.0.1.0; each = good.0.0.1.1 }; count = good.0.1.0; parameters = good.0.1.1; result_column_format_codes = record { count = good.1.0; each = good.1.1 } },
+    ))
+    (λ m good. (
+      ap (λ (w : List ℕ). w ++ formats m.result_column_format_codes) (append_assoc (front ((m.portal_name, m.statement_name), m.parameter_format_codes)) (count16 (length m.parameters)) (flat_map parameter_value m.parameters)),
       refl,
-      ((((good.portal_name, good.statement_name), (good.parameter_format_codes.count, good.parameter_format_codes.each)), (good.count, good.parameters)), (good.result_column_format_codes.count, good.result_column_format_codes.each))))
+      ((((good.portal_name, good.statement_name), (good.parameter_format_codes.count, good.parameter_format_codes.each)), (good.count, good.parameters)), (good.result_column_format_codes.count, good.result_column_format_codes.each)),
+    ))
     (Reads-both Most Formats most formats (both_at (both_at (both_at string_at string_at) (list_at (signed_at w16))) (list_at value_at)) (list_at (signed_at w16))
-      (Reads-both Front (AreListed IsParameterValue) front (listed parameter_value) (both_at (both_at string_at string_at) (list_at (signed_at w16))) (list_at value_at)
-        (Reads-both AreTexts Formats texts formats (both_at string_at string_at) (list_at (signed_at w16)) Reads-texts Reads-formats) Reads-values) Reads-formats)
+    (Reads-both Front (AreListed IsParameterValue) front (listed parameter_value) (both_at (both_at string_at string_at) (list_at (signed_at w16))) (list_at value_at)
+    (Reads-both AreTexts Formats texts formats (both_at string_at string_at) (list_at (signed_at w16)) Reads-texts Reads-formats) Reads-values) Reads-formats)

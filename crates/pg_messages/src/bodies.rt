@@ -99,10 +99,7 @@ fn version(alloc: Global, bytes: &[u8]) -> Result<(u32, &[u8]), FrameError>
 }
 
 // Pairs of texts, and the zero byte that ends them. There are fewer pairs than bytes.
-fn parameters(
-    alloc: Global,
-    bytes: &[u8],
-) -> Result<(PgList<(PgStr, PgStr)>, &[u8]), FrameError>
+fn parameters(alloc: Global, bytes: &[u8]) -> Result<(PgList<(PgStr, PgStr)>, &[u8]), FrameError>
     ensures { Gives (λ x. (x.0, x.1.now)) result (all_parameters_at bytes.now) }
 {
     let mut parameters = PgList::new(alloc);

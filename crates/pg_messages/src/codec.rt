@@ -13,7 +13,9 @@ use std::alloc::{AllocError, Global};
 /// A version of the protocol that is spoken.
 #[derive(Clone, Copy, Debug, PartialEq, Eq)]
 pub enum ProtocolVersion {
+    /// Code 196608.
     PROTOCOL3_0,
+    /// Code 196610.
     PROTOCOL3_2,
 }
 
@@ -49,6 +51,7 @@ impl From<AllocError> for FrameError {
 /// Reads the frames of a client and writes the replies to it.
 #[derive(Drop)]
 pub struct PgWireMessageServerCodec {
+    /// What the reading of the next frame depends on.
     pub context: DecodeContext,
 }
 
@@ -66,8 +69,14 @@ impl PgWireMessageServerCodec {
         }
     }
 
-    /// Takes the first frame off the bytes, and tells its message. It answers None where the bytes hold
-    /// neither a whole frame nor a bad header. After None and after an error nothing has changed.
+    /// Takes the first frame off the bytes, and tells its message. While the startup packet is awaited a
+    /// frame is Int32 length, which counts itself, 8 to 10,000, and a body; afterwards Byte1 type, Int32
+    /// length, which counts itself and not the type byte, 4 to 1,048,576, and a body (protocol, "Message
+    /// Formats").
+    ///
+    /// None: the bytes hold neither a whole frame nor a bad header. `Bad`: a whole header has another
+    /// length or an unknown type byte, or a whole frame has a body that no message has. After None and
+    /// after an error nothing has changed. A startup packet ends the startup phase and sets the version.
     pub fn decode(
         &mut self,
         alloc: Global,
@@ -98,7 +107,9 @@ impl PgWireMessageServerCodec {
         Ok(Some(message))
     }
 
-    /// Appends the bytes of a reply. After an error the bytes are as they were.
+    /// Appends the bytes of a reply: Byte1 type, Int32 length, which counts itself and not the type byte,
+    /// and the body (protocol, "Message Formats"). The room is made at once, so want of memory is the
+    /// only error, and after it the bytes are as they were.
     pub fn encode(
         &mut self,
         item: &PgWireBackendMessage,

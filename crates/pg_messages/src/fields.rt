@@ -155,10 +155,7 @@ fn items<T: Field + Drop>(
 }
 
 /// A count, and as many values.
-pub fn list<T: Field + Drop>(
-    alloc: Global,
-    bytes: &[u8],
-) -> Result<(PgList<T>, &[u8]), FrameError>
+pub fn list<T: Field + Drop>(alloc: Global, bytes: &[u8]) -> Result<(PgList<T>, &[u8]), FrameError>
     ensures { Gives (λ x. (x.0, x.1.now)) result (list_at T.field_at bytes.now) }
 {
     let (count, rest) = count(bytes)?;

@@ -70,11 +70,7 @@ fn startup_message(alloc: Global, body: &[u8]) -> Result<PgWireFrontendMessage, 
     Ok(PgWireFrontendMessage::Startup(message))
 }
 
-fn typed_message(
-    alloc: Global,
-    kind: u8,
-    body: &[u8],
-) -> Result<PgWireFrontendMessage, FrameError>
+fn typed_message(alloc: Global, kind: u8, body: &[u8]) -> Result<PgWireFrontendMessage, FrameError>
     ensures { Decodes (IsTypedBody kind body.now) result }
 {
     match kind {

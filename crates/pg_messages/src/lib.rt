@@ -17,5 +17,8 @@ pub use backend::{
     TransactionStatus,
 };
 pub use codec::{DecodeContext, FrameError, PgWireMessageServerCodec, ProtocolVersion};
-pub use frontend::{Bind, Execute, Parse, PgSync, PgWireFrontendMessage, Startup, Terminate};
+pub use frontend::{
+    Bind, Execute, FORMAT_CODE_BINARY, FORMAT_CODE_TEXT, Parse, PgSync, PgWireFrontendMessage,
+    Startup, Terminate,
+};
 pub use values::{PgBytes, PgList, PgStr};

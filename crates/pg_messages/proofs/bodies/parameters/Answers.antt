@@ -1,4 +1,4 @@
-use Rattle.std.proofs.Common.{◌≡◌, length}
+use Rattle.std.proofs.Common.{length}
 use Rattle.std.proofs.lemmas.Result.{err_from_is_err_and}
 use Rattle.pg_messages.specs.Reading.{all_parameters_at}
 use Rattle.pg_messages.proofs.Loops.{pairs-go_on, pairs-fail, pairs-end, pairs-lack}

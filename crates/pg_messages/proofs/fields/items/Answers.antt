@@ -1,4 +1,3 @@
-use Rattle.std.proofs.Common.{◌≡◌}
 use Rattle.pg_messages.specs.Reading.{items_at}
 use Rattle.pg_messages.proofs.Loops.{goes_on}
 use Rattle.pg_messages.proofs.fields.items.Goals as goal
