@@ -4,3 +4,4 @@ pub mod Laws
 pub mod FieldLaws
 pub mod MessageLaws
 pub mod FrameLaws
+pub mod OneReading

@@ -4,6 +4,7 @@
 mod backend;
 mod bodies;
 mod codec;
+mod division;
 mod fields;
 mod frames;
 mod frontend;
@@ -17,8 +18,14 @@ pub use backend::{
     TransactionStatus,
 };
 pub use codec::{DecodeContext, FrameError, PgWireMessageServerCodec, ProtocolVersion};
+pub use division::{
+    frame_is_no_rest, more_bytes_keep_frames, one_division, one_frame, unfinished_is_not_bad,
+};
 pub use frontend::{
     Bind, Execute, FORMAT_CODE_BINARY, FORMAT_CODE_TEXT, Parse, PgSync, PgWireFrontendMessage,
     Startup, Terminate,
 };
 pub use values::{PgBytes, PgList, PgStr};
+
+#[cfg(test)]
+mod tests;
