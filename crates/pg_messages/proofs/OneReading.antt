@@ -1,5 +1,5 @@
 -- A text begins with one frame at most, and has one division.
-use Rattle.std.proofs.Common.{◌≡◌, ℕ, suc, ◌+◌, ◌^◌, ◌<◌, ◌≤◌, Bool, true, false, List, [], ◌∷◌, ◌++◌, length, get_or, take, drop, Option, Some, refl, sym, ap, subst, ◌∙◌, append_assoc, arith, inl, inr, ◌⊎◌, Contains}
+use Rattle.std.proofs.Common.{◌≡◌, ℕ, ◌+◌, ◌≤◌, Bool, true, false, List, [], ◌∷◌, ◌++◌, length, get_or, take, drop, Option, refl, sym, ap, subst, ◌∙◌, append_assoc, arith, inl, inr, ◌⊎◌, Contains}
 use Rattle.std.specs.Int.{w32, from_be_bytes}
 use Rattle.std.proofs.lemmas.List.{take_at, length-append, append_cancel_left}
 use Rattle.std.proofs.lemmas.Nat.{from_be_bytes-to_be_bytes_4}
@@ -55,13 +55,6 @@ front false frame rest (client.PgSync m) h = typed_front frame rest 83 [] (7, om
 front false frame rest (client.Terminate m) h = typed_front frame rest 88 [] (8, omega arith, refl) h
 
 -- ---- what a rest is not
-
-pub unfinished_not_bad : (awaiting : Bool) (rest : List ℕ) → IsUnfinished awaiting rest → IsBad awaiting rest → ⊥
-unfinished_not_bad awaiting rest u b =
-    elim u [
-      | inl short ↦ omega (arith, short, b.0)
-      | inr w ↦ elim b.1 [ inl bad ↦ bad w.1 | inr x ↦ omega (arith, w.2, x.1) ]
-    ]
 
 pub frame_finished : (awaiting : Bool) (frame rest : List ℕ) (m : PgWireFrontendMessage) → IsFrame awaiting frame m → IsUnfinished awaiting (frame ++ rest) → ⊥
 frame_finished awaiting frame rest m h u =
