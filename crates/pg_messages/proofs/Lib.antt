@@ -5,3 +5,4 @@ pub mod FieldLaws
 pub mod MessageLaws
 pub mod FrameLaws
 pub mod OneReading
+pub mod NoZero

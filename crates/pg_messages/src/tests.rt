@@ -220,3 +220,62 @@ fn replies_without_texts(rt: HostRuntime) -> Result<(), Fail> {
     assert_eq!(rt; bound.as_slice(), [0x32, 0, 0, 0, 4].as_slice());
     Ok(())
 }
+
+fn setting(alloc: Global) -> Result<BytesMut, AllocError> {
+    let name = PgStr::copy_of(alloc, "a")?;
+    let value = PgStr::copy_of(alloc, "bc")?;
+    encoded(
+        alloc,
+        &PgWireBackendMessage::ParameterStatus(ParameterStatus { name, value }),
+    )
+}
+
+fn row(alloc: Global) -> Result<BytesMut, AllocError> {
+    let payload = PgBytes::copy_of(alloc, &[0, 0, 0, 2, 0x68, 0x69])?;
+    let field_count = 1;
+    encoded(
+        alloc,
+        &PgWireBackendMessage::DataRow(DataRow {
+            payload,
+            field_count,
+        }),
+    )
+}
+
+fn done(alloc: Global) -> Result<BytesMut, AllocError> {
+    let tag = PgStr::copy_of(alloc, "SELECT 3")?;
+    encoded(
+        alloc,
+        &PgWireBackendMessage::CommandComplete(CommandComplete { tag }),
+    )
+}
+
+fn unknown_relation(alloc: Global) -> Result<BytesMut, AllocError> {
+    let severity = PgStr::copy_of(alloc, "ERROR")?;
+    let code = PgStr::copy_of(alloc, "42P01")?;
+    let message = PgStr::copy_of(alloc, "relation \"nosuch\" does not exist")?;
+    let info = ErrorInfo::new(severity, code, message);
+    encoded(
+        alloc,
+        &PgWireBackendMessage::ErrorResponse(ErrorResponse { info }),
+    )
+}
+
+#[test]
+fn replies_with_texts(rt: HostRuntime) -> Result<(), Fail> {
+    let row = row(rt.alloc())?;
+    assert_eq!(rt; row.as_slice(), b"D\0\0\0\x0c\0\x01\0\0\0\x02hi".as_slice());
+    let setting = setting(rt.alloc())?;
+    assert_eq!(rt; setting.as_slice(), b"S\0\0\0\x09a\0bc\0".as_slice());
+    let done = done(rt.alloc())?;
+    assert_eq!(rt; done.as_slice(), b"C\0\0\0\x0dSELECT 3\0".as_slice());
+    Ok(())
+}
+
+#[test]
+fn an_error(rt: HostRuntime) -> Result<(), Fail> {
+    let error = unknown_relation(rt.alloc())?;
+    let want = b"E\0\0\0\x3cSERROR\0VERROR\0C42P01\0Mrelation \"nosuch\" does not exist\0\0";
+    assert_eq!(rt; error.as_slice(), want.as_slice());
+    Ok(())
+}
