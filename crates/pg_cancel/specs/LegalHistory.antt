@@ -53,8 +53,12 @@ abbrev pub IsCancelOf : List Entry → ℕ → ℕ → Type 0
 IsCancelOf history n place = (pid : ℤ) × (key : List ℕ) × IsRegisteredAt history n pid key × IsCancelAt history place pid key
 
 -- n has a Start, and a Cancel with n's pid and key stands after the last one
-abbrev pub IsCanceled : List Entry → ℕ → Type 0
-IsCanceled history n = (start : ℕ) × IsLastStart history n start × (cancel : ℕ) × (start < cancel) × IsCancelOf history n cancel
+pub record IsCanceled (history : List Entry) (n : ℕ) : Type 0 where
+  pub start : ℕ
+  pub cancel : ℕ
+  pub last_start : IsLastStart history n start
+  pub cancel_of_n : IsCancelOf history n cancel
+  pub after : start < cancel
 
 -- the number of a Register is its own place, and every other number is that of a live registration
 abbrev pub IsNumber : List Entry → RegistryCall → ℕ → Type 0
@@ -81,3 +85,13 @@ pub record MayFollow (history : List Entry) (entry : Entry) : Type 0 where
 -- each entry has the number and the answer that it must have after those before it
 abbrev pub IsLegal : List Entry → Type 0
 IsLegal history = (place : ℕ) (entry : Entry) → slice_get history place ≡ Some entry → MayFollow (take place history) entry
+
+-- under which numbers the call may be made: a Register under any, every other call under that of a live registration
+abbrev pub MayCall : List Entry → ℕ → RegistryCall → Type 0
+MayCall history number (Register pid key) = Unit {0}
+MayCall history number _ = IsLive history number
+
+-- the entry of a call made under this number, with its answer: a Register is entered under its own place
+abbrev pub entry_of : List Entry → ℕ → RegistryCall → RegistryAnswer → Entry
+entry_of history number (Register pid key) answer = record { number = length history; call = Register pid key; answer = answer }
+entry_of history number call answer = record { number = number; call = call; answer = answer }

@@ -8,3 +8,6 @@ mod history;
 pub use entries::{Entry, RegistryAnswer, RegistryCall};
 pub use history::Registry;
 
+
+#[cfg(test)]
+mod tests;
