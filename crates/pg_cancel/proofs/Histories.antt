@@ -1,5 +1,5 @@
 -- Laws of legal histories: what one more entry changes, and that the answer to a call is determined.
-use Rattle.std.proofs.Common.{◌≡◌, ◌⊎◌, ◌≢◌, ℕ, ◌+◌, ◌<◌, ◌≤◌, ℤ, List, [], ◌∷◌, ◌++◌, length, take, slice_get, Some, IsSomeAnd, inl, inr, refl, ap, sym, subst, arith, length-append}
+use Rattle.std.proofs.Common.{◌≡◌, ◌↔◌, ◌⊎◌, ◌≢◌, ℕ, ◌+◌, ◌<◌, ◌≤◌, ℤ, List, [], ◌∷◌, ◌++◌, length, take, slice_get, Some, IsSomeAnd, inl, inr, refl, ap, sym, subst, arith, length-append}
 use Rattle.std.proofs.Math.Seq.{take-append_seam}
 use Rattle.std.proofs.lemmas.List.{take-append-le}
 use mathlib.Core.Logic.{⊎_elim}
@@ -177,3 +177,32 @@ last_new h e n starts = record {
       let len : length (h ++ e ∷ []) ≡ length h + 1 = length-append h (e ∷ []) in
       absurd (omega arith);
 }
+
+-- ---- who is live after one more entry
+
+-- a Register is told that a place is taken exactly where that is the place of the pid's live registration
+pub taken_when : (h : List Entry) (n : ℕ) (pid : ℤ) (key : List ℕ) (m : ℕ) (a : RegistryAnswer) → IsLegal h → IsAnswer h n (Register pid key) a → (a ≡ Taken m) ↔ HasPid h m pid
+taken_when h n pid key m a legal x =
+    let told : a ≡ Taken m → HasPid h m pid = λ same. subst (λ b. IsAnswer h n (Register pid key) b) same x in
+    let back : HasPid h m pid → a ≡ Taken m = λ holder. determined h n (Register pid key) a (Taken m) legal x holder in
+    (told, back)
+
+pub registered_lives : (h : List Entry) (n : ℕ) (c : RegistryCall) → IsAnswer h n c Registered → IsLive (h ++ entry_of h n c Registered ∷ []) (length h)
+registered_lives h n (Register pid key) x =
+    (pid, key, live_new h (record { number = length h; call = Register pid key; answer = Registered }) pid key (refl, refl))
+registered_lives h n Start x = absurd x
+registered_lives h n Ask x = absurd x
+registered_lives h n (Cancel pid key) x = absurd x
+registered_lives h n Unregister x = absurd x
+
+-- what is no Unregister of k leaves k live
+no_end : (h : List Entry) (n k : ℕ) (c : RegistryCall) (a : RegistryAnswer) → ((c ≡ Unregister) × (n ≡ k) → ⊥) → Calls k Unregister (entry_of h n c a) → ⊥
+no_end h n k (Register pid key) a other ends = let same : ◌≡◌ {A = RegistryCall} (Register pid key) Unregister = ends.1 in cc (same)
+no_end h n k Start a other ends = let same : ◌≡◌ {A = RegistryCall} Start Unregister = ends.1 in cc (same)
+no_end h n k Ask a other ends = let same : ◌≡◌ {A = RegistryCall} Ask Unregister = ends.1 in cc (same)
+no_end h n k (Cancel pid key) a other ends = let same : ◌≡◌ {A = RegistryCall} (Cancel pid key) Unregister = ends.1 in cc (same)
+no_end h n k Unregister a other ends = other (refl, ends.0)
+
+pub stays_live : (h : List Entry) (n k : ℕ) (c : RegistryCall) (a : RegistryAnswer) → ((c ≡ Unregister) × (n ≡ k) → ⊥) → IsLive h k → IsLive (h ++ entry_of h n c a ∷ []) k
+stays_live h n k c a other live =
+    (live.0, live.1, live_keeps h (entry_of h n c a) k live.0 live.1 (no_end h n k c a other) live.2)

@@ -6,6 +6,7 @@ use Rattle.pg_cancel.specs.declared.entries.Entry.{Entry}
 use Rattle.pg_cancel.specs.declared.entries.RegistryCall.{RegistryCall}
 use Rattle.pg_cancel.specs.declared.entries.RegistryCall.TheVariants.{Start}
 use Rattle.pg_cancel.specs.declared.entries.RegistryAnswer.{RegistryAnswer}
+use Rattle.pg_cancel.specs.declared.entries.RegistryAnswer.TheVariants.{Yes, No}
 use Rattle.pg_cancel.specs.declared.holders.Holder.{Holder}
 use Rattle.pg_cancel.specs.declared.holders.Holders.{Holders}
 use Rattle.pg_cancel.specs.declared.holders.Query.{Query}
@@ -27,6 +28,12 @@ abbrev pub canceled : Query → Query
 canceled Unstarted = Unstarted
 canceled Running = Canceled
 canceled Canceled = Canceled
+
+-- what an Ask is told of a query
+abbrev pub answer_of : Query → RegistryAnswer
+answer_of Unstarted = No
+answer_of Running = No
+answer_of Canceled = Yes
 
 -- the holder is the live registration of the pid
 pub record Holds (history : List Entry) (pid : ℤ) (holder : Holder) : Type 0 where

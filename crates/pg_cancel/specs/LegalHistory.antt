@@ -91,7 +91,11 @@ abbrev pub MayCall : List Entry → ℕ → RegistryCall → Type 0
 MayCall history number (Register pid key) = Unit {0}
 MayCall history number _ = IsLive history number
 
--- the entry of a call made under this number, with its answer: a Register is entered under its own place
+-- the number that a call is entered under: a Register its own place, every other call the number that it is made under
+abbrev pub entry_number : List Entry → ℕ → RegistryCall → ℕ
+entry_number history number (Register pid key) = length history
+entry_number history number _ = number
+
+-- the entry of a call made under this number, with its answer
 abbrev pub entry_of : List Entry → ℕ → RegistryCall → RegistryAnswer → Entry
-entry_of history number (Register pid key) answer = record { number = length history; call = Register pid key; answer = answer }
-entry_of history number call answer = record { number = number; call = call; answer = answer }
+entry_of history number call answer = record { number = entry_number history number call; call = call; answer = answer }

@@ -1,7 +1,7 @@
 ghost use Rattle.std.specs.Prelude.{◌≡◌, ℕ, List, [], ◌↔◌, IfOk, OnErr, IsTrue};
 ghost use Rattle.std.specs.BTreeMap.{IsUnchanged};
 ghost use Rattle.pg_cancel.specs.LegalHistory.{IsLegal, IsLive, HasPid, MayCall};
-ghost use Rattle.pg_cancel.specs.Index.{IsIndexOf, IsKeyOf, Notes, canceled};
+ghost use Rattle.pg_cancel.specs.Index.{IsIndexOf, IsKeyOf, Notes, answer_of, canceled};
 
 use crate::entries::{Entry, RegistryAnswer, RegistryCall};
 use std::alloc::{AllocError, Global};
@@ -90,9 +90,10 @@ impl Holders {
         ensures { Notes history.now number RegistryCall.Start self.new result }
     {
         let pid = pid_of(history, number);
-        if let Some(holder) = self.by_pid.get_mut(&pid) {
-            holder.query = Query::Running;
-        }
+        let Some(holder) = self.by_pid.get_mut(&pid) else {
+            unreachable!()
+        };
+        holder.query = Query::Running;
         RegistryAnswer::Done
     }
 
@@ -103,13 +104,10 @@ impl Holders {
         ensures { Notes history.now number RegistryCall.Ask self.now result }
     {
         let pid = pid_of(history, number);
-        match self.by_pid.get(&pid) {
-            Some(Holder {
-                query: Query::Canceled,
-                ..
-            }) => RegistryAnswer::Yes,
-            _ => RegistryAnswer::No,
-        }
+        let Some(holder) = self.by_pid.get(&pid) else {
+            unreachable!()
+        };
+        holder.query.answer()
     }
 
     fn cancel(&mut self, history: &[Entry], pid: i32, key: &[u8; 4]) -> RegistryAnswer
@@ -158,6 +156,16 @@ impl Holders {
 }
 
 impl Query {
+    /// What an `Ask` is told.
+    fn answer(self) -> RegistryAnswer
+        ensures { result ≡ answer_of self }
+    {
+        match self {
+            Query::Unstarted | Query::Running => RegistryAnswer::No,
+            Query::Canceled => RegistryAnswer::Yes,
+        }
+    }
+
     /// What a cancel makes of it. One that comes before any start does nothing.
     fn canceled(self) -> Query
         ensures { result ≡ canceled self }
