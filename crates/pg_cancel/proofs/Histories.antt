@@ -91,14 +91,14 @@ pub IsLegal-push : (h : List Entry) (e : Entry) → IsLegal h → MayFollow h e 
 IsLegal-push h e legal follows = λ k entry at.
     ⊎_elim
     (λ old.
-        let l : k < length h = at_within (λ x. x ≡ entry) h k old in
-        let le : k ≤ length h = omega arith in
-        let before : take k (h ++ e ∷ []) ≡ take k h = take-append-le k h (e ∷ []) le in
-        subst (λ xs. MayFollow xs entry) (sym before) (legal k entry (some_from (slice_get h k) entry old)))
+    let l : k < length h = at_within (λ x. x ≡ entry) h k old in
+    let le : k ≤ length h = omega arith in
+    let before : take k (h ++ e ∷ []) ≡ take k h = take-append-le k h (e ∷ []) le in
+    subst (λ xs. MayFollow xs entry) (sym before) (legal k entry (some_from (slice_get h k) entry old)))
     (λ new.
-        let before : take (length h) (h ++ e ∷ []) ≡ h = take-append_seam h (e ∷ []) in
-        let before_k : take k (h ++ e ∷ []) ≡ h = subst (λ j. take j (h ++ e ∷ []) ≡ h) (sym new.0) before in
-        subst (λ xs. MayFollow xs entry) (sym before_k) (subst (λ x. MayFollow h x) new.1 follows))
+    let before : take (length h) (h ++ e ∷ []) ≡ h = take-append_seam h (e ∷ []) in
+    let before_k : take k (h ++ e ∷ []) ≡ h = subst (λ j. take j (h ++ e ∷ []) ≡ h) (sym new.0) before in
+    subst (λ xs. MayFollow xs entry) (sym before_k) (subst (λ x. MayFollow h x) new.1 follows))
     (at_either (λ x. x ≡ entry) h e k (some_and (slice_get (h ++ e ∷ []) k) entry at))
 
 -- the entry of a call with the answer that the call has may follow

@@ -53,9 +53,9 @@ query_keeps h e n pid key Canceled starts cancels x =
 pub query_starts : (h : List Entry) (e : Entry) (n : ℕ) (pid : ℤ) (key : List ℕ) → Calls n Start e → IsQuery (h ++ e ∷ []) n pid key Running
 query_starts h e n pid key starts =
     let none : (k : ℕ) → length h < k → IsCancelAt (h ++ e ∷ []) k pid key → ⊥ = λ k less at.
-        let within : k < length (h ++ e ∷ []) = at_within (Cancels pid key) (h ++ e ∷ []) k at in
-        let len : length (h ++ e ∷ []) ≡ length h + 1 = length-append h (e ∷ []) in
-        omega arith in
+    let within : k < length (h ++ e ∷ []) = at_within (Cancels pid key) (h ++ e ∷ []) k at in
+    let len : length (h ++ e ∷ []) ≡ length h + 1 = length-append h (e ∷ []) in
+    omega arith in
     (length h, last_new h e n starts, none)
 
 -- a Cancel is no Start

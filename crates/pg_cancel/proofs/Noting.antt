@@ -62,13 +62,13 @@ notes_taken h m pid holder index at number key =
     record {
       told = (holds.key, holds.live);
       noted = keeps_index h e m
-      (λ q. record {
-        registers = λ k r. let no : ◌≡◌ {A = RegistryAnswer} (Taken holder.number) Registered = r.1 in cc (no);
-        starts = λ n k l r. let no : ◌≡◌ {A = RegistryCall} (Register pid key) Start = r.1 in cc (no);
-        ends = λ n k l r. let no : ◌≡◌ {A = RegistryCall} (Register pid key) Unregister = r.1 in cc (no);
-        cancels = λ n k l r. let no : ◌≡◌ {A = RegistryCall} (Register pid key) (Cancel q k) = r in cc (no);
-      })
-      index;
+          (λ q. record {
+            registers = λ k r. let no : ◌≡◌ {A = RegistryAnswer} (Taken holder.number) Registered = r.1 in cc (no);
+            starts = λ n k l r. let no : ◌≡◌ {A = RegistryCall} (Register pid key) Start = r.1 in cc (no);
+            ends = λ n k l r. let no : ◌≡◌ {A = RegistryCall} (Register pid key) Unregister = r.1 in cc (no);
+            cancels = λ n k l r. let no : ◌≡◌ {A = RegistryCall} (Register pid key) (Cancel q k) = r in cc (no);
+          })
+          index;
     }
 
 pub notes_registered : (h : List Entry) (m n : BTreeMap ℤ Holder) (pid : ℤ) → IsLegal h → Indexes h m → get int_cmp m pid ≡ None → Changes m n pid (Some (record { number = length h; query = Unstarted })) → (number : ℕ) (key : List ℕ) → Notes h number (Register pid key) (record { by_pid = n }) Registered
@@ -87,13 +87,13 @@ notes_registered h m n pid legal index at changes number key =
     record {
       told = missing h m pid index at;
       noted = updated (IsEntryAt (h ++ e ∷ [])) m n pid (Some holder) changes here
-      (λ q apart. quiet_at h e q (get int_cmp m q) (record {
-        registers = λ k r. let same : ◌≡◌ {A = RegistryCall} (Register pid key) (Register q k) = r.0 in let pids : q ≡ pid = cc (same) in apart pids;
-        starts = λ i k l r. let no : ◌≡◌ {A = RegistryCall} (Register pid key) Start = r.1 in cc (no);
-        ends = λ i k l r. let no : ◌≡◌ {A = RegistryCall} (Register pid key) Unregister = r.1 in cc (no);
-        cancels = λ i k l r. let no : ◌≡◌ {A = RegistryCall} (Register pid key) (Cancel q k) = r in cc (no);
-      })
-      (index q));
+          (λ q apart. quiet_at h e q (get int_cmp m q) (record {
+            registers = λ k r. let same : ◌≡◌ {A = RegistryCall} (Register pid key) (Register q k) = r.0 in let pids : q ≡ pid = cc (same) in apart pids;
+            starts = λ i k l r. let no : ◌≡◌ {A = RegistryCall} (Register pid key) Start = r.1 in cc (no);
+            ends = λ i k l r. let no : ◌≡◌ {A = RegistryCall} (Register pid key) Unregister = r.1 in cc (no);
+            cancels = λ i k l r. let no : ◌≡◌ {A = RegistryCall} (Register pid key) (Cancel q k) = r in cc (no);
+          })
+          (index q));
     }
 
 -- ---- Start
@@ -111,13 +111,13 @@ notes_start h m n number pid holder legal index live at changes =
     record {
       told = tt;
       noted = updated (IsEntryAt (h ++ e ∷ [])) m n pid (Some (record { number = holder.number; query = Running })) changes here
-      (λ q apart. quiet_at h e q (get int_cmp m q) (record {
-        registers = λ k r. let no : ◌≡◌ {A = RegistryCall} Start (Register q k) = r.0 in cc (no);
-        starts = λ i k l r. apart (one_pid h number i pid q live.0 k live.1 l r.0);
-        ends = λ i k l r. let no : ◌≡◌ {A = RegistryCall} Start Unregister = r.1 in cc (no);
-        cancels = λ i k l r. let no : ◌≡◌ {A = RegistryCall} Start (Cancel q k) = r in cc (no);
-      })
-      (index q));
+          (λ q apart. quiet_at h e q (get int_cmp m q) (record {
+            registers = λ k r. let no : ◌≡◌ {A = RegistryCall} Start (Register q k) = r.0 in cc (no);
+            starts = λ i k l r. apart (one_pid h number i pid q live.0 k live.1 l r.0);
+            ends = λ i k l r. let no : ◌≡◌ {A = RegistryCall} Start Unregister = r.1 in cc (no);
+            cancels = λ i k l r. let no : ◌≡◌ {A = RegistryCall} Start (Cancel q k) = r in cc (no);
+          })
+          (index q));
     }
 
 -- ---- Ask
@@ -138,13 +138,13 @@ notes_asked h m number pid holder legal index live at =
     record {
       told = answer_is h number pid holds.key holder.query registered query;
       noted = keeps_index h e m
-      (λ q. record {
-        registers = λ k r. let no : ◌≡◌ {A = RegistryCall} Ask (Register q k) = r.0 in cc (no);
-        starts = λ n k l r. let no : ◌≡◌ {A = RegistryCall} Ask Start = r.1 in cc (no);
-        ends = λ n k l r. let no : ◌≡◌ {A = RegistryCall} Ask Unregister = r.1 in cc (no);
-        cancels = λ n k l r. let no : ◌≡◌ {A = RegistryCall} Ask (Cancel q k) = r in cc (no);
-      })
-      index;
+          (λ q. record {
+            registers = λ k r. let no : ◌≡◌ {A = RegistryCall} Ask (Register q k) = r.0 in cc (no);
+            starts = λ n k l r. let no : ◌≡◌ {A = RegistryCall} Ask Start = r.1 in cc (no);
+            ends = λ n k l r. let no : ◌≡◌ {A = RegistryCall} Ask Unregister = r.1 in cc (no);
+            cancels = λ n k l r. let no : ◌≡◌ {A = RegistryCall} Ask (Cancel q k) = r in cc (no);
+          })
+          index;
     }
 
 -- ---- Cancel
@@ -170,13 +170,13 @@ notes_canceled h m n pid key holder index at is_key changes number =
     record {
       told = (holder.number, live);
       noted = updated (IsEntryAt (h ++ e ∷ [])) m n pid (Some (record { number = holder.number; query = canceled holder.query })) changes here
-      (λ q apart. quiet_at h e q (get int_cmp m q) (record {
-        registers = λ k r. let no : ◌≡◌ {A = RegistryCall} (Cancel pid key) (Register q k) = r.0 in cc (no);
-        starts = λ i k l r. let no : ◌≡◌ {A = RegistryCall} (Cancel pid key) Start = r.1 in cc (no);
-        ends = λ i k l r. let no : ◌≡◌ {A = RegistryCall} (Cancel pid key) Unregister = r.1 in cc (no);
-        cancels = λ i k l r. let calls : ◌≡◌ {A = RegistryCall} (Cancel pid key) (Cancel q k) = r in let pids : q ≡ pid = cc (calls) in apart pids;
-      })
-      (index q));
+          (λ q apart. quiet_at h e q (get int_cmp m q) (record {
+            registers = λ k r. let no : ◌≡◌ {A = RegistryCall} (Cancel pid key) (Register q k) = r.0 in cc (no);
+            starts = λ i k l r. let no : ◌≡◌ {A = RegistryCall} (Cancel pid key) Start = r.1 in cc (no);
+            ends = λ i k l r. let no : ◌≡◌ {A = RegistryCall} (Cancel pid key) Unregister = r.1 in cc (no);
+            cancels = λ i k l r. let calls : ◌≡◌ {A = RegistryCall} (Cancel pid key) (Cancel q k) = r in let pids : q ≡ pid = cc (calls) in apart pids;
+          })
+          (index q));
     }
 
 pub notes_unmet : (h : List Entry) (m : BTreeMap ℤ Holder) (pid : ℤ) (key : List ℕ) → Indexes h m → (IsConnected h pid key → ⊥) → (number : ℕ) → Notes h number (Cancel pid key) (record { by_pid = m }) No
@@ -185,17 +185,17 @@ notes_unmet h m pid key index none number =
     record {
       told = none;
       noted = keeps_index h e m
-      (λ q. record {
-        registers = λ k r. let no : ◌≡◌ {A = RegistryCall} (Cancel pid key) (Register q k) = r.0 in cc (no);
-        starts = λ i k l r. let no : ◌≡◌ {A = RegistryCall} (Cancel pid key) Start = r.1 in cc (no);
-        ends = λ i k l r. let no : ◌≡◌ {A = RegistryCall} (Cancel pid key) Unregister = r.1 in cc (no);
-        cancels = λ i k l r.
-            let calls : ◌≡◌ {A = RegistryCall} (Cancel pid key) (Cancel q k) = r in
-            let pids : q ≡ pid = cc (calls) in
-            let keys : k ≡ key = cc (calls) in
-            none (i, subst (λ p. IsLiveAs h i p key) pids (subst (λ x. IsLiveAs h i q x) keys l));
-      })
-      index;
+          (λ q. record {
+            registers = λ k r. let no : ◌≡◌ {A = RegistryCall} (Cancel pid key) (Register q k) = r.0 in cc (no);
+            starts = λ i k l r. let no : ◌≡◌ {A = RegistryCall} (Cancel pid key) Start = r.1 in cc (no);
+            ends = λ i k l r. let no : ◌≡◌ {A = RegistryCall} (Cancel pid key) Unregister = r.1 in cc (no);
+            cancels = λ i k l r.
+                let calls : ◌≡◌ {A = RegistryCall} (Cancel pid key) (Cancel q k) = r in
+                let pids : q ≡ pid = cc (calls) in
+                let keys : k ≡ key = cc (calls) in
+                none (i, subst (λ p. IsLiveAs h i p key) pids (subst (λ x. IsLiveAs h i q x) keys l));
+          })
+          index;
     }
 
 pub not_connected_free : (h : List Entry) (pid : ℤ) (key : List ℕ) → (IsTaken h pid → ⊥) → IsConnected h pid key → ⊥
@@ -212,22 +212,22 @@ pub notes_unregistered : (h : List Entry) (m n : BTreeMap ℤ Holder) (number : 
 notes_unregistered h m n number pid legal index live changes =
     let e : Entry = record { number = number; call = Unregister; answer = Done } in
     let free : IsTaken (h ++ e ∷ []) pid → ⊥ = λ taken.
-        ⊎_elim
-        (λ was.
-            let same : number ≡ taken.0 = one_holder h number taken.0 pid live.0 taken.1.0 legal live.1 was in
-            live_ended h e taken.0 pid taken.1.0 (live_within h taken.0 pid taken.1.0 was) (same, refl) taken.1.1)
-        (λ new. let no : ◌≡◌ {A = RegistryCall} Unregister (Register pid taken.1.0) = new.1.0 in cc (no))
-        (live_was h e taken.0 pid taken.1.0 taken.1.1) in
+    ⊎_elim
+    (λ was.
+    let same : number ≡ taken.0 = one_holder h number taken.0 pid live.0 taken.1.0 legal live.1 was in
+    live_ended h e taken.0 pid taken.1.0 (live_within h taken.0 pid taken.1.0 was) (same, refl) taken.1.1)
+    (λ new. let no : ◌≡◌ {A = RegistryCall} Unregister (Register pid taken.1.0) = new.1.0 in cc (no))
+    (live_was h e taken.0 pid taken.1.0 taken.1.1) in
     record {
       told = tt;
       noted = updated (IsEntryAt (h ++ e ∷ [])) m n pid None changes free
-      (λ q apart. quiet_at h e q (get int_cmp m q) (record {
-        registers = λ k r. let no : ◌≡◌ {A = RegistryCall} Unregister (Register q k) = r.0 in cc (no);
-        starts = λ i k l r. let no : ◌≡◌ {A = RegistryCall} Unregister Start = r.1 in cc (no);
-        ends = λ i k l r. apart (one_pid h number i pid q live.0 k live.1 l r.0);
-        cancels = λ i k l r. let no : ◌≡◌ {A = RegistryCall} Unregister (Cancel q k) = r in cc (no);
-      })
-      (index q));
+          (λ q apart. quiet_at h e q (get int_cmp m q) (record {
+            registers = λ k r. let no : ◌≡◌ {A = RegistryCall} Unregister (Register q k) = r.0 in cc (no);
+            starts = λ i k l r. let no : ◌≡◌ {A = RegistryCall} Unregister Start = r.1 in cc (no);
+            ends = λ i k l r. apart (one_pid h number i pid q live.0 k live.1 l r.0);
+            cancels = λ i k l r. let no : ◌≡◌ {A = RegistryCall} Unregister (Cancel q k) = r in cc (no);
+          })
+          (index q));
     }
 
 -- ---- what a map's calls at a signed key say
@@ -279,8 +279,8 @@ live_by_holder h m n d pid key holder legal index is at =
     let holds = found h m pid holder index at in
     let yes : IsTrue (nat_eq holder.number n) → IsLive h n = λ true_is. subst (λ i. IsLive h i) ((Decides-eqb holder.number n).0 true_is) (pid, holds.key, holds.live) in
     let back : IsLive h n → IsTrue (nat_eq holder.number n) = λ live.
-        let here : IsLiveAs h n pid live.1 = subst (λ p. IsLiveAs h n p live.1) (same_pid h n d pid live.0 key live.1 is live.2) live.2 in
-        (Decides-eqb holder.number n).1 (one_holder h holder.number n pid holds.key live.1 legal holds.live here) in
+    let here : IsLiveAs h n pid live.1 = subst (λ p. IsLiveAs h n p live.1) (same_pid h n d pid live.0 key live.1 is live.2) live.2 in
+    (Decides-eqb holder.number n).1 (one_holder h holder.number n pid holds.key live.1 legal holds.live here) in
     (yes, back)
 
 pub live_by_none : (h : List Entry) (m : BTreeMap ℤ Holder) (n : ℕ) (d : Entry) (pid : ℤ) (key : List ℕ) → Indexes h m → (get_or h n d).call ≡ Register pid key → get int_cmp m pid ≡ None → IsLive h n → ⊥

@@ -91,12 +91,11 @@ impl Registry {
         self.history.reserve(1)?;
         let answer = self.holders.answer(&self.history, number, &call)?;
         let number = entry_number(&self.history, number, &call);
-        self.history
-            .push_reserved(Entry {
-                number,
-                call,
-                answer,
-            });
+        self.history.push_reserved(Entry {
+            number,
+            call,
+            answer,
+        });
         Ok(answer)
     }
 }

@@ -72,14 +72,13 @@ impl Holders {
         if let Some(holder) = self.by_pid.get(&pid) {
             return Ok(RegistryAnswer::Taken(holder.number));
         }
-        self.by_pid
-            .insert(
-                pid,
-                Holder {
-                    number: history.len() as u64,
-                    query: Query::Unstarted,
-                },
-            )?;
+        self.by_pid.insert(
+            pid,
+            Holder {
+                number: history.len() as u64,
+                query: Query::Unstarted,
+            },
+        )?;
         Ok(RegistryAnswer::Registered)
     }
 

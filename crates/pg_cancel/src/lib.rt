@@ -2,12 +2,11 @@
 #![tactic(auto)]
 
 mod entries;
-mod holders;
 mod history;
+mod holders;
 
 pub use entries::{Entry, RegistryAnswer, RegistryCall};
 pub use history::Registry;
-
 
 #[cfg(test)]
 mod tests;

@@ -4,8 +4,11 @@ use std::process::Abort;
 use std::test::Fail;
 
 const A: [u8; 4] = [1, 2, 3, 4];
+
 const B: [u8; 4] = [5, 6, 7, 8];
+
 const C: [u8; 4] = [10, 11, 12, 13];
+
 const ZERO: [u8; 4] = [0, 0, 0, 0];
 
 /// Applies the call under a number that is live, or any where it registers.
@@ -29,14 +32,26 @@ fn tell(
     let mut registry = Registry::new(alloc);
     for (number, call, answer) in steps {
         let place = registry.history().len();
-        assert_eq!(rt; applied(rt, &mut registry, *number, *call)?, *answer, "at {place}");
+        assert_eq!(rt;
+            applied(rt, &mut registry, *number, *call)?,
+            *answer,
+            "at {place}"
+        );
     }
     assert_eq!(rt; registry.history().len(), steps.len());
     for (place, entry) in registry.history().iter().enumerate() {
         if place < steps.len() {
             let (number, call, answer) = steps[place];
-            let number = if matches!(call, RegistryCall::Register(..)) { place as u64 } else { number };
-            let wanted = Entry { number, call, answer };
+            let number = if matches!(call, RegistryCall::Register(..)) {
+                place as u64
+            } else {
+                number
+            };
+            let wanted = Entry {
+                number,
+                call,
+                answer,
+            };
             assert_eq!(rt; *entry, wanted, "at {place}");
         }
     }
