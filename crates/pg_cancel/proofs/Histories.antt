@@ -1,5 +1,5 @@
 -- Laws of legal histories: what one more entry changes, and that the answer to a call is determined.
-use Rattle.std.proofs.Common.{◌≡◌, ◌↔◌, ◌⊎◌, ◌≢◌, ℕ, ◌+◌, ◌<◌, ◌≤◌, ℤ, List, [], ◌∷◌, ◌++◌, length, take, slice_get, Some, IsSomeAnd, inl, inr, refl, ap, sym, subst, arith, length-append}
+use Rattle.std.proofs.Common.{◌≡◌, ◌↔◌, ◌⊎◌, ℕ, ◌+◌, ◌<◌, ◌≤◌, ℤ, List, [], ◌∷◌, ◌++◌, length, take, slice_get, inl, inr, refl, ap, sym, subst, arith, length-append}
 use Rattle.std.proofs.Math.Seq.{take-append_seam}
 use Rattle.std.proofs.lemmas.List.{take-append-le}
 use mathlib.Core.Logic.{⊎_elim}
@@ -8,8 +8,8 @@ use Rattle.pg_cancel.specs.declared.entries.RegistryCall.{RegistryCall}
 use Rattle.pg_cancel.specs.declared.entries.RegistryCall.TheVariants.{Register, Start, Ask, Cancel, Unregister}
 use Rattle.pg_cancel.specs.declared.entries.RegistryAnswer.{RegistryAnswer}
 use Rattle.pg_cancel.specs.declared.entries.RegistryAnswer.TheVariants.{Registered, Taken, Done, Yes, No}
-use Rattle.pg_cancel.specs.LegalHistory.{IsCallAt, IsRegisteredAt, IsCancelAt, IsLiveAs, IsLive, HasPid, IsTaken, IsConnected, IsLastStart, IsCancelOf, IsCanceled, IsNumber, IsAnswer, MayFollow, IsLegal, MayCall, entry_of}
-use Rattle.pg_cancel.proofs.Places.{at_within, at_old, at_new, at_either, at_taken, at_from_taken, some_and, some_from, the_value, both, none_of}
+use Rattle.pg_cancel.specs.LegalHistory.{IsCallAt, IsRegisteredAt, IsLiveAs, IsLive, HasPid, IsLastStart, IsNumber, IsAnswer, MayFollow, IsLegal, MayCall, entry_of}
+use Rattle.pg_cancel.proofs.Places.{at_within, at_old, at_new, at_either, at_taken, at_from_taken, some_and, some_from, the_value, both}
 
 -- the facts that a registered place, a call at a place and a cancel at a place are about
 abbrev pub Registers : ℤ → List ℕ → Entry → Type 0

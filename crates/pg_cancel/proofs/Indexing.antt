@@ -1,5 +1,5 @@
 -- What one more entry changes in the index.
-use Rattle.std.proofs.Common.{◌≡◌, ◌≢◌, ℕ, ◌+◌, ◌<◌, ℤ, List, [], ◌∷◌, ◌++◌, length, Bool, true, false, cond, Option, Some, None, MatchOption, slice_get, refl, ap, sym, subst, ◌∙◌, arith, length-append}
+use Rattle.std.proofs.Common.{◌≡◌, ◌≢◌, ℕ, ◌+◌, ◌<◌, ℤ, List, [], ◌∷◌, ◌++◌, length, Bool, true, false, cond, Option, Some, None, refl, sym, subst, ◌∙◌, arith, length-append}
 use Rattle.std.specs.Ordering.{int_cmp}
 use Rattle.std.specs.BTreeMap.{BTreeMap, get, is_at}
 use Rattle.std.proofs.lemmas.Bool.{false≢true}
@@ -7,16 +7,14 @@ use Rattle.std.proofs.lemmas.Bool.Decides.{Decides-int_eq}
 use mathlib.Core.Logic.{⊎_elim}
 use Rattle.pg_cancel.specs.declared.entries.Entry.{Entry}
 use Rattle.pg_cancel.specs.declared.entries.RegistryCall.{RegistryCall}
-use Rattle.pg_cancel.specs.declared.entries.RegistryCall.TheVariants.{Register, Start, Ask, Cancel, Unregister}
-use Rattle.pg_cancel.specs.declared.entries.RegistryAnswer.{RegistryAnswer}
-use Rattle.pg_cancel.specs.declared.entries.RegistryAnswer.TheVariants.{Registered, Taken, Done, Yes, No}
+use Rattle.pg_cancel.specs.declared.entries.RegistryCall.TheVariants.{Start, Cancel, Unregister}
 use Rattle.pg_cancel.specs.declared.holders.Holder.{Holder}
 use Rattle.pg_cancel.specs.declared.holders.Query.{Query}
 use Rattle.pg_cancel.specs.declared.holders.Query.TheVariants.{Unstarted, Running, Canceled}
-use Rattle.pg_cancel.specs.LegalHistory.{IsCallAt, IsRegisteredAt, IsCancelAt, IsLiveAs, IsLive, HasPid, IsTaken, IsConnected, IsLastStart, IsCancelOf, IsCanceled, IsLegal}
-use Rattle.pg_cancel.specs.Index.{IsQuery, canceled, Holds, IsEntryAt}
+use Rattle.pg_cancel.specs.LegalHistory.{IsRegisteredAt, IsCancelAt, IsLiveAs, IsCanceled}
+use Rattle.pg_cancel.specs.Index.{IsQuery, canceled, IsEntryAt}
 use Rattle.pg_cancel.proofs.Places.{at_within, at_old, at_new, at_either}
-use Rattle.pg_cancel.proofs.Histories.{Registers, Calls, Cancels, registered_once, one_holder, live_within, start_within, live_keeps, live_was, live_new, live_ended, last_once, last_keeps, last_new}
+use Rattle.pg_cancel.proofs.Histories.{Registers, Calls, Cancels, registered_once, live_keeps, live_was, last_once, last_keeps, last_new}
 
 -- ---- a query, and what an Ask is told
 

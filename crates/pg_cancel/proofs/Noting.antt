@@ -1,5 +1,5 @@
 -- Each call's answer is right, and the index follows the history.
-use Rattle.std.proofs.Common.{◌≡◌, ◌≢◌, ℕ, ◌<◌, ℤ, List, [], ◌∷◌, ◌++◌, length, get_or, slice_get, bytes_eq, Bool, IsTrue, nat_eq, ◌↔◌, cond, Option, Some, None, IsSome, FitsSigned, Result, Ok, Err, IfOk, ◌∙◌, refl, ap, sym, subst, arith}
+use Rattle.std.proofs.Common.{◌≡◌, ℕ, ◌<◌, ℤ, List, [], ◌∷◌, ◌++◌, length, get_or, slice_get, bytes_eq, Bool, IsTrue, nat_eq, ◌↔◌, cond, Option, Some, None, IsSome, FitsSigned, Result, Ok, Err, IfOk, ◌∙◌, refl, ap, sym, subst, arith}
 use Rattle.std.specs.Ordering.{int_cmp}
 use Rattle.std.specs.BTreeMap.{BTreeMap, get, is_at, WritesThrough}
 use Rattle.std.proofs.lemmas.Int.{to_z-of_z}
@@ -17,12 +17,12 @@ use Rattle.pg_cancel.specs.declared.holders.Query.{Query}
 use Rattle.pg_cancel.specs.declared.holders.Query.TheVariants.{Unstarted, Running, Canceled}
 use Rattle.pg_cancel.specs.LegalHistory.{IsRegisteredAt, IsLiveAs, IsLive, HasPid, IsTaken, IsConnected, IsLegal, IsAnswer}
 use Rattle.pg_cancel.specs.Index.{IsKeyOf, IsQuery, answer_of, canceled, Holds, IsEntryAt, Notes}
-use Rattle.pg_cancel.proofs.Histories.{Registers, Calls, Cancels, registered_once, one_holder, live_within, start_within, live_keeps, live_was, live_new, live_ended}
+use Rattle.pg_cancel.proofs.Histories.{Registers, Calls, registered_once, one_holder, live_within, start_within, live_keeps, live_was, live_new, live_ended}
 use Rattle.std.proofs.lemmas.Option.{get_or_from_slice_get}
 use Rattle.std.proofs.lemmas.Bool.Decides.{Decides-eqb}
 use Rattle.std.proofs.lemmas.Slice.Eq.{bytes_eq-Decides}
 use Rattle.pg_cancel.proofs.Places.{at_either, the_value, and_holds}
-use Rattle.pg_cancel.proofs.Indexing.{IsCanceled-from_query, not_canceled_unstarted, not_canceled_running, query_keeps, query_starts, query_canceled, Quiet, quiet_at, updated}
+use Rattle.pg_cancel.proofs.Indexing.{IsCanceled-from_query, not_canceled_unstarted, not_canceled_running, query_starts, query_canceled, Quiet, quiet_at, updated}
 
 -- the map is an index of the history
 abbrev pub Indexes : List Entry → BTreeMap ℤ Holder → Type 0

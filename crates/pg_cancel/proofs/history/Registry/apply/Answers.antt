@@ -1,5 +1,4 @@
 use Rattle.std.proofs.Common.{◌≡◌, ◌∷◌, [], ◌++◌, length, ap, subst, sym, ◌∙◌}
-use Rattle.pg_cancel.specs.declared.entries.Entry.{Entry}
 use Rattle.pg_cancel.specs.declared.entries.RegistryAnswer.TheVariants.{Registered}
 use Rattle.pg_cancel.specs.LegalHistory.{IsLegal, IsLive, IsAnswer, entry_number, entry_of}
 use Rattle.pg_cancel.specs.Index.{IsIndexOf, Notes}

@@ -1,4 +1,4 @@
-use Rattle.std.proofs.Common.{ℤ, Some, None, FitsSigned, w32, rules, subst, sym}
+use Rattle.std.proofs.Common.{Some, None, FitsSigned, w32, rules, subst, sym}
 use Rattle.pg_cancel.specs.Index.{Notes}
 use Rattle.pg_cancel.specs.declared.entries.RegistryCall.TheVariants.{Ask}
 use Rattle.pg_cancel.proofs.Noting.{notes_asked, missing, read_at}

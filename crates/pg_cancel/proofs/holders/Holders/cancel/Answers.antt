@@ -1,4 +1,4 @@
-use Rattle.std.proofs.Common.{◌≡◌, ℕ, ℤ, Some, FitsSigned, w32, ap, subst, sym, ◌∙◌}
+use Rattle.std.proofs.Common.{◌≡◌, ℕ, Some, ap, subst, sym, ◌∙◌}
 use Rattle.std.proofs.lemmas.Bool.{false≢true}
 use Rattle.pg_cancel.specs.declared.entries.RegistryCall.TheVariants.{Cancel}
 use Rattle.pg_cancel.specs.declared.entries.RegistryAnswer.TheVariants.{No}

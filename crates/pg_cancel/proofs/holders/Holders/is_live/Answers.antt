@@ -1,4 +1,4 @@
-use Rattle.std.proofs.Common.{ℤ, Some, None, FitsSigned, w32, rules}
+use Rattle.std.proofs.Common.{Some, None, FitsSigned, w32, rules}
 use Rattle.std.proofs.lemmas.Bool.{false≢true}
 use Rattle.pg_cancel.proofs.Noting.{live_by_holder, live_by_none, read_at}
 use Rattle.pg_cancel.proofs.holders.Holders.is_live.Goals as goal

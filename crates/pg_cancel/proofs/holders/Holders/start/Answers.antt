@@ -1,6 +1,4 @@
-use Rattle.std.proofs.Common.{◌≡◌, ℤ, Some, FitsSigned, w32, rules, arith, subst, sym}
-use Rattle.std.specs.Ordering.{int_cmp}
-use Rattle.std.specs.BTreeMap.{get}
+use Rattle.std.proofs.Common.{Some, FitsSigned, w32, rules}
 use Rattle.pg_cancel.specs.declared.holders.Holder.{Holder}
 use Rattle.pg_cancel.specs.declared.holders.Query.TheVariants.{Running}
 use Rattle.pg_cancel.proofs.Noting.{notes_start, missing, read_at, written_at}

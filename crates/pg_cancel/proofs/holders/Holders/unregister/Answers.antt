@@ -1,4 +1,4 @@
-use Rattle.std.proofs.Common.{ℤ, None, FitsSigned, w32, rules}
+use Rattle.std.proofs.Common.{None, FitsSigned, w32, rules}
 use Rattle.pg_cancel.proofs.Noting.{notes_unregistered, changed_at}
 use Rattle.pg_cancel.proofs.holders.Holders.unregister.Goals as goal
 
