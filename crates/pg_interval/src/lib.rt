@@ -5,6 +5,7 @@ mod interval_norm;
 mod interval_parse;
 mod pg_interval;
 mod pg_interval_add;
+mod pg_interval_sub;
 
 pub use interval_norm::IntervalNorm;
 pub use interval_parse::parse_error::{DecimalError, IntError, ParseError, Reason};

@@ -3,9 +3,8 @@ ghost use Rattle.std.specs.Option.{SomeIff};
 ghost use Rattle.pg_interval.specs.Cell.{IsInterval};
 ghost use Rattle.pg_interval.specs.Arithmetic.{interval_sum, day_time, time_amount, TimeFits, with_years_and_months, AddsInTurn, with_joined_months, AddsJoined};
 
-use std::ops;
-
 use crate::pg_interval::Interval;
+use std::ops;
 
 impl Interval {
     /// The sum, number by number. `None` comes where one of the three sums leaves its type.
@@ -15,9 +14,7 @@ impl Interval {
         Some(Interval {
             months: self.months.checked_add(other_interval.months)?,
             days: self.days.checked_add(other_interval.days)?,
-            microseconds: self
-                .microseconds
-                .checked_add(other_interval.microseconds)?,
+            microseconds: self.microseconds.checked_add(other_interval.microseconds)?,
         })
     }
 
