@@ -4,11 +4,11 @@ ghost use Rattle.std.specs.Int.{w64};
 ghost use Rattle.jiff.specs.Words.{signed_nanos, IsDurationNanos};
 ghost use Rattle.pg_interval.specs.Duration.{whole_days, duration_interval};
 
+use crate::pg_interval::Interval;
 use jiff::SignedDuration;
 
-use crate::pg_interval::Interval;
-
 const NANOS_PER_DAY: i128 = 86_400_000_000_000;
+
 const NANOS_PER_MICRO: i128 = 1000;
 
 impl Interval {
