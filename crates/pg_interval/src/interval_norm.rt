@@ -172,3 +172,47 @@ fn is_any_present(fields: &[i64]) -> bool
 {
     fields.iter().any(|field| *field != 0)
 }
+
+#[cfg(test)]
+mod tests {
+    use super::*;
+
+    #[test]
+    fn normal_forms(rt: HostRuntime) {
+        let mut years = IntervalNorm::default();
+        assert!(rt; years.is_zeroed() && years.is_normal());
+        years.years = 178956971;
+        assert_eq!(rt;
+            years.try_into_interval(),
+            Err(ParseError::InvalidYearMonth(Reason::Overflow))
+        );
+        assert!(rt; years.is_year_month_present() && !years.is_normal());
+        years.months = -12;
+        assert_eq!(rt;
+            years.try_into_interval(),
+            Ok(Interval::new(2147483640, 0, 0))
+        );
+        let mut hours = IntervalNorm::default();
+        hours.hours = 2562047789;
+        assert_eq!(rt;
+            hours.try_into_interval(),
+            Err(ParseError::InvalidTime(Reason::Overflow))
+        );
+        assert!(rt;
+            hours.is_time_interval_pos() && hours.is_time_present() && !hours.is_day_present()
+        );
+
+        let least = Interval::new(i32::MIN, i32::MIN, i64::MIN);
+        let parts = IntervalNorm {
+            years: -178956970,
+            months: -8,
+            days: i32::MIN,
+            hours: -2562047788,
+            minutes: 0,
+            seconds: -54,
+            microseconds: -775808,
+        };
+        assert_eq!(rt; IntervalNorm::from(&least), parts);
+        assert_eq!(rt; parts.try_into_interval(), Ok(least));
+    }
+}

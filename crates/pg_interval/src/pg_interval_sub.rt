@@ -79,3 +79,36 @@ impl ops::Sub for Interval {
         }
     }
 }
+
+#[cfg(test)]
+mod tests {
+    use super::*;
+
+    #[test]
+    fn checked_differences(rt: HostRuntime) {
+        let start = Interval::new(-20, 0, 0);
+        assert_eq!(rt; start.checked_sub_year_month(-2147483648, 1), None);
+        assert_eq!(rt;
+            start.checked_sub_year_month(1, 1),
+            Some(Interval::new(-33, 0, 0))
+        );
+        assert_eq!(rt; start.sub_year_month(1, 1), Interval::new(-33, 0, 0));
+        assert_eq!(rt;
+            start.checked_sub(Interval::new(i32::MIN, 0, 0)),
+            Some(Interval::new(2147483628, 0, 0))
+        );
+        assert_eq!(rt; start - Interval::new(1, 2, 3), Interval::new(-21, -2, -3));
+        assert_eq!(rt;
+            Interval::new(0, 0, 0).checked_sub(Interval::new(i32::MIN, 0, 0)),
+            None
+        );
+
+        // The nanosecond is rounded down to a microsecond before it is subtracted.
+        assert_eq!(rt; start.sub_day_time(1, 0, 0, -1), Interval::new(-20, -1, 1));
+        assert_eq!(rt;
+            start.checked_sub_day_time(1, 1, 1, 1999),
+            Some(Interval::new(-20, -1, -3660000001))
+        );
+        assert_eq!(rt; start.checked_sub_day_time(i32::MIN, 0, 0, 0), None);
+    }
+}

@@ -41,3 +41,38 @@ fn rest_in_microseconds(nanos: i128) -> i128
     let rest = nanos - i128::from(whole_days(nanos)) * NANOS_PER_DAY;
     rest / NANOS_PER_MICRO
 }
+
+#[cfg(test)]
+mod tests {
+    use super::*;
+    use std::test::Fail;
+
+    #[test]
+    fn durations(rt: HostRuntime) -> Result<(), Fail> {
+        let rows = [
+            (
+                2147483650i64,
+                0i64,
+                Some(Interval::new(0, 2147483647, 259200000000)),
+            ),
+            (
+                -2147483650,
+                0,
+                Some(Interval::new(0, -2147483648, -172800000000)),
+            ),
+            (100000000000, 0, None),
+            (1, 1, Some(Interval::new(0, 1, 0))),
+            (0, -1999, Some(Interval::new(0, 0, -1))),
+        ];
+        for (days, nanos, interval) in rows {
+            let total = i128::from(days) * NANOS_PER_DAY + i128::from(nanos);
+            let duration = SignedDuration::try_from_nanos_i128(total).ok_or("too long")?;
+            assert_eq!(rt;
+                Interval::from_duration(duration),
+                interval,
+                "{days} days and {nanos} nanoseconds"
+            );
+        }
+        Ok(())
+    }
+}

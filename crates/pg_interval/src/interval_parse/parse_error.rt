@@ -148,3 +148,55 @@ impl Reason {
         }
     }
 }
+
+#[cfg(test)]
+mod tests {
+    use super::*;
+    use std::test::Fail;
+
+    #[test]
+    fn displayed_texts(rt: HostRuntime) -> Result<(), Fail> {
+        let texts = [
+            (
+                ParseError::from(IntError::Empty),
+                "Failed to parse integer: empty",
+            ),
+            (
+                ParseError::from(IntError::InvalidDigit),
+                "Failed to parse integer: invalid digit",
+            ),
+            (
+                ParseError::from(DecimalError::Malformed),
+                "Failed to parse float: malformed",
+            ),
+            (
+                ParseError::from(DecimalError::TooManyDigits),
+                "Failed to parse float: too many digits",
+            ),
+            (
+                ParseError::from(DecimalError::OutOfRange),
+                "Failed to parse float: out of range",
+            ),
+            (
+                ParseError::from_year_month(Reason::Overflow),
+                "Invalid year/month interval: overflow",
+            ),
+            (
+                ParseError::from_time(Reason::Overflow),
+                "Invalid time interval: overflow",
+            ),
+            (
+                ParseError::from_invalid_interval(Reason::TooLong),
+                "Invalid interval: text too long",
+            ),
+            (
+                ParseError::from_invalid_interval(Reason::Shape),
+                "Invalid interval: broken shape",
+            ),
+        ];
+        for (error, text) in texts {
+            assert_eq!(rt; error.to_string(rt.alloc())?.as_str(), text);
+        }
+        Ok(())
+    }
+}
