@@ -1,8 +1,6 @@
-ghost use Rattle.std.specs.Prelude.{◌≡◌, ◌≢◌, ◌↔◌, ◌⊎◌, pos, ◌<ℤ◌, FitsSigned, [], ◌∷◌, All, Any, IsTrue, IfOk, IsOk, IsErrOf};
-ghost use Rattle.std.specs.Int.{w32, w64};
+ghost use Rattle.std.specs.Prelude.{◌≡◌, ◌≢◌, ◌↔◌, ◌⊎◌, pos, ◌<ℤ◌, [], ◌∷◌, All, Any, IsTrue, IfOk, IsOk, IsErrOf};
 ghost use Rattle.pg_interval.specs.Cell.{IsInterval};
-ghost use Rattle.pg_interval.specs.NormalForm.{normal_form, total_seconds, exact_total, IsNormal, HaveOneSign, time_fields, all_fields};
-ghost use Rattle.pg_interval.specs.declared.interval_parse.parse_error.Reason.TheVariants.{Overflow};
+ghost use Rattle.pg_interval.specs.NormalForm.{normal_form, total_seconds, exact_total, MonthsFit, MicrosecondsFit, IsNormal, HaveOneSign, time_fields, all_fields};
 
 use crate::interval_parse::parse_error::{ParseError, Reason};
 use crate::pg_interval::Interval;
@@ -48,8 +46,13 @@ impl IntervalNorm {
     pub fn try_into_interval(self) -> Result<Interval, ParseError>
         ensures succeeds { IsOk result ↔ IsInterval (exact_total self) }
         ensures value { IfOk result (λ i. i ≡ exact_total self) }
-        ensures year_month { IsErrOf result (ParseError.InvalidYearMonth Overflow) ↔ ¬ (FitsSigned w32 (exact_total self).months) }
-        ensures time { IsErrOf result (ParseError.InvalidTime Overflow) ↔ (FitsSigned w32 (exact_total self).months × ¬ (FitsSigned w64 (exact_total self).microseconds)) }
+        ensures year_month {
+            IsErrOf result (ParseError.InvalidYearMonth Reason.Overflow) ↔ ¬ (MonthsFit self)
+        }
+        ensures time {
+            IsErrOf result (ParseError.InvalidTime Reason.Overflow) ↔ (MonthsFit self × ¬ (MicrosecondsFit self))
+        }
+
         // so an interval's normal form gives that interval again
         ensures inverse { (i : Interval) → IsInterval i → self ≡ normal_form i → result ≡ Ok i }
     {

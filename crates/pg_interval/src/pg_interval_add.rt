@@ -1,4 +1,4 @@
-ghost use Rattle.std.specs.Prelude.{◌≡◌, pos, ◌+ℤ◌, ◌*ℤ◌};
+ghost use Rattle.std.specs.Prelude.{◌≡◌};
 ghost use Rattle.std.specs.Option.{SomeIff};
 ghost use Rattle.pg_interval.specs.Cell.{IsInterval};
 ghost use Rattle.pg_interval.specs.Arithmetic.{interval_sum, day_time, time_amount, TimeFits, with_years_and_months, AddsInTurn, with_joined_months, AddsJoined};
@@ -9,7 +9,10 @@ use std::ops;
 impl Interval {
     /// The sum, number by number. `None` comes where one of the three sums leaves its type.
     pub fn checked_add(self, other_interval: Interval) -> Option<Interval>
-        ensures { SomeIff result (IsInterval (interval_sum self other_interval)) (interval_sum self other_interval) }
+        ensures {
+            let sum = interval_sum self other_interval in
+            SomeIff result (IsInterval sum) sum
+        }
     {
         Some(Interval {
             months: self.months.checked_add(other_interval.months)?,
@@ -37,7 +40,10 @@ impl Interval {
         minutes: i64,
         nanoseconds: i64,
     ) -> Option<Interval>
-        ensures { SomeIff result (TimeFits hours minutes nanoseconds × IsInterval (interval_sum self (day_time days hours minutes nanoseconds))) (interval_sum self (day_time days hours minutes nanoseconds)) }
+        ensures {
+            let sum = interval_sum self (day_time days hours minutes nanoseconds) in
+            SomeIff result (TimeFits hours minutes nanoseconds × IsInterval sum) sum
+        }
     {
         let microseconds = checked_time_in_microseconds(hours, minutes, nanoseconds)?;
         self.checked_add(Interval::new(0, days, microseconds))

@@ -10,7 +10,10 @@ use std::ops;
 impl Interval {
     /// The difference, number by number. `None` comes where one of the three differences leaves its type.
     pub fn checked_sub(self, other_interval: Interval) -> Option<Interval>
-        ensures { SomeIff result (IsInterval (interval_difference self other_interval)) (interval_difference self other_interval) }
+        ensures {
+            let difference = interval_difference self other_interval in
+            SomeIff result (IsInterval difference) difference
+        }
     {
         Some(Interval {
             months: self.months.checked_sub(other_interval.months)?,
@@ -38,7 +41,10 @@ impl Interval {
         minutes: i64,
         nanoseconds: i64,
     ) -> Option<Interval>
-        ensures { SomeIff result (TimeFits hours minutes nanoseconds × IsInterval (interval_difference self (day_time days hours minutes nanoseconds))) (interval_difference self (day_time days hours minutes nanoseconds)) }
+        ensures {
+            let difference = interval_difference self (day_time days hours minutes nanoseconds) in
+            SomeIff result (TimeFits hours minutes nanoseconds × IsInterval difference) difference
+        }
     {
         let microseconds = checked_time_in_microseconds(hours, minutes, nanoseconds)?;
         self.checked_sub(Interval::new(0, days, microseconds))

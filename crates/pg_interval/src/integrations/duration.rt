@@ -1,4 +1,4 @@
-ghost use Rattle.std.specs.Prelude.{◌≡◌, ◌-ℤ◌, ◌*ℤ◌, FitsSigned};
+ghost use Rattle.std.specs.Prelude.{◌≡◌, FitsSigned};
 ghost use Rattle.std.specs.Option.{SomeIff};
 ghost use Rattle.std.specs.Int.{w64};
 ghost use Rattle.jiff.specs.Words.{signed_nanos, IsDurationNanos};
@@ -15,7 +15,10 @@ impl Interval {
     /// The interval of a duration: its whole days, toward zero and at most as many as `i32` holds, and the
     /// microseconds of the rest, toward zero. `None` comes where these leave `i64`.
     pub fn from_duration(duration: SignedDuration) -> Option<Interval>
-        ensures { let interval = duration_interval (signed_nanos duration) in SomeIff result (FitsSigned w64 interval.microseconds) interval }
+        ensures {
+            let interval = duration_interval (signed_nanos duration) in
+            SomeIff result (FitsSigned w64 interval.microseconds) interval
+        }
     {
         let nanos = duration.as_nanos();
         let Ok(microseconds) = i64::try_from(rest_in_microseconds(nanos)) else {
