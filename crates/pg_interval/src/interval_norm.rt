@@ -46,12 +46,8 @@ impl IntervalNorm {
     pub fn try_into_interval(self) -> Result<Interval, ParseError>
         ensures succeeds { IsOk result ↔ IsInterval (exact_total self) }
         ensures value { IfOk result (λ i. i ≡ exact_total self) }
-        ensures year_month {
-            IsErrOf result (ParseError.InvalidYearMonth Reason.Overflow) ↔ ¬ (MonthsFit self)
-        }
-        ensures time {
-            IsErrOf result (ParseError.InvalidTime Reason.Overflow) ↔ (MonthsFit self × ¬ (MicrosecondsFit self))
-        }
+        ensures year_month { IsErrOf result (ParseError.InvalidYearMonth Reason.Overflow) ↔ ¬ (MonthsFit self) }
+        ensures time { IsErrOf result (ParseError.InvalidTime Reason.Overflow) ↔ (MonthsFit self × ¬ (MicrosecondsFit self)) }
 
         // so an interval's normal form gives that interval again
         ensures inverse { (i : Interval) → IsInterval i → self ≡ normal_form i → result ≡ Ok i }

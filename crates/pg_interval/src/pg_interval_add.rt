@@ -9,15 +9,16 @@ use std::ops;
 impl Interval {
     /// The sum, number by number. `None` comes where one of the three sums leaves its type.
     pub fn checked_add(self, other_interval: Interval) -> Option<Interval>
-        ensures {
-            let sum = interval_sum self other_interval in
-            SomeIff result (IsInterval sum) sum
-        }
+        ensures { let sum = interval_sum self other_interval in
+            SomeIff result (IsInterval sum) sum }
     {
+        let months = self.months.checked_add(other_interval.months)?;
+        let days = self.days.checked_add(other_interval.days)?;
+        let microseconds = self.microseconds.checked_add(other_interval.microseconds)?;
         Some(Interval {
-            months: self.months.checked_add(other_interval.months)?,
-            days: self.days.checked_add(other_interval.days)?,
-            microseconds: self.microseconds.checked_add(other_interval.microseconds)?,
+            months,
+            days,
+            microseconds,
         })
     }
 
@@ -40,10 +41,8 @@ impl Interval {
         minutes: i64,
         nanoseconds: i64,
     ) -> Option<Interval>
-        ensures {
-            let sum = interval_sum self (day_time days hours minutes nanoseconds) in
-            SomeIff result (TimeFits hours minutes nanoseconds × IsInterval sum) sum
-        }
+        ensures { let sum = interval_sum self (day_time days hours minutes nanoseconds) in
+            SomeIff result (TimeFits hours minutes nanoseconds × IsInterval sum) sum }
     {
         let microseconds = checked_time_in_microseconds(hours, minutes, nanoseconds)?;
         self.checked_add(Interval::new(0, days, microseconds))

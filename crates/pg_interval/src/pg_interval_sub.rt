@@ -10,15 +10,16 @@ use std::ops;
 impl Interval {
     /// The difference, number by number. `None` comes where one of the three differences leaves its type.
     pub fn checked_sub(self, other_interval: Interval) -> Option<Interval>
-        ensures {
-            let difference = interval_difference self other_interval in
-            SomeIff result (IsInterval difference) difference
-        }
+        ensures { let difference = interval_difference self other_interval in
+            SomeIff result (IsInterval difference) difference }
     {
+        let months = self.months.checked_sub(other_interval.months)?;
+        let days = self.days.checked_sub(other_interval.days)?;
+        let microseconds = self.microseconds.checked_sub(other_interval.microseconds)?;
         Some(Interval {
-            months: self.months.checked_sub(other_interval.months)?,
-            days: self.days.checked_sub(other_interval.days)?,
-            microseconds: self.microseconds.checked_sub(other_interval.microseconds)?,
+            months,
+            days,
+            microseconds,
         })
     }
 
@@ -41,10 +42,8 @@ impl Interval {
         minutes: i64,
         nanoseconds: i64,
     ) -> Option<Interval>
-        ensures {
-            let difference = interval_difference self (day_time days hours minutes nanoseconds) in
-            SomeIff result (TimeFits hours minutes nanoseconds × IsInterval difference) difference
-        }
+        ensures { let difference = interval_difference self (day_time days hours minutes nanoseconds) in
+            SomeIff result (TimeFits hours minutes nanoseconds × IsInterval difference) difference }
     {
         let microseconds = checked_time_in_microseconds(hours, minutes, nanoseconds)?;
         self.checked_sub(Interval::new(0, days, microseconds))

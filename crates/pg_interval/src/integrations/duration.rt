@@ -15,10 +15,8 @@ impl Interval {
     /// The interval of a duration: its whole days, toward zero and at most as many as `i32` holds, and the
     /// microseconds of the rest, toward zero. `None` comes where these leave `i64`.
     pub fn from_duration(duration: SignedDuration) -> Option<Interval>
-        ensures {
-            let interval = duration_interval (signed_nanos duration) in
-            SomeIff result (FitsSigned w64 interval.microseconds) interval
-        }
+        ensures { let interval = duration_interval (signed_nanos duration) in
+            SomeIff result (FitsSigned w64 interval.microseconds) interval }
     {
         let nanos = duration.as_nanos();
         let Ok(microseconds) = i64::try_from(rest_in_microseconds(nanos)) else {
