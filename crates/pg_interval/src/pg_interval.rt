@@ -1,4 +1,4 @@
-ghost use Rattle.std.specs.Prelude.{◌≡◌, ℕ, ◌+◌, ◌<◌, ◌≤◌, ◌↔◌, length, take, slice_range, IfSome, IsNone, IsTrue};
+ghost use Rattle.std.specs.Prelude.{◌≡◌, ℕ, ◌+◌, ◌<◌, ◌≤◌, ◌↔◌, length, take, slice_range, IfOk, IfSome, IsNone, IsTrue};
 ghost use Rattle.pg_interval.specs.Cell.{int64_bytes, int32_bytes, interval_cell, IsInterval};
 
 /// A span of time as PostgreSQL keeps it: months, days and microseconds, which are never carried into one another.
@@ -76,6 +76,7 @@ fn int32_at(bytes: &[u8], start: usize) -> i32
 #[cfg(test)]
 mod tests {
     use super::*;
+    use std::alloc::AllocError;
     use std::test::Fail;
 
     /// `==` is equality of the three numbers.
@@ -83,6 +84,13 @@ mod tests {
         ensures { IsTrue result ↔ (a.now ≡ b.now) }
     {
         a == b
+    }
+
+    /// A clone is equal.
+    fn clone_of(a: &Interval) -> Result<Interval, AllocError>
+        ensures { IfOk result (λ b. b ≡ a.now) }
+    {
+        a.clone()
     }
 
     #[test]
@@ -108,7 +116,7 @@ mod tests {
         for (interval, cell) in cells {
             assert_eq!(rt; interval.to_cell(), *cell);
             assert_eq!(rt; Interval::from_cell(cell.as_slice()), Some(interval));
-            assert!(rt; is_equal(&interval, &interval.clone()?));
+            assert!(rt; is_equal(&interval, &clone_of(&interval)?));
         }
         let longer = [0, 0, 0, 0, 0, 0, 0, 3, 0, 0, 0, 2, 0, 0, 0, 1, 255];
         assert_eq!(rt; Interval::from_cell(&longer), Some(Interval::new(1, 2, 3)));

@@ -166,6 +166,14 @@ mod tests {
                 "Failed to parse integer: invalid digit",
             ),
             (
+                ParseError::from(IntError::OutOfRange),
+                "Failed to parse integer: out of range",
+            ),
+            (
+                ParseError::from(DecimalError::Empty),
+                "Failed to parse float: empty",
+            ),
+            (
                 ParseError::from(DecimalError::Malformed),
                 "Failed to parse float: malformed",
             ),
