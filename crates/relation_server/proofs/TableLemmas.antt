@@ -1,5 +1,5 @@
 -- Places of names, and refusals, as a list of relations grows.
-use Rattle.std.proofs.Common.{◌≡◌, ℕ, ◌+◌, ◌<◌, ◌≤◌, Bool, true, false, cond, List, [], ◌∷◌, ◌++◌, length, take, drop, get_or, Option, Some, None, refl, sym, ap, subst, ◌∙◌, arith, add-zero, add-suc, add_assoc, one-add, zero-add}
+use Rattle.std.proofs.Common.{◌≡◌, ℕ, zero, suc, ◌||◌, not, if◌then◌else◌, ◌+◌, ◌<◌, ◌≤◌, Bool, true, false, cond, List, [], ◌∷◌, ◌++◌, length, take, drop, get_or, Option, Some, None, refl, sym, ap, subst, ◌∙◌, arith, add-zero, add-suc, add_assoc, one-add, zero-add}
 use Rattle.std.specs.Option.{is_some}
 use Rattle.std.specs.List.{position_from}
 use Rattle.std.specs.Cmp.Lexicographic.{slice_cmp, nat_list_cmp_total}
@@ -12,7 +12,8 @@ use Rattle.std.proofs.lemmas.Slice.Eq.{bytes_eq-Decides}
 use Rattle.pg_portal.specs.Names.{NameMap}
 use Rattle.relation_server.specs.declared.table.Relation.{Relation}
 use Rattle.relation_server.specs.declared.table.TableError.{TableError}
-use Rattle.relation_server.specs.Tables.{place_of, refusal_at, refusal_after, or_else}
+use Rattle.relation_server.specs.declared.table.TableError.TheVariants.{BadName, BadColumn, RaggedRow}
+use Rattle.relation_server.specs.Tables.{is_name, are_columns, are_even, place_of, refusal_at, refusal_after, or_else}
 
 -- a place in a list, or in what stands behind it
 abbrev or_at : Option ℕ → Option ℕ → Option ℕ
@@ -88,3 +89,45 @@ module _ (rs : List Relation) (i : ℕ) (r : Relation) (is : r ≡ get_or rs i r
 pub new_from_passed : (i : ℕ) (b : Bool) (r : Relation) → refusal_at i b r ≡ None → b ≡ false
 new_from_passed i true r h = cc
 new_from_passed i false r h = refl
+
+none≢some : (n : ℕ) → ◌≡◌ {A = Option ℕ} None (Some n) → ⊥
+none≢some n h = cc
+
+bound_by : (b : Bool) (i m n : ℕ) (o : Option ℕ) → (o ≡ Some n → n < i + 1 + m) → cond b (Some i) o ≡ Some n → n < i + suc m
+bound_by true i m n o later h = let e : i ≡ n = cc in omega arith
+bound_by false i m n o later h = let f : n < i + 1 + m = later h in omega arith
+
+-- a place that was found lies in the list
+pub position_from-bound : {X : Type 0} (t : X → Bool) (i : ℕ) (xs : List X) (n : ℕ) → position_from t i xs ≡ Some n → n < i + length xs
+position_from-bound t i [] n h = absurd (none≢some n h)
+position_from-bound t i (x ∷ xs) n h = bound_by (t x) i (length xs) n (position_from t (i + 1) xs) (λ k. position_from-bound t (i + 1) xs n k) h
+
+-- what is good about a relation of a valid table beside its name
+pub record IsSound (r : Relation) : Type 0 where
+  pub columns : are_columns r.columns ≡ true
+  pub rows : are_even (length r.columns) r.rows ≡ true
+
+passed : (a x y : Bool) (e f g : TableError) → (if a then Some e else if not x then Some f else if not y then Some g else None) ≡ None → (x ≡ true) × (y ≡ true)
+passed true x y e f g h = (cc, cc)
+passed false false y e f g h = (cc, cc)
+passed false true false e f g h = (refl, cc)
+passed false true true e f g h = (refl, refl)
+
+IsSound-from_passed : (n : ℕ) (b : Bool) (r : Relation) → refusal_at n b r ≡ None → IsSound r
+IsSound-from_passed n b r h =
+    let p = passed (b || not (is_name r.name)) (are_columns r.columns) (are_even (length r.columns) r.rows) (BadName n) (BadColumn n) (RaggedRow n) h in
+    record { columns = p.0; rows = p.1 }
+
+neither : (o p : Option TableError) → or_else o p ≡ None → (o ≡ None) × (p ≡ None)
+neither None p h = (refl, h)
+neither (Some e) p h = (cc, cc)
+
+-- each relation of a valid table is good
+pub IsSound-at : (earlier rs : List Relation) → refusal_after earlier rs ≡ None → (i : ℕ) (d : Relation) → i < length rs → IsSound (get_or rs i d)
+IsSound-at earlier [] h i d lt = absurd (let f : i < 0 = lt in omega arith)
+IsSound-at earlier (r ∷ rs) h zero d lt =
+    IsSound-from_passed (length earlier) (is_some (place_of earlier r.name)) r
+    (neither (refusal_at (length earlier) (is_some (place_of earlier r.name)) r) (refusal_after (earlier ++ r ∷ []) rs) h).0
+IsSound-at earlier (r ∷ rs) h (suc i) d lt =
+    let later = (neither (refusal_at (length earlier) (is_some (place_of earlier r.name)) r) (refusal_after (earlier ++ r ∷ []) rs) h).1 in
+    IsSound-at (earlier ++ r ∷ []) rs later i d (omega arith)
