@@ -2,11 +2,15 @@
 #![tactic(auto)]
 
 mod adapters;
+mod built_in;
 mod handler;
 mod memory;
 mod table;
+mod words;
 
 pub use adapters::{ReaderSource, WriterSink};
+pub use built_in::built_in_table;
 pub use handler::RelationHandler;
 pub use memory::{MemorySink, MemorySource};
 pub use table::{Relation, RelationTable, TableError};
+pub use words::read_registration;
