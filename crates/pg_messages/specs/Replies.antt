@@ -57,7 +57,11 @@ reply_texts (server.CommandComplete m) = m.tag ∷ []
 reply_texts (server.ErrorResponse m) = m.info.severity ∷ m.info.code ∷ m.info.message ∷ []
 reply_texts _ = []
 
+-- no byte of the text is the zero byte that ends a String
+abbrev pub HasNoZero : List ℕ → Type 0
+HasNoZero text = AllByRecursion (λ byte. byte ≢ 0) text
+
 -- what can be sent: a body that isn't longer than a length can tell, and texts without a zero byte
 pub record IsEncodable (m : PgWireBackendMessage) : Type 0 where
   pub body : length (reply_body m) ≤ 1073741823
-  pub texts : AllByRecursion (λ text. AllByRecursion (λ byte. byte ≢ 0) text) (reply_texts m)
+  pub texts : AllByRecursion HasNoZero (reply_texts m)

@@ -22,6 +22,21 @@ pub enum TransactionStatus {
     Error,
 }
 
+impl TransactionStatus {
+    ghost use Rattle.std.specs.Prelude.{◌≡◌};
+    ghost use Rattle.pg_messages.specs.Status.{to_error_state};
+
+    /// The status after an error: outside a transaction it stays so, and in one the transaction has failed.
+    pub fn to_error_state(self) -> TransactionStatus
+        ensures { result ≡ to_error_state self }
+    {
+        match self {
+            TransactionStatus::Idle => TransactionStatus::Idle,
+            _ => TransactionStatus::Error,
+        }
+    }
+}
+
 #[derive(Drop)]
 pub struct ReadyForQuery {
     pub status: TransactionStatus,

@@ -9,10 +9,10 @@ use Rattle.pg_messages.specs.declared.frontend.Execute.{Execute}
 use Rattle.pg_messages.specs.declared.frontend.PgWireFrontendMessage.{PgWireFrontendMessage}
 use Rattle.pg_messages.specs.declared.frontend.PgWireFrontendMessage.TheVariants as client
 use Rattle.pg_messages.specs.declared.backend.DataRow.{DataRow}
-use Rattle.pg_messages.specs.declared.backend.TransactionStatus.{TransactionStatus}
 use Rattle.pg_messages.specs.declared.backend.TransactionStatus.TheVariants as status
 use Rattle.pg_messages.specs.declared.backend.PgWireBackendMessage.{PgWireBackendMessage}
 use Rattle.pg_messages.specs.declared.backend.PgWireBackendMessage.TheVariants as server
+use Rattle.pg_messages.specs.Status.{to_error_state}
 use Rattle.pg_portal.specs.declared.portal.Statement.{Statement}
 use Rattle.pg_portal.specs.declared.portal.Portal.{Portal}
 use Rattle.pg_portal.specs.declared.portal.PortalExecutionState.{PortalExecutionState}
@@ -65,11 +65,6 @@ says answers replies s = record { replies = replies; calls = []; left = answers;
 -- ErrorResponse of severity ERROR
 abbrev pub error_response : List ℕ → List ℕ → PgWireBackendMessage
 error_response code message = server.ErrorResponse (record { info = record { severity = codes "ERROR"; code = code; message = message } })
-
--- An error fails a transaction, and outside of one changes nothing.
-abbrev pub to_error_state : TransactionStatus → TransactionStatus
-to_error_state status.Idle = status.Idle
-to_error_state _ = status.Error
 
 -- An error of an extended message: the statements and portals stay, and all is dropped until the next Sync.
 abbrev pub refuses : List Bool → SessionState → PgWireBackendMessage → Answer

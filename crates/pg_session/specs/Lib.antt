@@ -3,3 +3,4 @@ pub mod Streams
 pub mod Queries
 pub mod Conversation
 pub mod Run
+pub mod Steps

@@ -10,9 +10,12 @@ abbrev pub without_front_padding : List ℕ → List ℕ
 without_front_padding [] = []
 without_front_padding (byte ∷ bytes) = if is_padding byte then without_front_padding bytes else (byte ∷ bytes)
 
+abbrev pub without_end_padding : List ℕ → List ℕ
+without_end_padding bytes = reverse (without_front_padding (reverse bytes))
+
 -- the query without the padding at both ends
 abbrev pub trimmed : List ℕ → List ℕ
-trimmed query = reverse (without_front_padding (reverse (without_front_padding query)))
+trimmed query = without_end_padding (without_front_padding query)
 
 -- BEGIN or COMMIT, in any ASCII case
 abbrev pub is_transaction_word : List ℕ → Bool

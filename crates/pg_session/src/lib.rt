@@ -4,7 +4,10 @@
 mod desk;
 mod ends;
 mod outbox;
+mod query;
+mod replies;
 mod rows;
+mod rules;
 mod state;
 mod streams;
 

@@ -1,0 +1,5 @@
+pub mod Encodable
+pub mod Padding
+pub mod ReplyBytes
+pub mod TableRows
+pub mod Stores
