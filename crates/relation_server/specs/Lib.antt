@@ -3,4 +3,4 @@ pub mod Memory
 pub mod Rows
 pub mod Words
 pub mod BuiltIn
-pub mod Endings
+pub mod Program

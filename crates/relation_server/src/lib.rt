@@ -5,6 +5,7 @@ mod adapters;
 mod built_in;
 mod handler;
 mod memory;
+mod report;
 mod table;
 mod words;
 
