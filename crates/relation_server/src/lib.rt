@@ -7,6 +7,8 @@ mod handler;
 mod memory;
 mod report;
 mod table;
+#[cfg(test)]
+mod tests;
 mod words;
 
 pub use adapters::{ReaderSource, WriterSink};
