@@ -1,3 +1,4 @@
+pub mod Conversations
 pub mod Encodable
 pub mod Padding
 pub mod ReplyBytes

@@ -1,5 +1,5 @@
 -- Rows of the conversation table that were carried out.
-use Rattle.std.proofs.Common.{◌≡◌, ℕ, ◌+◌, ◌≤◌, Bool, List, [], ◌∷◌, ◌++◌, Option, Some, None, Result, Ok, Err, OnOk, length, codes, refl, sym, ap, subst, ◌∙◌, arith, length-append, append-nil}
+use Rattle.std.proofs.Common.{◌≡◌, ℕ, ◌+◌, ◌≤◌, Bool, true, cond, List, [], ◌∷◌, ◌++◌, Option, Some, None, Result, Ok, Err, OnOk, length, codes, refl, sym, ap, subst, ◌∙◌, arith, length-append, append-nil}
 use Rattle.pg_messages.specs.declared.frontend.Parse.{Parse}
 use Rattle.pg_messages.specs.declared.frontend.Bind.{Bind}
 use Rattle.pg_messages.specs.declared.frontend.Execute.{Execute}
@@ -7,10 +7,13 @@ use Rattle.pg_messages.specs.declared.backend.PgWireBackendMessage.{PgWireBacken
 use Rattle.pg_messages.specs.Frames.{IsTypedFrame, parse_body, bind_body, execute_body, format_codes, parameter_value}
 use Rattle.pg_messages.specs.Fields.{string, count16, count32, int32}
 use Rattle.pg_messages.specs.Status.{to_error_state}
+use Rattle.pg_messages.specs.declared.frontend.PgWireFrontendMessage.{PgWireFrontendMessage}
+use Rattle.pg_portal.specs.declared.portal.PgWireConnectionState.{PgWireConnectionState}
 use Rattle.pg_portal.specs.declared.portal.PgWireConnectionState.TheVariants as phase
+use Rattle.pg_session.specs.declared.ends.EndKind.TheVariants as end
 use Rattle.pg_session.specs.declared.state.SessionState.{SessionState}
 use Rattle.pg_session.specs.declared.desk.DeskCall.{DeskCall}
-use Rattle.pg_session.specs.Conversation.{Answer, Goes, error_response, refuses, says}
+use Rattle.pg_session.specs.Conversation.{Setting, Answer, Next, Goes, answer, row, ends, is_built, error_response, refuses, says}
 use Rattle.pg_session.specs.Steps.{Appends, IsCarriedOut}
 use Rattle.std.specs.List.{flat_map}
 
@@ -75,3 +78,12 @@ portal_name_short m frame f =
     let a = length-append (string m.name) (int32 m.max_rows) in
     let b = length-append m.name (0 ∷ []) in
     let l = f.limit in omega arith
+
+-- a row that calls nothing, where a desk stood by
+pub at_desk : {a : Answer} {out new_out : List ℕ} {next : Next} (calls : List DeskCall) → IsCarriedOut a out new_out [] [] next → IsCarriedOut a out new_out calls calls next
+at_desk {a} calls p = record { replied = p.replied; called = sym (ap (λ l. calls ++ l) (sym p.called) ∙ append-nil calls); goes_on = p.goes_on }
+
+-- a form that is built is answered by the row of its phase
+pub answer_is : (setting : Setting) (answers : List Bool) (s : SessionState) (m : PgWireFrontendMessage) (p : PgWireConnectionState)
+    → is_built m ≡ true → s.state ≡ p → answer setting answers s m ≡ row setting answers s p m
+answer_is setting answers s m p built at = ap (λ b. cond b (row setting answers s s.state m) (ends answers end.BadFrame)) built ∙ ap (λ q. row setting answers s q m) at

@@ -160,12 +160,19 @@ abbrev pub is_empty_list : {A : Type 0} → List A → Bool
 is_empty_list [] = true
 is_empty_list (x ∷ xs) = false
 
--- The forms that are built: a startup packet of 3.0; a Parse without type oids of a query that isn't blank, BEGIN or COMMIT; a Bind
--- without values whose results are binary; an Execute without a limit; Sync; Terminate.
+-- a Parse without type oids, whose query isn't blank, BEGIN or COMMIT
+abbrev pub is_built_parse : Parse → Bool
+is_built_parse m = is_empty_list m.type_oids && not (is_empty_list (trimmed m.query)) && not (is_transaction_word (trimmed m.query))
+
+-- a Bind without values, whose results are binary
+abbrev pub is_built_bind : Bind → Bool
+is_built_bind m = is_empty_list m.parameter_format_codes && is_empty_list m.parameters && is_one_binary m.result_column_format_codes
+
+-- The forms that are built: a startup packet of 3.0; such a Parse and such a Bind; an Execute without a limit; Sync; Terminate.
 abbrev pub is_built : PgWireFrontendMessage → Bool
 is_built (client.Startup m) = m.code == 196608
-is_built (client.Parse m) = is_empty_list m.type_oids && not (is_empty_list (trimmed m.query)) && not (is_transaction_word (trimmed m.query))
-is_built (client.Bind m) = is_empty_list m.parameter_format_codes && is_empty_list m.parameters && is_one_binary m.result_column_format_codes
+is_built (client.Parse m) = is_built_parse m
+is_built (client.Bind m) = is_built_bind m
 is_built (client.Execute m) = is_below_one m.max_rows
 is_built (client.PgSync m) = true
 is_built (client.Terminate m) = true

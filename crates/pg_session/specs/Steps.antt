@@ -1,17 +1,20 @@
 -- What one message does to a session: the outbox and the registry's calls grow by its answer, and the state is the next one.
-use Rattle.std.specs.Prelude.{ℕ, ℤ, Bool, List, ◌++◌, ◌≡◌, ◌≢◌, Option, Some, None, IfSome}
+use Rattle.std.specs.Prelude.{ℕ, ℤ, Bool, List, ◌++◌, ◌≡◌, ◌<◌, Option, Some, None}
 use Rattle.std.specs.FinMap as fin
 use Rattle.pg_messages.specs.declared.backend.DataRow.{DataRow}
 use Rattle.pg_messages.specs.declared.frontend.PgWireFrontendMessage.{PgWireFrontendMessage}
 use Rattle.pg_messages.specs.declared.backend.PgWireBackendMessage.{PgWireBackendMessage}
-use Rattle.pg_messages.specs.Frames.{IsFrame}
+use Rattle.pg_messages.specs.Frames.{IsFrame, DividesInto}
 use Rattle.pg_messages.specs.Replies.{replies_bytes}
+use Rattle.pg_portal.specs.declared.portal.Statement.{Statement}
+use Rattle.pg_portal.specs.declared.portal.Portal.{Portal}
 use Rattle.pg_portal.specs.declared.portal.Store.{Store}
 use Rattle.pg_session.specs.declared.state.SessionState.{SessionState}
 use Rattle.pg_session.specs.declared.desk.DeskCall.{DeskCall}
 use Rattle.pg_session.specs.declared.ends.EndKind.{EndKind}
-use Rattle.pg_session.specs.Conversation.{Told, Setting, Answer, Next, Goes, Ends}
-use Rattle.pg_session.specs.Streams.{BeginsWith}
+use Rattle.pg_session.specs.Conversation.{Told, Setting, Answer, Next, Goes, Ends, answer}
+use Rattle.pg_session.specs.Streams.{BeginsWith, GrowsBy}
+use Rattle.pg_session.specs.Run.{awaits, conversation}
 
 abbrev pub told_by : (List ℕ → Option ℕ) → (ℕ → List DataRow) → Told
 told_by relation_of rows_of = record { relation_of = relation_of; rows_of = rows_of }
@@ -40,15 +43,35 @@ abbrev pub next_of : Option EndKind → SessionState → Next
 next_of None s = Goes s
 next_of (Some kind) s = Ends kind
 
--- a relation that a query can name
-abbrev pub IsNamed : (List ℕ → Option ℕ) → ℕ → Type 0
-IsNamed relation_of relation = (name : List ℕ) × (relation_of name ≡ Some relation)
-
--- each stored statement and portal is of a relation that a query can name
-pub record IsGoodStore (relation_of : List ℕ → Option ℕ) (store : Store) : Type 0 where
-  pub statements : (name : List ℕ) → IfSome (fin.get store.statements name) (λ statement. IsNamed relation_of statement.relation)
-  pub portals : (name : List ℕ) → IfSome (fin.get store.portals name) (λ portal. IsNamed relation_of portal.relation)
+-- Each stored statement and portal is of one of the relations, of which there are so many.
+pub record IsGoodStore (count : ℕ) (store : Store) : Type 0 where
+  pub statements : (name : List ℕ) (statement : Statement) → fin.get store.statements name ≡ Some statement → statement.relation < count
+  pub portals : (name : List ℕ) (portal : Portal) → fin.get store.portals name ≡ Some portal → portal.relation < count
 
 -- the message is one that a good frame carries
 abbrev pub IsGiven : Bool → PgWireFrontendMessage → Type 0
 IsGiven awaiting m = (frame : List ℕ) × IsFrame awaiting frame m
+
+-- Bytes went through an outbox to a sink: some were sent, and the others wait behind them.
+pub record Flows (written new_written : Option (List ℕ)) (out new_out bytes : List ℕ) : Type 0 where
+  pub sent : List ℕ
+  pub grown : GrowsBy written new_written sent
+  pub same : sent ++ new_out ≡ out ++ bytes
+
+-- One message was taken off the bytes and answered by the table, whatever the registry answers.
+pub record IsAnswered (setting : Setting) (s : SessionState) (text rest bytes : List ℕ) (calls : List DeskCall) (next : Next) : Type 0 where
+  pub message : PgWireFrontendMessage
+  pub frame : List ℕ
+  pub division : text ≡ frame ++ rest
+  pub carried : IsFrame (awaits s) frame message
+  pub replied : (answers : List Bool) → bytes ≡ replies_bytes (answer setting answers s message).replies
+  pub called : (answers : List Bool) → calls ≡ (answer setting answers s message).calls
+  pub goes_on : (answers : List Bool) → (answer setting answers s message).next ≡ next
+
+-- The whole frames of a text were answered by the table, whatever the registry answers, and this is left of the text.
+pub record IsFed (setting : Setting) (s : SessionState) (text rest bytes : List ℕ) (calls : List DeskCall) (next : Next) : Type 0 where
+  pub messages : List PgWireFrontendMessage
+  pub division : DividesInto (awaits s) text messages rest
+  pub replied : (answers : List Bool) → bytes ≡ replies_bytes (conversation setting answers s messages).replies
+  pub called : (answers : List Bool) → calls ≡ (conversation setting answers s messages).calls
+  pub goes_on : (answers : List Bool) → (conversation setting answers s messages).next ≡ next

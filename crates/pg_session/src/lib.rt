@@ -3,6 +3,7 @@
 
 mod desk;
 mod ends;
+mod host;
 mod outbox;
 mod query;
 mod replies;

@@ -1,4 +1,4 @@
-ghost use Rattle.std.specs.Prelude.{◌≡◌, ℕ, List, Option, Some, IfOk};
+ghost use Rattle.std.specs.Prelude.{◌≡◌, ◌<◌, ℕ, List, Option, IfOk, IfSome};
 ghost use Rattle.std.specs.List.{AllByRecursion};
 ghost use Rattle.pg_messages.specs.Replies.{IsEncodable};
 ghost use Rattle.pg_messages.specs.declared.backend.DataRow.{DataRow};
@@ -11,16 +11,20 @@ use std::alloc::{AllocError, Global};
 pub trait FirstRows {
     // the place of the relation of this name
     ghost relation_of: { Self → List ℕ → Option ℕ };
+    // how many relations there are; their places are the numbers below
+    ghost count: { Self → ℕ };
+
     // the binary rows of the relation at this place
     ghost rows_of: { Self → ℕ → List DataRow };
 
     /// The place of the relation that a trimmed query names, or None exactly where there is none.
     fn find(&self, query: &str) -> Option<u32>
-        ensures { result ≡ relation_of self.now query.now };
+        ensures place { result ≡ relation_of self.now query.now }
+        ensures within { IfSome result (λ relation. relation < count self.now) };
 
-    /// The binary rows of a relation that a query can name. Each can be sent.
+    /// The binary rows of a relation. Each can be sent.
     fn rows(&self, alloc: Global, relation: u32) -> Result<PgList<DataRow>, AllocError>
-        requires { (name : List ℕ) × (relation_of self.now name ≡ Some relation) }
+        requires { relation < count self.now }
         ensures rows { IfOk result (λ rows. rows ≡ rows_of self.now relation) }
         ensures encodable { IfOk result (AllByRecursion (λ row. IsEncodable (server.DataRow row))) };
 }

@@ -1,4 +1,4 @@
-ghost use Rattle.std.specs.Prelude.{◌≡◌, ◌++◌, [], ◌∷◌, ◌≤◌, ℕ, ℤ, List, Bool, true, false, Option, Some, None, length, codes, IfOk, OnOk, OnErr};
+ghost use Rattle.std.specs.Prelude.{◌≡◌, ◌++◌, [], ◌∷◌, ◌≤◌, ◌<◌, ℕ, ℤ, List, Bool, true, false, Option, Some, None, length, codes, IfOk, OnOk, OnErr};
 ghost use Rattle.std.specs.List.{AllByRecursion};
 ghost use Rattle.std.specs.FinMap as fin;
 ghost use Rattle.pg_messages.specs.Frames.{IsFrame};
@@ -10,7 +10,7 @@ ghost use Rattle.pg_portal.specs.declared.portal.PgWireConnectionState.TheVarian
 ghost use Rattle.pg_session.specs.Queries.{trimmed};
 ghost use Rattle.pg_session.specs.Streams.{BeginsWith};
 ghost use Rattle.pg_session.specs.Conversation.{error_response, parsed, bound, executed, on_sync, page_rows, start_calls, Goes};
-ghost use Rattle.pg_session.specs.Steps.{Appends, IsCarriedOut, IsGoodStore, IsGiven, IsNamed, GrowsByFrontOf, setting_of, told_by};
+ghost use Rattle.pg_session.specs.Steps.{Appends, IsCarriedOut, IsGoodStore, IsGiven, GrowsByFrontOf, setting_of, told_by};
 ghost use Rattle.pg_session.specs.declared.desk.DeskCall.{DeskCall};
 
 use crate::desk::CancelDesk;
@@ -55,11 +55,11 @@ pub(crate) fn on_parse<H: FirstRows>(
     message: Parse,
 ) -> Result<(), AllocError>
     requires given { IsGiven false (client.Parse message) }
-    requires good { IsGoodStore (H.relation_of handlers.now) state.old.store }
+    requires good { IsGoodStore (H.count handlers.now) state.old.store }
     ensures answer { OnOk result ((answers : List Bool) → IsCarriedOut
         (parsed answers state.old message (H.relation_of handlers.now (trimmed message.query)))
         outbox.old outbox.new [] [] (Goes state.new)) }
-    ensures good { OnOk result (IsGoodStore (H.relation_of handlers.now) state.new.store) }
+    ensures good { OnOk result (IsGoodStore (H.count handlers.now) state.new.store) }
 {
     let query = trimmed(message.query.as_str());
     match handlers.find(query) {
@@ -86,8 +86,8 @@ pub(crate) fn on_bind(
     ensures answer { OnOk result ((answers : List Bool) → IsCarriedOut
         (bound answers state.old message (fin.get state.old.store.statements message.statement_name))
         outbox.old outbox.new [] [] (Goes state.new)) }
-    ensures good { (relation_of : List ℕ → Option ℕ) → IsGoodStore relation_of state.old.store
-        → OnOk result (IsGoodStore relation_of state.new.store) }
+    ensures good { (count : ℕ) → IsGoodStore count state.old.store
+        → OnOk result (IsGoodStore count state.new.store) }
 {
     let name = message.statement_name.as_str();
     match state.store.statements.get(name).copied() {
@@ -110,8 +110,8 @@ pub(crate) fn on_bind(
 pub(crate) fn on_sync(state: &mut SessionState, outbox: &mut Outbox) -> Result<(), AllocError>
     ensures answer { OnOk result ((answers : List Bool) → IsCarriedOut (on_sync answers state.old)
         outbox.old outbox.new [] [] (Goes state.new)) }
-    ensures good { (relation_of : List ℕ → Option ℕ) → IsGoodStore relation_of state.old.store
-        → OnOk result (IsGoodStore relation_of state.new.store) }
+    ensures good { (count : ℕ) → IsGoodStore count state.old.store
+        → OnOk result (IsGoodStore count state.new.store) }
 {
     push_ready(outbox, state.status)?;
     state.store.portals.remove("");
@@ -129,12 +129,12 @@ pub(crate) fn on_execute<H: FirstRows, D: CancelDesk>(
     message: Execute,
 ) -> Result<(), AllocError>
     requires given { IsGiven false (client.Execute message) }
-    requires good { IsGoodStore (H.relation_of handlers.now) state.old.store }
+    requires good { IsGoodStore (H.count handlers.now) state.old.store }
     ensures answer { OnOk result ((answers : List Bool) (pid : ℤ) (key : List ℕ) → IsCarriedOut
         (executed (setting_of (H.relation_of handlers.now) (H.rows_of handlers.now) pid key) answers state.old message
             (fin.get state.old.store.portals message.name))
         outbox.old outbox.new (D.calls desk.old) (D.calls desk.new) (Goes state.new)) }
-    ensures good { OnOk result (IsGoodStore (H.relation_of handlers.now) state.new.store) }
+    ensures good { OnOk result (IsGoodStore (H.count handlers.now) state.new.store) }
     ensures err { OnErr result ((answers : List Bool) (pid : ℤ) (key : List ℕ) → GrowsByFrontOf
         (executed (setting_of (H.relation_of handlers.now) (H.rows_of handlers.now) pid key) answers state.old message
             (fin.get state.old.store.portals message.name)).calls
@@ -167,7 +167,7 @@ fn page<H: FirstRows, D: CancelDesk>(
     relation: u32,
     stage: PortalExecutionState,
 ) -> Result<PgList<DataRow>, AllocError>
-    requires { IsNamed (H.relation_of handlers.now) relation }
+    requires { relation < H.count handlers.now }
     ensures rows { IfOk result (λ rows. rows ≡ page_rows (told_by (H.relation_of handlers.now) (H.rows_of handlers.now)) relation stage) }
     ensures encodable { IfOk result (AllByRecursion (λ row. IsEncodable (server.DataRow row))) }
     ensures calls { OnOk result (D.calls desk.new ≡ D.calls desk.old ++ start_calls stage) }

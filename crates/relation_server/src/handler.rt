@@ -18,6 +18,8 @@ pub struct RelationHandler<'r> {
 }
 
 impl<'r> FirstRows for RelationHandler<'r> {
+    ghost count = { λ h. length h.relations.now };
+
     ghost relation_of = { λ h name. place_of h.relations.now name };
 
     ghost rows_of = { λ h place. binary_rows h.relations.now place };

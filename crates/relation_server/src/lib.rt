@@ -9,6 +9,8 @@ mod report;
 mod run;
 mod serve;
 mod table;
+#[cfg(test)]
+mod tests;
 mod words;
 
 pub use adapters::{ReaderSource, WriterSink};

@@ -1,7 +1,7 @@
-use Rattle.std.proofs.Common.{◌≡◌, ◌++◌, ◌∙◌, [], codes, sym, ap, subst, Some, None, IfSome}
+use Rattle.std.proofs.Common.{◌≡◌, ◌++◌, ◌∙◌, [], codes, sym, ap, subst, Some, None}
 use Rattle.std.specs.FinMap as fin
 use Rattle.pg_session.specs.Conversation.{quoted, bound, Goes}
-use Rattle.pg_session.specs.Steps.{IsCarriedOut, IsGoodStore, IsNamed}
+use Rattle.pg_session.specs.Steps.{IsCarriedOut, IsGoodStore}
 use Rattle.pg_session.proofs.TableRows.{on_ok_both, on_ok_always, refused}
 use Rattle.pg_session.proofs.Stores.{good_portal}
 use Rattle.pg_session.proofs.rules.on_bind.Goals as goal
@@ -11,7 +11,7 @@ returns-in_ok-put-in-Some-clause-good c = λ R good.
     let store = c.args.state.now.store in
     let found : fin.get store.statements c.args.message.statement_name ≡ Some c.in-Some.statement =
         ap (fin.get store.statements) (sym c.as_str-name.ensures) ∙ sym c.get.ensures ∙ sym c.copied.ensures ∙ c.in-Some.is in
-    let named : IsNamed R c.in-Some.statement.relation = subst (λ o. IfSome o (λ s. IsNamed R s.relation)) found (good.statements c.args.message.statement_name) in
+    let named = good.statements c.args.message.statement_name c.in-Some.statement found in
     on_ok_always c.send.result (subst (λ m. IsGoodStore R (record { statements = store.statements; portals = m })) (sym c.in_ok-put-in-Some.ensures.ok)
         (good_portal R store c.args.message.portal_name _ named good))
 

@@ -1,24 +1,24 @@
-use Rattle.std.proofs.Common.{◌≡◌, ◌++◌, ◌∙◌, [], codes, sym, ap, subst, refl, append-nil, Some, None, IfSome}
+use Rattle.std.proofs.Common.{◌≡◌, ◌++◌, ◌∙◌, [], codes, sym, ap, subst, refl, append-nil, Some, None}
 use Rattle.std.specs.FinMap as fin
 use Rattle.pg_session.specs.Conversation.{quoted, executed, Goes}
-use Rattle.pg_session.specs.Steps.{IsCarriedOut, IsGoodStore, IsNamed, setting_of}
+use Rattle.pg_session.specs.Steps.{IsCarriedOut, IsGoodStore, setting_of}
 use Rattle.pg_session.proofs.TableRows.{on_ok_both, on_ok_always, refused_by_desk}
 use Rattle.pg_session.proofs.Stores.{good_portal}
 use Rattle.pg_session.proofs.rules.on_execute.Goals as goal
 
 pub page-requires : goal.page-requires
 page-requires g c =
-    let R = g.H.FirstRows.relation_of c.args.handlers.now in let store = c.args.state.now.store in
+    let R = g.H.FirstRows.count c.args.handlers.now in let store = c.args.state.now.store in
     let found : fin.get store.portals c.args.message.name ≡ Some c.in-Some.portal =
         ap (fin.get store.portals) (sym c.as_str-name.ensures) ∙ sym c.get.ensures ∙ sym c.copied.ensures ∙ c.in-Some.is in
-    subst (λ o. IfSome o (λ p. IsNamed R p.relation)) found (c.requires.good.portals c.args.message.name)
+    c.requires.good.portals c.args.message.name c.in-Some.portal found
 
 pub returns-in_ok-put-in-Some-clause-good : goal.returns-in_ok-put-in-Some-clause-good
 returns-in_ok-put-in-Some-clause-good g c =
-    let R = g.H.FirstRows.relation_of c.args.handlers.now in let store = c.args.state.now.store in
+    let R = g.H.FirstRows.count c.args.handlers.now in let store = c.args.state.now.store in
     let found : fin.get store.portals c.args.message.name ≡ Some c.in-Some.portal =
         ap (fin.get store.portals) (sym c.as_str-name.ensures) ∙ sym c.get.ensures ∙ sym c.copied.ensures ∙ c.in-Some.is in
-    let named : IsNamed R c.in-Some.portal.relation = subst (λ o. IfSome o (λ p. IsNamed R p.relation)) found (c.requires.good.portals c.args.message.name) in
+    let named = c.requires.good.portals c.args.message.name c.in-Some.portal found in
     on_ok_always c.push_rows.result (subst (λ m. IsGoodStore R (record { statements = store.statements; portals = m })) (sym c.in_ok-put-in-Some.ensures.ok)
         (good_portal R store c.args.message.name _ named c.requires.good))
 

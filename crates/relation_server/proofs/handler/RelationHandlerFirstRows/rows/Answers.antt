@@ -6,15 +6,11 @@ use Rattle.pg_messages.specs.declared.backend.DataRow.{DataRow}
 use Rattle.relation_server.specs.declared.table.Relation.{Relation}
 use Rattle.relation_server.specs.Tables.{place_of, is_column_name, are_columns, are_even, IsValid}
 use Rattle.relation_server.specs.Rows.{binary_row, binary_rows, rows_of}
-use Rattle.relation_server.proofs.TableLemmas.{position_from-bound, IsSound-at, IsSound}
+use Rattle.relation_server.proofs.TableLemmas.{IsSound-at, IsSound}
 use Rattle.relation_server.proofs.RowLemmas.{and_left}
 use Rattle.std.proofs.lemmas.Option.{slice_get_read}
 use Rattle.std.proofs.lemmas.Bool.{leb-true}
 use Rattle.relation_server.proofs.handler.RelationHandlerFirstRows.rows.Goals as goal
-
--- a place of a name lies in the table
-within : (rs : List Relation) (place : ℕ) → (name : List ℕ) × (place_of rs name ≡ Some place) → place < length rs
-within rs place (name, h) = let b = position_from-bound (λ r. bytes_eq name r.name) 0 rs place h in omega arith
 
 -- what stands at a place of a valid table
 sound : (rs ts : List Relation) (place : ℕ) (r : Relation) → ts ≡ rs → IsValid rs → place < length rs → r ≡ get_or ts place r → IsSound r
@@ -27,28 +23,28 @@ narrow_from_sound : (r : Relation) → IsSound r → length r.columns ≤ 1600
 narrow_from_sound r s = leb-true (length r.columns) 1600 (and_left (nat_le (length r.columns) 1600) (list_all is_column_name r.columns) s.columns)
 
 pub bounds-relations-relation : goal.bounds-relations-relation
-bounds-relations-relation c = rw c.relations.ensures.relations (within c.args.self.now.relations.now c.args.relation c.requires)
+bounds-relations-relation c = rw c.relations.ensures.relations c.requires
 
 pub encoded_rows-requires-clause-narrow : goal.encoded_rows-requires-clause-narrow
 encoded_rows-requires-clause-narrow c =
     let rs = c.args.self.now.relations.now in
     rw c.len.ensures (narrow_from_sound c.index-relations-relation.result
     (sound rs c.relations.result.now c.args.relation c.index-relations-relation.result c.relations.ensures.relations c.relations.ensures.valid
-    (within rs c.args.relation c.requires) c.index-relations-relation.is))
+    c.requires c.index-relations-relation.is))
 
 pub encoded_rows-requires-clause-even : goal.encoded_rows-requires-clause-even
 encoded_rows-requires-clause-even c =
     let rs = c.args.self.now.relations.now in
     rw (c.len.ensures, c.as_slice.ensures)
     (sound rs c.relations.result.now c.args.relation c.index-relations-relation.result c.relations.ensures.relations c.relations.ensures.valid
-    (within rs c.args.relation c.requires) c.index-relations-relation.is).rows
+    c.requires c.index-relations-relation.is).rows
 
 pub returns-clause-rows : goal.returns-clause-rows
 returns-clause-rows c =
     let rs = c.args.self.now.relations.now in
     let r = c.index-relations-relation.result in
     let stands : slice_get rs c.args.relation ≡ Some r =
-    slice_get_read rs (length rs) c.args.relation r refl (within rs c.args.relation c.requires)
+    slice_get_read rs (length rs) c.args.relation r refl c.requires
     (c.index-relations-relation.is ∙ ap (λ xs. get_or xs c.args.relation r) c.relations.ensures.relations) in
     IfOk-weaker c.encoded_rows.result (λ (rows : List DataRow). rows ≡ map binary_row c.as_slice.result.now) (λ (rows : List DataRow). rows ≡ binary_rows rs c.args.relation)
     (λ rows h. h ∙ ap (λ xs. map binary_row xs) c.as_slice.ensures ∙ ap (λ o. map binary_row (rows_of o)) (sym stands)) c.encoded_rows.ensures.rows
