@@ -7,6 +7,8 @@ mod handler;
 mod memory;
 mod report;
 mod run;
+#[cfg(test)]
+mod run_tests;
 mod serve;
 mod table;
 #[cfg(test)]
