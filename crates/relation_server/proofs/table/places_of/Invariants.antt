@@ -1,0 +1,11 @@
+use Rattle.std.proofs.Common.{◌≡◌, ℕ, List, take, drop}
+use Rattle.std.specs.FinMap as map
+use Rattle.relation_server.specs.Tables.{place_of, refusal, refusal_after}
+use Rattle.relation_server.proofs.table.places_of.Given as goal
+
+abbrev pub invariant-loop-relation : goal.invariant-loop-relation
+invariant-loop-relation l = record {
+  count : l.place ≡ l.relation-index;
+  places : (name : List ℕ) → map.get l.places name ≡ place_of (take l.relation-index l.relations) name;
+  refusal : refusal_after (take l.relation-index l.relations) (drop l.relation-index l.relations) ≡ refusal l.relations;
+}
