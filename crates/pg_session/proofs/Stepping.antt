@@ -2,7 +2,7 @@
 use Rattle.std.proofs.Common.{◌≡◌, ℕ, Bool, true, false, cond, List, [], ◌∷◌, ◌++◌, Option, Some, None, Result, Ok, Err, OnOk, OnErr, IsTrue, refl, sym, ap, subst, ◌∙◌, append-nil, append_assoc}
 use Rattle.pg_messages.specs.declared.frontend.PgWireFrontendMessage.{PgWireFrontendMessage}
 use Rattle.pg_messages.specs.declared.frontend.PgWireFrontendMessage.TheVariants as client
-use Rattle.pg_messages.specs.Frames.{IsFrame, context_after, awaits_startup_after}
+use Rattle.pg_messages.specs.Frames.{IsFrame, DividesInto, context_after, awaits_startup_after}
 use Rattle.pg_messages.specs.Replies.{replies_bytes}
 use Rattle.pg_portal.specs.declared.portal.PgWireConnectionState.{PgWireConnectionState}
 use Rattle.pg_portal.specs.declared.portal.PgWireConnectionState.TheVariants as phase
@@ -165,3 +165,25 @@ cut_then {w = w} {v = v} {u = u} {o = o} {p = p} {k = k} x y = record {
         (sym (append_assoc x.flows.sent p y.bytes) ∙ ap (λ b. b ++ y.bytes) x.flows.same ∙ append_assoc o x.bytes y.bytes)
         (GrowsByFront-then w v u x.flows.sent (p ++ y.bytes) x.flows.grown y.cut);
     grown = GrowsByFrontOf-then x.called k x.grown y.grown }
+
+divides_more : (b : Bool) (text rest p : List ℕ) (ms : List PgWireFrontendMessage) → DividesInto b text ms rest → DividesInto b (text ++ p) ms (rest ++ p)
+divides_more b text rest p [] d = ap (λ l. l ++ p) d
+divides_more b text rest p (m ∷ ms) d = (d.0, d.1 ++ p, ap (λ l. l ++ p) d.2 ∙ append_assoc d.0 d.1 p, d.3, divides_more (awaits_startup_after m b) d.1 rest p ms d.4)
+
+-- More bytes keep the frames that are there.
+pub serves_more : {setting : Setting} {s : SessionState} {text rest : List ℕ} {next : Next} {w v : Option (List ℕ)} {o q : List ℕ} {k l : List DeskCall} (p : List ℕ)
+    → IsServed setting s text rest next w v o q k l → IsServed setting s (text ++ p) (rest ++ p) next w v o q k l
+serves_more {setting} {s} {text} {rest} {next} p x = record {
+    bytes = x.bytes; called = x.called;
+    fed = record {
+      messages = x.fed.messages; division = divides_more (awaits s) text rest p x.fed.messages x.fed.division;
+      replied = x.fed.replied; called = x.fed.called; goes_on = x.fed.goes_on };
+    flows = x.flows; grown = x.grown }
+
+-- the same where other bytes waited before
+pub serves_from : {setting : Setting} {s : SessionState} {text rest : List ℕ} {next : Next} {w v : Option (List ℕ)} {o p q : List ℕ} {k l : List DeskCall}
+    → o ≡ p → IsServed setting s text rest next w v o q k l → IsServed setting s text rest next w v p q k l
+serves_from {setting} {s} {text} {rest} {next} {w} {v} {o} {p} {q} {k} {l} e x = subst (λ n. IsServed setting s text rest next w v n q k l) e x
+
+pub cut_from : {setting : Setting} {s : SessionState} {text : List ℕ} {w v : Option (List ℕ)} {o p : List ℕ} {k l : List DeskCall} → o ≡ p → IsCutOff setting s text w v o k l → IsCutOff setting s text w v p k l
+cut_from {setting} {s} {text} {w} {v} {o} {p} {k} {l} e x = subst (λ n. IsCutOff setting s text w v n k l) e x

@@ -30,9 +30,11 @@ pub struct Session<H: FirstRows> {
 }
 
 impl<H: FirstRows + Drop> Session<H> {
-    ghost use Rattle.std.specs.Prelude.{◌++◌, ◌≤◌, IfOk, OnOk, OnErr, IsErrOf};
-    ghost use Rattle.pg_session.specs.Conversation.{Next, first_state};
+    ghost use Rattle.std.specs.Prelude.{◌++◌, ◌≤◌, ℕ, List, Option, IfOk, OnOk, OnErr, IsErrOf};
+    ghost use Rattle.pg_session.specs.Conversation.{Next, Goes, first_state};
     ghost use Rattle.pg_session.specs.Streams.{HasRisen};
+    ghost use Rattle.pg_session.specs.declared.state.SessionState.{SessionState};
+    ghost use Rattle.pg_session.specs.declared.desk.DeskCall.{DeskCall};
     ghost use Rattle.pg_session.specs.Steps.{IsServed, IsCutOff, Stands, setting_of};
 
     /// A session that awaits the startup packet of a client, who is told this pid and key.
@@ -46,6 +48,11 @@ impl<H: FirstRows + Drop> Session<H> {
         ensures state { IfOk result (λ session. session.dialog.state ≡ first_state) }
         ensures rest { IfOk result (λ session. session.dialog.rest.items ≡ []) }
         ensures handlers { IfOk result (λ session. session.host.handlers ≡ handlers) }
+
+        // Nothing came, nothing was answered.
+        ensures so_far { IfOk result (λ session. (written : Option (List ℕ)) (calls : List DeskCall) → IsServed
+            (setting_of (H.relation_of (arc_value handlers)) (H.rows_of (arc_value handlers)) pid key)
+            first_state [] session.dialog.rest.items (Goes session.dialog.state) written written [] [] calls calls) }
         ensures pid { IfOk result (λ session. session.host.pid ≡ pid) }
         ensures key { IfOk result (λ session. session.host.key ≡ key) }
     {
@@ -104,6 +111,21 @@ impl<H: FirstRows + Drop> Session<H> {
             (setting_of (H.relation_of (arc_value self.old.host.handlers)) (H.rows_of (arc_value self.old.host.handlers)) self.old.host.pid self.old.host.key)
             self.old.dialog.state (self.old.dialog.rest.items ++ piece.now)
             (K.written sink.old) (K.written sink.new) [] (D.calls desk.old) (D.calls desk.new)) }
+
+        // So are those of all that came before, and of this piece.
+        ensures continues { (s : SessionState) (text : List ℕ) (written : Option (List ℕ)) (calls : List DeskCall)
+            → IsServed (setting_of (H.relation_of (arc_value self.old.host.handlers)) (H.rows_of (arc_value self.old.host.handlers)) self.old.host.pid self.old.host.key)
+                s text self.old.dialog.rest.items (Goes self.old.dialog.state) written (K.written sink.old) [] [] calls (D.calls desk.old)
+            → IfOk result (λ told. (next : Next) × IsServed
+                (setting_of (H.relation_of (arc_value self.old.host.handlers)) (H.rows_of (arc_value self.old.host.handlers)) self.old.host.pid self.old.host.key)
+                s (text ++ piece.now) self.new.dialog.rest.items next written (K.written sink.new) [] [] calls (D.calls desk.new)
+                × Stands next self.new.dialog.state self.new.dialog.rest.items told) }
+        ensures continues_cut { (s : SessionState) (text : List ℕ) (written : Option (List ℕ)) (calls : List DeskCall)
+            → IsServed (setting_of (H.relation_of (arc_value self.old.host.handlers)) (H.rows_of (arc_value self.old.host.handlers)) self.old.host.pid self.old.host.key)
+                s text self.old.dialog.rest.items (Goes self.old.dialog.state) written (K.written sink.old) [] [] calls (D.calls desk.old)
+            → OnErr result (IsCutOff
+                (setting_of (H.relation_of (arc_value self.old.host.handlers)) (H.rows_of (arc_value self.old.host.handlers)) self.old.host.pid self.old.host.key)
+                s (text ++ piece.now) written (K.written sink.new) [] calls (D.calls desk.new)) }
         ensures open { IsTrue self.new.opened ↔ (result ≡ Ok More) }
         ensures host { self.new.host ≡ self.old.host }
 

@@ -1,4 +1,8 @@
-use Rattle.std.proofs.Common.{sym, subst}
+use Rattle.std.proofs.Common.{[], sym, subst}
+use Rattle.pg_messages.specs.declared.backend.TransactionStatus.TheVariants as status
+use Rattle.pg_portal.specs.declared.portal.PgWireConnectionState.TheVariants as phase
+use Rattle.pg_session.specs.Conversation.{Goes, first_state}
+use Rattle.pg_session.proofs.Stepping.{serves_none, serves_to}
 use Rattle.std.specs.FinMap as fin
 use Rattle.pg_session.specs.Steps.{IsGoodStore}
 use Rattle.pg_session.proofs.Stores.{good_empty}
@@ -12,3 +16,8 @@ invariant_of-result g c = record {
         (subst (λ m. IsGoodStore n (record { statements = fin.empty; portals = m })) (sym c.new-3.ensures) (good_empty n));
     sent = λ _. c.in_ok-outbox.ensures;
   }
+
+pub returns-clause-so_far : goal.returns-clause-so_far
+returns-clause-so_far g c = λ written calls.
+    serves_to (λ i. Goes (record { state = phase.AwaitingStartup; status = status.Idle; store = record { statements = sym c.new-2.ensures i; portals = sym c.new-3.ensures i } }))
+    (serves_none _ first_state [] c.new-5.result.items written [] calls c.new-5.ensures.items)
