@@ -1,3 +1,4 @@
+pub mod BadFrames
 pub mod Conversations
 pub mod Encodable
 pub mod Flowing

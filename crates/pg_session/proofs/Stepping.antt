@@ -1,5 +1,5 @@
 -- One step of a session.
-use Rattle.std.proofs.Common.{◌≡◌, ℕ, Bool, true, false, cond, List, [], ◌∷◌, ◌++◌, Option, Some, None, Result, Ok, Err, OnOk, OnErr, IsTrue, refl, sym, ap, subst, ◌∙◌, append-nil, append_assoc}
+use Rattle.std.proofs.Common.{◌≡◌, ◌≢◌, ℕ, Bool, true, false, cond, List, [], ◌∷◌, ◌++◌, Option, Some, None, Result, Ok, Err, OnOk, OnErr, IsTrue, refl, sym, ap, subst, ◌∙◌, append-nil, append_assoc}
 use Rattle.pg_messages.specs.declared.frontend.PgWireFrontendMessage.{PgWireFrontendMessage}
 use Rattle.pg_messages.specs.declared.frontend.PgWireFrontendMessage.TheVariants as client
 use Rattle.pg_messages.specs.Frames.{IsFrame, DividesInto, context_after, awaits_startup_after}
@@ -122,9 +122,12 @@ cut_served {rest = rest} {next = next} {calls = calls} {new_calls = new_calls} u
     rest = rest; next = next; bytes = x.bytes; called = x.called; fed = x.fed; cut = cut_after u x.flows g; grown = GrowsByFrontOf-all x.called calls new_calls x.grown }
 
 -- where the conversation stands by the end that a message told
-pub stands_by : (e : Option EndKind) (s : SessionState) (rest : List ℕ) (step : Option Progress) → step ≡ option_map (λ kind. progress.Ended kind) e → StandsAfterStep (next_of e s) s rest step
-stands_by None s rest step h = subst (λ p. StandsAfterStep (Goes s) s rest p) (sym h) refl
-stands_by (Some kind) s rest step h = subst (λ p. StandsAfterStep (Ends kind) s rest p) (sym h) refl
+pub stands_by : (e : Option EndKind) (s : SessionState) (rest : List ℕ) (step : Option Progress) → step ≡ option_map (λ kind. progress.Ended kind) e → e ≢ Some end.InputEnd → StandsAfterStep (next_of e s) s rest step
+stands_by None s rest step h told = subst (λ p. StandsAfterStep (Goes s) s rest p) (sym h) refl
+stands_by (Some kind) s rest step h told = subst (λ p. StandsAfterStep (Ends kind) s rest p) (sym h) (λ e. told (ap Some e), λ more. refl)
+
+pub bad_is_no_end_of_input : end.BadFrame ≢ end.InputEnd
+bad_is_no_end_of_input e = cc
 
 context_awaits : (m : PgWireFrontendMessage) (k : DecodeContext) → (context_after m k).awaiting_startup ≡ awaits_startup_after m k.awaiting_startup
 context_awaits (client.Startup m) k = refl
@@ -166,7 +169,7 @@ cut_then {w = w} {v = v} {u = u} {o = o} {p = p} {k = k} x y = record {
         (GrowsByFront-then w v u x.flows.sent (p ++ y.bytes) x.flows.grown y.cut);
     grown = GrowsByFrontOf-then x.called k x.grown y.grown }
 
-divides_more : (b : Bool) (text rest p : List ℕ) (ms : List PgWireFrontendMessage) → DividesInto b text ms rest → DividesInto b (text ++ p) ms (rest ++ p)
+pub divides_more : (b : Bool) (text rest p : List ℕ) (ms : List PgWireFrontendMessage) → DividesInto b text ms rest → DividesInto b (text ++ p) ms (rest ++ p)
 divides_more b text rest p [] d = ap (λ l. l ++ p) d
 divides_more b text rest p (m ∷ ms) d = (d.0, d.1 ++ p, ap (λ l. l ++ p) d.2 ∙ append_assoc d.0 d.1 p, d.3, divides_more (awaits_startup_after m b) d.1 rest p ms d.4)
 

@@ -1,5 +1,5 @@
 -- What one message does to a session: the outbox and the registry's calls grow by its answer, and the state is the next one.
-use Rattle.std.specs.Prelude.{ℕ, ℤ, Bool, true, false, List, ◌++◌, ◌≡◌, ◌<◌, Option, Some, None}
+use Rattle.std.specs.Prelude.{ℕ, ℤ, Bool, true, false, List, ◌++◌, ◌≡◌, ◌≢◌, ◌<◌, Option, Some, None}
 use Rattle.std.specs.FinMap as fin
 use Rattle.pg_messages.specs.declared.backend.DataRow.{DataRow}
 use Rattle.pg_messages.specs.declared.frontend.PgWireFrontendMessage.{PgWireFrontendMessage}
@@ -12,6 +12,7 @@ use Rattle.pg_portal.specs.declared.portal.Store.{Store}
 use Rattle.pg_session.specs.declared.state.SessionState.{SessionState}
 use Rattle.pg_session.specs.declared.desk.DeskCall.{DeskCall}
 use Rattle.pg_session.specs.declared.ends.EndKind.{EndKind}
+use Rattle.pg_session.specs.declared.ends.EndKind.TheVariants as end
 use Rattle.pg_session.specs.declared.ends.Progress.{Progress}
 use Rattle.pg_session.specs.declared.ends.Progress.TheVariants as progress
 use Rattle.pg_session.specs.Conversation.{Told, Setting, Answer, Next, Goes, Ends, answer}
@@ -96,10 +97,10 @@ pub record IsCutOff (setting : Setting) (s : SessionState) (text : List ℕ) (wr
   pub cut : GrowsByFront written new_written (out ++ bytes)
   pub grown : GrowsByFrontOf called calls new_calls
 
--- Where the conversation stands after a piece: it goes on and no whole frame is left, or it has ended.
+-- Where the conversation stands after a piece: it goes on and no whole frame is left, or it has ended, whatever bytes may follow.
 abbrev pub Stands : Next → SessionState → List ℕ → Progress → Type 0
 Stands next s rest progress.More = (next ≡ Goes s) × IsUnfinished (awaits s) rest
-Stands next s rest (progress.Ended kind) = EndsWith next rest kind
+Stands next s rest (progress.Ended kind) = (kind ≢ end.InputEnd) × ((more : List ℕ) → EndsWith next (rest ++ more) kind)
 
 -- the same after a step: where it is no progress to report, a message was answered and the conversation goes on
 abbrev pub StandsAfterStep : Next → SessionState → List ℕ → Option Progress → Type 0

@@ -1,10 +1,11 @@
-ghost use Rattle.std.specs.Prelude.{◌≡◌, ◌++◌, [], ◌∷◌, ℕ, ℤ, List, Bool, true, false, Option, Some, None, IfOk, OnOk, OnErr};
+ghost use Rattle.std.specs.Prelude.{◌≡◌, ◌≢◌, ◌++◌, [], ◌∷◌, ℕ, ℤ, List, Bool, true, false, Option, Some, None, IfOk, OnOk, OnErr};
 ghost use Rattle.std.specs.Arc.{arc_value};
 ghost use Rattle.pg_messages.specs.declared.frontend.Parse.{Parse};
 ghost use Rattle.pg_messages.specs.declared.frontend.Bind.{Bind};
 ghost use Rattle.pg_portal.specs.declared.portal.PgWireConnectionState.TheVariants as phase;
 ghost use Rattle.pg_session.specs.Conversation.{is_built, is_built_parse, is_built_bind, is_one_binary, answer, row, Setting};
 ghost use Rattle.pg_session.specs.Run.{awaits};
+ghost use Rattle.pg_session.specs.declared.ends.EndKind.TheVariants.{InputEnd};
 ghost use Rattle.pg_session.specs.Steps.{IsCarriedOut, IsGoodStore, IsGiven, GrowsByFrontOf, next_of, setting_of};
 
 use crate::desk::CancelDesk;
@@ -87,6 +88,7 @@ impl<H: FirstRows> Host<H> {
         ensures answer { IfOk result (λ end. (answers : List Bool) → IsCarriedOut
             (answer (setting_of (H.relation_of (arc_value self.now.handlers)) (H.rows_of (arc_value self.now.handlers)) self.now.pid self.now.key) answers state.old message)
             outbox.old outbox.new (D.calls desk.old) (D.calls desk.new) (next_of end state.new)) }
+        ensures ends { IfOk result (λ end. end ≢ Some InputEnd) }
         ensures good { OnOk result (IsGoodStore (H.count (arc_value self.now.handlers)) state.new.store) }
         ensures err { OnErr result ((answers : List Bool) → GrowsByFrontOf
             (answer (setting_of (H.relation_of (arc_value self.now.handlers)) (H.rows_of (arc_value self.now.handlers)) self.now.pid self.now.key) answers state.old message).calls
@@ -118,6 +120,7 @@ impl<H: FirstRows> Host<H> {
         ensures answer { IfOk result (λ end. (answers : List Bool) → IsCarriedOut
             (row (setting_of (H.relation_of (arc_value self.now.handlers)) (H.rows_of (arc_value self.now.handlers)) self.now.pid self.now.key) answers state.old phase.AwaitingStartup message.now)
             outbox.old outbox.new [] [] (next_of end state.new)) }
+        ensures ends { IfOk result (λ end. end ≢ Some InputEnd) }
         ensures good { (count : ℕ) → IsGoodStore count state.old.store
             → OnOk result (IsGoodStore count state.new.store) }
     {
@@ -148,6 +151,7 @@ impl<H: FirstRows> Host<H> {
         ensures answer { IfOk result (λ end. (answers : List Bool) → IsCarriedOut
             (row (setting_of (H.relation_of (arc_value self.now.handlers)) (H.rows_of (arc_value self.now.handlers)) self.now.pid self.now.key) answers state.old phase.ReadyForQuery message)
             outbox.old outbox.new (D.calls desk.old) (D.calls desk.new) (next_of end state.new)) }
+        ensures ends { IfOk result (λ end. end ≢ Some InputEnd) }
         ensures good { OnOk result (IsGoodStore (H.count (arc_value self.now.handlers)) state.new.store) }
         ensures err { OnErr result ((answers : List Bool) → GrowsByFrontOf
             (row (setting_of (H.relation_of (arc_value self.now.handlers)) (H.rows_of (arc_value self.now.handlers)) self.now.pid self.now.key) answers state.old phase.ReadyForQuery message).calls
@@ -176,6 +180,7 @@ fn on_awaiting_sync(
 ) -> Result<Option<EndKind>, AllocError>
     ensures answer { IfOk result (λ end. (setting : Setting) (answers : List Bool) → IsCarriedOut
         (row setting answers state.old phase.AwaitingSync message.now) outbox.old outbox.new [] [] (next_of end state.new)) }
+    ensures ends { IfOk result (λ end. end ≢ Some InputEnd) }
     ensures good { (count : ℕ) → IsGoodStore count state.old.store
         → OnOk result (IsGoodStore count state.new.store) }
 {

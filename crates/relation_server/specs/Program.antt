@@ -1,5 +1,5 @@
 -- What the server owes its client, and what the program tells of it: a status, and a line on its error output.
-use Rattle.std.specs.Prelude.{ℕ, ℤ, List, [], ◌++◌, ◌∷◌, ◌+◌, ◌≤◌, ◌≡◌, ◌⊎◌, Option, Some, None, Result, Ok, Err, IfOk, IfSome, codes}
+use Rattle.std.specs.Prelude.{ℕ, ℤ, List, [], ◌++◌, ◌∷◌, ◌+◌, ◌≤◌, ◌<◌, ◌^◌, ◌≡◌, ◌⊎◌, Option, Some, None, Result, Ok, Err, IfSome, codes}
 use Rattle.std.specs.List.{AllByRecursion}
 use Rattle.pg_session.specs.declared.desk.DeskCall.{DeskCall}
 use Rattle.pg_session.specs.declared.ends.EndKind.{EndKind}
@@ -7,7 +7,7 @@ use Rattle.pg_session.specs.declared.ends.EndKind.TheVariants.{Terminate, InputE
 use Rattle.pg_session.specs.declared.ends.ServeError.{ServeError}
 use Rattle.pg_session.specs.declared.ends.ServeError.TheVariants.{ReadFault, WriteFault, TurnLimit, NoMemory}
 use Rattle.pg_session.specs.Conversation.{Setting}
-use Rattle.pg_session.specs.Run.{IsRun}
+use Rattle.pg_session.specs.Run.{IsRun, IsCutRun}
 use Rattle.pg_session.specs.Steps.{setting_of}
 use Rattle.pg_session.specs.Streams.{GrowsBy, GrowsByFront, HasRisen}
 use Rattle.relation_server.specs.declared.table.Relation.{Relation}
@@ -61,22 +61,52 @@ abbrev pub IsServedRun : Setting → Option (List ℕ) → Option (List ℕ) →
 IsServedRun setting left old new calls kind = IfSome left (λ text. IfSome old (λ before.
     (replies : List ℕ) × (new ≡ Some (before ++ replies)) × IsRun setting text replies calls kind))
 
+-- These bytes were taken from those that a source had to give.
+abbrev pub TakesFrom : Option (List ℕ) → Option (List ℕ) → List ℕ → Type 0
+TakesFrom left new_left taken = IfSome left (λ text. (rest : List ℕ) × (text ≡ taken ++ rest) × (new_left ≡ Some rest))
+
+-- What was written has grown by the whole answer to the taken bytes, which end where one more read was needed.
+abbrev pub IsRunOfTaken : Setting → Option (List ℕ) → Option (List ℕ) → Option (List ℕ) → Option (List ℕ) → List DeskCall → Type 0
+IsRunOfTaken setting left new_left old new calls = (taken : List ℕ) × TakesFrom left new_left taken
+    × IfSome old (λ before. (replies : List ℕ) × (new ≡ Some (before ++ replies)) × IsRun setting taken replies calls InputEnd)
+
+-- What was written has grown by a front of the answer to the taken bytes, and the calls are a front of the answer's.
+abbrev pub IsCutRunOfTaken : Setting → Option (List ℕ) → Option (List ℕ) → Option (List ℕ) → Option (List ℕ) → List DeskCall → Type 0
+IsCutRunOfTaken setting left new_left old new calls = (taken : List ℕ) × TakesFrom left new_left taken
+    × IfSome old (λ before. (front : List ℕ) × (new ≡ Some (before ++ front)) × IsCutRun setting taken front calls)
+
+-- What was written and called by the answer: the run over all client bytes where it is an end; the run over the taken bytes where one more
+-- read was needed; a front of it where a write failed or memory ran out.
+abbrev pub WentSo : Setting → Result EndKind ServeError → Option (List ℕ) → Option (List ℕ) → Option (List ℕ) → Option (List ℕ) → List DeskCall → Type 0
+WentSo setting (Ok kind) left new_left old new calls = IsServedRun setting left old new calls kind
+WentSo setting (Err ReadFault) left new_left old new calls = IsRunOfTaken setting left new_left old new calls
+WentSo setting (Err TurnLimit) left new_left old new calls = IsRunOfTaken setting left new_left old new calls
+WentSo setting (Err WriteFault) left new_left old new calls = IsCutRunOfTaken setting left new_left old new calls
+WentSo setting (Err NoMemory) left new_left old new calls = IsCutRunOfTaken setting left new_left old new calls
+
 -- where the counts of a source and of a sink stood at the start of a conversation, and where they stand after it
 pub record Counts : Type 0 where
   pub reads : ℕ
   pub read_faults : ℕ
   pub write_faults : ℕ
 
--- Why a conversation was given up: a fault only where its count has risen, and the turns only where as many reads gave a byte.
+-- the turn that reads the end of the input
+abbrev pub end_turn : EndKind → ℕ
+end_turn InputEnd = 1
+end_turn Terminate = 0
+end_turn BadFrame = 0
+
+-- Why a conversation came to an end or was given up: within the turns; a fault only where its count has risen; the turns only where as many
+-- reads gave a byte, and one more was needed. The turns speak of reads whose count doesn't come to its end.
 abbrev pub HasCause : Result EndKind ServeError → ℕ → Counts → Counts → Type 0
-HasCause (Ok kind) turns old new = Unit {0}
+HasCause (Ok kind) turns old new = old.reads + turns < 2 ^ 64 → new.reads + end_turn kind ≤ old.reads + turns
 HasCause (Err ReadFault) turns old new = HasRisen old.read_faults new.read_faults
 HasCause (Err WriteFault) turns old new = HasRisen old.write_faults new.write_faults
-HasCause (Err TurnLimit) turns old new = old.reads + turns ≤ new.reads
+HasCause (Err TurnLimit) turns old new = old.reads + turns < 2 ^ 64 → new.reads ≡ old.reads + turns
 HasCause (Err NoMemory) turns old new = Unit {0}
 
--- A conversation under this registration went so: it is a run where it came to an end, and has a cause where it was given up.
-pub record IsServed (registration : ℤ × List ℕ) (relations : List Relation) (turns : ℕ) (answer : Result EndKind ServeError) (left old new : Option (List ℕ)) (before after : Counts) : Type 0 where
+-- A conversation under this registration went so: what was written and called, and why it came to an end or was given up.
+pub record IsServed (registration : ℤ × List ℕ) (relations : List Relation) (turns : ℕ) (answer : Result EndKind ServeError) (left new_left old new : Option (List ℕ)) (before after : Counts) : Type 0 where
   pub calls : List DeskCall
-  pub run : IfOk answer (λ kind. IsServedRun (table_setting relations registration) left old new calls kind)
+  pub went : WentSo (table_setting relations registration) answer left new_left old new calls
   pub cause : HasCause answer turns before after

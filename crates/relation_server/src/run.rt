@@ -38,7 +38,7 @@ pub fn run_rows<S: Source, K: Sink, E: Sink>(
         → IsReported 2 usage result (E.written err.old) (E.written err.new) (E.faults err.old) (E.faults err.new) }
     ensures untouched { registration_of words.now ≡ None → (client.new ≡ client.old) × (out.new ≡ out.old) }
     ensures served { IfSome (registration_of words.now) (λ registration. (answer : Result EndKind ServeError)
-        × IsServed registration built_in TURNS answer (S.left client.old) (K.written out.old) (K.written out.new)
+        × IsServed registration built_in TURNS answer (S.left client.old) (S.left client.new) (K.written out.old) (K.written out.new)
         (record { reads = S.reads client.old; read_faults = S.faults client.old; write_faults = K.faults out.old })
         (record { reads = S.reads client.new; read_faults = S.faults client.new; write_faults = K.faults out.new })
         × IsReported (status_of answer) (line_of answer) result (E.written err.old) (E.written err.new) (E.faults err.old) (E.faults err.new)) }
@@ -59,7 +59,7 @@ fn serve_built_in<S: Source, K: Sink>(
     client: &mut S,
     out: &mut K,
 ) -> Result<EndKind, ServeError>
-    ensures { IsServed (pid, key) built_in TURNS result (S.left client.old) (K.written out.old) (K.written out.new)
+    ensures { IsServed (pid, key) built_in TURNS result (S.left client.old) (S.left client.new) (K.written out.old) (K.written out.new)
         (record { reads = S.reads client.old; read_faults = S.faults client.old; write_faults = K.faults out.old })
         (record { reads = S.reads client.new; read_faults = S.faults client.new; write_faults = K.faults out.new }) }
 {

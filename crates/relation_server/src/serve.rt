@@ -1,27 +1,95 @@
-ghost use Rattle.std.specs.Prelude.{◌≡◌, ◌++◌, ◌+◌, ◌≤◌, List, IfOk, IsErrOf};
+ghost use Rattle.std.specs.Prelude.{◌≡◌, ◌++◌, ◌≤◌, ◌<◌, List, [], Result, length, true};
+ghost use Rattle.std.specs.Arc.{arc_value};
+ghost use Rattle.pg_messages.specs.Frames.{IsUnfinished};
 ghost use Rattle.pg_session.specs.declared.desk.DeskCall.{DeskCall};
-ghost use Rattle.pg_session.specs.Streams.{HasRisen};
-ghost use Rattle.relation_server.specs.Program.{OwesNoPoll, table_setting, IsServedRun};
+ghost use Rattle.pg_session.specs.Conversation.{Goes, first_state};
+ghost use Rattle.pg_session.specs.Run.{awaits};
+ghost use Rattle.pg_session.specs.Steps.{IsServed, setting_of};
+ghost use Rattle.relation_server.specs.Program.{OwesNoPoll, table_setting, WentSo, HasCause};
 
+use crate::handler::RelationHandler;
 use crate::table::RelationTable;
-use pg_session::{CancelDesk, EndKind, ServeError, Sink, Source};
+use pg_session::{CancelDesk, EndKind, FirstRows, Progress, ServeError, Session, Sink, Source, Turns};
 use std::alloc::Global;
+use std::sync::Arc;
 
-/// Serves the client bytes of a source.
+/// How many bytes a read asks for.
+const READ_LEN: usize = 8192;
+
+/// Serves a client over a table of relations: takes its bytes from the source, and writes the answer to the sink,
+/// until the conversation ends. A read that gives at least one byte or the end costs one turn.
+///
+/// ReadFault comes where a read failed, WriteFault where a write failed, TurnLimit where all turns were spent and
+/// one more read was needed, NoMemory where memory ran out.
 pub fn serve_relations_on<D: CancelDesk, S: Source, K: Sink>(
-    _alloc: Global,
-    _desk: &mut D,
-    _relations: &RelationTable,
-    _source: &mut S,
-    _sink: &mut K,
-    _turn_limit: u64,
+    alloc: Global,
+    desk: &mut D,
+    relations: &RelationTable,
+    source: &mut S,
+    sink: &mut K,
+    turn_limit: u64,
 ) -> Result<EndKind, ServeError>
-    requires { OwesNoPoll _relations.now }
-    ensures run { IfOk result (λ kind. (calls : List DeskCall) × (D.calls _desk.new ≡ D.calls _desk.old ++ calls)
-        × IsServedRun (table_setting _relations.now (D.registration _desk.old)) (S.left _source.old) (K.written _sink.old) (K.written _sink.new) calls kind) }
-    ensures read_fault { IsErrOf result ServeError.ReadFault → HasRisen (S.faults _source.old) (S.faults _source.new) }
-    ensures write_fault { IsErrOf result ServeError.WriteFault → HasRisen (K.faults _sink.old) (K.faults _sink.new) }
-    ensures turn_limit { IsErrOf result ServeError.TurnLimit → S.reads _source.old + _turn_limit ≤ S.reads _source.new }
+    requires { OwesNoPoll relations.now }
+
+    // The bytes written and the new calls are the conversation table's answer to the client's bytes, however cut.
+    ensures went { (calls : List DeskCall) × (D.calls desk.new ≡ D.calls desk.old ++ calls)
+        × WentSo (table_setting relations.now (D.registration desk.old)) result (S.left source.old) (S.left source.new)
+            (K.written sink.old) (K.written sink.new) calls }
+    ensures cause { HasCause result turn_limit
+        (record { reads = S.reads source.old; read_faults = S.faults source.old; write_faults = K.faults sink.old })
+        (record { reads = S.reads source.new; read_faults = S.faults source.new; write_faults = K.faults sink.new }) }
+    ensures same { D.registration desk.new ≡ D.registration desk.old }
 {
-    Err(ServeError::NoMemory)
+    let (pid, key) = desk.identity();
+    let Ok(handlers) = Arc::new(alloc, RelationHandler { relations }) else {
+        return Err(ServeError::NoMemory);
+    };
+    let mut session = Session::new(alloc, handlers, pid, key)?;
+    let mut turns = Turns {
+        spent: 0,
+        limit: turn_limit,
+    };
+    let mut buffer = [0u8; READ_LEN];
+    serve_session(alloc, &mut session, desk, source, sink, &mut turns, &mut buffer)
+}
+
+/// Feeds a session with what the source gives, until the conversation ends.
+fn serve_session<H: FirstRows + Drop, D: CancelDesk, S: Source, K: Sink>(
+    alloc: Global,
+    session: &mut Session<H>,
+    desk: &mut D,
+    source: &mut S,
+    sink: &mut K,
+    turns: &mut Turns,
+    buffer: &mut [u8],
+) -> Result<EndKind, ServeError>
+    requires open { session.old.opened ≡ true }
+    requires so_far { IsServed (setting_of (H.relation_of (arc_value session.old.host.handlers)) (H.rows_of (arc_value session.old.host.handlers)) session.old.host.pid session.old.host.key)
+        first_state [] session.old.dialog.rest.items (Goes session.old.dialog.state) (K.written sink.old) (K.written sink.old) [] [] (D.calls desk.old) (D.calls desk.old) }
+    requires short { IsUnfinished (awaits session.old.dialog.state) session.old.dialog.rest.items }
+    requires fresh { turns.old.spent ≡ 0 }
+    requires room { 0 < length buffer.old }
+    ensures went { (calls : List DeskCall) × (D.calls desk.new ≡ D.calls desk.old ++ calls)
+        × WentSo (setting_of (H.relation_of (arc_value session.old.host.handlers)) (H.rows_of (arc_value session.old.host.handlers)) session.old.host.pid session.old.host.key)
+            result (S.left source.old) (S.left source.new) (K.written sink.old) (K.written sink.new) calls }
+    ensures cause { HasCause result turns.old.limit
+        (record { reads = S.reads source.old; read_faults = S.faults source.old; write_faults = K.faults sink.old })
+        (record { reads = S.reads source.new; read_faults = S.faults source.new; write_faults = K.faults sink.new }) }
+    ensures same { D.registration desk.new ≡ D.registration desk.old }
+{
+    'turns: loop {
+        if !turns.spend() {
+            return Err(ServeError::TurnLimit);
+        }
+        let Ok(n) = source.receive(buffer) else {
+            return Err(ServeError::ReadFault);
+        };
+        if n == 0 {
+            return Ok(EndKind::InputEnd);
+        }
+        match session.feed(alloc, desk, &buffer[..n], sink, turns)? {
+            Progress::More => {}
+            Progress::Ended(kind) => return Ok(kind),
+        }
+    }
 }

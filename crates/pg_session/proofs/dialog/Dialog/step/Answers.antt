@@ -5,7 +5,8 @@ use Rattle.pg_session.specs.Run.{awaits}
 use Rattle.pg_session.specs.Conversation.{Goes, answer}
 use Rattle.pg_session.specs.Steps.{setting_of, next_of}
 use Rattle.pg_session.proofs.Conversations.{answer_awaits}
-use Rattle.pg_session.proofs.Stepping.{on_err_always, serves_none, serves_one, serves_flow, cut_none, cut_one, cut_served, stands_by, awaits_by}
+use Rattle.pg_session.proofs.BadFrames.{bad_more}
+use Rattle.pg_session.proofs.Stepping.{on_err_always, serves_none, serves_one, serves_flow, cut_none, cut_one, cut_served, stands_by, bad_is_no_end_of_input, awaits_by}
 use Rattle.pg_session.proofs.dialog.Dialog.step.Goals as goal
 
 pub returns-in-Ok-None-clause-served : goal.returns-in-Ok-None-clause-served
@@ -24,7 +25,7 @@ returns-in-Err-Bad-clause-served g c =
     let kept : c.decode.new.src.items ≡ text = c.in-Err-Bad.ensures.err in
     let bad : IsBad c.args.self.now.codec.context.awaiting_startup text = c.in-Err-Bad.ensures.bad (ap Err c.in-Err-Bad.field-0-is) in
     (Goes s, serves_none setting s text c.decode.new.src.items (g.K.Sink.written c.args.sink.now) c.args.self.now.outbox (g.D.CancelDesk.calls c.args.desk.now) kept,
-      subst (λ t. IsBad (awaits s) t) (sym kept) (subst (λ b. IsBad b text) c.requires.awaiting bad))
+      (bad_is_no_end_of_input, λ more. bad_more (awaits s) c.decode.new.src.items more (subst (λ t. IsBad (awaits s) t) (sym kept) (subst (λ b. IsBad b text) c.requires.awaiting bad))))
 
 pub returns-in-Err-NoMemory-clause-cut_off : goal.returns-in-Err-NoMemory-clause-cut_off
 returns-in-Err-NoMemory-clause-cut_off g c =
@@ -56,7 +57,7 @@ returns-clause-served g c =
     let served = serves_one setting s c.args.self.now.rest.items found.0 c.decode.new.src.items c.in-Ok-Some.message found.1
         (subst (λ b. IsFrame b found.0 c.in-Ok-Some.message) c.requires.awaiting found.2) (g.K.Sink.written c.args.sink.now) c.in_ok-end.ensures.answer in
     (next_of c.in_ok-end.end c.on_message.new.state, serves_flow (g.K.Sink.written c.flush_if_full.new.sink) c.flush_if_full.new.outbox served c.in_ok-flush_if_full.ensures.ok,
-      stands_by c.in_ok-end.end c.on_message.new.state c.decode.new.src.items c.ended_by.result c.ended_by.ensures)
+      stands_by c.in_ok-end.end c.on_message.new.state c.decode.new.src.items c.ended_by.result c.ended_by.ensures c.in_ok-end.ensures.ends)
 
 pub returns-clause-awaiting : goal.returns-clause-awaiting
 returns-clause-awaiting g c =
