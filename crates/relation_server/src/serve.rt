@@ -1,4 +1,4 @@
-ghost use Rattle.std.specs.Prelude.{◌≡◌, ◌++◌, ◌≤◌, ◌<◌, List, [], Result, length, true};
+ghost use Rattle.std.specs.Prelude.{◌≡◌, ◌++◌, ◌≤◌, ◌<◌, List, [], Result, length, take, true};
 ghost use Rattle.std.specs.Arc.{arc_value};
 ghost use Rattle.pg_messages.specs.Frames.{IsUnfinished};
 ghost use Rattle.pg_session.specs.declared.desk.DeskCall.{DeskCall};
@@ -44,7 +44,9 @@ pub fn serve_relations_on<D: CancelDesk, S: Source, K: Sink>(
     let Ok(handlers) = Arc::new(alloc, RelationHandler { relations }) else {
         return Err(ServeError::NoMemory);
     };
-    let mut session = Session::new(alloc, handlers, pid, key)?;
+    let Ok(mut session) = Session::new(alloc, handlers, pid, key) else {
+        return Err(ServeError::NoMemory);
+    };
     let mut turns = Turns {
         spent: 0,
         limit: turn_limit,
@@ -87,9 +89,18 @@ fn serve_session<H: FirstRows + Drop, D: CancelDesk, S: Source, K: Sink>(
         if n == 0 {
             return Ok(EndKind::InputEnd);
         }
-        match session.feed(alloc, desk, &buffer[..n], sink, turns)? {
-            Progress::More => {}
-            Progress::Ended(kind) => return Ok(kind),
+        match session.feed(alloc, desk, front_of(buffer, n), sink, turns) {
+            Ok(Progress::More) => {}
+            Ok(Progress::Ended(kind)) => return Ok(kind),
+            Err(error) => return Err(error),
         }
     }
+}
+
+/// The first bytes of a buffer.
+fn front_of(buffer: &[u8], n: usize) -> &[u8]
+    requires { n ≤ length buffer.now }
+    ensures { result.now ≡ take n buffer.now }
+{
+    &buffer[..n]
 }
