@@ -1,10 +1,10 @@
 -- What one message does to a session: the outbox and the registry's calls grow by its answer, and the state is the next one.
-use Rattle.std.specs.Prelude.{ℕ, ℤ, Bool, List, ◌++◌, ◌≡◌, ◌<◌, Option, Some, None}
+use Rattle.std.specs.Prelude.{ℕ, ℤ, Bool, true, false, List, ◌++◌, ◌≡◌, ◌<◌, Option, Some, None}
 use Rattle.std.specs.FinMap as fin
 use Rattle.pg_messages.specs.declared.backend.DataRow.{DataRow}
 use Rattle.pg_messages.specs.declared.frontend.PgWireFrontendMessage.{PgWireFrontendMessage}
 use Rattle.pg_messages.specs.declared.backend.PgWireBackendMessage.{PgWireBackendMessage}
-use Rattle.pg_messages.specs.Frames.{IsFrame, DividesInto}
+use Rattle.pg_messages.specs.Frames.{IsFrame, IsUnfinished, DividesInto}
 use Rattle.pg_messages.specs.Replies.{replies_bytes}
 use Rattle.pg_portal.specs.declared.portal.Statement.{Statement}
 use Rattle.pg_portal.specs.declared.portal.Portal.{Portal}
@@ -12,9 +12,11 @@ use Rattle.pg_portal.specs.declared.portal.Store.{Store}
 use Rattle.pg_session.specs.declared.state.SessionState.{SessionState}
 use Rattle.pg_session.specs.declared.desk.DeskCall.{DeskCall}
 use Rattle.pg_session.specs.declared.ends.EndKind.{EndKind}
+use Rattle.pg_session.specs.declared.ends.Progress.{Progress}
+use Rattle.pg_session.specs.declared.ends.Progress.TheVariants as progress
 use Rattle.pg_session.specs.Conversation.{Told, Setting, Answer, Next, Goes, Ends, answer}
-use Rattle.pg_session.specs.Streams.{BeginsWith, GrowsBy}
-use Rattle.pg_session.specs.Run.{awaits, conversation}
+use Rattle.pg_session.specs.Streams.{BeginsWith, GrowsBy, GrowsByFront}
+use Rattle.pg_session.specs.Run.{awaits, conversation, EndsWith}
 
 abbrev pub told_by : (List ℕ → Option ℕ) → (ℕ → List DataRow) → Told
 told_by relation_of rows_of = record { relation_of = relation_of; rows_of = rows_of }
@@ -75,3 +77,37 @@ pub record IsFed (setting : Setting) (s : SessionState) (text rest bytes : List 
   pub replied : (answers : List Bool) → bytes ≡ replies_bytes (conversation setting answers s messages).replies
   pub called : (answers : List Bool) → calls ≡ (conversation setting answers s messages).calls
   pub goes_on : (answers : List Bool) → (conversation setting answers s messages).next ≡ next
+
+-- A text was served as far as it goes: its frames were answered, the bytes went through the outbox, the calls were made.
+pub record IsServed (setting : Setting) (s : SessionState) (text rest : List ℕ) (next : Next) (written new_written : Option (List ℕ)) (out new_out : List ℕ) (calls new_calls : List DeskCall) : Type 0 where
+  pub bytes : List ℕ
+  pub called : List DeskCall
+  pub fed : IsFed setting s text rest bytes called next
+  pub flows : Flows written new_written out new_out bytes
+  pub grown : new_calls ≡ calls ++ called
+
+-- The serving of a text was cut off: the bytes that were written and the calls that were made are a front of the answer to its frames.
+pub record IsCutOff (setting : Setting) (s : SessionState) (text : List ℕ) (written new_written : Option (List ℕ)) (out : List ℕ) (calls new_calls : List DeskCall) : Type 0 where
+  pub rest : List ℕ
+  pub next : Next
+  pub bytes : List ℕ
+  pub called : List DeskCall
+  pub fed : IsFed setting s text rest bytes called next
+  pub cut : GrowsByFront written new_written (out ++ bytes)
+  pub grown : GrowsByFrontOf called calls new_calls
+
+-- Where the conversation stands after a piece: it goes on and no whole frame is left, or it has ended.
+abbrev pub Stands : Next → SessionState → List ℕ → Progress → Type 0
+Stands next s rest progress.More = (next ≡ Goes s) × IsUnfinished (awaits s) rest
+Stands next s rest (progress.Ended kind) = EndsWith next rest kind
+
+-- the same after a step: where it is no progress to report, a message was answered and the conversation goes on
+abbrev pub StandsAfterStep : Next → SessionState → List ℕ → Option Progress → Type 0
+StandsAfterStep next s rest None = next ≡ Goes s
+StandsAfterStep next s rest (Some told) = Stands next s rest told
+
+-- the session goes on after a step or a piece
+abbrev pub goes_on_after : Option Progress → Bool
+goes_on_after None = true
+goes_on_after (Some progress.More) = true
+goes_on_after (Some (progress.Ended kind)) = false

@@ -1,5 +1,8 @@
 ghost use Rattle.std.specs.Prelude.{◌≡◌, ◌+◌, ◌<◌, ◌↔◌, IsTrue};
 ghost use Rattle.std.specs.Bool.{OnTrue, OnFalse};
+ghost use Rattle.pg_session.specs.declared.ends.ServeError.TheVariants.{NoMemory};
+
+use std::alloc::AllocError;
 
 /// How a conversation ended.
 #[derive(Clone, Copy, Debug, PartialEq, Eq)]
@@ -23,6 +26,14 @@ pub enum ServeError {
     TurnLimit,
     /// Memory ran out.
     NoMemory,
+}
+
+impl From<AllocError> for ServeError {
+    ghost from_gives = { λ _ e. e ≡ NoMemory };
+
+    fn from(_error: AllocError) -> ServeError {
+        ServeError::NoMemory
+    }
 }
 
 /// Whether a session goes on after a piece of the input.

@@ -2,6 +2,7 @@
 #![tactic(auto)]
 
 mod desk;
+mod dialog;
 mod ends;
 mod host;
 mod outbox;

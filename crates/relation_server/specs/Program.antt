@@ -1,5 +1,5 @@
 -- What the server owes its client, and what the program tells of it: a status, and a line on its error output.
-use Rattle.std.specs.Prelude.{ℕ, ℤ, List, [], ◌++◌, ◌∷◌, ◌≡◌, ◌⊎◌, Option, Some, None, Result, Ok, Err, IfSome, codes}
+use Rattle.std.specs.Prelude.{ℕ, ℤ, List, [], ◌++◌, ◌∷◌, ◌+◌, ◌≤◌, ◌≡◌, ◌⊎◌, Option, Some, None, Result, Ok, Err, IfOk, IfSome, codes}
 use Rattle.std.specs.List.{AllByRecursion}
 use Rattle.pg_session.specs.declared.desk.DeskCall.{DeskCall}
 use Rattle.pg_session.specs.declared.ends.EndKind.{EndKind}
@@ -55,3 +55,28 @@ usage = line (codes "usage: relation_server PID KEY")
 abbrev pub IsReported : ℕ → List ℕ → ℕ → Option (List ℕ) → Option (List ℕ) → ℕ → ℕ → Type 0
 IsReported status text ended old new faults new_faults =
     (((ended ≡ status) × GrowsBy old new text) ⊎ ((ended ≡ status) × GrowsByFront old new text × HasRisen faults new_faults)) ⊎ ((ended ≡ 7) × GrowsByFront old new text)
+
+-- What was written has grown by the reply bytes of a run over the client's bytes, with these registry calls and this end.
+abbrev pub IsServedRun : Setting → Option (List ℕ) → Option (List ℕ) → Option (List ℕ) → List DeskCall → EndKind → Type 0
+IsServedRun setting left old new calls kind = IfSome left (λ text. IfSome old (λ before.
+    (replies : List ℕ) × (new ≡ Some (before ++ replies)) × IsRun setting text replies calls kind))
+
+-- where the counts of a source and of a sink stood at the start of a conversation, and where they stand after it
+pub record Counts : Type 0 where
+  pub reads : ℕ
+  pub read_faults : ℕ
+  pub write_faults : ℕ
+
+-- Why a conversation was given up: a fault only where its count has risen, and the turns only where as many reads gave a byte.
+abbrev pub HasCause : Result EndKind ServeError → ℕ → Counts → Counts → Type 0
+HasCause (Ok kind) turns old new = Unit {0}
+HasCause (Err ReadFault) turns old new = HasRisen old.read_faults new.read_faults
+HasCause (Err WriteFault) turns old new = HasRisen old.write_faults new.write_faults
+HasCause (Err TurnLimit) turns old new = old.reads + turns ≤ new.reads
+HasCause (Err NoMemory) turns old new = Unit {0}
+
+-- A conversation under this registration went so: it is a run where it came to an end, and has a cause where it was given up.
+pub record IsServed (registration : ℤ × List ℕ) (relations : List Relation) (turns : ℕ) (answer : Result EndKind ServeError) (left old new : Option (List ℕ)) (before after : Counts) : Type 0 where
+  pub calls : List DeskCall
+  pub run : IfOk answer (λ kind. IsServedRun (table_setting relations registration) left old new calls kind)
+  pub cause : HasCause answer turns before after

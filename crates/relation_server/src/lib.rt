@@ -6,6 +6,10 @@ mod built_in;
 mod handler;
 mod memory;
 mod report;
+mod run;
+#[cfg(test)]
+mod run_tests;
+mod serve;
 mod table;
 #[cfg(test)]
 mod tests;
@@ -15,5 +19,7 @@ pub use adapters::{ReaderSource, WriterSink};
 pub use built_in::built_in_table;
 pub use handler::RelationHandler;
 pub use memory::{MemorySink, MemorySource};
+pub use run::{TURNS, run_rows};
+pub use serve::serve_relations_on;
 pub use table::{Relation, RelationTable, TableError};
 pub use words::read_registration;

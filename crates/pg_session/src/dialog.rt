@@ -1,0 +1,117 @@
+ghost use Rattle.std.specs.Prelude.{◌≡◌, ◌≤◌, ◌<◌, [], ◌∷◌, ℕ, List, Bool, true, false, Option, Some, None, length, IsTrue, IfOk, IfNone, OnOk, OnErr, IsErrOf};
+ghost use Rattle.std.specs.Option.{option_map};
+ghost use Rattle.std.specs.Arc.{arc_value};
+ghost use Rattle.pg_session.specs.Conversation.{Next};
+ghost use Rattle.pg_session.specs.Run.{awaits};
+ghost use Rattle.pg_session.specs.Streams.{GrowsBy, GrowsByFront, HasRisen};
+ghost use Rattle.pg_session.specs.Steps.{Flows, IsGoodStore, IsServed, IsCutOff, StandsAfterStep, goes_on_after, setting_of};
+
+use crate::desk::CancelDesk;
+use crate::ends::{EndKind, Progress, ServeError};
+use crate::host::Host;
+use crate::outbox::{CHUNK, Outbox};
+use crate::rows::FirstRows;
+use crate::state::SessionState;
+use crate::streams::{Sink, SinkError};
+use bytes::BytesMut;
+use pg_messages::{FrameError, PgWireMessageServerCodec};
+use std::alloc::Global;
+
+/// What a session has of its client: the bytes that aren't answered yet, and the replies that wait.
+#[derive(Drop)]
+pub(crate) struct Dialog {
+    pub codec: PgWireMessageServerCodec,
+    pub rest: BytesMut,
+    pub outbox: Outbox,
+    pub state: SessionState,
+}
+
+/// Sends what waits in the outbox.
+fn flush<K: Sink>(outbox: &mut Outbox, sink: &mut K) -> Result<(), ServeError>
+    ensures empty { OnOk result (outbox.new ≡ []) }
+    ensures ok { OnOk result (GrowsBy (K.written sink.old) (K.written sink.new) outbox.old) }
+    ensures err { OnErr result (GrowsByFront (K.written sink.old) (K.written sink.new) outbox.old) }
+    ensures write_fault { IsErrOf result ServeError.WriteFault → HasRisen (K.faults sink.old) (K.faults sink.new) }
+    ensures no_read_fault { ¬ IsErrOf result ServeError.ReadFault }
+    ensures no_turn_limit { ¬ IsErrOf result ServeError.TurnLimit }
+    ensures never_falls { K.faults sink.old ≤ K.faults sink.new }
+{
+    if outbox.len() == 0 {
+        return Ok(());
+    }
+    match sink.send(outbox.as_slice()) {
+        Ok(()) => {
+            outbox.clear();
+            Ok(())
+        }
+        Err(SinkError::Failed) => Err(ServeError::WriteFault),
+        Err(SinkError::NoMemory) => Err(ServeError::NoMemory),
+    }
+}
+
+/// Sends what waits in the outbox where it is a chunk or more.
+fn flush_if_full<K: Sink>(outbox: &mut Outbox, sink: &mut K) -> Result<(), ServeError>
+    ensures ok { OnOk result (Flows (K.written sink.old) (K.written sink.new) outbox.old outbox.new []) }
+    ensures err { OnErr result (GrowsByFront (K.written sink.old) (K.written sink.new) outbox.old) }
+    ensures write_fault { IsErrOf result ServeError.WriteFault → HasRisen (K.faults sink.old) (K.faults sink.new) }
+    ensures no_read_fault { ¬ IsErrOf result ServeError.ReadFault }
+    ensures no_turn_limit { ¬ IsErrOf result ServeError.TurnLimit }
+    ensures never_falls { K.faults sink.old ≤ K.faults sink.new }
+{
+    if outbox.len() < CHUNK {
+        return Ok(());
+    }
+    flush(outbox, sink)
+}
+
+impl Dialog {
+    /// Takes the next message off the bytes and answers it. None says that the conversation goes on with
+    /// the next one.
+    fn step<H: FirstRows, D: CancelDesk, K: Sink>(
+        &mut self,
+        alloc: Global,
+        host: &Host<H>,
+        desk: &mut D,
+        sink: &mut K,
+    ) -> Result<Option<Progress>, ServeError>
+        requires awaiting { self.old.codec.context.awaiting_startup ≡ awaits self.old.state }
+        requires good { IsGoodStore (H.count (arc_value host.now.handlers)) self.old.state.store }
+        ensures served { IfOk result (λ step. (next : Next) × IsServed
+            (setting_of (H.relation_of (arc_value host.now.handlers)) (H.rows_of (arc_value host.now.handlers)) host.now.pid host.now.key)
+            self.old.state self.old.rest.items self.new.rest.items next (K.written sink.old) (K.written sink.new)
+            self.old.outbox self.new.outbox (D.calls desk.old) (D.calls desk.new)
+            × StandsAfterStep next self.new.state self.new.rest.items step) }
+        ensures cut_off { OnErr result (IsCutOff
+            (setting_of (H.relation_of (arc_value host.now.handlers)) (H.rows_of (arc_value host.now.handlers)) host.now.pid host.now.key)
+            self.old.state self.old.rest.items (K.written sink.old) (K.written sink.new) self.old.outbox
+            (D.calls desk.old) (D.calls desk.new)) }
+        ensures awaiting { IfOk result (λ step. IsTrue (goes_on_after step) → self.new.codec.context.awaiting_startup ≡ awaits self.new.state) }
+        ensures good { OnOk result (IsGoodStore (H.count (arc_value host.now.handlers)) self.new.state.store) }
+        ensures shorter { IfOk result (λ step. IfNone step (length self.new.rest.items < length self.old.rest.items)) }
+        ensures write_fault { IsErrOf result ServeError.WriteFault → HasRisen (K.faults sink.old) (K.faults sink.new) }
+        ensures no_read_fault { ¬ IsErrOf result ServeError.ReadFault }
+        ensures no_turn_limit { ¬ IsErrOf result ServeError.TurnLimit }
+        ensures never_falls { K.faults sink.old ≤ K.faults sink.new }
+        ensures same { D.registration desk.new ≡ D.registration desk.old }
+    {
+        let message = match self.codec.decode(alloc, &mut self.rest) {
+            Ok(Some(message)) => message,
+            Ok(None) => return Ok(Some(Progress::More)),
+            Err(FrameError::Bad) => return Ok(Some(Progress::Ended(EndKind::BadFrame))),
+            Err(FrameError::NoMemory) => return Err(ServeError::NoMemory),
+        };
+        let end = host.on_message(alloc, &mut self.state, &mut self.outbox, desk, message)?;
+        flush_if_full(&mut self.outbox, sink)?;
+        Ok(ended_by(end))
+    }
+}
+
+/// The progress that an end tells, if there is one.
+fn ended_by(end: Option<EndKind>) -> Option<Progress>
+    ensures { result ≡ option_map (λ kind. Progress.Ended kind) end }
+{
+    match end {
+        Some(kind) => Some(Progress::Ended(kind)),
+        None => None,
+    }
+}
