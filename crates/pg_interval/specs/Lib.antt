@@ -1,2 +1,5 @@
+pub mod Arithmetic
 pub mod Cell
+pub mod Duration
+pub mod ErrorText
 pub mod NormalForm

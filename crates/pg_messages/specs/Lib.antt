@@ -1,4 +1,6 @@
+pub mod Bodies
 pub mod Fields
 pub mod Frames
+pub mod Reading
 pub mod Replies
 pub mod Status

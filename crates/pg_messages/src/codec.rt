@@ -4,14 +4,18 @@ ghost use Rattle.pg_messages.specs.Replies.{IsEncodable, reply_bytes};
 ghost use Rattle.pg_messages.specs.declared.codec.ProtocolVersion.TheVariants.{PROTOCOL3_0};
 
 use crate::backend::PgWireBackendMessage;
+use crate::frames::first_frame;
 use crate::frontend::PgWireFrontendMessage;
+use crate::writing::{body_len, put_body, type_byte};
 use bytes::BytesMut;
 use std::alloc::{AllocError, Global};
 
 /// A version of the protocol that is spoken.
 #[derive(Clone, Copy, Debug, PartialEq, Eq)]
 pub enum ProtocolVersion {
+    /// Code 196608.
     PROTOCOL3_0,
+    /// Code 196610.
     PROTOCOL3_2,
 }
 
@@ -33,9 +37,21 @@ pub enum FrameError {
     NoMemory,
 }
 
+impl From<AllocError> for FrameError {
+    ghost use Rattle.std.specs.Prelude.{◌≡◌};
+    ghost use Rattle.pg_messages.specs.declared.codec.FrameError.TheVariants.{NoMemory};
+
+    ghost from_gives = { λ _ e. e ≡ NoMemory };
+
+    fn from(_e: AllocError) -> FrameError {
+        FrameError::NoMemory
+    }
+}
+
 /// Reads the frames of a client and writes the replies to it.
 #[derive(Drop)]
 pub struct PgWireMessageServerCodec {
+    /// What the reading of the next frame depends on.
     pub context: DecodeContext,
 }
 
@@ -53,8 +69,14 @@ impl PgWireMessageServerCodec {
         }
     }
 
-    /// Takes the first frame off the bytes, and tells its message. It answers None where the bytes hold
-    /// neither a whole frame nor a bad header. After None and after an error nothing has changed.
+    /// Takes the first frame off the bytes, and tells its message. While the startup packet is awaited a
+    /// frame is Int32 length, which counts itself, 8 to 10,000, and a body; afterwards Byte1 type, Int32
+    /// length, which counts itself and not the type byte, 4 to 1,048,576, and a body (protocol, "Message
+    /// Formats").
+    ///
+    /// None: the bytes hold neither a whole frame nor a bad header. `Bad`: a whole header has another
+    /// length or an unknown type byte, or a whole frame has a body that no message has. After None and
+    /// after an error nothing has changed. A startup packet ends the startup phase and sets the version.
     pub fn decode(
         &mut self,
         alloc: Global,
@@ -76,12 +98,18 @@ impl PgWireMessageServerCodec {
         ensures err { OnErr result (src.new.items ≡ src.old.items) }
         ensures err_context { OnErr result (self.new ≡ self.old) }
     {
-        let _ = src;
-        let _ = alloc;
-        Err(FrameError::NoMemory)
+        let found = first_frame(alloc, self.context.awaiting_startup, src.as_slice())?;
+        let Some((message, len)) = found else {
+            return Ok(None);
+        };
+        src.advance(len);
+        self.context = after(&message, self.context);
+        Ok(Some(message))
     }
 
-    /// Appends the bytes of a reply. After an error the bytes are as they were.
+    /// Appends the bytes of a reply: Byte1 type, Int32 length, which counts itself and not the type byte,
+    /// and the body (protocol, "Message Formats"). The room is made at once, so want of memory is the
+    /// only error, and after it the bytes are as they were.
     pub fn encode(
         &mut self,
         item: &PgWireBackendMessage,
@@ -92,8 +120,28 @@ impl PgWireMessageServerCodec {
         ensures err { OnErr result (dst.new.items ≡ dst.old.items) }
         ensures context { self.new ≡ self.old }
     {
-        let _ = item;
-        let _ = dst;
-        Err(AllocError)
+        let len = body_len(item);
+        dst.reserve(len + 5)?;
+        dst.extend_reserved(&[type_byte(item)]);
+        dst.extend_reserved(&(len as u32 + 4).to_be_bytes());
+        put_body(item, dst);
+        Ok(())
+    }
+}
+
+fn after(message: &PgWireFrontendMessage, context: DecodeContext) -> DecodeContext
+    ensures { result ≡ context_after message.now context }
+{
+    let PgWireFrontendMessage::Startup(startup) = message else {
+        return context;
+    };
+    let protocol = match startup.code {
+        196608 => ProtocolVersion::PROTOCOL3_0,
+        196610 => ProtocolVersion::PROTOCOL3_2,
+        _ => context.protocol,
+    };
+    DecodeContext {
+        awaiting_startup: false,
+        protocol,
     }
 }

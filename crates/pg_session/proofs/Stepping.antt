@@ -1,5 +1,5 @@
 -- One step of a session.
-use Rattle.std.proofs.Common.{◌≡◌, ℕ, Bool, true, false, cond, List, [], ◌∷◌, ◌++◌, Option, Some, None, Result, Ok, Err, OnOk, OnErr, IsTrue, refl, sym, ap, subst, ◌∙◌, append-nil}
+use Rattle.std.proofs.Common.{◌≡◌, ℕ, Bool, true, false, cond, List, [], ◌∷◌, ◌++◌, Option, Some, None, Result, Ok, Err, OnOk, OnErr, IsTrue, refl, sym, ap, subst, ◌∙◌, append-nil, append_assoc}
 use Rattle.pg_messages.specs.declared.frontend.PgWireFrontendMessage.{PgWireFrontendMessage}
 use Rattle.pg_messages.specs.declared.frontend.PgWireFrontendMessage.TheVariants as client
 use Rattle.pg_messages.specs.Frames.{IsFrame, context_after, awaits_startup_after}
@@ -20,8 +20,8 @@ use Rattle.std.specs.Option.{option_map}
 use Rattle.pg_session.specs.Run.{awaits}
 use Rattle.pg_session.specs.Streams.{GrowsByFront}
 use Rattle.pg_session.specs.Steps.{Flows, Appends, IsAnswered, IsFed, IsServed, IsCutOff, IsCarriedOut, GrowsByFrontOf, StandsAfterStep, next_of, goes_on_after}
-use Rattle.pg_session.proofs.Conversations.{IsFed-none, IsFed-one, answer_awaits}
-use Rattle.pg_session.proofs.Flowing.{Flows-none, Flows-wait, Flows-then, cut_at_once, cut_after, GrowsByFrontOf-none, GrowsByFrontOf-all}
+use Rattle.pg_session.proofs.Conversations.{IsFed-none, IsFed-one, IsFed-then, answer_awaits}
+use Rattle.pg_session.proofs.Flowing.{Flows-none, Flows-wait, Flows-then, cut_at_once, cut_after, GrowsByFront-then, GrowsByFrontOf-none, GrowsByFrontOf-all, GrowsByFrontOf-then}
 
 pub on_err_always : {T E P : Type 0} (r : Result T E) → P → OnErr r P
 on_err_always (Ok x) p = tt
@@ -144,3 +144,24 @@ awaits_by setting s t m k l (Some kind) step at after h goes going = absurd (no 
   where
     no : IsTrue false → ⊥
     no e = cc
+
+-- what was served, and then more
+pub serves_then : {setting : Setting} {s t : SessionState} {text mid rest : List ℕ} {next : Next} {w v u : Option (List ℕ)} {o p q : List ℕ} {k l m : List DeskCall}
+    → IsServed setting s text mid (Goes t) w v o p k l → IsServed setting t mid rest next v u p q l m → IsServed setting s text rest next w u o q k m
+serves_then {k = k} x y = record {
+    bytes = x.bytes ++ y.bytes; called = x.called ++ y.called; fed = IsFed-then x.fed y.fed; flows = Flows-then x.flows y.flows;
+    grown = y.grown ∙ ap (λ c. c ++ y.called) x.grown ∙ append_assoc k x.called y.called }
+
+pub serves_to : {setting : Setting} {s t : SessionState} {text rest : List ℕ} {next : Next} {w v : Option (List ℕ)} {o p : List ℕ} {k l : List DeskCall}
+    → next ≡ Goes t → IsServed setting s text rest next w v o p k l → IsServed setting s text rest (Goes t) w v o p k l
+serves_to {setting} {s} {t} {text} {rest} {next} {w} {v} {o} {p} {k} {l} e x = subst (λ n. IsServed setting s text rest n w v o p k l) e x
+
+-- what was served, and then a text whose serving was cut off
+pub cut_then : {setting : Setting} {s t : SessionState} {text mid : List ℕ} {w v u : Option (List ℕ)} {o p : List ℕ} {k l m : List DeskCall}
+    → IsServed setting s text mid (Goes t) w v o p k l → IsCutOff setting t mid v u p l m → IsCutOff setting s text w u o k m
+cut_then {w = w} {v = v} {u = u} {o = o} {p = p} {k = k} x y = record {
+    rest = y.rest; next = y.next; bytes = x.bytes ++ y.bytes; called = x.called ++ y.called; fed = IsFed-then x.fed y.fed;
+    cut = subst (λ b. GrowsByFront w u b)
+        (sym (append_assoc x.flows.sent p y.bytes) ∙ ap (λ b. b ++ y.bytes) x.flows.same ∙ append_assoc o x.bytes y.bytes)
+        (GrowsByFront-then w v u x.flows.sent (p ++ y.bytes) x.flows.grown y.cut);
+    grown = GrowsByFrontOf-then x.called k x.grown y.grown }

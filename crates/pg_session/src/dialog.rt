@@ -1,10 +1,10 @@
-ghost use Rattle.std.specs.Prelude.{◌≡◌, ◌≤◌, ◌<◌, [], ◌∷◌, ℕ, List, Bool, true, false, Option, Some, None, length, IsTrue, IfOk, IfNone, OnOk, OnErr, IsErrOf};
+ghost use Rattle.std.specs.Prelude.{◌≡◌, ◌≤◌, ◌<◌, ◌++◌, [], ℕ, List, Bool, true, false, Option, Some, None, length, IsTrue, IfOk, IfNone, OnOk, OnErr, IsErrOf};
 ghost use Rattle.std.specs.Option.{option_map};
 ghost use Rattle.std.specs.Arc.{arc_value};
 ghost use Rattle.pg_session.specs.Conversation.{Next};
 ghost use Rattle.pg_session.specs.Run.{awaits};
 ghost use Rattle.pg_session.specs.Streams.{GrowsBy, GrowsByFront, HasRisen};
-ghost use Rattle.pg_session.specs.Steps.{Flows, IsGoodStore, IsServed, IsCutOff, StandsAfterStep, goes_on_after, setting_of};
+ghost use Rattle.pg_session.specs.Steps.{Flows, IsGoodStore, IsServed, IsCutOff, Stands, StandsAfterStep, goes_on_after, setting_of};
 
 use crate::desk::CancelDesk;
 use crate::ends::{EndKind, Progress, ServeError};
@@ -103,6 +103,80 @@ impl Dialog {
         let end = host.on_message(alloc, &mut self.state, &mut self.outbox, desk, message)?;
         flush_if_full(&mut self.outbox, sink)?;
         Ok(ended_by(end))
+    }
+}
+
+impl Dialog {
+    /// Answers the whole frames of the bytes, and sends all that is answered.
+    fn run<H: FirstRows, D: CancelDesk, K: Sink>(
+        &mut self,
+        alloc: Global,
+        host: &Host<H>,
+        desk: &mut D,
+        sink: &mut K,
+    ) -> Result<Progress, ServeError>
+        requires awaiting { self.old.codec.context.awaiting_startup ≡ awaits self.old.state }
+        requires good { IsGoodStore (H.count (arc_value host.now.handlers)) self.old.state.store }
+        ensures served { IfOk result (λ told. (next : Next) × IsServed
+            (setting_of (H.relation_of (arc_value host.now.handlers)) (H.rows_of (arc_value host.now.handlers)) host.now.pid host.now.key)
+            self.old.state self.old.rest.items self.new.rest.items next (K.written sink.old) (K.written sink.new)
+            self.old.outbox [] (D.calls desk.old) (D.calls desk.new)
+            × Stands next self.new.state self.new.rest.items told) }
+        ensures cut_off { OnErr result (IsCutOff
+            (setting_of (H.relation_of (arc_value host.now.handlers)) (H.rows_of (arc_value host.now.handlers)) host.now.pid host.now.key)
+            self.old.state self.old.rest.items (K.written sink.old) (K.written sink.new) self.old.outbox
+            (D.calls desk.old) (D.calls desk.new)) }
+        ensures sent { OnOk result (self.new.outbox ≡ []) }
+        ensures awaiting { IfOk result (λ told. IsTrue (goes_on_after (Some told)) → self.new.codec.context.awaiting_startup ≡ awaits self.new.state) }
+        ensures good { OnOk result (IsGoodStore (H.count (arc_value host.now.handlers)) self.new.state.store) }
+        ensures write_fault { IsErrOf result ServeError.WriteFault → HasRisen (K.faults sink.old) (K.faults sink.new) }
+        ensures no_read_fault { ¬ IsErrOf result ServeError.ReadFault }
+        ensures no_turn_limit { ¬ IsErrOf result ServeError.TurnLimit }
+        ensures never_falls { K.faults sink.old ≤ K.faults sink.new }
+        ensures same { D.registration desk.new ≡ D.registration desk.old }
+    {
+        'messages: loop {
+            match self.step(alloc, host, desk, sink)? {
+                None => {}
+                Some(told) => {
+                    flush(&mut self.outbox, sink)?;
+                    return Ok(told);
+                }
+            }
+        }
+    }
+
+    /// Takes a piece of bytes, answers the whole frames, and sends all that is answered.
+    pub fn take<H: FirstRows, D: CancelDesk, K: Sink>(
+        &mut self,
+        alloc: Global,
+        host: &Host<H>,
+        desk: &mut D,
+        piece: &[u8],
+        sink: &mut K,
+    ) -> Result<Progress, ServeError>
+        requires awaiting { self.old.codec.context.awaiting_startup ≡ awaits self.old.state }
+        requires good { IsGoodStore (H.count (arc_value host.now.handlers)) self.old.state.store }
+        ensures served { IfOk result (λ told. (next : Next) × IsServed
+            (setting_of (H.relation_of (arc_value host.now.handlers)) (H.rows_of (arc_value host.now.handlers)) host.now.pid host.now.key)
+            self.old.state (self.old.rest.items ++ piece.now) self.new.rest.items next (K.written sink.old) (K.written sink.new)
+            self.old.outbox [] (D.calls desk.old) (D.calls desk.new)
+            × Stands next self.new.state self.new.rest.items told) }
+        ensures cut_off { OnErr result (IsCutOff
+            (setting_of (H.relation_of (arc_value host.now.handlers)) (H.rows_of (arc_value host.now.handlers)) host.now.pid host.now.key)
+            self.old.state (self.old.rest.items ++ piece.now) (K.written sink.old) (K.written sink.new) self.old.outbox
+            (D.calls desk.old) (D.calls desk.new)) }
+        ensures sent { OnOk result (self.new.outbox ≡ []) }
+        ensures awaiting { IfOk result (λ told. IsTrue (goes_on_after (Some told)) → self.new.codec.context.awaiting_startup ≡ awaits self.new.state) }
+        ensures good { OnOk result (IsGoodStore (H.count (arc_value host.now.handlers)) self.new.state.store) }
+        ensures write_fault { IsErrOf result ServeError.WriteFault → HasRisen (K.faults sink.old) (K.faults sink.new) }
+        ensures no_read_fault { ¬ IsErrOf result ServeError.ReadFault }
+        ensures no_turn_limit { ¬ IsErrOf result ServeError.TurnLimit }
+        ensures never_falls { K.faults sink.old ≤ K.faults sink.new }
+        ensures same { D.registration desk.new ≡ D.registration desk.old }
+    {
+        self.rest.extend_from_slice(piece)?;
+        self.run(alloc, host, desk, sink)
     }
 }
 

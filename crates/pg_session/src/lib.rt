@@ -10,6 +10,7 @@ mod query;
 mod replies;
 mod rows;
 mod rules;
+mod session;
 mod state;
 mod streams;
 
@@ -17,5 +18,6 @@ pub use desk::{CancelDesk, DeskCall, ScriptDesk};
 pub use ends::{EndKind, Progress, ServeError, Turns};
 pub use outbox::Outbox;
 pub use rows::FirstRows;
+pub use session::Session;
 pub use state::SessionState;
 pub use streams::{Sink, SinkError, Source, SourceFailed};

@@ -1,0 +1,4 @@
+pub mod Places
+pub mod Histories
+pub mod Indexing
+pub mod Noting

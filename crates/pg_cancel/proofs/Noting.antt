@@ -1,0 +1,299 @@
+-- Each call's answer is right, and the index follows the history.
+use Rattle.std.proofs.Common.{◌≡◌, ℕ, ◌<◌, ℤ, List, [], ◌∷◌, ◌++◌, length, get_or, slice_get, bytes_eq, Bool, IsTrue, nat_eq, ◌↔◌, cond, Option, Some, None, IsSome, FitsSigned, Result, Ok, Err, IfOk, ◌∙◌, refl, ap, sym, subst, arith}
+use Rattle.std.specs.Ordering.{int_cmp}
+use Rattle.std.specs.BTreeMap.{BTreeMap, get, is_at, WritesThrough}
+use Rattle.std.proofs.lemmas.Int.{to_z-of_z}
+use Rattle.std.proofs.Common.{to_z, of_z, w32}
+use mathlib.Core.Logic.{⊎_elim}
+use Rattle.pg_cancel.specs.declared.entries.Entry.{Entry}
+use Rattle.pg_cancel.specs.declared.entries.RegistryCall.{RegistryCall}
+use Rattle.pg_cancel.specs.declared.entries.RegistryCall.TheVariants.{Register, Start, Ask, Cancel, Unregister}
+use Rattle.pg_cancel.specs.declared.entries.RegistryAnswer.{RegistryAnswer}
+use Rattle.pg_cancel.specs.declared.entries.RegistryAnswer.TheVariants.{Registered, Taken, Done, Yes, No}
+use Rattle.std.specs.declared.alloc.AllocError.{AllocError}
+use Rattle.pg_cancel.specs.declared.holders.Holder.{Holder}
+use Rattle.pg_cancel.specs.declared.holders.Holders.{Holders}
+use Rattle.pg_cancel.specs.declared.holders.Query.{Query}
+use Rattle.pg_cancel.specs.declared.holders.Query.TheVariants.{Unstarted, Running, Canceled}
+use Rattle.pg_cancel.specs.LegalHistory.{IsRegisteredAt, IsLiveAs, IsLive, HasPid, IsTaken, IsConnected, IsLegal, IsAnswer}
+use Rattle.pg_cancel.specs.Index.{IsKeyOf, IsQuery, answer_of, canceled, Holds, IsEntryAt, Notes}
+use Rattle.pg_cancel.proofs.Histories.{Registers, Calls, registered_once, one_holder, live_within, start_within, live_keeps, live_was, live_new, live_ended}
+use Rattle.std.proofs.lemmas.Option.{get_or_from_slice_get}
+use Rattle.std.proofs.lemmas.Bool.Decides.{Decides-eqb}
+use Rattle.std.proofs.lemmas.Slice.Eq.{bytes_eq-Decides}
+use Rattle.pg_cancel.proofs.Places.{at_either, the_value, and_holds}
+use Rattle.pg_cancel.proofs.Indexing.{IsCanceled-from_query, not_canceled_unstarted, not_canceled_running, query_starts, query_canceled, Quiet, quiet_at, updated}
+
+-- the map is an index of the history
+abbrev pub Indexes : List Entry → BTreeMap ℤ Holder → Type 0
+Indexes h m = (q : ℤ) → IsEntryAt h q (get int_cmp m q)
+
+-- n is m with the holder at the pid
+abbrev pub Changes : BTreeMap ℤ Holder → BTreeMap ℤ Holder → ℤ → Option Holder → Type 0
+Changes m n pid w = (q : ℤ) → get int_cmp n q ≡ cond (is_at (int_cmp pid) q) w (get int_cmp m q)
+
+-- what the index has at a pid
+pub found : (h : List Entry) (m : BTreeMap ℤ Holder) (pid : ℤ) (holder : Holder) → Indexes h m → get int_cmp m pid ≡ Some holder → Holds h pid holder
+found h m pid holder index at = subst (λ o. IsEntryAt h pid o) at (index pid)
+
+pub missing : (h : List Entry) (m : BTreeMap ℤ Holder) (pid : ℤ) → Indexes h m → get int_cmp m pid ≡ None → IsTaken h pid → ⊥
+missing h m pid index at = subst (λ o. IsEntryAt h pid o) at (index pid)
+
+-- a number has one pid
+one_pid : (h : List Entry) (m n : ℕ) (p q : ℤ) (j k : List ℕ) → IsLiveAs h m p j → IsLiveAs h n q k → m ≡ n → q ≡ p
+one_pid h m n p q j k first second same =
+    (registered_once h n q p k j second.registered (subst (λ i. IsRegisteredAt h i p j) same first.registered)).0
+
+-- a holder's number is that of the live registration
+one_number : (h : List Entry) (number : ℕ) (pid : ℤ) (holder : Holder) → IsLegal h → HasPid h number pid → Holds h pid holder → holder.number ≡ number
+one_number h number pid holder legal live holds =
+    one_holder h holder.number number pid holds.key live.0 legal holds.live live.1
+
+-- an entry that is quiet at each pid leaves the index
+keeps_index : (h : List Entry) (e : Entry) (m : BTreeMap ℤ Holder) → ((q : ℤ) → Quiet h e q) → Indexes h m → Indexes (h ++ e ∷ []) m
+keeps_index h e m quiet index q = quiet_at h e q (get int_cmp m q) (quiet q) (index q)
+
+-- ---- Register
+
+pub notes_taken : (h : List Entry) (m : BTreeMap ℤ Holder) (pid : ℤ) (holder : Holder) → Indexes h m → get int_cmp m pid ≡ Some holder → (number : ℕ) (key : List ℕ) → Notes h number (Register pid key) (record { by_pid = m }) (Taken holder.number)
+notes_taken h m pid holder index at number key =
+    let holds = found h m pid holder index at in
+    let e : Entry = record { number = length h; call = Register pid key; answer = Taken holder.number } in
+    record {
+      told = (holds.key, holds.live);
+      noted = keeps_index h e m
+          (λ q. record {
+            registers = λ k r. let no : ◌≡◌ {A = RegistryAnswer} (Taken holder.number) Registered = r.1 in cc (no);
+            starts = λ n k l r. let no : ◌≡◌ {A = RegistryCall} (Register pid key) Start = r.1 in cc (no);
+            ends = λ n k l r. let no : ◌≡◌ {A = RegistryCall} (Register pid key) Unregister = r.1 in cc (no);
+            cancels = λ n k l r. let no : ◌≡◌ {A = RegistryCall} (Register pid key) (Cancel q k) = r in cc (no);
+          })
+          index;
+    }
+
+pub notes_registered : (h : List Entry) (m n : BTreeMap ℤ Holder) (pid : ℤ) → IsLegal h → Indexes h m → get int_cmp m pid ≡ None → Changes m n pid (Some (record { number = length h; query = Unstarted })) → (number : ℕ) (key : List ℕ) → Notes h number (Register pid key) (record { by_pid = n }) Registered
+notes_registered h m n pid legal index at changes number key =
+    let e : Entry = record { number = length h; call = Register pid key; answer = Registered } in
+    let holder : Holder = record { number = length h; query = Unstarted } in
+    let here : Holds (h ++ e ∷ []) pid holder = record {
+      key = key;
+      live = live_new h e pid key (refl, refl);
+      query = λ k called.
+          ⊎_elim
+          (λ old. let within : length h < length h = start_within h k (length h) legal old in absurd (omega arith))
+          (λ new. let no : ◌≡◌ {A = RegistryCall} (Register pid key) Start = new.1.1 in cc (no))
+          (at_either (Calls (length h) Start) h e k called);
+    } in
+    record {
+      told = missing h m pid index at;
+      noted = updated (IsEntryAt (h ++ e ∷ [])) m n pid (Some holder) changes here
+          (λ q apart. quiet_at h e q (get int_cmp m q) (record {
+            registers = λ k r. let same : ◌≡◌ {A = RegistryCall} (Register pid key) (Register q k) = r.0 in let pids : q ≡ pid = cc (same) in apart pids;
+            starts = λ i k l r. let no : ◌≡◌ {A = RegistryCall} (Register pid key) Start = r.1 in cc (no);
+            ends = λ i k l r. let no : ◌≡◌ {A = RegistryCall} (Register pid key) Unregister = r.1 in cc (no);
+            cancels = λ i k l r. let no : ◌≡◌ {A = RegistryCall} (Register pid key) (Cancel q k) = r in cc (no);
+          })
+          (index q));
+    }
+
+-- ---- Start
+
+pub notes_start : (h : List Entry) (m n : BTreeMap ℤ Holder) (number : ℕ) (pid : ℤ) (holder : Holder) → IsLegal h → Indexes h m → HasPid h number pid → get int_cmp m pid ≡ Some holder → Changes m n pid (Some (record { number = holder.number; query = Running })) → Notes h number Start (record { by_pid = n }) Done
+notes_start h m n number pid holder legal index live at changes =
+    let e : Entry = record { number = number; call = Start; answer = Done } in
+    let holds = found h m pid holder index at in
+    let same = one_number h number pid holder legal live holds in
+    let here : Holds (h ++ e ∷ []) pid (record { number = holder.number; query = Running }) = record {
+      key = holds.key;
+      live = live_keeps h e holder.number pid holds.key (λ r. let no : ◌≡◌ {A = RegistryCall} Start Unregister = r.1 in cc (no)) holds.live;
+      query = query_starts h e holder.number pid holds.key (sym same, refl);
+    } in
+    record {
+      told = tt;
+      noted = updated (IsEntryAt (h ++ e ∷ [])) m n pid (Some (record { number = holder.number; query = Running })) changes here
+          (λ q apart. quiet_at h e q (get int_cmp m q) (record {
+            registers = λ k r. let no : ◌≡◌ {A = RegistryCall} Start (Register q k) = r.0 in cc (no);
+            starts = λ i k l r. apart (one_pid h number i pid q live.0 k live.1 l r.0);
+            ends = λ i k l r. let no : ◌≡◌ {A = RegistryCall} Start Unregister = r.1 in cc (no);
+            cancels = λ i k l r. let no : ◌≡◌ {A = RegistryCall} Start (Cancel q k) = r in cc (no);
+          })
+          (index q));
+    }
+
+-- ---- Ask
+
+-- whether a query was canceled
+pub answer_is : (h : List Entry) (number : ℕ) (pid : ℤ) (key : List ℕ) (query : Query) → IsRegisteredAt h number pid key → IsQuery h number pid key query → IsAnswer h number Ask (answer_of query)
+answer_is h number pid key Unstarted registered q = not_canceled_unstarted h number pid key q
+answer_is h number pid key Running registered q = not_canceled_running h number pid key registered q
+answer_is h number pid key Canceled registered q = IsCanceled-from_query h number pid key registered q
+
+pub notes_asked : (h : List Entry) (m : BTreeMap ℤ Holder) (number : ℕ) (pid : ℤ) (holder : Holder) → IsLegal h → Indexes h m → HasPid h number pid → get int_cmp m pid ≡ Some holder → Notes h number Ask (record { by_pid = m }) (answer_of holder.query)
+notes_asked h m number pid holder legal index live at =
+    let e : Entry = record { number = number; call = Ask; answer = answer_of holder.query } in
+    let holds = found h m pid holder index at in
+    let same = one_number h number pid holder legal live holds in
+    let registered = subst (λ i. IsRegisteredAt h i pid holds.key) same holds.live.registered in
+    let query = subst (λ i. IsQuery h i pid holds.key holder.query) same holds.query in
+    record {
+      told = answer_is h number pid holds.key holder.query registered query;
+      noted = keeps_index h e m
+          (λ q. record {
+            registers = λ k r. let no : ◌≡◌ {A = RegistryCall} Ask (Register q k) = r.0 in cc (no);
+            starts = λ n k l r. let no : ◌≡◌ {A = RegistryCall} Ask Start = r.1 in cc (no);
+            ends = λ n k l r. let no : ◌≡◌ {A = RegistryCall} Ask Unregister = r.1 in cc (no);
+            cancels = λ n k l r. let no : ◌≡◌ {A = RegistryCall} Ask (Cancel q k) = r in cc (no);
+          })
+          index;
+    }
+
+-- ---- Cancel
+
+-- the key of n, which has the pid, is the key of n and the pid
+key_with_pid : (h : List Entry) (n : ℕ) (pid : ℤ) (j k : List ℕ) → IsRegisteredAt h n pid j → IsKeyOf h n k → IsRegisteredAt h n pid k
+key_with_pid h n pid j k registered key =
+    subst (λ p. IsRegisteredAt h n p k) (registered_once h n key.0 pid k j key.1 registered).0 key.1
+
+pub notes_canceled : (h : List Entry) (m n : BTreeMap ℤ Holder) (pid : ℤ) (key : List ℕ) (holder : Holder) → Indexes h m → get int_cmp m pid ≡ Some holder → IsKeyOf h holder.number key → Changes m n pid (Some (record { number = holder.number; query = canceled holder.query })) → (number : ℕ) → Notes h number (Cancel pid key) (record { by_pid = n }) Yes
+notes_canceled h m n pid key holder index at is_key changes number =
+    let e : Entry = record { number = number; call = Cancel pid key; answer = Yes } in
+    let holds = found h m pid holder index at in
+    let registered = key_with_pid h holder.number pid holds.key key holds.live.registered is_key in
+    let same : holds.key ≡ key = (registered_once h holder.number pid pid holds.key key holds.live.registered registered).1 in
+    let live : IsLiveAs h holder.number pid key = subst (λ k. IsLiveAs h holder.number pid k) same holds.live in
+    let query : IsQuery h holder.number pid key holder.query = subst (λ k. IsQuery h holder.number pid k holder.query) same holds.query in
+    let here : Holds (h ++ e ∷ []) pid (record { number = holder.number; query = canceled holder.query }) = record {
+      key = key;
+      live = live_keeps h e holder.number pid key (λ r. let no : ◌≡◌ {A = RegistryCall} (Cancel pid key) Unregister = r.1 in cc (no)) live;
+      query = query_canceled h e holder.number pid key holder.query refl query;
+    } in
+    record {
+      told = (holder.number, live);
+      noted = updated (IsEntryAt (h ++ e ∷ [])) m n pid (Some (record { number = holder.number; query = canceled holder.query })) changes here
+          (λ q apart. quiet_at h e q (get int_cmp m q) (record {
+            registers = λ k r. let no : ◌≡◌ {A = RegistryCall} (Cancel pid key) (Register q k) = r.0 in cc (no);
+            starts = λ i k l r. let no : ◌≡◌ {A = RegistryCall} (Cancel pid key) Start = r.1 in cc (no);
+            ends = λ i k l r. let no : ◌≡◌ {A = RegistryCall} (Cancel pid key) Unregister = r.1 in cc (no);
+            cancels = λ i k l r. let calls : ◌≡◌ {A = RegistryCall} (Cancel pid key) (Cancel q k) = r in let pids : q ≡ pid = cc (calls) in apart pids;
+          })
+          (index q));
+    }
+
+pub notes_unmet : (h : List Entry) (m : BTreeMap ℤ Holder) (pid : ℤ) (key : List ℕ) → Indexes h m → (IsConnected h pid key → ⊥) → (number : ℕ) → Notes h number (Cancel pid key) (record { by_pid = m }) No
+notes_unmet h m pid key index none number =
+    let e : Entry = record { number = number; call = Cancel pid key; answer = No } in
+    record {
+      told = none;
+      noted = keeps_index h e m
+          (λ q. record {
+            registers = λ k r. let no : ◌≡◌ {A = RegistryCall} (Cancel pid key) (Register q k) = r.0 in cc (no);
+            starts = λ i k l r. let no : ◌≡◌ {A = RegistryCall} (Cancel pid key) Start = r.1 in cc (no);
+            ends = λ i k l r. let no : ◌≡◌ {A = RegistryCall} (Cancel pid key) Unregister = r.1 in cc (no);
+            cancels = λ i k l r.
+                let calls : ◌≡◌ {A = RegistryCall} (Cancel pid key) (Cancel q k) = r in
+                let pids : q ≡ pid = cc (calls) in
+                let keys : k ≡ key = cc (calls) in
+                none (i, subst (λ p. IsLiveAs h i p key) pids (subst (λ x. IsLiveAs h i q x) keys l));
+          })
+          index;
+    }
+
+pub not_connected_free : (h : List Entry) (pid : ℤ) (key : List ℕ) → (IsTaken h pid → ⊥) → IsConnected h pid key → ⊥
+not_connected_free h pid key free connected = free (connected.0, (key, connected.1))
+
+pub not_connected_key : (h : List Entry) (m : BTreeMap ℤ Holder) (pid : ℤ) (key : List ℕ) (holder : Holder) → IsLegal h → Indexes h m → get int_cmp m pid ≡ Some holder → (IsKeyOf h holder.number key → ⊥) → IsConnected h pid key → ⊥
+not_connected_key h m pid key holder legal index at other connected =
+    let same = one_number h connected.0 pid holder legal (key, connected.1) (found h m pid holder index at) in
+    other (pid, subst (λ i. IsRegisteredAt h i pid key) (sym same) connected.1.registered)
+
+-- ---- Unregister
+
+pub notes_unregistered : (h : List Entry) (m n : BTreeMap ℤ Holder) (number : ℕ) (pid : ℤ) → IsLegal h → Indexes h m → HasPid h number pid → Changes m n pid None → Notes h number Unregister (record { by_pid = n }) Done
+notes_unregistered h m n number pid legal index live changes =
+    let e : Entry = record { number = number; call = Unregister; answer = Done } in
+    let free : IsTaken (h ++ e ∷ []) pid → ⊥ = λ taken.
+    ⊎_elim
+    (λ was.
+    let same : number ≡ taken.0 = one_holder h number taken.0 pid live.0 taken.1.0 legal live.1 was in
+    live_ended h e taken.0 pid taken.1.0 (live_within h taken.0 pid taken.1.0 was) (same, refl) taken.1.1)
+    (λ new. let no : ◌≡◌ {A = RegistryCall} Unregister (Register pid taken.1.0) = new.1.0 in cc (no))
+    (live_was h e taken.0 pid taken.1.0 taken.1.1) in
+    record {
+      told = tt;
+      noted = updated (IsEntryAt (h ++ e ∷ [])) m n pid None changes free
+          (λ q apart. quiet_at h e q (get int_cmp m q) (record {
+            registers = λ k r. let no : ◌≡◌ {A = RegistryCall} Unregister (Register q k) = r.0 in cc (no);
+            starts = λ i k l r. let no : ◌≡◌ {A = RegistryCall} Unregister Start = r.1 in cc (no);
+            ends = λ i k l r. apart (one_pid h number i pid q live.0 k live.1 l r.0);
+            cancels = λ i k l r. let no : ◌≡◌ {A = RegistryCall} Unregister (Cancel q k) = r in cc (no);
+          })
+          (index q));
+    }
+
+-- ---- what a map's calls at a signed key say
+
+-- a look-up at a signed key, whose clause names the key by its bits
+pub read_at : (m : BTreeMap ℤ Holder) (pid : ℤ) (o : Option Holder) → FitsSigned w32 pid → o ≡ get int_cmp m (to_z w32 (of_z w32 pid)) → get int_cmp m pid ≡ o
+read_at m pid o fits value =
+    sym (subst (λ p. o ≡ get int_cmp m p) (to_z-of_z w32 pid fits) value)
+
+pub written_at : (m n : BTreeMap ℤ Holder) (pid : ℤ) (w holder : Holder) → FitsSigned w32 pid → get int_cmp m pid ≡ Some holder → WritesThrough int_cmp (int_cmp (to_z w32 (of_z w32 pid))) m w n → Changes m n pid (Some w)
+written_at m n pid w holder fits at writes =
+    let here : WritesThrough int_cmp (int_cmp pid) m w n = subst (λ p. WritesThrough int_cmp (int_cmp p) m w n) (to_z-of_z w32 pid fits) writes in
+    let some : IsSome (get int_cmp m pid) = subst (λ o. IsSome o) (sym at) refl in
+    (here.3 some).0
+
+-- what a holder's value, written back as it was, leaves
+pub index_same : (h : List Entry) (m n : BTreeMap ℤ Holder) (pid : ℤ) (holder : Holder) → Indexes h m → get int_cmp m pid ≡ Some holder → Changes m n pid (Some holder) → Indexes h n
+index_same h m n pid holder index at changes =
+    updated (IsEntryAt h) m n pid (Some holder) changes (found h m pid holder index at) (λ q apart. index q)
+
+-- after `insert` and `remove`, whose clauses name the key by its bits
+pub changed_at : (m n : BTreeMap ℤ Holder) (pid : ℤ) (w : Option Holder) → FitsSigned w32 pid → Changes m n (to_z w32 (of_z w32 pid)) w → Changes m n pid w
+changed_at m n pid w fits changes =
+    subst (λ p. Changes m n p w) (to_z-of_z w32 pid fits) changes
+
+-- whether a live registration has the key, by the call that stands at its place
+pub key_matches : (h : List Entry) (n : ℕ) (d : Entry) (p pid : ℤ) (held k key : List ℕ) (r : Bool) → (get_or h n d).call ≡ Register p held → IsLiveAs h n pid k → r ≡ bytes_eq held key → IsTrue r ↔ IsKeyOf h n key
+key_matches h n d p pid held k key r is live tested =
+    let t = the_value (Registers pid k) (slice_get h n) live.registered in
+    let call : t.0.call ≡ Register p held = subst (λ (e : Entry). e.call ≡ Register p held) (get_or_from_slice_get h n t.0 d t.1) is in
+    let registered : IsRegisteredAt h n p held = and_holds (Registers p held) (slice_get h n) t.0 t.1 (call, t.2.1) in
+    let yes : IsTrue r → IsKeyOf h n key = λ true_is. (p, subst (λ x. IsRegisteredAt h n p x) ((bytes_eq-Decides held key).0 (sym tested ∙ true_is)) registered) in
+    let back : IsKeyOf h n key → IsTrue r = λ is_key. tested ∙ (bytes_eq-Decides held key).1 (registered_once h n p is_key.0 held key registered is_key.1).1 in
+    (yes, back)
+
+-- ---- whether a registration is live
+
+-- the pid of a live registration, by the call that stands at its place
+same_pid : (h : List Entry) (n : ℕ) (d : Entry) (pid p : ℤ) (key k : List ℕ) → (get_or h n d).call ≡ Register pid key → IsLiveAs h n p k → p ≡ pid
+same_pid h n d pid p key k is live =
+    let t = the_value (Registers p k) (slice_get h n) live.registered in
+    let read : get_or h n d ≡ t.0 = get_or_from_slice_get h n t.0 d t.1 in
+    let call : (get_or h n d).call ≡ Register p k = ap (λ (e : Entry). e.call) read ∙ t.2.0 in
+    let same : ◌≡◌ {A = RegistryCall} (Register p k) (Register pid key) = sym call ∙ is in
+    cc (same)
+
+pub live_by_holder : (h : List Entry) (m : BTreeMap ℤ Holder) (n : ℕ) (d : Entry) (pid : ℤ) (key : List ℕ) (holder : Holder) → IsLegal h → Indexes h m → (get_or h n d).call ≡ Register pid key → get int_cmp m pid ≡ Some holder → IsTrue (nat_eq holder.number n) ↔ IsLive h n
+live_by_holder h m n d pid key holder legal index is at =
+    let holds = found h m pid holder index at in
+    let yes : IsTrue (nat_eq holder.number n) → IsLive h n = λ true_is. subst (λ i. IsLive h i) ((Decides-eqb holder.number n).0 true_is) (pid, holds.key, holds.live) in
+    let back : IsLive h n → IsTrue (nat_eq holder.number n) = λ live.
+    let here : IsLiveAs h n pid live.1 = subst (λ p. IsLiveAs h n p live.1) (same_pid h n d pid live.0 key live.1 is live.2) live.2 in
+    (Decides-eqb holder.number n).1 (one_holder h holder.number n pid holds.key live.1 legal holds.live here) in
+    (yes, back)
+
+pub live_by_none : (h : List Entry) (m : BTreeMap ℤ Holder) (n : ℕ) (d : Entry) (pid : ℤ) (key : List ℕ) → Indexes h m → (get_or h n d).call ≡ Register pid key → get int_cmp m pid ≡ None → IsLive h n → ⊥
+live_by_none h m n d pid key index is at live =
+    let here : IsLiveAs h n pid live.1 = subst (λ p. IsLiveAs h n p live.1) (same_pid h n d pid live.0 key live.1 is live.2) live.2 in
+    missing h m pid index at (n, (live.1, here))
+
+-- the notes of a Register and of a Cancel, at the call that was made
+pub notes_as_register : (h : List Entry) (n : ℕ) (c : RegistryCall) (pid : ℤ) (key : List ℕ) (holders : Holders) (r : Result RegistryAnswer AllocError) → FitsSigned w32 pid → c ≡ Register pid key → IfOk r (λ a. (number : ℕ) (k : List ℕ) → Notes h number (Register (to_z w32 (of_z w32 pid)) k) holders a) → IfOk r (Notes h n c holders)
+notes_as_register h n c pid key holders (Ok a) fits same notes =
+    subst (λ d. Notes h n d holders a) (sym same) (subst (λ p. Notes h n (Register p key) holders a) (to_z-of_z w32 pid fits) (notes n key))
+notes_as_register h n c pid key holders (Err e) fits same notes = tt
+
+pub notes_as_cancel : (h : List Entry) (n : ℕ) (c : RegistryCall) (pid : ℤ) (key : List ℕ) (holders : Holders) (a : RegistryAnswer) → FitsSigned w32 pid → c ≡ Cancel pid key → ((number : ℕ) → Notes h number (Cancel (to_z w32 (of_z w32 pid)) key) holders a) → Notes h n c holders a
+notes_as_cancel h n c pid key holders a fits same notes =
+    subst (λ d. Notes h n d holders a) (sym same) (subst (λ p. Notes h n (Cancel p key) holders a) (to_z-of_z w32 pid fits) (notes n))

@@ -1,0 +1,2 @@
+pub mod LegalHistory
+pub mod Index

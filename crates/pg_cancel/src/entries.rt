@@ -1,0 +1,38 @@
+/// A call of the registry. Each but `Register` is made under the number of a live registration.
+#[derive(Clone, Copy, Debug, PartialEq, Eq)]
+pub enum RegistryCall {
+    /// Registers a connection's process id and secret key.
+    Register(i32, [u8; 4]),
+    /// The registration starts a query, for which no cancel has come yet.
+    Start,
+    /// Asks whether the query was canceled since it was started.
+    Ask,
+    /// Cancels the query of the live registration with this process id and secret key.
+    Cancel(i32, [u8; 4]),
+    /// Ends the registration.
+    Unregister,
+}
+
+/// What the registry answers.
+#[derive(Clone, Copy, Debug, PartialEq, Eq)]
+pub enum RegistryAnswer {
+    /// The registration stands, and its number is the place of this entry.
+    Registered,
+    /// The live registration at this place has the process id.
+    Taken(u64),
+    /// A `Start` or an `Unregister` was done.
+    Done,
+    /// To `Ask`: the query was canceled. To `Cancel`: there is such a registration.
+    Yes,
+    /// To `Ask`: the query was not canceled. To `Cancel`: there is no such registration.
+    No,
+}
+
+/// One entry of the history: the number under which the call was made, the call, and its answer. The number of a
+/// `Register` is the entry's own place, counted from 0.
+#[derive(Clone, Copy, Debug, PartialEq, Eq)]
+pub struct Entry {
+    pub number: u64,
+    pub call: RegistryCall,
+    pub answer: RegistryAnswer,
+}

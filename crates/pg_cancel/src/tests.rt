@@ -1,0 +1,144 @@
+use super::*;
+use std::alloc::Global;
+use std::process::Abort;
+use std::test::Fail;
+
+const A: [u8; 4] = [1, 2, 3, 4];
+
+const B: [u8; 4] = [5, 6, 7, 8];
+
+const C: [u8; 4] = [10, 11, 12, 13];
+
+const ZERO: [u8; 4] = [0, 0, 0, 0];
+
+/// Applies the call under a number that is live, or any where it registers.
+fn applied(
+    rt: &impl Abort,
+    registry: &mut Registry,
+    number: u64,
+    call: RegistryCall,
+) -> Result<RegistryAnswer, Fail> {
+    let registers = matches!(call, RegistryCall::Register(..));
+    assert!(rt; registers || registry.is_live(number), "{number} is live");
+    Ok(registry.apply(number, call)?)
+}
+
+/// Applies the calls in turn to a new registry, and compares the answers, and at last the entries.
+fn tell(
+    rt: &impl Abort,
+    alloc: Global,
+    steps: &[(u64, RegistryCall, RegistryAnswer)],
+) -> Result<(), Fail> {
+    let mut registry = Registry::new(alloc);
+    for (number, call, answer) in steps {
+        let place = registry.history().len();
+        assert_eq!(rt;
+            applied(rt, &mut registry, *number, *call)?,
+            *answer,
+            "at {place}"
+        );
+    }
+    assert_eq!(rt; registry.history().len(), steps.len());
+    for (place, entry) in registry.history().iter().enumerate() {
+        if place < steps.len() {
+            let (number, call, answer) = steps[place];
+            let number = if matches!(call, RegistryCall::Register(..)) {
+                place as u64
+            } else {
+                number
+            };
+            let wanted = Entry {
+                number,
+                call,
+                answer,
+            };
+            assert_eq!(rt; *entry, wanted, "at {place}");
+        }
+    }
+    Ok(())
+}
+
+#[test]
+fn registry_story(rt: HostRuntime) -> Result<(), Fail> {
+    use RegistryAnswer::*;
+    use RegistryCall::*;
+    tell(
+        &rt,
+        rt.alloc(),
+        &[
+            (0, Register(7, A), Registered),
+            (0, Register(7, B), Taken(0)),
+            (0, Register(8, C), Registered),
+            (0, Start, Done),
+            (0, Ask, No),
+            (2, Cancel(7, A), Yes),
+            (0, Ask, Yes),
+            (0, Start, Done),
+            (0, Ask, No),
+            (2, Cancel(7, ZERO), No),
+            (0, Unregister, Done),
+            (2, Cancel(7, A), No),
+            (0, Register(7, A), Registered),
+        ],
+    )
+}
+
+#[test]
+fn cancels_beside_the_story(rt: HostRuntime) -> Result<(), Fail> {
+    use RegistryAnswer::*;
+    use RegistryCall::*;
+    tell(
+        &rt,
+        rt.alloc(),
+        &[
+            (9, Register(7, A), Registered),
+            (9, Register(8, A), Registered),
+            // Before any start a cancel finds the registration, and cancels nothing.
+            (1, Cancel(7, A), Yes),
+            (0, Ask, No),
+            (0, Start, Done),
+            (0, Ask, No),
+            // The other pid, the other key.
+            (1, Cancel(7, B), No),
+            (1, Cancel(8, A), Yes),
+            (0, Ask, No),
+            // Twice, and by itself; a start then forgets both.
+            (1, Cancel(7, A), Yes),
+            (0, Cancel(7, A), Yes),
+            (0, Ask, Yes),
+            (0, Ask, Yes),
+            (1, Ask, No),
+            (0, Start, Done),
+            (0, Ask, No),
+            // A new holder of the pid knows nothing of the cancels of the old one.
+            (1, Cancel(7, A), Yes),
+            (0, Unregister, Done),
+            (0, Register(7, A), Registered),
+            (18, Ask, No),
+            (18, Start, Done),
+            (18, Ask, No),
+            (1, Register(7, B), Taken(18)),
+            (18, Cancel(7, A), Yes),
+            (18, Ask, Yes),
+        ],
+    )
+}
+
+#[test]
+fn t_index(rt: HostRuntime) -> Result<(), Fail> {
+    let mut registry = Registry::new(rt.alloc());
+    let first = applied(&rt, &mut registry, 0, RegistryCall::Register(7, A))?;
+    assert_eq!(rt; first, RegistryAnswer::Registered);
+    let started = applied(&rt, &mut registry, 0, RegistryCall::Start)?;
+    assert_eq!(rt; started, RegistryAnswer::Done);
+    for _ in 0..1_000_000 {
+        let answer = applied(&rt, &mut registry, 0, RegistryCall::Ask)?;
+        assert_eq!(rt; answer, RegistryAnswer::No);
+    }
+    for _ in 0..1_000_000 {
+        let answer = applied(&rt, &mut registry, 0, RegistryCall::Register(7, A))?;
+        assert_eq!(rt; answer, RegistryAnswer::Taken(0));
+    }
+    assert_eq!(rt; registry.history().len(), 2_000_002);
+    Ok(())
+}

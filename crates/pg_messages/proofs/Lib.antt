@@ -1,0 +1,8 @@
+pub mod Utf8
+pub mod Loops
+pub mod Laws
+pub mod FieldLaws
+pub mod MessageLaws
+pub mod FrameLaws
+pub mod OneReading
+pub mod NoZero

@@ -1,0 +1,104 @@
+-- Reading fields from left to right, as functions on lists: the value and the bytes after it, or None where
+-- no value stands there. They tie the private readers to the layouts; no public promise cites them.
+use Rattle.std.specs.Prelude.{◌≡◌, ℕ, ℤ, zero, suc, ◌+◌, ◌^◌, List, [], ◌∷◌, length, take, drop, Option, Some, None, option_and_then, Result, Ok, Err, nat_lt, ◌==◌, if◌then◌else◌}
+use Rattle.std.specs.List.{position}
+use Rattle.std.specs.Int.{Width, w16, w32, byte_len, from_be_bytes, cast_signed}
+use Rattle.std.specs.Option.{option_map_or}
+use Rattle.std.specs.Str.{is_utf8}
+use Rattle.pg_messages.specs.declared.codec.FrameError.{FrameError}
+use Rattle.pg_messages.specs.declared.codec.FrameError.TheVariants as errors
+use Rattle.pg_messages.specs.declared.frontend.Startup.{Startup}
+use Rattle.pg_messages.specs.declared.frontend.Parse.{Parse}
+use Rattle.pg_messages.specs.declared.frontend.Bind.{Bind}
+use Rattle.pg_messages.specs.declared.frontend.Execute.{Execute}
+
+-- What a call returned, seen by view, is what reading gives, unless memory ran out.
+abbrev pub Gives : {X Y : Type 0} → (X → Y) → Result X FrameError → Option Y → Type 0
+Gives view (Ok x) read = read ≡ Some (view x)
+Gives view (Err errors.Bad) read = read ≡ None
+Gives view (Err errors.NoMemory) read = Unit {0}
+
+infixl 10 ◌>>=◌
+abbrev pub ◌>>=◌ : {A B : Type 0} → Option A → (A → Option B) → Option B
+o >>= f = option_and_then f o
+
+-- one field, and another behind it
+abbrev pub both_at : {X Y : Type 0} → (List ℕ → Option (X × List ℕ)) → (List ℕ → Option (Y × List ℕ)) → List ℕ → Option ((X × Y) × List ℕ)
+both_at first second bytes = first bytes >>= λ x. second x.1 >>= λ y. Some ((x.0, y.0), y.1)
+
+-- a field seen as another value
+abbrev pub as_at : {X Y : Type 0} → (X → Y) → (List ℕ → Option (X × List ℕ)) → List ℕ → Option (Y × List ℕ)
+as_at f field bytes = field bytes >>= λ x. Some (f x.0, x.1)
+
+-- n fields of one kind
+abbrev pub items_at : {X : Type 0} → (List ℕ → Option (X × List ℕ)) → ℕ → List ℕ → Option (List X × List ℕ)
+items_at field zero bytes = Some ([], bytes)
+items_at field (suc n) bytes = field bytes >>= λ x. items_at field n x.1 >>= λ xs. Some (x.0 ∷ xs.0, xs.1)
+
+-- a field that is all of the bytes
+abbrev pub whole : {X : Type 0} → Option (X × List ℕ) → Option X
+whole read = read >>= λ x. if length x.1 == 0 then Some x.0 else None
+
+-- a number without a sign
+abbrev pub number_at : Width → List ℕ → Option (ℕ × List ℕ)
+number_at w bytes = if nat_lt (length bytes) (byte_len w) then None else Some (from_be_bytes w (take (byte_len w) bytes), drop (byte_len w) bytes)
+
+-- a number with a sign
+abbrev pub signed_at : Width → List ℕ → Option (ℤ × List ℕ)
+signed_at w bytes = as_at (cast_signed w) (number_at w) bytes
+
+-- Int16 of a count, which isn't negative
+unfoldable pub count_at : List ℕ → Option (ℕ × List ℕ)
+count_at bytes = number_at w16 bytes >>= λ n. if nat_lt n.0 (2 ^ 15) then Some n else None
+
+-- a count, and as many fields
+abbrev pub list_at : {X : Type 0} → (List ℕ → Option (X × List ℕ)) → List ℕ → Option (List X × List ℕ)
+list_at field bytes = count_at bytes >>= λ n. items_at field n.0 n.1
+
+-- a text up to its zero byte
+unfoldable pub string_at : List ℕ → Option (List ℕ × List ℕ)
+string_at bytes = position (λ byte. byte == 0) bytes >>= λ n. if is_utf8 (take n bytes) then Some (take n bytes, drop (n + 1) bytes) else None
+
+-- null, or as many bytes as a length told
+abbrev pub value_behind : ℕ × List ℕ → Option (Option (List ℕ) × List ℕ)
+value_behind n = if n.0 == 4294967295 then Some (None, n.1)
+    else (if nat_lt n.0 (2 ^ 31) then (if nat_lt (length n.1) n.0 then None else Some (Some (take n.0 n.1), drop n.0 n.1)) else None)
+
+-- a value behind its length, or null
+unfoldable pub value_at : List ℕ → Option (Option (List ℕ) × List ℕ)
+value_at bytes = number_at w32 bytes >>= value_behind
+
+-- what follows a zero byte, where one stands in front
+abbrev pub after_zero : List ℕ → Option (List ℕ)
+after_zero [] = None
+after_zero (zero ∷ rest) = Some rest
+after_zero (suc byte ∷ rest) = None
+
+-- pairs of texts up to a zero byte in the place of a name; fewer than n of them
+unfoldable pub parameters_at : ℕ → List ℕ → Option (List (List ℕ × List ℕ) × List ℕ)
+parameters_at zero bytes = None
+parameters_at (suc n) bytes = option_map_or (λ rest. Some ([], rest)) (after_zero bytes) (both_at string_at string_at bytes >>= λ x. parameters_at n x.1 >>= λ xs. Some (x.0 ∷ xs.0, xs.1))
+
+-- a pair takes two bytes at least, so there are fewer pairs than bytes
+abbrev pub all_parameters_at : List ℕ → Option (List (List ℕ × List ℕ) × List ℕ)
+all_parameters_at bytes = parameters_at (length bytes) bytes
+
+-- a version that is spoken
+abbrev pub spoken : ℕ × List ℕ → Option (ℕ × List ℕ)
+spoken n = if n.0 == 196608 then Some n else (if n.0 == 196610 then Some n else None)
+
+unfoldable pub version_at : List ℕ → Option (ℕ × List ℕ)
+version_at bytes = number_at w32 bytes >>= spoken
+
+unfoldable pub startup_at : List ℕ → Option (Startup × List ℕ)
+startup_at = as_at (λ x. record { code = x.0; parameters = x.1 }) (both_at version_at all_parameters_at)
+
+unfoldable pub parse_at : List ℕ → Option (Parse × List ℕ)
+parse_at = as_at (λ x. record { name = x.0.0; query = x.0.1; type_oids = x.1 }) (both_at (both_at string_at string_at) (list_at (number_at w32)))
+
+unfoldable pub bind_at : List ℕ → Option (Bind × List ℕ)
+bind_at = as_at (λ x. record { portal_name = x.0.0.0.0; statement_name = x.0.0.0.1; parameter_format_codes = x.0.0.1; parameters = x.0.1; result_column_format_codes = x.1 })
+    (both_at (both_at (both_at (both_at string_at string_at) (list_at (signed_at w16))) (list_at value_at)) (list_at (signed_at w16)))
+
+unfoldable pub execute_at : List ℕ → Option (Execute × List ℕ)
+execute_at = as_at (λ x. record { name = x.0; max_rows = x.1 }) (both_at string_at (signed_at w32))

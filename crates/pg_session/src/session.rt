@@ -1,0 +1,133 @@
+ghost use Rattle.std.specs.Prelude.{◌≡◌, ◌↔◌, true, [], IsTrue};
+ghost use Rattle.pg_session.specs.declared.ends.Progress.TheVariants.{More};
+ghost use Rattle.std.specs.Arc.{arc_value};
+ghost use Rattle.pg_session.specs.Run.{awaits};
+ghost use Rattle.pg_session.specs.Steps.{IsGoodStore};
+
+use crate::desk::CancelDesk;
+use crate::dialog::Dialog;
+use crate::ends::{Progress, ServeError, Turns};
+use crate::host::Host;
+use crate::outbox::Outbox;
+use crate::rows::FirstRows;
+use crate::state::SessionState;
+use crate::streams::Sink;
+use bytes::BytesMut;
+use pg_messages::{PgWireMessageServerCodec, TransactionStatus};
+use pg_portal::{Named, PgWireConnectionState, Store};
+use std::alloc::{AllocError, Global};
+use std::sync::Arc;
+
+/// The conversation with one client, fed with the client's bytes piece by piece.
+#[derive(Drop)]
+pub struct Session<H: FirstRows> {
+    host: Host<H>,
+    dialog: Dialog,
+    opened: bool,
+    ghost awaiting: { opened ≡ true → dialog.codec.context.awaiting_startup ≡ awaits dialog.state },
+    ghost good: { opened ≡ true → IsGoodStore (H.count (arc_value host.handlers)) dialog.state.store },
+    ghost sent: { opened ≡ true → dialog.outbox ≡ [] },
+}
+
+impl<H: FirstRows + Drop> Session<H> {
+    ghost use Rattle.std.specs.Prelude.{◌++◌, ◌≤◌, IfOk, OnOk, OnErr, IsErrOf};
+    ghost use Rattle.pg_session.specs.Conversation.{Next, first_state};
+    ghost use Rattle.pg_session.specs.Streams.{HasRisen};
+    ghost use Rattle.pg_session.specs.Steps.{IsServed, IsCutOff, Stands, setting_of};
+
+    /// A session that awaits the startup packet of a client, who is told this pid and key.
+    pub fn new(
+        alloc: Global,
+        handlers: Arc<H>,
+        pid: i32,
+        key: [u8; 4],
+    ) -> Result<Session<H>, AllocError>
+        ensures open { IfOk result (λ session. session.opened ≡ true) }
+        ensures state { IfOk result (λ session. session.dialog.state ≡ first_state) }
+        ensures rest { IfOk result (λ session. session.dialog.rest.items ≡ []) }
+        ensures handlers { IfOk result (λ session. session.host.handlers ≡ handlers) }
+        ensures pid { IfOk result (λ session. session.host.pid ≡ pid) }
+        ensures key { IfOk result (λ session. session.host.key ≡ key) }
+    {
+        let outbox = Outbox::new(alloc)?;
+        let store = Store {
+            statements: Named::new(alloc),
+            portals: Named::new(alloc),
+        };
+        let state = SessionState {
+            state: PgWireConnectionState::AwaitingStartup,
+            status: TransactionStatus::Idle,
+            store,
+        };
+        let dialog = Dialog {
+            codec: PgWireMessageServerCodec::new(),
+            rest: BytesMut::new(alloc),
+            outbox,
+            state,
+        };
+        let host = Host { handlers, pid, key };
+        Ok(Session {
+            host,
+            dialog,
+            opened: true,
+        })
+    }
+
+    /// Whether the session takes more bytes: until it ends or fails.
+    pub fn is_open(&self) -> bool
+        ensures { result ≡ self.now.opened }
+    {
+        self.opened
+    }
+
+    /// Takes a piece of the client's bytes, and writes the whole answer to the messages that it completes.
+    /// Ok(More) says that no whole frame is left, and Ok(Ended(kind)) that the conversation has ended, after
+    /// which the session is closed. So it is after an error: WriteFault where the sink failed, NoMemory where
+    /// memory ran out. No other error comes.
+    pub fn feed<D: CancelDesk, K: Sink>(
+        &mut self,
+        alloc: Global,
+        desk: &mut D,
+        piece: &[u8],
+        sink: &mut K,
+        turns: &mut Turns,
+    ) -> Result<Progress, ServeError>
+        requires { self.old.opened ≡ true }
+
+        // The frames of the rest and the piece are answered by the conversation table.
+        ensures served { IfOk result (λ told. (next : Next) × IsServed
+            (setting_of (H.relation_of (arc_value self.old.host.handlers)) (H.rows_of (arc_value self.old.host.handlers)) self.old.host.pid self.old.host.key)
+            self.old.dialog.state (self.old.dialog.rest.items ++ piece.now) self.new.dialog.rest.items next
+            (K.written sink.old) (K.written sink.new) [] [] (D.calls desk.old) (D.calls desk.new)
+            × Stands next self.new.dialog.state self.new.dialog.rest.items told) }
+        ensures cut_off { OnErr result (IsCutOff
+            (setting_of (H.relation_of (arc_value self.old.host.handlers)) (H.rows_of (arc_value self.old.host.handlers)) self.old.host.pid self.old.host.key)
+            self.old.dialog.state (self.old.dialog.rest.items ++ piece.now)
+            (K.written sink.old) (K.written sink.new) [] (D.calls desk.old) (D.calls desk.new)) }
+        ensures open { IsTrue self.new.opened ↔ (result ≡ Ok More) }
+        ensures host { self.new.host ≡ self.old.host }
+
+        // The cause of each error.
+        ensures write_fault { IsErrOf result ServeError.WriteFault → HasRisen (K.faults sink.old) (K.faults sink.new) }
+        ensures no_read_fault { ¬ IsErrOf result ServeError.ReadFault }
+        ensures no_turn_limit { ¬ IsErrOf result ServeError.TurnLimit }
+        ensures never_falls { K.faults sink.old ≤ K.faults sink.new }
+        ensures same { D.registration desk.new ≡ D.registration desk.old }
+        ensures turns { turns.new ≡ turns.old }
+    {
+        let _ = turns;
+        let outcome = self.dialog.take(alloc, &self.host, desk, piece, sink);
+        self.opened = is_more(&outcome);
+        outcome
+    }
+}
+
+/// Whether the session goes on.
+fn is_more(outcome: &Result<Progress, ServeError>) -> bool
+    ensures { IsTrue result ↔ (outcome.now ≡ Ok More) }
+{
+    match outcome {
+        Ok(Progress::More) => true,
+        _ => false,
+    }
+}
