@@ -1,5 +1,5 @@
 -- What the server owes its client, and what the program tells of it: a status, and a line on its error output.
-use Rattle.std.specs.Prelude.{ℕ, ℤ, List, [], ◌++◌, ◌∷◌, ◌+◌, ◌≤◌, ◌≡◌, ◌⊎◌, Option, Some, None, Result, Ok, Err, IfOk, IfSome, codes}
+use Rattle.std.specs.Prelude.{ℕ, ℤ, List, [], ◌++◌, ◌∷◌, ◌+◌, ◌≤◌, ◌≡◌, ◌⊎◌, Option, Some, None, Result, Ok, Err, IfOk, IfSome, min, codes}
 use Rattle.std.specs.List.{AllByRecursion}
 use Rattle.pg_session.specs.declared.desk.DeskCall.{DeskCall}
 use Rattle.pg_session.specs.declared.ends.EndKind.{EndKind}
@@ -9,7 +9,7 @@ use Rattle.pg_session.specs.declared.ends.ServeError.TheVariants.{ReadFault, Wri
 use Rattle.pg_session.specs.Conversation.{Setting}
 use Rattle.pg_session.specs.Run.{IsRun}
 use Rattle.pg_session.specs.Steps.{setting_of}
-use Rattle.pg_session.specs.Streams.{GrowsBy, GrowsByFront, HasRisen}
+use Rattle.pg_session.specs.Streams.{GrowsBy, GrowsByFront, HasRisen, greatest_count}
 use Rattle.relation_server.specs.declared.table.Relation.{Relation}
 use Rattle.relation_server.specs.Tables.{place_of}
 use Rattle.relation_server.specs.Rows.{binary_rows}
@@ -67,12 +67,16 @@ pub record Counts : Type 0 where
   pub read_faults : ℕ
   pub write_faults : ℕ
 
+-- So many reads gave a byte. A count at its end stands still.
+abbrev pub HasSpent : ℕ → ℕ → ℕ → Type 0
+HasSpent turns old new = min (old + turns) greatest_count ≤ new
+
 -- Why a conversation was given up: a fault only where its count has risen, and the turns only where as many reads gave a byte.
 abbrev pub HasCause : Result EndKind ServeError → ℕ → Counts → Counts → Type 0
 HasCause (Ok kind) turns old new = Unit {0}
 HasCause (Err ReadFault) turns old new = HasRisen old.read_faults new.read_faults
 HasCause (Err WriteFault) turns old new = HasRisen old.write_faults new.write_faults
-HasCause (Err TurnLimit) turns old new = old.reads + turns ≤ new.reads
+HasCause (Err TurnLimit) turns old new = HasSpent turns old.reads new.reads
 HasCause (Err NoMemory) turns old new = Unit {0}
 
 -- A conversation under this registration went so: it is a run where it came to an end, and has a cause where it was given up.
