@@ -1,5 +1,5 @@
 -- The relations that the server has built in.
-use Rattle.std.specs.Prelude.{ℕ, ℤ, pos, negsuc, List, [], ◌∷◌, codes}
+use Rattle.std.specs.Prelude.{ℤ, pos, negsuc, List, [], ◌∷◌, codes}
 use Rattle.pg_interval.specs.declared.pg_interval.Interval.{Interval}
 use Rattle.relation_server.specs.declared.table.Relation.{Relation}
 

@@ -1,5 +1,5 @@
 -- A source and a sink in memory, which cut and fail as they are told.
-use Rattle.std.specs.Prelude.{ℕ, Bool, List, [], ◌∷◌, ◌++◌, Option, Some, None, Result, Ok, Err, ◌≡◌, ◌+◌, ◌==◌, if◌then◌else◌, min, max, take, length, find, slice_get}
+use Rattle.std.specs.Prelude.{ℕ, Bool, List, ◌++◌, Option, Some, None, Result, Ok, Err, ◌≡◌, ◌+◌, ◌==◌, if◌then◌else◌, min, max, take, length, find, slice_get}
 use Rattle.std.specs.List.{list_any}
 use Rattle.pg_session.specs.declared.streams.SourceFailed.{SourceFailed}
 use Rattle.pg_session.specs.declared.streams.SinkError.{SinkError}

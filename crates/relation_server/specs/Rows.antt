@@ -1,5 +1,5 @@
 -- Rows of a relation as the protocol sends them (protocol: Message Formats, DataRow).
-use Rattle.std.specs.Prelude.{ℕ, ℤ, pos, List, [], Option, Some, None, ◌++◌, map, length, slice_get}
+use Rattle.std.specs.Prelude.{ℕ, pos, List, [], Option, Some, None, ◌++◌, map, length, slice_get}
 use Rattle.std.specs.List.{flat_map}
 use Rattle.pg_interval.specs.declared.pg_interval.Interval.{Interval}
 use Rattle.pg_interval.specs.Cell.{interval_cell}

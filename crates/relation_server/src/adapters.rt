@@ -23,7 +23,15 @@ impl<R: Read> Source for ReaderSource<R> {
 
     ghost faults = { λ s. s.faults };
 
-    fn receive(&mut self, into: &mut [u8]) -> Result<usize, SourceFailed> {
+    fn receive(&mut self, into: &mut [u8]) -> Result<usize, SourceFailed>
+        requires { 0 < length into.old }
+        // what is known of the reader's bytes goes on
+        ensures reader { ReadConsumes (R.remaining self.old.reader) (R.remaining self.new.reader) result into.new }
+        ensures fits { IfOk result (λ n. n ≤ length into.old) }
+        ensures counts { self.new.reads ≡ reads_after result self.old.reads }
+        ensures failed { OnErr result (HasRisen self.old.faults self.new.faults) }
+        ensures never_falls { self.old.faults ≤ self.new.faults }
+    {
         match self.reader.read(into) {
             Ok(n) => {
                 if n > 0 {

@@ -1,4 +1,4 @@
-use Rattle.std.proofs.Common.{◌≡◌, ◌<◌, ◌+◌, ℕ, Bool, List, Option, Some, None, length, take, drop, get_or, ◌∙◌, sym, ap, refl, arith}
+use Rattle.std.proofs.Common.{◌≡◌, ◌<◌, ◌+◌, ℕ, Bool, List, Option, Some, None, length, take, drop, ◌∙◌, sym, ap, refl, arith}
 use Rattle.std.specs.Option.{is_some, option_copied}
 use Rattle.std.specs.FinMap as map
 use Rattle.std.specs.Borrow.{Bor}

@@ -1,10 +1,9 @@
-use Rattle.std.proofs.Common.{◌≡◌, ◌≤◌, ◌<◌, ℕ, List, [], Some, refl, map, length, get_or, slice_get, ap, sym, subst, ◌∙◌, arith, ◌==◌, nat_le}
-use Rattle.std.specs.List.{position_from, list_all}
-use Rattle.std.specs.Str.{bytes_eq}
+use Rattle.std.proofs.Common.{◌≡◌, ◌≤◌, ◌<◌, ℕ, List, [], Some, refl, map, length, get_or, slice_get, ap, sym, subst, ◌∙◌, nat_le}
+use Rattle.std.specs.List.{list_all}
 use Rattle.std.proofs.lemmas.Result.{IfOk-weaker}
 use Rattle.pg_messages.specs.declared.backend.DataRow.{DataRow}
 use Rattle.relation_server.specs.declared.table.Relation.{Relation}
-use Rattle.relation_server.specs.Tables.{place_of, is_column_name, are_columns, are_even, IsValid}
+use Rattle.relation_server.specs.Tables.{is_column_name, IsValid}
 use Rattle.relation_server.specs.Rows.{binary_row, binary_rows, rows_of}
 use Rattle.relation_server.proofs.TableLemmas.{IsSound-at, IsSound}
 use Rattle.relation_server.proofs.RowLemmas.{and_left}

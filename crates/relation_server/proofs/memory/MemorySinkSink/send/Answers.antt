@@ -1,4 +1,4 @@
-use Rattle.std.proofs.Common.{◌≡◌, ℕ, List, Some, ◌++◌, take, drop, refl, sym, ap, ◌∙◌, arith, rules, take-append-drop}
+use Rattle.std.proofs.Common.{◌≡◌, Some, ◌++◌, take, drop, sym, ap, rules, take-append-drop}
 use Rattle.std.proofs.lemmas.Grind.{common_steps}
 use Rattle.relation_server.proofs.memory.MemorySinkSink.send.Goals as goal
 
