@@ -1,1 +1,3 @@
 pub mod CellLemmas
+mod TextsPrinted
+mod TextsRead

@@ -1,1 +1,10 @@
 pub mod Cell
+pub mod Decimals
+pub mod IsoText
+pub mod NormalForm
+pub mod Pairs
+pub mod PostgresText
+pub mod Printed
+pub mod Reading
+pub mod SqlText
+pub mod Texts
