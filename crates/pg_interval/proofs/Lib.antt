@@ -1,3 +1,5 @@
 pub mod CellLemmas
+pub mod NormalFormLemmas
+pub mod PrintedLemmas
 mod TextsPrinted
 mod TextsRead

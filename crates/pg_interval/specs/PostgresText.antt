@@ -9,20 +9,20 @@ use Rattle.pg_interval.specs.Pairs.{Pair, pair, decimal_pair, turned}
 -- the unit that a word names, in lower case
 abbrev pub unit_of_word : List ℕ → Option TimeUnit
 unit_of_word w =
-  if bytes_eq w (codes "year") || bytes_eq w (codes "years") then Some Year
-  else (if bytes_eq w (codes "mon") || bytes_eq w (codes "mons") || bytes_eq w (codes "months") then Some Month
-  else (if bytes_eq w (codes "day") || bytes_eq w (codes "days") then Some Day
-  else (if bytes_eq w (codes "hour") || bytes_eq w (codes "hours") then Some Hour
-  else (if bytes_eq w (codes "minute") || bytes_eq w (codes "minutes") then Some Minute
-  else (if bytes_eq w (codes "second") || bytes_eq w (codes "seconds") then Some Second
-  else None)))))
+    if bytes_eq w (codes "year") || bytes_eq w (codes "years") then Some Year
+    else (if bytes_eq w (codes "mon") || bytes_eq w (codes "mons") || bytes_eq w (codes "months") then Some Month
+    else (if bytes_eq w (codes "day") || bytes_eq w (codes "days") then Some Day
+    else (if bytes_eq w (codes "hour") || bytes_eq w (codes "hours") then Some Hour
+    else (if bytes_eq w (codes "minute") || bytes_eq w (codes "minutes") then Some Minute
+    else (if bytes_eq w (codes "second") || bytes_eq w (codes "seconds") then Some Second
+    else None)))))
 
 -- the verbose style has four words more
 abbrev pub unit_of_verbose_word : List ℕ → Option TimeUnit
 unit_of_verbose_word w =
-  if bytes_eq w (codes "min") || bytes_eq w (codes "mins") then Some Minute
-  else (if bytes_eq w (codes "sec") || bytes_eq w (codes "secs") then Some Second
-  else unit_of_word w)
+    if bytes_eq w (codes "min") || bytes_eq w (codes "mins") then Some Minute
+    else (if bytes_eq w (codes "sec") || bytes_eq w (codes "secs") then Some Second
+    else unit_of_word w)
 
 -- what a token is: a number, a word, a number with a word joined behind it, a time with the numbers in it, or none of these
 pub data Token : Type 0 where
