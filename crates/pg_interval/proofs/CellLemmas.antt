@@ -43,7 +43,7 @@ interval_cell-from_bytes i microseconds days months fits of_microseconds of_days
     rw (e, f, g) refl
 
 -- three equal numbers make equal intervals
-same_interval : (i j : Interval) → i.months ≡ j.months → i.days ≡ j.days → i.microseconds ≡ j.microseconds → i ≡ j
+pub same_interval : (i j : Interval) → i.months ≡ j.months → i.days ≡ j.days → i.microseconds ≡ j.microseconds → i ≡ j
 same_interval i j months days microseconds =
     let with_months : ℤ → Interval = λ m. record { months = m; days = i.days; microseconds = i.microseconds } in
     let with_days : ℤ → Interval = λ d. record { months = j.months; days = d; microseconds = i.microseconds } in

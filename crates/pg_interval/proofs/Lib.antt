@@ -1,5 +1,6 @@
 pub mod CellLemmas
 pub mod NormalFormLemmas
+pub mod OptionLemmas
 pub mod PrintedLemmas
 mod TextsPrinted
 mod TextsRead

@@ -1,3 +1,4 @@
+pub mod Arithmetic
 pub mod Cell
 pub mod Decimals
 pub mod IsoText

@@ -1,6 +1,13 @@
 // An interval of PostgreSQL: a number of months, of days and of microseconds.
 #![tactic(auto)]
 
+mod interval_fmt;
+mod interval_norm;
+mod interval_parse;
 mod pg_interval;
+mod pg_interval_add;
+mod pg_interval_sub;
 
+pub use interval_norm::IntervalNorm;
+pub use interval_parse::parse_error::{DecimalError, IntError, ParseError, Reason};
 pub use pg_interval::Interval;
