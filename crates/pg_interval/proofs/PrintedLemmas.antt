@@ -1,6 +1,6 @@
 -- What the words of a printed text are in each case.
 use Rattle.std.proofs.Common.{◌≡◌, ◌≢◌, ℕ, zero, suc, ℤ, pos, negsuc, ◌<◌, ◌≤◌, ◌+◌, ◌^◌, Bool, true, false, not, cond, ◌&&◌, ◌||◌, ◌↔◌, List, [], ◌∷◌, ◌++◌, length, ap, ◌∙◌, sym, refl, arith, lit<, map, subst, inl, inr, ◌⊎◌, ◌<ℤ◌, get_or}
-use mathlib.Core.List.{append_assoc, append-nil}
+use mathlib.Core.List.{append_assoc, append-nil, map-append}
 use Rattle.std.specs.Prelude.{unsigned_abs, decimal, codes, bytes_eq, IsTrue, All, Any, nat_lt, nat_eq, IfOk, if◌then◌else◌}
 use Rattle.std.specs.List.{join_with_byte}
 use Rattle.std.proofs.lemmas.Int.{to_z-of_z, ints}
@@ -11,7 +11,7 @@ use Rattle.std.proofs.lemmas.Slice.Eq.{bytes_eq-Decides}
 use Rattle.std.proofs.Math.Bool.{and-false}
 use Rattle.std.specs.Fmt.{digits}
 use Rattle.pg_interval.specs.NormalForm.{all_fields, time_fields}
-use Rattle.pg_interval.specs.Printed.{is_zero, is_all_zero, is_time_zero, is_year_month_zero, item_text, minus_if, digits_of, with_space, spaced, word_end, is_time_positive, is_time_negative}
+use Rattle.pg_interval.specs.Printed.{is_zero, is_all_zero, is_time_zero, is_year_month_zero, item_text, minus_if, digits_of, with_space, spaced, word_end, part_of, part_text, own_text, Part, time_texts, after_hours, two_digits, date_parts, postgres_text, is_time_positive, is_time_negative}
 use Rattle.pg_interval.specs.declared.interval_norm.IntervalNorm.{IntervalNorm}
 
 pub ruleset signed_passed = (to_z-of_z, append_assoc, append-nil)
@@ -199,11 +199,85 @@ pub spaced-append : (text : List ℕ) (ps qs : List (List ℕ)) → spaced text 
 spaced-append text [] qs = refl
 spaced-append text (p ∷ ps) qs = spaced-append (with_space text ++ p) ps qs
 
+join_merge : (a b : List ℕ) (ps : List (List ℕ)) → join_with_byte 32 ((a ++ 32 ∷ b) ∷ ps) ≡ join_with_byte 32 (a ∷ b ∷ ps)
+join_merge a b [] = refl
+join_merge a b (p ∷ ps) = simp append_assoc
+
 -- a text before the parts stays in front, where it isn't empty
 spaced_after : (c : ℕ) (cs : List ℕ) (ps : List (List ℕ)) → spaced (c ∷ cs) ps ≡ join_with_byte 32 ((c ∷ cs) ∷ ps)
 spaced_after c cs [] = refl
-spaced_after c cs (p ∷ ps) = ?
+spaced_after c cs (p ∷ ps) =
+    spaced_after c ((cs ++ 32 ∷ []) ++ p) ps
+    ∙ ap (λ t. join_with_byte 32 ((c ∷ t) ∷ ps)) (append_assoc cs (32 ∷ []) p)
+    ∙ join_merge (c ∷ cs) p ps
+
+IsFilled : List ℕ → Type 0
+IsFilled [] = ⊥
+IsFilled (c ∷ cs) = Unit {0}
+
+-- the first part, if there is one, isn't empty
+BeginsFilled : List (List ℕ) → Type 0
+BeginsFilled [] = Unit {0}
+BeginsFilled (p ∷ ps) = IsFilled p
+
+filled_left : (a b : List ℕ) → IsFilled a → IsFilled (a ++ b)
+unfolding IsFilled
+filled_left [] b h = elim h [ ]
+filled_left (c ∷ cs) b h = tt
+
+filled_right : (a b : List ℕ) → IsFilled b → IsFilled (a ++ b)
+unfolding IsFilled
+filled_right [] b h = h
+filled_right (c ∷ cs) b h = tt
+
+begins_filled : (ps qs : List (List ℕ)) → BeginsFilled ps → BeginsFilled qs → BeginsFilled (ps ++ qs)
+unfolding BeginsFilled
+begins_filled [] qs h k = k
+begins_filled (p ∷ ps) qs h k = h
+
+spaced_filled : (ps : List (List ℕ)) → BeginsFilled ps → spaced [] ps ≡ join_with_byte 32 ps
+unfolding BeginsFilled IsFilled
+spaced_filled [] h = refl
+spaced_filled ([] ∷ ps) h = elim h [ ]
+spaced_filled ((c ∷ cs) ∷ ps) h = spaced_after c cs ps
+
+part_filled : (z : ℤ) (name : List ℕ) → BeginsFilled (map own_text (part_of z name))
+unfolding BeginsFilled IsFilled part_of part_text
+part_filled z name = elim (is_zero z) as (λ b. BeginsFilled (map own_text (if b then [] else record { negative = is_negative z; digits = digits_of z; word = name } ∷ []))) [
+  | true ↦ tt
+  | false ↦ filled_left _ (word_end _) (filled_right (minus_if (is_negative z) ++ digits_of z) (32 ∷ name) tt)
+]
+
+time_filled : (n : IntervalNorm) → BeginsFilled (time_texts n)
+unfolding BeginsFilled IsFilled time_texts after_hours
+time_filled n = elim (is_time_zero n) as (λ b. BeginsFilled (if b then [] else (minus_if (is_time_negative n) ++ two_digits n.hours ++ after_hours n) ∷ [])) [
+  | true ↦ tt
+  | false ↦ filled_right (minus_if (is_time_negative n) ++ two_digits n.hours) (after_hours n) tt
+]
+
+map_three : (ps qs rs : List Part) → map own_text (ps ++ qs ++ rs) ≡ map own_text ps ++ map own_text qs ++ map own_text rs
+map_three ps qs rs = simp map-append
+
+-- the parts of a text, one behind another
+pub parts_joined : (n : IntervalNorm) → spaced (spaced (spaced (spaced [] (map own_text (part_of n.years (codes "year")))) (map own_text (part_of n.months (codes "mon")))) (map own_text (part_of n.days (codes "day")))) (time_texts n) ≡ join_with_byte 32 (map own_text (date_parts n) ++ time_texts n)
+unfolding date_parts
+parts_joined n =
+    let y : List (List ℕ) = map own_text (part_of n.years (codes "year")) in
+    let m : List (List ℕ) = map own_text (part_of n.months (codes "mon")) in
+    let d : List (List ℕ) = map own_text (part_of n.days (codes "day")) in
+    let filled : BeginsFilled (((y ++ m) ++ d) ++ time_texts n) = begins_filled ((y ++ m) ++ d) (time_texts n) (begins_filled (y ++ m) d (begins_filled y m (part_filled n.years (codes "year")) (part_filled n.months (codes "mon"))) (part_filled n.days (codes "day"))) (time_filled n) in
+    sym (spaced-append [] ((y ++ m) ++ d) (time_texts n) ∙ ap (λ t. spaced t (time_texts n)) (spaced-append [] (y ++ m) d ∙ ap (λ t. spaced t d) (spaced-append [] y m)))
+    ∙ spaced_filled (((y ++ m) ++ d) ++ time_texts n) filled
+    ∙ ap (λ ps. join_with_byte 32 (ps ++ time_texts n)) (sym (map_three (part_of n.years (codes "year")) (part_of n.months (codes "mon")) (part_of n.days (codes "day"))))
+
+-- what one part after another leaves
+pub postgres_printed : (n : IntervalNorm) (t0 t1 t2 t3 t4 : List ℕ) (y m d : ℤ) → y ≡ n.years → m ≡ n.months → d ≡ n.days → is_all_zero n ≡ false → t0 ≡ [] → t1 ≡ spaced t0 (map own_text (part_of y (codes "year"))) → t2 ≡ spaced t1 (map own_text (part_of m (codes "mon"))) → t3 ≡ spaced t2 (map own_text (part_of d (codes "day"))) → t4 ≡ spaced t3 (time_texts n) → t4 ≡ postgres_text n
+unfolding postgres_text
+postgres_printed n t0 t1 t2 t3 t4 y m d ey em ed some e0 e1 e2 e3 e4 =
+    rw (e4, e3, e2, e1, e0, ey, em, ed, some) (parts_joined n)
 
 pub ruleset second_words = (word_end_point, signed_passed)
-pub ruleset spaced_joined = (spaced-append)
+
+pub ruleset spaced_joined = (parts_joined)
+
 pub ruleset verbose_joined = (append_assoc)

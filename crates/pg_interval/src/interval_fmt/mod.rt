@@ -1,6 +1,6 @@
 // The four styles in which PostgreSQL prints an interval (`intervalstyle`).
 ghost use Rattle.std.specs.Prelude.{◌≡◌, ◌+◌, ◌++◌, ◌∷◌, [], ◌<◌, OnOk, IfOk, string_bytes, decimal, not};
-ghost use Rattle.pg_interval.specs.NormalForm.{IsNormal};
+ghost use Rattle.pg_interval.specs.NormalForm.{normal_form, IsNormal};
 ghost use Rattle.pg_interval.specs.Printed.{is_all_zero, is_year_month_zero, is_zero, is_time_zero, is_time_positive, is_time_negative, minus_if, two_digits_of, six_digits, fraction_of, after_hours, printed};
 ghost use Rattle.pg_interval.specs.Reading.{Postgres, PostgresVerbose, Iso8601, SqlStandard};
 
@@ -23,28 +23,36 @@ impl Interval {
     pub fn to_postgres(&self, alloc: Global) -> Result<String, AllocError>
         ensures printed { IfOk result (λ text. string_bytes text ≡ printed Postgres self.now) }
     {
-        IntervalNorm::from(self).into_postgres(alloc)
+        self.in_normal_form().into_postgres(alloc)
     }
 
     /// The text in the style `postgres_verbose`, as `@ 1 year 2 mons 3 days 4 hours 5 mins 6.7 secs`.
     pub fn to_postgres_verbose(&self, alloc: Global) -> Result<String, AllocError>
         ensures printed { IfOk result (λ text. string_bytes text ≡ printed PostgresVerbose self.now) }
     {
-        IntervalNorm::from(self).into_postgres_verbose(alloc)
+        self.in_normal_form().into_postgres_verbose(alloc)
     }
 
     /// The text in the style `iso_8601`, as `P1Y2M3DT4H5M6.700000S`.
     pub fn to_iso_8601(&self, alloc: Global) -> Result<String, AllocError>
         ensures printed { IfOk result (λ text. string_bytes text ≡ printed Iso8601 self.now) }
     {
-        IntervalNorm::from(self).into_iso_8601(alloc)
+        self.in_normal_form().into_iso_8601(alloc)
     }
 
     /// The text in the style `sql_standard`, as `+1-2 +3 +4:05:06.700000`.
     pub fn to_sql(&self, alloc: Global) -> Result<String, AllocError>
         ensures printed { IfOk result (λ text. string_bytes text ≡ printed SqlStandard self.now) }
     {
-        IntervalNorm::from(self).into_sql(alloc)
+        self.in_normal_form().into_sql(alloc)
+    }
+
+    /// The interval's normal form.
+    fn in_normal_form(self) -> IntervalNorm
+        ensures form { result ≡ normal_form self }
+        ensures normal { IsNormal result }
+    {
+        IntervalNorm::from(&self)
     }
 }
 
