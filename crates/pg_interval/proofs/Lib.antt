@@ -1,4 +1,5 @@
 pub mod CellLemmas
+pub mod DecimalsLemmas
 pub mod NormalFormLemmas
 pub mod OptionLemmas
 pub mod PrintedLemmas

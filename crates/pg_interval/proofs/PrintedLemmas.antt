@@ -1,7 +1,9 @@
 -- What the words of a printed text are in each case.
-use Rattle.std.proofs.Common.{◌≡◌, ◌≢◌, ℕ, zero, suc, ℤ, pos, negsuc, ◌<◌, ◌≤◌, ◌+◌, ◌^◌, Bool, true, false, not, cond, ◌&&◌, ◌||◌, ◌↔◌, List, [], ◌∷◌, ◌++◌, length, ap, ◌∙◌, sym, refl, arith, lit<, map, subst, inl, inr, ◌⊎◌, ◌<ℤ◌, get_or}
+use Rattle.std.proofs.Common.{◌≡◌, ◌≢◌, ℕ, zero, suc, ℤ, pos, negsuc, ◌<◌, ◌≤◌, ◌+◌, ◌^◌, Bool, true, false, not, cond, ◌&&◌, ◌||◌, ◌↔◌, List, [], ◌∷◌, ◌++◌, length, ap, ◌∙◌, sym, refl, arith, lit<, map, subst, inl, inr, ◌⊎◌, ◌<ℤ◌, get_or, FitsSigned, w32, w64, to_z, of_z}
+use Rattle.std.specs.Int.Signed.{mag}
 use mathlib.Core.List.{append_assoc, append-nil, map-append}
-use Rattle.std.specs.Prelude.{unsigned_abs, decimal, codes, bytes_eq, IsTrue, All, Any, nat_lt, nat_eq, IfOk, if◌then◌else◌}
+use Rattle.std.proofs.lemmas.Grind.{flat_map-append}
+use Rattle.std.specs.Prelude.{unsigned_abs, decimal, codes, bytes_eq, flat_map, IsTrue, All, Any, nat_lt, nat_eq, IfOk, if◌then◌else◌}
 use Rattle.std.specs.List.{join_with_byte}
 use Rattle.std.proofs.lemmas.Int.{to_z-of_z, ints}
 use Rattle.std.proofs.lemmas.List.Elements.{All-cons, All-nil}
@@ -11,7 +13,7 @@ use Rattle.std.proofs.lemmas.Slice.Eq.{bytes_eq-Decides}
 use Rattle.std.proofs.Math.Bool.{and-false}
 use Rattle.std.specs.Fmt.{digits}
 use Rattle.pg_interval.specs.NormalForm.{all_fields, time_fields}
-use Rattle.pg_interval.specs.Printed.{is_zero, is_all_zero, is_time_zero, is_year_month_zero, item_text, minus_if, digits_of, with_space, spaced, word_end, part_of, part_text, own_text, Part, time_texts, after_hours, two_digits, date_parts, postgres_text, is_time_positive, is_time_negative}
+use Rattle.pg_interval.specs.Printed.{is_zero, is_all_zero, is_time_zero, is_year_month_zero, item_text, minus_if, digits_of, with_space, spaced, word_end, part_of, part_text, own_text, Part, time_texts, after_hours, two_digits, date_parts, postgres_text, verbose_time_parts, verbose_part_text, second_parts, is_second_zero, is_second_negative, is_ago, is_time_positive, is_time_negative}
 use Rattle.pg_interval.specs.declared.interval_norm.IntervalNorm.{IntervalNorm}
 
 pub ruleset signed_passed = (to_z-of_z, append_assoc, append-nil)
@@ -276,8 +278,33 @@ unfolding postgres_text
 postgres_printed n t0 t1 t2 t3 t4 y m d ey em ed some e0 e1 e2 e3 e4 =
     rw (e4, e3, e2, e1, e0, ey, em, ed, some) (parts_joined n)
 
+not_negative : (z : ℤ) → is_zero z ≡ true → is_negative z ≡ false
+not_negative z h = ap is_negative (zero_is_zero z h)
+
+second_ago : (n : IntervalNorm) (b : Bool) → is_second_zero n ≡ b → is_ago (second_parts n) ≡ is_second_negative n
+unfolding second_parts is_second_zero
+second_ago n true h = rw (h, not_negative n.seconds (and_left _ _ h), not_negative n.microseconds (and_right (is_zero n.seconds) _ h)) refl
+second_ago n false h = rw h refl
+
+-- without hours and minutes the seconds come first
+pub seconds_ago : (n : IntervalNorm) → unsigned_abs n.hours ≡ 0 → unsigned_abs n.minutes ≡ 0 → is_ago (verbose_time_parts n) ≡ is_second_negative n
+unfolding verbose_time_parts part_of
+seconds_ago n hours minutes = rw (is_zero_yes n.hours hours, is_zero_yes n.minutes minutes) (second_ago n (is_second_zero n) refl)
+
 pub ruleset second_words = (word_end_point, signed_passed)
 
 pub ruleset spaced_joined = (parts_joined)
 
 pub ruleset verbose_joined = (append_assoc)
+
+-- an i32 fits an i64
+pub fits_wider : (z : ℤ) → FitsSigned w32 z → FitsSigned w64 z
+fits_wider z h = let small : mag z < 2 ^ 31 = h.sfits in record { sfits = omega arith }
+
+pub dates_printed : (ago : Bool) (n : IntervalNorm) (t0 t1 t2 t3 : List ℕ) (y m d : ℤ) → t1 ≡ t0 ++ flat_map (verbose_part_text ago) (part_of y (codes "year")) → t2 ≡ t1 ++ flat_map (verbose_part_text ago) (part_of m (codes "mon")) → t3 ≡ t2 ++ flat_map (verbose_part_text ago) (part_of d (codes "day")) → y ≡ n.years → m ≡ n.months → d ≡ n.days → t3 ≡ t0 ++ flat_map (verbose_part_text ago) (date_parts n)
+unfolding date_parts
+dates_printed ago n t0 t1 t2 t3 y m d e1 e2 e3 ey em ed = rw (e3, e2, e1, ey, em, ed) (simp (flat_map-append, append_assoc))
+
+-- an i32 as an i64
+pub widened : (z : ℤ) → FitsSigned w32 z → to_z w64 (of_z w64 (to_z w32 (of_z w32 z))) ≡ z
+widened z h = ap (λ y. to_z w64 (of_z w64 y)) (to_z-of_z w32 z h) ∙ to_z-of_z w64 z (fits_wider z h)

@@ -59,6 +59,12 @@ is_time_negative n = is_negative n.hours || is_negative n.minutes || is_negative
 abbrev pub is_time_positive : IntervalNorm → Bool
 is_time_positive n = is_positive n.hours || is_positive n.minutes || is_positive n.seconds || is_positive n.microseconds
 
+unfoldable pub is_second_zero : IntervalNorm → Bool
+is_second_zero n = is_zero n.seconds && is_zero n.microseconds
+
+abbrev pub is_second_negative : IntervalNorm → Bool
+is_second_negative n = is_negative n.seconds || is_negative n.microseconds
+
 -- minutes and seconds in two digits, and the microseconds
 unfoldable pub after_hours : IntervalNorm → List ℕ
 after_hours n = 58 ∷ two_digits n.minutes ++ 58 ∷ two_digits n.seconds ++ fraction_of n.microseconds
@@ -114,8 +120,12 @@ without_last_zeros (d ∷ ds) = if list_all (λ c. c == 48) (d ∷ ds) then [] e
 unfoldable pub decimals_of : ℤ → List ℕ
 decimals_of z = if is_zero z then [] else 46 ∷ without_last_zeros (six_digits (unsigned_abs z))
 
+-- the seconds with their decimals, without a sign
+unfoldable pub second_digits : IntervalNorm → List ℕ
+second_digits n = digits_of n.seconds ++ decimals_of n.microseconds
+
 unfoldable pub second_parts : IntervalNorm → List Part
-second_parts n = if is_zero n.seconds && is_zero n.microseconds then [] else record { negative = is_negative n.seconds || is_negative n.microseconds; digits = digits_of n.seconds ++ decimals_of n.microseconds; word = codes "sec" } ∷ []
+second_parts n = if is_second_zero n then [] else record { negative = is_second_negative n; digits = second_digits n; word = codes "sec" } ∷ []
 
 unfoldable pub verbose_time_parts : IntervalNorm → List Part
 verbose_time_parts n = part_of n.hours (codes "hour") ++ part_of n.minutes (codes "min") ++ second_parts n
@@ -132,8 +142,11 @@ is_ago (p ∷ ps) = p.negative
 unfoldable pub verbose_part_text : Bool → Part → List ℕ
 verbose_part_text ago p = 32 ∷ part_text (if ago then not p.negative else p.negative) p.digits p.word
 
+abbrev pub ago_end : Bool → List ℕ
+ago_end ago = if ago then codes " ago" else []
+
 abbrev pub verbose_text_of : Bool → List Part → List ℕ
-verbose_text_of ago ps = 64 ∷ flat_map (verbose_part_text ago) ps ++ (if ago then codes " ago" else [])
+verbose_text_of ago ps = 64 ∷ flat_map (verbose_part_text ago) ps ++ ago_end ago
 
 unfoldable pub verbose_text : IntervalNorm → List ℕ
 verbose_text n = if is_all_zero n then codes "@ 0" else verbose_text_of (is_ago (verbose_parts n)) (verbose_parts n)
@@ -145,7 +158,7 @@ unfoldable pub item_text : ℤ → ℕ → List ℕ
 item_text z letter = if is_zero z then [] else minus_if (is_negative z) ++ digits_of z ++ letter ∷ []
 
 unfoldable pub second_text : IntervalNorm → List ℕ
-second_text n = if is_zero n.seconds && is_zero n.microseconds then [] else minus_if (is_negative n.seconds || is_negative n.microseconds) ++ digits_of n.seconds ++ fraction_of n.microseconds ++ 83 ∷ []
+second_text n = if is_second_zero n then [] else minus_if (is_second_negative n) ++ digits_of n.seconds ++ fraction_of n.microseconds ++ 83 ∷ []
 
 unfoldable pub iso_time_text : IntervalNorm → List ℕ
 iso_time_text n = if is_time_zero n then [] else 84 ∷ item_text n.hours 72 ++ item_text n.minutes 77 ++ second_text n

@@ -63,13 +63,11 @@ fn push_item(out: &mut String, number: i64, letter: char) -> Result<(), AllocErr
 fn push_seconds(out: &mut String, fields: &IntervalNorm) -> Result<(), AllocError>
     ensures { OnOk result (string_bytes out.new ≡ string_bytes out.old ++ second_text fields.now) }
 {
-    let seconds = fields.seconds.unsigned_abs();
-    if seconds == 0 && fields.microseconds.unsigned_abs() == 0 {
+    if fields.is_second_zero() {
         return Ok(());
     }
-    let negative = fields.seconds.is_negative() || fields.microseconds.is_negative();
-    push_minus_if(out, negative)?;
-    push_digits(out, seconds)?;
+    push_minus_if(out, fields.is_second_negative())?;
+    push_digits(out, fields.seconds.unsigned_abs())?;
     push_fraction(out, fields.microseconds)?;
     push_char(out, 'S')?;
     Ok(())

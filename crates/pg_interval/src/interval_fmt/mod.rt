@@ -1,7 +1,7 @@
 // The four styles in which PostgreSQL prints an interval (`intervalstyle`).
 ghost use Rattle.std.specs.Prelude.{◌≡◌, ◌+◌, ◌++◌, ◌∷◌, [], ◌<◌, OnOk, IfOk, string_bytes, decimal, not};
 ghost use Rattle.pg_interval.specs.NormalForm.{normal_form, IsNormal};
-ghost use Rattle.pg_interval.specs.Printed.{is_all_zero, is_year_month_zero, is_zero, is_time_zero, is_time_positive, is_time_negative, minus_if, two_digits_of, six_digits, fraction_of, after_hours, printed};
+ghost use Rattle.pg_interval.specs.Printed.{is_all_zero, is_year_month_zero, is_zero, is_time_zero, is_time_positive, is_time_negative, is_second_zero, is_second_negative, minus_if, two_digits_of, six_digits, fraction_of, after_hours, printed};
 ghost use Rattle.pg_interval.specs.Reading.{Postgres, PostgresVerbose, Iso8601, SqlStandard};
 
 mod iso_8601;
@@ -101,6 +101,21 @@ impl IntervalNorm {
             || self.minutes.is_negative()
             || self.seconds.is_negative()
             || self.microseconds.is_negative()
+    }
+
+    /// Are the seconds and their microseconds zero?
+    #[tactic(auto, unfolding(crate::specs::Printed::is_second_zero, crate::specs::Printed::is_zero))]
+    fn is_second_zero(&self) -> bool
+        ensures { result ≡ is_second_zero self.now }
+    {
+        self.seconds.unsigned_abs() == 0 && self.microseconds.unsigned_abs() == 0
+    }
+
+    /// Are the seconds or their microseconds below zero?
+    fn is_second_negative(&self) -> bool
+        ensures { result ≡ is_second_negative self.now }
+    {
+        self.seconds.is_negative() || self.microseconds.is_negative()
     }
 }
 
