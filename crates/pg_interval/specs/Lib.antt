@@ -2,6 +2,8 @@ pub mod Arithmetic
 pub mod Cell
 pub mod Decimals
 pub mod IsoText
+pub mod Duration
+pub mod ErrorText
 pub mod NormalForm
 pub mod Pairs
 pub mod PostgresText

@@ -1,5 +1,6 @@
 -- An interval's years, months, days, hours, minutes, seconds and microseconds.
-use Rattle.std.specs.Prelude.{◌≡◌, ℤ, pos, ◌+ℤ◌, ◌*ℤ◌, ◌≤ℤ◌, List, [], ◌∷◌, All, int_div, int_rem, ◌⊎◌}
+use Rattle.std.specs.Prelude.{◌≡◌, ℤ, pos, ◌+ℤ◌, ◌*ℤ◌, ◌≤ℤ◌, FitsSigned, List, [], ◌∷◌, All, int_div, int_rem, ◌⊎◌}
+use Rattle.std.specs.Int.{w32, w64}
 use Rattle.pg_interval.specs.declared.pg_interval.Interval.{Interval}
 use Rattle.pg_interval.specs.declared.interval_norm.IntervalNorm.{IntervalNorm}
 use Rattle.pg_interval.specs.Cell.{IsInterval}
@@ -31,6 +32,13 @@ exact_total n = record {
   days = n.days;
   microseconds = (total_seconds n *ℤ pos 1000000) +ℤ n.microseconds;
 }
+
+-- their sums lie in i32 and in i64
+abbrev pub MonthsFit : IntervalNorm → Type 0
+MonthsFit n = FitsSigned w32 (exact_total n).months
+
+abbrev pub MicrosecondsFit : IntervalNorm → Type 0
+MicrosecondsFit n = FitsSigned w64 (exact_total n).microseconds
 
 -- the fields of the time, and all seven
 abbrev pub time_fields : IntervalNorm → List ℤ

@@ -1,8 +1,9 @@
 -- The text of an interval in each of PostgreSQL's four interval styles: its documentation, "Interval Output".
 -- A text is put together from the fields of the normal form; `decimal n` is n in decimal digits.
-use Rattle.std.specs.Prelude.{ℕ, zero, suc, ◌+◌, ◌/◌, ◌%◌, ◌^◌, Bool, true, false, not, ◌&&◌, ◌||◌, ◌==◌, nat_lt, if◌then◌else◌, List, [], ◌∷◌, ◌++◌, flat_map, map, codes, bytes_eq, ℤ, unsigned_abs, decimal}
+use Rattle.std.specs.Prelude.{◌≡◌, ℕ, zero, suc, ◌+◌, ◌/◌, ◌%◌, ◌^◌, Bool, true, false, not, ◌&&◌, ◌||◌, ◌==◌, nat_lt, if◌then◌else◌, List, [], ◌∷◌, ◌++◌, flat_map, map, codes, bytes_eq, ℤ, unsigned_abs, decimal}
 use Rattle.std.specs.List.{join_with_byte, list_all}
 use Rattle.std.specs.Int.{is_negative, is_positive}
+use Rattle.pg_interval.specs.Cell.{IsInterval}
 use Rattle.pg_interval.specs.NormalForm.{normal_form}
 use Rattle.pg_interval.specs.Reading.{Style, Postgres, PostgresVerbose, Iso8601, SqlStandard}
 use Rattle.pg_interval.specs.declared.pg_interval.Interval.{Interval}
@@ -211,3 +212,7 @@ printed_norm SqlStandard n = sql_text n
 -- the text of an interval
 abbrev pub printed : Style → Interval → List ℕ
 printed style i = printed_norm style (normal_form i)
+
+-- the text is printed for no other interval
+abbrev pub IsPrintedOnlyFor : Style → List ℕ → Interval → Type 0
+IsPrintedOnlyFor style text i = (other : Interval) → IsInterval other → text ≡ printed style other → other ≡ i

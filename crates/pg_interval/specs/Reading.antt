@@ -41,3 +41,7 @@ reading style text = if nat_lt 4096 (length text) then Err (InvalidInterval TooL
 -- A text stands for one interval at most, and one that stands for none has one refusal, since `reading` is a function.
 abbrev pub StandsFor : Style → List ℕ → Interval → Type 0
 StandsFor style text i = reading style text ≡ Ok i
+
+-- the text stands for this interval and for no other
+abbrev pub StandsForOnly : Style → List ℕ → Interval → Type 0
+StandsForOnly style text i = StandsFor style text i × ((other : Interval) → StandsFor style text other → other ≡ i)

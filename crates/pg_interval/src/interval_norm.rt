@@ -1,8 +1,6 @@
-ghost use Rattle.std.specs.Prelude.{◌≡◌, ◌≢◌, ◌↔◌, ◌⊎◌, pos, ◌<ℤ◌, FitsSigned, [], ◌∷◌, All, Any, IsTrue, IfOk, IsOk, IsErrOf};
-ghost use Rattle.std.specs.Int.{w32, w64};
+ghost use Rattle.std.specs.Prelude.{◌≡◌, ◌≢◌, ◌↔◌, ◌⊎◌, pos, ◌<ℤ◌, [], ◌∷◌, All, Any, IsTrue, IfOk, IsOk, IsErrOf};
 ghost use Rattle.pg_interval.specs.Cell.{IsInterval};
-ghost use Rattle.pg_interval.specs.NormalForm.{normal_form, total_seconds, exact_total, IsNormal, HaveOneSign, time_fields, all_fields};
-ghost use Rattle.pg_interval.specs.declared.interval_parse.parse_error.Reason.TheVariants.{Overflow};
+ghost use Rattle.pg_interval.specs.NormalForm.{normal_form, total_seconds, exact_total, MonthsFit, MicrosecondsFit, IsNormal, HaveOneSign, time_fields, all_fields};
 
 use crate::interval_parse::parse_error::{ParseError, Reason};
 use crate::pg_interval::Interval;
@@ -48,8 +46,9 @@ impl IntervalNorm {
     pub fn try_into_interval(self) -> Result<Interval, ParseError>
         ensures succeeds { IsOk result ↔ IsInterval (exact_total self) }
         ensures value { IfOk result (λ i. i ≡ exact_total self) }
-        ensures year_month { IsErrOf result (ParseError.InvalidYearMonth Overflow) ↔ ¬ (FitsSigned w32 (exact_total self).months) }
-        ensures time { IsErrOf result (ParseError.InvalidTime Overflow) ↔ (FitsSigned w32 (exact_total self).months × ¬ (FitsSigned w64 (exact_total self).microseconds)) }
+        ensures year_month { IsErrOf result (ParseError.InvalidYearMonth Reason.Overflow) ↔ ¬ (MonthsFit self) }
+        ensures time { IsErrOf result (ParseError.InvalidTime Reason.Overflow) ↔ (MonthsFit self × ¬ (MicrosecondsFit self)) }
+
         // so an interval's normal form gives that interval again
         ensures inverse { (i : Interval) → IsInterval i → self ≡ normal_form i → result ≡ Ok i }
     {
@@ -171,4 +170,48 @@ fn is_any_present(fields: &[i64]) -> bool
     ensures { IsTrue result ↔ Any (λ z. z ≢ pos 0) fields.now }
 {
     fields.iter().any(|field| *field != 0)
+}
+
+#[cfg(test)]
+mod tests {
+    use super::*;
+
+    #[test]
+    fn normal_forms(rt: HostRuntime) {
+        let mut years = IntervalNorm::default();
+        assert!(rt; years.is_zeroed() && years.is_normal());
+        years.years = 178956971;
+        assert_eq!(rt;
+            years.try_into_interval(),
+            Err(ParseError::InvalidYearMonth(Reason::Overflow))
+        );
+        assert!(rt; years.is_year_month_present() && !years.is_normal());
+        years.months = -12;
+        assert_eq!(rt;
+            years.try_into_interval(),
+            Ok(Interval::new(2147483640, 0, 0))
+        );
+        let mut hours = IntervalNorm::default();
+        hours.hours = 2562047789;
+        assert_eq!(rt;
+            hours.try_into_interval(),
+            Err(ParseError::InvalidTime(Reason::Overflow))
+        );
+        assert!(rt;
+            hours.is_time_interval_pos() && hours.is_time_present() && !hours.is_day_present()
+        );
+
+        let least = Interval::new(i32::MIN, i32::MIN, i64::MIN);
+        let parts = IntervalNorm {
+            years: -178956970,
+            months: -8,
+            days: i32::MIN,
+            hours: -2562047788,
+            minutes: 0,
+            seconds: -54,
+            microseconds: -775808,
+        };
+        assert_eq!(rt; IntervalNorm::from(&least), parts);
+        assert_eq!(rt; parts.try_into_interval(), Ok(least));
+    }
 }

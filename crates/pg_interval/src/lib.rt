@@ -1,6 +1,7 @@
 // An interval of PostgreSQL: a number of months, of days and of microseconds.
 #![tactic(auto)]
 
+mod integrations;
 mod interval_fmt;
 mod interval_norm;
 mod interval_parse;

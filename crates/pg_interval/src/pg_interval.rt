@@ -1,4 +1,4 @@
-ghost use Rattle.std.specs.Prelude.{◌≡◌, ℕ, ◌+◌, ◌<◌, ◌≤◌, ◌↔◌, length, take, slice_range, IfSome, IsNone};
+ghost use Rattle.std.specs.Prelude.{◌≡◌, ℕ, ◌+◌, ◌<◌, ◌≤◌, ◌↔◌, length, take, slice_range, IfOk, IfSome, IsNone, IsTrue};
 ghost use Rattle.pg_interval.specs.Cell.{int64_bytes, int32_bytes, interval_cell, IsInterval};
 
 /// A span of time as PostgreSQL keeps it: months, days and microseconds, which are never carried into one another.
@@ -71,4 +71,56 @@ fn int32_at(bytes: &[u8], start: usize) -> i32
     let mut octets = [0; 4];
     octets.copy_from_slice(&bytes[start..start + 4]);
     i32::from_be_bytes(octets)
+}
+
+#[cfg(test)]
+mod tests {
+    use super::*;
+    use std::alloc::AllocError;
+    use std::test::Fail;
+
+    /// `==` is equality of the three numbers.
+    fn is_equal(a: &Interval, b: &Interval) -> bool
+        ensures { IsTrue result ↔ (a.now ≡ b.now) }
+    {
+        a == b
+    }
+
+    /// A clone is equal.
+    fn clone_of(a: &Interval) -> Result<Interval, AllocError>
+        ensures { IfOk result (λ b. b ≡ a.now) }
+    {
+        a.clone()
+    }
+
+    #[test]
+    fn cells_both_ways(rt: HostRuntime) -> Result<(), Fail> {
+        let cells = [
+            (
+                Interval::new(13, 1, 4215000000),
+                b"\x00\x00\x00\x00\xfb\x3b\xcb\xc0\x00\x00\x00\x01\x00\x00\x00\x0d",
+            ),
+            (
+                Interval::new(0, 0, -500000),
+                b"\xff\xff\xff\xff\xff\xf8\x5e\xe0\x00\x00\x00\x00\x00\x00\x00\x00",
+            ),
+            (
+                Interval::new(-1, 2, 3000000),
+                b"\x00\x00\x00\x00\x00\x2d\xc6\xc0\x00\x00\x00\x02\xff\xff\xff\xff",
+            ),
+            (
+                Interval::new(i32::MIN, i32::MIN, i64::MIN),
+                b"\x80\x00\x00\x00\x00\x00\x00\x00\x80\x00\x00\x00\x80\x00\x00\x00",
+            ),
+        ];
+        for (interval, cell) in cells {
+            assert_eq!(rt; interval.to_cell(), *cell);
+            assert_eq!(rt; Interval::from_cell(cell.as_slice()), Some(interval));
+            assert!(rt; is_equal(&interval, &clone_of(&interval)?));
+        }
+        let longer = [0, 0, 0, 0, 0, 0, 0, 3, 0, 0, 0, 2, 0, 0, 0, 1, 255];
+        assert_eq!(rt; Interval::from_cell(&longer), Some(Interval::new(1, 2, 3)));
+        assert_eq!(rt; Interval::from_cell(&longer[..15]), None);
+        Ok(())
+    }
 }

@@ -1,4 +1,4 @@
-ghost use Rattle.std.specs.Prelude.{◌≡◌, pos, ◌+ℤ◌, ◌*ℤ◌};
+ghost use Rattle.std.specs.Prelude.{◌≡◌};
 ghost use Rattle.std.specs.Option.{SomeIff};
 ghost use Rattle.pg_interval.specs.Cell.{IsInterval};
 ghost use Rattle.pg_interval.specs.Arithmetic.{interval_sum, day_time, time_amount, TimeFits, with_years_and_months, AddsInTurn, with_joined_months, AddsJoined};
@@ -9,12 +9,16 @@ use std::ops;
 impl Interval {
     /// The sum, number by number. `None` comes where one of the three sums leaves its type.
     pub fn checked_add(self, other_interval: Interval) -> Option<Interval>
-        ensures { SomeIff result (IsInterval (interval_sum self other_interval)) (interval_sum self other_interval) }
+        ensures { let sum = interval_sum self other_interval in
+            SomeIff result (IsInterval sum) sum }
     {
+        let months = self.months.checked_add(other_interval.months)?;
+        let days = self.days.checked_add(other_interval.days)?;
+        let microseconds = self.microseconds.checked_add(other_interval.microseconds)?;
         Some(Interval {
-            months: self.months.checked_add(other_interval.months)?,
-            days: self.days.checked_add(other_interval.days)?,
-            microseconds: self.microseconds.checked_add(other_interval.microseconds)?,
+            months,
+            days,
+            microseconds,
         })
     }
 
@@ -37,7 +41,8 @@ impl Interval {
         minutes: i64,
         nanoseconds: i64,
     ) -> Option<Interval>
-        ensures { SomeIff result (TimeFits hours minutes nanoseconds × IsInterval (interval_sum self (day_time days hours minutes nanoseconds))) (interval_sum self (day_time days hours minutes nanoseconds)) }
+        ensures { let sum = interval_sum self (day_time days hours minutes nanoseconds) in
+            SomeIff result (TimeFits hours minutes nanoseconds × IsInterval sum) sum }
     {
         let microseconds = checked_time_in_microseconds(hours, minutes, nanoseconds)?;
         self.checked_add(Interval::new(0, days, microseconds))
@@ -98,4 +103,53 @@ pub fn checked_time_in_microseconds(hours: i64, minutes: i64, nanoseconds: i64) 
     hours_as_micro
         .checked_add(minutes_as_micro)?
         .checked_add(nanoseconds.div_euclid(1000))
+}
+
+#[cfg(test)]
+mod tests {
+    use super::*;
+
+    #[test]
+    fn checked_sums(rt: HostRuntime) {
+        let start = Interval::new(13, 0, 0);
+        assert_eq!(rt;
+            start.checked_add_day_time(2, 0, 0, 2123456789),
+            Some(Interval::new(13, 2, 2123456))
+        );
+        assert_eq!(rt;
+            Interval::new(0, 0, 0).add_day_time(0, 0, 0, -1),
+            Interval::new(0, 0, -1)
+        );
+        assert_eq!(rt; start.checked_add(Interval::new(2147483647, 1, 12)), None);
+        assert_eq!(rt;
+            start.checked_add(Interval::new(2147483634, 1, 12)),
+            Some(Interval::new(2147483647, 1, 12))
+        );
+        assert_eq!(rt; start + Interval::new(-14, 1, 12), Interval::new(-1, 1, 12));
+
+        // The hours and the minutes fit, and their sum doesn't.
+        let zero = Interval::new(0, 0, 0);
+        assert_eq!(rt; zero.checked_add_day_time(0, 2562047788, 1, 0), None);
+        assert_eq!(rt;
+            zero.checked_add_day_time(0, 2562047788, 0, 54775807999),
+            Some(Interval::new(0, 0, i64::MAX))
+        );
+        assert_eq!(rt;
+            zero.checked_add_day_time(0, 2562047788, 0, 54775808000),
+            None
+        );
+        assert_eq!(rt; zero.checked_add_day_time(0, 2562047789, -1, 0), None);
+
+        // Joined first, the years and the months may leave the type where one after the other doesn't.
+        let low = Interval::new(-2000000000, 0, 0);
+        assert_eq!(rt; low.checked_add_year_month(178956970, 100), None);
+        assert_eq!(rt;
+            low.checked_add_year_month(178956970, 7),
+            Some(Interval::new(147483647, 0, 0))
+        );
+        assert_eq!(rt;
+            low.add_year_month(178956970, 100),
+            Interval::new(147483740, 0, 0)
+        );
+    }
 }

@@ -10,12 +10,16 @@ use std::ops;
 impl Interval {
     /// The difference, number by number. `None` comes where one of the three differences leaves its type.
     pub fn checked_sub(self, other_interval: Interval) -> Option<Interval>
-        ensures { SomeIff result (IsInterval (interval_difference self other_interval)) (interval_difference self other_interval) }
+        ensures { let difference = interval_difference self other_interval in
+            SomeIff result (IsInterval difference) difference }
     {
+        let months = self.months.checked_sub(other_interval.months)?;
+        let days = self.days.checked_sub(other_interval.days)?;
+        let microseconds = self.microseconds.checked_sub(other_interval.microseconds)?;
         Some(Interval {
-            months: self.months.checked_sub(other_interval.months)?,
-            days: self.days.checked_sub(other_interval.days)?,
-            microseconds: self.microseconds.checked_sub(other_interval.microseconds)?,
+            months,
+            days,
+            microseconds,
         })
     }
 
@@ -38,7 +42,8 @@ impl Interval {
         minutes: i64,
         nanoseconds: i64,
     ) -> Option<Interval>
-        ensures { SomeIff result (TimeFits hours minutes nanoseconds × IsInterval (interval_difference self (day_time days hours minutes nanoseconds))) (interval_difference self (day_time days hours minutes nanoseconds)) }
+        ensures { let difference = interval_difference self (day_time days hours minutes nanoseconds) in
+            SomeIff result (TimeFits hours minutes nanoseconds × IsInterval difference) difference }
     {
         let microseconds = checked_time_in_microseconds(hours, minutes, nanoseconds)?;
         self.checked_sub(Interval::new(0, days, microseconds))
@@ -77,5 +82,38 @@ impl ops::Sub for Interval {
             days: self.days - other_interval.days,
             microseconds: self.microseconds - other_interval.microseconds,
         }
+    }
+}
+
+#[cfg(test)]
+mod tests {
+    use super::*;
+
+    #[test]
+    fn checked_differences(rt: HostRuntime) {
+        let start = Interval::new(-20, 0, 0);
+        assert_eq!(rt; start.checked_sub_year_month(-2147483648, 1), None);
+        assert_eq!(rt;
+            start.checked_sub_year_month(1, 1),
+            Some(Interval::new(-33, 0, 0))
+        );
+        assert_eq!(rt; start.sub_year_month(1, 1), Interval::new(-33, 0, 0));
+        assert_eq!(rt;
+            start.checked_sub(Interval::new(i32::MIN, 0, 0)),
+            Some(Interval::new(2147483628, 0, 0))
+        );
+        assert_eq!(rt; start - Interval::new(1, 2, 3), Interval::new(-21, -2, -3));
+        assert_eq!(rt;
+            Interval::new(0, 0, 0).checked_sub(Interval::new(i32::MIN, 0, 0)),
+            None
+        );
+
+        // The nanosecond is rounded down to a microsecond before it is subtracted.
+        assert_eq!(rt; start.sub_day_time(1, 0, 0, -1), Interval::new(-20, -1, 1));
+        assert_eq!(rt;
+            start.checked_sub_day_time(1, 1, 1, 1999),
+            Some(Interval::new(-20, -1, -3660000001))
+        );
+        assert_eq!(rt; start.checked_sub_day_time(i32::MIN, 0, 0, 0), None);
     }
 }

@@ -1,8 +1,9 @@
 // The four styles in which PostgreSQL prints an interval (`intervalstyle`).
 ghost use Rattle.std.specs.Prelude.{◌≡◌, ◌+◌, ◌++◌, ◌∷◌, [], ◌<◌, OnOk, IfOk, string_bytes, decimal, not};
+ghost use Rattle.pg_interval.specs.Cell.{IsInterval};
 ghost use Rattle.pg_interval.specs.NormalForm.{normal_form, IsNormal};
-ghost use Rattle.pg_interval.specs.Printed.{is_all_zero, is_year_month_zero, is_zero, is_time_zero, is_time_positive, is_time_negative, is_second_zero, is_second_negative, minus_if, two_digits_of, six_digits, fraction_of, after_hours, printed};
-ghost use Rattle.pg_interval.specs.Reading.{Postgres, PostgresVerbose, Iso8601, SqlStandard};
+ghost use Rattle.pg_interval.specs.Printed.{is_all_zero, is_year_month_zero, is_zero, is_time_zero, is_time_positive, is_time_negative, is_second_zero, is_second_negative, minus_if, two_digits_of, six_digits, fraction_of, after_hours, printed, IsPrintedOnlyFor};
+ghost use Rattle.pg_interval.specs.Reading.{StandsForOnly, Postgres, PostgresVerbose, Iso8601, SqlStandard};
 
 mod iso_8601;
 mod postgres;
@@ -22,6 +23,9 @@ impl Interval {
     /// The text in the style `postgres`, as `1 year 2 mons 3 days 04:05:06.700000`.
     pub fn to_postgres(&self, alloc: Global) -> Result<String, AllocError>
         ensures printed { IfOk result (λ text. string_bytes text ≡ printed Postgres self.now) }
+        // the text stands for this interval and for no other, and no other prints as it does
+        ensures stands { IfOk result (λ text. StandsForOnly Postgres (string_bytes text) self.now) }
+        ensures distinct { IfOk result (λ text. IsPrintedOnlyFor Postgres (string_bytes text) self.now) }
     {
         self.in_normal_form().into_postgres(alloc)
     }
@@ -36,6 +40,9 @@ impl Interval {
     /// The text in the style `iso_8601`, as `P1Y2M3DT4H5M6.700000S`.
     pub fn to_iso_8601(&self, alloc: Global) -> Result<String, AllocError>
         ensures printed { IfOk result (λ text. string_bytes text ≡ printed Iso8601 self.now) }
+        // the text stands for this interval and for no other, and no other prints as it does
+        ensures stands { IfOk result (λ text. StandsForOnly Iso8601 (string_bytes text) self.now) }
+        ensures distinct { IfOk result (λ text. IsPrintedOnlyFor Iso8601 (string_bytes text) self.now) }
     {
         self.in_normal_form().into_iso_8601(alloc)
     }
@@ -51,6 +58,7 @@ impl Interval {
     fn in_normal_form(self) -> IntervalNorm
         ensures form { result ≡ normal_form self }
         ensures normal { IsNormal result }
+        ensures within { IsInterval self }
     {
         IntervalNorm::from(&self)
     }

@@ -1,4 +1,8 @@
-ghost use Rattle.std.specs.Prelude.{◌≡◌};
+ghost use Rattle.std.specs.Prelude.{◌≡◌, Some};
+ghost use Rattle.pg_interval.specs.ErrorText.{int_error_text, decimal_error_text, reason_text, error_text};
+ghost use Rattle.pg_interval.specs.declared.interval_parse.parse_error.ParseError.TheVariants.{ParseIntErr, ParseFloatErr};
+
+use std::fmt;
 
 /// Why a text is no whole number.
 #[derive(Clone, Copy, Debug, PartialEq, Eq)]
@@ -70,5 +74,137 @@ impl ParseError {
         ensures { result ≡ ParseError.InvalidInterval reason }
     {
         ParseError::InvalidInterval(reason)
+    }
+}
+
+impl From<IntError> for ParseError {
+    ghost from_gives = { λ error e. e ≡ ParseIntErr error };
+
+    fn from(error: IntError) -> ParseError {
+        ParseError::ParseIntErr(error)
+    }
+}
+
+impl From<DecimalError> for ParseError {
+    ghost from_gives = { λ error e. e ≡ ParseFloatErr error };
+
+    fn from(error: DecimalError) -> ParseError {
+        ParseError::ParseFloatErr(error)
+    }
+}
+
+impl fmt::Display for ParseError {
+    ghost output = { λ e. Some (error_text e) };
+
+    /// What is at fault, and why, as `Invalid interval: broken shape`.
+    fn fmt<W: fmt::Write>(&self, f: &mut fmt::Formatter<W>) -> fmt::Result {
+        match self {
+            ParseError::ParseIntErr(e) => write!(f, "Failed to parse integer: {}", e.text()),
+            ParseError::ParseFloatErr(e) => write!(f, "Failed to parse float: {}", e.text()),
+            ParseError::InvalidYearMonth(r) => write!(
+                f,
+                "Invalid year/month interval: {}",
+                r.text()
+            ),
+            ParseError::InvalidTime(r) => write!(f, "Invalid time interval: {}", r.text()),
+            ParseError::InvalidInterval(r) => write!(f, "Invalid interval: {}", r.text()),
+        }
+    }
+}
+
+impl IntError {
+    fn text(self) -> &'static str
+        ensures { result.now ≡ int_error_text self }
+    {
+        match self {
+            IntError::Empty => "empty",
+            IntError::InvalidDigit => "invalid digit",
+            IntError::OutOfRange => "out of range",
+        }
+    }
+}
+
+impl DecimalError {
+    fn text(self) -> &'static str
+        ensures { result.now ≡ decimal_error_text self }
+    {
+        match self {
+            DecimalError::Empty => "empty",
+            DecimalError::Malformed => "malformed",
+            DecimalError::TooManyDigits => "too many digits",
+            DecimalError::OutOfRange => "out of range",
+        }
+    }
+}
+
+impl Reason {
+    fn text(self) -> &'static str
+        ensures { result.now ≡ reason_text self }
+    {
+        match self {
+            Reason::TooLong => "text too long",
+            Reason::Shape => "broken shape",
+            Reason::Overflow => "overflow",
+        }
+    }
+}
+
+#[cfg(test)]
+mod tests {
+    use super::*;
+    use std::test::Fail;
+
+    #[test]
+    fn displayed_texts(rt: HostRuntime) -> Result<(), Fail> {
+        let texts = [
+            (
+                ParseError::from(IntError::Empty),
+                "Failed to parse integer: empty",
+            ),
+            (
+                ParseError::from(IntError::InvalidDigit),
+                "Failed to parse integer: invalid digit",
+            ),
+            (
+                ParseError::from(IntError::OutOfRange),
+                "Failed to parse integer: out of range",
+            ),
+            (
+                ParseError::from(DecimalError::Empty),
+                "Failed to parse float: empty",
+            ),
+            (
+                ParseError::from(DecimalError::Malformed),
+                "Failed to parse float: malformed",
+            ),
+            (
+                ParseError::from(DecimalError::TooManyDigits),
+                "Failed to parse float: too many digits",
+            ),
+            (
+                ParseError::from(DecimalError::OutOfRange),
+                "Failed to parse float: out of range",
+            ),
+            (
+                ParseError::from_year_month(Reason::Overflow),
+                "Invalid year/month interval: overflow",
+            ),
+            (
+                ParseError::from_time(Reason::Overflow),
+                "Invalid time interval: overflow",
+            ),
+            (
+                ParseError::from_invalid_interval(Reason::TooLong),
+                "Invalid interval: text too long",
+            ),
+            (
+                ParseError::from_invalid_interval(Reason::Shape),
+                "Invalid interval: broken shape",
+            ),
+        ];
+        for (error, text) in texts {
+            assert_eq!(rt; error.to_string(rt.alloc())?.as_str(), text);
+        }
+        Ok(())
     }
 }
