@@ -13,3 +13,5 @@ pub mod Stands
 mod TextsPrinted
 mod TextsRead
 pub mod TimeTexts
+pub mod VerboseReads
+pub mod VerboseTexts

@@ -33,6 +33,9 @@ impl Interval {
     /// The text in the style `postgres_verbose`, as `@ 1 year 2 mons 3 days 4 hours 5 mins 6.7 secs`.
     pub fn to_postgres_verbose(&self, alloc: Global) -> Result<String, AllocError>
         ensures printed { IfOk result (λ text. string_bytes text ≡ printed PostgresVerbose self.now) }
+        // the text stands for this interval and for no other, and no other prints as it does
+        ensures stands { IfOk result (λ text. StandsForOnly PostgresVerbose (string_bytes text) self.now) }
+        ensures distinct { IfOk result (λ text. IsPrintedOnlyFor PostgresVerbose (string_bytes text) self.now) }
     {
         self.in_normal_form().into_postgres_verbose(alloc)
     }
