@@ -9,6 +9,7 @@ pub mod PairSums
 pub mod PartTexts
 pub mod PostgresReads
 pub mod PrintedLemmas
+pub mod SqlReads
 pub mod Stands
 mod TextsPrinted
 mod TextsRead

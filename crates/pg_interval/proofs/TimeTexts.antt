@@ -91,7 +91,7 @@ time_cut ds n h minutes seconds =
 unfoldable pub second_decimal : Bool → ℕ → ℤ → Decimal
 second_decimal minus s z = if is_zero z then whole_number minus s else record { negative = minus; whole = s; fraction = unsigned_abs z; places = 6 }
 
-rounded_six : (n : ℕ) → (2 * 1000000 * n + 10 ^ 6) / (2 * 10 ^ 6) ≡ n
+pub rounded_six : (n : ℕ) → (2 * 1000000 * n + 10 ^ 6) / (2 * 10 ^ 6) ≡ n
 rounded_six n = omega arith
 
 second_worth_by : (minus : Bool) (s : ℕ) (z : ℤ) (b : Bool) → is_zero z ≡ b → with_sign minus (unsigned_abs z) ≡ z → worth Second (if b then whole_number minus s else record { negative = minus; whole = s; fraction = unsigned_abs z; places = 6 }) ≡ sum_of (unit_worth Second (with_sign minus s)) (record { months = pos 0; days = pos 0; microseconds = z })

@@ -53,6 +53,9 @@ impl Interval {
     /// The text in the style `sql_standard`, as `+1-2 +3 +4:05:06.700000`.
     pub fn to_sql(&self, alloc: Global) -> Result<String, AllocError>
         ensures printed { IfOk result (λ text. string_bytes text ≡ printed SqlStandard self.now) }
+        // the text stands for this interval and for no other, and no other prints as it does
+        ensures stands { IfOk result (λ text. StandsForOnly SqlStandard (string_bytes text) self.now) }
+        ensures distinct { IfOk result (λ text. IsPrintedOnlyFor SqlStandard (string_bytes text) self.now) }
     {
         self.in_normal_form().into_sql(alloc)
     }
