@@ -1,20 +1,16 @@
 -- Texts of digits: how they are cut, and the number that they are.
-use Rattle.std.proofs.Common.{◌≡◌, ◌≢◌, ℕ, zero, suc, ◌+◌, ◌-◌, ◌*◌, ◌/◌, ◌%◌, ◌^◌, ◌<◌, ◌≤◌, Bool, true, false, not, ◌&&◌, ◌||◌, List, [], ◌∷◌, ◌++◌, length, take, drop, map, ap, ◌∙◌, sym, refl, subst, arith, lit<, lit≤, Option, Some, None, Result, Ok, Err, ◌⊎◌, inl, inr}
-use mathlib.Core.List.{append_assoc, append-nil}
-use Rattle.std.specs.Prelude.{if◌then◌else◌, ◌==◌, nat_le, nat_lt, decimal, codes, filter}
-use Rattle.std.specs.List.{list_all, list_any, slice_split, onto_first, take_while, prefix_len}
-use Rattle.std.specs.Str.Parse.{digits_value, digits_value_after}
-use Rattle.std.specs.Char.{digit_value}
-use Rattle.std.specs.Fmt.{digits}
+use Rattle.std.proofs.Common.{◌≡◌, ℕ, ◌+◌, ◌%◌, ◌^◌, ◌<◌, ◌≤◌, Bool, true, false, not, ◌&&◌, ◌||◌, List, [], ◌∷◌, ◌++◌, length, ap, ◌∙◌, sym, refl, arith, lit≤, Ok, Err}
+use mathlib.Core.List.{append-nil}
+use Rattle.std.specs.Prelude.{if◌then◌else◌, nat_lt, decimal, filter}
+use Rattle.std.specs.List.{list_all, list_any, slice_split, onto_first, take_while}
+use Rattle.std.specs.Str.Parse.{digits_value}
 use Rattle.std.proofs.lemmas.Fmt.{decimal_by_steps, decimal_is_IsNumeral}
 use Rattle.std.proofs.lemmas.List.Folds.{list_all-append}
 use Rattle.std.proofs.lemmas.List.Sums.{take_while-cons}
-use Rattle.std.proofs.lemmas.List.Folds.{list_any-append}
 use Rattle.std.proofs.lemmas.List.Elements.{filter-append}
-use Rattle.pg_interval.specs.Texts.{is_whitespace, is_digit, is_letter, is_sign, is_point, is_colon, is_minus, is_empty, are_digits, begins, without_sign, tokens}
-use Rattle.pg_interval.specs.Decimals.{Decimal, number_of, decimal_of, decimal_of_parts, decimal_between}
-use Rattle.pg_interval.specs.Printed.{minus_if, two_digits_of, six_digits, last_digits}
-use Rattle.pg_interval.specs.declared.interval_parse.parse_error.DecimalError.{DecimalError}
+use Rattle.pg_interval.specs.Texts.{is_whitespace, is_digit, is_sign, is_point, is_colon, is_minus, is_empty, are_digits, tokens}
+use Rattle.pg_interval.specs.Decimals.{number_of, decimal_of, decimal_of_parts, decimal_between}
+use Rattle.pg_interval.specs.Printed.{minus_if, two_digits_of}
 use Rattle.pg_interval.specs.declared.interval_parse.parse_error.DecimalError.TheVariants.{Malformed, TooManyDigits}
 
 -- ---- tests

@@ -1,7 +1,7 @@
 -- What the style iso_8601 prints stands for the interval.
-use Rattle.std.proofs.Common.{◌≡◌, ℕ, zero, suc, ◌+◌, ◌*◌, ◌/◌, ◌^◌, ◌<◌, ◌≤◌, ◌%◌, Bool, true, false, not, ◌&&◌, ◌||◌, List, [], ◌∷◌, ◌++◌, length, map, ap, ◌∙◌, sym, refl, subst, arith, lit<, lit≤, zero-le, Option, Some, None, Result, Ok, Err, ℤ, pos, negsuc, ◌+ℤ◌, ◌*ℤ◌}
+use Rattle.std.proofs.Common.{◌≡◌, ℕ, ◌^◌, ◌<◌, ◌≤◌, Bool, true, false, ◌&&◌, ◌||◌, List, [], ◌∷◌, ◌++◌, length, ap, ◌∙◌, sym, refl, subst, arith, lit<, lit≤, zero-le, Option, Some, Ok, Err, ℤ, pos}
 use mathlib.Core.List.{append_assoc, append-nil}
-use Rattle.std.specs.Prelude.{if◌then◌else◌, ◌==◌, unsigned_abs, codes, decimal, nat_lt}
+use Rattle.std.specs.Prelude.{if◌then◌else◌, ◌==◌, unsigned_abs, codes, decimal}
 use Rattle.std.specs.List.{list_any, list_all, slice_split}
 use Rattle.std.specs.Int.{is_negative}
 use Rattle.std.specs.Int.Signed.{mag}
@@ -11,10 +11,10 @@ use Rattle.std.proofs.lemmas.Int.{ints}
 use Rattle.std.proofs.Math.Bool.{or-true}
 use Rattle.std.specs.Str.Parse.{digits_value}
 use Rattle.pg_interval.specs.Cell.{IsInterval}
-use Rattle.pg_interval.specs.Texts.{◌>>=◌, is_digit, is_point, is_minus, is_sign, is_empty, are_digits}
-use Rattle.pg_interval.specs.Decimals.{Decimal, TimeUnit, Year, Month, Day, Hour, Minute, Second, number_of, with_sign, worth, decimal_of, whole_part}
+use Rattle.pg_interval.specs.Texts.{is_digit, is_point, is_minus, is_empty, are_digits}
+use Rattle.pg_interval.specs.Decimals.{Decimal, TimeUnit, Year, Month, Day, Hour, Minute, Second, with_sign, worth}
 use Rattle.pg_interval.specs.Pairs.{Pair, pair, decimal_pair, checked, total_of, sum_of, nothing, fits_above}
-use Rattle.pg_interval.specs.IsoText.{Item, is_designator, items_of, longer, is_item_number, date_unit, time_unit, pairs_of_items, pairs_of_halves, iso_pairs}
+use Rattle.pg_interval.specs.IsoText.{Item, is_designator, items_of, is_item_number, date_unit, time_unit, pairs_of_items, pairs_of_halves, iso_pairs}
 use Rattle.pg_interval.specs.Reading.{reading, of_shape, out_of_range, Iso8601}
 use Rattle.pg_interval.specs.Printed.{minus_if, digits_of, is_zero, is_all_zero, is_time_zero, is_year_month_zero, is_time_negative, is_second_zero, is_second_negative, six_digits, fraction_of, item_text, second_text, iso_time_text, iso_text, printed}
 use Rattle.pg_interval.specs.NormalForm.{normal_form, exact_total}
@@ -23,8 +23,8 @@ use Rattle.pg_interval.specs.declared.interval_norm.IntervalNorm.{IntervalNorm}
 use Rattle.pg_interval.specs.declared.interval_parse.parse_error.Reason.TheVariants.{TooLong}
 use Rattle.pg_interval.specs.declared.interval_parse.parse_error.ParseError.{ParseError}
 use Rattle.pg_interval.specs.declared.interval_parse.parse_error.ParseError.TheVariants.{InvalidInterval}
-use Rattle.pg_interval.proofs.DigitTexts.{none_of_digits, all_digits, digits_decimal, value_decimal, decimal_whole, decimal_point, split_none, split_at, not_longer, and_left, and_right, or_none_left, or_none_right}
-use Rattle.pg_interval.proofs.PartTexts.{whole_number, number_pairs, number_total, abs_small, unit_worth, decimal_pair_whole, fits_by_mag, whole_worth, with_sign_is}
+use Rattle.pg_interval.proofs.DigitTexts.{none_of_digits, all_digits, digits_decimal, value_decimal, decimal_point, split_none, split_at, not_longer, and_left, and_right, or_none_left, or_none_right}
+use Rattle.pg_interval.proofs.PartTexts.{whole_number, number_pairs, number_total, abs_small, unit_worth, decimal_pair_whole, fits_by_mag, whole_worth}
 use Rattle.pg_interval.proofs.TimeTexts.{second_decimal, second_worth, six_are_digits, six_value}
 use Rattle.pg_interval.proofs.PrintedLemmas.{time_zero_fields, zero_is_zero}
 use Rattle.pg_interval.proofs.NormalFacts.{IsSized, HasTimeSign, normal_sizes, normal_time_sign, same_interval, above}

@@ -1,18 +1,18 @@
 -- What is known of the fields of an interval's normal form: their sizes, their signs, and their sums.
-use Rattle.std.proofs.Common.{◌≡◌, ℕ, zero, suc, ◌+◌, ◌*◌, ◌/◌, ◌^◌, ◌<◌, ◌≤◌, ◌%◌, Bool, true, false, not, ◌&&◌, ◌||◌, List, [], ◌∷◌, ap, ◌∙◌, sym, refl, subst, arith, lit<, inl, inr, ℤ, pos, negsuc, ◌+ℤ◌, ◌*ℤ◌, ◌≤ℤ◌, ◌<ℤ◌, neg_ℤ, FitsSigned, w32, w64}
+use Rattle.std.proofs.Common.{◌≡◌, ℕ, zero, suc, ◌/◌, ◌^◌, ◌<◌, ◌≤◌, ◌%◌, Bool, true, false, ◌||◌, ap, ◌∙◌, sym, refl, arith, lit<, inl, inr, ℤ, pos, negsuc, ◌≤ℤ◌, neg_ℤ}
 use Rattle.std.specs.Prelude.{int_div, int_rem, unsigned_abs, All}
-use Rattle.std.specs.Int.{is_negative, is_positive}
+use Rattle.std.specs.Int.{is_negative}
 use Rattle.std.specs.Int.Signed.{mag, mag_rem}
 use Rattle.std.proofs.lemmas.Int.{ints}
 use Rattle.std.proofs.Math.Nat.{div-le_self}
 use Rattle.pg_interval.specs.Cell.{IsInterval}
 use Rattle.pg_interval.specs.Decimals.{with_sign, Year, Month, Day, Hour, Minute, Second}
-use Rattle.pg_interval.specs.Pairs.{sum_of, nothing, fits_above}
-use Rattle.pg_interval.specs.NormalForm.{normal_form, exact_total, total_seconds, time_fields, HaveOneSign}
-use Rattle.pg_interval.specs.Printed.{is_time_negative, is_year_month_negative}
+use Rattle.pg_interval.specs.Pairs.{sum_of}
+use Rattle.pg_interval.specs.NormalForm.{normal_form, exact_total, time_fields, HaveOneSign}
+use Rattle.pg_interval.specs.Printed.{is_time_negative}
 use Rattle.pg_interval.specs.declared.pg_interval.Interval.{Interval}
 use Rattle.pg_interval.specs.declared.interval_norm.IntervalNorm.{IntervalNorm}
-use Rattle.pg_interval.proofs.NormalFormLemmas.{exact_total-normal_form, time_signs-normal_form}
+use Rattle.pg_interval.proofs.NormalFormLemmas.{time_signs-normal_form}
 use Rattle.pg_interval.proofs.PartTexts.{unit_worth, with_sign_is}
 use Rattle.pg_interval.proofs.DigitTexts.{or_none_left, or_none_right}
 

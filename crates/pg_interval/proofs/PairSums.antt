@@ -1,16 +1,14 @@
 -- What pairs add up to, and that no unit has two of them.
-use Rattle.std.proofs.Common.{◌≡◌, ℕ, zero, suc, ◌+◌, ◌*◌, ◌/◌, ◌^◌, ◌<◌, ◌≤◌, ◌%◌, Bool, true, false, not, ◌&&◌, ◌||◌, List, [], ◌∷◌, ◌++◌, length, map, ap, ◌∙◌, sym, refl, subst, arith, lit<, Option, Some, None, Result, Ok, Err, ℤ, pos, negsuc, ◌+ℤ◌, ◌*ℤ◌}
+use Rattle.std.proofs.Common.{◌≡◌, ℕ, Bool, true, false, ◌&&◌, List, [], ◌∷◌, ◌++◌, ap, ◌∙◌, sym, refl, arith, Ok, ℤ, pos}
 use mathlib.Core.List.{append_assoc, append-nil}
 use Rattle.std.specs.Prelude.{if◌then◌else◌, ◌==◌, unsigned_abs}
 use Rattle.std.specs.List.{list_any}
-use Rattle.std.specs.Int.{is_negative}
-use Rattle.std.specs.Int.Signed.{mag}
 use Rattle.std.proofs.lemmas.Int.{ints}
 use Rattle.std.proofs.lemmas.Bool.{eqb-true}
 use Rattle.pg_interval.specs.Cell.{IsInterval}
-use Rattle.pg_interval.specs.Decimals.{Decimal, TimeUnit, Year, Month, Day, Hour, Minute, Second, with_sign, whole_part, rounded, worth, is_zero_decimal}
-use Rattle.pg_interval.specs.Pairs.{Pair, pair, fits_field, fits_above, total_of, plus, sum_of, nothing, interval_of_pairs, interval_of_sums, judged}
-use Rattle.pg_interval.specs.PostgresText.{same_unit, each_unit_once, unless_zero, those_not_zero}
+use Rattle.pg_interval.specs.Decimals.{Decimal, TimeUnit, Year, Month, Day, Hour, Minute, Second, with_sign, whole_part, worth, is_zero_decimal}
+use Rattle.pg_interval.specs.Pairs.{Pair, pair, fits_field, fits_above, total_of, sum_of, nothing, interval_of_pairs, judged}
+use Rattle.pg_interval.specs.PostgresText.{same_unit, each_unit_once, unless_zero}
 use Rattle.pg_interval.specs.Printed.{is_zero}
 use Rattle.pg_interval.specs.NormalForm.{normal_form, exact_total}
 use Rattle.pg_interval.specs.declared.pg_interval.Interval.{Interval}
@@ -18,9 +16,9 @@ use Rattle.pg_interval.specs.declared.interval_norm.IntervalNorm.{IntervalNorm}
 use Rattle.pg_interval.specs.declared.interval_parse.parse_error.ParseError.{ParseError}
 use Rattle.pg_interval.proofs.PrintedLemmas.{is_zero_yes}
 use Rattle.pg_interval.proofs.DigitTexts.{and_left, and_right}
-use Rattle.pg_interval.proofs.PartTexts.{whole_number, number_pairs, number_total, unit_worth, worth_whole, whole_worth, zero_sign, nothing_more, fits_by_mag, with_sign_is}
+use Rattle.pg_interval.proofs.PartTexts.{whole_number, number_pairs, number_total, unit_worth, worth_whole, whole_worth, zero_sign, nothing_more, fits_by_mag}
 use Rattle.pg_interval.proofs.TimeTexts.{second_decimal, second_worth, time_numbers}
-use Rattle.pg_interval.proofs.NormalFacts.{IsSized, HasTimeSign, fields_sum, same_interval, normal_sizes, normal_time_sign}
+use Rattle.pg_interval.proofs.NormalFacts.{IsSized, HasTimeSign, fields_sum, same_interval}
 use Rattle.pg_interval.proofs.NormalFormLemmas.{exact_total-normal_form}
 
 -- ---- sums

@@ -1,18 +1,17 @@
 -- The parts of a printed text, and the tokens and pairs that they are read as.
-use Rattle.std.proofs.Common.{◌≡◌, ℕ, zero, suc, ◌+◌, ◌*◌, ◌/◌, ◌^◌, ◌<◌, ◌≤◌, ◌%◌, Bool, true, false, not, ◌&&◌, ◌||◌, List, [], ◌∷◌, ◌++◌, length, take, drop, map, ap, ◌∙◌, sym, refl, arith, lit<, lit≤, Option, Some, None, Result, Ok, Err, ◌⊎◌, inl, inr, subst, ℤ, pos, negsuc, ◌+ℤ◌, ◌*ℤ◌, ltb}
+use Rattle.std.proofs.Common.{◌≡◌, ℕ, ◌^◌, ◌<◌, Bool, true, false, List, [], ◌∷◌, ◌++◌, length, drop, map, ap, ◌∙◌, sym, refl, arith, Option, Some, Ok, ◌⊎◌, inl, inr, subst, ℤ, pos, negsuc, ◌+ℤ◌, ◌*ℤ◌, ltb}
 use mathlib.Core.List.{append_assoc, append-nil}
 use Rattle.std.specs.Prelude.{if◌then◌else◌, decimal, codes, unsigned_abs, bytes_eq}
-use Rattle.std.specs.List.{list_all, list_any, slice_split, take_while, join_with_byte, flat_map}
+use Rattle.std.specs.List.{list_all, list_any, take_while, flat_map}
 use Rattle.std.specs.Int.{is_negative}
-use Rattle.std.specs.Str.Parse.{digits_value}
 use Rattle.std.specs.Int.Signed.{mag}
-use Rattle.std.proofs.lemmas.List.Folds.{list_any-append, list_all-append}
+use Rattle.std.proofs.lemmas.List.Folds.{list_any-append}
 use Rattle.std.proofs.lemmas.Int.{ints}
 use Rattle.std.proofs.lemmas.List.{drop_all}
-use Rattle.pg_interval.specs.Texts.{◌>>=◌, is_whitespace, is_digit, is_letter, is_sign, is_point, is_colon, is_minus, is_empty, are_digits, begins, without_sign, tokens}
-use Rattle.pg_interval.specs.Decimals.{Decimal, TimeUnit, Year, Month, Day, Hour, Minute, Second, number_of, with_sign, whole_part, rounded, worth}
-use Rattle.pg_interval.specs.Pairs.{Pair, pair, decimal_pair, checked, fits_field, fits_above, total_of, plus, sum_of, nothing}
-use Rattle.pg_interval.specs.PostgresText.{Token, Number, Word, Joined, Time, Other, token_of, time_of, token_split, is_number_byte, pairs_of_tokens}
+use Rattle.pg_interval.specs.Texts.{is_whitespace, is_digit, is_colon, is_empty, are_digits, tokens}
+use Rattle.pg_interval.specs.Decimals.{Decimal, TimeUnit, Year, Month, Day, Hour, Minute, Second, with_sign, whole_part, worth}
+use Rattle.pg_interval.specs.Pairs.{Pair, pair, decimal_pair, checked, fits_field, fits_above, total_of, sum_of, nothing}
+use Rattle.pg_interval.specs.PostgresText.{Token, Number, Word, token_of, time_of, token_split, is_number_byte, pairs_of_tokens}
 use Rattle.pg_interval.specs.Printed.{Part, part_of, part_text, own_text, word_end, minus_if, digits_of, is_zero}
 use Rattle.pg_interval.specs.declared.pg_interval.Interval.{Interval}
 use Rattle.pg_interval.specs.declared.interval_parse.parse_error.ParseError.{ParseError}

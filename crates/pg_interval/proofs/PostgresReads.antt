@@ -1,35 +1,34 @@
 -- What the style postgres prints stands for the interval.
-use Rattle.std.proofs.Common.{◌≡◌, ℕ, zero, suc, ◌+◌, ◌*◌, ◌/◌, ◌^◌, ◌<◌, ◌≤◌, ◌%◌, Bool, true, false, not, ◌&&◌, ◌||◌, List, [], ◌∷◌, ◌++◌, length, map, ap, ◌∙◌, sym, refl, subst, arith, lit<, lit≤, zero-le, Option, Some, None, Result, Ok, Err, ℤ, pos, negsuc, ◌+ℤ◌, ◌*ℤ◌}
+use Rattle.std.proofs.Common.{◌≡◌, ℕ, ◌+◌, ◌^◌, ◌<◌, ◌≤◌, Bool, true, false, List, [], ◌∷◌, ◌++◌, length, map, ap, ◌∙◌, sym, refl, arith, lit<, lit≤, zero-le, Option, Some, None, Ok, Err, ℤ, pos}
 use mathlib.Core.List.{append_assoc, append-nil, map-append}
-use Rattle.std.specs.Prelude.{if◌then◌else◌, ◌==◌, unsigned_abs, codes, decimal, nat_lt, All, bytes_eq}
+use Rattle.std.specs.Prelude.{if◌then◌else◌, unsigned_abs, codes, decimal, nat_lt, bytes_eq}
 use Rattle.std.specs.List.{list_any, flat_map, join_with_byte}
 use Rattle.std.specs.Int.{is_negative}
 use Rattle.std.specs.Int.Signed.{mag}
-use Rattle.std.proofs.lemmas.Int.{ints}
 use Rattle.std.proofs.lemmas.Grind.{flat_map-append}
 use Rattle.std.proofs.lemmas.List.Folds.{list_any-append}
 use Rattle.std.proofs.lemmas.Fmt.{length-decimal-le}
 use Rattle.std.proofs.Math.ListN.{length-append}
 use Rattle.pg_interval.specs.Cell.{IsInterval}
-use Rattle.pg_interval.specs.Texts.{◌>>=◌, is_whitespace, is_digit, is_empty, are_digits, tokens}
-use Rattle.pg_interval.specs.Decimals.{Decimal, TimeUnit, Year, Month, Day, Hour, Minute, Second, is_zero_decimal}
-use Rattle.pg_interval.specs.Pairs.{Pair, pair, total_of, sum_of, nothing, interval_of_pairs}
-use Rattle.pg_interval.specs.PostgresText.{Token, Number, Word, Time, token_of, pairs_of_tokens, pairs_by_words, each_unit_once, postgres_pairs, unit_of_word, unless_zero, those_not_zero}
-use Rattle.pg_interval.specs.Reading.{reading, of_shape, out_of_range, pairs_of, Style, Postgres}
+use Rattle.pg_interval.specs.Texts.{◌>>=◌, is_whitespace, is_empty, are_digits, tokens}
+use Rattle.pg_interval.specs.Decimals.{TimeUnit, Year, Month, Day, Hour, Minute, Second, is_zero_decimal}
+use Rattle.pg_interval.specs.Pairs.{Pair, total_of, nothing}
+use Rattle.pg_interval.specs.PostgresText.{token_of, pairs_of_tokens, pairs_by_words, each_unit_once, postgres_pairs, unit_of_word, unless_zero}
+use Rattle.pg_interval.specs.Reading.{reading, of_shape, out_of_range, Postgres}
 use Rattle.pg_interval.specs.Printed.{Part, part_of, part_text, own_text, word_end, minus_if, digits_of, is_zero, is_all_zero, is_time_zero, is_time_negative, two_digits, two_digits_of, six_digits, fraction_of, after_hours, date_parts, time_texts, postgres_text, printed}
-use Rattle.pg_interval.specs.NormalForm.{normal_form, exact_total, total_seconds, all_fields, time_fields}
+use Rattle.pg_interval.specs.NormalForm.{normal_form, exact_total}
 use Rattle.pg_interval.specs.declared.pg_interval.Interval.{Interval}
 use Rattle.pg_interval.specs.declared.interval_norm.IntervalNorm.{IntervalNorm}
 use Rattle.pg_interval.specs.declared.interval_parse.parse_error.Reason.TheVariants.{TooLong}
 use Rattle.pg_interval.specs.declared.interval_parse.parse_error.ParseError.{ParseError}
 use Rattle.pg_interval.specs.declared.interval_parse.parse_error.ParseError.TheVariants.{InvalidInterval}
-use Rattle.pg_interval.proofs.DigitTexts.{none_of_digits, digit_no_space, all_digits, filled_digits, digits_decimal, digits_two, tokens_append, tokens_whole, not_longer}
+use Rattle.pg_interval.proofs.DigitTexts.{none_of_digits, digit_no_space, all_digits, digits_two, tokens_append, tokens_whole, not_longer}
 use Rattle.pg_interval.proofs.PartTexts.{Names, whole_number, number_pairs, number_first, tokens_of_parts, abs_small}
 use Rattle.pg_interval.proofs.TimeTexts.{second_decimal, time_numbers, time_token, six_are_digits}
 use Rattle.pg_interval.proofs.PrintedLemmas.{all_zero_fields, time_zero_fields, is_zero_is}
 use Rattle.pg_interval.proofs.NormalFacts.{IsSized, HasTimeSign, normal_sizes, normal_time_sign, same_interval}
 use Rattle.pg_interval.proofs.NormalFormLemmas.{exact_total-normal_form}
-use Rattle.pg_interval.proofs.PairSums.{time_total, date_total, judged_interval, six_once, time_sum}
+use Rattle.pg_interval.proofs.PairSums.{time_total, date_total, judged_interval, six_once}
 
 -- ---- tokens
 

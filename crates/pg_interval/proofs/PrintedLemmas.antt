@@ -3,7 +3,7 @@ use Rattle.std.proofs.Common.{◌≡◌, ◌≢◌, ℕ, zero, suc, ℤ, pos, ne
 use Rattle.std.specs.Int.Signed.{mag}
 use mathlib.Core.List.{append_assoc, append-nil, map-append}
 use Rattle.std.proofs.lemmas.Grind.{flat_map-append}
-use Rattle.std.specs.Prelude.{unsigned_abs, decimal, codes, bytes_eq, flat_map, IsTrue, All, Any, nat_lt, nat_eq, IfOk, if◌then◌else◌}
+use Rattle.std.specs.Prelude.{unsigned_abs, decimal, codes, bytes_eq, flat_map, IsTrue, All, Any, nat_eq, if◌then◌else◌}
 use Rattle.std.specs.List.{join_with_byte}
 use Rattle.std.proofs.lemmas.Int.{to_z-of_z, ints}
 use Rattle.std.proofs.lemmas.List.Elements.{All-cons, All-nil}
@@ -13,7 +13,7 @@ use Rattle.std.proofs.lemmas.Slice.Eq.{bytes_eq-Decides}
 use Rattle.std.proofs.Math.Bool.{and-false}
 use Rattle.std.specs.Fmt.{digits}
 use Rattle.pg_interval.specs.NormalForm.{all_fields, time_fields}
-use Rattle.pg_interval.specs.Printed.{is_zero, is_all_zero, is_time_zero, is_year_month_zero, item_text, minus_if, digits_of, with_space, spaced, word_end, part_of, part_text, own_text, Part, time_texts, after_hours, two_digits, date_parts, postgres_text, verbose_time_parts, verbose_part_text, second_parts, is_second_zero, is_second_negative, is_ago, is_time_positive, is_time_negative}
+use Rattle.pg_interval.specs.Printed.{is_zero, is_all_zero, is_time_zero, is_year_month_zero, minus_if, digits_of, with_space, spaced, word_end, part_of, part_text, own_text, Part, time_texts, after_hours, two_digits, date_parts, postgres_text, verbose_time_parts, verbose_part_text, second_parts, is_second_zero, is_second_negative, is_ago, is_time_positive, is_time_negative}
 use Rattle.pg_interval.specs.declared.interval_norm.IntervalNorm.{IntervalNorm}
 
 pub ruleset signed_passed = (to_z-of_z, append_assoc, append-nil)

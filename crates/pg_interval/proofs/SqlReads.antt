@@ -1,22 +1,22 @@
 -- What the style sql_standard prints stands for the interval.
-use Rattle.std.proofs.Common.{◌≡◌, ◌≢◌, ℕ, zero, suc, ◌+◌, ◌-◌, ◌*◌, ◌/◌, ◌^◌, ◌<◌, ◌≤◌, ◌%◌, Bool, true, false, not, ◌&&◌, ◌||◌, List, [], ◌∷◌, ◌++◌, length, take, drop, map, ap, ◌∙◌, sym, refl, subst, arith, lit<, lit≤, zero-le, Option, Some, None, Result, Ok, Err, ◌⊎◌, inl, inr, ℤ, pos, negsuc, ◌+ℤ◌, ◌*ℤ◌, ◌≤ℤ◌, neg_ℤ}
+use Rattle.std.proofs.Common.{◌≡◌, ℕ, ◌+◌, ◌^◌, ◌<◌, ◌≤◌, Bool, true, false, not, ◌&&◌, ◌||◌, List, [], ◌∷◌, ◌++◌, length, take, drop, ap, ◌∙◌, sym, refl, subst, arith, lit<, lit≤, Some, None, Ok, Err, inl, inr, ℤ, pos, negsuc, ◌+ℤ◌, ◌*ℤ◌, ◌≤ℤ◌}
 use mathlib.Core.List.{append_assoc, append-nil}
-use Rattle.std.specs.Prelude.{if◌then◌else◌, ◌==◌, unsigned_abs, codes, decimal, nat_lt, nat_le, bytes_eq, int_div, int_rem}
+use Rattle.std.specs.Prelude.{if◌then◌else◌, unsigned_abs, codes, decimal, nat_le, bytes_eq, int_div, int_rem}
 use Rattle.std.specs.List.{list_any, list_all, slice_split, before_first, after_first, position_or_len}
 use Rattle.std.specs.Int.{is_negative, is_positive}
 use Rattle.std.specs.Int.Signed.{mag}
 use Rattle.std.specs.Str.Parse.{digits_value}
 use Rattle.std.proofs.lemmas.Int.{ints}
-use Rattle.std.proofs.lemmas.List.Folds.{list_any-append, list_all-append}
+use Rattle.std.proofs.lemmas.List.Folds.{list_any-append}
 use Rattle.std.proofs.Math.ListN.{length-append}
 use Rattle.std.proofs.Math.Seq.{take-append_seam, drop-append-add}
 use Rattle.std.proofs.lemmas.Slice.Eq.{bytes_eq-Decides}
-use Rattle.std.proofs.Math.Bool.{or-true, and-false}
+use Rattle.std.proofs.Math.Bool.{or-true}
 use Rattle.pg_interval.specs.Cell.{IsInterval}
 use Rattle.pg_interval.specs.Texts.{◌>>=◌, is_whitespace, is_digit, is_sign, is_point, is_colon, is_minus, is_empty, are_digits, begins, without_sign, tokens}
 use Rattle.pg_interval.specs.Decimals.{Decimal, TimeUnit, Year, Month, Day, Hour, Minute, Second, number_of, with_sign, worth, whole_part, rounded}
-use Rattle.pg_interval.specs.Pairs.{Pair, pair, total_of, sum_of, nothing, fits_above, fits_field}
-use Rattle.pg_interval.specs.SqlText.{field_number, field_pair, fraction_pair, is_field, fields, year_month_pairs, day_pairs, second_pairs, clock_pairs, sql_time_pairs, pairs_of_sql_tokens, sql_pairs}
+use Rattle.pg_interval.specs.Pairs.{Pair, pair, total_of, sum_of, nothing, fits_field}
+use Rattle.pg_interval.specs.SqlText.{field_pair, fraction_pair, is_field, fields, year_month_pairs, day_pairs, second_pairs, clock_pairs, sql_time_pairs, pairs_of_sql_tokens, sql_pairs}
 use Rattle.pg_interval.specs.Reading.{reading, of_shape, out_of_range, SqlStandard}
 use Rattle.pg_interval.specs.Printed.{minus_if, sign_of, digits_of, is_zero, is_all_zero, is_time_zero, is_year_month_zero, is_time_negative, is_time_positive, is_year_month_negative, are_opposite, two_digits, two_digits_of, six_digits, fraction_of, after_hours, year_month_text, sql_time_text, day_time_text, signed_days_text, signed_text, fields_text, sql_text, printed}
 use Rattle.pg_interval.specs.NormalForm.{normal_form, exact_total, HaveOneSign}
@@ -29,7 +29,7 @@ use Rattle.pg_interval.specs.declared.interval_parse.parse_error.IntError.TheVar
 use Rattle.pg_interval.proofs.DigitTexts.{none_of_digits, digit_no_space, digit_no_colon, digit_no_point, digit_no_sign, digit_no_minus, all_digits, filled_digits, digits_decimal, value_decimal, digits_two, value_two, split_none, split_at, tokens_append, tokens_whole, not_longer, and_left, and_right, or_none_left, or_none_right}
 use Rattle.pg_interval.proofs.PartTexts.{whole_number, abs_small, unit_worth, worth_whole, fits_by_mag, whole_worth, with_sign_is, zero_sign, nothing_more}
 use Rattle.pg_interval.proofs.TimeTexts.{six_are_digits, six_value, rounded_six, time_cut}
-use Rattle.pg_interval.proofs.PrintedLemmas.{zero_is_zero, is_zero_is, time_zero_fields}
+use Rattle.pg_interval.proofs.PrintedLemmas.{zero_is_zero, time_zero_fields}
 use Rattle.pg_interval.proofs.NormalFacts.{IsSized, HasTimeSign, normal_sizes, normal_time_sign, same_interval, above, below, not_below, fields_sum}
 use Rattle.pg_interval.proofs.PairSums.{judged_interval, time_sum}
 use Rattle.pg_interval.proofs.PostgresReads.{zero_interval, minus_length, decimal_length, after_hours_length, after_hours_no_space}

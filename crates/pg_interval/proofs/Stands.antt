@@ -1,8 +1,8 @@
 -- From what a printer answers to what its text stands for.
-use Rattle.std.proofs.Common.{◌≡◌, List, ℕ, Result, Ok, Err, ◌∙◌, ap, sym}
+use Rattle.std.proofs.Common.{◌≡◌, List, ℕ, Result, Ok, Err, ◌∙◌, ap}
 use Rattle.std.specs.Prelude.{IfOk}
 use Rattle.pg_interval.specs.Cell.{IsInterval}
-use Rattle.pg_interval.specs.Reading.{reading, Style, StandsFor, StandsForOnly}
+use Rattle.pg_interval.specs.Reading.{reading, Style, StandsForOnly}
 use Rattle.pg_interval.specs.Printed.{printed, IsPrintedOnlyFor}
 use Rattle.pg_interval.specs.declared.pg_interval.Interval.{Interval}
 

@@ -1,6 +1,6 @@
 -- The grammars at texts whose meaning is known, computed.
-use Rattle.std.proofs.Common.{◌≡◌, ℕ, List, refl, pos, negsuc, Ok, Err, codes, replicate}
-use Rattle.pg_interval.specs.Reading.{reading, Style, Postgres, PostgresVerbose, Iso8601, SqlStandard}
+use Rattle.std.proofs.Common.{◌≡◌, refl, pos, negsuc, Ok, Err, codes, replicate}
+use Rattle.pg_interval.specs.Reading.{reading, Postgres, PostgresVerbose, Iso8601, SqlStandard}
 use Rattle.pg_interval.specs.PostgresText.{postgres_pairs, verbose_pairs}
 use Rattle.pg_interval.specs.IsoText.{iso_pairs}
 use Rattle.pg_interval.specs.SqlText.{sql_pairs}

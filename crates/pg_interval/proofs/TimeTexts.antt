@@ -1,27 +1,23 @@
 -- The time of a printed text, and what it is read as.
-use Rattle.std.proofs.Common.{◌≡◌, ℕ, zero, suc, ◌+◌, ◌*◌, ◌/◌, ◌^◌, ◌<◌, ◌≤◌, ◌%◌, Bool, true, false, not, ◌&&◌, ◌||◌, List, [], ◌∷◌, ◌++◌, length, take, drop, map, ap, ◌∙◌, sym, refl, subst, arith, lit<, lit≤, Option, Some, None, Result, Ok, Err, ◌⊎◌, inl, inr, ℤ, pos, negsuc, ◌+ℤ◌, ◌*ℤ◌}
+use Rattle.std.proofs.Common.{◌≡◌, ℕ, zero, suc, ◌+◌, ◌*◌, ◌/◌, ◌^◌, ◌<◌, ◌%◌, Bool, true, false, ◌&&◌, List, [], ◌∷◌, ◌++◌, length, take, drop, ap, ◌∙◌, sym, refl, arith, lit<, Some, None, ℤ, pos, ◌+ℤ◌, ◌*ℤ◌}
 use mathlib.Core.List.{append_assoc, append-nil}
-use Rattle.std.specs.Prelude.{if◌then◌else◌, ◌==◌, decimal, codes, unsigned_abs}
+use Rattle.std.specs.Prelude.{if◌then◌else◌, unsigned_abs}
 use Rattle.std.specs.List.{list_all, list_any, slice_split, take_while}
-use Rattle.std.specs.Int.{is_negative}
-use Rattle.std.specs.Int.Signed.{mag}
 use Rattle.std.specs.Char.{digit_value}
 use Rattle.std.specs.Str.Parse.{digits_value, digits_value_after}
-use Rattle.std.proofs.lemmas.List.Folds.{list_any-append, list_all-append}
+use Rattle.std.proofs.lemmas.List.Folds.{list_any-append}
 use Rattle.std.proofs.Math.Bool.{or-true}
 use Rattle.std.proofs.Math.Arith.{mod-mul}
 use Rattle.std.proofs.Math.Nat.{pow-succ'}
-use Rattle.std.proofs.lemmas.Int.{ints}
-use Rattle.pg_interval.specs.Texts.{◌>>=◌, is_whitespace, is_digit, is_letter, is_sign, is_point, is_colon, is_minus, is_empty, are_digits, begins, without_sign, tokens}
-use Rattle.pg_interval.specs.Decimals.{Decimal, TimeUnit, Year, Month, Day, Hour, Minute, Second, number_of, with_sign, whole_part, rounded, worth, is_zero_decimal}
-use Rattle.pg_interval.specs.Pairs.{Pair, pair, decimal_pair, fits_field, fits_above, total_of, plus, sum_of, nothing}
-use Rattle.pg_interval.specs.PostgresText.{Token, Number, Word, Joined, Time, Other, token_of, time_of, time_pairs, seconds_of, or_other, those_not_zero, unless_zero, token_split, is_number_byte}
-use Rattle.pg_interval.specs.Printed.{minus_if, digits_of, is_zero, two_digits, two_digits_of, six_digits, last_digits, fraction_of, after_hours}
-use Rattle.pg_interval.specs.declared.pg_interval.Interval.{Interval}
+use Rattle.pg_interval.specs.Texts.{◌>>=◌, is_digit, is_sign, is_point, is_colon, are_digits}
+use Rattle.pg_interval.specs.Decimals.{Decimal, Second, number_of, with_sign, worth}
+use Rattle.pg_interval.specs.Pairs.{Pair, sum_of}
+use Rattle.pg_interval.specs.PostgresText.{Time, token_of, time_of, time_pairs, seconds_of, or_other, those_not_zero, token_split, is_number_byte}
+use Rattle.pg_interval.specs.Printed.{minus_if, is_zero, two_digits, two_digits_of, six_digits, last_digits, fraction_of, after_hours}
 use Rattle.pg_interval.specs.declared.interval_norm.IntervalNorm.{IntervalNorm}
-use Rattle.pg_interval.proofs.DigitTexts.{none_of_digits, digit_no_space, digit_no_colon, digit_no_point, digit_no_minus, digit_no_sign, all_digits, filled_digits, digits_decimal, value_decimal, digits_two, value_two, split_at, split_none, and_left, and_right, digit_glyph_is}
+use Rattle.pg_interval.proofs.DigitTexts.{none_of_digits, digit_no_colon, digit_no_point, digit_no_minus, digit_no_sign, all_digits, digits_two, value_two, split_at, split_none, and_left, digit_glyph_is}
 use Rattle.pg_interval.proofs.PrintedLemmas.{zero_is_zero}
-use Rattle.pg_interval.proofs.PartTexts.{whole_number, abs_small, zero_sign, worth_whole, unit_worth}
+use Rattle.pg_interval.proofs.PartTexts.{whole_number, zero_sign, unit_worth}
 
 -- ---- the six digits of the microseconds
 

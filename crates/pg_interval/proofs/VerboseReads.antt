@@ -1,38 +1,37 @@
 -- What the style postgres_verbose prints stands for the interval.
-use Rattle.std.proofs.Common.{◌≡◌, ◌≢◌, ℕ, zero, suc, ◌+◌, ◌-◌, ◌*◌, ◌/◌, ◌^◌, ◌<◌, ◌≤◌, ◌%◌, Bool, true, false, not, ◌&&◌, ◌||◌, List, [], ◌∷◌, ◌++◌, length, take, drop, map, ap, ◌∙◌, sym, refl, subst, arith, lit<, lit≤, zero-le, Option, Some, None, Result, Ok, Err, ◌⊎◌, inl, inr, ℤ, pos, negsuc, ◌+ℤ◌, ◌*ℤ◌}
+use Rattle.std.proofs.Common.{◌≡◌, ℕ, zero, suc, ◌+◌, ◌*◌, ◌/◌, ◌^◌, ◌<◌, ◌≤◌, Bool, true, false, not, ◌&&◌, ◌||◌, List, [], ◌∷◌, ◌++◌, length, map, ap, ◌∙◌, sym, refl, subst, arith, lit≤, zero-le, Some, None, Ok, Err, ◌⊎◌, inl, inr, ℤ, pos, ◌+ℤ◌, ◌*ℤ◌}
 use mathlib.Core.List.{append_assoc, append-nil, map-append}
-use Rattle.std.specs.Prelude.{if◌then◌else◌, ◌==◌, unsigned_abs, codes, decimal, nat_lt, bytes_eq}
+use Rattle.std.specs.Prelude.{if◌then◌else◌, ◌==◌, unsigned_abs, codes, decimal, bytes_eq}
 use Rattle.std.specs.List.{list_any, list_all, flat_map}
 use Rattle.std.specs.Int.{is_negative}
 use Rattle.std.specs.Int.Signed.{mag}
 use Rattle.std.specs.Str.Parse.{digits_value, digits_value_after}
 use Rattle.std.specs.Char.{digit_value}
 use Rattle.std.proofs.lemmas.Int.{ints}
-use Rattle.std.proofs.lemmas.Grind.{flat_map-append}
 use Rattle.std.proofs.lemmas.List.Folds.{list_any-append, list_all-append}
 use Rattle.std.proofs.lemmas.Bool.{eqb-true}
 use Rattle.std.proofs.Math.ListN.{length-append}
 use Rattle.std.proofs.Math.Nat.{pow-succ'}
 use Rattle.pg_interval.specs.Cell.{IsInterval}
-use Rattle.pg_interval.specs.Texts.{◌>>=◌, is_whitespace, is_digit, is_point, is_colon, is_empty, are_digits, tokens}
-use Rattle.pg_interval.specs.Decimals.{Decimal, TimeUnit, Year, Month, Day, Hour, Minute, Second, number_of, with_sign, worth, whole_part, negated, rounded}
-use Rattle.pg_interval.specs.Pairs.{Pair, pair, decimal_pair, checked, turned, turned_number, total_of, sum_of, nothing, fits_above}
-use Rattle.pg_interval.specs.PostgresText.{Token, Number, Word, token_of, is_number_byte, pairs_of_tokens, pairs_by_words, each_unit_once, same_unit, unit_of_verbose_word, verbose_pairs}
+use Rattle.pg_interval.specs.Texts.{◌>>=◌, is_whitespace, is_digit, is_colon, is_empty, are_digits, tokens}
+use Rattle.pg_interval.specs.Decimals.{Decimal, TimeUnit, Year, Month, Day, Hour, Minute, Second, with_sign, worth, whole_part, rounded}
+use Rattle.pg_interval.specs.Pairs.{Pair, pair, decimal_pair, checked, turned, total_of, sum_of, nothing, fits_above}
+use Rattle.pg_interval.specs.PostgresText.{Token, token_of, is_number_byte, pairs_of_tokens, pairs_by_words, each_unit_once, unit_of_verbose_word, verbose_pairs}
 use Rattle.pg_interval.specs.Reading.{reading, of_shape, out_of_range, PostgresVerbose}
-use Rattle.pg_interval.specs.Printed.{Part, part_of, part_text, word_end, minus_if, digits_of, is_zero, is_all_zero, is_year_month_zero, is_time_zero, is_second_zero, is_second_negative, last_digits, six_digits, decimals_of, second_digits, second_parts, date_parts, verbose_time_parts, verbose_parts, verbose_part_text, without_last_zeros, is_ago, ago_end, verbose_text, verbose_text_of, printed}
+use Rattle.pg_interval.specs.Printed.{Part, part_of, part_text, word_end, minus_if, digits_of, is_zero, is_all_zero, is_year_month_zero, is_time_zero, is_second_zero, is_second_negative, six_digits, decimals_of, second_digits, second_parts, date_parts, verbose_time_parts, verbose_parts, verbose_part_text, without_last_zeros, is_ago, ago_end, verbose_text, verbose_text_of, printed}
 use Rattle.pg_interval.specs.NormalForm.{normal_form, exact_total}
 use Rattle.pg_interval.specs.declared.pg_interval.Interval.{Interval}
 use Rattle.pg_interval.specs.declared.interval_norm.IntervalNorm.{IntervalNorm}
 use Rattle.pg_interval.specs.declared.interval_parse.parse_error.Reason.TheVariants.{TooLong}
 use Rattle.pg_interval.specs.declared.interval_parse.parse_error.ParseError.{ParseError}
 use Rattle.pg_interval.specs.declared.interval_parse.parse_error.ParseError.TheVariants.{InvalidInterval}
-use Rattle.pg_interval.proofs.DigitTexts.{none_of_digits, digit_no_space, digit_no_colon, all_digits, filled_digits, digits_decimal, value_decimal, decimal_point, not_longer, and_left, and_right}
-use Rattle.pg_interval.proofs.PartTexts.{Names, IsPartRead, spaced_part, part_read, pair_first, number_token, whole_number, number_pairs, number_total, abs_small, unit_worth, decimal_pair_whole, fits_by_mag, whole_worth, nothing_more, zero_sign}
-use Rattle.pg_interval.proofs.TimeTexts.{last_are_digits, six_value, six_are_digits}
+use Rattle.pg_interval.proofs.DigitTexts.{none_of_digits, digit_no_space, digit_no_colon, all_digits, digits_decimal, value_decimal, decimal_point, not_longer, and_left, and_right}
+use Rattle.pg_interval.proofs.PartTexts.{Names, IsPartRead, spaced_part, pair_first, number_token, whole_number, number_pairs, number_total, abs_small, unit_worth, decimal_pair_whole, fits_by_mag, whole_worth, zero_sign}
+use Rattle.pg_interval.proofs.TimeTexts.{six_value, six_are_digits}
 use Rattle.pg_interval.proofs.PrintedLemmas.{zero_is_zero}
-use Rattle.pg_interval.proofs.NormalFacts.{IsSized, HasTimeSign, normal_sizes, normal_time_sign, same_interval}
-use Rattle.pg_interval.proofs.PairSums.{date_total, judged_interval, time_sum, six_once, maybe}
-use Rattle.pg_interval.proofs.PostgresReads.{zero_interval, minus_length, decimal_length, word_end_length, part_length}
+use Rattle.pg_interval.proofs.NormalFacts.{IsSized, normal_sizes, normal_time_sign, same_interval}
+use Rattle.pg_interval.proofs.PairSums.{date_total, judged_interval, six_once}
+use Rattle.pg_interval.proofs.PostgresReads.{zero_interval, decimal_length, part_length}
 use Rattle.pg_interval.proofs.IsoReads.{HasSecondSign, second_sign, second_sum}
 use Rattle.pg_interval.proofs.VerboseTexts.{EndsWell, ends_after, after_at, verbose_read, spaced_tokens}
 

@@ -1,18 +1,18 @@
 -- The ends of a text of the style postgres_verbose, and how they are trimmed and taken off.
-use Rattle.std.proofs.Common.{◌≡◌, ◌≢◌, ℕ, zero, suc, ◌+◌, ◌-◌, ◌*◌, ◌/◌, ◌^◌, ◌<◌, ◌≤◌, ◌%◌, Bool, true, false, not, ◌&&◌, ◌||◌, List, [], ◌∷◌, ◌++◌, length, take, drop, map, ap, ◌∙◌, sym, refl, subst, arith, lit<, lit≤, Option, Some, None, inl, inr}
+use Rattle.std.proofs.Common.{◌≡◌, ◌≢◌, ℕ, ◌-◌, Bool, true, false, ◌&&◌, List, [], ◌∷◌, ◌++◌, length, take, drop, map, ap, ◌∙◌, sym, refl, arith, Option, Some}
 use mathlib.Core.List.{append_assoc, append-nil}
-use Rattle.std.specs.Prelude.{if◌then◌else◌, ◌==◌, codes, bytes_eq}
+use Rattle.std.specs.Prelude.{if◌then◌else◌, codes, bytes_eq}
 use Rattle.std.specs.Bool.{nat_eq}
-use Rattle.std.specs.List.{list_any, list_all, ends_with, flat_map, take_while}
+use Rattle.std.specs.List.{list_all, ends_with, flat_map}
 use Rattle.std.proofs.lemmas.List.{same_from_push, take-append-drop}
 use Rattle.std.proofs.lemmas.List.Folds.{list_all-append}
 use Rattle.std.proofs.lemmas.Slice.Eq.{bytes_eq-Decides}
 use Rattle.std.proofs.Math.ListN.{length-append}
 use Rattle.std.proofs.Math.Bool.{and-false}
 use Rattle.std.proofs.Math.Seq.{drop-append_seam, take-append_seam}
-use Rattle.pg_interval.specs.Texts.{◌>>=◌, is_whitespace, is_digit, is_empty, tokens}
+use Rattle.pg_interval.specs.Texts.{◌>>=◌, is_whitespace, tokens}
 use Rattle.pg_interval.specs.Pairs.{Pair, turned}
-use Rattle.pg_interval.specs.PostgresText.{trimmed_start, trimmed_end, trimmed, verbose_pairs_within, pairs_after_at, pairs_from_at, verbose_pairs, pairs_by_words, unit_of_verbose_word}
+use Rattle.pg_interval.specs.PostgresText.{trimmed_start, trimmed_end, verbose_pairs_within, pairs_after_at, pairs_from_at, verbose_pairs, pairs_by_words, unit_of_verbose_word}
 use Rattle.pg_interval.proofs.DigitTexts.{tokens_append}
 
 -- the last byte is neither a space nor `o` nor `0`

@@ -1,5 +1,5 @@
 -- The texts of the style `iso_8601`: ISO 8601, durations in the format with designators, as PostgreSQL reads them.
-use Rattle.std.specs.Prelude.{ℕ, Bool, true, false, ◌&&◌, ◌||◌, ◌==◌, if◌then◌else◌, List, [], ◌∷◌, ◌++◌, map, Option, None, Some}
+use Rattle.std.specs.Prelude.{ℕ, Bool, true, ◌&&◌, ◌||◌, ◌==◌, if◌then◌else◌, List, [], ◌∷◌, ◌++◌, Option, None, Some}
 use Rattle.std.specs.List.{slice_split, list_all}
 use Rattle.pg_interval.specs.Texts.{◌>>=◌, is_digit, is_point, is_minus}
 use Rattle.pg_interval.specs.Decimals.{TimeUnit, Year, Month, Day, Hour, Minute, Second}

@@ -1,8 +1,8 @@
 -- The texts of the styles `postgres` and `postgres_verbose`: PostgreSQL's documentation, "Interval Input".
-use Rattle.std.specs.Prelude.{ℕ, ◌+◌, ◌-◌, Bool, true, false, not, ◌&&◌, ◌||◌, ◌==◌, if◌then◌else◌, List, [], ◌∷◌, ◌++◌, length, take, drop, map, filter, codes, bytes_eq, Option, None, Some, Result, Ok, Err}
+use Rattle.std.specs.Prelude.{ℕ, ◌-◌, Bool, true, false, not, ◌&&◌, ◌||◌, ◌==◌, if◌then◌else◌, List, [], ◌∷◌, ◌++◌, length, take, drop, map, codes, bytes_eq, Option, None, Some}
 use Rattle.std.specs.List.{slice_split, list_all, list_any, take_while, ends_with}
 use Rattle.std.specs.Bool.{nat_eq}
-use Rattle.pg_interval.specs.Texts.{◌>>=◌, is_whitespace, is_digit, is_letter, is_sign, is_point, is_colon, is_minus, is_empty, are_digits, begins, without_sign, tokens}
+use Rattle.pg_interval.specs.Texts.{◌>>=◌, is_whitespace, is_digit, is_letter, is_sign, is_point, is_colon, is_minus, are_digits, begins, without_sign, tokens}
 use Rattle.pg_interval.specs.Decimals.{Decimal, TimeUnit, Year, Month, Day, Hour, Minute, Second, number_of, is_zero_decimal}
 use Rattle.pg_interval.specs.Pairs.{Pair, pair, decimal_pair, turned}
 

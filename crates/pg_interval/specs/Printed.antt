@@ -1,6 +1,6 @@
 -- The text of an interval in each of PostgreSQL's four interval styles: its documentation, "Interval Output".
 -- A text is put together from the fields of the normal form; `decimal n` is n in decimal digits.
-use Rattle.std.specs.Prelude.{◌≡◌, ℕ, zero, suc, ◌+◌, ◌/◌, ◌%◌, ◌^◌, Bool, true, false, not, ◌&&◌, ◌||◌, ◌==◌, nat_lt, if◌then◌else◌, List, [], ◌∷◌, ◌++◌, flat_map, map, codes, bytes_eq, ℤ, unsigned_abs, decimal}
+use Rattle.std.specs.Prelude.{◌≡◌, ℕ, zero, suc, ◌+◌, ◌/◌, ◌%◌, ◌^◌, Bool, false, not, ◌&&◌, ◌||◌, ◌==◌, nat_lt, if◌then◌else◌, List, [], ◌∷◌, ◌++◌, flat_map, map, codes, bytes_eq, ℤ, unsigned_abs, decimal}
 use Rattle.std.specs.List.{join_with_byte, list_all}
 use Rattle.std.specs.Int.{is_negative, is_positive}
 use Rattle.pg_interval.specs.Cell.{IsInterval}

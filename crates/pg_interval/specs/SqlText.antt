@@ -1,9 +1,9 @@
 -- The texts of the style `sql_standard`: the interval literals of the SQL standard, as PostgreSQL reads them.
-use Rattle.std.specs.Prelude.{ℕ, Bool, true, false, not, ◌&&◌, ◌==◌, nat_le, if◌then◌else◌, List, [], ◌∷◌, ◌++◌, length, codes, bytes_eq, Option, None, Some, Result, Ok, Err}
+use Rattle.std.specs.Prelude.{ℕ, Bool, not, ◌&&◌, nat_le, if◌then◌else◌, List, [], ◌∷◌, ◌++◌, length, codes, bytes_eq, Option, None, Some, Result, Ok, Err}
 use Rattle.std.specs.List.{slice_split, list_all, list_any, before_first, after_first}
-use Rattle.pg_interval.specs.Texts.{◌>>=◌, is_digit, is_sign, is_point, is_colon, is_minus, is_empty, begins, without_sign, tokens}
+use Rattle.pg_interval.specs.Texts.{◌>>=◌, is_digit, is_sign, is_point, is_colon, is_minus, begins, without_sign, tokens}
 use Rattle.pg_interval.specs.Decimals.{Decimal, TimeUnit, Year, Month, Day, Hour, Minute, Second, number_of}
-use Rattle.pg_interval.specs.Pairs.{Pair, pair}
+use Rattle.pg_interval.specs.Pairs.{Pair}
 use Rattle.pg_interval.specs.declared.interval_parse.parse_error.IntError.TheVariants.{Empty, InvalidDigit}
 use Rattle.pg_interval.specs.declared.interval_parse.parse_error.ParseError.{ParseError}
 use Rattle.pg_interval.specs.declared.interval_parse.parse_error.ParseError.TheVariants.{ParseIntErr}

@@ -1,4 +1,4 @@
-use Rattle.std.proofs.Common.{◌≡◌, ◌++◌, rules, FitsSigned, w64}
+use Rattle.std.proofs.Common.{rules, FitsSigned, w64}
 use mathlib.Core.List.{append_assoc}
 use Rattle.std.proofs.lemmas.Int.{to_z-of_z}
 use Rattle.pg_interval.specs.Printed.{after_hours}

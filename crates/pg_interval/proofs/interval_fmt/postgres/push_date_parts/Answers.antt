@@ -1,4 +1,4 @@
-use Rattle.std.proofs.Common.{◌≡◌, ◌∙◌, ap, rules, FitsSigned, w32, w64, to_z, of_z}
+use Rattle.std.proofs.Common.{◌∙◌, ap, rules, FitsSigned, w32, w64, to_z, of_z}
 use Rattle.pg_interval.proofs.PrintedLemmas.{widened, dates_printed}
 use Rattle.pg_interval.proofs.interval_fmt.postgres.push_date_parts.Goals as goal
 

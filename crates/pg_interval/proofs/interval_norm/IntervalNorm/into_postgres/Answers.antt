@@ -1,4 +1,4 @@
-use Rattle.std.proofs.Common.{◌≡◌, ◌∙◌, sym, rules, FitsSigned, w32}
+use Rattle.std.proofs.Common.{◌∙◌, sym, rules, FitsSigned, w32}
 use Rattle.std.proofs.lemmas.Int.{to_z-of_z}
 use Rattle.pg_interval.proofs.PrintedLemmas.{postgres_printed}
 use Rattle.pg_interval.proofs.interval_norm.IntervalNorm.into_postgres.Goals as goal

@@ -1,4 +1,4 @@
-use Rattle.std.proofs.Common.{◌≡◌, ◌∙◌, sym, ap, rules, FitsSigned, w64}
+use Rattle.std.proofs.Common.{◌∙◌, sym, ap, rules, FitsSigned, w64}
 use Rattle.std.specs.Prelude.{unsigned_abs}
 use Rattle.std.proofs.lemmas.Int.{to_z-of_z}
 use Rattle.pg_interval.proofs.PrintedLemmas.{seconds_ago}

@@ -1,5 +1,4 @@
-use Rattle.std.proofs.Common.{◌≡◌, rules, sym}
-use Rattle.pg_interval.specs.Cell.{IsInterval}
+use Rattle.std.proofs.Common.{rules, sym}
 use Rattle.pg_interval.proofs.pg_interval.Interval.in_normal_form.Goals as goal
 
 pub returns-clause-within : goal.returns-clause-within
