@@ -1,3 +1,18 @@
 pub mod CellLemmas
+pub mod DecimalsLemmas
+pub mod DigitTexts
+pub mod IsoReads
+pub mod NormalFacts
 pub mod NormalFormLemmas
 pub mod OptionLemmas
+pub mod PairSums
+pub mod PartTexts
+pub mod PostgresReads
+pub mod PrintedLemmas
+pub mod SqlReads
+pub mod Stands
+mod TextsPrinted
+mod TextsRead
+pub mod TimeTexts
+pub mod VerboseReads
+pub mod VerboseTexts

@@ -1,5 +1,13 @@
 pub mod Arithmetic
 pub mod Cell
+pub mod Decimals
+pub mod IsoText
 pub mod Duration
 pub mod ErrorText
 pub mod NormalForm
+pub mod Pairs
+pub mod PostgresText
+pub mod Printed
+pub mod Reading
+pub mod SqlText
+pub mod Texts

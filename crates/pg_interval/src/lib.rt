@@ -2,6 +2,7 @@
 #![tactic(auto)]
 
 mod integrations;
+mod interval_fmt;
 mod interval_norm;
 mod interval_parse;
 mod pg_interval;
