@@ -1,5 +1,5 @@
 -- What a map of names answers, and what a change of a `BTreeMap` with `String` keys makes of it.
-use Rattle.std.proofs.Common.{◌≡◌, ℕ, Bool, true, false, cond, List, [], ◌∷◌, map, Option, Some, None, String, refl, sym, ap, ◌∙◌}
+use Rattle.std.proofs.Common.{◌≡◌, ℕ, cond, List, [], ◌∷◌, map, Option, Some, None, String, refl, sym, ap, ◌∙◌}
 use Rattle.std.specs.Cmp.{eq_by_cmp_equiv}
 use Rattle.std.specs.Cmp.Lexicographic.{slice_cmp, nat_list_cmp_total}
 use Rattle.std.specs.Ordering.{nat_cmp, is_eq}
@@ -9,7 +9,7 @@ use Rattle.std.specs.Map.{lookup}
 use Rattle.std.specs.BTreeMap as tree
 use Rattle.std.specs.FinMap as fin
 use Rattle.std.proofs.lemmas.Map.Text.{is_eq-slice_cmp, btree_map_updates_text}
-use Rattle.pg_portal.specs.Names.{NameMap, name_map}
+use Rattle.pg_portal.specs.Names.{name_map}
 
 find_name : {A X : Type 0} (es : List (String A × X)) (q : List ℕ)
     → fin.find (slice_cmp nat_cmp) q (map (λ e. (string_bytes e.0, e.1)) es) ≡ lookup (tree.is_at (λ k. slice_cmp nat_cmp q (string_bytes k))) es

@@ -18,17 +18,28 @@ told_more false r m h = ap (λ l. 1 + from_be_bytes w32 (take 4 l)) (drop_one-ap
 
 good_more : (b : Bool) (r m : List ℕ) → header_len b ≤ length r → IsGoodHeader b (r ++ m) → IsGoodHeader b r
 good_more true r m h g = subst (λ n. (8 ≤ n) × (n ≤ 10000)) (told_more true r m h) g
-good_more false r m h g = (subst (Contains type_bytes) (get_or-append r m 0 0 (omega arith)) g.0,
-    subst (λ n. 5 ≤ n) (told_more false r m h) g.1, subst (λ n. n ≤ 1048577) (told_more false r m h) g.2)
+good_more false r m h g = (
+  subst (Contains type_bytes) (get_or-append r m 0 0 (omega arith)) g.0,
+  subst (λ n. 5 ≤ n) (told_more false r m h) g.1,
+  subst (λ n. n ≤ 1048577) (told_more false r m h) g.2,
+)
 
 good_less : (b : Bool) (r m : List ℕ) → header_len b ≤ length r → IsGoodHeader b r → IsGoodHeader b (r ++ m)
 good_less true r m h g = subst (λ n. (8 ≤ n) × (n ≤ 10000)) (sym (told_more true r m h)) g
-good_less false r m h g = (subst (Contains type_bytes) (sym (get_or-append r m 0 0 (omega arith))) g.0,
-    subst (λ n. 5 ≤ n) (sym (told_more false r m h)) g.1, subst (λ n. n ≤ 1048577) (sym (told_more false r m h)) g.2)
+good_less false r m h g = (
+  subst (Contains type_bytes) (sym (get_or-append r m 0 0 (omega arith))) g.0,
+  subst (λ n. 5 ≤ n) (sym (told_more false r m h)) g.1,
+  subst (λ n. n ≤ 1048577) (sym (told_more false r m h)) g.2,
+)
 
 pub bad_more : (b : Bool) (r m : List ℕ) → IsBad b r → IsBad b (r ++ m)
 bad_more b r m (h, inl refused) = (let e = length-append r m in omega arith, inl (λ g. refused (good_more b r m h g)))
 bad_more b r m (h, inr whole) =
-    let e = length-append r m in let t = told_more b r m h in
-    (omega arith, inr (good_less b r m h whole.0, omega arith,
-      λ message f. whole.2 message (subst (λ l. IsFrame b l message) (ap (λ n. take n (r ++ m)) t ∙ take-append-le (told_len b r) r m whole.1) f)))
+    let e = length-append r m in let t = told_more b r m h in (
+      omega arith,
+      inr (
+        good_less b r m h whole.0,
+        omega arith,
+        λ message f. whole.2 message (subst (λ l. IsFrame b l message) (ap (λ n. take n (r ++ m)) t ∙ take-append-le (told_len b r) r m whole.1) f),
+      ),
+    )

@@ -30,7 +30,11 @@ ends_not_goes kind t e = absurd (no e)
 
 followed_by_assoc : (a b c : Answer) → followed_by a (followed_by b c) ≡ followed_by (followed_by a b) c
 followed_by_assoc a b c = λ i. record {
-    replies = sym (append_assoc a.replies b.replies c.replies) i; calls = sym (append_assoc a.calls b.calls c.calls) i; left = c.left; next = c.next }
+  replies = sym (append_assoc a.replies b.replies c.replies) i;
+  calls = sym (append_assoc a.calls b.calls c.calls) i;
+  left = c.left;
+  next = c.next;
+}
 
 one_of : (given : Answer) (n : Next) → given.next ≡ n → continued given n (λ left t. record { replies = []; calls = []; left = left; next = Goes t }) ≡ given
 one_of given (Goes t) e = λ i. record { replies = append-nil given.replies i; calls = append-nil given.calls i; left = given.left; next = sym e i }
@@ -121,18 +125,19 @@ conversation_awaits setting answers s t (m ∷ ms) e =
 pub IsFed-then : {setting : Setting} {s t : SessionState} {text mid rest b c : List ℕ} {k l : List DeskCall} {next : Next}
     → IsFed setting s text mid b k (Goes t) → IsFed setting t mid rest c l next → IsFed setting s text rest (b ++ c) (k ++ l) next
 IsFed-then {setting} {s} {t} {text} {mid} {rest} {b} {c} {k} {l} {next} p q = record {
-    messages = p.messages ++ q.messages;
-    division = divides-append (awaits s) text mid rest p.messages q.messages p.division
-        (subst (λ w. DividesInto w mid q.messages rest) (conversation_awaits setting [] s t p.messages (p.goes_on [])) q.division);
-    replied = λ answers. let first = conversation setting answers s p.messages in
-        ap (λ x. x ++ c) (p.replied answers) ∙ ap (λ y. replies_bytes first.replies ++ y) (q.replied first.left)
-        ∙ sym (replies_bytes-append first.replies (conversation setting first.left t q.messages).replies)
-        ∙ ap (λ a. replies_bytes a.replies) (sym (conversation-append setting answers s t p.messages q.messages (p.goes_on answers)));
-    called = λ answers. let first = conversation setting answers s p.messages in
-        ap (λ x. x ++ l) (p.called answers) ∙ ap (λ y. first.calls ++ y) (q.called first.left)
-        ∙ ap (λ a. a.calls) (sym (conversation-append setting answers s t p.messages q.messages (p.goes_on answers)));
-    goes_on = λ answers. let first = conversation setting answers s p.messages in
-        ap (λ a. a.next) (conversation-append setting answers s t p.messages q.messages (p.goes_on answers)) ∙ q.goes_on first.left }
+  messages = p.messages ++ q.messages;
+  division = divides-append (awaits s) text mid rest p.messages q.messages p.division
+      (subst (λ w. DividesInto w mid q.messages rest) (conversation_awaits setting [] s t p.messages (p.goes_on [])) q.division);
+  replied = λ answers. let first = conversation setting answers s p.messages in
+      ap (λ x. x ++ c) (p.replied answers) ∙ ap (λ y. replies_bytes first.replies ++ y) (q.replied first.left)
+      ∙ sym (replies_bytes-append first.replies (conversation setting first.left t q.messages).replies)
+      ∙ ap (λ a. replies_bytes a.replies) (sym (conversation-append setting answers s t p.messages q.messages (p.goes_on answers)));
+  called = λ answers. let first = conversation setting answers s p.messages in
+      ap (λ x. x ++ l) (p.called answers) ∙ ap (λ y. first.calls ++ y) (q.called first.left)
+      ∙ ap (λ a. a.calls) (sym (conversation-append setting answers s t p.messages q.messages (p.goes_on answers)));
+  goes_on = λ answers. let first = conversation setting answers s p.messages in
+      ap (λ a. a.next) (conversation-append setting answers s t p.messages q.messages (p.goes_on answers)) ∙ q.goes_on first.left;
+}
 
 -- no frame
 pub IsFed-none : (setting : Setting) (s : SessionState) (text : List ℕ) → IsFed setting s text text [] [] (Goes s)
@@ -141,8 +146,9 @@ IsFed-none setting s text = record { messages = []; division = refl; replied = �
 -- one frame
 pub IsFed-one : {setting : Setting} {s : SessionState} {text rest b : List ℕ} {k : List DeskCall} {next : Next} → IsAnswered setting s text rest b k next → IsFed setting s text rest b k next
 IsFed-one {setting} {s} {text} {rest} p = record {
-    messages = p.message ∷ [];
-    division = (p.frame, rest, p.division, p.carried, refl);
-    replied = λ answers. p.replied answers ∙ ap (λ a. replies_bytes a.replies) (sym (conversation-one setting answers s p.message));
-    called = λ answers. p.called answers ∙ ap (λ a. a.calls) (sym (conversation-one setting answers s p.message));
-    goes_on = λ answers. ap (λ a. a.next) (conversation-one setting answers s p.message) ∙ p.goes_on answers }
+  messages = p.message ∷ [];
+  division = (p.frame, rest, p.division, p.carried, refl);
+  replied = λ answers. p.replied answers ∙ ap (λ a. replies_bytes a.replies) (sym (conversation-one setting answers s p.message));
+  called = λ answers. p.called answers ∙ ap (λ a. a.calls) (sym (conversation-one setting answers s p.message));
+  goes_on = λ answers. ap (λ a. a.next) (conversation-one setting answers s p.message) ∙ p.goes_on answers;
+}

@@ -73,7 +73,7 @@ length-trimmed t =
 pub missing_no_zero : (kind name text : List ℕ) → text ≡ kind ++ quoted name ++ codes " does not exist" → HasNoZero kind → HasNoZero name → HasNoZero text
 missing_no_zero kind name text e p q = subst HasNoZero (sym e)
     (HasNoZero-append (kind ++ quoted name) (codes " does not exist") (HasNoZero-append kind (quoted name) p
-      (λ k. omega arith, HasNoZero-append name (34 ∷ []) q (λ k. omega arith, tt))) (by_test (codes " does not exist") refl))
+    (λ k. omega arith, HasNoZero-append name (34 ∷ []) q (λ k. omega arith, tt))) (by_test (codes " does not exist") refl))
 
 pub missing_len : (kind name text : List ℕ) → text ≡ kind ++ quoted name ++ codes " does not exist" → length kind ≤ 50 → length name ≤ 1048576 → length text ≤ 1048700
 missing_len kind name text e p q =

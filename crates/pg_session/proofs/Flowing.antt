@@ -23,9 +23,10 @@ Flows-none w o = record { sent = []; grown = GrowsBy-none w; same = sym (append-
 
 pub Flows-then : {w v u : Option (List ℕ)} {o p q a b : List ℕ} → Flows w v o p a → Flows v u p q b → Flows w u o q (a ++ b)
 Flows-then {w} {v} {u} {o} {p} {q} {a} {b} x y = record {
-    sent = x.sent ++ y.sent;
-    grown = GrowsBy-then w v u x.sent y.sent x.grown y.grown;
-    same = append_assoc x.sent y.sent q ∙ ap (λ l. x.sent ++ l) y.same ∙ sym (append_assoc x.sent p b) ∙ ap (λ l. l ++ b) x.same ∙ append_assoc o a b }
+  sent = x.sent ++ y.sent;
+  grown = GrowsBy-then w v u x.sent y.sent x.grown y.grown;
+  same = append_assoc x.sent y.sent q ∙ ap (λ l. x.sent ++ l) y.same ∙ sym (append_assoc x.sent p b) ∙ ap (λ l. l ++ b) x.same ∙ append_assoc o a b;
+}
 
 -- bytes that wait
 pub Flows-wait : (w : Option (List ℕ)) (o p a : List ℕ) → p ≡ o ++ a → Flows w w o p a
@@ -56,6 +57,7 @@ GrowsByFrontOf-all others old new e = record { front = others; begins = ([], sym
 
 pub GrowsByFrontOf-then : {A : Type 0} {others mid new : List A} (first old : List A) → mid ≡ old ++ first → GrowsByFrontOf others mid new → GrowsByFrontOf (first ++ others) old new
 GrowsByFrontOf-then first old e g = record {
-    front = first ++ g.front;
-    begins = (g.begins.0, ap (λ l. first ++ l) g.begins.1 ∙ sym (append_assoc first g.front g.begins.0));
-    grown = g.grown ∙ ap (λ l. l ++ g.front) e ∙ append_assoc old first g.front }
+  front = first ++ g.front;
+  begins = (g.begins.0, ap (λ l. first ++ l) g.begins.1 ∙ sym (append_assoc first g.front g.begins.0));
+  grown = g.grown ∙ ap (λ l. l ++ g.front) e ∙ append_assoc old first g.front;
+}

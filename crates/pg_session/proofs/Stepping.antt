@@ -75,51 +75,84 @@ answer_same setting answers s m = built_same (is_built m) setting answers s m
 pub answered_by : (setting : Setting) (s : SessionState) (text frame rest : List ℕ) (m : PgWireFrontendMessage) → text ≡ frame ++ rest → IsFrame (awaits s) frame m
     → IsAnswered setting s text rest (replies_bytes (answer setting [] s m).replies) (answer setting [] s m).calls (answer setting [] s m).next
 answered_by setting s text frame rest m e f = record {
-    message = m; frame = frame; division = e; carried = f;
-    replied = λ answers. sym (ap (λ a. replies_bytes a.replies) (answer_same setting answers s m));
-    called = λ answers. sym (ap (λ a. a.calls) (answer_same setting answers s m));
-    goes_on = λ answers. ap (λ a. a.next) (answer_same setting answers s m) }
+  message = m;
+  frame = frame;
+  division = e;
+  carried = f;
+  replied = λ answers. sym (ap (λ a. replies_bytes a.replies) (answer_same setting answers s m));
+  called = λ answers. sym (ap (λ a. a.calls) (answer_same setting answers s m));
+  goes_on = λ answers. ap (λ a. a.next) (answer_same setting answers s m);
+}
 
 pub serves_none : (setting : Setting) (s : SessionState) (text rest : List ℕ) (w : Option (List ℕ)) (o : List ℕ) (calls : List DeskCall) → rest ≡ text
     → IsServed setting s text rest (Goes s) w w o o calls calls
 serves_none setting s text rest w o calls e = record {
-    bytes = []; called = [];
-    fed = subst (λ r. IsFed setting s text r [] [] (Goes s)) (sym e) (IsFed-none setting s text);
-    flows = Flows-none w o; grown = sym (append-nil calls) }
+  bytes = [];
+  called = [];
+  fed = subst (λ r. IsFed setting s text r [] [] (Goes s)) (sym e) (IsFed-none setting s text);
+  flows = Flows-none w o;
+  grown = sym (append-nil calls);
+}
 
 pub serves_one : (setting : Setting) (s : SessionState) (text frame rest : List ℕ) (m : PgWireFrontendMessage) → text ≡ frame ++ rest → IsFrame (awaits s) frame m
     → {out new_out : List ℕ} {calls new_calls : List DeskCall} {next : Next} (w : Option (List ℕ)) → ((answers : List Bool) → IsCarriedOut (answer setting answers s m) out new_out calls new_calls next)
     → IsServed setting s text rest next w w out new_out calls new_calls
 serves_one setting s text frame rest m e f {out} {new_out} {calls} {new_calls} {next} w carried = record {
-    bytes = replies_bytes (answer setting [] s m).replies; called = (answer setting [] s m).calls;
-    fed = subst (λ n. IsFed setting s text rest (replies_bytes (answer setting [] s m).replies) (answer setting [] s m).calls n) (carried []).goes_on
-        (IsFed-one (answered_by setting s text frame rest m e f));
-    flows = Flows-wait w out new_out (replies_bytes (answer setting [] s m).replies) (carried []).replied.bytes;
-    grown = (carried []).called }
+  bytes = replies_bytes (answer setting [] s m).replies;
+  called = (answer setting [] s m).calls;
+  fed = subst (λ n. IsFed setting s text rest (replies_bytes (answer setting [] s m).replies) (answer setting [] s m).calls n) (carried []).goes_on
+      (IsFed-one (answered_by setting s text frame rest m e f));
+  flows = Flows-wait w out new_out (replies_bytes (answer setting [] s m).replies) (carried []).replied.bytes;
+  grown = (carried []).called;
+}
 
 -- and then more flows
 pub serves_flow : {setting : Setting} {s : SessionState} {text rest : List ℕ} {next : Next} {w v : Option (List ℕ)} {o p : List ℕ} {calls new_calls : List DeskCall} (u : Option (List ℕ)) (q : List ℕ)
     → IsServed setting s text rest next w v o p calls new_calls → Flows v u p q [] → IsServed setting s text rest next w u o q calls new_calls
 serves_flow {w = w} {o = o} u q x y = record {
-    bytes = x.bytes; called = x.called; fed = x.fed;
-    flows = subst (λ b. Flows w u o q b) (append-nil x.bytes) (Flows-then x.flows y); grown = x.grown }
+  bytes = x.bytes;
+  called = x.called;
+  fed = x.fed;
+  flows = subst (λ b. Flows w u o q b) (append-nil x.bytes) (Flows-then x.flows y);
+  grown = x.grown;
+}
 
 pub cut_none : (setting : Setting) (s : SessionState) (text : List ℕ) (w : Option (List ℕ)) (o : List ℕ) (calls : List DeskCall) → IsCutOff setting s text w w o calls calls
 cut_none setting s text w o calls = record {
-    rest = text; next = Goes s; bytes = []; called = []; fed = IsFed-none setting s text; cut = cut_at_once w (o ++ []); grown = GrowsByFrontOf-none [] calls }
+  rest = text;
+  next = Goes s;
+  bytes = [];
+  called = [];
+  fed = IsFed-none setting s text;
+  cut = cut_at_once w (o ++ []);
+  grown = GrowsByFrontOf-none [] calls;
+}
 
 -- a message whose answer was cut off
 pub cut_one : (setting : Setting) (s : SessionState) (text frame rest : List ℕ) (m : PgWireFrontendMessage) → text ≡ frame ++ rest → IsFrame (awaits s) frame m
     → (w : Option (List ℕ)) (o : List ℕ) (calls new_calls : List DeskCall) → GrowsByFrontOf (answer setting [] s m).calls calls new_calls → IsCutOff setting s text w w o calls new_calls
 cut_one setting s text frame rest m e f w o calls new_calls g = record {
-    rest = rest; next = (answer setting [] s m).next; bytes = replies_bytes (answer setting [] s m).replies; called = (answer setting [] s m).calls;
-    fed = IsFed-one (answered_by setting s text frame rest m e f); cut = cut_at_once w (o ++ replies_bytes (answer setting [] s m).replies); grown = g }
+  rest = rest;
+  next = (answer setting [] s m).next;
+  bytes = replies_bytes (answer setting [] s m).replies;
+  called = (answer setting [] s m).calls;
+  fed = IsFed-one (answered_by setting s text frame rest m e f);
+  cut = cut_at_once w (o ++ replies_bytes (answer setting [] s m).replies);
+  grown = g;
+}
 
 -- what was served and waits is sent, and the sending is cut off
 pub cut_served : {setting : Setting} {s : SessionState} {text rest : List ℕ} {next : Next} {w v : Option (List ℕ)} {o p : List ℕ} {calls new_calls : List DeskCall} (u : Option (List ℕ))
     → IsServed setting s text rest next w v o p calls new_calls → GrowsByFront v u p → IsCutOff setting s text w u o calls new_calls
 cut_served {rest = rest} {next = next} {calls = calls} {new_calls = new_calls} u x g = record {
-    rest = rest; next = next; bytes = x.bytes; called = x.called; fed = x.fed; cut = cut_after u x.flows g; grown = GrowsByFrontOf-all x.called calls new_calls x.grown }
+  rest = rest;
+  next = next;
+  bytes = x.bytes;
+  called = x.called;
+  fed = x.fed;
+  cut = cut_after u x.flows g;
+  grown = GrowsByFrontOf-all x.called calls new_calls x.grown;
+}
 
 -- where the conversation stands by the end that a message told
 pub stands_by : (e : Option EndKind) (s : SessionState) (rest : List ℕ) (step : Option Progress) → step ≡ option_map (λ kind. progress.Ended kind) e → e ≢ Some end.InputEnd → StandsAfterStep (next_of e s) s rest step
@@ -152,8 +185,12 @@ awaits_by setting s t m k l (Some kind) step at after h goes going = absurd (no 
 pub serves_then : {setting : Setting} {s t : SessionState} {text mid rest : List ℕ} {next : Next} {w v u : Option (List ℕ)} {o p q : List ℕ} {k l m : List DeskCall}
     → IsServed setting s text mid (Goes t) w v o p k l → IsServed setting t mid rest next v u p q l m → IsServed setting s text rest next w u o q k m
 serves_then {k = k} x y = record {
-    bytes = x.bytes ++ y.bytes; called = x.called ++ y.called; fed = IsFed-then x.fed y.fed; flows = Flows-then x.flows y.flows;
-    grown = y.grown ∙ ap (λ c. c ++ y.called) x.grown ∙ append_assoc k x.called y.called }
+  bytes = x.bytes ++ y.bytes;
+  called = x.called ++ y.called;
+  fed = IsFed-then x.fed y.fed;
+  flows = Flows-then x.flows y.flows;
+  grown = y.grown ∙ ap (λ c. c ++ y.called) x.grown ∙ append_assoc k x.called y.called;
+}
 
 pub serves_to : {setting : Setting} {s t : SessionState} {text rest : List ℕ} {next : Next} {w v : Option (List ℕ)} {o p : List ℕ} {k l : List DeskCall}
     → next ≡ Goes t → IsServed setting s text rest next w v o p k l → IsServed setting s text rest (Goes t) w v o p k l
@@ -163,11 +200,16 @@ serves_to {setting} {s} {t} {text} {rest} {next} {w} {v} {o} {p} {k} {l} e x = s
 pub cut_then : {setting : Setting} {s t : SessionState} {text mid : List ℕ} {w v u : Option (List ℕ)} {o p : List ℕ} {k l m : List DeskCall}
     → IsServed setting s text mid (Goes t) w v o p k l → IsCutOff setting t mid v u p l m → IsCutOff setting s text w u o k m
 cut_then {w = w} {v = v} {u = u} {o = o} {p = p} {k = k} x y = record {
-    rest = y.rest; next = y.next; bytes = x.bytes ++ y.bytes; called = x.called ++ y.called; fed = IsFed-then x.fed y.fed;
-    cut = subst (λ b. GrowsByFront w u b)
-        (sym (append_assoc x.flows.sent p y.bytes) ∙ ap (λ b. b ++ y.bytes) x.flows.same ∙ append_assoc o x.bytes y.bytes)
-        (GrowsByFront-then w v u x.flows.sent (p ++ y.bytes) x.flows.grown y.cut);
-    grown = GrowsByFrontOf-then x.called k x.grown y.grown }
+  rest = y.rest;
+  next = y.next;
+  bytes = x.bytes ++ y.bytes;
+  called = x.called ++ y.called;
+  fed = IsFed-then x.fed y.fed;
+  cut = subst (λ b. GrowsByFront w u b)
+      (sym (append_assoc x.flows.sent p y.bytes) ∙ ap (λ b. b ++ y.bytes) x.flows.same ∙ append_assoc o x.bytes y.bytes)
+      (GrowsByFront-then w v u x.flows.sent (p ++ y.bytes) x.flows.grown y.cut);
+  grown = GrowsByFrontOf-then x.called k x.grown y.grown;
+}
 
 pub divides_more : (b : Bool) (text rest p : List ℕ) (ms : List PgWireFrontendMessage) → DividesInto b text ms rest → DividesInto b (text ++ p) ms (rest ++ p)
 divides_more b text rest p [] d = ap (λ l. l ++ p) d
@@ -177,11 +219,18 @@ divides_more b text rest p (m ∷ ms) d = (d.0, d.1 ++ p, ap (λ l. l ++ p) d.2 
 pub serves_more : {setting : Setting} {s : SessionState} {text rest : List ℕ} {next : Next} {w v : Option (List ℕ)} {o q : List ℕ} {k l : List DeskCall} (p : List ℕ)
     → IsServed setting s text rest next w v o q k l → IsServed setting s (text ++ p) (rest ++ p) next w v o q k l
 serves_more {setting} {s} {text} {rest} {next} p x = record {
-    bytes = x.bytes; called = x.called;
-    fed = record {
-      messages = x.fed.messages; division = divides_more (awaits s) text rest p x.fed.messages x.fed.division;
-      replied = x.fed.replied; called = x.fed.called; goes_on = x.fed.goes_on };
-    flows = x.flows; grown = x.grown }
+  bytes = x.bytes;
+  called = x.called;
+  fed = record {
+    messages = x.fed.messages;
+    division = divides_more (awaits s) text rest p x.fed.messages x.fed.division;
+    replied = x.fed.replied;
+    called = x.fed.called;
+    goes_on = x.fed.goes_on;
+  };
+  flows = x.flows;
+  grown = x.grown;
+}
 
 -- the same where other bytes waited before
 pub serves_from : {setting : Setting} {s : SessionState} {text rest : List ℕ} {next : Next} {w v : Option (List ℕ)} {o p q : List ℕ} {k l : List DeskCall}

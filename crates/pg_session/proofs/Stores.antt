@@ -28,20 +28,23 @@ each_after_remove P m k each q x e = by_case (eq_by_cmp (slice_cmp nat_cmp) q k)
 pub good_statement : (n : ℕ) (store : Store) (name : List ℕ) (statement : Statement) → statement.relation < n → IsGoodStore n store
     → IsGoodStore n (record { statements = fin.insert store.statements name statement; portals = store.portals })
 good_statement n store name statement inside good = record {
-    statements = each_after_insert (λ s. s.relation < n) store.statements name statement inside good.statements;
-    portals = good.portals }
+  statements = each_after_insert (λ s. s.relation < n) store.statements name statement inside good.statements;
+  portals = good.portals;
+}
 
 pub good_portal : (n : ℕ) (store : Store) (name : List ℕ) (portal : Portal) → portal.relation < n → IsGoodStore n store
     → IsGoodStore n (record { statements = store.statements; portals = fin.insert store.portals name portal })
 good_portal n store name portal inside good = record {
-    statements = good.statements;
-    portals = each_after_insert (λ p. p.relation < n) store.portals name portal inside good.portals }
+  statements = good.statements;
+  portals = each_after_insert (λ p. p.relation < n) store.portals name portal inside good.portals;
+}
 
 pub good_without : (n : ℕ) (store : Store) (name : List ℕ) → IsGoodStore n store
     → IsGoodStore n (record { statements = store.statements; portals = fin.remove store.portals name })
 good_without n store name good = record {
-    statements = good.statements;
-    portals = each_after_remove (λ p. p.relation < n) store.portals name good.portals }
+  statements = good.statements;
+  portals = each_after_remove (λ p. p.relation < n) store.portals name good.portals;
+}
 
 none_some : {X : Type 0} (x : X) → ◌≡◌ {A = Option X} None (Some x) → ⊥
 none_some x e = cc

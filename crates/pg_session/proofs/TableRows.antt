@@ -33,18 +33,20 @@ pub refused : (answers : List Bool) (s new_s : SessionState) {out new_out : List
     → Appends out new_out (error_response code text ∷ []) → new_s ≡ refused_state s
     → IsCarriedOut (refuses answers s (error_response code shown)) out new_out [] [] (Goes new_s)
 refused answers s new_s {out} {new_out} code text shown e p q = record {
-    replied = subst (λ t. Appends out new_out (error_response code t ∷ [])) e p;
-    called = refl;
-    goes_on = ap Goes (sym q) }
+  replied = subst (λ t. Appends out new_out (error_response code t ∷ [])) e p;
+  called = refl;
+  goes_on = ap Goes (sym q);
+}
 
 -- the same where a desk stood by
 pub refused_by_desk : (answers : List Bool) (s new_s : SessionState) {out new_out : List ℕ} (code text shown : List ℕ) (calls : List DeskCall) → text ≡ shown
     → Appends out new_out (error_response code text ∷ []) → new_s ≡ refused_state s
     → IsCarriedOut (refuses answers s (error_response code shown)) out new_out calls calls (Goes new_s)
 refused_by_desk answers s new_s {out} {new_out} code text shown calls e p q = record {
-    replied = subst (λ t. Appends out new_out (error_response code t ∷ [])) e p;
-    called = sym (append-nil calls);
-    goes_on = ap Goes (sym q) }
+  replied = subst (λ t. Appends out new_out (error_response code t ∷ [])) e p;
+  called = sym (append-nil calls);
+  goes_on = ap Goes (sym q);
+}
 
 pub said : (answers : List Bool) (replies : List PgWireBackendMessage) (s : SessionState) {out new_out : List ℕ} → Appends out new_out replies
     → IsCarriedOut (says answers replies s) out new_out [] [] (Goes s)

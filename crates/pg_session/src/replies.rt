@@ -50,7 +50,10 @@ pub(crate) fn push_error(
         code: PgStr::copy_of(alloc, code)?,
         message,
     };
-    send(outbox, PgWireBackendMessage::ErrorResponse(ErrorResponse { info }))
+    send(
+        outbox,
+        PgWireBackendMessage::ErrorResponse(ErrorResponse { info }),
+    )
 }
 
 /// Appends a ParameterStatus.
@@ -76,7 +79,10 @@ fn push_parameter(
 pub(crate) fn push_ready(outbox: &mut Outbox, status: TransactionStatus) -> Result<(), AllocError>
     ensures { OnOk result (Appends outbox.old outbox.new (server.ReadyForQuery (record { status = status }) ∷ [])) }
 {
-    send(outbox, PgWireBackendMessage::ReadyForQuery(ReadyForQuery { status }))
+    send(
+        outbox,
+        PgWireBackendMessage::ReadyForQuery(ReadyForQuery { status }),
+    )
 }
 
 /// Appends BackendKeyData.
@@ -99,7 +105,10 @@ pub(crate) fn push_startup(
 ) -> Result<(), AllocError>
     ensures { OnOk result (Appends outbox.old outbox.new (startup_replies pid key)) }
 {
-    send(outbox, PgWireBackendMessage::AuthenticationOk(AuthenticationOk {}))?;
+    send(
+        outbox,
+        PgWireBackendMessage::AuthenticationOk(AuthenticationOk {}),
+    )?;
     push_parameter(alloc, outbox, "server_version", "16.0")?;
     push_parameter(alloc, outbox, "server_encoding", "UTF8")?;
     push_parameter(alloc, outbox, "client_encoding", "UTF8")?;
@@ -114,7 +123,10 @@ fn push_select(alloc: Global, outbox: &mut Outbox, rows: usize) -> Result<(), Al
 {
     let tag = format!(in alloc; "SELECT {rows}")?;
     let tag = PgStr::copy_of(alloc, tag.as_str())?;
-    send(outbox, PgWireBackendMessage::CommandComplete(CommandComplete { tag }))
+    send(
+        outbox,
+        PgWireBackendMessage::CommandComplete(CommandComplete { tag }),
+    )
 }
 
 /// Appends the rows of a page and its CommandComplete.

@@ -66,7 +66,10 @@ pub(crate) fn on_parse<H: FirstRows>(
         Some(relation) => {
             let statement = Statement { relation };
             state.store.statements.put(message.name, statement)?;
-            send(outbox, PgWireBackendMessage::ParseComplete(ParseComplete {}))
+            send(
+                outbox,
+                PgWireBackendMessage::ParseComplete(ParseComplete {}),
+            )
         }
         None => {
             let text = does_not_exist(alloc, "relation ", query)?;
@@ -132,12 +135,12 @@ pub(crate) fn on_execute<H: FirstRows, D: CancelDesk>(
     requires good { IsGoodStore (H.count handlers.now) state.old.store }
     ensures answer { OnOk result ((answers : List Bool) (pid : ℤ) (key : List ℕ) → IsCarriedOut
         (executed (setting_of (H.relation_of handlers.now) (H.rows_of handlers.now) pid key) answers state.old message
-            (fin.get state.old.store.portals message.name))
+        (fin.get state.old.store.portals message.name))
         outbox.old outbox.new (D.calls desk.old) (D.calls desk.new) (Goes state.new)) }
     ensures good { OnOk result (IsGoodStore (H.count handlers.now) state.new.store) }
     ensures err { OnErr result ((answers : List Bool) (pid : ℤ) (key : List ℕ) → GrowsByFrontOf
         (executed (setting_of (H.relation_of handlers.now) (H.rows_of handlers.now) pid key) answers state.old message
-            (fin.get state.old.store.portals message.name)).calls
+        (fin.get state.old.store.portals message.name)).calls
         (D.calls desk.old) (D.calls desk.new)) }
     ensures same { D.registration desk.new ≡ D.registration desk.old }
 {

@@ -115,17 +115,17 @@ impl<H: FirstRows + Drop> Session<H> {
         // So are those of all that came before, and of this piece.
         ensures continues { (s : SessionState) (text : List ℕ) (written : Option (List ℕ)) (calls : List DeskCall)
             → IsServed (setting_of (H.relation_of (arc_value self.old.host.handlers)) (H.rows_of (arc_value self.old.host.handlers)) self.old.host.pid self.old.host.key)
-                s text self.old.dialog.rest.items (Goes self.old.dialog.state) written (K.written sink.old) [] [] calls (D.calls desk.old)
+            s text self.old.dialog.rest.items (Goes self.old.dialog.state) written (K.written sink.old) [] [] calls (D.calls desk.old)
             → IfOk result (λ told. (next : Next) × IsServed
-                (setting_of (H.relation_of (arc_value self.old.host.handlers)) (H.rows_of (arc_value self.old.host.handlers)) self.old.host.pid self.old.host.key)
-                s (text ++ piece.now) self.new.dialog.rest.items next written (K.written sink.new) [] [] calls (D.calls desk.new)
-                × Stands next self.new.dialog.state self.new.dialog.rest.items told) }
+            (setting_of (H.relation_of (arc_value self.old.host.handlers)) (H.rows_of (arc_value self.old.host.handlers)) self.old.host.pid self.old.host.key)
+            s (text ++ piece.now) self.new.dialog.rest.items next written (K.written sink.new) [] [] calls (D.calls desk.new)
+            × Stands next self.new.dialog.state self.new.dialog.rest.items told) }
         ensures continues_cut { (s : SessionState) (text : List ℕ) (written : Option (List ℕ)) (calls : List DeskCall)
             → IsServed (setting_of (H.relation_of (arc_value self.old.host.handlers)) (H.rows_of (arc_value self.old.host.handlers)) self.old.host.pid self.old.host.key)
-                s text self.old.dialog.rest.items (Goes self.old.dialog.state) written (K.written sink.old) [] [] calls (D.calls desk.old)
+            s text self.old.dialog.rest.items (Goes self.old.dialog.state) written (K.written sink.old) [] [] calls (D.calls desk.old)
             → OnErr result (IsCutOff
-                (setting_of (H.relation_of (arc_value self.old.host.handlers)) (H.rows_of (arc_value self.old.host.handlers)) self.old.host.pid self.old.host.key)
-                s (text ++ piece.now) written (K.written sink.new) [] calls (D.calls desk.new)) }
+            (setting_of (H.relation_of (arc_value self.old.host.handlers)) (H.rows_of (arc_value self.old.host.handlers)) self.old.host.pid self.old.host.key)
+            s (text ++ piece.now) written (K.written sink.new) [] calls (D.calls desk.new)) }
         ensures open { IsTrue self.new.opened ↔ (result ≡ Ok More) }
         ensures host { self.new.host ≡ self.old.host }
 

@@ -1,5 +1,5 @@
 -- A conversation that was served piece by piece is a run over the bytes that were taken.
-use Rattle.std.proofs.Common.{◌≡◌, ◌≢◌, ℕ, ⊎_elim, cond, ◌+◌, ◌≤◌, ◌<◌, ◌^◌, min, arith,  Bool, List, [], ◌∷◌, ◌++◌, Option, Some, None, Result, Ok, Err, IfSome, take, drop, refl, sym, ap, subst, ◌∙◌, append-nil, append_assoc}
+use Rattle.std.proofs.Common.{◌≡◌, ◌≢◌, ℕ, ⊎_elim, cond, ◌+◌, ◌≤◌, ◌<◌, ◌^◌, min, arith, Bool, List, [], ◌∷◌, ◌++◌, Option, Some, None, Result, Ok, Err, IfSome, take, drop, refl, sym, ap, subst, ◌∙◌, append-nil, append_assoc}
 use Rattle.std.specs.Prelude.{◌==◌, if◌then◌else◌}
 use Rattle.std.proofs.lemmas.List.{take-append-drop}
 use Rattle.std.proofs.lemmas.Bool.Decides.{eqb_tells}
@@ -22,15 +22,17 @@ use Rattle.relation_server.specs.Program.{TakesFrom, IsServedRun, IsRunOfTaken, 
 is_run : {setting : Setting} {taken rest : List ℕ} {next : Next} {w v : Option (List ℕ)} {k l : List DeskCall} (x : steps.IsServed setting first_state taken rest next w v [] [] k l)
     (text more : List ℕ) (kind : EndKind) → text ≡ taken ++ more → EndsWith next (rest ++ more) kind → IsRun setting text x.bytes x.called kind
 is_run {setting} {taken} {rest} x text more kind e h = let answers = answers_of x.called in record {
-    given = conversation setting answers first_state x.fed.messages;
-    rest = rest ++ more;
-    converses = record {
-      messages = x.fed.messages;
-      division = subst (λ t. DividesInto (awaits first_state) t x.fed.messages (rest ++ more)) (sym e) (divides_more (awaits first_state) taken rest more x.fed.messages x.fed.division);
-      answered = refl };
-    replied = x.fed.replied answers;
-    called = x.fed.called answers;
-    ended = subst (λ n. EndsWith n (rest ++ more) kind) (sym (x.fed.goes_on answers)) h }
+  given = conversation setting answers first_state x.fed.messages;
+  rest = rest ++ more;
+  converses = record {
+    messages = x.fed.messages;
+    division = subst (λ t. DividesInto (awaits first_state) t x.fed.messages (rest ++ more)) (sym e) (divides_more (awaits first_state) taken rest more x.fed.messages x.fed.division);
+    answered = refl;
+  };
+  replied = x.fed.replied answers;
+  called = x.fed.called answers;
+  ended = subst (λ n. EndsWith n (rest ++ more) kind) (sym (x.fed.goes_on answers)) h;
+}
 
 grows_to : (w v : Option (List ℕ)) (sent bytes : List ℕ) (P : List ℕ → Type 0) → GrowsBy w v sent → sent ≡ bytes → P bytes → IfSome w (λ before. (replies : List ℕ) × (v ≡ Some (before ++ replies)) × P replies)
 grows_to None v sent bytes P g e p = tt
@@ -42,9 +44,12 @@ all_sent sent bytes e = sym (append-nil sent) ∙ e
 -- the run over the taken bytes, where one more read is needed
 pub run_of_taken : {setting : Setting} {s : SessionState} {taken rest : List ℕ} {w v : Option (List ℕ)} {k l : List DeskCall} (left new_left : Option (List ℕ))
     → TakesFrom left new_left taken → (x : steps.IsServed setting first_state taken rest (Goes s) w v [] [] k l) → IsUnfinished (awaits s) rest → IsRunOfTaken setting left new_left w v x.called
-run_of_taken {setting} {s} {taken} {rest} {w} {v} left new_left t x short =
-    (taken, t, grows_to w v x.flows.sent x.bytes (λ replies. IsRun setting taken replies x.called end.InputEnd) x.flows.grown (all_sent x.flows.sent x.bytes x.flows.same)
-      (is_run x taken [] end.InputEnd (sym (append-nil taken)) (subst (λ r. IsUnfinished (awaits s) r) (sym (append-nil rest)) short)))
+run_of_taken {setting} {s} {taken} {rest} {w} {v} left new_left t x short = (
+  taken,
+  t,
+  grows_to w v x.flows.sent x.bytes (λ replies. IsRun setting taken replies x.called end.InputEnd) x.flows.grown (all_sent x.flows.sent x.bytes x.flows.same)
+      (is_run x taken [] end.InputEnd (sym (append-nil taken)) (subst (λ r. IsUnfinished (awaits s) r) (sym (append-nil rest)) short)),
+)
 
 -- the run over all bytes, where the conversation has ended whatever follows
 pub served_run : {setting : Setting} {taken rest : List ℕ} {next : Next} {w v : Option (List ℕ)} {k l : List DeskCall} (left new_left : Option (List ℕ)) (kind : EndKind)
@@ -62,17 +67,18 @@ ended_run {setting} {s} {taken} {rest} {w} {v} (Some text) mid new_left n into t
     let given : GivesFront n into t.0 new_left = subst (λ o. IfSome o (λ bytes. GivesFront n into bytes new_left)) t.2 g in
     let all : text ≡ taken ++ [] = t.1 ∙ ap (λ l. taken ++ l) (given.at_end z) in
     grows_to w v x.flows.sent x.bytes (λ replies. IsRun setting text replies x.called end.InputEnd) x.flows.grown (all_sent x.flows.sent x.bytes x.flows.same)
-      (is_run x text [] end.InputEnd all (subst (λ r. IsUnfinished (awaits s) r) (sym (append-nil rest)) short))
+    (is_run x text [] end.InputEnd all (subst (λ r. IsUnfinished (awaits s) r) (sym (append-nil rest)) short))
 
 -- one more piece was taken
 pub takes_more : (left mid new_left : Option (List ℕ)) (taken : List ℕ) (n : ℕ) (into : List ℕ) → TakesFrom left mid taken → IfSome mid (λ bytes. GivesFront n into bytes new_left)
     → TakesFrom left new_left (taken ++ take n into)
 takes_more None mid new_left taken n into t g = tt
 takes_more (Some text) mid new_left taken n into t g =
-    let given : GivesFront n into t.0 new_left = subst (λ o. IfSome o (λ bytes. GivesFront n into bytes new_left)) t.2 g in
-    (drop n t.0,
+    let given : GivesFront n into t.0 new_left = subst (λ o. IfSome o (λ bytes. GivesFront n into bytes new_left)) t.2 g in (
+      drop n t.0,
       t.1 ∙ ap (λ l. taken ++ l) (sym (take-append-drop n t.0)) ∙ sym (append_assoc taken (take n t.0) (drop n t.0)) ∙ ap (λ l. (taken ++ l) ++ drop n t.0) (sym given.given),
-      given.rest)
+      given.rest,
+    )
 
 cut_grows : (w v : Option (List ℕ)) (bytes : List ℕ) (P : List ℕ → Type 0) → GrowsByFront w v bytes → ((front : List ℕ) → BeginsWith bytes front → P front) → IfSome w (λ before. (front : List ℕ) × (v ≡ Some (before ++ front)) × P front)
 cut_grows None v bytes P g p = tt
@@ -81,13 +87,17 @@ cut_grows (Some x) v bytes P g p = (g.0, g.2, p g.0 g.1)
 -- a front of the run over the taken bytes
 pub cut_run_of_taken : {setting : Setting} {taken : List ℕ} {w v : Option (List ℕ)} {k l : List DeskCall} (left new_left : Option (List ℕ)) → TakesFrom left new_left taken
     → (x : steps.IsCutOff setting first_state taken w v [] k l) → IsCutRunOfTaken setting left new_left w v x.grown.front
-cut_run_of_taken {setting} {taken} {w} {v} left new_left t x = let answers = answers_of x.grown.front in
-    (taken, t, cut_grows w v x.bytes (λ front. IsCutRun setting taken front x.grown.front) x.cut (λ front begins. record {
-      given = conversation setting answers first_state x.fed.messages;
-      rest = x.rest;
-      converses = record { messages = x.fed.messages; division = x.fed.division; answered = refl };
-      replied = subst (λ b. BeginsWith b front) (x.fed.replied answers) begins;
-      called = subst (λ c. BeginsWith c x.grown.front) (x.fed.called answers) x.grown.begins }))
+cut_run_of_taken {setting} {taken} {w} {v} left new_left t x = let answers = answers_of x.grown.front in (
+  taken,
+  t,
+  cut_grows w v x.bytes (λ front. IsCutRun setting taken front x.grown.front) x.cut (λ front begins. record {
+    given = conversation setting answers first_state x.fed.messages;
+    rest = x.rest;
+    converses = record { messages = x.fed.messages; division = x.fed.division; answered = refl };
+    replied = subst (λ b. BeginsWith b front) (x.fed.replied answers) begins;
+    called = subst (λ c. BeginsWith c x.grown.front) (x.fed.called answers) x.grown.begins;
+  }),
+)
 
 -- the answers to faults of a session: only a write that failed, or want of memory
 pub went_by_fault : (setting : Setting) (error : ServeError) (left new_left w v : Option (List ℕ)) (calls : List DeskCall) → (error ≢ fault.ReadFault) → (error ≢ fault.TurnLimit)
@@ -108,9 +118,17 @@ cut_at_start setting left w = ([], takes_none left, at w)
   where
     at : (o : Option (List ℕ)) → IfSome o (λ before. (front : List ℕ) × (o ≡ Some (before ++ front)) × IsCutRun setting [] front [])
     at None = tt
-    at (Some x) = ([], ap Some (sym (append-nil x)), record {
-      given = conversation setting [] first_state []; rest = []; converses = record { messages = []; division = refl; answered = refl };
-      replied = ([], refl); called = ([], refl) })
+    at (Some x) = (
+      [],
+      ap Some (sym (append-nil x)),
+      record {
+        given = conversation setting [] first_state [];
+        rest = [];
+        converses = record { messages = []; division = refl; answered = refl };
+        replied = ([], refl);
+        called = ([], refl);
+      },
+    )
 
 -- the same in an equal setting
 pub serves_in : {a b : Setting} {s : SessionState} {text rest : List ℕ} {next : Next} {w v : Option (List ℕ)} {o q : List ℕ} {k l : List DeskCall} → a ≡ b

@@ -10,6 +10,8 @@ mod run;
 #[cfg(test)]
 mod run_tests;
 mod serve;
+#[cfg(test)]
+mod serve_tests;
 mod table;
 #[cfg(test)]
 mod tests;

@@ -9,7 +9,9 @@ ghost use Rattle.relation_server.specs.Program.{OwesNoPoll, table_setting, WentS
 
 use crate::handler::RelationHandler;
 use crate::table::RelationTable;
-use pg_session::{CancelDesk, EndKind, FirstRows, Progress, ServeError, Session, Sink, Source, Turns};
+use pg_session::{
+    CancelDesk, EndKind, FirstRows, Progress, ServeError, Session, Sink, Source, Turns,
+};
 use std::alloc::Global;
 use std::sync::Arc;
 
@@ -34,7 +36,7 @@ pub fn serve_relations_on<D: CancelDesk, S: Source, K: Sink>(
     // The bytes written and the new calls are the conversation table's answer to the client's bytes, however cut.
     ensures went { (calls : List DeskCall) × (D.calls desk.new ≡ D.calls desk.old ++ calls)
         × WentSo (table_setting relations.now (D.registration desk.old)) result (S.left source.old) (S.left source.new)
-            (K.written sink.old) (K.written sink.new) calls }
+        (K.written sink.old) (K.written sink.new) calls }
     ensures cause { HasCause result turn_limit
         (record { reads = S.reads source.old; read_faults = S.faults source.old; write_faults = K.faults sink.old })
         (record { reads = S.reads source.new; read_faults = S.faults source.new; write_faults = K.faults sink.new }) }
@@ -52,7 +54,15 @@ pub fn serve_relations_on<D: CancelDesk, S: Source, K: Sink>(
         limit: turn_limit,
     };
     let mut buffer = [0u8; READ_LEN];
-    serve_session(alloc, &mut session, desk, source, sink, &mut turns, &mut buffer)
+    serve_session(
+        alloc,
+        &mut session,
+        desk,
+        source,
+        sink,
+        &mut turns,
+        &mut buffer,
+    )
 }
 
 /// Feeds a session with what the source gives, until the conversation ends.
@@ -73,7 +83,7 @@ fn serve_session<H: FirstRows + Drop, D: CancelDesk, S: Source, K: Sink>(
     requires room { 0 < length buffer.old }
     ensures went { (calls : List DeskCall) × (D.calls desk.new ≡ D.calls desk.old ++ calls)
         × WentSo (setting_of (H.relation_of (arc_value session.old.host.handlers)) (H.rows_of (arc_value session.old.host.handlers)) session.old.host.pid session.old.host.key)
-            result (S.left source.old) (S.left source.new) (K.written sink.old) (K.written sink.new) calls }
+        result (S.left source.old) (S.left source.new) (K.written sink.old) (K.written sink.new) calls }
     ensures cause { HasCause result turns.old.limit
         (record { reads = S.reads source.old; read_faults = S.faults source.old; write_faults = K.faults sink.old })
         (record { reads = S.reads source.new; read_faults = S.faults source.new; write_faults = K.faults sink.new }) }

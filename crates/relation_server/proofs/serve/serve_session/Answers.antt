@@ -13,15 +13,21 @@ returns-then-not-spend-clause-went g c =
 
 pub returns-in_default-clause-went : goal.returns-in_default-clause-went
 returns-in_default-clause-went g c =
-    let i = c.turns.invariant in
-    (i.served.called, i.served.grown, run_of_taken (g.S.Source.left c.args.source.now) (g.S.Source.left c.receive.new.self)
-      (subst (λ o. TakesFrom (g.S.Source.left c.args.source.now) o i.taken) (sym c.in_default.ensures.untouched) i.takes) i.served i.short)
+    let i = c.turns.invariant in (
+      i.served.called,
+      i.served.grown,
+      run_of_taken (g.S.Source.left c.args.source.now) (g.S.Source.left c.receive.new.self)
+          (subst (λ o. TakesFrom (g.S.Source.left c.args.source.now) o i.taken) (sym c.in_default.ensures.untouched) i.takes) i.served i.short,
+    )
 
 pub returns-then-n-eq0-clause-went : goal.returns-then-n-eq0-clause-went
 returns-then-n-eq0-clause-went g c =
-    let i = c.turns.invariant in
-    (i.served.called, i.served.grown, ended_run (g.S.Source.left c.args.source.now) (g.S.Source.left c.turns.source) (g.S.Source.left c.receive.new.self) c.in-Ok.n c.receive.new.into
-      i.takes c.in-Ok.ensures.bytes c.if-n-eq0.true i.served i.short)
+    let i = c.turns.invariant in (
+      i.served.called,
+      i.served.grown,
+      ended_run (g.S.Source.left c.args.source.now) (g.S.Source.left c.turns.source) (g.S.Source.left c.receive.new.self) c.in-Ok.n c.receive.new.into
+          i.takes c.in-Ok.ensures.bytes c.if-n-eq0.true i.served i.short,
+    )
 
 pub turns-preserved : goal.turns-preserved
 turns-preserved g c =
@@ -36,7 +42,7 @@ turns-preserved g c =
     record {
       taken = i.taken ++ c.front_of.result.now;
       takes = subst (λ p. TakesFrom (g.S.Source.left c.args.source.now) (g.S.Source.left c.receive.new.self) (i.taken ++ p)) (sym c.front_of.ensures)
-        (takes_more (g.S.Source.left c.args.source.now) (g.S.Source.left c.turns.source) (g.S.Source.left c.receive.new.self) i.taken c.in-Ok.n c.receive.new.into i.takes c.in-Ok.ensures.bytes);
+          (takes_more (g.S.Source.left c.args.source.now) (g.S.Source.left c.turns.source) (g.S.Source.left c.receive.new.self) i.taken c.in-Ok.n c.receive.new.into i.takes c.in-Ok.ensures.bytes);
       served = goes_to stands.0 (serves_in same_setting fed.1);
       short = stands.1;
       opened = c.in-Ok-More.ensures.open.1 (ap Ok c.in-Ok-More.field-0-is);
@@ -57,7 +63,7 @@ returns-in-Ok-Ended-clause-went g c =
     let fed = c.in-Ok-Ended.ensures.continues first_state i.taken (g.K.Sink.written c.args.sink.now) (g.D.CancelDesk.calls c.args.desk.now) (serves_in (sym same_setting) i.served) in
     let stands = subst (λ o. Stands fed.0 c.feed.new.self.dialog.state c.feed.new.self.dialog.rest.items o) c.in-Ok-Ended.field-0-is fed.2 in
     let takes = subst (λ p. TakesFrom (g.S.Source.left c.args.source.now) (g.S.Source.left c.receive.new.self) (i.taken ++ p)) (sym c.front_of.ensures)
-        (takes_more (g.S.Source.left c.args.source.now) (g.S.Source.left c.turns.source) (g.S.Source.left c.receive.new.self) i.taken c.in-Ok.n c.receive.new.into i.takes c.in-Ok.ensures.bytes) in
+    (takes_more (g.S.Source.left c.args.source.now) (g.S.Source.left c.turns.source) (g.S.Source.left c.receive.new.self) i.taken c.in-Ok.n c.receive.new.into i.takes c.in-Ok.ensures.bytes) in
     let x = serves_in same_setting fed.1 in
     (x.called, x.grown, served_run (g.S.Source.left c.args.source.now) (g.S.Source.left c.receive.new.self) c.in-Ok-Ended.kind takes x stands.1)
 
@@ -67,7 +73,10 @@ returns-in-Err-clause-went g c =
     let same_setting = ap (λ h. setting_of (g.H.FirstRows.relation_of (arc_value h.handlers)) (g.H.FirstRows.rows_of (arc_value h.handlers)) h.pid h.key) i.host in
     let cut = c.in-Err.ensures.continues_cut first_state i.taken (g.K.Sink.written c.args.sink.now) (g.D.CancelDesk.calls c.args.desk.now) (serves_in (sym same_setting) i.served) in
     let takes = subst (λ p. TakesFrom (g.S.Source.left c.args.source.now) (g.S.Source.left c.receive.new.self) (i.taken ++ p)) (sym c.front_of.ensures)
-        (takes_more (g.S.Source.left c.args.source.now) (g.S.Source.left c.turns.source) (g.S.Source.left c.receive.new.self) i.taken c.in-Ok.n c.receive.new.into i.takes c.in-Ok.ensures.bytes) in
-    let x = cut_in same_setting cut in
-    (x.grown.front, x.grown.grown, went_by_fault _ c.in-Err.error _ _ _ _ _ (λ q. c.in-Err.ensures.no_read_fault (ap Err q)) (λ q. c.in-Err.ensures.no_turn_limit (ap Err q))
-      (cut_run_of_taken (g.S.Source.left c.args.source.now) (g.S.Source.left c.receive.new.self) takes x))
+    (takes_more (g.S.Source.left c.args.source.now) (g.S.Source.left c.turns.source) (g.S.Source.left c.receive.new.self) i.taken c.in-Ok.n c.receive.new.into i.takes c.in-Ok.ensures.bytes) in
+    let x = cut_in same_setting cut in (
+      x.grown.front,
+      x.grown.grown,
+      went_by_fault _ c.in-Err.error _ _ _ _ _ (λ q. c.in-Err.ensures.no_read_fault (ap Err q)) (λ q. c.in-Err.ensures.no_turn_limit (ap Err q))
+          (cut_run_of_taken (g.S.Source.left c.args.source.now) (g.S.Source.left c.receive.new.self) takes x),
+    )

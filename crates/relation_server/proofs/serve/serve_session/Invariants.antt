@@ -13,7 +13,7 @@ invariant-turns g l = record {
   taken : List ℕ;
   takes : TakesFrom (g.S.Source.left l.fn.source) (g.S.Source.left l.source) taken;
   served : IsServed (setting_of (g.H.FirstRows.relation_of (arc_value l.fn.session.host.handlers)) (g.H.FirstRows.rows_of (arc_value l.fn.session.host.handlers)) l.fn.session.host.pid l.fn.session.host.key)
-    first_state taken l.session.dialog.rest.items (Goes l.session.dialog.state) (g.K.Sink.written l.fn.sink) (g.K.Sink.written l.sink) [] [] (g.D.CancelDesk.calls l.fn.desk) (g.D.CancelDesk.calls l.desk);
+      first_state taken l.session.dialog.rest.items (Goes l.session.dialog.state) (g.K.Sink.written l.fn.sink) (g.K.Sink.written l.sink) [] [] (g.D.CancelDesk.calls l.fn.desk) (g.D.CancelDesk.calls l.desk);
   short : IsUnfinished (awaits l.session.dialog.state) l.session.dialog.rest.items;
   opened : l.session.opened ≡ true;
   host : l.session.host ≡ l.fn.session.host;

@@ -8,13 +8,13 @@ use Rattle.pg_session.proofs.dialog.Dialog.run.Goals as goal
 
 pub messages-init : goal.messages-init
 messages-init g c = record {
-    served = serves_none (setting_of (g.H.FirstRows.relation_of (arc_value c.args.host.now.handlers)) (g.H.FirstRows.rows_of (arc_value c.args.host.now.handlers)) c.args.host.now.pid c.args.host.now.key)
-        c.args.self.now.state c.args.self.now.rest.items c.args.self.now.rest.items (g.K.Sink.written c.args.sink.now) c.args.self.now.outbox (g.D.CancelDesk.calls c.args.desk.now) refl;
-    awaiting = c.requires.awaiting;
-    good = c.requires.good;
-    faults = omega arith;
-    same = refl;
-  }
+  served = serves_none (setting_of (g.H.FirstRows.relation_of (arc_value c.args.host.now.handlers)) (g.H.FirstRows.rows_of (arc_value c.args.host.now.handlers)) c.args.host.now.pid c.args.host.now.key)
+      c.args.self.now.state c.args.self.now.rest.items c.args.self.now.rest.items (g.K.Sink.written c.args.sink.now) c.args.self.now.outbox (g.D.CancelDesk.calls c.args.desk.now) refl;
+  awaiting = c.requires.awaiting;
+  good = c.requires.good;
+  faults = omega arith;
+  same = refl;
+}
 
 pub returns-in_err-step-clause-cut_off : goal.returns-in_err-step-clause-cut_off
 returns-in_err-step-clause-cut_off g c = on_err_always c.from_residual.result (cut_then c.messages.invariant.served c.in_err-step.ensures.cut_off)
@@ -25,10 +25,11 @@ returns-in_err-flush-in-Some-clause-cut_off g c =
 
 pub returns-in-Some-clause-served : goal.returns-in-Some-clause-served
 returns-in-Some-clause-served g c =
-    let step = c.in_ok-step.ensures.served in
-    (step.0,
+    let step = c.in_ok-step.ensures.served in (
+      step.0,
       serves_flow (g.K.Sink.written c.flush.new.sink) [] (serves_then c.messages.invariant.served step.1) (Flows-sent (g.K.Sink.written c.step.new.sink) (g.K.Sink.written c.flush.new.sink) c.step.new.self.outbox [] c.in_ok-flush-in-Some.ensures.ok refl),
-      subst (λ o. StandsAfterStep step.0 c.step.new.self.state c.step.new.self.rest.items o) c.in-Some.is step.2)
+      subst (λ o. StandsAfterStep step.0 c.step.new.self.state c.step.new.self.rest.items o) c.in-Some.is step.2,
+    )
 
 pub messages-preserved : goal.messages-preserved
 messages-preserved g c =

@@ -9,8 +9,8 @@ use Rattle.pg_session.proofs.dialog.Dialog.run.Given as goal
 abbrev pub invariant-messages : goal.invariant-messages
 invariant-messages g l = record {
   served : IsServed (setting_of (g.H.FirstRows.relation_of (arc_value l.fn.host.handlers)) (g.H.FirstRows.rows_of (arc_value l.fn.host.handlers)) l.fn.host.pid l.fn.host.key)
-    l.fn.self.state l.fn.self.rest.items l.self.rest.items (Goes l.self.state) (g.K.Sink.written l.fn.sink) (g.K.Sink.written l.sink) l.fn.self.outbox l.self.outbox
-    (g.D.CancelDesk.calls l.fn.desk) (g.D.CancelDesk.calls l.desk);
+      l.fn.self.state l.fn.self.rest.items l.self.rest.items (Goes l.self.state) (g.K.Sink.written l.fn.sink) (g.K.Sink.written l.sink) l.fn.self.outbox l.self.outbox
+      (g.D.CancelDesk.calls l.fn.desk) (g.D.CancelDesk.calls l.desk);
   awaiting : l.self.codec.context.awaiting_startup ≡ awaits l.self.state;
   good : IsGoodStore (g.H.FirstRows.count (arc_value l.fn.host.handlers)) l.self.state.store;
   faults : g.K.Sink.faults l.fn.sink ≤ g.K.Sink.faults l.sink;
