@@ -21,7 +21,7 @@ const REFUSALS: &str =
 
 /// What a conversation gave.
 #[derive(Drop)]
-struct Served {
+struct Outcome {
     answer: Result<EndKind, ServeError>,
     written: usize,
     calls: usize,
@@ -55,7 +55,7 @@ fn served(
     source_fails: u64,
     sink_fails: (u64, usize),
     turns: u64,
-) -> Result<Served, Fail> {
+) -> Result<Outcome, Fail> {
     let table = built_in_table(alloc)?;
     let mut desk = ScriptDesk::new(alloc, 7, [1, 2, 3, 4], PgList::new(alloc));
     let client = hex::decode(alloc, CLIENT)?;
@@ -67,7 +67,7 @@ fn served(
     fails.push(sink_fails)?;
     let mut sink = MemorySink::new(alloc, fails);
     let answer = serve_relations_on(alloc, &mut desk, &table, &mut source, &mut sink, turns);
-    Ok(Served {
+    Ok(Outcome {
         answer,
         written: sink.bytes().len(),
         calls: desk.calls().len(),
