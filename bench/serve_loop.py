@@ -2,40 +2,51 @@
 """Times the built program: usage: serve_loop.py PROGRAM
 
 The body of the first path (Parse, Bind, Execute, Sync over three rows) is repeated 10,000 and 100,000 times on one
-connection. Printed are the seconds, the nanoseconds of a repetition, and the peak resident size of the program.
+connection, through pipes. Printed are the seconds, the nanoseconds of a repetition, and the peak resident size of the
+program, which is read when all replies but Terminate's are there and the program waits.
 """
+import re
 import subprocess
 import sys
-import tempfile
+import threading
 import time
 
 STARTUP = bytes.fromhex("0000001300030000757365720064656d6f0000")
 BODY = bytes.fromhex("500000000e00736869667473000000420000000e0000000000000001000145000000090000000000" "5300000004")
 TERMINATE = bytes.fromhex("5800000004")
+STARTUP_REPLY = 131
 REPLY = 111
 
 
+def write_queries(stream, count):
+    stream.write(STARTUP + BODY * count)
+    stream.flush()
+
+
+def read_exactly(stream, size):
+    while size > 0:
+        got = len(stream.read1(min(size, 1 << 16)))
+        assert got > 0, "the replies are shorter than they should be"
+        size -= got
+
+
+def peak_of(child):
+    with open(f"/proc/{child.pid}/status") as status:
+        return int(re.search(r"VmHWM:\s+(\d+) kB", status.read()).group(1))
+
+
 def run(program, count):
-    with tempfile.TemporaryFile() as client, tempfile.TemporaryFile() as out:
-        client.write(STARTUP + BODY * count + TERMINATE)
-        client.seek(0)
-        start = time.monotonic()
-        child = subprocess.Popen(["/usr/bin/env", "python3", "-c", PEAK, program, "7", "01020304"], stdin=client,
-                                 stdout=out, stderr=subprocess.PIPE, text=True)
-        told = child.communicate()[1].split()
-        seconds = float(told[0])
-        assert child.returncode == 0 and out.seek(0, 2) == 131 + REPLY * count, "the replies are not as long as they should be"
-        return seconds, int(told[1])
-
-
-# Runs the program as its own child, and tells its seconds and its peak resident kilobytes.
-PEAK = """
-import resource, subprocess, sys, time
-start = time.monotonic()
-status = subprocess.run(sys.argv[1:]).returncode
-print(time.monotonic() - start, resource.getrusage(resource.RUSAGE_CHILDREN).ru_maxrss, file=sys.stderr)
-sys.exit(status)
-"""
+    start = time.monotonic()
+    child = subprocess.Popen([program, "7", "01020304"], stdin=subprocess.PIPE, stdout=subprocess.PIPE)
+    writer = threading.Thread(target=write_queries, args=(child.stdin, count))
+    writer.start()
+    read_exactly(child.stdout, STARTUP_REPLY + REPLY * count)
+    seconds = time.monotonic() - start
+    writer.join()
+    peak = peak_of(child)
+    left = child.communicate(TERMINATE)[0]
+    assert child.returncode == 0 and left == b"", "the connection didn't end as it should"
+    return seconds, peak
 
 
 def main():
