@@ -4,6 +4,7 @@ pub mod Encodable
 pub mod Flowing
 pub mod Padding
 pub mod ReplyBytes
+pub mod Scripts
 pub mod TableRows
 pub mod Stepping
 pub mod Stores

@@ -4,3 +4,4 @@ pub mod Queries
 pub mod Conversation
 pub mod Run
 pub mod Steps
+pub mod Session

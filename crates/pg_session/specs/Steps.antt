@@ -1,6 +1,7 @@
 -- What one message does to a session: the outbox and the registry's calls grow by its answer, and the state is the next one.
 use Rattle.std.specs.Prelude.{ℕ, ℤ, Bool, true, false, List, ◌++◌, ◌≡◌, ◌≢◌, ◌<◌, Option, Some, None}
 use Rattle.std.specs.FinMap as fin
+use Rattle.std.specs.Arc.{arc_value}
 use Rattle.pg_messages.specs.declared.backend.DataRow.{DataRow}
 use Rattle.pg_messages.specs.declared.frontend.PgWireFrontendMessage.{PgWireFrontendMessage}
 use Rattle.pg_messages.specs.declared.backend.PgWireBackendMessage.{PgWireBackendMessage}
@@ -9,6 +10,7 @@ use Rattle.pg_messages.specs.Replies.{replies_bytes}
 use Rattle.pg_portal.specs.declared.portal.Statement.{Statement}
 use Rattle.pg_portal.specs.declared.portal.Portal.{Portal}
 use Rattle.pg_portal.specs.declared.portal.Store.{Store}
+use Rattle.pg_session.specs.declared.host.Host.{Host}
 use Rattle.pg_session.specs.declared.state.SessionState.{SessionState}
 use Rattle.pg_session.specs.declared.desk.DeskCall.{DeskCall}
 use Rattle.pg_session.specs.declared.ends.EndKind.{EndKind}
@@ -24,6 +26,10 @@ told_by relation_of rows_of = record { relation_of = relation_of; rows_of = rows
 
 abbrev pub setting_of : (List ℕ → Option ℕ) → (ℕ → List DataRow) → ℤ → List ℕ → Setting
 setting_of relation_of rows_of pid key = record { told = told_by relation_of rows_of; pid = pid; key = key }
+
+-- the setting of a host, by what its handlers tell
+abbrev pub host_setting : {H : Type 0} → (H → List ℕ → Option ℕ) → (H → ℕ → List DataRow) → Host H → Setting
+host_setting relation_of rows_of host = setting_of (relation_of (arc_value host.handlers)) (rows_of (arc_value host.handlers)) host.pid host.key
 
 -- a list has grown by a front of others
 pub record GrowsByFrontOf {A : Type 0} (others old new : List A) : Type 0 where

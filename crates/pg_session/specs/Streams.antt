@@ -1,5 +1,7 @@
 -- What goes in and out of a conversation: bytes that come, bytes that go, and counts.
-use Rattle.std.specs.Prelude.{ℕ, List, [], ◌++◌, Option, Some, Result, Ok, Err, ◌≡◌, ◌≤◌, ◌<◌, ◌+◌, ◌-◌, ◌^◌, ◌==◌, ◌⊎◌, IfSome, if◌then◌else◌, min, take, drop, length}
+use Rattle.std.specs.Prelude.{ℕ, List, [], ◌++◌, Option, Some, Result, Ok, Err, ◌≡◌, ◌≤◌, ◌<◌, ◌+◌, ◌-◌, ◌^◌, ◌==◌, ◌⊎◌, IfSome, IsErrOf, if◌then◌else◌, min, take, drop, length}
+use Rattle.pg_session.specs.declared.ends.ServeError.{ServeError}
+use Rattle.pg_session.specs.declared.ends.ServeError.TheVariants.{ReadFault, WriteFault, TurnLimit}
 
 -- the greatest count; one that has come so far stands still there
 abbrev pub greatest_count : ℕ
@@ -32,3 +34,11 @@ GrowsBy old new bytes = IfSome old (λ before. new ≡ Some (before ++ bytes))
 -- what was written has grown by a front of these bytes
 abbrev pub GrowsByFront : Option (List ℕ) → Option (List ℕ) → List ℕ → Type 0
 GrowsByFront old new bytes = IfSome old (λ before. (front : List ℕ) × BeginsWith bytes front × (new ≡ Some (before ++ front)))
+
+-- The cause of an error that comes from the sink's side: a write fault only where the sink's count has risen, and no
+-- fault of another side. The count never falls.
+pub record HasSinkCause {T : Type 0} (old new : ℕ) (result : Result T ServeError) : Type 0 where
+  pub write_fault : IsErrOf result WriteFault → HasRisen old new
+  pub no_read_fault : ¬ IsErrOf result ReadFault
+  pub no_turn_limit : ¬ IsErrOf result TurnLimit
+  pub never_falls : old ≤ new

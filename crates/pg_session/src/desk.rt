@@ -1,6 +1,6 @@
-ghost use Rattle.std.specs.Prelude.{◌≡◌, ℕ, ℤ, List, ◌++◌, [], ◌∷◌, IfOk, OnOk, OnErr};
+ghost use Rattle.std.specs.Prelude.{◌≡◌, ℕ, ℤ, List, ◌++◌, [], ◌∷◌, drop, IfOk, OnOk, OnErr};
 ghost use Rattle.pg_session.specs.declared.desk.DeskCall.{DeskCall};
-ghost use Rattle.pg_session.specs.Script.{first_or_no};
+ghost use Rattle.pg_session.specs.Script.{first_or_no, registration_of, origin_of, IsScripted};
 
 use pg_messages::PgList;
 use std::alloc::{AllocError, Global};
@@ -25,6 +25,10 @@ pub trait CancelDesk {
     // the calls so far, with their answers
     ghost calls: { Self → List DeskCall };
 
+    // what a desk was made over, as numbers: no call changes it, so that a caller who lent something to the
+    // desk knows it again
+    ghost origin: { Self → List ℕ };
+
     /// The pid and the key that the client is told.
     fn identity(&self) -> (i32, [u8; 4])
         ensures { result ≡ registration self.now };
@@ -33,13 +37,15 @@ pub trait CancelDesk {
     fn start(&mut self) -> Result<(), AllocError>
         ensures ok { OnOk result (calls self.new ≡ calls self.old ++ DeskCall.Start ∷ []) }
         ensures err { OnErr result (calls self.new ≡ calls self.old) }
-        ensures same { registration self.new ≡ registration self.old };
+        ensures same { registration self.new ≡ registration self.old }
+        ensures origin { origin self.new ≡ origin self.old };
 
     /// Whether the running query was canceled. After an error nothing has changed.
     fn ask(&mut self) -> Result<bool, AllocError>
         ensures ok { IfOk result (λ yes. calls self.new ≡ calls self.old ++ DeskCall.Ask yes ∷ []) }
         ensures err { OnErr result (calls self.new ≡ calls self.old) }
-        ensures same { registration self.new ≡ registration self.old };
+        ensures same { registration self.new ≡ registration self.old }
+        ensures origin { origin self.new ≡ origin self.old };
 
     /// Cancels the query of the registration with this pid and key, and tells whether there is one.
     /// After an error nothing has changed.
@@ -47,7 +53,8 @@ pub trait CancelDesk {
         ensures ok { IfOk result
             (λ yes. calls self.new ≡ calls self.old ++ DeskCall.Cancel pid key yes ∷ []) }
         ensures err { OnErr result (calls self.new ≡ calls self.old) }
-        ensures same { registration self.new ≡ registration self.old };
+        ensures same { registration self.new ≡ registration self.old }
+        ensures origin { origin self.new ≡ origin self.old };
 }
 
 /// A desk that answers from a list, in its order, and no past its end.
@@ -62,11 +69,13 @@ pub struct ScriptDesk {
 
 impl Model for ScriptDesk {
     ghost use Rattle.std.specs.Prelude.{drop};
-    ghost use Rattle.pg_session.specs.Script.{Script};
+    ghost use Rattle.pg_session.specs.Script.{Script, IsScripted};
 
     ghost Value = { Script };
 
-    ghost view = { λ d. record { pid = d.pid; key = d.key; answers = drop d.taken d.answers; calls = d.calls.items } };
+    ghost view = { λ d. record { pid = d.pid; key = d.key; script = d.answers; answers = drop d.taken d.answers; calls = d.calls.items } };
+
+    ghost invariant = { λ d. IsScripted d.answers (drop d.taken d.answers) d.calls.items };
 }
 
 impl ScriptDesk {
@@ -74,6 +83,7 @@ impl ScriptDesk {
     pub fn new(alloc: Global, pid: i32, key: [u8; 4], answers: PgList<bool>) -> ScriptDesk
         ensures pid { result.pid ≡ pid }
         ensures key { result.key ≡ key }
+        ensures script { result.script ≡ answers }
         ensures answers { result.answers ≡ answers }
         ensures calls { result.calls ≡ [] }
     {
@@ -86,9 +96,10 @@ impl ScriptDesk {
         }
     }
 
-    /// The calls so far, with their answers.
+    /// The calls so far, with their answers, which are those of the list.
     pub fn calls(&self) -> &[DeskCall]
-        ensures { result.now ≡ self.now.calls }
+        ensures calls { result.now ≡ self.now.calls }
+        ensures scripted { IsScripted self.now.script self.now.answers self.now.calls }
     {
         self.calls.as_slice()
     }
@@ -105,31 +116,67 @@ impl ScriptDesk {
     }
 }
 
+/// Where the answers go on behind the next one, if there is one.
+fn behind_next(answers: &[bool], taken: usize) -> usize
+    ensures { drop result answers.now ≡ drop 1 (drop taken answers.now) }
+{
+    if taken < answers.len() {
+        taken + 1
+    } else {
+        taken
+    }
+}
+
 impl CancelDesk for ScriptDesk {
-    ghost registration = { λ d. (d.pid, d.key) };
+    ghost registration = { registration_of };
 
     ghost calls = { λ d. d.calls };
+
+    ghost origin = { λ d. origin_of d.script };
 
     fn identity(&self) -> (i32, [u8; 4]) {
         (self.pid, self.key)
     }
 
-    fn start(&mut self) -> Result<(), AllocError> {
+    fn start(&mut self) -> Result<(), AllocError>
+        ensures answers { self.new.answers ≡ self.old.answers }
+        ensures ok { OnOk result (self.new.calls ≡ self.old.calls ++ DeskCall.Start ∷ []) }
+        ensures err { OnErr result (self.new.calls ≡ self.old.calls) }
+        ensures same { registration_of self.new ≡ registration_of self.old }
+        ensures origin { origin_of self.new.script ≡ origin_of self.old.script }
+    {
         self.calls.push(DeskCall::Start)?;
         Ok(())
     }
 
-    fn ask(&mut self) -> Result<bool, AllocError> {
+    fn ask(&mut self) -> Result<bool, AllocError>
+        ensures answer { IfOk result (λ yes. yes ≡ first_or_no self.old.answers) }
+        ensures used_up { OnOk result (self.new.answers ≡ drop 1 self.old.answers) }
+        ensures kept { OnErr result (self.new.answers ≡ self.old.answers) }
+        ensures ok { IfOk result (λ yes. self.new.calls ≡ self.old.calls ++ DeskCall.Ask yes ∷ []) }
+        ensures err { OnErr result (self.new.calls ≡ self.old.calls) }
+        ensures same { registration_of self.new ≡ registration_of self.old }
+        ensures origin { origin_of self.new.script ≡ origin_of self.old.script }
+    {
         let yes = self.next_answer();
         self.calls.push(DeskCall::Ask(yes))?;
-        self.taken = self.taken.saturating_add(1);
+        self.taken = behind_next(self.answers.as_slice(), self.taken);
         Ok(yes)
     }
 
-    fn cancel(&mut self, pid: i32, key: [u8; 4]) -> Result<bool, AllocError> {
+    fn cancel(&mut self, pid: i32, key: [u8; 4]) -> Result<bool, AllocError>
+        ensures answer { IfOk result (λ yes. yes ≡ first_or_no self.old.answers) }
+        ensures used_up { OnOk result (self.new.answers ≡ drop 1 self.old.answers) }
+        ensures kept { OnErr result (self.new.answers ≡ self.old.answers) }
+        ensures ok { IfOk result
+            (λ yes. self.new.calls ≡ self.old.calls ++ DeskCall.Cancel pid key yes ∷ []) }
+        ensures err { OnErr result (self.new.calls ≡ self.old.calls) }
+        ensures same { registration_of self.new ≡ registration_of self.old }
+        ensures origin { origin_of self.new.script ≡ origin_of self.old.script }
+    {
         let yes = self.next_answer();
         self.calls.push(DeskCall::Cancel(pid, key, yes))?;
-        self.taken = self.taken.saturating_add(1);
+        self.taken = behind_next(self.answers.as_slice(), self.taken);
         Ok(yes)
     }
 }

@@ -3,8 +3,8 @@ ghost use Rattle.std.specs.Option.{option_map};
 ghost use Rattle.std.specs.Arc.{arc_value};
 ghost use Rattle.pg_session.specs.Conversation.{Next};
 ghost use Rattle.pg_session.specs.Run.{awaits};
-ghost use Rattle.pg_session.specs.Streams.{GrowsBy, GrowsByFront, HasRisen};
-ghost use Rattle.pg_session.specs.Steps.{Flows, IsGoodStore, IsServed, IsCutOff, Stands, StandsAfterStep, goes_on_after, setting_of};
+ghost use Rattle.pg_session.specs.Streams.{GrowsBy, GrowsByFront, HasSinkCause};
+ghost use Rattle.pg_session.specs.Steps.{Flows, IsGoodStore, IsServed, IsCutOff, Stands, StandsAfterStep, goes_on_after, setting_of, host_setting};
 
 use crate::desk::CancelDesk;
 use crate::ends::{EndKind, Progress, ServeError};
@@ -31,10 +31,7 @@ fn flush<K: Sink>(outbox: &mut Outbox, sink: &mut K) -> Result<(), ServeError>
     ensures empty { OnOk result (outbox.new ≡ []) }
     ensures ok { OnOk result (GrowsBy (K.written sink.old) (K.written sink.new) outbox.old) }
     ensures err { OnErr result (GrowsByFront (K.written sink.old) (K.written sink.new) outbox.old) }
-    ensures write_fault { IsErrOf result ServeError.WriteFault → HasRisen (K.faults sink.old) (K.faults sink.new) }
-    ensures no_read_fault { ¬ IsErrOf result ServeError.ReadFault }
-    ensures no_turn_limit { ¬ IsErrOf result ServeError.TurnLimit }
-    ensures never_falls { K.faults sink.old ≤ K.faults sink.new }
+    ensures cause { HasSinkCause (K.faults sink.old) (K.faults sink.new) result }
 {
     if outbox.len() == 0 {
         return Ok(());
@@ -53,10 +50,7 @@ fn flush<K: Sink>(outbox: &mut Outbox, sink: &mut K) -> Result<(), ServeError>
 fn flush_if_full<K: Sink>(outbox: &mut Outbox, sink: &mut K) -> Result<(), ServeError>
     ensures ok { OnOk result (Flows (K.written sink.old) (K.written sink.new) outbox.old outbox.new []) }
     ensures err { OnErr result (GrowsByFront (K.written sink.old) (K.written sink.new) outbox.old) }
-    ensures write_fault { IsErrOf result ServeError.WriteFault → HasRisen (K.faults sink.old) (K.faults sink.new) }
-    ensures no_read_fault { ¬ IsErrOf result ServeError.ReadFault }
-    ensures no_turn_limit { ¬ IsErrOf result ServeError.TurnLimit }
-    ensures never_falls { K.faults sink.old ≤ K.faults sink.new }
+    ensures cause { HasSinkCause (K.faults sink.old) (K.faults sink.new) result }
 {
     if outbox.len() < CHUNK {
         return Ok(());
@@ -77,22 +71,20 @@ impl Dialog {
         requires awaiting { self.old.codec.context.awaiting_startup ≡ awaits self.old.state }
         requires good { IsGoodStore (H.count (arc_value host.now.handlers)) self.old.state.store }
         ensures served { IfOk result (λ step. (next : Next) × IsServed
-            (setting_of (H.relation_of (arc_value host.now.handlers)) (H.rows_of (arc_value host.now.handlers)) host.now.pid host.now.key)
+            (host_setting H.relation_of H.rows_of host.now)
             self.old.state self.old.rest.items self.new.rest.items next (K.written sink.old) (K.written sink.new)
             self.old.outbox self.new.outbox (D.calls desk.old) (D.calls desk.new)
             × StandsAfterStep next self.new.state self.new.rest.items step) }
         ensures cut_off { OnErr result (IsCutOff
-            (setting_of (H.relation_of (arc_value host.now.handlers)) (H.rows_of (arc_value host.now.handlers)) host.now.pid host.now.key)
+            (host_setting H.relation_of H.rows_of host.now)
             self.old.state self.old.rest.items (K.written sink.old) (K.written sink.new) self.old.outbox
             (D.calls desk.old) (D.calls desk.new)) }
         ensures awaiting { IfOk result (λ step. IsTrue (goes_on_after step) → self.new.codec.context.awaiting_startup ≡ awaits self.new.state) }
         ensures good { OnOk result (IsGoodStore (H.count (arc_value host.now.handlers)) self.new.state.store) }
         ensures shorter { IfOk result (λ step. IfNone step (length self.new.rest.items < length self.old.rest.items)) }
-        ensures write_fault { IsErrOf result ServeError.WriteFault → HasRisen (K.faults sink.old) (K.faults sink.new) }
-        ensures no_read_fault { ¬ IsErrOf result ServeError.ReadFault }
-        ensures no_turn_limit { ¬ IsErrOf result ServeError.TurnLimit }
-        ensures never_falls { K.faults sink.old ≤ K.faults sink.new }
+        ensures cause { HasSinkCause (K.faults sink.old) (K.faults sink.new) result }
         ensures same { D.registration desk.new ≡ D.registration desk.old }
+        ensures origin { D.origin desk.new ≡ D.origin desk.old }
     {
         let message = match self.codec.decode(alloc, &mut self.rest) {
             Ok(Some(message)) => message,
@@ -118,22 +110,20 @@ impl Dialog {
         requires awaiting { self.old.codec.context.awaiting_startup ≡ awaits self.old.state }
         requires good { IsGoodStore (H.count (arc_value host.now.handlers)) self.old.state.store }
         ensures served { IfOk result (λ told. (next : Next) × IsServed
-            (setting_of (H.relation_of (arc_value host.now.handlers)) (H.rows_of (arc_value host.now.handlers)) host.now.pid host.now.key)
+            (host_setting H.relation_of H.rows_of host.now)
             self.old.state self.old.rest.items self.new.rest.items next (K.written sink.old) (K.written sink.new)
             self.old.outbox [] (D.calls desk.old) (D.calls desk.new)
             × Stands next self.new.state self.new.rest.items told) }
         ensures cut_off { OnErr result (IsCutOff
-            (setting_of (H.relation_of (arc_value host.now.handlers)) (H.rows_of (arc_value host.now.handlers)) host.now.pid host.now.key)
+            (host_setting H.relation_of H.rows_of host.now)
             self.old.state self.old.rest.items (K.written sink.old) (K.written sink.new) self.old.outbox
             (D.calls desk.old) (D.calls desk.new)) }
         ensures sent { OnOk result (self.new.outbox ≡ []) }
         ensures awaiting { IfOk result (λ told. IsTrue (goes_on_after (Some told)) → self.new.codec.context.awaiting_startup ≡ awaits self.new.state) }
         ensures good { OnOk result (IsGoodStore (H.count (arc_value host.now.handlers)) self.new.state.store) }
-        ensures write_fault { IsErrOf result ServeError.WriteFault → HasRisen (K.faults sink.old) (K.faults sink.new) }
-        ensures no_read_fault { ¬ IsErrOf result ServeError.ReadFault }
-        ensures no_turn_limit { ¬ IsErrOf result ServeError.TurnLimit }
-        ensures never_falls { K.faults sink.old ≤ K.faults sink.new }
+        ensures cause { HasSinkCause (K.faults sink.old) (K.faults sink.new) result }
         ensures same { D.registration desk.new ≡ D.registration desk.old }
+        ensures origin { D.origin desk.new ≡ D.origin desk.old }
     {
         'messages: loop {
             match self.step(alloc, host, desk, sink)? {
@@ -158,22 +148,20 @@ impl Dialog {
         requires awaiting { self.old.codec.context.awaiting_startup ≡ awaits self.old.state }
         requires good { IsGoodStore (H.count (arc_value host.now.handlers)) self.old.state.store }
         ensures served { IfOk result (λ told. (next : Next) × IsServed
-            (setting_of (H.relation_of (arc_value host.now.handlers)) (H.rows_of (arc_value host.now.handlers)) host.now.pid host.now.key)
+            (host_setting H.relation_of H.rows_of host.now)
             self.old.state (self.old.rest.items ++ piece.now) self.new.rest.items next (K.written sink.old) (K.written sink.new)
             self.old.outbox [] (D.calls desk.old) (D.calls desk.new)
             × Stands next self.new.state self.new.rest.items told) }
         ensures cut_off { OnErr result (IsCutOff
-            (setting_of (H.relation_of (arc_value host.now.handlers)) (H.rows_of (arc_value host.now.handlers)) host.now.pid host.now.key)
+            (host_setting H.relation_of H.rows_of host.now)
             self.old.state (self.old.rest.items ++ piece.now) (K.written sink.old) (K.written sink.new) self.old.outbox
             (D.calls desk.old) (D.calls desk.new)) }
         ensures sent { OnOk result (self.new.outbox ≡ []) }
         ensures awaiting { IfOk result (λ told. IsTrue (goes_on_after (Some told)) → self.new.codec.context.awaiting_startup ≡ awaits self.new.state) }
         ensures good { OnOk result (IsGoodStore (H.count (arc_value host.now.handlers)) self.new.state.store) }
-        ensures write_fault { IsErrOf result ServeError.WriteFault → HasRisen (K.faults sink.old) (K.faults sink.new) }
-        ensures no_read_fault { ¬ IsErrOf result ServeError.ReadFault }
-        ensures no_turn_limit { ¬ IsErrOf result ServeError.TurnLimit }
-        ensures never_falls { K.faults sink.old ≤ K.faults sink.new }
+        ensures cause { HasSinkCause (K.faults sink.old) (K.faults sink.new) result }
         ensures same { D.registration desk.new ≡ D.registration desk.old }
+        ensures origin { D.origin desk.new ≡ D.origin desk.old }
     {
         self.rest.extend_from_slice(piece)?;
         self.run(alloc, host, desk, sink)
@@ -184,8 +172,5 @@ impl Dialog {
 fn ended_by(end: Option<EndKind>) -> Option<Progress>
     ensures { result ≡ option_map (λ kind. Progress.Ended kind) end }
 {
-    match end {
-        Some(kind) => Some(Progress::Ended(kind)),
-        None => None,
-    }
+    end.map(Progress::Ended)
 }

@@ -6,7 +6,7 @@ ghost use Rattle.pg_portal.specs.declared.portal.PgWireConnectionState.TheVarian
 ghost use Rattle.pg_session.specs.Conversation.{is_built, is_built_parse, is_built_bind, is_one_binary, answer, row, Setting};
 ghost use Rattle.pg_session.specs.Run.{awaits};
 ghost use Rattle.pg_session.specs.declared.ends.EndKind.TheVariants.{InputEnd};
-ghost use Rattle.pg_session.specs.Steps.{IsCarriedOut, IsGoodStore, IsGiven, GrowsByFrontOf, next_of, setting_of};
+ghost use Rattle.pg_session.specs.Steps.{IsCarriedOut, IsGoodStore, IsGiven, GrowsByFrontOf, next_of, setting_of, host_setting};
 
 use crate::desk::CancelDesk;
 use crate::ends::EndKind;
@@ -65,6 +65,9 @@ fn is_built(message: &PgWireFrontendMessage) -> bool
     }
 }
 
+/// Lets a message go in one place, so that its drop is not written out on each path of a caller.
+fn let_go(_message: PgWireFrontendMessage) {}
+
 /// What a session answers by: the relations, and the pid and key of its registration.
 #[derive(Drop)]
 pub(crate) struct Host<H> {
@@ -86,26 +89,34 @@ impl<H: FirstRows> Host<H> {
         requires given { IsGiven (awaits state.old) message }
         requires good { IsGoodStore (H.count (arc_value self.now.handlers)) state.old.store }
         ensures answer { IfOk result (λ end. (answers : List Bool) → IsCarriedOut
-            (answer (setting_of (H.relation_of (arc_value self.now.handlers)) (H.rows_of (arc_value self.now.handlers)) self.now.pid self.now.key) answers state.old message)
+            (answer (host_setting H.relation_of H.rows_of self.now) answers state.old message)
             outbox.old outbox.new (D.calls desk.old) (D.calls desk.new) (next_of end state.new)) }
         ensures ends { IfOk result (λ end. end ≢ Some InputEnd) }
         ensures good { OnOk result (IsGoodStore (H.count (arc_value self.now.handlers)) state.new.store) }
         ensures err { OnErr result ((answers : List Bool) → GrowsByFrontOf
-            (answer (setting_of (H.relation_of (arc_value self.now.handlers)) (H.rows_of (arc_value self.now.handlers)) self.now.pid self.now.key) answers state.old message).calls
+            (answer (host_setting H.relation_of H.rows_of self.now) answers state.old message).calls
             (D.calls desk.old) (D.calls desk.new)) }
         ensures same { D.registration desk.new ≡ D.registration desk.old }
+        ensures origin { D.origin desk.new ≡ D.origin desk.old }
     {
         if !is_built(&message) {
+            let_go(message);
             return Ok(Some(EndKind::BadFrame));
         }
         match state.state {
             PgWireConnectionState::AwaitingStartup => {
-                self.on_startup(alloc, state, outbox, &message)
+                let end = self.on_startup(alloc, state, outbox, &message);
+                let_go(message);
+                end
             }
             PgWireConnectionState::ReadyForQuery => {
                 self.on_ready(alloc, state, outbox, desk, message)
             }
-            PgWireConnectionState::AwaitingSync => on_awaiting_sync(state, outbox, &message),
+            PgWireConnectionState::AwaitingSync => {
+                let end = on_awaiting_sync(state, outbox, &message);
+                let_go(message);
+                end
+            }
         }
     }
 
@@ -118,7 +129,7 @@ impl<H: FirstRows> Host<H> {
         message: &PgWireFrontendMessage,
     ) -> Result<Option<EndKind>, AllocError>
         ensures answer { IfOk result (λ end. (answers : List Bool) → IsCarriedOut
-            (row (setting_of (H.relation_of (arc_value self.now.handlers)) (H.rows_of (arc_value self.now.handlers)) self.now.pid self.now.key) answers state.old phase.AwaitingStartup message.now)
+            (row (host_setting H.relation_of H.rows_of self.now) answers state.old phase.AwaitingStartup message.now)
             outbox.old outbox.new [] [] (next_of end state.new)) }
         ensures ends { IfOk result (λ end. end ≢ Some InputEnd) }
         ensures good { (count : ℕ) → IsGoodStore count state.old.store
@@ -149,14 +160,15 @@ impl<H: FirstRows> Host<H> {
         requires given { IsGiven false message }
         requires good { IsGoodStore (H.count (arc_value self.now.handlers)) state.old.store }
         ensures answer { IfOk result (λ end. (answers : List Bool) → IsCarriedOut
-            (row (setting_of (H.relation_of (arc_value self.now.handlers)) (H.rows_of (arc_value self.now.handlers)) self.now.pid self.now.key) answers state.old phase.ReadyForQuery message)
+            (row (host_setting H.relation_of H.rows_of self.now) answers state.old phase.ReadyForQuery message)
             outbox.old outbox.new (D.calls desk.old) (D.calls desk.new) (next_of end state.new)) }
         ensures ends { IfOk result (λ end. end ≢ Some InputEnd) }
         ensures good { OnOk result (IsGoodStore (H.count (arc_value self.now.handlers)) state.new.store) }
         ensures err { OnErr result ((answers : List Bool) → GrowsByFrontOf
-            (row (setting_of (H.relation_of (arc_value self.now.handlers)) (H.rows_of (arc_value self.now.handlers)) self.now.pid self.now.key) answers state.old phase.ReadyForQuery message).calls
+            (row (host_setting H.relation_of H.rows_of self.now) answers state.old phase.ReadyForQuery message).calls
             (D.calls desk.old) (D.calls desk.new)) }
         ensures same { D.registration desk.new ≡ D.registration desk.old }
+        ensures origin { D.origin desk.new ≡ D.origin desk.old }
     {
         match message {
             PgWireFrontendMessage::Startup(_) => return Ok(Some(EndKind::BadFrame)),

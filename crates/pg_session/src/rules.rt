@@ -78,6 +78,13 @@ pub(crate) fn on_parse<H: FirstRows>(
     }
 }
 
+/// The names of a Bind's portal and statement; its lists are let go here.
+fn names_of(message: Bind) -> (PgStr, PgStr)
+    ensures { result ≡ (message.portal_name, message.statement_name) }
+{
+    (message.portal_name, message.statement_name)
+}
+
 /// Bind: stores a portal of what the statement is now.
 pub(crate) fn on_bind(
     alloc: Global,
@@ -92,14 +99,15 @@ pub(crate) fn on_bind(
     ensures good { (count : ℕ) → IsGoodStore count state.old.store
         → OnOk result (IsGoodStore count state.new.store) }
 {
-    let name = message.statement_name.as_str();
+    let (portal_name, statement_name) = names_of(message);
+    let name = statement_name.as_str();
     match state.store.statements.get(name).copied() {
         Some(statement) => {
             let portal = Portal {
                 relation: statement.relation,
                 state: PortalExecutionState::Initial,
             };
-            state.store.portals.put(message.portal_name, portal)?;
+            state.store.portals.put(portal_name, portal)?;
             send(outbox, PgWireBackendMessage::BindComplete(BindComplete {}))
         }
         None => {
@@ -143,6 +151,7 @@ pub(crate) fn on_execute<H: FirstRows, D: CancelDesk>(
         (fin.get state.old.store.portals message.name)).calls
         (D.calls desk.old) (D.calls desk.new)) }
     ensures same { D.registration desk.new ≡ D.registration desk.old }
+    ensures origin { D.origin desk.new ≡ D.origin desk.old }
 {
     let name = message.name.as_str();
     match state.store.portals.get(name).copied() {
@@ -176,6 +185,7 @@ fn page<H: FirstRows, D: CancelDesk>(
     ensures calls { OnOk result (D.calls desk.new ≡ D.calls desk.old ++ start_calls stage) }
     ensures err { OnErr result (GrowsByFrontOf (start_calls stage) (D.calls desk.old) (D.calls desk.new)) }
     ensures same { D.registration desk.new ≡ D.registration desk.old }
+    ensures origin { D.origin desk.new ≡ D.origin desk.old }
 {
     match stage {
         PortalExecutionState::Initial => {

@@ -32,10 +32,11 @@ pub struct Session<H: FirstRows> {
 impl<H: FirstRows + Drop> Session<H> {
     ghost use Rattle.std.specs.Prelude.{◌++◌, ◌≤◌, ℕ, List, Option, IfOk, OnOk, OnErr, IsErrOf};
     ghost use Rattle.pg_session.specs.Conversation.{Next, Goes, first_state};
-    ghost use Rattle.pg_session.specs.Streams.{HasRisen};
+    ghost use Rattle.pg_session.specs.Streams.{HasSinkCause};
+    ghost use Rattle.pg_session.specs.Session.{is_open, host_of, setting, state_of, unread};
     ghost use Rattle.pg_session.specs.declared.state.SessionState.{SessionState};
     ghost use Rattle.pg_session.specs.declared.desk.DeskCall.{DeskCall};
-    ghost use Rattle.pg_session.specs.Steps.{IsServed, IsCutOff, Stands, setting_of};
+    ghost use Rattle.pg_session.specs.Steps.{IsServed, IsCutOff, Stands, setting_of, host_setting};
 
     /// A session that awaits the startup packet of a client, who is told this pid and key.
     pub fn new(
@@ -44,17 +45,17 @@ impl<H: FirstRows + Drop> Session<H> {
         pid: i32,
         key: [u8; 4],
     ) -> Result<Session<H>, AllocError>
-        ensures open { IfOk result (λ session. session.opened ≡ true) }
-        ensures state { IfOk result (λ session. session.dialog.state ≡ first_state) }
-        ensures rest { IfOk result (λ session. session.dialog.rest.items ≡ []) }
-        ensures handlers { IfOk result (λ session. session.host.handlers ≡ handlers) }
+        ensures open { IfOk result (λ session. is_open session ≡ true) }
+        ensures state { IfOk result (λ session. state_of session ≡ first_state) }
+        ensures rest { IfOk result (λ session. unread session ≡ []) }
+        ensures handlers { IfOk result (λ session. (host_of session).handlers ≡ handlers) }
 
         // Nothing came, nothing was answered.
         ensures so_far { IfOk result (λ session. (written : Option (List ℕ)) (calls : List DeskCall) → IsServed
             (setting_of (H.relation_of (arc_value handlers)) (H.rows_of (arc_value handlers)) pid key)
-            first_state [] session.dialog.rest.items (Goes session.dialog.state) written written [] [] calls calls) }
-        ensures pid { IfOk result (λ session. session.host.pid ≡ pid) }
-        ensures key { IfOk result (λ session. session.host.key ≡ key) }
+            first_state [] (unread session) (Goes (state_of session)) written written [] [] calls calls) }
+        ensures pid { IfOk result (λ session. (host_of session).pid ≡ pid) }
+        ensures key { IfOk result (λ session. (host_of session).key ≡ key) }
     {
         let outbox = Outbox::new(alloc)?;
         let store = Store {
@@ -82,7 +83,7 @@ impl<H: FirstRows + Drop> Session<H> {
 
     /// Whether the session takes more bytes: until it ends or fails.
     pub fn is_open(&self) -> bool
-        ensures { result ≡ self.now.opened }
+        ensures { result ≡ is_open self.now }
     {
         self.opened
     }
@@ -99,42 +100,40 @@ impl<H: FirstRows + Drop> Session<H> {
         sink: &mut K,
         turns: &mut Turns,
     ) -> Result<Progress, ServeError>
-        requires { self.old.opened ≡ true }
+        requires { is_open self.old ≡ true }
 
         // The frames of the rest and the piece are answered by the conversation table.
         ensures served { IfOk result (λ told. (next : Next) × IsServed
-            (setting_of (H.relation_of (arc_value self.old.host.handlers)) (H.rows_of (arc_value self.old.host.handlers)) self.old.host.pid self.old.host.key)
-            self.old.dialog.state (self.old.dialog.rest.items ++ piece.now) self.new.dialog.rest.items next
+            (setting self.old)
+            (state_of self.old) ((unread self.old) ++ piece.now) (unread self.new) next
             (K.written sink.old) (K.written sink.new) [] [] (D.calls desk.old) (D.calls desk.new)
-            × Stands next self.new.dialog.state self.new.dialog.rest.items told) }
+            × Stands next (state_of self.new) (unread self.new) told) }
         ensures cut_off { OnErr result (IsCutOff
-            (setting_of (H.relation_of (arc_value self.old.host.handlers)) (H.rows_of (arc_value self.old.host.handlers)) self.old.host.pid self.old.host.key)
-            self.old.dialog.state (self.old.dialog.rest.items ++ piece.now)
+            (setting self.old)
+            (state_of self.old) ((unread self.old) ++ piece.now)
             (K.written sink.old) (K.written sink.new) [] (D.calls desk.old) (D.calls desk.new)) }
 
         // So are those of all that came before, and of this piece.
         ensures continues { (s : SessionState) (text : List ℕ) (written : Option (List ℕ)) (calls : List DeskCall)
-            → IsServed (setting_of (H.relation_of (arc_value self.old.host.handlers)) (H.rows_of (arc_value self.old.host.handlers)) self.old.host.pid self.old.host.key)
-            s text self.old.dialog.rest.items (Goes self.old.dialog.state) written (K.written sink.old) [] [] calls (D.calls desk.old)
+            → IsServed (setting self.old)
+            s text (unread self.old) (Goes (state_of self.old)) written (K.written sink.old) [] [] calls (D.calls desk.old)
             → IfOk result (λ told. (next : Next) × IsServed
-            (setting_of (H.relation_of (arc_value self.old.host.handlers)) (H.rows_of (arc_value self.old.host.handlers)) self.old.host.pid self.old.host.key)
-            s (text ++ piece.now) self.new.dialog.rest.items next written (K.written sink.new) [] [] calls (D.calls desk.new)
-            × Stands next self.new.dialog.state self.new.dialog.rest.items told) }
+            (setting self.old)
+            s (text ++ piece.now) (unread self.new) next written (K.written sink.new) [] [] calls (D.calls desk.new)
+            × Stands next (state_of self.new) (unread self.new) told) }
         ensures continues_cut { (s : SessionState) (text : List ℕ) (written : Option (List ℕ)) (calls : List DeskCall)
-            → IsServed (setting_of (H.relation_of (arc_value self.old.host.handlers)) (H.rows_of (arc_value self.old.host.handlers)) self.old.host.pid self.old.host.key)
-            s text self.old.dialog.rest.items (Goes self.old.dialog.state) written (K.written sink.old) [] [] calls (D.calls desk.old)
+            → IsServed (setting self.old)
+            s text (unread self.old) (Goes (state_of self.old)) written (K.written sink.old) [] [] calls (D.calls desk.old)
             → OnErr result (IsCutOff
-            (setting_of (H.relation_of (arc_value self.old.host.handlers)) (H.rows_of (arc_value self.old.host.handlers)) self.old.host.pid self.old.host.key)
+            (setting self.old)
             s (text ++ piece.now) written (K.written sink.new) [] calls (D.calls desk.new)) }
-        ensures open { IsTrue self.new.opened ↔ (result ≡ Ok More) }
-        ensures host { self.new.host ≡ self.old.host }
+        ensures open { IsTrue (is_open self.new) ↔ (result ≡ Ok More) }
+        ensures host { (host_of self.new) ≡ (host_of self.old) }
 
         // The cause of each error.
-        ensures write_fault { IsErrOf result ServeError.WriteFault → HasRisen (K.faults sink.old) (K.faults sink.new) }
-        ensures no_read_fault { ¬ IsErrOf result ServeError.ReadFault }
-        ensures no_turn_limit { ¬ IsErrOf result ServeError.TurnLimit }
-        ensures never_falls { K.faults sink.old ≤ K.faults sink.new }
+        ensures cause { HasSinkCause (K.faults sink.old) (K.faults sink.new) result }
         ensures same { D.registration desk.new ≡ D.registration desk.old }
+        ensures origin { D.origin desk.new ≡ D.origin desk.old }
         ensures turns { turns.new ≡ turns.old }
     {
         let _ = turns;
@@ -148,8 +147,5 @@ impl<H: FirstRows + Drop> Session<H> {
 fn is_more(outcome: &Result<Progress, ServeError>) -> bool
     ensures { IsTrue result ↔ (outcome.now ≡ Ok More) }
 {
-    match outcome {
-        Ok(Progress::More) => true,
-        _ => false,
-    }
+    matches!(outcome, Ok(Progress::More))
 }

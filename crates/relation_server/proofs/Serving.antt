@@ -34,9 +34,8 @@ is_run {setting} {taken} {rest} x text more kind e h = let answers = answers_of 
   ended = subst (λ n. EndsWith n (rest ++ more) kind) (sym (x.fed.goes_on answers)) h;
 }
 
-grows_to : (w v : Option (List ℕ)) (sent bytes : List ℕ) (P : List ℕ → Type 0) → GrowsBy w v sent → sent ≡ bytes → P bytes → IfSome w (λ before. (replies : List ℕ) × (v ≡ Some (before ++ replies)) × P replies)
-grows_to None v sent bytes P g e p = tt
-grows_to (Some x) v sent bytes P g e p = (bytes, g ∙ ap (λ b. Some (x ++ b)) e, p)
+grows_to : (w v : Option (List ℕ)) (sent bytes : List ℕ) (P : List ℕ → Type 0) → GrowsBy w v sent → sent ≡ bytes → P bytes → (replies : List ℕ) × GrowsBy w v replies × P replies
+grows_to w v sent bytes P g e p = (bytes, subst (λ b. GrowsBy w v b) e g, p)
 
 all_sent : (sent bytes : List ℕ) → sent ++ [] ≡ [] ++ bytes → sent ≡ bytes
 all_sent sent bytes e = sym (append-nil sent) ∙ e
@@ -80,8 +79,8 @@ takes_more (Some text) mid new_left taken n into t g =
       given.rest,
     )
 
-cut_grows : (w v : Option (List ℕ)) (bytes : List ℕ) (P : List ℕ → Type 0) → GrowsByFront w v bytes → ((front : List ℕ) → BeginsWith bytes front → P front) → IfSome w (λ before. (front : List ℕ) × (v ≡ Some (before ++ front)) × P front)
-cut_grows None v bytes P g p = tt
+cut_grows : (w v : Option (List ℕ)) (bytes : List ℕ) (P : List ℕ → Type 0) → GrowsByFront w v bytes → ((front : List ℕ) → BeginsWith bytes front → P front) → (front : List ℕ) × GrowsBy w v front × P front
+cut_grows None v bytes P g p = ([], tt, p [] (bytes, refl))
 cut_grows (Some x) v bytes P g p = (g.0, g.2, p g.0 g.1)
 
 -- a front of the run over the taken bytes
@@ -116,18 +115,20 @@ takes_none (Some text) = (text, refl, refl)
 pub cut_at_start : (setting : Setting) (left w : Option (List ℕ)) → IsCutRunOfTaken setting left left w w []
 cut_at_start setting left w = ([], takes_none left, at w)
   where
-    at : (o : Option (List ℕ)) → IfSome o (λ before. (front : List ℕ) × (o ≡ Some (before ++ front)) × IsCutRun setting [] front [])
-    at None = tt
-    at (Some x) = (
-      [],
-      ap Some (sym (append-nil x)),
-      record {
+    empty : IsCutRun setting [] [] []
+    empty = record {
         given = conversation setting [] first_state [];
         rest = [];
         converses = record { messages = []; division = refl; answered = refl };
         replied = ([], refl);
         called = ([], refl);
-      },
+      }
+    at : (o : Option (List ℕ)) → (front : List ℕ) × GrowsBy o o front × IsCutRun setting [] front []
+    at None = ([], tt, empty)
+    at (Some x) = (
+      [],
+      ap Some (sym (append-nil x)),
+      empty,
     )
 
 -- the same in an equal setting

@@ -1,5 +1,5 @@
 -- What the server owes its client, and what the program tells of it: a status, and a line on its error output.
-use Rattle.std.specs.Prelude.{ℕ, ℤ, List, [], ◌++◌, ◌∷◌, ◌+◌, ◌≤◌, ◌<◌, ◌^◌, ◌≡◌, ◌⊎◌, Option, Some, None, Result, Ok, Err, IfSome, codes}
+use Rattle.std.specs.Prelude.{ℕ, ℤ, List, [], ◌++◌, ◌∷◌, ◌+◌, ◌≤◌, ◌<◌, ◌^◌, ◌≡◌, ◌≢◌, ◌⊎◌, Option, Some, None, Result, Ok, Err, IfSome, codes}
 use Rattle.std.specs.List.{AllByRecursion}
 use Rattle.pg_session.specs.declared.desk.DeskCall.{DeskCall}
 use Rattle.pg_session.specs.declared.ends.EndKind.{EndKind}
@@ -21,6 +21,10 @@ table_setting relations registration = setting_of (place_of relations) (binary_r
 -- no relation owes an unready poll
 abbrev pub OwesNoPoll : List Relation → Type 0
 OwesNoPoll relations = AllByRecursion (λ r. r.unready ≡ 0) relations
+
+-- how many turns a client of the program has
+abbrev pub turns_of_a_client : ℕ
+turns_of_a_client = 1000000000
 
 -- the status of a conversation's end, or of what it was given up for
 abbrev pub status_of : Result EndKind ServeError → ℕ
@@ -54,12 +58,12 @@ usage = line (codes "usage: relation_server PID KEY")
 -- status 7 where it found no memory.
 abbrev pub IsReported : ℕ → List ℕ → ℕ → Option (List ℕ) → Option (List ℕ) → ℕ → ℕ → Type 0
 IsReported status text ended old new faults new_faults =
-    (((ended ≡ status) × GrowsBy old new text) ⊎ ((ended ≡ status) × GrowsByFront old new text × HasRisen faults new_faults)) ⊎ ((ended ≡ 7) × GrowsByFront old new text)
+    (((ended ≡ status) × GrowsBy old new text) ⊎ ((ended ≡ status) × GrowsByFront old new text × HasRisen faults new_faults)) ⊎ ((ended ≡ 7) × (text ≢ []) × GrowsByFront old new text × (new_faults ≡ faults))
 
 -- What was written has grown by the reply bytes of a run over the client's bytes, with these registry calls and this end.
 abbrev pub IsServedRun : Setting → Option (List ℕ) → Option (List ℕ) → Option (List ℕ) → List DeskCall → EndKind → Type 0
-IsServedRun setting left old new calls kind = IfSome left (λ text. IfSome old (λ before.
-    (replies : List ℕ) × (new ≡ Some (before ++ replies)) × IsRun setting text replies calls kind))
+IsServedRun setting left old new calls kind = IfSome left (λ text.
+    (replies : List ℕ) × GrowsBy old new replies × IsRun setting text replies calls kind)
 
 -- These bytes were taken from those that a source had to give.
 abbrev pub TakesFrom : Option (List ℕ) → Option (List ℕ) → List ℕ → Type 0
@@ -68,12 +72,12 @@ TakesFrom left new_left taken = IfSome left (λ text. (rest : List ℕ) × (text
 -- What was written has grown by the whole answer to the taken bytes, which end where one more read was needed.
 abbrev pub IsRunOfTaken : Setting → Option (List ℕ) → Option (List ℕ) → Option (List ℕ) → Option (List ℕ) → List DeskCall → Type 0
 IsRunOfTaken setting left new_left old new calls = (taken : List ℕ) × TakesFrom left new_left taken
-    × IfSome old (λ before. (replies : List ℕ) × (new ≡ Some (before ++ replies)) × IsRun setting taken replies calls InputEnd)
+    × ((replies : List ℕ) × GrowsBy old new replies × IsRun setting taken replies calls InputEnd)
 
 -- What was written has grown by a front of the answer to the taken bytes, and the calls are a front of the answer's.
 abbrev pub IsCutRunOfTaken : Setting → Option (List ℕ) → Option (List ℕ) → Option (List ℕ) → Option (List ℕ) → List DeskCall → Type 0
 IsCutRunOfTaken setting left new_left old new calls = (taken : List ℕ) × TakesFrom left new_left taken
-    × IfSome old (λ before. (front : List ℕ) × (new ≡ Some (before ++ front)) × IsCutRun setting taken front calls)
+    × ((front : List ℕ) × GrowsBy old new front × IsCutRun setting taken front calls)
 
 -- What was written and called by the answer: the run over all client bytes where it is an end; the run over the taken bytes where one more
 -- read was needed; a front of it where a write failed or memory ran out.
@@ -89,6 +93,10 @@ pub record Counts : Type 0 where
   pub reads : ℕ
   pub read_faults : ℕ
   pub write_faults : ℕ
+
+-- the counts of a source and of a sink, by what their traits tell
+abbrev pub counts_of : {S K : Type 0} → (S → ℕ) → (S → ℕ) → (K → ℕ) → S → K → Counts
+counts_of reads read_faults write_faults source sink = record { reads = reads source; read_faults = read_faults source; write_faults = write_faults sink }
 
 -- the turn that reads the end of the input
 abbrev pub end_turn : EndKind → ℕ

@@ -2,7 +2,7 @@ ghost use Rattle.std.specs.Prelude.{◌≡◌, None, Result, IfSome};
 ghost use Rattle.pg_session.specs.declared.ends.EndKind.{EndKind};
 ghost use Rattle.pg_session.specs.declared.ends.ServeError.{ServeError};
 ghost use Rattle.relation_server.specs.BuiltIn.{built_in};
-ghost use Rattle.relation_server.specs.Program.{IsReported, IsServed, status_of, line_of, usage};
+ghost use Rattle.relation_server.specs.Program.{IsReported, IsServed, status_of, line_of, usage, counts_of, turns_of_a_client};
 ghost use Rattle.relation_server.specs.Words.{registration_of};
 
 use crate::built_in::built_in_table;
@@ -38,9 +38,9 @@ pub fn run_rows<S: Source, K: Sink, E: Sink>(
         → IsReported 2 usage result (E.written err.old) (E.written err.new) (E.faults err.old) (E.faults err.new) }
     ensures untouched { registration_of words.now ≡ None → (client.new ≡ client.old) × (out.new ≡ out.old) }
     ensures served { IfSome (registration_of words.now) (λ registration. (answer : Result EndKind ServeError)
-        × IsServed registration built_in TURNS answer (S.left client.old) (S.left client.new) (K.written out.old) (K.written out.new)
-        (record { reads = S.reads client.old; read_faults = S.faults client.old; write_faults = K.faults out.old })
-        (record { reads = S.reads client.new; read_faults = S.faults client.new; write_faults = K.faults out.new })
+        × IsServed registration built_in turns_of_a_client answer (S.left client.old) (S.left client.new) (K.written out.old) (K.written out.new)
+        (counts_of S.reads S.faults K.faults client.old out.old)
+        (counts_of S.reads S.faults K.faults client.new out.new)
         × IsReported (status_of answer) (line_of answer) result (E.written err.old) (E.written err.new) (E.faults err.old) (E.faults err.new)) }
 {
     let Some(registration) = read_registration(words) else {
@@ -59,9 +59,9 @@ fn serve_built_in<S: Source, K: Sink>(
     client: &mut S,
     out: &mut K,
 ) -> Result<EndKind, ServeError>
-    ensures { IsServed (pid, key) built_in TURNS result (S.left client.old) (S.left client.new) (K.written out.old) (K.written out.new)
-        (record { reads = S.reads client.old; read_faults = S.faults client.old; write_faults = K.faults out.old })
-        (record { reads = S.reads client.new; read_faults = S.faults client.new; write_faults = K.faults out.new }) }
+    ensures { IsServed (pid, key) built_in turns_of_a_client result (S.left client.old) (S.left client.new) (K.written out.old) (K.written out.new)
+        (counts_of S.reads S.faults K.faults client.old out.old)
+        (counts_of S.reads S.faults K.faults client.new out.new) }
 {
     let Ok(table) = built_in_table(alloc) else {
         return Err(ServeError::NoMemory);

@@ -4,8 +4,9 @@ ghost use Rattle.pg_messages.specs.Frames.{IsUnfinished};
 ghost use Rattle.pg_session.specs.declared.desk.DeskCall.{DeskCall};
 ghost use Rattle.pg_session.specs.Conversation.{Goes, first_state};
 ghost use Rattle.pg_session.specs.Run.{awaits};
-ghost use Rattle.pg_session.specs.Steps.{IsServed, setting_of};
-ghost use Rattle.relation_server.specs.Program.{OwesNoPoll, table_setting, WentSo, HasCause};
+ghost use Rattle.pg_session.specs.Session.{is_open, host_of, setting, state_of, unread};
+ghost use Rattle.pg_session.specs.Steps.{IsServed, setting_of, host_setting};
+ghost use Rattle.relation_server.specs.Program.{OwesNoPoll, table_setting, WentSo, HasCause, counts_of};
 
 use crate::handler::RelationHandler;
 use crate::table::RelationTable;
@@ -38,9 +39,10 @@ pub fn serve_relations_on<D: CancelDesk, S: Source, K: Sink>(
         × WentSo (table_setting relations.now (D.registration desk.old)) result (S.left source.old) (S.left source.new)
         (K.written sink.old) (K.written sink.new) calls }
     ensures cause { HasCause result turn_limit
-        (record { reads = S.reads source.old; read_faults = S.faults source.old; write_faults = K.faults sink.old })
-        (record { reads = S.reads source.new; read_faults = S.faults source.new; write_faults = K.faults sink.new }) }
+        (counts_of S.reads S.faults K.faults source.old sink.old)
+        (counts_of S.reads S.faults K.faults source.new sink.new) }
     ensures same { D.registration desk.new ≡ D.registration desk.old }
+    ensures origin { D.origin desk.new ≡ D.origin desk.old }
 {
     let (pid, key) = desk.identity();
     let Ok(handlers) = Arc::new(alloc, RelationHandler { relations }) else {
@@ -75,19 +77,20 @@ fn serve_session<H: FirstRows + Drop, D: CancelDesk, S: Source, K: Sink>(
     turns: &mut Turns,
     buffer: &mut [u8],
 ) -> Result<EndKind, ServeError>
-    requires open { session.old.opened ≡ true }
-    requires so_far { IsServed (setting_of (H.relation_of (arc_value session.old.host.handlers)) (H.rows_of (arc_value session.old.host.handlers)) session.old.host.pid session.old.host.key)
-        first_state [] session.old.dialog.rest.items (Goes session.old.dialog.state) (K.written sink.old) (K.written sink.old) [] [] (D.calls desk.old) (D.calls desk.old) }
-    requires short { IsUnfinished (awaits session.old.dialog.state) session.old.dialog.rest.items }
+    requires open { is_open session.old ≡ true }
+    requires so_far { IsServed (setting session.old)
+        first_state [] (unread session.old) (Goes (state_of session.old)) (K.written sink.old) (K.written sink.old) [] [] (D.calls desk.old) (D.calls desk.old) }
+    requires short { IsUnfinished (awaits (state_of session.old)) (unread session.old) }
     requires fresh { turns.old.spent ≡ 0 }
     requires room { 0 < length buffer.old }
     ensures went { (calls : List DeskCall) × (D.calls desk.new ≡ D.calls desk.old ++ calls)
-        × WentSo (setting_of (H.relation_of (arc_value session.old.host.handlers)) (H.rows_of (arc_value session.old.host.handlers)) session.old.host.pid session.old.host.key)
+        × WentSo (setting session.old)
         result (S.left source.old) (S.left source.new) (K.written sink.old) (K.written sink.new) calls }
     ensures cause { HasCause result turns.old.limit
-        (record { reads = S.reads source.old; read_faults = S.faults source.old; write_faults = K.faults sink.old })
-        (record { reads = S.reads source.new; read_faults = S.faults source.new; write_faults = K.faults sink.new }) }
+        (counts_of S.reads S.faults K.faults source.old sink.old)
+        (counts_of S.reads S.faults K.faults source.new sink.new) }
     ensures same { D.registration desk.new ≡ D.registration desk.old }
+    ensures origin { D.origin desk.new ≡ D.origin desk.old }
 {
     'turns: loop {
         if !turns.spend() {

@@ -1,19 +1,20 @@
 use Rattle.std.proofs.Common.{[], IsTrue, ◌≡◌, ◌∙◌, subst, refl, arith}
 use Rattle.std.specs.Arc.{arc_value}
 use Rattle.pg_session.specs.Run.{awaits}
-use Rattle.pg_session.specs.Steps.{StandsAfterStep, goes_on_after, setting_of}
+use Rattle.pg_session.specs.Steps.{StandsAfterStep, goes_on_after, setting_of, host_setting}
 use Rattle.pg_session.proofs.Flowing.{Flows-sent}
 use Rattle.pg_session.proofs.Stepping.{on_err_always, serves_none, serves_then, serves_to, serves_flow, cut_then, cut_served}
 use Rattle.pg_session.proofs.dialog.Dialog.run.Goals as goal
 
 pub messages-init : goal.messages-init
 messages-init g c = record {
-  served = serves_none (setting_of (g.H.FirstRows.relation_of (arc_value c.args.host.now.handlers)) (g.H.FirstRows.rows_of (arc_value c.args.host.now.handlers)) c.args.host.now.pid c.args.host.now.key)
+  served = serves_none (host_setting g.H.FirstRows.relation_of g.H.FirstRows.rows_of c.args.host.now)
       c.args.self.now.state c.args.self.now.rest.items c.args.self.now.rest.items (g.K.Sink.written c.args.sink.now) c.args.self.now.outbox (g.D.CancelDesk.calls c.args.desk.now) refl;
   awaiting = c.requires.awaiting;
   good = c.requires.good;
   faults = omega arith;
   same = refl;
+  origin = refl;
 }
 
 pub returns-in_err-step-clause-cut_off : goal.returns-in_err-step-clause-cut_off
@@ -41,4 +42,5 @@ messages-preserved g c =
       good = c.in_ok-step.ensures.good;
       faults = omega arith;
       same = c.in_ok-step.ensures.same ∙ c.messages.invariant.same;
+      origin = c.in_ok-step.ensures.origin ∙ c.messages.invariant.origin;
     }

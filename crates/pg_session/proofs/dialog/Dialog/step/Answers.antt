@@ -3,7 +3,7 @@ use Rattle.std.specs.Arc.{arc_value}
 use Rattle.pg_messages.specs.Frames.{IsFrame, IsUnfinished, IsBad}
 use Rattle.pg_session.specs.Run.{awaits}
 use Rattle.pg_session.specs.Conversation.{Goes, answer}
-use Rattle.pg_session.specs.Steps.{setting_of, next_of}
+use Rattle.pg_session.specs.Steps.{setting_of, host_setting, next_of}
 use Rattle.pg_session.proofs.Conversations.{answer_awaits}
 use Rattle.pg_session.proofs.BadFrames.{bad_more}
 use Rattle.pg_session.proofs.Stepping.{on_err_always, serves_none, serves_one, serves_flow, cut_none, cut_one, cut_served, stands_by, bad_is_no_end_of_input, awaits_by}
@@ -11,7 +11,7 @@ use Rattle.pg_session.proofs.dialog.Dialog.step.Goals as goal
 
 pub returns-in-Ok-None-clause-served : goal.returns-in-Ok-None-clause-served
 returns-in-Ok-None-clause-served g c =
-    let setting = setting_of (g.H.FirstRows.relation_of (arc_value c.args.host.now.handlers)) (g.H.FirstRows.rows_of (arc_value c.args.host.now.handlers)) c.args.host.now.pid c.args.host.now.key in
+    let setting = host_setting g.H.FirstRows.relation_of g.H.FirstRows.rows_of c.args.host.now in
     let s = c.args.self.now.state in let text = c.args.self.now.rest.items in
     let kept : c.decode.new.src.items ≡ text = rw c.in-Ok-None.field-0-is at c.in-Ok-None.ensures.kept in
     let short : IsUnfinished c.args.self.now.codec.context.awaiting_startup text = rw c.in-Ok-None.field-0-is at c.in-Ok-None.ensures.none in (
@@ -22,7 +22,7 @@ returns-in-Ok-None-clause-served g c =
 
 pub returns-in-Err-Bad-clause-served : goal.returns-in-Err-Bad-clause-served
 returns-in-Err-Bad-clause-served g c =
-    let setting = setting_of (g.H.FirstRows.relation_of (arc_value c.args.host.now.handlers)) (g.H.FirstRows.rows_of (arc_value c.args.host.now.handlers)) c.args.host.now.pid c.args.host.now.key in
+    let setting = host_setting g.H.FirstRows.relation_of g.H.FirstRows.rows_of c.args.host.now in
     let s = c.args.self.now.state in let text = c.args.self.now.rest.items in
     let kept : c.decode.new.src.items ≡ text = c.in-Err-Bad.ensures.err in
     let bad : IsBad c.args.self.now.codec.context.awaiting_startup text = c.in-Err-Bad.ensures.bad (ap Err c.in-Err-Bad.field-0-is) in (
@@ -37,7 +37,7 @@ returns-in-Err-NoMemory-clause-cut_off g c =
 
 pub returns-in_err-end-clause-cut_off : goal.returns-in_err-end-clause-cut_off
 returns-in_err-end-clause-cut_off g c =
-    let setting = setting_of (g.H.FirstRows.relation_of (arc_value c.args.host.now.handlers)) (g.H.FirstRows.rows_of (arc_value c.args.host.now.handlers)) c.args.host.now.pid c.args.host.now.key in
+    let setting = host_setting g.H.FirstRows.relation_of g.H.FirstRows.rows_of c.args.host.now in
     let s = c.args.self.now.state in
     let found = rw c.in-Ok-Some.field-0-is at c.in-Ok-Some.ensures.found in
     on_err_always c.from_residual.result (cut_one setting s c.args.self.now.rest.items found.0 c.decode.new.src.items c.in-Ok-Some.message found.1
@@ -46,7 +46,7 @@ returns-in_err-end-clause-cut_off g c =
 
 pub returns-in_err-flush_if_full-clause-cut_off : goal.returns-in_err-flush_if_full-clause-cut_off
 returns-in_err-flush_if_full-clause-cut_off g c =
-    let setting = setting_of (g.H.FirstRows.relation_of (arc_value c.args.host.now.handlers)) (g.H.FirstRows.rows_of (arc_value c.args.host.now.handlers)) c.args.host.now.pid c.args.host.now.key in
+    let setting = host_setting g.H.FirstRows.relation_of g.H.FirstRows.rows_of c.args.host.now in
     let s = c.args.self.now.state in
     let found = rw c.in-Ok-Some.field-0-is at c.in-Ok-Some.ensures.found in
     let served = serves_one setting s c.args.self.now.rest.items found.0 c.decode.new.src.items c.in-Ok-Some.message found.1
@@ -55,7 +55,7 @@ returns-in_err-flush_if_full-clause-cut_off g c =
 
 pub returns-clause-served : goal.returns-clause-served
 returns-clause-served g c =
-    let setting = setting_of (g.H.FirstRows.relation_of (arc_value c.args.host.now.handlers)) (g.H.FirstRows.rows_of (arc_value c.args.host.now.handlers)) c.args.host.now.pid c.args.host.now.key in
+    let setting = host_setting g.H.FirstRows.relation_of g.H.FirstRows.rows_of c.args.host.now in
     let s = c.args.self.now.state in
     let found = rw c.in-Ok-Some.field-0-is at c.in-Ok-Some.ensures.found in
     let served = serves_one setting s c.args.self.now.rest.items found.0 c.decode.new.src.items c.in-Ok-Some.message found.1
@@ -67,7 +67,7 @@ returns-clause-served g c =
 
 pub returns-clause-awaiting : goal.returns-clause-awaiting
 returns-clause-awaiting g c =
-    let setting = setting_of (g.H.FirstRows.relation_of (arc_value c.args.host.now.handlers)) (g.H.FirstRows.rows_of (arc_value c.args.host.now.handlers)) c.args.host.now.pid c.args.host.now.key in
+    let setting = host_setting g.H.FirstRows.relation_of g.H.FirstRows.rows_of c.args.host.now in
     let context = rw c.in-Ok-Some.field-0-is at c.in-Ok-Some.ensures.context in
     awaits_by setting c.args.self.now.state c.on_message.new.state c.in-Ok-Some.message c.args.self.now.codec.context c.decode.new.self.context c.in_ok-end.end c.ended_by.result
     c.requires.awaiting context c.ended_by.ensures ((c.in_ok-end.ensures.answer []).goes_on)
