@@ -1,3 +1,4 @@
 pub mod Serving
 pub mod TableLemmas
 pub mod RowLemmas
+pub mod Quiet

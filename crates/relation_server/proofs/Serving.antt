@@ -53,20 +53,37 @@ run_of_taken {setting} {s} {taken} {rest} {w} {v} left new_left t x short = (
 -- the run over all bytes, where the conversation has ended whatever follows
 pub served_run : {setting : Setting} {taken rest : List ℕ} {next : Next} {w v : Option (List ℕ)} {k l : List DeskCall} (left new_left : Option (List ℕ)) (kind : EndKind)
     → TakesFrom left new_left taken → (x : steps.IsServed setting first_state taken rest next w v [] [] k l) → ((more : List ℕ) → EndsWith next (rest ++ more) kind) → IsServedRun setting left w v x.called kind
-served_run None new_left kind t x h = tt
-served_run {setting} {w = w} {v = v} (Some text) new_left kind t x h =
-    grows_to w v x.flows.sent x.bytes (λ replies. IsRun setting text replies x.called kind) x.flows.grown (all_sent x.flows.sent x.bytes x.flows.same) (is_run x text t.0 kind t.1 (h t.0))
+served_run {setting} {taken} {w = w} {v = v} None new_left kind t x h = (
+  taken,
+  tt,
+  grows_to w v x.flows.sent x.bytes (λ replies. IsRun setting taken replies x.called kind) x.flows.grown (all_sent x.flows.sent x.bytes x.flows.same)
+      (is_run x taken [] kind (sym (append-nil taken)) (h [])),
+)
+served_run {setting} {w = w} {v = v} (Some text) new_left kind t x h = (
+  text,
+  refl,
+  grows_to w v x.flows.sent x.bytes (λ replies. IsRun setting text replies x.called kind) x.flows.grown (all_sent x.flows.sent x.bytes x.flows.same)
+      (is_run x text t.0 kind t.1 (h t.0)),
+)
 
 -- the same where the end of the input was read
 pub ended_run : {setting : Setting} {s : SessionState} {taken rest : List ℕ} {w v : Option (List ℕ)} {k l : List DeskCall} (left mid new_left : Option (List ℕ)) (n : ℕ) (into : List ℕ)
     → TakesFrom left mid taken → IfSome mid (λ bytes. GivesFront n into bytes new_left) → n ≡ 0
     → (x : steps.IsServed setting first_state taken rest (Goes s) w v [] [] k l) → IsUnfinished (awaits s) rest → IsServedRun setting left w v x.called end.InputEnd
-ended_run None mid new_left n into t g z x short = tt
+ended_run {setting} {s} {taken} {rest} {w} {v} None mid new_left n into t g z x short = (
+  taken,
+  tt,
+  grows_to w v x.flows.sent x.bytes (λ replies. IsRun setting taken replies x.called end.InputEnd) x.flows.grown (all_sent x.flows.sent x.bytes x.flows.same)
+      (is_run x taken [] end.InputEnd (sym (append-nil taken)) (subst (λ r. IsUnfinished (awaits s) r) (sym (append-nil rest)) short)),
+)
 ended_run {setting} {s} {taken} {rest} {w} {v} (Some text) mid new_left n into t g z x short =
     let given : GivesFront n into t.0 new_left = subst (λ o. IfSome o (λ bytes. GivesFront n into bytes new_left)) t.2 g in
-    let all : text ≡ taken ++ [] = t.1 ∙ ap (λ l. taken ++ l) (given.at_end z) in
-    grows_to w v x.flows.sent x.bytes (λ replies. IsRun setting text replies x.called end.InputEnd) x.flows.grown (all_sent x.flows.sent x.bytes x.flows.same)
-    (is_run x text [] end.InputEnd all (subst (λ r. IsUnfinished (awaits s) r) (sym (append-nil rest)) short))
+    let all : text ≡ taken ++ [] = t.1 ∙ ap (λ l. taken ++ l) (given.at_end z) in (
+      text,
+      refl,
+      grows_to w v x.flows.sent x.bytes (λ replies. IsRun setting text replies x.called end.InputEnd) x.flows.grown (all_sent x.flows.sent x.bytes x.flows.same)
+          (is_run x text [] end.InputEnd all (subst (λ r. IsUnfinished (awaits s) r) (sym (append-nil rest)) short)),
+    )
 
 -- one more piece was taken
 pub takes_more : (left mid new_left : Option (List ℕ)) (taken : List ℕ) (n : ℕ) (into : List ℕ) → TakesFrom left mid taken → IfSome mid (λ bytes. GivesFront n into bytes new_left)

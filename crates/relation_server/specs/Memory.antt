@@ -1,5 +1,5 @@
 -- A source and a sink in memory, which cut and fail as they are told.
-use Rattle.std.specs.Prelude.{ℕ, Bool, List, ◌++◌, Option, Some, None, Result, Ok, Err, ◌≡◌, ◌+◌, ◌==◌, if◌then◌else◌, min, max, take, length, find, slice_get}
+use Rattle.std.specs.Prelude.{ℕ, Bool, true, false, List, ◌++◌, Option, Some, None, Result, Ok, Err, ◌≡◌, ◌+◌, ◌==◌, if◌then◌else◌, min, max, take, length, find, slice_get}
 use Rattle.std.specs.List.{list_any}
 use Rattle.pg_session.specs.declared.streams.SourceFailed.{SourceFailed}
 use Rattle.pg_session.specs.declared.streams.SinkError.{SinkError}
@@ -9,6 +9,16 @@ use Rattle.pg_session.specs.Streams.{greatest_count}
 -- a count that has risen by one, or stands still at the greatest
 abbrev pub raised : ℕ → ℕ
 raised n = min (n + 1) greatest_count
+
+-- a count of faults after a call: raised where the call failed, and else the same
+abbrev pub counted : Bool → ℕ → ℕ
+counted failed n = if failed then raised n else n
+
+-- whether the write failed; want of memory is no fault of the sink
+abbrev pub is_fault : Result (Unit {0}) SinkError → Bool
+is_fault (Ok done) = false
+is_fault (Err Failed) = true
+is_fault (Err NoMemory) = false
 
 -- What a source in memory has: the bytes to come, the most that each call gives, the numbers of the calls that fail, and how many calls,
 -- reads that gave a byte, and faults there were.
@@ -38,7 +48,7 @@ pub record IsNextCall (failed : Bool) (old new : Tape) : Type 0 where
   pub pieces : new.pieces ≡ old.pieces
   pub fails : new.fails ≡ old.fails
   pub calls : new.calls ≡ raised old.calls
-  pub faults : new.faults ≡ (if failed then raised old.faults else old.faults)
+  pub faults : new.faults ≡ counted failed old.faults
 
 -- What a sink in memory has: all that was written, the numbers of the calls that fail, each with the bytes that it takes, and how many calls
 -- and faults there were.

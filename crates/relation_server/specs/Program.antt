@@ -1,5 +1,5 @@
 -- What the server owes its client, and what the program tells of it: a status, and a line on its error output.
-use Rattle.std.specs.Prelude.{ℕ, ℤ, List, [], ◌++◌, ◌∷◌, ◌+◌, ◌≤◌, ◌<◌, ◌^◌, ◌≡◌, ◌≢◌, ◌⊎◌, Option, Some, None, Result, Ok, Err, IfSome, codes}
+use Rattle.std.specs.Prelude.{ℕ, ℤ, Bool, false, List, [], ◌++◌, ◌∷◌, ◌+◌, ◌≤◌, ◌<◌, ◌^◌, ◌≡◌, ◌≢◌, ◌⊎◌, Option, Some, None, Result, Ok, Err, IfSome, codes}
 use Rattle.std.specs.List.{AllByRecursion}
 use Rattle.pg_session.specs.declared.desk.DeskCall.{DeskCall}
 use Rattle.pg_session.specs.declared.ends.EndKind.{EndKind}
@@ -7,7 +7,7 @@ use Rattle.pg_session.specs.declared.ends.EndKind.TheVariants.{Terminate, InputE
 use Rattle.pg_session.specs.declared.ends.ServeError.{ServeError}
 use Rattle.pg_session.specs.declared.ends.ServeError.TheVariants.{ReadFault, WriteFault, TurnLimit, NoMemory}
 use Rattle.pg_session.specs.Conversation.{Setting}
-use Rattle.pg_session.specs.Run.{IsRun, IsCutRun}
+use Rattle.pg_session.specs.Run.{IsRun, IsCutRun, answers_of}
 use Rattle.pg_session.specs.Steps.{setting_of}
 use Rattle.pg_session.specs.Streams.{GrowsBy, GrowsByFront, HasRisen}
 use Rattle.relation_server.specs.declared.table.Relation.{Relation}
@@ -54,16 +54,18 @@ line_of (Err NoMemory) = line (codes "out of memory")
 abbrev pub usage : List ℕ
 usage = line (codes "usage: relation_server PID KEY")
 
--- What was written as errors has grown by a line, or by a front of it: with this status where its count of faults has risen, and with
--- status 7 where it found no memory.
+-- What came of writing a line as errors. With this status, all of it was written, or a front of it where the count of faults has risen.
+-- With status 7, where there is a line, a front of it was written, no memory was found, and no fault was counted.
 abbrev pub IsReported : ℕ → List ℕ → ℕ → Option (List ℕ) → Option (List ℕ) → ℕ → ℕ → Type 0
 IsReported status text ended old new faults new_faults =
-    (((ended ≡ status) × GrowsBy old new text) ⊎ ((ended ≡ status) × GrowsByFront old new text × HasRisen faults new_faults)) ⊎ ((ended ≡ 7) × (text ≢ []) × GrowsByFront old new text × (new_faults ≡ faults))
+    (((ended ≡ status) × GrowsBy old new text) ⊎ ((ended ≡ status) × GrowsByFront old new text × HasRisen faults new_faults))
+    ⊎ ((ended ≡ 7) × (text ≢ []) × GrowsByFront old new text × (new_faults ≡ faults))
 
 -- What was written has grown by the reply bytes of a run over the client's bytes, with these registry calls and this end.
+-- The client's bytes are those that the source had to give, where it tells them.
 abbrev pub IsServedRun : Setting → Option (List ℕ) → Option (List ℕ) → Option (List ℕ) → List DeskCall → EndKind → Type 0
-IsServedRun setting left old new calls kind = IfSome left (λ text.
-    (replies : List ℕ) × GrowsBy old new replies × IsRun setting text replies calls kind)
+IsServedRun setting left old new calls kind = (text : List ℕ) × IfSome left (λ bytes. text ≡ bytes)
+    × ((replies : List ℕ) × GrowsBy old new replies × IsRun setting text replies calls kind)
 
 -- These bytes were taken from those that a source had to give.
 abbrev pub TakesFrom : Option (List ℕ) → Option (List ℕ) → List ℕ → Type 0
@@ -113,8 +115,14 @@ HasCause (Err WriteFault) turns old new = HasRisen old.write_faults new.write_fa
 HasCause (Err TurnLimit) turns old new = old.reads + turns < 2 ^ 64 → new.reads ≡ old.reads + turns
 HasCause (Err NoMemory) turns old new = Unit {0}
 
--- A conversation under this registration went so: what was written and called, and why it came to an end or was given up.
-pub record IsServed (registration : ℤ × List ℕ) (relations : List Relation) (turns : ℕ) (answer : Result EndKind ServeError) (left new_left old new : Option (List ℕ)) (before after : Counts) : Type 0 where
+-- every question was answered no
+abbrev pub AreNo : List Bool → Type 0
+AreNo answers = AllByRecursion (λ yes. yes ≡ false) answers
+
+-- A conversation under this registration, whose queries nobody cancels, went so: what was written and called, and why it came to an end or
+-- was given up.
+pub record IsOutcome (registration : ℤ × List ℕ) (relations : List Relation) (turns : ℕ) (answer : Result EndKind ServeError) (left new_left old new : Option (List ℕ)) (before after : Counts) : Type 0 where
   pub calls : List DeskCall
+  pub quiet : AreNo (answers_of calls)
   pub went : WentSo (table_setting relations registration) answer left new_left old new calls
   pub cause : HasCause answer turns before after

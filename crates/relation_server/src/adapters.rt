@@ -1,6 +1,8 @@
 ghost use Rattle.std.specs.Prelude.{◌≡◌, None, ◌≤◌, ◌<◌, length, IfOk, OnErr, OnOk, IsErrOf, IsTrue};
 ghost use Rattle.std.specs.Io.KnownBytes.{ReadConsumes, Appends};
+ghost use Rattle.std.specs.Result.{is_err};
 ghost use Rattle.pg_session.specs.Streams.{HasRisen, reads_after};
+ghost use Rattle.relation_server.specs.Memory.{counted};
 
 use pg_session::{Sink, SinkError, Source, SourceFailed};
 use std::io::{Read, Write};
@@ -29,6 +31,7 @@ impl<R: Read> Source for ReaderSource<R> {
         ensures reader { ReadConsumes (R.remaining self.old.reader) (R.remaining self.new.reader) result into.new }
         ensures fits { IfOk result (λ n. n ≤ length into.old) }
         ensures counts { self.new.reads ≡ reads_after result self.old.reads }
+        ensures faults { self.new.faults ≡ counted (is_err result) self.old.faults }
         ensures failed { OnErr result (HasRisen self.old.faults self.new.faults) }
         ensures never_falls { self.old.faults ≤ self.new.faults }
     {
@@ -65,6 +68,7 @@ impl<W: Write> Sink for WriterSink<W> {
     fn send(&mut self, bytes: &[u8]) -> Result<(), SinkError>
         // what is known of the writer's bytes grows by all of them
         ensures writer { OnOk result (Appends (W.contents self.old.writer) (W.contents self.new.writer) bytes.now) }
+        ensures faults { self.new.faults ≡ counted (is_err result) self.old.faults }
         ensures failed { OnErr result (HasRisen self.old.faults self.new.faults) }
         ensures no_memory { IsErrOf result SinkError.NoMemory → ⊥ }
         ensures never_falls { self.old.faults ≤ self.new.faults }

@@ -1,7 +1,7 @@
 ghost use Rattle.std.specs.Prelude.{◌≡◌, ℕ, List, [], Some, ◌≤◌, ◌<◌, ◌++◌, ◌==◌, min, take, length, find, IfOk, IfSome, IfErr, OnErr, OnOk, IsErrOf, if◌then◌else◌};
 ghost use Rattle.std.specs.Result.{is_err};
 ghost use Rattle.pg_session.specs.Streams.{GivesFront, GrowsBy, GrowsByFront, HasRisen, reads_after};
-ghost use Rattle.relation_server.specs.Memory.{received, is_told_to_fail, most_of, IsNextCall, told_to_fail, TakesAsTold, raised};
+ghost use Rattle.relation_server.specs.Memory.{received, is_told_to_fail, most_of, IsNextCall, told_to_fail, TakesAsTold, raised, counted, is_fault};
 
 use pg_messages::{PgBytes, PgList};
 use pg_session::{Sink, SinkError, Source, SourceFailed};
@@ -168,6 +168,7 @@ impl Sink for MemorySink {
         ensures taken { TakesAsTold (told_to_fail self.old) result self.old.bytes self.new.bytes bytes.now }
         ensures fails { self.new.fails ≡ self.old.fails }
         ensures calls { self.new.calls ≡ raised self.old.calls }
+        ensures faults { self.new.faults ≡ counted (is_fault result) self.old.faults }
         ensures ok { OnOk result (GrowsBy (Some self.old.bytes) (Some self.new.bytes) bytes.now) }
         ensures err { OnErr result (GrowsByFront (Some self.old.bytes) (Some self.new.bytes) bytes.now) }
         ensures failed { IsErrOf result SinkError.Failed → HasRisen self.old.faults self.new.faults }

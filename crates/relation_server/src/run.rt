@@ -2,7 +2,7 @@ ghost use Rattle.std.specs.Prelude.{◌≡◌, None, Result, IfSome};
 ghost use Rattle.pg_session.specs.declared.ends.EndKind.{EndKind};
 ghost use Rattle.pg_session.specs.declared.ends.ServeError.{ServeError};
 ghost use Rattle.relation_server.specs.BuiltIn.{built_in};
-ghost use Rattle.relation_server.specs.Program.{IsReported, IsServed, status_of, line_of, usage, counts_of, turns_of_a_client};
+ghost use Rattle.relation_server.specs.Program.{IsReported, IsOutcome, status_of, line_of, usage, counts_of, turns_of_a_client};
 ghost use Rattle.relation_server.specs.Words.{registration_of};
 
 use crate::built_in::built_in_table;
@@ -38,7 +38,7 @@ pub fn run_rows<S: Source, K: Sink, E: Sink>(
         → IsReported 2 usage result (E.written err.old) (E.written err.new) (E.faults err.old) (E.faults err.new) }
     ensures untouched { registration_of words.now ≡ None → (client.new ≡ client.old) × (out.new ≡ out.old) }
     ensures served { IfSome (registration_of words.now) (λ registration. (answer : Result EndKind ServeError)
-        × IsServed registration built_in turns_of_a_client answer (S.left client.old) (S.left client.new) (K.written out.old) (K.written out.new)
+        × IsOutcome registration built_in turns_of_a_client answer (S.left client.old) (S.left client.new) (K.written out.old) (K.written out.new)
         (counts_of S.reads S.faults K.faults client.old out.old)
         (counts_of S.reads S.faults K.faults client.new out.new)
         × IsReported (status_of answer) (line_of answer) result (E.written err.old) (E.written err.new) (E.faults err.old) (E.faults err.new)) }
@@ -59,7 +59,7 @@ fn serve_built_in<S: Source, K: Sink>(
     client: &mut S,
     out: &mut K,
 ) -> Result<EndKind, ServeError>
-    ensures { IsServed (pid, key) built_in turns_of_a_client result (S.left client.old) (S.left client.new) (K.written out.old) (K.written out.new)
+    ensures { IsOutcome (pid, key) built_in turns_of_a_client result (S.left client.old) (S.left client.new) (K.written out.old) (K.written out.new)
         (counts_of S.reads S.faults K.faults client.old out.old)
         (counts_of S.reads S.faults K.faults client.new out.new) }
 {
@@ -67,5 +67,7 @@ fn serve_built_in<S: Source, K: Sink>(
         return Err(ServeError::NoMemory);
     };
     let mut desk = ScriptDesk::new(alloc, pid, key, PgList::new(alloc));
-    serve_relations_on(alloc, &mut desk, &table, client, out, TURNS)
+    let answer = serve_relations_on(alloc, &mut desk, &table, client, out, TURNS);
+    let _answered_no = desk.calls();
+    answer
 }

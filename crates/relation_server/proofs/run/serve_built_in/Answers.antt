@@ -1,12 +1,36 @@
-use Rattle.std.proofs.Common.{[]}
+use Rattle.std.proofs.Common.{◌≡◌, ◌∙◌, ◌++◌, [], ap, subst, rules}
+use Rattle.pg_session.specs.Run.{answers_of}
+use Rattle.pg_session.specs.Script.{registration_of, origin_of}
 use Rattle.relation_server.specs.BuiltIn.{built_in}
-use Rattle.relation_server.specs.Program.{table_setting}
+use Rattle.relation_server.specs.Program.{AreNo, WentSo, table_setting}
 use Rattle.relation_server.proofs.Serving.{cut_at_start}
+use Rattle.relation_server.proofs.Quiet.{quiet}
 use Rattle.relation_server.proofs.run.serve_built_in.Goals as goal
 
 pub returns-in_default : goal.returns-in_default
 returns-in_default g c = record {
   calls = [];
+  quiet = tt;
   went = cut_at_start (table_setting built_in (c.args.pid, c.args.key)) (g.S.Source.left c.args.client.now) (g.K.Sink.written c.args.out.now);
   cause = tt;
 }
+
+pub returns : goal.returns
+returns g c =
+    let desk = c.new-desk.result in
+    let went = c.serve_relations_on-answer.ensures.went in
+    let registered : registration_of desk ≡ (c.args.pid, c.args.key) = search rules in
+    let called : c.serve_relations_on-answer.new.desk.calls ≡ went.0 = went.1 ∙ ap (λ calls. calls ++ went.0) c.new-desk.ensures.calls in
+    let unscripted : origin_of c.serve_relations_on-answer.new.desk.script ≡ [] =
+        c.serve_relations_on-answer.ensures.origin ∙ ap origin_of (c.new-desk.ensures.script ∙ c.new.ensures) in
+    record {
+      calls = went.0;
+      quiet = subst (λ calls. AreNo (answers_of calls)) called (quiet c.calls-answered_no.ensures.scripted unscripted);
+      went = subst (λ table. WentSo (table_setting table (c.args.pid, c.args.key)) c.serve_relations_on-answer.result (g.S.Source.left c.args.client.now)
+          (g.S.Source.left c.serve_relations_on-answer.new.source) (g.K.Sink.written c.args.out.now) (g.K.Sink.written c.serve_relations_on-answer.new.sink) went.0)
+          c.in-Ok.ensures.ok
+          (subst (λ registration. WentSo (table_setting c.in-Ok.table registration) c.serve_relations_on-answer.result (g.S.Source.left c.args.client.now)
+          (g.S.Source.left c.serve_relations_on-answer.new.source) (g.K.Sink.written c.args.out.now) (g.K.Sink.written c.serve_relations_on-answer.new.sink) went.0)
+          registered went.2);
+      cause = c.serve_relations_on-answer.ensures.cause;
+    }

@@ -54,6 +54,7 @@ turns-preserved g c =
       read_faults = omega arith;
       write_faults = omega arith;
       same = c.in-Ok-More.ensures.same ∙ i.same;
+      origin = c.in-Ok-More.ensures.origin ∙ i.origin;
     }
 
 pub returns-in-Ok-Ended-clause-went : goal.returns-in-Ok-Ended-clause-went

@@ -23,6 +23,7 @@ invariant-turns g l = record {
   read_faults : g.S.Source.faults l.fn.source ≤ g.S.Source.faults l.source;
   write_faults : g.K.Sink.faults l.fn.sink ≤ g.K.Sink.faults l.sink;
   same : g.D.CancelDesk.registration l.desk ≡ g.D.CancelDesk.registration l.fn.desk;
+  origin : g.D.CancelDesk.origin l.desk ≡ g.D.CancelDesk.origin l.fn.desk;
 }
 
 abbrev pub decreases-turns : goal.decreases-turns
