@@ -121,13 +121,17 @@ conversation_awaits setting answers s t (m ∷ ms) e =
     conversation_awaits_by (answer setting answers s m) (answer setting answers s m).next refl t (awaits_startup_after_all ms (awaits_startup_after m (awaits s))) (λ left u. conversation setting left u ms)
     (λ left u p h. conversation_awaits setting left u t ms h ∙ ap (awaits_startup_after_all ms) (answer_awaits setting answers s u m p)) e
 
+divides_more : (b : Bool) (text rest p : List ℕ) (ms : List PgWireFrontendMessage) → DividesInto b text ms rest → DividesInto b (text ++ p) ms (rest ++ p)
+divides_more b text rest p [] d = ap (λ l. l ++ p) d
+divides_more b text rest p (m ∷ ms) d = (d.0, d.1 ++ p, ap (λ l. l ++ p) d.2 ∙ append_assoc d.0 d.1 p, d.3, divides_more (awaits_startup_after m b) d.1 rest p ms d.4)
+
 -- frames that were answered, and then more
 pub IsFed-then : {setting : Setting} {s t : SessionState} {text mid rest b c : List ℕ} {k l : List DeskCall} {next : Next}
     → IsFed setting s text mid b k (Goes t) → IsFed setting t mid rest c l next → IsFed setting s text rest (b ++ c) (k ++ l) next
 IsFed-then {setting} {s} {t} {text} {mid} {rest} {b} {c} {k} {l} {next} p q = record {
   messages = p.messages ++ q.messages;
-  division = divides-append (awaits s) text mid rest p.messages q.messages p.division
-      (subst (λ w. DividesInto w mid q.messages rest) (conversation_awaits setting [] s t p.messages (p.goes_on [])) q.division);
+  division = λ more. divides-append (awaits s) (text ++ more) (mid ++ more) (rest ++ more) p.messages q.messages (p.division more)
+      (subst (λ w. DividesInto w (mid ++ more) q.messages (rest ++ more)) (conversation_awaits setting [] s t p.messages (p.goes_on [])) (q.division more));
   replied = λ answers. let first = conversation setting answers s p.messages in
       ap (λ x. x ++ c) (p.replied answers) ∙ ap (λ y. replies_bytes first.replies ++ y) (q.replied first.left)
       ∙ sym (replies_bytes-append first.replies (conversation setting first.left t q.messages).replies)
@@ -141,13 +145,13 @@ IsFed-then {setting} {s} {t} {text} {mid} {rest} {b} {c} {k} {l} {next} p q = re
 
 -- no frame
 pub IsFed-none : (setting : Setting) (s : SessionState) (text : List ℕ) → IsFed setting s text text [] [] (Goes s)
-IsFed-none setting s text = record { messages = []; division = refl; replied = λ answers. refl; called = λ answers. refl; goes_on = λ answers. refl }
+IsFed-none setting s text = record { messages = []; division = λ more. refl; replied = λ answers. refl; called = λ answers. refl; goes_on = λ answers. refl }
 
 -- one frame
 pub IsFed-one : {setting : Setting} {s : SessionState} {text rest b : List ℕ} {k : List DeskCall} {next : Next} → IsAnswered setting s text rest b k next → IsFed setting s text rest b k next
 IsFed-one {setting} {s} {text} {rest} p = record {
   messages = p.message ∷ [];
-  division = (p.frame, rest, p.division, p.carried, refl);
+  division = λ more. divides_more (awaits s) text rest more (p.message ∷ []) (p.frame, rest, p.division, p.carried, refl);
   replied = λ answers. p.replied answers ∙ ap (λ a. replies_bytes a.replies) (sym (conversation-one setting answers s p.message));
   called = λ answers. p.called answers ∙ ap (λ a. a.calls) (sym (conversation-one setting answers s p.message));
   goes_on = λ answers. ap (λ a. a.next) (conversation-one setting answers s p.message) ∙ p.goes_on answers;

@@ -19,7 +19,7 @@ use Rattle.pg_session.specs.Conversation.{Setting, Answer, Next, Goes, Ends, ans
 use Rattle.std.specs.Option.{option_map}
 use Rattle.pg_session.specs.Run.{awaits}
 use Rattle.pg_session.specs.Streams.{GrowsByFront}
-use Rattle.pg_session.specs.Steps.{Flows, Appends, IsAnswered, IsFed, IsServed, IsCutOff, IsCarriedOut, GrowsByFrontOf, StandsAfterStep, next_of, goes_on_after}
+use Rattle.pg_session.specs.Steps.{Flows, AppendsReplies, IsAnswered, IsFed, IsServed, IsCutOff, IsCarriedOut, GrowsByFrontOf, StandsAfterStep, next_of}
 use Rattle.pg_session.proofs.Conversations.{IsFed-none, IsFed-one, IsFed-then, answer_awaits}
 use Rattle.pg_session.proofs.Flowing.{Flows-none, Flows-wait, Flows-then, cut_at_once, cut_after, GrowsByFront-then, GrowsByFrontOf-none, GrowsByFrontOf-all, GrowsByFrontOf-then}
 
@@ -162,25 +162,6 @@ stands_by (Some kind) s rest step h told = subst (λ p. StandsAfterStep (Ends ki
 pub bad_is_no_end_of_input : end.BadFrame ≢ end.InputEnd
 bad_is_no_end_of_input e = cc
 
-context_awaits : (m : PgWireFrontendMessage) (k : DecodeContext) → (context_after m k).awaiting_startup ≡ awaits_startup_after m k.awaiting_startup
-context_awaits (client.Startup m) k = refl
-context_awaits (client.Parse m) k = refl
-context_awaits (client.Bind m) k = refl
-context_awaits (client.Execute m) k = refl
-context_awaits (client.PgSync m) k = refl
-context_awaits (client.Terminate m) k = refl
-
--- the codec awaits a startup packet where the conversation does
-pub awaits_by : (setting : Setting) (s t : SessionState) (m : PgWireFrontendMessage) (k l : DecodeContext) (e : Option EndKind) (step : Option Progress)
-    → k.awaiting_startup ≡ awaits s → l ≡ context_after m k → step ≡ option_map (λ kind. progress.Ended kind) e → (answer setting [] s m).next ≡ next_of e t
-    → IsTrue (goes_on_after step) → l.awaiting_startup ≡ awaits t
-awaits_by setting s t m k l None step at after h goes going =
-    ap (λ x. x.awaiting_startup) after ∙ context_awaits m k ∙ ap (awaits_startup_after m) at ∙ sym (answer_awaits setting [] s t m goes)
-awaits_by setting s t m k l (Some kind) step at after h goes going = absurd (no (subst (λ p. IsTrue (goes_on_after p)) h going))
-  where
-    no : IsTrue false → ⊥
-    no e = cc
-
 -- what was served, and then more
 pub serves_then : {setting : Setting} {s t : SessionState} {text mid rest : List ℕ} {next : Next} {w v u : Option (List ℕ)} {o p q : List ℕ} {k l m : List DeskCall}
     → IsServed setting s text mid (Goes t) w v o p k l → IsServed setting t mid rest next v u p q l m → IsServed setting s text rest next w u o q k m
@@ -211,10 +192,6 @@ cut_then {w = w} {v = v} {u = u} {o = o} {p = p} {k = k} x y = record {
   grown = GrowsByFrontOf-then x.called k x.grown y.grown;
 }
 
-pub divides_more : (b : Bool) (text rest p : List ℕ) (ms : List PgWireFrontendMessage) → DividesInto b text ms rest → DividesInto b (text ++ p) ms (rest ++ p)
-divides_more b text rest p [] d = ap (λ l. l ++ p) d
-divides_more b text rest p (m ∷ ms) d = (d.0, d.1 ++ p, ap (λ l. l ++ p) d.2 ∙ append_assoc d.0 d.1 p, d.3, divides_more (awaits_startup_after m b) d.1 rest p ms d.4)
-
 -- More bytes keep the frames that are there.
 pub serves_more : {setting : Setting} {s : SessionState} {text rest : List ℕ} {next : Next} {w v : Option (List ℕ)} {o q : List ℕ} {k l : List DeskCall} (p : List ℕ)
     → IsServed setting s text rest next w v o q k l → IsServed setting s (text ++ p) (rest ++ p) next w v o q k l
@@ -223,7 +200,8 @@ serves_more {setting} {s} {text} {rest} {next} p x = record {
   called = x.called;
   fed = record {
     messages = x.fed.messages;
-    division = divides_more (awaits s) text rest p x.fed.messages x.fed.division;
+    division = λ more. subst (λ t. DividesInto (awaits s) t x.fed.messages ((rest ++ p) ++ more)) (sym (append_assoc text p more))
+        (subst (λ r. DividesInto (awaits s) (text ++ (p ++ more)) x.fed.messages r) (sym (append_assoc rest p more)) (x.fed.division (p ++ more)));
     replied = x.fed.replied;
     called = x.fed.called;
     goes_on = x.fed.goes_on;

@@ -14,7 +14,7 @@ use Rattle.pg_session.specs.declared.ends.EndKind.TheVariants as end
 use Rattle.pg_session.specs.declared.state.SessionState.{SessionState}
 use Rattle.pg_session.specs.declared.desk.DeskCall.{DeskCall}
 use Rattle.pg_session.specs.Conversation.{Setting, Answer, Next, Goes, answer, row, ends, is_built, error_response, refuses, says}
-use Rattle.pg_session.specs.Steps.{Appends, IsCarriedOut}
+use Rattle.pg_session.specs.Steps.{AppendsReplies, IsCarriedOut}
 use Rattle.std.specs.List.{flat_map}
 
 -- two facts of one success
@@ -30,25 +30,25 @@ abbrev pub refused_state : SessionState → SessionState
 refused_state s = record { state = phase.AwaitingSync; status = to_error_state s.status; store = s.store }
 
 pub refused : (answers : List Bool) (s new_s : SessionState) {out new_out : List ℕ} (code text shown : List ℕ) → text ≡ shown
-    → Appends out new_out (error_response code text ∷ []) → new_s ≡ refused_state s
+    → AppendsReplies out new_out (error_response code text ∷ []) → new_s ≡ refused_state s
     → IsCarriedOut (refuses answers s (error_response code shown)) out new_out [] [] (Goes new_s)
 refused answers s new_s {out} {new_out} code text shown e p q = record {
-  replied = subst (λ t. Appends out new_out (error_response code t ∷ [])) e p;
+  replied = subst (λ t. AppendsReplies out new_out (error_response code t ∷ [])) e p;
   called = refl;
   goes_on = ap Goes (sym q);
 }
 
 -- the same where a desk stood by
 pub refused_by_desk : (answers : List Bool) (s new_s : SessionState) {out new_out : List ℕ} (code text shown : List ℕ) (calls : List DeskCall) → text ≡ shown
-    → Appends out new_out (error_response code text ∷ []) → new_s ≡ refused_state s
+    → AppendsReplies out new_out (error_response code text ∷ []) → new_s ≡ refused_state s
     → IsCarriedOut (refuses answers s (error_response code shown)) out new_out calls calls (Goes new_s)
 refused_by_desk answers s new_s {out} {new_out} code text shown calls e p q = record {
-  replied = subst (λ t. Appends out new_out (error_response code t ∷ [])) e p;
+  replied = subst (λ t. AppendsReplies out new_out (error_response code t ∷ [])) e p;
   called = sym (append-nil calls);
   goes_on = ap Goes (sym q);
 }
 
-pub said : (answers : List Bool) (replies : List PgWireBackendMessage) (s : SessionState) {out new_out : List ℕ} → Appends out new_out replies
+pub said : (answers : List Bool) (replies : List PgWireBackendMessage) (s : SessionState) {out new_out : List ℕ} → AppendsReplies out new_out replies
     → IsCarriedOut (says answers replies s) out new_out [] [] (Goes s)
 said answers replies s p = record { replied = p; called = refl; goes_on = refl }
 

@@ -85,6 +85,10 @@ missing_portal name = error_response (codes "34000") (codes "portal " ++ quoted 
 abbrev pub parameter : List ℕ → List ℕ → PgWireBackendMessage
 parameter name value = server.ParameterStatus (record { name = name; value = value })
 
+-- the longest text of an error: a name of 1,048,576 bytes, and the words round it
+abbrev pub longest_error_text : ℕ
+longest_error_text = 1048700
+
 -- the replies to a startup packet that is accepted
 abbrev pub startup_replies : ℤ → List ℕ → List PgWireBackendMessage
 startup_replies pid key = server.AuthenticationOk (record {})
@@ -168,9 +172,13 @@ is_built_parse m = is_empty_list m.type_oids && not (is_empty_list (trimmed m.qu
 abbrev pub is_built_bind : Bind → Bool
 is_built_bind m = is_empty_list m.parameter_format_codes && is_empty_list m.parameters && is_one_binary m.result_column_format_codes
 
+-- the code of protocol version 3.0, in its upper half the 3
+abbrev pub protocol_3_0 : ℕ
+protocol_3_0 = 196608
+
 -- The forms that are built: a startup packet of 3.0; such a Parse and such a Bind; an Execute without a limit; Sync; Terminate.
 abbrev pub is_built : PgWireFrontendMessage → Bool
-is_built (client.Startup m) = m.code == 196608
+is_built (client.Startup m) = m.code == protocol_3_0
 is_built (client.Parse m) = is_built_parse m
 is_built (client.Bind m) = is_built_bind m
 is_built (client.Execute m) = is_below_one m.max_rows

@@ -38,12 +38,12 @@ pub record GrowsByFrontOf {A : Type 0} (others old new : List A) : Type 0 where
   pub grown : new ≡ old ++ front
 
 -- The bytes that wait to be sent have grown by those of the replies.
-pub record Appends (out new_out : List ℕ) (replies : List PgWireBackendMessage) : Type 0 where
+pub record AppendsReplies (out new_out : List ℕ) (replies : List PgWireBackendMessage) : Type 0 where
   pub bytes : new_out ≡ out ++ replies_bytes replies
 
 -- The answer was carried out: the bytes that wait and the calls have grown by it, and this comes next.
 pub record IsCarriedOut (a : Answer) (out new_out : List ℕ) (calls new_calls : List DeskCall) (next : Next) : Type 0 where
-  pub replied : Appends out new_out a.replies
+  pub replied : AppendsReplies out new_out a.replies
   pub called : new_calls ≡ calls ++ a.calls
   pub goes_on : a.next ≡ next
 
@@ -77,10 +77,11 @@ pub record IsAnswered (setting : Setting) (s : SessionState) (text rest bytes : 
   pub called : (answers : List Bool) → calls ≡ (answer setting answers s message).calls
   pub goes_on : (answers : List Bool) → (answer setting answers s message).next ≡ next
 
--- The whole frames of a text were answered by the table, whatever the registry answers, and this is left of the text.
+-- The whole frames of a text were answered by the table, whatever the registry answers, and this is left of the text. They are its frames
+-- whatever bytes follow.
 pub record IsFed (setting : Setting) (s : SessionState) (text rest bytes : List ℕ) (calls : List DeskCall) (next : Next) : Type 0 where
   pub messages : List PgWireFrontendMessage
-  pub division : DividesInto (awaits s) text messages rest
+  pub division : (more : List ℕ) → DividesInto (awaits s) (text ++ more) messages (rest ++ more)
   pub replied : (answers : List Bool) → bytes ≡ replies_bytes (conversation setting answers s messages).replies
   pub called : (answers : List Bool) → calls ≡ (conversation setting answers s messages).calls
   pub goes_on : (answers : List Bool) → (conversation setting answers s messages).next ≡ next
@@ -112,9 +113,3 @@ Stands next s rest (progress.Ended kind) = (kind ≢ end.InputEnd) × ((more : L
 abbrev pub StandsAfterStep : Next → SessionState → List ℕ → Option Progress → Type 0
 StandsAfterStep next s rest None = next ≡ Goes s
 StandsAfterStep next s rest (Some told) = Stands next s rest told
-
--- the session goes on after a step or a piece
-abbrev pub goes_on_after : Option Progress → Bool
-goes_on_after None = true
-goes_on_after (Some progress.More) = true
-goes_on_after (Some (progress.Ended kind)) = false

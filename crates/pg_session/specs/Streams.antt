@@ -1,7 +1,9 @@
 -- What goes in and out of a conversation: bytes that come, bytes that go, and counts.
 use Rattle.std.specs.Prelude.{ℕ, List, [], ◌++◌, Option, Some, Result, Ok, Err, ◌≡◌, ◌≤◌, ◌<◌, ◌+◌, ◌-◌, ◌^◌, ◌==◌, ◌⊎◌, IfSome, IsErrOf, if◌then◌else◌, min, take, drop, length}
 use Rattle.pg_session.specs.declared.ends.ServeError.{ServeError}
-use Rattle.pg_session.specs.declared.ends.ServeError.TheVariants.{ReadFault, WriteFault, TurnLimit}
+use Rattle.pg_session.specs.declared.ends.ServeError.TheVariants.{ReadFault, WriteFault, TurnLimit, NoMemory}
+use Rattle.pg_session.specs.declared.streams.SinkError.{SinkError}
+use Rattle.pg_session.specs.declared.streams.SinkError.TheVariants as sink
 
 -- the greatest count; one that has come so far stands still there
 abbrev pub greatest_count : ℕ
@@ -34,6 +36,11 @@ GrowsBy old new bytes = IfSome old (λ before. new ≡ Some (before ++ bytes))
 -- what was written has grown by a front of these bytes
 abbrev pub GrowsByFront : Option (List ℕ) → Option (List ℕ) → List ℕ → Type 0
 GrowsByFront old new bytes = IfSome old (λ before. (front : List ℕ) × BeginsWith bytes front × (new ≡ Some (before ++ front)))
+
+-- what a session tells of a sink's error
+abbrev pub told_of_sink : SinkError → ServeError
+told_of_sink sink.Failed = WriteFault
+told_of_sink sink.NoMemory = NoMemory
 
 -- The cause of an error that comes from the sink's side: a write fault only where the sink's count has risen, and no
 -- fault of another side. The count never falls.

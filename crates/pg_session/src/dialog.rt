@@ -2,9 +2,8 @@ ghost use Rattle.std.specs.Prelude.{◌≡◌, ◌≤◌, ◌<◌, ◌++◌, [],
 ghost use Rattle.std.specs.Option.{option_map};
 ghost use Rattle.std.specs.Arc.{arc_value};
 ghost use Rattle.pg_session.specs.Conversation.{Next};
-ghost use Rattle.pg_session.specs.Run.{awaits};
 ghost use Rattle.pg_session.specs.Streams.{GrowsBy, GrowsByFront, HasSinkCause};
-ghost use Rattle.pg_session.specs.Steps.{Flows, IsGoodStore, IsServed, IsCutOff, Stands, StandsAfterStep, goes_on_after, setting_of, host_setting};
+ghost use Rattle.pg_session.specs.Steps.{Flows, IsGoodStore, IsServed, IsCutOff, Stands, StandsAfterStep, host_setting};
 
 use crate::desk::CancelDesk;
 use crate::ends::{EndKind, Progress, ServeError};
@@ -12,7 +11,7 @@ use crate::host::Host;
 use crate::outbox::{CHUNK, Outbox};
 use crate::rows::FirstRows;
 use crate::state::SessionState;
-use crate::streams::{Sink, SinkError};
+use crate::streams::Sink;
 use bytes::BytesMut;
 use pg_messages::{FrameError, PgWireMessageServerCodec};
 use std::alloc::Global;
@@ -36,14 +35,9 @@ fn flush<K: Sink>(outbox: &mut Outbox, sink: &mut K) -> Result<(), ServeError>
     if outbox.len() == 0 {
         return Ok(());
     }
-    match sink.send(outbox.as_slice()) {
-        Ok(()) => {
-            outbox.clear();
-            Ok(())
-        }
-        Err(SinkError::Failed) => Err(ServeError::WriteFault),
-        Err(SinkError::NoMemory) => Err(ServeError::NoMemory),
-    }
+    sink.send(outbox.as_slice())?;
+    outbox.clear();
+    Ok(())
 }
 
 /// Sends what waits in the outbox where it is a chunk or more.
@@ -68,7 +62,6 @@ impl Dialog {
         desk: &mut D,
         sink: &mut K,
     ) -> Result<Option<Progress>, ServeError>
-        requires awaiting { self.old.codec.context.awaiting_startup ≡ awaits self.old.state }
         requires good { IsGoodStore (H.count (arc_value host.now.handlers)) self.old.state.store }
         ensures served { IfOk result (λ step. (next : Next) × IsServed
             (host_setting H.relation_of H.rows_of host.now)
@@ -79,13 +72,13 @@ impl Dialog {
             (host_setting H.relation_of H.rows_of host.now)
             self.old.state self.old.rest.items (K.written sink.old) (K.written sink.new) self.old.outbox
             (D.calls desk.old) (D.calls desk.new)) }
-        ensures awaiting { IfOk result (λ step. IsTrue (goes_on_after step) → self.new.codec.context.awaiting_startup ≡ awaits self.new.state) }
         ensures good { OnOk result (IsGoodStore (H.count (arc_value host.now.handlers)) self.new.state.store) }
         ensures shorter { IfOk result (λ step. IfNone step (length self.new.rest.items < length self.old.rest.items)) }
         ensures cause { HasSinkCause (K.faults sink.old) (K.faults sink.new) result }
         ensures same { D.registration desk.new ≡ D.registration desk.old }
         ensures origin { D.origin desk.new ≡ D.origin desk.old }
     {
+        self.codec.context.awaiting_startup = self.state.awaits_startup();
         let message = match self.codec.decode(alloc, &mut self.rest) {
             Ok(Some(message)) => message,
             Ok(None) => return Ok(Some(Progress::More)),
@@ -107,7 +100,6 @@ impl Dialog {
         desk: &mut D,
         sink: &mut K,
     ) -> Result<Progress, ServeError>
-        requires awaiting { self.old.codec.context.awaiting_startup ≡ awaits self.old.state }
         requires good { IsGoodStore (H.count (arc_value host.now.handlers)) self.old.state.store }
         ensures served { IfOk result (λ told. (next : Next) × IsServed
             (host_setting H.relation_of H.rows_of host.now)
@@ -119,7 +111,6 @@ impl Dialog {
             self.old.state self.old.rest.items (K.written sink.old) (K.written sink.new) self.old.outbox
             (D.calls desk.old) (D.calls desk.new)) }
         ensures sent { OnOk result (self.new.outbox ≡ []) }
-        ensures awaiting { IfOk result (λ told. IsTrue (goes_on_after (Some told)) → self.new.codec.context.awaiting_startup ≡ awaits self.new.state) }
         ensures good { OnOk result (IsGoodStore (H.count (arc_value host.now.handlers)) self.new.state.store) }
         ensures cause { HasSinkCause (K.faults sink.old) (K.faults sink.new) result }
         ensures same { D.registration desk.new ≡ D.registration desk.old }
@@ -145,7 +136,6 @@ impl Dialog {
         piece: &[u8],
         sink: &mut K,
     ) -> Result<Progress, ServeError>
-        requires awaiting { self.old.codec.context.awaiting_startup ≡ awaits self.old.state }
         requires good { IsGoodStore (H.count (arc_value host.now.handlers)) self.old.state.store }
         ensures served { IfOk result (λ told. (next : Next) × IsServed
             (host_setting H.relation_of H.rows_of host.now)
@@ -157,7 +147,6 @@ impl Dialog {
             self.old.state (self.old.rest.items ++ piece.now) (K.written sink.old) (K.written sink.new) self.old.outbox
             (D.calls desk.old) (D.calls desk.new)) }
         ensures sent { OnOk result (self.new.outbox ≡ []) }
-        ensures awaiting { IfOk result (λ told. IsTrue (goes_on_after (Some told)) → self.new.codec.context.awaiting_startup ≡ awaits self.new.state) }
         ensures good { OnOk result (IsGoodStore (H.count (arc_value host.now.handlers)) self.new.state.store) }
         ensures cause { HasSinkCause (K.faults sink.old) (K.faults sink.new) result }
         ensures same { D.registration desk.new ≡ D.registration desk.old }

@@ -1,7 +1,9 @@
 ghost use Rattle.std.specs.Prelude.{◌≡◌, ◌+◌, ◌<◌, ◌↔◌, IsTrue};
 ghost use Rattle.std.specs.Bool.{OnTrue, OnFalse};
 ghost use Rattle.pg_session.specs.declared.ends.ServeError.TheVariants.{NoMemory};
+ghost use Rattle.pg_session.specs.Streams.{told_of_sink};
 
+use crate::streams::SinkError;
 use std::alloc::AllocError;
 
 /// How a conversation ended.
@@ -33,6 +35,17 @@ impl From<AllocError> for ServeError {
 
     fn from(_error: AllocError) -> ServeError {
         ServeError::NoMemory
+    }
+}
+
+impl From<SinkError> for ServeError {
+    ghost from_gives = { λ s e. e ≡ told_of_sink s };
+
+    fn from(error: SinkError) -> ServeError {
+        match error {
+            SinkError::Failed => ServeError::WriteFault,
+            SinkError::NoMemory => ServeError::NoMemory,
+        }
     }
 }
 

@@ -21,7 +21,7 @@ impl Model for Outbox {
 }
 
 /// As many bytes are sent at once, where there are so many.
-pub const CHUNK: usize = 65536;
+pub(crate) const CHUNK: usize = 65536;
 
 impl Outbox {
     /// An empty outbox with room for 65,536 bytes.
@@ -33,7 +33,7 @@ impl Outbox {
         })
     }
 
-    /// Appends the bytes of a reply. After an error the outbox is as it was.
+    /// AppendsReplies the bytes of a reply. After an error the outbox is as it was.
     pub fn push(&mut self, message: &PgWireBackendMessage) -> Result<(), AllocError>
         requires { IsEncodable message.now }
         ensures ok { OnOk result (self.new ≡ self.old ++ reply_bytes message.now) }
@@ -44,21 +44,21 @@ impl Outbox {
     }
 
     /// How many bytes wait.
-    pub fn len(&self) -> usize
+    pub(crate) fn len(&self) -> usize
         ensures { result ≡ length self.now }
     {
         self.bytes.len()
     }
 
     /// The bytes that wait.
-    pub fn as_slice(&self) -> &[u8]
+    pub(crate) fn as_slice(&self) -> &[u8]
         ensures { result.now ≡ self.now }
     {
         self.bytes.as_slice()
     }
 
     /// Forgets the bytes, which were sent, and keeps the room.
-    pub fn clear(&mut self)
+    pub(crate) fn clear(&mut self)
         ensures { self.new ≡ [] }
     {
         self.bytes.clear();

@@ -3,8 +3,8 @@ ghost use Rattle.std.specs.List.{AllByRecursion};
 ghost use Rattle.std.specs.Fmt.{decimal};
 ghost use Rattle.pg_messages.specs.Replies.{IsEncodable, HasNoZero};
 ghost use Rattle.pg_messages.specs.declared.backend.PgWireBackendMessage.TheVariants as server;
-ghost use Rattle.pg_session.specs.Conversation.{error_response, quoted, parameter, startup_replies, row_replies};
-ghost use Rattle.pg_session.specs.Steps.{Appends};
+ghost use Rattle.pg_session.specs.Conversation.{error_response, longest_error_text, quoted, parameter, startup_replies, row_replies};
+ghost use Rattle.pg_session.specs.Steps.{AppendsReplies};
 
 use crate::outbox::Outbox;
 use pg_messages::{
@@ -13,10 +13,10 @@ use pg_messages::{
 };
 use std::alloc::{AllocError, Global};
 
-/// Appends one reply.
-pub(crate) fn send(outbox: &mut Outbox, message: PgWireBackendMessage) -> Result<(), AllocError>
+/// AppendsReplies one reply.
+pub(crate) fn push(outbox: &mut Outbox, message: PgWireBackendMessage) -> Result<(), AllocError>
     requires { IsEncodable message }
-    ensures { OnOk result (Appends outbox.old outbox.new (message ∷ [])) }
+    ensures { OnOk result (AppendsReplies outbox.old outbox.new (message ∷ [])) }
 {
     outbox.push(&message)
 }
@@ -32,7 +32,7 @@ pub(crate) fn does_not_exist(alloc: Global, kind: &str, name: &str) -> Result<Pg
     PgStr::copy_of(alloc, text.as_str())
 }
 
-/// Appends an ErrorResponse of severity ERROR.
+/// AppendsReplies an ErrorResponse of severity ERROR.
 pub(crate) fn push_error(
     alloc: Global,
     outbox: &mut Outbox,
@@ -42,21 +42,21 @@ pub(crate) fn push_error(
     requires code { HasNoZero code.now }
     requires code_len { length code.now ≤ 5 }
     requires message { HasNoZero message }
-    requires message_len { length message ≤ 1048700 }
-    ensures { OnOk result (Appends outbox.old outbox.new (error_response code.now message ∷ [])) }
+    requires message_len { length message ≤ longest_error_text }
+    ensures { OnOk result (AppendsReplies outbox.old outbox.new (error_response code.now message ∷ [])) }
 {
     let info = ErrorInfo {
         severity: PgStr::copy_of(alloc, "ERROR")?,
         code: PgStr::copy_of(alloc, code)?,
         message,
     };
-    send(
+    push(
         outbox,
         PgWireBackendMessage::ErrorResponse(ErrorResponse { info }),
     )
 }
 
-/// Appends a ParameterStatus.
+/// AppendsReplies a ParameterStatus.
 fn push_parameter(
     alloc: Global,
     outbox: &mut Outbox,
@@ -66,46 +66,46 @@ fn push_parameter(
     requires name { HasNoZero name.now }
     requires value { HasNoZero value.now }
     requires short { length name.now + length value.now ≤ 100 }
-    ensures { OnOk result (Appends outbox.old outbox.new (parameter name.now value.now ∷ [])) }
+    ensures { OnOk result (AppendsReplies outbox.old outbox.new (parameter name.now value.now ∷ [])) }
 {
     let status = ParameterStatus {
         name: PgStr::copy_of(alloc, name)?,
         value: PgStr::copy_of(alloc, value)?,
     };
-    send(outbox, PgWireBackendMessage::ParameterStatus(status))
+    push(outbox, PgWireBackendMessage::ParameterStatus(status))
 }
 
-/// Appends ReadyForQuery with a status.
+/// AppendsReplies ReadyForQuery with a status.
 pub(crate) fn push_ready(outbox: &mut Outbox, status: TransactionStatus) -> Result<(), AllocError>
-    ensures { OnOk result (Appends outbox.old outbox.new (server.ReadyForQuery (record { status = status }) ∷ [])) }
+    ensures { OnOk result (AppendsReplies outbox.old outbox.new (server.ReadyForQuery (record { status = status }) ∷ [])) }
 {
-    send(
+    push(
         outbox,
         PgWireBackendMessage::ReadyForQuery(ReadyForQuery { status }),
     )
 }
 
-/// Appends BackendKeyData.
+/// AppendsReplies BackendKeyData.
 fn push_key(outbox: &mut Outbox, pid: i32, key: [u8; 4]) -> Result<(), AllocError>
-    ensures { OnOk result (Appends outbox.old outbox.new (server.BackendKeyData (record { pid = pid; secret_key = key }) ∷ [])) }
+    ensures { OnOk result (AppendsReplies outbox.old outbox.new (server.BackendKeyData (record { pid = pid; secret_key = key }) ∷ [])) }
 {
     let data = BackendKeyData {
         pid,
         secret_key: key,
     };
-    send(outbox, PgWireBackendMessage::BackendKeyData(data))
+    push(outbox, PgWireBackendMessage::BackendKeyData(data))
 }
 
-/// Appends the replies to a startup packet.
+/// AppendsReplies the replies to a startup packet.
 pub(crate) fn push_startup(
     alloc: Global,
     outbox: &mut Outbox,
     pid: i32,
     key: [u8; 4],
 ) -> Result<(), AllocError>
-    ensures { OnOk result (Appends outbox.old outbox.new (startup_replies pid key)) }
+    ensures { OnOk result (AppendsReplies outbox.old outbox.new (startup_replies pid key)) }
 {
-    send(
+    push(
         outbox,
         PgWireBackendMessage::AuthenticationOk(AuthenticationOk {}),
     )?;
@@ -117,30 +117,30 @@ pub(crate) fn push_startup(
     push_ready(outbox, TransactionStatus::Idle)
 }
 
-/// Appends a CommandComplete that counts the rows of a page.
+/// AppendsReplies a CommandComplete that counts the rows of a page.
 fn push_select(alloc: Global, outbox: &mut Outbox, rows: usize) -> Result<(), AllocError>
-    ensures { OnOk result (Appends outbox.old outbox.new (server.CommandComplete (record { tag = codes "SELECT " ++ decimal rows }) ∷ [])) }
+    ensures { OnOk result (AppendsReplies outbox.old outbox.new (server.CommandComplete (record { tag = codes "SELECT " ++ decimal rows }) ∷ [])) }
 {
     let tag = format!(in alloc; "SELECT {rows}")?;
     let tag = PgStr::copy_of(alloc, tag.as_str())?;
-    send(
+    push(
         outbox,
         PgWireBackendMessage::CommandComplete(CommandComplete { tag }),
     )
 }
 
-/// Appends the rows of a page and its CommandComplete.
+/// AppendsReplies the rows of a page and its CommandComplete.
 pub(crate) fn push_rows(
     alloc: Global,
     outbox: &mut Outbox,
     rows: PgList<DataRow>,
 ) -> Result<(), AllocError>
     requires { AllByRecursion (λ row. IsEncodable (server.DataRow row)) rows }
-    ensures { OnOk result (Appends outbox.old outbox.new (row_replies rows)) }
+    ensures { OnOk result (AppendsReplies outbox.old outbox.new (row_replies rows)) }
 {
     let count = rows.len();
     for row in rows.into_vec() {
-        send(outbox, PgWireBackendMessage::DataRow(row))?;
+        push(outbox, PgWireBackendMessage::DataRow(row))?;
     }
     push_select(alloc, outbox, count)
 }

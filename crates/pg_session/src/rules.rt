@@ -9,14 +9,14 @@ ghost use Rattle.pg_messages.specs.declared.frontend.PgWireFrontendMessage.TheVa
 ghost use Rattle.pg_portal.specs.declared.portal.PgWireConnectionState.TheVariants as phase;
 ghost use Rattle.pg_session.specs.Queries.{trimmed};
 ghost use Rattle.pg_session.specs.Streams.{BeginsWith};
-ghost use Rattle.pg_session.specs.Conversation.{error_response, parsed, bound, executed, on_sync, page_rows, start_calls, Goes};
-ghost use Rattle.pg_session.specs.Steps.{Appends, IsCarriedOut, IsGoodStore, IsGiven, GrowsByFrontOf, setting_of, told_by};
+ghost use Rattle.pg_session.specs.Conversation.{error_response, longest_error_text, parsed, bound, executed, on_sync, page_rows, start_calls, Goes};
+ghost use Rattle.pg_session.specs.Steps.{AppendsReplies, IsCarriedOut, IsGoodStore, IsGiven, GrowsByFrontOf, setting_of, told_by};
 ghost use Rattle.pg_session.specs.declared.desk.DeskCall.{DeskCall};
 
 use crate::desk::CancelDesk;
 use crate::outbox::Outbox;
 use crate::query::trimmed;
-use crate::replies::{does_not_exist, push_error, push_ready, push_rows, send};
+use crate::replies::{does_not_exist, push, push_error, push_ready, push_rows};
 use crate::rows::FirstRows;
 use crate::state::SessionState;
 use pg_messages::{
@@ -36,8 +36,8 @@ fn refuse(
     requires code { HasNoZero code.now }
     requires code_len { length code.now ≤ 5 }
     requires message { HasNoZero message }
-    requires message_len { length message ≤ 1048700 }
-    ensures replies { OnOk result (Appends outbox.old outbox.new (error_response code.now message ∷ [])) }
+    requires message_len { length message ≤ longest_error_text }
+    ensures replies { OnOk result (AppendsReplies outbox.old outbox.new (error_response code.now message ∷ [])) }
     ensures state { OnOk result (state.new ≡ record { state = phase.AwaitingSync; status = to_error_state state.old.status; store = state.old.store }) }
 {
     push_error(alloc, outbox, code, message)?;
@@ -66,7 +66,7 @@ pub(crate) fn on_parse<H: FirstRows>(
         Some(relation) => {
             let statement = Statement { relation };
             state.store.statements.put(message.name, statement)?;
-            send(
+            push(
                 outbox,
                 PgWireBackendMessage::ParseComplete(ParseComplete {}),
             )
@@ -108,7 +108,7 @@ pub(crate) fn on_bind(
                 state: PortalExecutionState::Initial,
             };
             state.store.portals.put(portal_name, portal)?;
-            send(outbox, PgWireBackendMessage::BindComplete(BindComplete {}))
+            push(outbox, PgWireBackendMessage::BindComplete(BindComplete {}))
         }
         None => {
             let text = does_not_exist(alloc, "prepared statement ", name)?;

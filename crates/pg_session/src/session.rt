@@ -1,7 +1,6 @@
 ghost use Rattle.std.specs.Prelude.{◌≡◌, ◌↔◌, true, [], IsTrue};
 ghost use Rattle.pg_session.specs.declared.ends.Progress.TheVariants.{More};
 ghost use Rattle.std.specs.Arc.{arc_value};
-ghost use Rattle.pg_session.specs.Run.{awaits};
 ghost use Rattle.pg_session.specs.Steps.{IsGoodStore};
 
 use crate::desk::CancelDesk;
@@ -24,7 +23,6 @@ pub struct Session<H: FirstRows> {
     host: Host<H>,
     dialog: Dialog,
     opened: bool,
-    ghost awaiting: { opened ≡ true → dialog.codec.context.awaiting_startup ≡ awaits dialog.state },
     ghost good: { opened ≡ true → IsGoodStore (H.count (arc_value host.handlers)) dialog.state.store },
     ghost sent: { opened ≡ true → dialog.outbox ≡ [] },
 }

@@ -1,3 +1,6 @@
+ghost use Rattle.std.specs.Prelude.{◌≡◌};
+ghost use Rattle.pg_session.specs.Run.{awaits};
+
 use pg_messages::TransactionStatus;
 use pg_portal::{PgWireConnectionState, Store};
 
@@ -7,4 +10,13 @@ pub struct SessionState {
     pub state: PgWireConnectionState,
     pub status: TransactionStatus,
     pub store: Store,
+}
+
+impl SessionState {
+    /// Whether the startup packet is still to come.
+    pub(crate) fn awaits_startup(&self) -> bool
+        ensures { result ≡ awaits self.now }
+    {
+        matches!(self.state, PgWireConnectionState::AwaitingStartup)
+    }
 }

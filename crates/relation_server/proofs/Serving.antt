@@ -15,7 +15,6 @@ use Rattle.pg_session.specs.Conversation.{Setting, Next, Goes, first_state}
 use Rattle.pg_session.specs.Run.{IsRun, IsCutRun, EndsWith, awaits, conversation, answers_of}
 use Rattle.pg_session.specs.Streams.{GrowsBy, GrowsByFront, GivesFront, BeginsWith}
 use Rattle.pg_session.specs.Steps as steps
-use Rattle.pg_session.proofs.Stepping.{divides_more}
 use Rattle.relation_server.specs.Program.{TakesFrom, IsServedRun, IsRunOfTaken, IsCutRunOfTaken, WentSo}
 
 -- what was served is a run over a text that begins with it
@@ -26,7 +25,7 @@ is_run {setting} {taken} {rest} x text more kind e h = let answers = answers_of 
   rest = rest ++ more;
   converses = record {
     messages = x.fed.messages;
-    division = subst (λ t. DividesInto (awaits first_state) t x.fed.messages (rest ++ more)) (sym e) (divides_more (awaits first_state) taken rest more x.fed.messages x.fed.division);
+    division = subst (λ t. DividesInto (awaits first_state) t x.fed.messages (rest ++ more)) (sym e) (x.fed.division more);
     answered = refl;
   };
   replied = x.fed.replied answers;
@@ -108,8 +107,12 @@ cut_run_of_taken {setting} {taken} {w} {v} left new_left t x = let answers = ans
   t,
   cut_grows w v x.bytes (λ front. IsCutRun setting taken front x.grown.front) x.cut (λ front begins. record {
     given = conversation setting answers first_state x.fed.messages;
-    rest = x.rest;
-    converses = record { messages = x.fed.messages; division = x.fed.division; answered = refl };
+    rest = x.rest ++ [];
+    converses = record {
+      messages = x.fed.messages;
+      division = subst (λ t. DividesInto (awaits first_state) t x.fed.messages (x.rest ++ [])) (append-nil taken) (x.fed.division []);
+      answered = refl;
+    };
     replied = subst (λ b. BeginsWith b front) (x.fed.replied answers) begins;
     called = subst (λ c. BeginsWith c x.grown.front) (x.fed.called answers) x.grown.begins;
   }),

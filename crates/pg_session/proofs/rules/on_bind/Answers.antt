@@ -12,7 +12,7 @@ returns-in_ok-put-in-Some-clause-good c = λ R good.
     let found : fin.get store.statements c.args.message.statement_name ≡ Some c.in-Some.statement =
     ap (fin.get store.statements) (sym (c.as_str-name.ensures ∙ ap (λ p. p.1) c.names_of-portal_name.ensures)) ∙ sym c.get.ensures ∙ sym c.copied.ensures ∙ c.in-Some.is in
     let named = good.statements c.args.message.statement_name c.in-Some.statement found in
-    on_ok_always c.send.result (subst (λ m. IsGoodStore R (record { statements = store.statements; portals = m })) (sym c.in_ok-put-in-Some.ensures.ok)
+    on_ok_always c.push.result (subst (λ m. IsGoodStore R (record { statements = store.statements; portals = m })) (sym c.in_ok-put-in-Some.ensures.ok)
     (good_portal R store c.names_of-portal_name.result.0 _ named good))
 
 pub returns-in_ok-text-in-None-clause-answer : goal.returns-in_ok-text-in-None-clause-answer

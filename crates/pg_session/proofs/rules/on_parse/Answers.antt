@@ -26,7 +26,7 @@ refuse-requires-clause-message_len g c =
 pub returns-in_ok-put-in-Some-clause-good : goal.returns-in_ok-put-in-Some-clause-good
 returns-in_ok-put-in-Some-clause-good g c =
     let R = g.H.FirstRows.count c.args.handlers.now in let store = c.args.state.now.store in
-    on_ok_always c.send.result (subst (λ m. IsGoodStore R (record { statements = m; portals = store.portals })) (sym c.in_ok-put-in-Some.ensures.ok)
+    on_ok_always c.push.result (subst (λ m. IsGoodStore R (record { statements = m; portals = store.portals })) (sym c.in_ok-put-in-Some.ensures.ok)
     (good_statement R store c.args.message.name (record { relation = c.in-Some.relation }) c.in-Some.ensures.within c.requires.good))
 
 pub returns-in_ok-text-in-None-clause-answer : goal.returns-in_ok-text-in-None-clause-answer

@@ -1,7 +1,7 @@
 use Rattle.std.proofs.Common.{[], IsTrue, ◌≡◌, ◌∙◌, subst, refl, arith}
 use Rattle.std.specs.Arc.{arc_value}
 use Rattle.pg_session.specs.Run.{awaits}
-use Rattle.pg_session.specs.Steps.{StandsAfterStep, goes_on_after, setting_of, host_setting}
+use Rattle.pg_session.specs.Steps.{StandsAfterStep, host_setting}
 use Rattle.pg_session.proofs.Flowing.{Flows-sent}
 use Rattle.pg_session.proofs.Stepping.{on_err_always, serves_none, serves_then, serves_to, serves_flow, cut_then, cut_served}
 use Rattle.pg_session.proofs.dialog.Dialog.run.Goals as goal
@@ -10,7 +10,6 @@ pub messages-init : goal.messages-init
 messages-init g c = record {
   served = serves_none (host_setting g.H.FirstRows.relation_of g.H.FirstRows.rows_of c.args.host.now)
       c.args.self.now.state c.args.self.now.rest.items c.args.self.now.rest.items (g.K.Sink.written c.args.sink.now) c.args.self.now.outbox (g.D.CancelDesk.calls c.args.desk.now) refl;
-  awaiting = c.requires.awaiting;
   good = c.requires.good;
   faults = omega arith;
   same = refl;
@@ -38,7 +37,6 @@ messages-preserved g c =
     let goes = subst (λ o. StandsAfterStep step.0 c.step.new.self.state c.step.new.self.rest.items o) c.in-None.is step.2 in
     record {
       served = serves_then c.messages.invariant.served (serves_to goes step.1);
-      awaiting = subst (λ o. IsTrue (goes_on_after o) → c.step.new.self.codec.context.awaiting_startup ≡ awaits c.step.new.self.state) c.in-None.is c.in_ok-step.ensures.awaiting refl;
       good = c.in_ok-step.ensures.good;
       faults = omega arith;
       same = c.in_ok-step.ensures.same ∙ c.messages.invariant.same;

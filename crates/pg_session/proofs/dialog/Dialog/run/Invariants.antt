@@ -11,7 +11,6 @@ invariant-messages g l = record {
   served : IsServed (host_setting g.H.FirstRows.relation_of g.H.FirstRows.rows_of l.fn.host)
       l.fn.self.state l.fn.self.rest.items l.self.rest.items (Goes l.self.state) (g.K.Sink.written l.fn.sink) (g.K.Sink.written l.sink) l.fn.self.outbox l.self.outbox
       (g.D.CancelDesk.calls l.fn.desk) (g.D.CancelDesk.calls l.desk);
-  awaiting : l.self.codec.context.awaiting_startup ≡ awaits l.self.state;
   good : IsGoodStore (g.H.FirstRows.count (arc_value l.fn.host.handlers)) l.self.state.store;
   faults : g.K.Sink.faults l.fn.sink ≤ g.K.Sink.faults l.sink;
   same : g.D.CancelDesk.registration l.desk ≡ g.D.CancelDesk.registration l.fn.desk;
