@@ -5,7 +5,7 @@ use Rattle.std.specs.Fmt.{decimal, digits, digits_onto, digit_glyph}
 use Rattle.std.proofs.lemmas.Fmt.{length-decimal-le}
 use Rattle.std.proofs.lemmas.List.{reverse-append, length-reverse}
 use Rattle.pg_session.specs.Queries.{is_padding, without_front_padding, trimmed}
-use Rattle.pg_session.specs.Conversation.{quoted}
+use Rattle.pg_session.specs.Conversation.{quoted, unsupported_text}
 use Rattle.pg_messages.specs.Replies.{IsEncodable, HasNoZero}
 use Rattle.pg_messages.specs.declared.backend.PgWireBackendMessage.TheVariants as server
 
@@ -46,7 +46,7 @@ tag_encodable tag n small e =
     let few : length (decimal n) ≤ 20 = length-decimal-le 20 n (omega arith) (omega arith) small in
     let len : length tag ≡ 7 + length (decimal n) = omega (arith, ap length e) in
     let text : HasNoZero tag = subst HasNoZero (sym e) (HasNoZero-append (codes "SELECT ") (decimal n) (by_test (codes "SELECT ") refl) (HasNoZero-decimal n)) in
-    record { body = simp length-append (omega arith); texts = (text, tt) }
+    record { body = simp length-append (omega arith); counts = tt; texts = (text, tt) }
 
 HasNoZero-reverse : (t : List ℕ) → HasNoZero t → HasNoZero (reverse t)
 HasNoZero-reverse [] h = tt
@@ -79,3 +79,22 @@ pub missing_len : (kind name text : List ℕ) → text ≡ kind ++ quoted name +
 missing_len kind name text e p q =
     let a = ap length e in let b = length-append (kind ++ quoted name) (codes " does not exist") in
     let c = length-append kind (quoted name) in let d = length-append name (34 ∷ []) in omega arith
+
+-- the text on a version
+pub unsupported_no_zero : (code : ℕ) → HasNoZero (unsupported_text code)
+unsupported_no_zero code =
+    HasNoZero-append (((codes "unsupported frontend protocol " ++ decimal (code / 65536)) ++ codes ".") ++ decimal (code % 65536)) (codes ": server supports 3.0 and 3.2")
+    (HasNoZero-append ((codes "unsupported frontend protocol " ++ decimal (code / 65536)) ++ codes ".") (decimal (code % 65536))
+    (HasNoZero-append (codes "unsupported frontend protocol " ++ decimal (code / 65536)) (codes ".")
+    (HasNoZero-append (codes "unsupported frontend protocol ") (decimal (code / 65536)) (by_test (codes "unsupported frontend protocol ") refl) (HasNoZero-decimal (code / 65536)))
+    (by_test (codes ".") refl)) (HasNoZero-decimal (code % 65536))) (by_test (codes ": server supports 3.0 and 3.2") refl)
+
+pub unsupported_len : (code : ℕ) → code < 2 ^ 32 → length (unsupported_text code) ≤ 200
+unsupported_len code small =
+    let major = decimal (code / 65536) in let minor = decimal (code % 65536) in
+    let a = length-decimal-le 20 (code / 65536) (omega arith) (omega arith) (omega (arith, small)) in
+    let b = length-decimal-le 20 (code % 65536) (omega arith) (omega arith) (omega (arith, small)) in
+    let c = length-append (((codes "unsupported frontend protocol " ++ major) ++ codes ".") ++ minor) (codes ": server supports 3.0 and 3.2") in
+    let d = length-append ((codes "unsupported frontend protocol " ++ major) ++ codes ".") minor in
+    let e = length-append (codes "unsupported frontend protocol " ++ major) (codes ".") in
+    let f = length-append (codes "unsupported frontend protocol ") major in omega arith

@@ -1,10 +1,11 @@
 pub mod BadFrames
-pub mod Conversations
+pub mod Pieces
 pub mod Encodable
 pub mod Flowing
 pub mod Padding
 pub mod ReplyBytes
-pub mod Scripts
 pub mod TableRows
+pub mod TableLaws
 pub mod Stepping
 pub mod Stores
+pub mod Scripts

@@ -4,7 +4,7 @@ use Rattle.std.proofs.lemmas.Grind.{flat_map-append}
 use Rattle.pg_messages.specs.Replies.{reply_bytes, replies_bytes}
 use Rattle.pg_messages.specs.declared.backend.PgWireBackendMessage.{PgWireBackendMessage}
 use Rattle.pg_messages.specs.declared.backend.PgWireBackendMessage.TheVariants as server
-use Rattle.pg_messages.specs.declared.backend.DataRow.{DataRow}
+use Rattle.pg_messages.specs.declared.data.DataRow.{DataRow}
 use Rattle.std.specs.Fmt.{decimal}
 use Rattle.pg_session.specs.Conversation.{quoted, row_replies}
 use Rattle.pg_session.specs.Steps.{AppendsReplies}

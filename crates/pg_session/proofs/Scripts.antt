@@ -3,7 +3,7 @@ use Rattle.std.proofs.Common.{◌≡◌, ℕ, zero, suc, ◌+◌, Bool, false, L
 use Rattle.std.proofs.lemmas.List.{drop-drop, length-append}
 use Rattle.pg_session.specs.declared.desk.DeskCall.{DeskCall}
 use Rattle.pg_session.specs.declared.desk.DeskCall.TheVariants as desk
-use Rattle.pg_session.specs.Run.{answers_of}
+use Rattle.pg_session.specs.Answer.{answers_of}
 use Rattle.pg_session.specs.Script.{first_or_no, scripted, IsScripted}
 
 pub answers_of-append : (xs ys : List DeskCall) → answers_of (xs ++ ys) ≡ answers_of xs ++ answers_of ys

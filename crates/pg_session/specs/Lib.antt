@@ -1,7 +1,8 @@
-pub mod Script
 pub mod Streams
 pub mod Queries
-pub mod Conversation
+pub mod Answer
+pub mod Script
 pub mod Run
+pub mod Conversation
 pub mod Steps
 pub mod Session

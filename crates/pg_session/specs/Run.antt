@@ -1,75 +1,50 @@
--- Run of the conversation: the table over the frames of the client's bytes, in their order.
-use Rattle.std.specs.Prelude.{ℕ, Bool, true, false, List, [], ◌∷◌, ◌++◌, ◌≡◌, Option, Some, None}
+-- Run of the conversation: a table over the frames of the client's bytes, in their order.
+use Rattle.std.specs.Prelude.{ℕ, Bool, List, ◌≡◌}
 use Rattle.pg_messages.specs.declared.frontend.PgWireFrontendMessage.{PgWireFrontendMessage}
+use Rattle.pg_messages.specs.declared.backend.PgWireBackendMessage.{PgWireBackendMessage}
 use Rattle.pg_messages.specs.Frames.{DividesInto, IsBad, IsUnfinished}
 use Rattle.pg_messages.specs.Replies.{replies_bytes}
-use Rattle.pg_portal.specs.declared.portal.PgWireConnectionState.{PgWireConnectionState}
-use Rattle.pg_portal.specs.declared.portal.PgWireConnectionState.TheVariants as phase
-use Rattle.pg_session.specs.declared.state.SessionState.{SessionState}
 use Rattle.pg_session.specs.declared.desk.DeskCall.{DeskCall}
-use Rattle.pg_session.specs.declared.desk.DeskCall.TheVariants as desk
 use Rattle.pg_session.specs.declared.ends.EndKind.{EndKind}
 use Rattle.pg_session.specs.declared.ends.EndKind.TheVariants as end
 use Rattle.pg_session.specs.Streams.{BeginsWith}
-use Rattle.pg_session.specs.Conversation.{Setting, Answer, Next, Goes, Ends, answer, first_state}
+use Rattle.pg_session.specs.Answer.{Answer, Table, Next, Goes, Ends, Stops, answers_of, conversation}
 
--- one answer, and the other after it
-abbrev pub followed_by : Answer → Answer → Answer
-followed_by a b = record { replies = a.replies ++ b.replies; calls = a.calls ++ b.calls; left = b.left; next = b.next }
+-- what a conversation goes by: a table, and in which of its states the startup packet is still awaited
+pub record Rules (T : Type 0) : Type 0 where
+  pub table : Table T
+  pub awaits : T → Bool
 
--- an answer, and what follows it where the conversation goes on
-abbrev pub continued : Answer → Next → (List Bool → SessionState → Answer) → Answer
-continued a (Goes s) others = followed_by a (others a.left s)
-continued a (Ends kind) others = a
-
--- What messages are answered in turn, up to the first that ends the conversation.
-abbrev pub conversation : Setting → List Bool → SessionState → List PgWireFrontendMessage → Answer
-conversation setting answers s [] = record { replies = []; calls = []; left = answers; next = Goes s }
-conversation setting answers s (m ∷ messages) =
-    let given = answer setting answers s m in
-    continued given given.next (λ left t. conversation setting left t messages)
-
--- whether the startup packet is still awaited
-abbrev pub is_startup_phase : PgWireConnectionState → Bool
-is_startup_phase phase.AwaitingStartup = true
-is_startup_phase _ = false
-
-abbrev pub awaits : SessionState → Bool
-awaits s = is_startup_phase s.state
-
--- The conversation over the whole frames of a text, and the bytes that are left of it.
-pub record Converses (setting : Setting) (answers : List Bool) (s : SessionState) (text : List ℕ) (given : Answer) (rest : List ℕ) : Type 0 where
+-- The whole frames of a text were answered by these bytes and these registry calls, under the very answers that the calls tell; this is
+-- left of the text, and this comes next.
+pub record IsFed {T : Type 0} (rules : Rules T) (s : T) (text rest bytes : List ℕ) (calls : List DeskCall) (next : Next T) : Type 0 where
   pub messages : List PgWireFrontendMessage
-  pub division : DividesInto (awaits s) text messages rest
-  pub answered : given ≡ conversation setting answers s messages
+  pub replies : List PgWireBackendMessage
+  pub division : DividesInto (rules.awaits s) text messages rest
+  pub answered : conversation rules.table (answers_of calls) s messages ≡ record { replies = replies; calls = calls; next = next }
+  pub replied : bytes ≡ replies_bytes replies
 
--- The conversation ends so: by its last message, or else by what is left of the bytes.
-abbrev pub EndsWith : Next → List ℕ → EndKind → Type 0
-EndsWith (Ends kind) rest e = kind ≡ e
-EndsWith (Goes s) rest end.BadFrame = IsBad (awaits s) rest
-EndsWith (Goes s) rest end.InputEnd = IsUnfinished (awaits s) rest
-EndsWith (Goes s) rest end.Terminate = ⊥
+-- The conversation ends so: by its last message, or else by what is left of the bytes. Where it stops for want of an answer, it has no end.
+abbrev pub EndsWith : {T : Type 0} → (T → Bool) → Next T → List ℕ → EndKind → Type 0
+EndsWith awaits (Ends kind) rest e = kind ≡ e
+EndsWith awaits (Goes s) rest end.BadFrame = IsBad (awaits s) rest
+EndsWith awaits (Goes s) rest end.InputEnd = IsUnfinished (awaits s) rest
+EndsWith awaits (Goes s) rest _ = ⊥
+EndsWith awaits Stops rest e = ⊥
 
--- the registry's answers among calls
-abbrev pub answers_of : List DeskCall → List Bool
-answers_of [] = []
-answers_of (desk.Start ∷ calls) = answers_of calls
-answers_of (desk.Ask told ∷ calls) = told ∷ answers_of calls
-answers_of (desk.Cancel pid key told ∷ calls) = told ∷ answers_of calls
-
--- Run: these reply bytes, these registry calls with their answers, and this end are the conversation table's answer to the client's bytes.
-pub record IsRun (setting : Setting) (text : List ℕ) (replies : List ℕ) (calls : List DeskCall) (kind : EndKind) : Type 0 where
-  pub given : Answer
+-- Run: these reply bytes, these registry calls with their answers, and this end are the table's answer to the client's bytes.
+pub record IsRun {T : Type 0} (rules : Rules T) (s : T) (text bytes : List ℕ) (calls : List DeskCall) (kind : EndKind) : Type 0 where
   pub rest : List ℕ
-  pub converses : Converses setting (answers_of calls) first_state text given rest
-  pub replied : replies ≡ replies_bytes given.replies
-  pub called : calls ≡ given.calls
-  pub ended : EndsWith given.next rest kind
+  pub next : Next T
+  pub fed : IsFed rules s text rest bytes calls next
+  pub ended : EndsWith rules.awaits next rest kind
 
 -- A run that was cut off: these reply bytes and calls are a front of the answer to the client's bytes as far as it was taken.
-pub record IsCutRun (setting : Setting) (text : List ℕ) (replies : List ℕ) (calls : List DeskCall) : Type 0 where
-  pub given : Answer
+pub record IsCutRun {T : Type 0} (rules : Rules T) (s : T) (text bytes : List ℕ) (calls : List DeskCall) : Type 0 where
+  pub messages : List PgWireFrontendMessage
   pub rest : List ℕ
-  pub converses : Converses setting (answers_of calls) first_state text given rest
-  pub replied : BeginsWith (replies_bytes given.replies) replies
+  pub given : Answer T
+  pub division : DividesInto (rules.awaits s) text messages rest
+  pub answered : given ≡ conversation rules.table (answers_of calls) s messages
+  pub replied : BeginsWith (replies_bytes given.replies) bytes
   pub called : BeginsWith given.calls calls

@@ -1,7 +1,7 @@
 -- What a scripted desk holds.
 use Rattle.std.specs.Prelude.{ℕ, ℤ, suc, zero, Bool, false, List, [], ◌∷◌, ◌≡◌, drop, map, length, if◌then◌else◌}
 use Rattle.pg_session.specs.declared.desk.DeskCall.{DeskCall}
-use Rattle.pg_session.specs.Run.{answers_of}
+use Rattle.pg_session.specs.Answer.{answers_of}
 
 -- the registration, the whole script, the answers to come, and the calls so far
 pub record Script : Type 0 where

@@ -1,7 +1,9 @@
 ghost use Rattle.std.specs.Prelude.{◌≡◌, ◌≤◌, ◌<◌, ◌++◌, [], ℕ, List, Bool, true, false, Option, Some, None, length, IsTrue, IfOk, IfNone, OnOk, OnErr, IsErrOf};
 ghost use Rattle.std.specs.Option.{option_map};
 ghost use Rattle.std.specs.Arc.{arc_value};
-ghost use Rattle.pg_session.specs.Conversation.{Next};
+ghost use Rattle.pg_session.specs.Answer.{Next};
+ghost use Rattle.pg_session.specs.Conversation.{awaits, core_rules};
+ghost use Rattle.pg_session.specs.declared.state.SessionState.{SessionState};
 ghost use Rattle.pg_session.specs.Streams.{GrowsBy, GrowsByFront, HasSinkCause};
 ghost use Rattle.pg_session.specs.Steps.{Flows, IsGoodStore, IsServed, IsCutOff, Stands, StandsAfterStep, host_setting};
 
@@ -63,13 +65,13 @@ impl Dialog {
         sink: &mut K,
     ) -> Result<Option<Progress>, ServeError>
         requires good { IsGoodStore (H.count (arc_value host.now.handlers)) self.old.state.store }
-        ensures served { IfOk result (λ step. (next : Next) × IsServed
-            (host_setting H.relation_of H.rows_of host.now)
+        ensures served { IfOk result (λ step. (next : Next SessionState) × IsServed
+            (core_rules (host_setting H.relation_of H.rows_of host.now))
             self.old.state self.old.rest.items self.new.rest.items next (K.written sink.old) (K.written sink.new)
             self.old.outbox self.new.outbox (D.calls desk.old) (D.calls desk.new)
-            × StandsAfterStep next self.new.state self.new.rest.items step) }
+            × StandsAfterStep awaits next self.new.state self.new.rest.items step) }
         ensures cut_off { OnErr result (IsCutOff
-            (host_setting H.relation_of H.rows_of host.now)
+            (core_rules (host_setting H.relation_of H.rows_of host.now))
             self.old.state self.old.rest.items (K.written sink.old) (K.written sink.new) self.old.outbox
             (D.calls desk.old) (D.calls desk.new)) }
         ensures good { OnOk result (IsGoodStore (H.count (arc_value host.now.handlers)) self.new.state.store) }
@@ -101,13 +103,13 @@ impl Dialog {
         sink: &mut K,
     ) -> Result<Progress, ServeError>
         requires good { IsGoodStore (H.count (arc_value host.now.handlers)) self.old.state.store }
-        ensures served { IfOk result (λ told. (next : Next) × IsServed
-            (host_setting H.relation_of H.rows_of host.now)
+        ensures served { IfOk result (λ told. (next : Next SessionState) × IsServed
+            (core_rules (host_setting H.relation_of H.rows_of host.now))
             self.old.state self.old.rest.items self.new.rest.items next (K.written sink.old) (K.written sink.new)
             self.old.outbox [] (D.calls desk.old) (D.calls desk.new)
-            × Stands next self.new.state self.new.rest.items told) }
+            × Stands awaits next self.new.state self.new.rest.items told) }
         ensures cut_off { OnErr result (IsCutOff
-            (host_setting H.relation_of H.rows_of host.now)
+            (core_rules (host_setting H.relation_of H.rows_of host.now))
             self.old.state self.old.rest.items (K.written sink.old) (K.written sink.new) self.old.outbox
             (D.calls desk.old) (D.calls desk.new)) }
         ensures sent { OnOk result (self.new.outbox ≡ []) }
@@ -137,13 +139,13 @@ impl Dialog {
         sink: &mut K,
     ) -> Result<Progress, ServeError>
         requires good { IsGoodStore (H.count (arc_value host.now.handlers)) self.old.state.store }
-        ensures served { IfOk result (λ told. (next : Next) × IsServed
-            (host_setting H.relation_of H.rows_of host.now)
+        ensures served { IfOk result (λ told. (next : Next SessionState) × IsServed
+            (core_rules (host_setting H.relation_of H.rows_of host.now))
             self.old.state (self.old.rest.items ++ piece.now) self.new.rest.items next (K.written sink.old) (K.written sink.new)
             self.old.outbox [] (D.calls desk.old) (D.calls desk.new)
-            × Stands next self.new.state self.new.rest.items told) }
+            × Stands awaits next self.new.state self.new.rest.items told) }
         ensures cut_off { OnErr result (IsCutOff
-            (host_setting H.relation_of H.rows_of host.now)
+            (core_rules (host_setting H.relation_of H.rows_of host.now))
             self.old.state (self.old.rest.items ++ piece.now) (K.written sink.old) (K.written sink.new) self.old.outbox
             (D.calls desk.old) (D.calls desk.new)) }
         ensures sent { OnOk result (self.new.outbox ≡ []) }

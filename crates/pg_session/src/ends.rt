@@ -15,6 +15,10 @@ pub enum EndKind {
     InputEnd,
     /// The bytes go on with a bad header or frame.
     BadFrame,
+    /// An error of severity FATAL was told.
+    Fatal,
+    /// The client asked to cancel another session's query, and the registry was called.
+    CancelServed,
 }
 
 /// Why a conversation was given up.

@@ -1,28 +1,32 @@
 ghost use Rattle.std.specs.Prelude.{◌≡◌, ◌≢◌, ◌++◌, [], ◌∷◌, ℕ, ℤ, List, Bool, true, false, Option, Some, None, IfOk, OnOk, OnErr};
 ghost use Rattle.std.specs.Arc.{arc_value};
-ghost use Rattle.pg_messages.specs.declared.frontend.Parse.{Parse};
-ghost use Rattle.pg_messages.specs.declared.frontend.Bind.{Bind};
+ghost use Rattle.pg_messages.specs.declared.startup.CancelRequest.{CancelRequest};
+ghost use Rattle.pg_messages.specs.declared.extendedquery.Parse.{Parse};
+ghost use Rattle.pg_messages.specs.declared.extendedquery.Bind.{Bind};
 ghost use Rattle.pg_portal.specs.declared.portal.PgWireConnectionState.TheVariants as phase;
-ghost use Rattle.pg_session.specs.Conversation.{is_built, is_built_parse, is_built_bind, is_one_binary, answer, row, Setting};
-ghost use Rattle.pg_session.specs.Run.{awaits};
-ghost use Rattle.pg_session.specs.declared.ends.EndKind.TheVariants.{InputEnd};
-ghost use Rattle.pg_session.specs.Steps.{IsCarriedOut, IsGoodStore, IsGiven, GrowsByFrontOf, next_of, setting_of, host_setting};
+ghost use Rattle.pg_session.specs.declared.desk.DeskCall.{DeskCall};
+ghost use Rattle.pg_session.specs.declared.ends.EndKind.TheVariants.{InputEnd, CancelServed};
+ghost use Rattle.pg_session.specs.Conversation.{is_built, is_built_parse, is_built_bind, is_one_binary, awaits, table, startup_row, on_startup, built_row, ready_row, awaiting_sync_row};
+ghost use Rattle.pg_session.specs.Steps.{IsCarriedOut, IsAnswered, IsCutAnswer, IsGoodStore, IsGiven, GrowsByFrontOf, next_of, host_setting};
 
 use crate::desk::CancelDesk;
 use crate::ends::EndKind;
 use crate::outbox::Outbox;
 use crate::query::{is_transaction_word, trimmed};
-use crate::replies::push_startup;
+use crate::replies::{push_no_encryption, push_not_built, push_startup, push_unsupported};
 use crate::rows::FirstRows;
 use crate::rules::{on_bind, on_execute, on_parse, on_sync};
 use crate::state::SessionState;
-use pg_messages::{Bind, Parse, PgWireFrontendMessage, TransactionStatus};
+use pg_messages::{Bind, CancelRequest, Parse, PgWireFrontendMessage, Startup, TransactionStatus};
 use pg_portal::{Named, PgWireConnectionState, Store};
 use std::alloc::{AllocError, Global};
 use std::sync::Arc;
 
 /// The code of protocol version 3.0.
 const PROTOCOL_3_0: u32 = 196608;
+
+/// The code of protocol version 3.2.
+const PROTOCOL_3_2: u32 = 196610;
 
 /// Whether the form of a Parse is built.
 fn is_built_parse(message: &Parse) -> bool
@@ -56,12 +60,14 @@ fn is_built(message: &PgWireFrontendMessage) -> bool
     ensures { result ≡ is_built message.now }
 {
     match message {
-        PgWireFrontendMessage::Startup(startup) => startup.code == PROTOCOL_3_0,
         PgWireFrontendMessage::Parse(parse) => is_built_parse(parse),
         PgWireFrontendMessage::Bind(bind) => is_built_bind(bind),
         PgWireFrontendMessage::Execute(execute) => execute.max_rows < 1,
-        PgWireFrontendMessage::PgSync(_) => true,
-        PgWireFrontendMessage::Terminate(_) => true,
+        PgWireFrontendMessage::Query(_) => false,
+        PgWireFrontendMessage::Describe(_) => false,
+        PgWireFrontendMessage::Close(_) => false,
+        PgWireFrontendMessage::Flush(_) => false,
+        _ => true,
     }
 }
 
@@ -88,24 +94,20 @@ impl<H: FirstRows> Host<H> {
     ) -> Result<Option<EndKind>, AllocError>
         requires given { IsGiven (awaits state.old) message }
         requires good { IsGoodStore (H.count (arc_value self.now.handlers)) state.old.store }
-        ensures answer { IfOk result (λ end. (answers : List Bool) → IsCarriedOut
-            (answer (host_setting H.relation_of H.rows_of self.now) answers state.old message)
+        ensures answer { IfOk result (λ end. IsAnswered
+            (table (host_setting H.relation_of H.rows_of self.now)) state.old message
             outbox.old outbox.new (D.calls desk.old) (D.calls desk.new) (next_of end state.new)) }
         ensures ends { IfOk result (λ end. end ≢ Some InputEnd) }
         ensures good { OnOk result (IsGoodStore (H.count (arc_value self.now.handlers)) state.new.store) }
-        ensures err { OnErr result ((answers : List Bool) → GrowsByFrontOf
-            (answer (host_setting H.relation_of H.rows_of self.now) answers state.old message).calls
+        ensures err { OnErr result (IsCutAnswer
+            (table (host_setting H.relation_of H.rows_of self.now)) state.old message
             (D.calls desk.old) (D.calls desk.new)) }
         ensures same { D.registration desk.new ≡ D.registration desk.old }
         ensures origin { D.origin desk.new ≡ D.origin desk.old }
     {
-        if !is_built(&message) {
-            let_go(message);
-            return Ok(Some(EndKind::BadFrame));
-        }
         match state.state {
             PgWireConnectionState::AwaitingStartup => {
-                let end = self.on_startup(alloc, state, outbox, &message);
+                let end = self.on_startup_phase(alloc, state, outbox, desk, &message);
                 let_go(message);
                 end
             }
@@ -121,23 +123,56 @@ impl<H: FirstRows> Host<H> {
     }
 
     /// A message while the startup packet is awaited.
+    fn on_startup_phase<D: CancelDesk>(
+        &self,
+        alloc: Global,
+        state: &mut SessionState,
+        outbox: &mut Outbox,
+        desk: &mut D,
+        message: &PgWireFrontendMessage,
+    ) -> Result<Option<EndKind>, AllocError>
+        ensures answer { IfOk result (λ end. IsAnswered
+            (startup_row (host_setting H.relation_of H.rows_of self.now)) state.old message.now
+            outbox.old outbox.new (D.calls desk.old) (D.calls desk.new) (next_of end state.new)) }
+        ensures ends { IfOk result (λ end. end ≢ Some InputEnd) }
+        ensures good { (count : ℕ) → IsGoodStore count state.old.store
+            → OnOk result (IsGoodStore count state.new.store) }
+        ensures err { OnErr result (D.calls desk.new ≡ D.calls desk.old) }
+        ensures same { D.registration desk.new ≡ D.registration desk.old }
+        ensures origin { D.origin desk.new ≡ D.origin desk.old }
+    {
+        match message {
+            PgWireFrontendMessage::SslNegotiation(kind) => {
+                push_no_encryption(outbox, *kind)?;
+                Ok(None)
+            }
+            PgWireFrontendMessage::CancelRequest(request) => cancel(desk, request),
+            PgWireFrontendMessage::Startup(startup) => {
+                self.on_startup(alloc, state, outbox, startup)
+            }
+            _ => Ok(None),
+        }
+    }
+
+    /// The startup packet: the session is ready where its version is 3.0 or 3.2.
     fn on_startup(
         &self,
         alloc: Global,
         state: &mut SessionState,
         outbox: &mut Outbox,
-        message: &PgWireFrontendMessage,
+        message: &Startup,
     ) -> Result<Option<EndKind>, AllocError>
-        ensures answer { IfOk result (λ end. (answers : List Bool) → IsCarriedOut
-            (row (host_setting H.relation_of H.rows_of self.now) answers state.old phase.AwaitingStartup message.now)
+        ensures answer { IfOk result (λ end. IsCarriedOut
+            (on_startup (host_setting H.relation_of H.rows_of self.now) message.now)
             outbox.old outbox.new [] [] (next_of end state.new)) }
         ensures ends { IfOk result (λ end. end ≢ Some InputEnd) }
         ensures good { (count : ℕ) → IsGoodStore count state.old.store
             → OnOk result (IsGoodStore count state.new.store) }
     {
-        let PgWireFrontendMessage::Startup(_) = message else {
-            return Ok(Some(EndKind::BadFrame));
-        };
+        if message.code != PROTOCOL_3_0 && message.code != PROTOCOL_3_2 {
+            push_unsupported(alloc, outbox, message.code)?;
+            return Ok(Some(EndKind::Fatal));
+        }
         push_startup(alloc, outbox, self.pid, self.key)?;
         state.state = PgWireConnectionState::ReadyForQuery;
         state.status = TransactionStatus::Idle;
@@ -148,7 +183,7 @@ impl<H: FirstRows> Host<H> {
         Ok(None)
     }
 
-    /// A message of a session that is ready.
+    /// A message of a session that is ready: one whose form isn't built yet ends the conversation.
     fn on_ready<D: CancelDesk>(
         &self,
         alloc: Global,
@@ -159,19 +194,48 @@ impl<H: FirstRows> Host<H> {
     ) -> Result<Option<EndKind>, AllocError>
         requires given { IsGiven false message }
         requires good { IsGoodStore (H.count (arc_value self.now.handlers)) state.old.store }
-        ensures answer { IfOk result (λ end. (answers : List Bool) → IsCarriedOut
-            (row (host_setting H.relation_of H.rows_of self.now) answers state.old phase.ReadyForQuery message)
+        ensures answer { IfOk result (λ end. IsCarriedOut
+            (built_row (host_setting H.relation_of H.rows_of self.now) state.old message)
             outbox.old outbox.new (D.calls desk.old) (D.calls desk.new) (next_of end state.new)) }
         ensures ends { IfOk result (λ end. end ≢ Some InputEnd) }
         ensures good { OnOk result (IsGoodStore (H.count (arc_value self.now.handlers)) state.new.store) }
-        ensures err { OnErr result ((answers : List Bool) → GrowsByFrontOf
-            (row (host_setting H.relation_of H.rows_of self.now) answers state.old phase.ReadyForQuery message).calls
+        ensures err { OnErr result (GrowsByFrontOf
+            (built_row (host_setting H.relation_of H.rows_of self.now) state.old message).calls
+            (D.calls desk.old) (D.calls desk.new)) }
+        ensures same { D.registration desk.new ≡ D.registration desk.old }
+        ensures origin { D.origin desk.new ≡ D.origin desk.old }
+    {
+        if !is_built(&message) {
+            let_go(message);
+            push_not_built(alloc, outbox)?;
+            return Ok(Some(EndKind::Fatal));
+        }
+        self.on_built(alloc, state, outbox, desk, message)
+    }
+
+    /// A message of a session that is ready, whose form is built.
+    fn on_built<D: CancelDesk>(
+        &self,
+        alloc: Global,
+        state: &mut SessionState,
+        outbox: &mut Outbox,
+        desk: &mut D,
+        message: PgWireFrontendMessage,
+    ) -> Result<Option<EndKind>, AllocError>
+        requires given { IsGiven false message }
+        requires good { IsGoodStore (H.count (arc_value self.now.handlers)) state.old.store }
+        ensures answer { IfOk result (λ end. IsCarriedOut
+            (ready_row (host_setting H.relation_of H.rows_of self.now) state.old message)
+            outbox.old outbox.new (D.calls desk.old) (D.calls desk.new) (next_of end state.new)) }
+        ensures ends { IfOk result (λ end. end ≢ Some InputEnd) }
+        ensures good { OnOk result (IsGoodStore (H.count (arc_value self.now.handlers)) state.new.store) }
+        ensures err { OnErr result (GrowsByFrontOf
+            (ready_row (host_setting H.relation_of H.rows_of self.now) state.old message).calls
             (D.calls desk.old) (D.calls desk.new)) }
         ensures same { D.registration desk.new ≡ D.registration desk.old }
         ensures origin { D.origin desk.new ≡ D.origin desk.old }
     {
         match message {
-            PgWireFrontendMessage::Startup(_) => return Ok(Some(EndKind::BadFrame)),
             PgWireFrontendMessage::Terminate(_) => return Ok(Some(EndKind::Terminate)),
             PgWireFrontendMessage::Parse(m) => on_parse(alloc, &*self.handlers, state, outbox, m)?,
             PgWireFrontendMessage::Bind(m) => on_bind(alloc, state, outbox, m)?,
@@ -179,9 +243,25 @@ impl<H: FirstRows> Host<H> {
                 on_execute(alloc, &*self.handlers, state, outbox, desk, m)?
             }
             PgWireFrontendMessage::PgSync(_) => on_sync(state, outbox)?,
+            other => let_go(other),
         }
         Ok(None)
     }
+}
+
+/// Cancels the query of the session that a client names: one call of the registry, and the end.
+fn cancel<D: CancelDesk>(
+    desk: &mut D,
+    request: &CancelRequest,
+) -> Result<Option<EndKind>, AllocError>
+    ensures answer { IfOk result (λ end. (end ≡ Some CancelServed) × ((yes : Bool)
+        × (D.calls desk.new ≡ D.calls desk.old ++ DeskCall.Cancel request.now.pid request.now.secret_key yes ∷ []))) }
+    ensures err { OnErr result (D.calls desk.new ≡ D.calls desk.old) }
+    ensures same { D.registration desk.new ≡ D.registration desk.old }
+    ensures origin { D.origin desk.new ≡ D.origin desk.old }
+{
+    desk.cancel(request.pid, request.secret_key)?;
+    Ok(Some(EndKind::CancelServed))
 }
 
 /// A message after an error: all but Sync and Terminate is dropped.
@@ -190,14 +270,13 @@ fn on_awaiting_sync(
     outbox: &mut Outbox,
     message: &PgWireFrontendMessage,
 ) -> Result<Option<EndKind>, AllocError>
-    ensures answer { IfOk result (λ end. (setting : Setting) (answers : List Bool) → IsCarriedOut
-        (row setting answers state.old phase.AwaitingSync message.now) outbox.old outbox.new [] [] (next_of end state.new)) }
+    ensures answer { IfOk result (λ end. IsCarriedOut
+        (awaiting_sync_row state.old message.now) outbox.old outbox.new [] [] (next_of end state.new)) }
     ensures ends { IfOk result (λ end. end ≢ Some InputEnd) }
     ensures good { (count : ℕ) → IsGoodStore count state.old.store
         → OnOk result (IsGoodStore count state.new.store) }
 {
     match message {
-        PgWireFrontendMessage::Startup(_) => Ok(Some(EndKind::BadFrame)),
         PgWireFrontendMessage::Terminate(_) => Ok(Some(EndKind::Terminate)),
         PgWireFrontendMessage::PgSync(_) => {
             on_sync(state, outbox)?;

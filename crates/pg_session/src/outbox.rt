@@ -33,7 +33,7 @@ impl Outbox {
         })
     }
 
-    /// AppendsReplies the bytes of a reply. After an error the outbox is as it was.
+    /// Appends the bytes of a reply. After an error the outbox is as it was.
     pub fn push(&mut self, message: &PgWireBackendMessage) -> Result<(), AllocError>
         requires { IsEncodable message.now }
         ensures ok { OnOk result (self.new ≡ self.old ++ reply_bytes message.now) }

@@ -3,17 +3,18 @@ ghost use Rattle.std.specs.List.{AllByRecursion};
 ghost use Rattle.std.specs.Fmt.{decimal};
 ghost use Rattle.pg_messages.specs.Replies.{IsEncodable, HasNoZero};
 ghost use Rattle.pg_messages.specs.declared.backend.PgWireBackendMessage.TheVariants as server;
-ghost use Rattle.pg_session.specs.Conversation.{error_response, longest_error_text, quoted, parameter, startup_replies, row_replies};
+ghost use Rattle.pg_session.specs.Conversation.{longest_error_text, error_response, error, not_built, unsupported_version, unsupported_text, no_encryption, quoted, parameter, startup_replies, row_replies};
 ghost use Rattle.pg_session.specs.Steps.{AppendsReplies};
 
 use crate::outbox::Outbox;
 use pg_messages::{
     AuthenticationOk, BackendKeyData, CommandComplete, DataRow, ErrorInfo, ErrorResponse,
-    ParameterStatus, PgList, PgStr, PgWireBackendMessage, ReadyForQuery, TransactionStatus,
+    GssEncResponse, ParameterStatus, PgList, PgStr, PgWireBackendMessage, ReadyForQuery,
+    SslNegotiationKind, SslResponse, TransactionStatus,
 };
 use std::alloc::{AllocError, Global};
 
-/// AppendsReplies one reply.
+/// Appends one reply.
 pub(crate) fn push(outbox: &mut Outbox, message: PgWireBackendMessage) -> Result<(), AllocError>
     requires { IsEncodable message }
     ensures { OnOk result (AppendsReplies outbox.old outbox.new (message ∷ [])) }
@@ -32,7 +33,35 @@ pub(crate) fn does_not_exist(alloc: Global, kind: &str, name: &str) -> Result<Pg
     PgStr::copy_of(alloc, text.as_str())
 }
 
-/// AppendsReplies an ErrorResponse of severity ERROR.
+/// Appends an ErrorResponse.
+fn push_response(
+    alloc: Global,
+    outbox: &mut Outbox,
+    severity: &str,
+    code: &str,
+    message: PgStr,
+) -> Result<(), AllocError>
+    requires severity { HasNoZero severity.now }
+    requires severity_len { length severity.now ≤ 5 }
+    requires code { HasNoZero code.now }
+    requires code_len { length code.now ≤ 5 }
+    requires message { HasNoZero message }
+    requires message_len { length message ≤ longest_error_text }
+    ensures { OnOk result (AppendsReplies outbox.old outbox.new
+        (error_response severity.now code.now message ∷ [])) }
+{
+    let info = ErrorInfo {
+        severity: PgStr::copy_of(alloc, severity)?,
+        code: PgStr::copy_of(alloc, code)?,
+        message,
+    };
+    push(
+        outbox,
+        PgWireBackendMessage::ErrorResponse(ErrorResponse { info }),
+    )
+}
+
+/// Appends an ErrorResponse of severity ERROR.
 pub(crate) fn push_error(
     alloc: Global,
     outbox: &mut Outbox,
@@ -43,20 +72,63 @@ pub(crate) fn push_error(
     requires code_len { length code.now ≤ 5 }
     requires message { HasNoZero message }
     requires message_len { length message ≤ longest_error_text }
-    ensures { OnOk result (AppendsReplies outbox.old outbox.new (error_response code.now message ∷ [])) }
+    ensures { OnOk result (AppendsReplies outbox.old outbox.new (error code.now message ∷ [])) }
 {
-    let info = ErrorInfo {
-        severity: PgStr::copy_of(alloc, "ERROR")?,
-        code: PgStr::copy_of(alloc, code)?,
-        message,
-    };
-    push(
-        outbox,
-        PgWireBackendMessage::ErrorResponse(ErrorResponse { info }),
-    )
+    push_response(alloc, outbox, "ERROR", code, message)
 }
 
-/// AppendsReplies a ParameterStatus.
+/// Appends the error of a message whose form is not built yet.
+pub(crate) fn push_not_built(alloc: Global, outbox: &mut Outbox) -> Result<(), AllocError>
+    ensures { OnOk result (AppendsReplies outbox.old outbox.new (not_built ∷ [])) }
+{
+    let text = PgStr::copy_of(alloc, "not built yet")?;
+    push_response(alloc, outbox, "FATAL", "XX000", text)
+}
+
+/// Appends the error of a startup packet of a version other than 3.0 and 3.2.
+pub(crate) fn push_unsupported(
+    alloc: Global,
+    outbox: &mut Outbox,
+    code: u32,
+) -> Result<(), AllocError>
+    ensures { OnOk result (AppendsReplies outbox.old outbox.new (unsupported_version code ∷ [])) }
+{
+    let text = unsupported_text(alloc, code)?;
+    push_response(alloc, outbox, "FATAL", "0A000", text)
+}
+
+/// The text on a version: its upper sixteen bits are the major part, and its lower ones the minor.
+fn unsupported_text(alloc: Global, code: u32) -> Result<PgStr, AllocError>
+    ensures { IfOk result (λ text. text ≡ unsupported_text code) }
+{
+    let major = code / 65536;
+    let minor = code % 65536;
+    let text = format!(
+        in alloc;
+        "unsupported frontend protocol {major}.{minor}: server supports 3.0 and 3.2"
+    )?;
+    PgStr::copy_of(alloc, text.as_str())
+}
+
+/// Appends the answer to a request for encryption: none.
+pub(crate) fn push_no_encryption(
+    outbox: &mut Outbox,
+    kind: SslNegotiationKind,
+) -> Result<(), AllocError>
+    ensures { OnOk result (AppendsReplies outbox.old outbox.new (no_encryption kind ∷ [])) }
+{
+    match kind {
+        SslNegotiationKind::PostgresSsl => {
+            push(outbox, PgWireBackendMessage::SslResponse(SslResponse {}))
+        }
+        SslNegotiationKind::PostgresGss => push(
+            outbox,
+            PgWireBackendMessage::GssEncResponse(GssEncResponse {}),
+        ),
+    }
+}
+
+/// Appends a ParameterStatus.
 fn push_parameter(
     alloc: Global,
     outbox: &mut Outbox,
@@ -75,7 +147,7 @@ fn push_parameter(
     push(outbox, PgWireBackendMessage::ParameterStatus(status))
 }
 
-/// AppendsReplies ReadyForQuery with a status.
+/// Appends ReadyForQuery with a status.
 pub(crate) fn push_ready(outbox: &mut Outbox, status: TransactionStatus) -> Result<(), AllocError>
     ensures { OnOk result (AppendsReplies outbox.old outbox.new (server.ReadyForQuery (record { status = status }) ∷ [])) }
 {
@@ -85,7 +157,7 @@ pub(crate) fn push_ready(outbox: &mut Outbox, status: TransactionStatus) -> Resu
     )
 }
 
-/// AppendsReplies BackendKeyData.
+/// Appends BackendKeyData.
 fn push_key(outbox: &mut Outbox, pid: i32, key: [u8; 4]) -> Result<(), AllocError>
     ensures { OnOk result (AppendsReplies outbox.old outbox.new (server.BackendKeyData (record { pid = pid; secret_key = key }) ∷ [])) }
 {
@@ -96,7 +168,7 @@ fn push_key(outbox: &mut Outbox, pid: i32, key: [u8; 4]) -> Result<(), AllocErro
     push(outbox, PgWireBackendMessage::BackendKeyData(data))
 }
 
-/// AppendsReplies the replies to a startup packet.
+/// Appends the replies to a startup packet.
 pub(crate) fn push_startup(
     alloc: Global,
     outbox: &mut Outbox,
@@ -117,7 +189,7 @@ pub(crate) fn push_startup(
     push_ready(outbox, TransactionStatus::Idle)
 }
 
-/// AppendsReplies a CommandComplete that counts the rows of a page.
+/// Appends a CommandComplete that counts the rows of a page.
 fn push_select(alloc: Global, outbox: &mut Outbox, rows: usize) -> Result<(), AllocError>
     ensures { OnOk result (AppendsReplies outbox.old outbox.new (server.CommandComplete (record { tag = codes "SELECT " ++ decimal rows }) ∷ [])) }
 {
@@ -129,7 +201,7 @@ fn push_select(alloc: Global, outbox: &mut Outbox, rows: usize) -> Result<(), Al
     )
 }
 
-/// AppendsReplies the rows of a page and its CommandComplete.
+/// Appends the rows of a page and its CommandComplete.
 pub(crate) fn push_rows(
     alloc: Global,
     outbox: &mut Outbox,

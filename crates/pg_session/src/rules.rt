@@ -9,7 +9,8 @@ ghost use Rattle.pg_messages.specs.declared.frontend.PgWireFrontendMessage.TheVa
 ghost use Rattle.pg_portal.specs.declared.portal.PgWireConnectionState.TheVariants as phase;
 ghost use Rattle.pg_session.specs.Queries.{trimmed};
 ghost use Rattle.pg_session.specs.Streams.{BeginsWith};
-ghost use Rattle.pg_session.specs.Conversation.{error_response, longest_error_text, parsed, bound, executed, on_sync, page_rows, start_calls, Goes};
+ghost use Rattle.pg_session.specs.Answer.{Goes};
+ghost use Rattle.pg_session.specs.Conversation.{longest_error_text, error, parsed, bound, executed, on_sync, page_rows, start_calls};
 ghost use Rattle.pg_session.specs.Steps.{AppendsReplies, IsCarriedOut, IsGoodStore, IsGiven, GrowsByFrontOf, setting_of, told_by};
 ghost use Rattle.pg_session.specs.declared.desk.DeskCall.{DeskCall};
 
@@ -37,7 +38,7 @@ fn refuse(
     requires code_len { length code.now ≤ 5 }
     requires message { HasNoZero message }
     requires message_len { length message ≤ longest_error_text }
-    ensures replies { OnOk result (AppendsReplies outbox.old outbox.new (error_response code.now message ∷ [])) }
+    ensures replies { OnOk result (AppendsReplies outbox.old outbox.new (error code.now message ∷ [])) }
     ensures state { OnOk result (state.new ≡ record { state = phase.AwaitingSync; status = to_error_state state.old.status; store = state.old.store }) }
 {
     push_error(alloc, outbox, code, message)?;
@@ -56,8 +57,8 @@ pub(crate) fn on_parse<H: FirstRows>(
 ) -> Result<(), AllocError>
     requires given { IsGiven false (client.Parse message) }
     requires good { IsGoodStore (H.count handlers.now) state.old.store }
-    ensures answer { OnOk result ((answers : List Bool) → IsCarriedOut
-        (parsed answers state.old message (H.relation_of handlers.now (trimmed message.query)))
+    ensures answer { OnOk result (IsCarriedOut
+        (parsed state.old message (H.relation_of handlers.now (trimmed message.query)))
         outbox.old outbox.new [] [] (Goes state.new)) }
     ensures good { OnOk result (IsGoodStore (H.count handlers.now) state.new.store) }
 {
@@ -93,8 +94,8 @@ pub(crate) fn on_bind(
     message: Bind,
 ) -> Result<(), AllocError>
     requires { IsGiven false (client.Bind message) }
-    ensures answer { OnOk result ((answers : List Bool) → IsCarriedOut
-        (bound answers state.old message (fin.get state.old.store.statements message.statement_name))
+    ensures answer { OnOk result (IsCarriedOut
+        (bound state.old message (fin.get state.old.store.statements message.statement_name))
         outbox.old outbox.new [] [] (Goes state.new)) }
     ensures good { (count : ℕ) → IsGoodStore count state.old.store
         → OnOk result (IsGoodStore count state.new.store) }
@@ -119,7 +120,7 @@ pub(crate) fn on_bind(
 
 /// Sync: drops the unnamed portal, and tells the client that the server is ready.
 pub(crate) fn on_sync(state: &mut SessionState, outbox: &mut Outbox) -> Result<(), AllocError>
-    ensures answer { OnOk result ((answers : List Bool) → IsCarriedOut (on_sync answers state.old)
+    ensures answer { OnOk result (IsCarriedOut (on_sync state.old)
         outbox.old outbox.new [] [] (Goes state.new)) }
     ensures good { (count : ℕ) → IsGoodStore count state.old.store
         → OnOk result (IsGoodStore count state.new.store) }
@@ -141,13 +142,13 @@ pub(crate) fn on_execute<H: FirstRows, D: CancelDesk>(
 ) -> Result<(), AllocError>
     requires given { IsGiven false (client.Execute message) }
     requires good { IsGoodStore (H.count handlers.now) state.old.store }
-    ensures answer { OnOk result ((answers : List Bool) (pid : ℤ) (key : List ℕ) → IsCarriedOut
-        (executed (setting_of (H.relation_of handlers.now) (H.rows_of handlers.now) pid key) answers state.old message
+    ensures answer { OnOk result ((pid : ℤ) (key : List ℕ) → IsCarriedOut
+        (executed (setting_of (H.relation_of handlers.now) (H.rows_of handlers.now) pid key) state.old message
         (fin.get state.old.store.portals message.name))
         outbox.old outbox.new (D.calls desk.old) (D.calls desk.new) (Goes state.new)) }
     ensures good { OnOk result (IsGoodStore (H.count handlers.now) state.new.store) }
-    ensures err { OnErr result ((answers : List Bool) (pid : ℤ) (key : List ℕ) → GrowsByFrontOf
-        (executed (setting_of (H.relation_of handlers.now) (H.rows_of handlers.now) pid key) answers state.old message
+    ensures err { OnErr result ((pid : ℤ) (key : List ℕ) → GrowsByFrontOf
+        (executed (setting_of (H.relation_of handlers.now) (H.rows_of handlers.now) pid key) state.old message
         (fin.get state.old.store.portals message.name)).calls
         (D.calls desk.old) (D.calls desk.new)) }
     ensures same { D.registration desk.new ≡ D.registration desk.old }

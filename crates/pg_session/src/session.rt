@@ -29,7 +29,8 @@ pub struct Session<H: FirstRows> {
 
 impl<H: FirstRows + Drop> Session<H> {
     ghost use Rattle.std.specs.Prelude.{◌++◌, ◌≤◌, ℕ, List, Option, IfOk, OnOk, OnErr, IsErrOf};
-    ghost use Rattle.pg_session.specs.Conversation.{Next, Goes, first_state};
+    ghost use Rattle.pg_session.specs.Answer.{Next, Goes};
+    ghost use Rattle.pg_session.specs.Conversation.{awaits, core_rules, first_state};
     ghost use Rattle.pg_session.specs.Streams.{HasSinkCause};
     ghost use Rattle.pg_session.specs.Session.{is_open, host_of, setting, state_of, unread};
     ghost use Rattle.pg_session.specs.declared.state.SessionState.{SessionState};
@@ -50,7 +51,7 @@ impl<H: FirstRows + Drop> Session<H> {
 
         // Nothing came, nothing was answered.
         ensures so_far { IfOk result (λ session. (written : Option (List ℕ)) (calls : List DeskCall) → IsServed
-            (setting_of (H.relation_of (arc_value handlers)) (H.rows_of (arc_value handlers)) pid key)
+            (core_rules (setting_of (H.relation_of (arc_value handlers)) (H.rows_of (arc_value handlers)) pid key))
             first_state [] (unread session) (Goes (state_of session)) written written [] [] calls calls) }
         ensures pid { IfOk result (λ session. (host_of session).pid ≡ pid) }
         ensures key { IfOk result (λ session. (host_of session).key ≡ key) }
@@ -101,32 +102,32 @@ impl<H: FirstRows + Drop> Session<H> {
         requires { is_open self.old ≡ true }
 
         // The frames of the rest and the piece are answered by the conversation table.
-        ensures served { IfOk result (λ told. (next : Next) × IsServed
-            (setting self.old)
-            (state_of self.old) ((unread self.old) ++ piece.now) (unread self.new) next
+        ensures served { IfOk result (λ told. (next : Next SessionState) × IsServed
+            (core_rules (setting self.old))
+            (state_of self.old) (unread self.old ++ piece.now) (unread self.new) next
             (K.written sink.old) (K.written sink.new) [] [] (D.calls desk.old) (D.calls desk.new)
-            × Stands next (state_of self.new) (unread self.new) told) }
+            × Stands awaits next (state_of self.new) (unread self.new) told) }
         ensures cut_off { OnErr result (IsCutOff
-            (setting self.old)
-            (state_of self.old) ((unread self.old) ++ piece.now)
+            (core_rules (setting self.old))
+            (state_of self.old) (unread self.old ++ piece.now)
             (K.written sink.old) (K.written sink.new) [] (D.calls desk.old) (D.calls desk.new)) }
 
         // So are those of all that came before, and of this piece.
         ensures continues { (s : SessionState) (text : List ℕ) (written : Option (List ℕ)) (calls : List DeskCall)
-            → IsServed (setting self.old)
+            → IsServed (core_rules (setting self.old))
             s text (unread self.old) (Goes (state_of self.old)) written (K.written sink.old) [] [] calls (D.calls desk.old)
-            → IfOk result (λ told. (next : Next) × IsServed
-            (setting self.old)
+            → IfOk result (λ told. (next : Next SessionState) × IsServed
+            (core_rules (setting self.old))
             s (text ++ piece.now) (unread self.new) next written (K.written sink.new) [] [] calls (D.calls desk.new)
-            × Stands next (state_of self.new) (unread self.new) told) }
+            × Stands awaits next (state_of self.new) (unread self.new) told) }
         ensures continues_cut { (s : SessionState) (text : List ℕ) (written : Option (List ℕ)) (calls : List DeskCall)
-            → IsServed (setting self.old)
+            → IsServed (core_rules (setting self.old))
             s text (unread self.old) (Goes (state_of self.old)) written (K.written sink.old) [] [] calls (D.calls desk.old)
             → OnErr result (IsCutOff
-            (setting self.old)
+            (core_rules (setting self.old))
             s (text ++ piece.now) written (K.written sink.new) [] calls (D.calls desk.new)) }
         ensures open { IsTrue (is_open self.new) ↔ (result ≡ Ok More) }
-        ensures host { (host_of self.new) ≡ (host_of self.old) }
+        ensures host { host_of self.new ≡ host_of self.old }
 
         // The cause of each error.
         ensures cause { HasSinkCause (K.faults sink.old) (K.faults sink.new) result }

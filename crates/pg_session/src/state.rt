@@ -1,5 +1,5 @@
 ghost use Rattle.std.specs.Prelude.{◌≡◌};
-ghost use Rattle.pg_session.specs.Run.{awaits};
+ghost use Rattle.pg_session.specs.Conversation.{awaits};
 
 use pg_messages::TransactionStatus;
 use pg_portal::{PgWireConnectionState, Store};

@@ -1,6 +1,7 @@
 use Rattle.std.proofs.Common.{◌≡◌, ◌++◌, ◌∙◌, [], codes, sym, ap, subst, Some, None}
 use Rattle.std.specs.FinMap as fin
-use Rattle.pg_session.specs.Conversation.{quoted, bound, Goes}
+use Rattle.pg_session.specs.Answer.{Goes}
+use Rattle.pg_session.specs.Conversation.{quoted, bound}
 use Rattle.pg_session.specs.Steps.{IsCarriedOut, IsGoodStore}
 use Rattle.pg_session.proofs.TableRows.{on_ok_both, on_ok_always, refused}
 use Rattle.pg_session.proofs.Stores.{good_portal}
@@ -21,6 +22,6 @@ returns-in_ok-text-in-None-clause-answer c =
     let missing : fin.get store.statements c.args.message.statement_name ≡ None =
     ap (fin.get store.statements) (sym (c.as_str-name.ensures ∙ ap (λ p. p.1) c.names_of-portal_name.ensures)) ∙ sym c.get.ensures ∙ sym c.copied.ensures ∙ c.in-None.is in
     let shown = c.in_ok-text-in-None.ensures ∙ ap (λ n. codes "prepared statement " ++ quoted n ++ codes " does not exist") (c.as_str-name.ensures ∙ ap (λ p. p.1) c.names_of-portal_name.ensures) in
-    on_ok_both c.refuse.result (λ p q answers.
-    subst (λ o. IsCarriedOut (bound answers c.args.state.now c.args.message o) c.args.outbox.now c.refuse.new.outbox [] [] (Goes c.refuse.new.state)) (sym missing)
-    (refused answers c.args.state.now c.refuse.new.state (codes "26000") _ _ shown p q)) c.refuse.ensures.replies c.refuse.ensures.state
+    on_ok_both c.refuse.result (λ p q.
+    subst (λ o. IsCarriedOut (bound c.args.state.now c.args.message o) c.args.outbox.now c.refuse.new.outbox [] [] (Goes c.refuse.new.state)) (sym missing)
+    (refused c.args.state.now c.refuse.new.state (codes "26000") _ _ shown p q)) c.refuse.ensures.replies c.refuse.ensures.state

@@ -1,6 +1,7 @@
 use Rattle.std.proofs.Common.{◌≡◌, ◌++◌, ◌∙◌, [], codes, sym, ap, subst, refl, append-nil, Some, None}
 use Rattle.std.specs.FinMap as fin
-use Rattle.pg_session.specs.Conversation.{quoted, executed, Goes}
+use Rattle.pg_session.specs.Answer.{Goes}
+use Rattle.pg_session.specs.Conversation.{quoted, executed}
 use Rattle.pg_session.specs.Steps.{IsCarriedOut, IsGoodStore, setting_of}
 use Rattle.pg_session.proofs.TableRows.{on_ok_both, on_ok_always, refused_by_desk}
 use Rattle.pg_session.proofs.Stores.{good_portal}
@@ -28,7 +29,7 @@ returns-in_ok-text-in-None-clause-answer g c =
     let missing : fin.get store.portals c.args.message.name ≡ None =
     ap (fin.get store.portals) (sym c.as_str-name.ensures) ∙ sym c.get.ensures ∙ sym c.copied.ensures ∙ c.in-None.is in
     let shown = c.in_ok-text-in-None.ensures ∙ ap (λ n. codes "portal " ++ quoted n ++ codes " does not exist") c.as_str-name.ensures in
-    on_ok_both c.refuse.result (λ p q answers pid key.
-    subst (λ o. IsCarriedOut (executed (setting_of (g.H.FirstRows.relation_of c.args.handlers.now) (g.H.FirstRows.rows_of c.args.handlers.now) pid key) answers c.args.state.now c.args.message o)
+    on_ok_both c.refuse.result (λ p q pid key.
+    subst (λ o. IsCarriedOut (executed (setting_of (g.H.FirstRows.relation_of c.args.handlers.now) (g.H.FirstRows.rows_of c.args.handlers.now) pid key) c.args.state.now c.args.message o)
     c.args.outbox.now c.refuse.new.outbox (g.D.CancelDesk.calls c.args.desk.now) (g.D.CancelDesk.calls c.args.desk.now) (Goes c.refuse.new.state)) (sym missing)
-    (refused_by_desk answers c.args.state.now c.refuse.new.state (codes "34000") _ _ (g.D.CancelDesk.calls c.args.desk.now) shown p q)) c.refuse.ensures.replies c.refuse.ensures.state
+    (refused_by_desk c.args.state.now c.refuse.new.state (codes "34000") _ _ (g.D.CancelDesk.calls c.args.desk.now) shown p q)) c.refuse.ensures.replies c.refuse.ensures.state

@@ -1,14 +1,14 @@
 use Rattle.std.proofs.Common.{◌≡◌, ◌≤◌, length}
 use Rattle.std.specs.Arc.{arc_value}
-use Rattle.pg_session.specs.Conversation.{Goes}
-use Rattle.pg_session.specs.Run.{awaits}
-use Rattle.pg_session.specs.Steps.{IsServed, IsGoodStore, setting_of, host_setting}
+use Rattle.pg_session.specs.Answer.{Goes}
+use Rattle.pg_session.specs.Conversation.{core_rules}
+use Rattle.pg_session.specs.Steps.{IsServed, IsGoodStore, host_setting}
 use Rattle.pg_session.proofs.dialog.Dialog.run.Given as goal
 
 -- what was served so far, and what a step asks of the session
 abbrev pub invariant-messages : goal.invariant-messages
 invariant-messages g l = record {
-  served : IsServed (host_setting g.H.FirstRows.relation_of g.H.FirstRows.rows_of l.fn.host)
+  served : IsServed (core_rules (host_setting g.H.FirstRows.relation_of g.H.FirstRows.rows_of l.fn.host))
       l.fn.self.state l.fn.self.rest.items l.self.rest.items (Goes l.self.state) (g.K.Sink.written l.fn.sink) (g.K.Sink.written l.sink) l.fn.self.outbox l.self.outbox
       (g.D.CancelDesk.calls l.fn.desk) (g.D.CancelDesk.calls l.desk);
   good : IsGoodStore (g.H.FirstRows.count (arc_value l.fn.host.handlers)) l.self.state.store;
