@@ -11,26 +11,21 @@ use Rattle.pg_session.specs.declared.ends.EndKind.{EndKind}
 use Rattle.pg_session.specs.declared.ends.EndKind.TheVariants as end
 use Rattle.pg_session.specs.declared.ends.ServeError.{ServeError}
 use Rattle.pg_session.specs.declared.ends.ServeError.TheVariants as fault
-use Rattle.pg_session.specs.Conversation.{Setting, Next, Goes, first_state}
-use Rattle.pg_session.specs.Run.{IsRun, IsCutRun, EndsWith, awaits, conversation, answers_of}
+use Rattle.pg_session.specs.Answer.{Next, Goes}
+use Rattle.pg_session.specs.Conversation.{Setting, awaits, core_rules, first_state}
+use Rattle.pg_session.specs.Run.{IsRun, IsCutRun, IsFed, EndsWith}
 use Rattle.pg_session.specs.Streams.{GrowsBy, GrowsByFront, GivesFront, BeginsWith}
 use Rattle.pg_session.specs.Steps as steps
 use Rattle.relation_server.specs.Program.{TakesFrom, IsServedRun, IsRunOfTaken, IsCutRunOfTaken, WentSo}
 
 -- what was served is a run over a text that begins with it
-is_run : {setting : Setting} {taken rest : List ℕ} {next : Next} {w v : Option (List ℕ)} {k l : List DeskCall} (x : steps.IsServed setting first_state taken rest next w v [] [] k l)
-    (text more : List ℕ) (kind : EndKind) → text ≡ taken ++ more → EndsWith next (rest ++ more) kind → IsRun setting text x.bytes x.called kind
-is_run {setting} {taken} {rest} x text more kind e h = let answers = answers_of x.called in record {
-  given = conversation setting answers first_state x.fed.messages;
+is_run : {setting : Setting} {taken rest : List ℕ} {next : Next SessionState} {w v : Option (List ℕ)} {k l : List DeskCall} (x : steps.IsServed (core_rules setting) first_state taken rest next w v [] [] k l)
+    (text more : List ℕ) (kind : EndKind) → text ≡ taken ++ more → EndsWith awaits next (rest ++ more) kind → IsRun (core_rules setting) first_state text x.bytes x.called kind
+is_run {setting} {taken} {rest} {next} x text more kind e h = record {
   rest = rest ++ more;
-  converses = record {
-    messages = x.fed.messages;
-    division = subst (λ t. DividesInto (awaits first_state) t x.fed.messages (rest ++ more)) (sym e) (x.fed.division more);
-    answered = refl;
-  };
-  replied = x.fed.replied answers;
-  called = x.fed.called answers;
-  ended = subst (λ n. EndsWith n (rest ++ more) kind) (sym (x.fed.goes_on answers)) h;
+  next = next;
+  fed = subst (λ t. IsFed (core_rules setting) first_state t (rest ++ more) x.bytes x.called next) (sym e) (x.fed more);
+  ended = h;
 }
 
 grows_to : (w v : Option (List ℕ)) (sent bytes : List ℕ) (P : List ℕ → Type 0) → GrowsBy w v sent → sent ≡ bytes → P bytes → (replies : List ℕ) × GrowsBy w v replies × P replies
@@ -41,38 +36,38 @@ all_sent sent bytes e = sym (append-nil sent) ∙ e
 
 -- the run over the taken bytes, where one more read is needed
 pub run_of_taken : {setting : Setting} {s : SessionState} {taken rest : List ℕ} {w v : Option (List ℕ)} {k l : List DeskCall} (left new_left : Option (List ℕ))
-    → TakesFrom left new_left taken → (x : steps.IsServed setting first_state taken rest (Goes s) w v [] [] k l) → IsUnfinished (awaits s) rest → IsRunOfTaken setting left new_left w v x.called
+    → TakesFrom left new_left taken → (x : steps.IsServed (core_rules setting) first_state taken rest (Goes s) w v [] [] k l) → IsUnfinished (awaits s) rest → IsRunOfTaken setting left new_left w v x.called
 run_of_taken {setting} {s} {taken} {rest} {w} {v} left new_left t x short = (
   taken,
   t,
-  grows_to w v x.flows.sent x.bytes (λ replies. IsRun setting taken replies x.called end.InputEnd) x.flows.grown (all_sent x.flows.sent x.bytes x.flows.same)
+  grows_to w v x.flows.sent x.bytes (λ replies. IsRun (core_rules setting) first_state taken replies x.called end.InputEnd) x.flows.grown (all_sent x.flows.sent x.bytes x.flows.same)
       (is_run x taken [] end.InputEnd (sym (append-nil taken)) (subst (λ r. IsUnfinished (awaits s) r) (sym (append-nil rest)) short)),
 )
 
 -- the run over all bytes, where the conversation has ended whatever follows
-pub served_run : {setting : Setting} {taken rest : List ℕ} {next : Next} {w v : Option (List ℕ)} {k l : List DeskCall} (left new_left : Option (List ℕ)) (kind : EndKind)
-    → TakesFrom left new_left taken → (x : steps.IsServed setting first_state taken rest next w v [] [] k l) → ((more : List ℕ) → EndsWith next (rest ++ more) kind) → IsServedRun setting left w v x.called kind
+pub served_run : {setting : Setting} {taken rest : List ℕ} {next : Next SessionState} {w v : Option (List ℕ)} {k l : List DeskCall} (left new_left : Option (List ℕ)) (kind : EndKind)
+    → TakesFrom left new_left taken → (x : steps.IsServed (core_rules setting) first_state taken rest next w v [] [] k l) → ((more : List ℕ) → EndsWith awaits next (rest ++ more) kind) → IsServedRun setting left w v x.called kind
 served_run {setting} {taken} {w = w} {v = v} None new_left kind t x h = (
   taken,
   tt,
-  grows_to w v x.flows.sent x.bytes (λ replies. IsRun setting taken replies x.called kind) x.flows.grown (all_sent x.flows.sent x.bytes x.flows.same)
+  grows_to w v x.flows.sent x.bytes (λ replies. IsRun (core_rules setting) first_state taken replies x.called kind) x.flows.grown (all_sent x.flows.sent x.bytes x.flows.same)
       (is_run x taken [] kind (sym (append-nil taken)) (h [])),
 )
 served_run {setting} {w = w} {v = v} (Some text) new_left kind t x h = (
   text,
   refl,
-  grows_to w v x.flows.sent x.bytes (λ replies. IsRun setting text replies x.called kind) x.flows.grown (all_sent x.flows.sent x.bytes x.flows.same)
+  grows_to w v x.flows.sent x.bytes (λ replies. IsRun (core_rules setting) first_state text replies x.called kind) x.flows.grown (all_sent x.flows.sent x.bytes x.flows.same)
       (is_run x text t.0 kind t.1 (h t.0)),
 )
 
 -- the same where the end of the input was read
 pub ended_run : {setting : Setting} {s : SessionState} {taken rest : List ℕ} {w v : Option (List ℕ)} {k l : List DeskCall} (left mid new_left : Option (List ℕ)) (n : ℕ) (into : List ℕ)
     → TakesFrom left mid taken → IfSome mid (λ bytes. GivesFront n into bytes new_left) → n ≡ 0
-    → (x : steps.IsServed setting first_state taken rest (Goes s) w v [] [] k l) → IsUnfinished (awaits s) rest → IsServedRun setting left w v x.called end.InputEnd
+    → (x : steps.IsServed (core_rules setting) first_state taken rest (Goes s) w v [] [] k l) → IsUnfinished (awaits s) rest → IsServedRun setting left w v x.called end.InputEnd
 ended_run {setting} {s} {taken} {rest} {w} {v} None mid new_left n into t g z x short = (
   taken,
   tt,
-  grows_to w v x.flows.sent x.bytes (λ replies. IsRun setting taken replies x.called end.InputEnd) x.flows.grown (all_sent x.flows.sent x.bytes x.flows.same)
+  grows_to w v x.flows.sent x.bytes (λ replies. IsRun (core_rules setting) first_state taken replies x.called end.InputEnd) x.flows.grown (all_sent x.flows.sent x.bytes x.flows.same)
       (is_run x taken [] end.InputEnd (sym (append-nil taken)) (subst (λ r. IsUnfinished (awaits s) r) (sym (append-nil rest)) short)),
 )
 ended_run {setting} {s} {taken} {rest} {w} {v} (Some text) mid new_left n into t g z x short =
@@ -80,7 +75,7 @@ ended_run {setting} {s} {taken} {rest} {w} {v} (Some text) mid new_left n into t
     let all : text ≡ taken ++ [] = t.1 ∙ ap (λ l. taken ++ l) (given.at_end z) in (
       text,
       refl,
-      grows_to w v x.flows.sent x.bytes (λ replies. IsRun setting text replies x.called end.InputEnd) x.flows.grown (all_sent x.flows.sent x.bytes x.flows.same)
+      grows_to w v x.flows.sent x.bytes (λ replies. IsRun (core_rules setting) first_state text replies x.called end.InputEnd) x.flows.grown (all_sent x.flows.sent x.bytes x.flows.same)
           (is_run x text [] end.InputEnd all (subst (λ r. IsUnfinished (awaits s) r) (sym (append-nil rest)) short)),
     )
 
@@ -101,20 +96,18 @@ cut_grows (Some x) v bytes P g p = (g.0, g.2, p g.0 g.1)
 
 -- a front of the run over the taken bytes
 pub cut_run_of_taken : {setting : Setting} {taken : List ℕ} {w v : Option (List ℕ)} {k l : List DeskCall} (left new_left : Option (List ℕ)) → TakesFrom left new_left taken
-    → (x : steps.IsCutOff setting first_state taken w v [] k l) → IsCutRunOfTaken setting left new_left w v x.grown.front
-cut_run_of_taken {setting} {taken} {w} {v} left new_left t x = let answers = answers_of x.grown.front in (
+    → (x : steps.IsCutOff (core_rules setting) first_state taken w v [] k l) → IsCutRunOfTaken setting left new_left w v x.made
+cut_run_of_taken {setting} {taken} {w} {v} left new_left t x = (
   taken,
   t,
-  cut_grows w v x.bytes (λ front. IsCutRun setting taken front x.grown.front) x.cut (λ front begins. record {
-    given = conversation setting answers first_state x.fed.messages;
-    rest = x.rest ++ [];
-    converses = record {
-      messages = x.fed.messages;
-      division = subst (λ t. DividesInto (awaits first_state) t x.fed.messages (x.rest ++ [])) (append-nil taken) (x.fed.division []);
-      answered = refl;
-    };
-    replied = subst (λ b. BeginsWith b front) (x.fed.replied answers) begins;
-    called = subst (λ c. BeginsWith c x.grown.front) (x.fed.called answers) x.grown.begins;
+  cut_grows w v (replies_bytes x.given.replies) (λ front. IsCutRun (core_rules setting) first_state taken front x.made) x.cut (λ front begins. record {
+    messages = x.messages;
+    rest = x.rest;
+    given = x.given;
+    division = x.division;
+    answered = sym x.answered;
+    replied = begins;
+    called = x.front;
   }),
 )
 
@@ -135,15 +128,17 @@ takes_none (Some text) = (text, refl, refl)
 pub cut_at_start : (setting : Setting) (left w : Option (List ℕ)) → IsCutRunOfTaken setting left left w w []
 cut_at_start setting left w = ([], takes_none left, at w)
   where
-    empty : IsCutRun setting [] [] []
+    empty : IsCutRun (core_rules setting) first_state [] [] []
     empty = record {
-        given = conversation setting [] first_state [];
-        rest = [];
-        converses = record { messages = []; division = refl; answered = refl };
-        replied = ([], refl);
-        called = ([], refl);
-      }
-    at : (o : Option (List ℕ)) → (front : List ℕ) × GrowsBy o o front × IsCutRun setting [] front []
+      messages = [];
+      rest = [];
+      given = record { replies = []; calls = []; next = Goes first_state };
+      division = refl;
+      answered = refl;
+      replied = ([], refl);
+      called = ([], refl);
+    }
+    at : (o : Option (List ℕ)) → (front : List ℕ) × GrowsBy o o front × IsCutRun (core_rules setting) first_state [] front []
     at None = ([], tt, empty)
     at (Some x) = (
       [],
@@ -152,16 +147,16 @@ cut_at_start setting left w = ([], takes_none left, at w)
     )
 
 -- the same in an equal setting
-pub serves_in : {a b : Setting} {s : SessionState} {text rest : List ℕ} {next : Next} {w v : Option (List ℕ)} {o q : List ℕ} {k l : List DeskCall} → a ≡ b
-    → steps.IsServed a s text rest next w v o q k l → steps.IsServed b s text rest next w v o q k l
-serves_in {s = s} {text = text} {rest = rest} {next = next} {w = w} {v = v} {o = o} {q = q} {k = k} {l = l} e x = subst (λ c. steps.IsServed c s text rest next w v o q k l) e x
+pub serves_in : {a b : Setting} {s : SessionState} {text rest : List ℕ} {next : Next SessionState} {w v : Option (List ℕ)} {o q : List ℕ} {k l : List DeskCall} → a ≡ b
+    → steps.IsServed (core_rules a) s text rest next w v o q k l → steps.IsServed (core_rules b) s text rest next w v o q k l
+serves_in {s = s} {text = text} {rest = rest} {next = next} {w = w} {v = v} {o = o} {q = q} {k = k} {l = l} e x = subst (λ c. steps.IsServed (core_rules c) s text rest next w v o q k l) e x
 
-pub cut_in : {a b : Setting} {s : SessionState} {text : List ℕ} {w v : Option (List ℕ)} {o : List ℕ} {k l : List DeskCall} → a ≡ b → steps.IsCutOff a s text w v o k l → steps.IsCutOff b s text w v o k l
-cut_in {s = s} {text = text} {w = w} {v = v} {o = o} {k = k} {l = l} e x = subst (λ c. steps.IsCutOff c s text w v o k l) e x
+pub cut_in : {a b : Setting} {s : SessionState} {text : List ℕ} {w v : Option (List ℕ)} {o : List ℕ} {k l : List DeskCall} → a ≡ b → steps.IsCutOff (core_rules a) s text w v o k l → steps.IsCutOff (core_rules b) s text w v o k l
+cut_in {s = s} {text = text} {w = w} {v = v} {o = o} {k = k} {l = l} e x = subst (λ c. steps.IsCutOff (core_rules c) s text w v o k l) e x
 
-pub goes_to : {setting : Setting} {s t : SessionState} {text rest : List ℕ} {next : Next} {w v : Option (List ℕ)} {o q : List ℕ} {k l : List DeskCall} → next ≡ Goes t
-    → steps.IsServed setting s text rest next w v o q k l → steps.IsServed setting s text rest (Goes t) w v o q k l
-goes_to {setting} {s} {t} {text} {rest} {next} {w} {v} {o} {q} {k} {l} e x = subst (λ n. steps.IsServed setting s text rest n w v o q k l) e x
+pub goes_to : {setting : Setting} {s t : SessionState} {text rest : List ℕ} {next : Next SessionState} {w v : Option (List ℕ)} {o q : List ℕ} {k l : List DeskCall} → next ≡ Goes t
+    → steps.IsServed (core_rules setting) s text rest next w v o q k l → steps.IsServed (core_rules setting) s text rest (Goes t) w v o q k l
+goes_to {setting} {s} {t} {text} {rest} {next} {w} {v} {o} {q} {k} {l} e x = subst (λ n. steps.IsServed (core_rules setting) s text rest n w v o q k l) e x
 
 -- a read that gave a byte counts
 pub counted_more : (n r new_r first spent limit : ℕ) → new_r ≡ (if n == 0 then r else min (r + 1) 18446744073709551615) → n ≢ 0 → r ≡ first + spent → spent < limit → first + limit < 2 ^ 64 → new_r ≡ first + (spent + 1)

@@ -3,11 +3,12 @@ use Rattle.std.specs.Prelude.{ℕ, ℤ, Bool, false, List, [], ◌++◌, ◌∷�
 use Rattle.std.specs.List.{AllByRecursion}
 use Rattle.pg_session.specs.declared.desk.DeskCall.{DeskCall}
 use Rattle.pg_session.specs.declared.ends.EndKind.{EndKind}
-use Rattle.pg_session.specs.declared.ends.EndKind.TheVariants.{Terminate, InputEnd, BadFrame}
+use Rattle.pg_session.specs.declared.ends.EndKind.TheVariants.{Terminate, InputEnd, BadFrame, Fatal, CancelServed}
 use Rattle.pg_session.specs.declared.ends.ServeError.{ServeError}
 use Rattle.pg_session.specs.declared.ends.ServeError.TheVariants.{ReadFault, WriteFault, TurnLimit, NoMemory}
-use Rattle.pg_session.specs.Conversation.{Setting}
-use Rattle.pg_session.specs.Run.{IsRun, IsCutRun, answers_of}
+use Rattle.pg_session.specs.Answer.{answers_of}
+use Rattle.pg_session.specs.Conversation.{Setting, core_rules, first_state}
+use Rattle.pg_session.specs.Run.{IsRun, IsCutRun}
 use Rattle.pg_session.specs.Steps.{setting_of}
 use Rattle.pg_session.specs.Streams.{GrowsBy, GrowsByFront, HasRisen}
 use Rattle.relation_server.specs.declared.table.Relation.{Relation}
@@ -30,7 +31,9 @@ turns_of_a_client = 1000000000
 abbrev pub status_of : Result EndKind ServeError → ℕ
 status_of (Ok Terminate) = 0
 status_of (Ok InputEnd) = 0
+status_of (Ok CancelServed) = 0
 status_of (Ok BadFrame) = 10
+status_of (Ok Fatal) = 11
 status_of (Err ReadFault) = 4
 status_of (Err WriteFault) = 5
 status_of (Err TurnLimit) = 6
@@ -44,7 +47,9 @@ line text = text ++ 10 ∷ []
 abbrev pub line_of : Result EndKind ServeError → List ℕ
 line_of (Ok Terminate) = []
 line_of (Ok InputEnd) = []
+line_of (Ok CancelServed) = []
 line_of (Ok BadFrame) = line (codes "bad frame")
+line_of (Ok Fatal) = line (codes "fatal")
 line_of (Err ReadFault) = line (codes "read fault")
 line_of (Err WriteFault) = line (codes "write fault")
 line_of (Err TurnLimit) = line (codes "turn limit")
@@ -65,7 +70,7 @@ IsReported status text ended old new faults new_faults =
 -- The client's bytes are those that the source had to give, where it tells them.
 abbrev pub IsServedRun : Setting → Option (List ℕ) → Option (List ℕ) → Option (List ℕ) → List DeskCall → EndKind → Type 0
 IsServedRun setting left old new calls kind = (text : List ℕ) × IfSome left (λ bytes. text ≡ bytes)
-    × ((replies : List ℕ) × GrowsBy old new replies × IsRun setting text replies calls kind)
+    × ((replies : List ℕ) × GrowsBy old new replies × IsRun (core_rules setting) first_state text replies calls kind)
 
 -- These bytes were taken from those that a source had to give.
 abbrev pub TakesFrom : Option (List ℕ) → Option (List ℕ) → List ℕ → Type 0
@@ -74,12 +79,12 @@ TakesFrom left new_left taken = IfSome left (λ text. (rest : List ℕ) × (text
 -- What was written has grown by the whole answer to the taken bytes, which end where one more read was needed.
 abbrev pub IsRunOfTaken : Setting → Option (List ℕ) → Option (List ℕ) → Option (List ℕ) → Option (List ℕ) → List DeskCall → Type 0
 IsRunOfTaken setting left new_left old new calls = (taken : List ℕ) × TakesFrom left new_left taken
-    × ((replies : List ℕ) × GrowsBy old new replies × IsRun setting taken replies calls InputEnd)
+    × ((replies : List ℕ) × GrowsBy old new replies × IsRun (core_rules setting) first_state taken replies calls InputEnd)
 
 -- What was written has grown by a front of the answer to the taken bytes, and the calls are a front of the answer's.
 abbrev pub IsCutRunOfTaken : Setting → Option (List ℕ) → Option (List ℕ) → Option (List ℕ) → Option (List ℕ) → List DeskCall → Type 0
 IsCutRunOfTaken setting left new_left old new calls = (taken : List ℕ) × TakesFrom left new_left taken
-    × ((front : List ℕ) × GrowsBy old new front × IsCutRun setting taken front calls)
+    × ((front : List ℕ) × GrowsBy old new front × IsCutRun (core_rules setting) first_state taken front calls)
 
 -- What was written and called by the answer: the run over all client bytes where it is an end; the run over the taken bytes where one more
 -- read was needed; a front of it where a write failed or memory ran out.
@@ -103,8 +108,7 @@ counts_of reads read_faults write_faults source sink = record { reads = reads so
 -- the turn that reads the end of the input
 abbrev pub end_turn : EndKind → ℕ
 end_turn InputEnd = 1
-end_turn Terminate = 0
-end_turn BadFrame = 0
+end_turn _ = 0
 
 -- Why a conversation came to an end or was given up: within the turns; a fault only where its count has risen; the turns only where as many
 -- reads gave a byte, and one more was needed. The turns speak of reads whose count doesn't come to its end.

@@ -4,7 +4,7 @@ use Rattle.std.specs.List.{flat_map}
 use Rattle.pg_interval.specs.declared.pg_interval.Interval.{Interval}
 use Rattle.pg_interval.specs.Cell.{interval_cell}
 use Rattle.pg_messages.specs.Fields.{count32}
-use Rattle.pg_messages.specs.declared.backend.DataRow.{DataRow}
+use Rattle.pg_messages.specs.declared.data.DataRow.{DataRow}
 use Rattle.relation_server.specs.declared.table.Relation.{Relation}
 
 -- a binary value of a row: Int32 16, and the sixteen bytes of the interval

@@ -11,8 +11,9 @@ pub fn status(answer: Result<EndKind, ServeError>) -> u8
     ensures { result ≡ status_of answer }
 {
     match answer {
-        Ok(EndKind::Terminate) | Ok(EndKind::InputEnd) => 0,
+        Ok(EndKind::Terminate) | Ok(EndKind::InputEnd) | Ok(EndKind::CancelServed) => 0,
         Ok(EndKind::BadFrame) => 10,
+        Ok(EndKind::Fatal) => 11,
         Err(ServeError::ReadFault) => 4,
         Err(ServeError::WriteFault) => 5,
         Err(ServeError::TurnLimit) => 6,
@@ -25,8 +26,9 @@ pub fn line(answer: Result<EndKind, ServeError>) -> &'static str
     ensures { result.now ≡ line_of answer }
 {
     match answer {
-        Ok(EndKind::Terminate) | Ok(EndKind::InputEnd) => "",
+        Ok(EndKind::Terminate) | Ok(EndKind::InputEnd) | Ok(EndKind::CancelServed) => "",
         Ok(EndKind::BadFrame) => "bad frame\n",
+        Ok(EndKind::Fatal) => "fatal\n",
         Err(ServeError::ReadFault) => "read fault\n",
         Err(ServeError::WriteFault) => "write fault\n",
         Err(ServeError::TurnLimit) => "turn limit\n",

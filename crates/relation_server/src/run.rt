@@ -23,9 +23,9 @@ const USAGE: u8 = 2;
 /// bytes, and the replies go to `out`. PID is 1 to 2147483647 in decimal, without a sign or a leading zero, and KEY
 /// eight hexadecimal digits of either case.
 ///
-/// The status is 0 where the client sent Terminate or its input ended, 2 where the words are others, 4 where a read
-/// failed, 5 where a write failed, 6 where the turns were spent, 7 where memory ran out, 10 at a bad frame. Each but
-/// 0 is told by a line on `err`. A write to `err` that fails changes no status; where it finds no memory, the
+/// The status is 0 where the client sent Terminate or a CancelRequest or its input ended, 2 where the words are
+/// others, 4 where a read failed, 5 where a write failed, 6 where the turns were spent, 7 where memory ran out, 10 at
+/// a bad frame, 11 at a fatal error. Each but 0 is told by a line on `err`. A write to `err` that fails changes no status; where it finds no memory, the
 /// status is 7.
 pub fn run_rows<S: Source, K: Sink, E: Sink>(
     alloc: Global,

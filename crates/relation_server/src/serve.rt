@@ -2,8 +2,8 @@ ghost use Rattle.std.specs.Prelude.{◌≡◌, ◌++◌, ◌≤◌, ◌<◌, Lis
 ghost use Rattle.std.specs.Arc.{arc_value};
 ghost use Rattle.pg_messages.specs.Frames.{IsUnfinished};
 ghost use Rattle.pg_session.specs.declared.desk.DeskCall.{DeskCall};
-ghost use Rattle.pg_session.specs.Conversation.{Goes, first_state};
-ghost use Rattle.pg_session.specs.Run.{awaits};
+ghost use Rattle.pg_session.specs.Answer.{Goes};
+ghost use Rattle.pg_session.specs.Conversation.{awaits, core_rules, first_state};
 ghost use Rattle.pg_session.specs.Session.{is_open, host_of, setting, state_of, unread};
 ghost use Rattle.pg_session.specs.Steps.{IsServed, setting_of, host_setting};
 ghost use Rattle.relation_server.specs.Program.{OwesNoPoll, table_setting, WentSo, HasCause, counts_of};
@@ -78,7 +78,7 @@ fn serve_session<H: FirstRows + Drop, D: CancelDesk, S: Source, K: Sink>(
     buffer: &mut [u8],
 ) -> Result<EndKind, ServeError>
     requires open { is_open session.old ≡ true }
-    requires so_far { IsServed (setting session.old)
+    requires so_far { IsServed (core_rules (setting session.old))
         first_state [] (unread session.old) (Goes (state_of session.old)) (K.written sink.old) (K.written sink.old) [] [] (D.calls desk.old) (D.calls desk.old) }
     requires short { IsUnfinished (awaits (state_of session.old)) (unread session.old) }
     requires fresh { turns.old.spent ≡ 0 }

@@ -1,5 +1,5 @@
 use Rattle.std.proofs.Common.{◌≡◌, ◌∙◌, ◌++◌, [], ap, subst, rules}
-use Rattle.pg_session.specs.Run.{answers_of}
+use Rattle.pg_session.specs.Answer.{answers_of}
 use Rattle.pg_session.specs.Script.{registration_of, origin_of}
 use Rattle.relation_server.specs.BuiltIn.{built_in}
 use Rattle.relation_server.specs.Program.{AreNo, WentSo, table_setting}

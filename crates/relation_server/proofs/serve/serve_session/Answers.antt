@@ -1,6 +1,6 @@
 use Rattle.std.proofs.Common.{◌≡◌, ◌<◌, ◌+◌, ◌++◌, ◌∙◌, refl, sym, ap, subst, arith, Ok, Err}
 use Rattle.std.specs.Arc.{arc_value}
-use Rattle.pg_session.specs.Conversation.{first_state}
+use Rattle.pg_session.specs.Conversation.{awaits, first_state}
 use Rattle.pg_session.specs.Steps.{Stands, setting_of, host_setting}
 use Rattle.relation_server.specs.Program.{TakesFrom}
 use Rattle.relation_server.proofs.Serving.{run_of_taken, served_run, ended_run, takes_more, cut_run_of_taken, went_by_fault, serves_in, cut_in, goes_to, counted_more}
@@ -34,7 +34,7 @@ turns-preserved g c =
     let i = c.turns.invariant in
     let same_setting = ap (λ h. host_setting g.H.FirstRows.relation_of g.H.FirstRows.rows_of h) i.host in
     let fed = c.in-Ok-More.ensures.continues first_state i.taken (g.K.Sink.written c.args.sink.now) (g.D.CancelDesk.calls c.args.desk.now) (serves_in (sym same_setting) i.served) in
-    let stands = subst (λ o. Stands fed.0 c.feed.new.self.dialog.state c.feed.new.self.dialog.rest.items o) c.in-Ok-More.field-0-is fed.2 in
+    let stands = subst (λ o. Stands awaits fed.0 c.feed.new.self.dialog.state c.feed.new.self.dialog.rest.items o) c.in-Ok-More.field-0-is fed.2 in
     let spent_is : c.feed.new.turns.spent ≡ c.turns.turns.spent + 1 = ap (λ t. t.spent) c.in-Ok-More.ensures.turns ∙ c.if-not-spend.ensures.spent in
     let limit_is : c.feed.new.turns.limit ≡ c.turns.turns.limit = ap (λ t. t.limit) c.in-Ok-More.ensures.turns ∙ c.if-not-spend.ensures.limit in
     let below : c.turns.turns.spent < c.turns.turns.limit = c.if-not-spend.ensures.left.0 refl in
@@ -62,7 +62,7 @@ returns-in-Ok-Ended-clause-went g c =
     let i = c.turns.invariant in
     let same_setting = ap (λ h. host_setting g.H.FirstRows.relation_of g.H.FirstRows.rows_of h) i.host in
     let fed = c.in-Ok-Ended.ensures.continues first_state i.taken (g.K.Sink.written c.args.sink.now) (g.D.CancelDesk.calls c.args.desk.now) (serves_in (sym same_setting) i.served) in
-    let stands = subst (λ o. Stands fed.0 c.feed.new.self.dialog.state c.feed.new.self.dialog.rest.items o) c.in-Ok-Ended.field-0-is fed.2 in
+    let stands = subst (λ o. Stands awaits fed.0 c.feed.new.self.dialog.state c.feed.new.self.dialog.rest.items o) c.in-Ok-Ended.field-0-is fed.2 in
     let takes = subst (λ p. TakesFrom (g.S.Source.left c.args.source.now) (g.S.Source.left c.receive.new.self) (i.taken ++ p)) (sym c.front_of.ensures)
     (takes_more (g.S.Source.left c.args.source.now) (g.S.Source.left c.turns.source) (g.S.Source.left c.receive.new.self) i.taken c.in-Ok.n c.receive.new.into i.takes c.in-Ok.ensures.bytes) in
     let x = serves_in same_setting fed.1 in
@@ -76,8 +76,8 @@ returns-in-Err-clause-went g c =
     let takes = subst (λ p. TakesFrom (g.S.Source.left c.args.source.now) (g.S.Source.left c.receive.new.self) (i.taken ++ p)) (sym c.front_of.ensures)
     (takes_more (g.S.Source.left c.args.source.now) (g.S.Source.left c.turns.source) (g.S.Source.left c.receive.new.self) i.taken c.in-Ok.n c.receive.new.into i.takes c.in-Ok.ensures.bytes) in
     let x = cut_in same_setting cut in (
-      x.grown.front,
-      x.grown.grown,
+      x.made,
+      x.grown,
       went_by_fault _ c.in-Err.error _ _ _ _ _ (λ q. c.in-Err.ensures.cause.no_read_fault (ap Err q)) (λ q. c.in-Err.ensures.cause.no_turn_limit (ap Err q))
           (cut_run_of_taken (g.S.Source.left c.args.source.now) (g.S.Source.left c.receive.new.self) takes x),
     )

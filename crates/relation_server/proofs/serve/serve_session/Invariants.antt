@@ -1,8 +1,8 @@
 use Rattle.std.proofs.Common.{◌≡◌, ◌≤◌, ◌<◌, ◌+◌, ◌-◌, ◌^◌, List, ℕ, [], true, length}
 use Rattle.std.specs.Arc.{arc_value}
 use Rattle.pg_messages.specs.Frames.{IsUnfinished}
-use Rattle.pg_session.specs.Conversation.{Goes, first_state}
-use Rattle.pg_session.specs.Run.{awaits}
+use Rattle.pg_session.specs.Answer.{Goes}
+use Rattle.pg_session.specs.Conversation.{awaits, core_rules, first_state}
 use Rattle.pg_session.specs.Steps.{IsServed, setting_of, host_setting}
 use Rattle.relation_server.specs.Program.{TakesFrom}
 use Rattle.relation_server.proofs.serve.serve_session.Given as goal
@@ -12,7 +12,7 @@ abbrev pub invariant-turns : goal.invariant-turns
 invariant-turns g l = record {
   taken : List ℕ;
   takes : TakesFrom (g.S.Source.left l.fn.source) (g.S.Source.left l.source) taken;
-  served : IsServed (host_setting g.H.FirstRows.relation_of g.H.FirstRows.rows_of l.fn.session.host)
+  served : IsServed (core_rules (host_setting g.H.FirstRows.relation_of g.H.FirstRows.rows_of l.fn.session.host))
       first_state taken l.session.dialog.rest.items (Goes l.session.dialog.state) (g.K.Sink.written l.fn.sink) (g.K.Sink.written l.sink) [] [] (g.D.CancelDesk.calls l.fn.desk) (g.D.CancelDesk.calls l.desk);
   short : IsUnfinished (awaits l.session.dialog.state) l.session.dialog.rest.items;
   opened : l.session.opened ≡ true;

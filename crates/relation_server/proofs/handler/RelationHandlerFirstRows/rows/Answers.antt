@@ -1,7 +1,7 @@
 use Rattle.std.proofs.Common.{◌≡◌, ◌≤◌, ◌<◌, ℕ, List, [], Some, refl, map, length, get_or, slice_get, ap, sym, subst, ◌∙◌, nat_le}
 use Rattle.std.specs.List.{list_all}
 use Rattle.std.proofs.lemmas.Result.{IfOk-weaker}
-use Rattle.pg_messages.specs.declared.backend.DataRow.{DataRow}
+use Rattle.pg_messages.specs.declared.data.DataRow.{DataRow}
 use Rattle.relation_server.specs.declared.table.Relation.{Relation}
 use Rattle.relation_server.specs.Tables.{is_column_name, IsValid}
 use Rattle.relation_server.specs.Rows.{binary_row, binary_rows, rows_of}
