@@ -3,6 +3,6 @@ pub mod Loops
 pub mod Laws
 pub mod FieldLaws
 pub mod MessageLaws
+pub mod KindLaws
 pub mod FrameLaws
 pub mod OneReading
-pub mod NoZero

@@ -1,12 +1,13 @@
+//! Frames of a client taken off a buffer, and replies put behind one.
+
 ghost use Rattle.std.specs.Prelude.{◌≡◌, ◌++◌, ℕ, List, true, IfOk, OnOk, OnErr, IfSome, IfNone, MatchOption, IsErrOf};
 ghost use Rattle.pg_messages.specs.Frames.{IsFrame, IsUnfinished, IsBad, context_after};
 ghost use Rattle.pg_messages.specs.Replies.{IsEncodable, reply_bytes};
 ghost use Rattle.pg_messages.specs.declared.codec.ProtocolVersion.TheVariants.{PROTOCOL3_0};
 
-use crate::backend::PgWireBackendMessage;
+use crate::backend::{PgWireBackendMessage, is_one_byte, put_body, type_byte};
 use crate::frames::first_frame;
 use crate::frontend::PgWireFrontendMessage;
-use crate::writing::{body_len, put_body, type_byte};
 use bytes::BytesMut;
 use std::alloc::{AllocError, Global};
 
@@ -120,7 +121,12 @@ impl PgWireMessageServerCodec {
         ensures err { OnErr result (dst.new.items ≡ dst.old.items) }
         ensures context { self.new ≡ self.old }
     {
-        let len = body_len(item);
+        if is_one_byte(item) {
+            dst.reserve(1)?;
+            dst.extend_reserved(&[type_byte(item)]);
+            return Ok(());
+        }
+        let len = item.body_len() as usize;
         dst.reserve(len + 5)?;
         dst.extend_reserved(&[type_byte(item)]);
         dst.extend_reserved(&(len as u32 + 4).to_be_bytes());

@@ -1,4 +1,5 @@
-// Laws of frames. Each function takes nothing and does nothing: its contract is the law.
+//! Laws of frames. Each function takes nothing and does nothing: its contract is the law.
+
 ghost use Rattle.std.specs.Prelude.{◌≡◌, ◌++◌, List, ℕ, Bool, ◌⊎◌};
 ghost use Rattle.pg_messages.specs.declared.frontend.PgWireFrontendMessage.{PgWireFrontendMessage};
 ghost use Rattle.pg_messages.specs.Frames.{IsFrame, IsUnfinished, IsBad, DividesInto, awaits_startup_after_all};
@@ -41,4 +42,12 @@ pub fn more_bytes_keep_frames()
     ensures { (ms : List PgWireFrontendMessage) (awaiting : Bool) (text rest more : List ℕ)
         → DividesInto awaiting text ms rest
         → DividesInto awaiting (text ++ more) ms (rest ++ more) }
+{}
+
+/// Each text has a division: frames, and a rest that is unfinished or bad.
+pub fn has_division()
+    ensures { (awaiting : Bool) (text : List ℕ)
+        → (ms : List PgWireFrontendMessage) × (rest : List ℕ) × DividesInto awaiting text ms rest
+        × (IsUnfinished (awaits_startup_after_all ms awaiting) rest
+        ⊎ IsBad (awaits_startup_after_all ms awaiting) rest) }
 {}

@@ -2,7 +2,7 @@ use Rattle.std.proofs.Common.{length}
 use Rattle.std.proofs.lemmas.Result.{err_from_is_err_and}
 use Rattle.pg_messages.specs.Reading.{all_parameters_at}
 use Rattle.pg_messages.proofs.Loops.{pairs-go_on, pairs-fail, pairs-end, pairs-lack}
-use Rattle.pg_messages.proofs.bodies.parameters.Goals as goal
+use Rattle.pg_messages.proofs.startup.parameters.Goals as goal
 
 pub returns-in-Some : goal.returns-in-Some
 returns-in-Some c = pairs-end c.loop.parameters (length c.args.bytes.now) c.loop.counter c.loop.rest.now c.in-Some.after.now (all_parameters_at c.args.bytes.now) c.loop-test.true c.in-Some.ensures c.loop.invariant
