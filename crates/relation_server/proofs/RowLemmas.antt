@@ -20,6 +20,7 @@ length-payload (i ∷ row) = length-append (binary_value i) (flat_map binary_val
 pub IsEncodable-row : (row : List Interval) → length row ≤ 1600 → IsEncodable (server.DataRow (binary_row row))
 IsEncodable-row row narrow = record {
   body = let e = length-append (int16 (pos (length row))) (flat_map binary_value row) in let p = length-payload row in omega arith;
+  counts = (omega arith, tt);
   texts = tt;
 }
 

@@ -19,9 +19,9 @@ use Rattle.pg_session.specs.Steps as steps
 use Rattle.relation_server.specs.Program.{TakesFrom, IsServedRun, IsRunOfTaken, IsCutRunOfTaken, WentSo}
 
 -- what was served is a run over a text that begins with it
-is_run : {setting : Setting} {taken rest : List ℕ} {next : Next SessionState} {w v : Option (List ℕ)} {k l : List DeskCall} (x : steps.IsServed (core_rules setting) first_state taken rest next w v [] [] k l)
+is_run : (setting : Setting) {taken rest : List ℕ} {next : Next SessionState} {w v : Option (List ℕ)} {k l : List DeskCall} (x : steps.IsServed (core_rules setting) first_state taken rest next w v [] [] k l)
     (text more : List ℕ) (kind : EndKind) → text ≡ taken ++ more → EndsWith awaits next (rest ++ more) kind → IsRun (core_rules setting) first_state text x.bytes x.called kind
-is_run {setting} {taken} {rest} {next} x text more kind e h = record {
+is_run setting {taken} {rest} {next} x text more kind e h = record {
   rest = rest ++ more;
   next = next;
   fed = subst (λ t. IsFed (core_rules setting) first_state t (rest ++ more) x.bytes x.called next) (sym e) (x.fed more);
@@ -35,48 +35,48 @@ all_sent : (sent bytes : List ℕ) → sent ++ [] ≡ [] ++ bytes → sent ≡ b
 all_sent sent bytes e = sym (append-nil sent) ∙ e
 
 -- the run over the taken bytes, where one more read is needed
-pub run_of_taken : {setting : Setting} {s : SessionState} {taken rest : List ℕ} {w v : Option (List ℕ)} {k l : List DeskCall} (left new_left : Option (List ℕ))
+pub run_of_taken : (setting : Setting) {s : SessionState} {taken rest : List ℕ} {w v : Option (List ℕ)} {k l : List DeskCall} (left new_left : Option (List ℕ))
     → TakesFrom left new_left taken → (x : steps.IsServed (core_rules setting) first_state taken rest (Goes s) w v [] [] k l) → IsUnfinished (awaits s) rest → IsRunOfTaken setting left new_left w v x.called
-run_of_taken {setting} {s} {taken} {rest} {w} {v} left new_left t x short = (
+run_of_taken setting {s} {taken} {rest} {w} {v} left new_left t x short = (
   taken,
   t,
   grows_to w v x.flows.sent x.bytes (λ replies. IsRun (core_rules setting) first_state taken replies x.called end.InputEnd) x.flows.grown (all_sent x.flows.sent x.bytes x.flows.same)
-      (is_run x taken [] end.InputEnd (sym (append-nil taken)) (subst (λ r. IsUnfinished (awaits s) r) (sym (append-nil rest)) short)),
+      (is_run setting x taken [] end.InputEnd (sym (append-nil taken)) (subst (λ r. IsUnfinished (awaits s) r) (sym (append-nil rest)) short)),
 )
 
 -- the run over all bytes, where the conversation has ended whatever follows
-pub served_run : {setting : Setting} {taken rest : List ℕ} {next : Next SessionState} {w v : Option (List ℕ)} {k l : List DeskCall} (left new_left : Option (List ℕ)) (kind : EndKind)
+pub served_run : (setting : Setting) {taken rest : List ℕ} {next : Next SessionState} {w v : Option (List ℕ)} {k l : List DeskCall} (left new_left : Option (List ℕ)) (kind : EndKind)
     → TakesFrom left new_left taken → (x : steps.IsServed (core_rules setting) first_state taken rest next w v [] [] k l) → ((more : List ℕ) → EndsWith awaits next (rest ++ more) kind) → IsServedRun setting left w v x.called kind
-served_run {setting} {taken} {w = w} {v = v} None new_left kind t x h = (
+served_run setting {taken} {w = w} {v = v} None new_left kind t x h = (
   taken,
   tt,
   grows_to w v x.flows.sent x.bytes (λ replies. IsRun (core_rules setting) first_state taken replies x.called kind) x.flows.grown (all_sent x.flows.sent x.bytes x.flows.same)
-      (is_run x taken [] kind (sym (append-nil taken)) (h [])),
+      (is_run setting x taken [] kind (sym (append-nil taken)) (h [])),
 )
-served_run {setting} {w = w} {v = v} (Some text) new_left kind t x h = (
+served_run setting {w = w} {v = v} (Some text) new_left kind t x h = (
   text,
   refl,
   grows_to w v x.flows.sent x.bytes (λ replies. IsRun (core_rules setting) first_state text replies x.called kind) x.flows.grown (all_sent x.flows.sent x.bytes x.flows.same)
-      (is_run x text t.0 kind t.1 (h t.0)),
+      (is_run setting x text t.0 kind t.1 (h t.0)),
 )
 
 -- the same where the end of the input was read
-pub ended_run : {setting : Setting} {s : SessionState} {taken rest : List ℕ} {w v : Option (List ℕ)} {k l : List DeskCall} (left mid new_left : Option (List ℕ)) (n : ℕ) (into : List ℕ)
+pub ended_run : (setting : Setting) {s : SessionState} {taken rest : List ℕ} {w v : Option (List ℕ)} {k l : List DeskCall} (left mid new_left : Option (List ℕ)) (n : ℕ) (into : List ℕ)
     → TakesFrom left mid taken → IfSome mid (λ bytes. GivesFront n into bytes new_left) → n ≡ 0
     → (x : steps.IsServed (core_rules setting) first_state taken rest (Goes s) w v [] [] k l) → IsUnfinished (awaits s) rest → IsServedRun setting left w v x.called end.InputEnd
-ended_run {setting} {s} {taken} {rest} {w} {v} None mid new_left n into t g z x short = (
+ended_run setting {s} {taken} {rest} {w} {v} None mid new_left n into t g z x short = (
   taken,
   tt,
   grows_to w v x.flows.sent x.bytes (λ replies. IsRun (core_rules setting) first_state taken replies x.called end.InputEnd) x.flows.grown (all_sent x.flows.sent x.bytes x.flows.same)
-      (is_run x taken [] end.InputEnd (sym (append-nil taken)) (subst (λ r. IsUnfinished (awaits s) r) (sym (append-nil rest)) short)),
+      (is_run setting x taken [] end.InputEnd (sym (append-nil taken)) (subst (λ r. IsUnfinished (awaits s) r) (sym (append-nil rest)) short)),
 )
-ended_run {setting} {s} {taken} {rest} {w} {v} (Some text) mid new_left n into t g z x short =
+ended_run setting {s} {taken} {rest} {w} {v} (Some text) mid new_left n into t g z x short =
     let given : GivesFront n into t.0 new_left = subst (λ o. IfSome o (λ bytes. GivesFront n into bytes new_left)) t.2 g in
     let all : text ≡ taken ++ [] = t.1 ∙ ap (λ l. taken ++ l) (given.at_end z) in (
       text,
       refl,
       grows_to w v x.flows.sent x.bytes (λ replies. IsRun (core_rules setting) first_state text replies x.called end.InputEnd) x.flows.grown (all_sent x.flows.sent x.bytes x.flows.same)
-          (is_run x text [] end.InputEnd all (subst (λ r. IsUnfinished (awaits s) r) (sym (append-nil rest)) short)),
+          (is_run setting x text [] end.InputEnd all (subst (λ r. IsUnfinished (awaits s) r) (sym (append-nil rest)) short)),
     )
 
 -- one more piece was taken
@@ -95,9 +95,9 @@ cut_grows None v bytes P g p = ([], tt, p [] (bytes, refl))
 cut_grows (Some x) v bytes P g p = (g.0, g.2, p g.0 g.1)
 
 -- a front of the run over the taken bytes
-pub cut_run_of_taken : {setting : Setting} {taken : List ℕ} {w v : Option (List ℕ)} {k l : List DeskCall} (left new_left : Option (List ℕ)) → TakesFrom left new_left taken
+pub cut_run_of_taken : (setting : Setting) {taken : List ℕ} {w v : Option (List ℕ)} {k l : List DeskCall} (left new_left : Option (List ℕ)) → TakesFrom left new_left taken
     → (x : steps.IsCutOff (core_rules setting) first_state taken w v [] k l) → IsCutRunOfTaken setting left new_left w v x.made
-cut_run_of_taken {setting} {taken} {w} {v} left new_left t x = (
+cut_run_of_taken setting {taken} {w} {v} left new_left t x = (
   taken,
   t,
   cut_grows w v (replies_bytes x.given.replies) (λ front. IsCutRun (core_rules setting) first_state taken front x.made) x.cut (λ front begins. record {
@@ -154,9 +154,9 @@ serves_in {s = s} {text = text} {rest = rest} {next = next} {w = w} {v = v} {o =
 pub cut_in : {a b : Setting} {s : SessionState} {text : List ℕ} {w v : Option (List ℕ)} {o : List ℕ} {k l : List DeskCall} → a ≡ b → steps.IsCutOff (core_rules a) s text w v o k l → steps.IsCutOff (core_rules b) s text w v o k l
 cut_in {s = s} {text = text} {w = w} {v = v} {o = o} {k = k} {l = l} e x = subst (λ c. steps.IsCutOff (core_rules c) s text w v o k l) e x
 
-pub goes_to : {setting : Setting} {s t : SessionState} {text rest : List ℕ} {next : Next SessionState} {w v : Option (List ℕ)} {o q : List ℕ} {k l : List DeskCall} → next ≡ Goes t
+pub goes_to : (setting : Setting) {s t : SessionState} {text rest : List ℕ} {next : Next SessionState} {w v : Option (List ℕ)} {o q : List ℕ} {k l : List DeskCall} → next ≡ Goes t
     → steps.IsServed (core_rules setting) s text rest next w v o q k l → steps.IsServed (core_rules setting) s text rest (Goes t) w v o q k l
-goes_to {setting} {s} {t} {text} {rest} {next} {w} {v} {o} {q} {k} {l} e x = subst (λ n. steps.IsServed (core_rules setting) s text rest n w v o q k l) e x
+goes_to setting {s} {t} {text} {rest} {next} {w} {v} {o} {q} {k} {l} e x = subst (λ n. steps.IsServed (core_rules setting) s text rest n w v o q k l) e x
 
 -- a read that gave a byte counts
 pub counted_more : (n r new_r first spent limit : ℕ) → new_r ≡ (if n == 0 then r else min (r + 1) 18446744073709551615) → n ≢ 0 → r ≡ first + spent → spent < limit → first + limit < 2 ^ 64 → new_r ≡ first + (spent + 1)

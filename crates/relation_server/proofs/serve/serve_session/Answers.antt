@@ -9,14 +9,14 @@ use Rattle.relation_server.proofs.serve.serve_session.Goals as goal
 pub returns-then-not-spend-clause-went : goal.returns-then-not-spend-clause-went
 returns-then-not-spend-clause-went g c =
     let i = c.turns.invariant in
-    (i.served.called, i.served.grown, run_of_taken (g.S.Source.left c.args.source.now) (g.S.Source.left c.turns.source) i.takes i.served i.short)
+    (i.served.called, i.served.grown, run_of_taken (host_setting g.H.FirstRows.relation_of g.H.FirstRows.rows_of c.args.session.now.host) (g.S.Source.left c.args.source.now) (g.S.Source.left c.turns.source) i.takes i.served i.short)
 
 pub returns-in_default-clause-went : goal.returns-in_default-clause-went
 returns-in_default-clause-went g c =
     let i = c.turns.invariant in (
       i.served.called,
       i.served.grown,
-      run_of_taken (g.S.Source.left c.args.source.now) (g.S.Source.left c.receive.new.self)
+      run_of_taken (host_setting g.H.FirstRows.relation_of g.H.FirstRows.rows_of c.args.session.now.host) (g.S.Source.left c.args.source.now) (g.S.Source.left c.receive.new.self)
           (subst (λ o. TakesFrom (g.S.Source.left c.args.source.now) o i.taken) (sym c.in_default.ensures.untouched) i.takes) i.served i.short,
     )
 
@@ -25,7 +25,7 @@ returns-then-n-eq0-clause-went g c =
     let i = c.turns.invariant in (
       i.served.called,
       i.served.grown,
-      ended_run (g.S.Source.left c.args.source.now) (g.S.Source.left c.turns.source) (g.S.Source.left c.receive.new.self) c.in-Ok.n c.receive.new.into
+      ended_run (host_setting g.H.FirstRows.relation_of g.H.FirstRows.rows_of c.args.session.now.host) (g.S.Source.left c.args.source.now) (g.S.Source.left c.turns.source) (g.S.Source.left c.receive.new.self) c.in-Ok.n c.receive.new.into
           i.takes c.in-Ok.ensures.bytes c.if-n-eq0.true i.served i.short,
     )
 
@@ -43,7 +43,7 @@ turns-preserved g c =
       taken = i.taken ++ c.front_of.result.now;
       takes = subst (λ p. TakesFrom (g.S.Source.left c.args.source.now) (g.S.Source.left c.receive.new.self) (i.taken ++ p)) (sym c.front_of.ensures)
           (takes_more (g.S.Source.left c.args.source.now) (g.S.Source.left c.turns.source) (g.S.Source.left c.receive.new.self) i.taken c.in-Ok.n c.receive.new.into i.takes c.in-Ok.ensures.bytes);
-      served = goes_to stands.0 (serves_in same_setting fed.1);
+      served = goes_to (host_setting g.H.FirstRows.relation_of g.H.FirstRows.rows_of c.args.session.now.host) stands.0 (serves_in same_setting fed.1);
       short = stands.1;
       opened = c.in-Ok-More.ensures.open.1 (ap Ok c.in-Ok-More.field-0-is);
       host = c.in-Ok-More.ensures.host ∙ i.host;
@@ -66,7 +66,7 @@ returns-in-Ok-Ended-clause-went g c =
     let takes = subst (λ p. TakesFrom (g.S.Source.left c.args.source.now) (g.S.Source.left c.receive.new.self) (i.taken ++ p)) (sym c.front_of.ensures)
     (takes_more (g.S.Source.left c.args.source.now) (g.S.Source.left c.turns.source) (g.S.Source.left c.receive.new.self) i.taken c.in-Ok.n c.receive.new.into i.takes c.in-Ok.ensures.bytes) in
     let x = serves_in same_setting fed.1 in
-    (x.called, x.grown, served_run (g.S.Source.left c.args.source.now) (g.S.Source.left c.receive.new.self) c.in-Ok-Ended.kind takes x stands.1)
+    (x.called, x.grown, served_run (host_setting g.H.FirstRows.relation_of g.H.FirstRows.rows_of c.args.session.now.host) (g.S.Source.left c.args.source.now) (g.S.Source.left c.receive.new.self) c.in-Ok-Ended.kind takes x stands.1)
 
 pub returns-in-Err-clause-went : goal.returns-in-Err-clause-went
 returns-in-Err-clause-went g c =
@@ -78,6 +78,6 @@ returns-in-Err-clause-went g c =
     let x = cut_in same_setting cut in (
       x.made,
       x.grown,
-      went_by_fault _ c.in-Err.error _ _ _ _ _ (λ q. c.in-Err.ensures.cause.no_read_fault (ap Err q)) (λ q. c.in-Err.ensures.cause.no_turn_limit (ap Err q))
-          (cut_run_of_taken (g.S.Source.left c.args.source.now) (g.S.Source.left c.receive.new.self) takes x),
+      went_by_fault (host_setting g.H.FirstRows.relation_of g.H.FirstRows.rows_of c.args.session.now.host) c.in-Err.error _ _ _ _ _ (λ q. c.in-Err.ensures.cause.no_read_fault (ap Err q)) (λ q. c.in-Err.ensures.cause.no_turn_limit (ap Err q))
+          (cut_run_of_taken (host_setting g.H.FirstRows.relation_of g.H.FirstRows.rows_of c.args.session.now.host) (g.S.Source.left c.args.source.now) (g.S.Source.left c.receive.new.self) takes x),
     )
