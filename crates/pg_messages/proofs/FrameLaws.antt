@@ -1,15 +1,13 @@
 -- A frame is its header, its kind and its body.
-use Rattle.std.proofs.Common.{◌≡◌, ℕ, zero, suc, ◌+◌, ◌-◌, ◌^◌, ◌<◌, ◌≤◌, Bool, true, false, List, [], ◌∷◌, ◌++◌, length, get_or, take, drop, Option, Some, None, refl, sym, ap, subst, ◌∙◌, append_assoc, arith, inl, inr}
-use Rattle.std.specs.Prelude.{IsErrOf, Ok, Err}
+use Rattle.std.proofs.Common.{◌≡◌, ℕ, zero, suc, ◌+◌, ◌^◌, ◌<◌, ◌≤◌, Bool, true, false, List, [], ◌∷◌, ◌++◌, length, get_or, take, drop, Some, sym, ap, subst, ◌∙◌, append_assoc, arith, inr}
+use Rattle.std.specs.Prelude.{IsErrOf, Err}
 use Rattle.std.specs.Int.{w32, from_be_bytes}
 use Rattle.std.specs.List.{AllByRecursion}
-use Rattle.std.proofs.lemmas.List.{take-append-drop, take-take, drop-take, drop-drop, length-drop, length-take-le, get_or-drop}
-use Rattle.std.proofs.lemmas.List.Elements.{recursion_from_All, All-from_recursion}
-use Rattle.std.proofs.lemmas.Bool.{cases_lt}
+use Rattle.std.proofs.lemmas.List.{take-append-drop, take-take, drop-drop, length-drop, length-take-le}
 use Rattle.std.proofs.lemmas.Nat.{be_bytes_4, from_be_bytes-to_be_bytes_4}
 use Rattle.pg_messages.specs.declared.frontend.PgWireFrontendMessage.{PgWireFrontendMessage}
 use Rattle.pg_messages.specs.Fields.{count32}
-use Rattle.pg_messages.specs.Frames.{Carries, frame_bytes, most_bytes, IsFrame, IsGoodHeader, IsBad, IsUnfinished, header_len, told_len}
+use Rattle.pg_messages.specs.Frames.{Carries, frame_bytes, most_bytes, IsFrame, IsGoodHeader, IsBad, header_len, told_len}
 use Rattle.pg_messages.proofs.Laws.{IsBytes, IsBytes-behind}
 use Rattle.pg_messages.proofs.FieldLaws.{IsBytes-take, wide32}
 use Rattle.pg_messages.specs.declared.codec.FrameError.{FrameError}

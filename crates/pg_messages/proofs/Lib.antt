@@ -6,3 +6,4 @@ pub mod MessageLaws
 pub mod KindLaws
 pub mod FrameLaws
 pub mod OneReading
+pub mod Texts

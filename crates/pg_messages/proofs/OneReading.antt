@@ -1,15 +1,14 @@
 -- A text begins with one frame at most, and has one division.
-use Rattle.std.proofs.Common.{◌≡◌, ℕ, zero, suc, ◌+◌, ◌^◌, ◌<◌, ◌≤◌, Bool, true, false, eqb, ltb, List, [], ◌∷◌, ◌++◌, length, get_or, take, drop, Option, Some, None, refl, sym, ap, subst, ◌∙◌, append_assoc, append-nil, arith, inl, inr, ◌⊎◌, Contains}
+use Rattle.std.proofs.Common.{◌≡◌, ℕ, zero, suc, ◌+◌, ◌^◌, ◌<◌, ◌≤◌, Bool, true, false, List, [], ◌∷◌, ◌++◌, length, get_or, take, drop, Option, Some, None, refl, sym, ap, subst, ◌∙◌, append_assoc, append-nil, arith, inl, inr, ◌⊎◌, Contains}
 use Rattle.std.specs.Int.{w32, from_be_bytes}
 use Rattle.std.specs.List.{AllByRecursion}
 use Rattle.std.proofs.lemmas.Bool.{cases_lt, cases_eq}
-use Rattle.std.proofs.lemmas.List.{take_at, take-append-drop, length-append, length-drop, length-take-le, append_cancel_left, take-append-le}
+use Rattle.std.proofs.lemmas.List.{take_at, take-append-drop, length-append, length-drop, append_cancel_left, take-append-le}
 use Rattle.std.proofs.lemmas.Nat.{from_be_bytes-to_be_bytes_4}
 use Rattle.pg_messages.specs.declared.frontend.PgWireFrontendMessage.{PgWireFrontendMessage}
-use Rattle.pg_messages.specs.Frames.{IsFrame, Carries, frame_bytes, IsUnfinished, IsGoodHeader, IsBad, DividesInto, awaits_startup_after, awaits_startup_after_all, header_len, told_len, type_bytes}
+use Rattle.pg_messages.specs.Frames.{IsFrame, frame_bytes, IsUnfinished, IsGoodHeader, IsBad, DividesInto, awaits_startup_after, awaits_startup_after_all, header_len, told_len, type_bytes}
 use Rattle.pg_messages.specs.Reading.{message_at}
 use Rattle.pg_messages.proofs.Laws.{IsBytes}
-use Rattle.pg_messages.proofs.FieldLaws.{IsBytes-take}
 use Rattle.pg_messages.proofs.KindLaws.{one_message, nothing_carried, type_is_known}
 use Rattle.pg_messages.proofs.FrameLaws.{kind_of, body_of, inside, HasWhole, whole_in_front, frame_bad, frame_read, bytes_of_each}
 

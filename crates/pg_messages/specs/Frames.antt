@@ -233,6 +233,18 @@ abbrev pub awaits_startup_after_all : List PgWireFrontendMessage → Bool → Bo
 awaits_startup_after_all [] awaiting = awaiting
 awaits_startup_after_all (m ∷ messages) awaiting = awaits_startup_after_all messages (awaits_startup_after m awaiting)
 
+-- the texts that a message carries
+abbrev pub message_texts : PgWireFrontendMessage → List (List ℕ)
+message_texts (client.Startup m) = flat_map (λ pair. pair.0 ∷ pair.1 ∷ []) m.parameters
+message_texts (client.Query m) = m.query ∷ []
+message_texts (client.Parse m) = m.name ∷ m.query ∷ []
+message_texts (client.Bind m) = m.portal_name ∷ m.statement_name ∷ []
+message_texts (client.Describe m) = m.name ∷ []
+message_texts (client.Execute m) = m.name ∷ []
+message_texts (client.Close m) = m.name ∷ []
+message_texts (client.CopyFail m) = m.message ∷ []
+message_texts _ = []
+
 -- the messages of the extended query
 abbrev pub is_extended_query : PgWireFrontendMessage → Bool
 is_extended_query (client.Parse m) = true

@@ -27,7 +27,8 @@ pub use data::{
     RowDescription,
 };
 pub use division::{
-    frame_is_no_rest, has_division, more_bytes_keep_frames, one_division, one_frame,
+    bad_stays_bad, context_follows_division, divisions_join, frame_is_no_rest, has_division,
+    more_bytes_keep_frames, no_frame_begins_another, one_division, one_frame, texts_of_frames,
     unfinished_is_not_bad,
 };
 pub use extendedquery::{
