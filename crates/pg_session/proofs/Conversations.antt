@@ -1,8 +1,8 @@
 -- A conversation over messages and over more messages, and what flows through an outbox.
-use Rattle.std.proofs.Common.{◌≡◌, ℕ, ◌+◌, ◌≤◌, ◌<◌, Bool, true, false, cond, List, [], ◌∷◌, ◌++◌, Option, Some, None, IfSome, refl, sym, ap, subst, ◌∙◌, append_assoc, append-nil, arith}
+use Rattle.std.proofs.Common.{◌≡◌, ℕ, Bool, true, false, cond, List, [], ◌∷◌, ◌++◌, Option, Some, None, refl, sym, ap, subst, ◌∙◌, append_assoc, append-nil}
 use Rattle.pg_messages.specs.declared.frontend.PgWireFrontendMessage.{PgWireFrontendMessage}
 use Rattle.pg_messages.specs.declared.frontend.PgWireFrontendMessage.TheVariants as client
-use Rattle.pg_messages.specs.Frames.{DividesInto, IsFrame, awaits_startup_after, awaits_startup_after_all}
+use Rattle.pg_messages.specs.Frames.{DividesInto, awaits_startup_after, awaits_startup_after_all}
 use Rattle.pg_messages.specs.Replies.{replies_bytes}
 use Rattle.pg_portal.specs.declared.portal.PgWireConnectionState.{PgWireConnectionState}
 use Rattle.pg_portal.specs.declared.portal.PgWireConnectionState.TheVariants as phase
@@ -14,8 +14,7 @@ use Rattle.pg_session.specs.declared.ends.EndKind.{EndKind}
 use Rattle.pg_session.specs.declared.ends.EndKind.TheVariants as end
 use Rattle.pg_session.specs.Conversation.{Setting, Answer, Next, Goes, Ends, answer, row, ends, is_built, parsed, bound, executed}
 use Rattle.pg_session.specs.Run.{awaits, is_startup_phase, conversation, continued, followed_by}
-use Rattle.pg_session.specs.Streams.{GrowsBy, GrowsByFront, BeginsWith}
-use Rattle.pg_session.specs.Steps.{Flows, IsAnswered, IsFed}
+use Rattle.pg_session.specs.Steps.{IsAnswered, IsFed}
 use Rattle.pg_session.proofs.ReplyBytes.{replies_bytes-append}
 
 -- where the conversation goes on, it goes on in this state

@@ -1,8 +1,8 @@
 -- One step of a session.
-use Rattle.std.proofs.Common.{◌≡◌, ◌≢◌, ℕ, Bool, true, false, cond, List, [], ◌∷◌, ◌++◌, Option, Some, None, Result, Ok, Err, OnOk, OnErr, IsTrue, refl, sym, ap, subst, ◌∙◌, append-nil, append_assoc}
+use Rattle.std.proofs.Common.{◌≡◌, ◌≢◌, ℕ, Bool, true, false, cond, List, [], ◌++◌, Option, Some, None, Result, Ok, Err, OnErr, refl, sym, ap, subst, ◌∙◌, append-nil, append_assoc}
 use Rattle.pg_messages.specs.declared.frontend.PgWireFrontendMessage.{PgWireFrontendMessage}
 use Rattle.pg_messages.specs.declared.frontend.PgWireFrontendMessage.TheVariants as client
-use Rattle.pg_messages.specs.Frames.{IsFrame, DividesInto, context_after, awaits_startup_after}
+use Rattle.pg_messages.specs.Frames.{IsFrame, DividesInto}
 use Rattle.pg_messages.specs.Replies.{replies_bytes}
 use Rattle.pg_portal.specs.declared.portal.PgWireConnectionState.{PgWireConnectionState}
 use Rattle.pg_portal.specs.declared.portal.PgWireConnectionState.TheVariants as phase
@@ -14,13 +14,12 @@ use Rattle.pg_session.specs.declared.ends.EndKind.{EndKind}
 use Rattle.pg_session.specs.declared.ends.EndKind.TheVariants as end
 use Rattle.pg_session.specs.declared.ends.Progress.{Progress}
 use Rattle.pg_session.specs.declared.ends.Progress.TheVariants as progress
-use Rattle.pg_messages.specs.declared.codec.DecodeContext.{DecodeContext}
 use Rattle.pg_session.specs.Conversation.{Setting, Answer, Next, Goes, Ends, answer, row, ends, is_built, parsed, bound, executed}
 use Rattle.std.specs.Option.{option_map}
 use Rattle.pg_session.specs.Run.{awaits}
 use Rattle.pg_session.specs.Streams.{GrowsByFront}
-use Rattle.pg_session.specs.Steps.{Flows, AppendsReplies, IsAnswered, IsFed, IsServed, IsCutOff, IsCarriedOut, GrowsByFrontOf, StandsAfterStep, next_of}
-use Rattle.pg_session.proofs.Conversations.{IsFed-none, IsFed-one, IsFed-then, answer_awaits}
+use Rattle.pg_session.specs.Steps.{Flows, IsAnswered, IsFed, IsServed, IsCutOff, IsCarriedOut, GrowsByFrontOf, StandsAfterStep, next_of}
+use Rattle.pg_session.proofs.Conversations.{IsFed-none, IsFed-one, IsFed-then}
 use Rattle.pg_session.proofs.Flowing.{Flows-none, Flows-wait, Flows-then, cut_at_once, cut_after, GrowsByFront-then, GrowsByFrontOf-none, GrowsByFrontOf-all, GrowsByFrontOf-then}
 
 pub on_err_always : {T E P : Type 0} (r : Result T E) → P → OnErr r P

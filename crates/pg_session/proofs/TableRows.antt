@@ -1,5 +1,5 @@
 -- Rows of the conversation table that were carried out.
-use Rattle.std.proofs.Common.{◌≡◌, ℕ, ◌+◌, ◌≤◌, Bool, true, cond, List, [], ◌∷◌, ◌++◌, Option, Some, None, Result, Ok, Err, OnOk, length, codes, refl, sym, ap, subst, ◌∙◌, arith, length-append, append-nil}
+use Rattle.std.proofs.Common.{◌≡◌, ℕ, ◌≤◌, Bool, true, cond, List, [], ◌∷◌, ◌++◌, Result, Ok, Err, OnOk, length, refl, sym, ap, subst, ◌∙◌, arith, length-append, append-nil}
 use Rattle.pg_messages.specs.declared.frontend.Parse.{Parse}
 use Rattle.pg_messages.specs.declared.frontend.Bind.{Bind}
 use Rattle.pg_messages.specs.declared.frontend.Execute.{Execute}

@@ -17,7 +17,6 @@ use Rattle.pg_portal.specs.declared.portal.Statement.{Statement}
 use Rattle.pg_portal.specs.declared.portal.Portal.{Portal}
 use Rattle.pg_portal.specs.declared.portal.PortalExecutionState.{PortalExecutionState}
 use Rattle.pg_portal.specs.declared.portal.PortalExecutionState.TheVariants as portal
-use Rattle.pg_portal.specs.declared.portal.Store.{Store}
 use Rattle.pg_portal.specs.declared.portal.PgWireConnectionState.{PgWireConnectionState}
 use Rattle.pg_portal.specs.declared.portal.PgWireConnectionState.TheVariants as phase
 use Rattle.pg_session.specs.declared.state.SessionState.{SessionState}

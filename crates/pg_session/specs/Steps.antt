@@ -1,5 +1,5 @@
 -- What one message does to a session: the outbox and the registry's calls grow by its answer, and the state is the next one.
-use Rattle.std.specs.Prelude.{ℕ, ℤ, Bool, true, false, List, ◌++◌, ◌≡◌, ◌≢◌, ◌<◌, Option, Some, None}
+use Rattle.std.specs.Prelude.{ℕ, ℤ, Bool, List, ◌++◌, ◌≡◌, ◌≢◌, ◌<◌, Option, Some, None}
 use Rattle.std.specs.FinMap as fin
 use Rattle.std.specs.Arc.{arc_value}
 use Rattle.pg_messages.specs.declared.backend.DataRow.{DataRow}

@@ -1,4 +1,4 @@
-use Rattle.std.proofs.Common.{◌≡◌, ◌++◌, ◌∙◌, ap, codes, subst, [], ◌∷◌}
+use Rattle.std.proofs.Common.{◌≡◌, ◌++◌, ◌∙◌, codes, subst, [], ◌∷◌}
 use Rattle.std.specs.Fmt.{decimal}
 use Rattle.std.proofs.lemmas.Result.{on_ok_weaker}
 use Rattle.pg_messages.specs.declared.backend.PgWireBackendMessage.TheVariants as server

@@ -1,4 +1,4 @@
-use Rattle.std.proofs.Common.{◌≡◌, ◌++◌, ◌∙◌, [], codes, sym, ap, subst, refl, append-nil, Some, None}
+use Rattle.std.proofs.Common.{◌≡◌, ◌++◌, ◌∙◌, codes, sym, ap, subst, Some, None}
 use Rattle.std.specs.FinMap as fin
 use Rattle.pg_session.specs.Conversation.{quoted, executed, Goes}
 use Rattle.pg_session.specs.Steps.{IsCarriedOut, IsGoodStore, setting_of}

@@ -1,5 +1,4 @@
-use Rattle.std.proofs.Common.{◌≡◌, ◌++◌, ◌∙◌, [], ◌∷◌, List, Bool, Option, Some, None, ℕ, codes, refl, sym, ap, subst, arith, length, ◌≤◌}
-use Rattle.std.proofs.lemmas.Result.{on_ok_weaker}
+use Rattle.std.proofs.Common.{◌≡◌, ◌++◌, ◌∙◌, [], None, codes, refl, sym, ap, subst, arith, length}
 use Rattle.pg_messages.specs.Replies.{HasNoZero}
 use Rattle.pg_session.specs.Queries.{trimmed}
 use Rattle.pg_session.specs.Conversation.{quoted, parsed, Goes}
@@ -7,7 +6,6 @@ use Rattle.pg_session.specs.Steps.{IsCarriedOut}
 use Rattle.pg_session.proofs.Encodable.{HasNoZero-trimmed, length-trimmed, missing_no_zero, missing_len, by_test}
 use Rattle.pg_session.proofs.TableRows.{on_ok_both, on_ok_always, refused, query_short}
 use Rattle.pg_session.proofs.Stores.{good_statement}
-use Rattle.std.specs.FinMap as fin
 use Rattle.pg_session.specs.Steps.{IsGoodStore}
 use Rattle.pg_session.proofs.rules.on_parse.Goals as goal
 

@@ -1,6 +1,4 @@
-use Rattle.std.proofs.Common.{[], IsTrue, ◌≡◌, ◌∙◌, subst, refl, arith}
-use Rattle.std.specs.Arc.{arc_value}
-use Rattle.pg_session.specs.Run.{awaits}
+use Rattle.std.proofs.Common.{[], ◌∙◌, subst, refl, arith}
 use Rattle.pg_session.specs.Steps.{StandsAfterStep, host_setting}
 use Rattle.pg_session.proofs.Flowing.{Flows-sent}
 use Rattle.pg_session.proofs.Stepping.{on_err_always, serves_none, serves_then, serves_to, serves_flow, cut_then, cut_served}

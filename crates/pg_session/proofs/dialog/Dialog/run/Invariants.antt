@@ -1,8 +1,7 @@
 use Rattle.std.proofs.Common.{◌≡◌, ◌≤◌, length}
 use Rattle.std.specs.Arc.{arc_value}
 use Rattle.pg_session.specs.Conversation.{Goes}
-use Rattle.pg_session.specs.Run.{awaits}
-use Rattle.pg_session.specs.Steps.{IsServed, IsGoodStore, setting_of, host_setting}
+use Rattle.pg_session.specs.Steps.{IsServed, IsGoodStore, host_setting}
 use Rattle.pg_session.proofs.dialog.Dialog.run.Given as goal
 
 -- what was served so far, and what a step asks of the session

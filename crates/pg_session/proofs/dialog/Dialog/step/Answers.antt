@@ -1,10 +1,8 @@
-use Rattle.std.proofs.Common.{◌≡◌, ◌++◌, ◌∙◌, [], List, ℕ, Bool, Err, None, sym, ap, subst, refl}
-use Rattle.std.specs.Arc.{arc_value}
+use Rattle.std.proofs.Common.{◌≡◌, [], Err, sym, ap, subst, refl}
 use Rattle.pg_messages.specs.Frames.{IsFrame, IsUnfinished, IsBad}
 use Rattle.pg_session.specs.Run.{awaits}
-use Rattle.pg_session.specs.Conversation.{Goes, answer}
-use Rattle.pg_session.specs.Steps.{setting_of, host_setting, next_of}
-use Rattle.pg_session.proofs.Conversations.{answer_awaits}
+use Rattle.pg_session.specs.Conversation.{Goes}
+use Rattle.pg_session.specs.Steps.{host_setting, next_of}
 use Rattle.pg_session.proofs.BadFrames.{bad_more}
 use Rattle.pg_session.proofs.Stepping.{on_err_always, serves_none, serves_one, serves_flow, cut_none, cut_one, cut_served, stands_by, bad_is_no_end_of_input}
 use Rattle.pg_session.proofs.dialog.Dialog.step.Goals as goal

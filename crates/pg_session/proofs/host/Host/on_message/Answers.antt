@@ -1,9 +1,8 @@
 use Rattle.std.proofs.Common.{◌≡◌, true, sym, subst, ◌∙◌}
-use Rattle.std.specs.Arc.{arc_value}
 use Rattle.std.proofs.lemmas.Result.{IfOk-weaker}
 use Rattle.pg_portal.specs.declared.portal.PgWireConnectionState.TheVariants as phase
-use Rattle.pg_session.specs.Conversation.{answer, is_built}
-use Rattle.pg_session.specs.Steps.{IsCarriedOut, next_of, setting_of, host_setting}
+use Rattle.pg_session.specs.Conversation.{is_built}
+use Rattle.pg_session.specs.Steps.{IsCarriedOut, next_of, host_setting}
 use Rattle.pg_session.proofs.TableRows.{at_desk, answer_is}
 use Rattle.pg_session.proofs.host.Host.on_message.Goals as goal
 

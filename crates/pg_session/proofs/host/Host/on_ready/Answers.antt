@@ -1,8 +1,7 @@
-use Rattle.std.proofs.Common.{[], sym, subst}
-use Rattle.std.specs.Arc.{arc_value}
+use Rattle.std.proofs.Common.{sym, subst}
 use Rattle.pg_portal.specs.declared.portal.PgWireConnectionState.TheVariants as phase
 use Rattle.pg_session.specs.Conversation.{row, Goes}
-use Rattle.pg_session.specs.Steps.{IsCarriedOut, setting_of, host_setting}
+use Rattle.pg_session.specs.Steps.{IsCarriedOut, host_setting}
 use Rattle.pg_session.proofs.TableRows.{at_desk}
 use Rattle.pg_session.proofs.host.Host.on_ready.Goals as goal
 
