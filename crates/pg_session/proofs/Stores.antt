@@ -4,9 +4,9 @@ use Rattle.std.specs.Cmp.Lexicographic.{slice_cmp, nat_list_cmp_total}
 use Rattle.std.specs.Ordering.{nat_cmp, eq_by_cmp}
 use Rattle.std.specs.FinMap as fin
 use Rattle.pg_portal.specs.Names.{NameMap}
-use Rattle.pg_portal.specs.declared.portal.Statement.{Statement}
-use Rattle.pg_portal.specs.declared.portal.Portal.{Portal}
-use Rattle.pg_portal.specs.declared.portal.Store.{Store}
+use Rattle.pg_session.specs.declared.store.Statement.{Statement}
+use Rattle.pg_session.specs.declared.store.Portal.{Portal}
+use Rattle.pg_session.specs.declared.store.Store.{Store}
 use Rattle.pg_session.specs.Steps.{IsGoodStore}
 
 each_after_insert : {X : Type 0} (P : X → Type 0) (m : NameMap X) (k : List ℕ) (v : X) → P v → ((q : List ℕ) (x : X) → fin.get m q ≡ Some x → P x)

@@ -8,12 +8,12 @@ use Rattle.pg_messages.specs.declared.extendedquery.Execute.{Execute}
 use Rattle.pg_messages.specs.declared.frontend.PgWireFrontendMessage.{PgWireFrontendMessage}
 use Rattle.pg_messages.specs.declared.frontend.PgWireFrontendMessage.TheVariants as client
 use Rattle.pg_messages.specs.Frames.{awaits_startup_after}
-use Rattle.pg_portal.specs.declared.portal.PgWireConnectionState.{PgWireConnectionState}
-use Rattle.pg_portal.specs.declared.portal.PgWireConnectionState.TheVariants as phase
-use Rattle.pg_portal.specs.declared.portal.PortalExecutionState.{PortalExecutionState}
-use Rattle.pg_portal.specs.declared.portal.PortalExecutionState.TheVariants as stage
-use Rattle.pg_portal.specs.declared.portal.Statement.{Statement}
-use Rattle.pg_portal.specs.declared.portal.Portal.{Portal}
+use Rattle.pg_session.specs.declared.store.PgWireConnectionState.{PgWireConnectionState}
+use Rattle.pg_session.specs.declared.store.PgWireConnectionState.TheVariants as phase
+use Rattle.pg_session.specs.declared.store.PortalExecutionState.{PortalExecutionState}
+use Rattle.pg_session.specs.declared.store.PortalExecutionState.TheVariants as stage
+use Rattle.pg_session.specs.declared.store.Statement.{Statement}
+use Rattle.pg_session.specs.declared.store.Portal.{Portal}
 use Rattle.pg_session.specs.declared.state.SessionState.{SessionState}
 use Rattle.pg_session.specs.declared.desk.DeskCall.{DeskCall}
 use Rattle.pg_session.specs.declared.ends.EndKind.{EndKind}

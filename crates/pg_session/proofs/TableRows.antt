@@ -9,8 +9,8 @@ use Rattle.pg_messages.specs.Frames.{IsFrame, parse_body, bind_body, execute_bod
 use Rattle.pg_messages.specs.Fields.{string, count16, count32, int32}
 use Rattle.pg_messages.specs.Status.{to_error_state}
 use Rattle.pg_messages.specs.declared.frontend.PgWireFrontendMessage.{PgWireFrontendMessage}
-use Rattle.pg_portal.specs.declared.portal.PgWireConnectionState.{PgWireConnectionState}
-use Rattle.pg_portal.specs.declared.portal.PgWireConnectionState.TheVariants as phase
+use Rattle.pg_session.specs.declared.store.PgWireConnectionState.{PgWireConnectionState}
+use Rattle.pg_session.specs.declared.store.PgWireConnectionState.TheVariants as phase
 use Rattle.pg_session.specs.declared.ends.EndKind.TheVariants as end
 use Rattle.pg_session.specs.declared.state.SessionState.{SessionState}
 use Rattle.pg_session.specs.declared.desk.DeskCall.{DeskCall}

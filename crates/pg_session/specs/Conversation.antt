@@ -17,13 +17,13 @@ use Rattle.pg_messages.specs.declared.response.ErrorInfo.{ErrorInfo}
 use Rattle.pg_messages.specs.declared.backend.PgWireBackendMessage.{PgWireBackendMessage}
 use Rattle.pg_messages.specs.declared.backend.PgWireBackendMessage.TheVariants as server
 use Rattle.pg_messages.specs.Status.{to_error_state}
-use Rattle.pg_portal.specs.declared.portal.Statement.{Statement}
-use Rattle.pg_portal.specs.declared.portal.Portal.{Portal}
-use Rattle.pg_portal.specs.declared.portal.PortalExecutionState.{PortalExecutionState}
-use Rattle.pg_portal.specs.declared.portal.PortalExecutionState.TheVariants as portal
-use Rattle.pg_portal.specs.declared.portal.Store.{Store}
-use Rattle.pg_portal.specs.declared.portal.PgWireConnectionState.{PgWireConnectionState}
-use Rattle.pg_portal.specs.declared.portal.PgWireConnectionState.TheVariants as phase
+use Rattle.pg_session.specs.declared.store.Statement.{Statement}
+use Rattle.pg_session.specs.declared.store.Portal.{Portal}
+use Rattle.pg_session.specs.declared.store.PortalExecutionState.{PortalExecutionState}
+use Rattle.pg_session.specs.declared.store.PortalExecutionState.TheVariants as portal
+use Rattle.pg_session.specs.declared.store.Store.{Store}
+use Rattle.pg_session.specs.declared.store.PgWireConnectionState.{PgWireConnectionState}
+use Rattle.pg_session.specs.declared.store.PgWireConnectionState.TheVariants as phase
 use Rattle.pg_session.specs.declared.state.SessionState.{SessionState}
 use Rattle.pg_session.specs.declared.desk.DeskCall.{DeskCall}
 use Rattle.pg_session.specs.declared.desk.DeskCall.TheVariants as desk
@@ -135,7 +135,7 @@ abbrev pub on_startup : Setting → Startup → Answer SessionState
 on_startup setting m =
     if m.code == protocol_3_0 || m.code == protocol_3_2
     then says (startup_replies setting.pid setting.key)
-        (record { state = phase.ReadyForQuery; status = status.Idle; store = record { statements = fin.empty; portals = fin.empty } })
+    (record { state = phase.ReadyForQuery; status = status.Idle; store = record { statements = fin.empty; portals = fin.empty } })
     else ends (unsupported_version m.code ∷ []) end.Fatal
 
 -- The startup packet is awaited. No other message has a frame in this phase.

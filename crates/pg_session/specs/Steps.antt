@@ -7,9 +7,9 @@ use Rattle.pg_messages.specs.declared.frontend.PgWireFrontendMessage.{PgWireFron
 use Rattle.pg_messages.specs.declared.backend.PgWireBackendMessage.{PgWireBackendMessage}
 use Rattle.pg_messages.specs.Frames.{IsFrame, IsUnfinished, DividesInto}
 use Rattle.pg_messages.specs.Replies.{replies_bytes}
-use Rattle.pg_portal.specs.declared.portal.Statement.{Statement}
-use Rattle.pg_portal.specs.declared.portal.Portal.{Portal}
-use Rattle.pg_portal.specs.declared.portal.Store.{Store}
+use Rattle.pg_session.specs.declared.store.Statement.{Statement}
+use Rattle.pg_session.specs.declared.store.Portal.{Portal}
+use Rattle.pg_session.specs.declared.store.Store.{Store}
 use Rattle.pg_session.specs.declared.host.Host.{Host}
 use Rattle.pg_session.specs.declared.desk.DeskCall.{DeskCall}
 use Rattle.pg_session.specs.declared.ends.EndKind.{EndKind}

@@ -3,7 +3,7 @@ ghost use Rattle.std.specs.Arc.{arc_value};
 ghost use Rattle.pg_messages.specs.declared.startup.CancelRequest.{CancelRequest};
 ghost use Rattle.pg_messages.specs.declared.extendedquery.Parse.{Parse};
 ghost use Rattle.pg_messages.specs.declared.extendedquery.Bind.{Bind};
-ghost use Rattle.pg_portal.specs.declared.portal.PgWireConnectionState.TheVariants as phase;
+ghost use Rattle.pg_session.specs.declared.store.PgWireConnectionState.TheVariants as phase;
 ghost use Rattle.pg_session.specs.declared.desk.DeskCall.{DeskCall};
 ghost use Rattle.pg_session.specs.declared.ends.EndKind.TheVariants.{InputEnd, CancelServed};
 ghost use Rattle.pg_session.specs.Conversation.{is_built, is_built_parse, is_built_bind, is_one_binary, awaits, table, startup_row, on_startup, built_row, ready_row, awaiting_sync_row};
@@ -17,8 +17,9 @@ use crate::replies::{push_no_encryption, push_not_built, push_startup, push_unsu
 use crate::rows::FirstRows;
 use crate::rules::{on_bind, on_execute, on_parse, on_sync};
 use crate::state::SessionState;
+use crate::store::{PgWireConnectionState, Store};
 use pg_messages::{Bind, CancelRequest, Parse, PgWireFrontendMessage, Startup, TransactionStatus};
-use pg_portal::{Named, PgWireConnectionState, Store};
+use pg_portal::Named;
 use std::alloc::{AllocError, Global};
 use std::sync::Arc;
 

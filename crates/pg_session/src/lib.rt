@@ -12,6 +12,7 @@ mod rows;
 mod rules;
 mod session;
 mod state;
+mod store;
 mod streams;
 
 pub use desk::{CancelDesk, DeskCall, ScriptDesk};
@@ -20,4 +21,5 @@ pub use outbox::Outbox;
 pub use rows::FirstRows;
 pub use session::Session;
 pub use state::SessionState;
+pub use store::{PgWireConnectionState, Portal, PortalExecutionState, Statement, Store};
 pub use streams::{Sink, SinkError, Source, SourceFailed};

@@ -103,8 +103,7 @@ fn unsupported_text(alloc: Global, code: u32) -> Result<PgStr, AllocError>
 {
     let major = code / 65536;
     let minor = code % 65536;
-    let text = format!(
-        in alloc;
+    let text = format!(in alloc;
         "unsupported frontend protocol {major}.{minor}: server supports 3.0 and 3.2"
     )?;
     PgStr::copy_of(alloc, text.as_str())

@@ -6,7 +6,7 @@ ghost use Rattle.pg_messages.specs.Replies.{HasNoZero, IsEncodable};
 ghost use Rattle.pg_messages.specs.declared.backend.PgWireBackendMessage.TheVariants as server;
 ghost use Rattle.pg_messages.specs.Status.{to_error_state};
 ghost use Rattle.pg_messages.specs.declared.frontend.PgWireFrontendMessage.TheVariants as client;
-ghost use Rattle.pg_portal.specs.declared.portal.PgWireConnectionState.TheVariants as phase;
+ghost use Rattle.pg_session.specs.declared.store.PgWireConnectionState.TheVariants as phase;
 ghost use Rattle.pg_session.specs.Queries.{trimmed};
 ghost use Rattle.pg_session.specs.Streams.{BeginsWith};
 ghost use Rattle.pg_session.specs.Answer.{Goes};
@@ -20,10 +20,10 @@ use crate::query::trimmed;
 use crate::replies::{does_not_exist, push, push_error, push_ready, push_rows};
 use crate::rows::FirstRows;
 use crate::state::SessionState;
+use crate::store::{PgWireConnectionState, Portal, PortalExecutionState, Statement};
 use pg_messages::{
     Bind, BindComplete, DataRow, Execute, Parse, ParseComplete, PgList, PgStr, PgWireBackendMessage,
 };
-use pg_portal::{PgWireConnectionState, Portal, PortalExecutionState, Statement};
 use std::alloc::{AllocError, Global};
 
 /// Answers an extended message with an error: all that follows is dropped until the next Sync.

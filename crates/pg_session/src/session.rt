@@ -10,10 +10,11 @@ use crate::host::Host;
 use crate::outbox::Outbox;
 use crate::rows::FirstRows;
 use crate::state::SessionState;
+use crate::store::{PgWireConnectionState, Store};
 use crate::streams::Sink;
 use bytes::BytesMut;
 use pg_messages::{PgWireMessageServerCodec, TransactionStatus};
-use pg_portal::{Named, PgWireConnectionState, Store};
+use pg_portal::Named;
 use std::alloc::{AllocError, Global};
 use std::sync::Arc;
 

@@ -1,8 +1,8 @@
 ghost use Rattle.std.specs.Prelude.{◌≡◌};
 ghost use Rattle.pg_session.specs.Conversation.{awaits};
 
+use crate::store::{PgWireConnectionState, Store};
 use pg_messages::TransactionStatus;
-use pg_portal::{PgWireConnectionState, Store};
 
 /// Where a conversation stands: its phase, its transaction status, its statements and portals.
 #[derive(Drop)]

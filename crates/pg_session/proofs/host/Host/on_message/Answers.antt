@@ -1,6 +1,6 @@
 use Rattle.std.proofs.Common.{◌≡◌, refl, sym, subst, ◌∙◌, ap}
 use Rattle.std.proofs.lemmas.Result.{IfOk-weaker, on_err_weaker}
-use Rattle.pg_portal.specs.declared.portal.PgWireConnectionState.TheVariants as phase
+use Rattle.pg_session.specs.declared.store.PgWireConnectionState.TheVariants as phase
 use Rattle.pg_session.specs.Conversation.{table, row, startup_row, built_row, awaiting_sync_row}
 use Rattle.pg_session.specs.Steps.{host_setting}
 use Rattle.pg_session.proofs.TableRows.{at_desk, answered_in, answered_so, cut_so, cut_at_none}

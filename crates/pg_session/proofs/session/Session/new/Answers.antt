@@ -1,6 +1,6 @@
 use Rattle.std.proofs.Common.{[], sym, subst}
 use Rattle.pg_messages.specs.declared.response.TransactionStatus.TheVariants as status
-use Rattle.pg_portal.specs.declared.portal.PgWireConnectionState.TheVariants as phase
+use Rattle.pg_session.specs.declared.store.PgWireConnectionState.TheVariants as phase
 use Rattle.pg_session.specs.Answer.{Goes}
 use Rattle.pg_session.specs.Conversation.{core_rules, first_state}
 use Rattle.std.specs.Arc.{arc_value}
