@@ -1,10 +1,9 @@
 -- A conversation that was served piece by piece is a run over the bytes that were taken.
-use Rattle.std.proofs.Common.{◌≡◌, ◌≢◌, ℕ, ⊎_elim, cond, ◌+◌, ◌≤◌, ◌<◌, ◌^◌, min, arith, Bool, List, [], ◌∷◌, ◌++◌, Option, Some, None, Result, Ok, Err, IfSome, take, drop, refl, sym, ap, subst, ◌∙◌, append-nil, append_assoc}
+use Rattle.std.proofs.Common.{◌≡◌, ◌≢◌, ℕ, ⊎_elim, cond, ◌+◌, ◌<◌, ◌^◌, min, arith, List, [], ◌++◌, Option, Some, None, Err, IfSome, take, drop, refl, sym, ap, subst, ◌∙◌, append-nil, append_assoc}
 use Rattle.std.specs.Prelude.{◌==◌, if◌then◌else◌}
 use Rattle.std.proofs.lemmas.List.{take-append-drop}
 use Rattle.std.proofs.lemmas.Bool.Decides.{eqb_tells}
 use Rattle.pg_messages.specs.Frames.{DividesInto, IsUnfinished}
-use Rattle.pg_messages.specs.Replies.{replies_bytes}
 use Rattle.pg_session.specs.declared.state.SessionState.{SessionState}
 use Rattle.pg_session.specs.declared.desk.DeskCall.{DeskCall}
 use Rattle.pg_session.specs.declared.ends.EndKind.{EndKind}
@@ -137,12 +136,13 @@ cut_at_start setting left w = ([], takes_none left, at w)
   where
     empty : IsCutRun setting [] [] []
     empty = record {
-        given = conversation setting [] first_state [];
-        rest = [];
-        converses = record { messages = []; division = refl; answered = refl };
-        replied = ([], refl);
-        called = ([], refl);
-      }
+      given = conversation setting [] first_state [];
+      rest = [];
+      converses = record { messages = []; division = refl; answered = refl };
+      replied = ([], refl);
+      called = ([], refl);
+    }
+
     at : (o : Option (List ℕ)) → (front : List ℕ) × GrowsBy o o front × IsCutRun setting [] front []
     at None = ([], tt, empty)
     at (Some x) = (

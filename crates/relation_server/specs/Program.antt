@@ -1,5 +1,5 @@
 -- What the server owes its client, and what the program tells of it: a status, and a line on its error output.
-use Rattle.std.specs.Prelude.{ℕ, ℤ, Bool, false, List, [], ◌++◌, ◌∷◌, ◌+◌, ◌≤◌, ◌<◌, ◌^◌, ◌≡◌, ◌≢◌, ◌⊎◌, Option, Some, None, Result, Ok, Err, IfSome, codes}
+use Rattle.std.specs.Prelude.{ℕ, ℤ, Bool, false, List, [], ◌++◌, ◌∷◌, ◌+◌, ◌≤◌, ◌<◌, ◌^◌, ◌≡◌, ◌≢◌, ◌⊎◌, Option, Some, Result, Ok, Err, IfSome, codes}
 use Rattle.std.specs.List.{AllByRecursion}
 use Rattle.pg_session.specs.declared.desk.DeskCall.{DeskCall}
 use Rattle.pg_session.specs.declared.ends.EndKind.{EndKind}

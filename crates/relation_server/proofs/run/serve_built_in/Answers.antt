@@ -22,7 +22,7 @@ returns g c =
     let registered : registration_of desk ≡ (c.args.pid, c.args.key) = search rules in
     let called : c.serve_relations_on-answer.new.desk.calls ≡ went.0 = went.1 ∙ ap (λ calls. calls ++ went.0) c.new-desk.ensures.calls in
     let unscripted : origin_of c.serve_relations_on-answer.new.desk.script ≡ [] =
-        c.serve_relations_on-answer.ensures.origin ∙ ap origin_of (c.new-desk.ensures.script ∙ c.new.ensures) in
+    c.serve_relations_on-answer.ensures.origin ∙ ap origin_of (c.new-desk.ensures.script ∙ c.new.ensures) in
     record {
       calls = went.0;
       quiet = subst (λ calls. AreNo (answers_of calls)) called (quiet c.calls-answered_no.ensures.scripted unscripted);

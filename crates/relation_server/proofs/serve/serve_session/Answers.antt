@@ -1,7 +1,6 @@
 use Rattle.std.proofs.Common.{◌≡◌, ◌<◌, ◌+◌, ◌++◌, ◌∙◌, refl, sym, ap, subst, arith, Ok, Err}
-use Rattle.std.specs.Arc.{arc_value}
 use Rattle.pg_session.specs.Conversation.{first_state}
-use Rattle.pg_session.specs.Steps.{Stands, setting_of, host_setting}
+use Rattle.pg_session.specs.Steps.{Stands, host_setting}
 use Rattle.relation_server.specs.Program.{TakesFrom}
 use Rattle.relation_server.proofs.Serving.{run_of_taken, served_run, ended_run, takes_more, cut_run_of_taken, went_by_fault, serves_in, cut_in, goes_to, counted_more}
 use Rattle.relation_server.proofs.serve.serve_session.Goals as goal

@@ -1,9 +1,8 @@
-use Rattle.std.proofs.Common.{◌≡◌, ◌≤◌, ◌<◌, ◌+◌, ◌-◌, ◌^◌, List, ℕ, [], true, length}
-use Rattle.std.specs.Arc.{arc_value}
+use Rattle.std.proofs.Common.{◌≡◌, ◌≤◌, ◌<◌, ◌+◌, ◌-◌, ◌^◌, List, ℕ, [], true}
 use Rattle.pg_messages.specs.Frames.{IsUnfinished}
 use Rattle.pg_session.specs.Conversation.{Goes, first_state}
 use Rattle.pg_session.specs.Run.{awaits}
-use Rattle.pg_session.specs.Steps.{IsServed, setting_of, host_setting}
+use Rattle.pg_session.specs.Steps.{IsServed, host_setting}
 use Rattle.relation_server.specs.Program.{TakesFrom}
 use Rattle.relation_server.proofs.serve.serve_session.Given as goal
 
