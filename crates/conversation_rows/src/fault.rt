@@ -1,3 +1,4 @@
+use relation_server::TableError;
 use std::alloc::{AllocError, AllocFailed};
 
 /// Why a row could not be judged.
@@ -18,5 +19,14 @@ impl<'t> From<AllocError> for Fault<'t> {
 impl<'t, T: Drop> From<AllocFailed<T>> for Fault<'t> {
     fn from(_error: AllocFailed<T>) -> Fault<'t> {
         Fault::NoMemory
+    }
+}
+
+impl<'t> From<TableError> for Fault<'t> {
+    fn from(error: TableError) -> Fault<'t> {
+        match error {
+            TableError::NoMemory => Fault::NoMemory,
+            _ => Fault::Line("relation"),
+        }
     }
 }

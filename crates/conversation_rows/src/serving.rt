@@ -8,7 +8,7 @@ use pg_interval::Interval;
 use pg_messages::{PgBytes, PgList, PgStr};
 use pg_session::{DeskCall, EndKind, ScriptDesk, ServeError};
 use relation_server::{
-    MemorySink, MemorySource, Relation, RelationTable, TableError, built_in_table,
+    MemorySink, MemorySource, Relation, RelationTable, built_in_table,
     serve_relations_on,
 };
 use std::alloc::{AllocError, Global};
@@ -130,18 +130,11 @@ fn table_of<'t>(alloc: Global, lines: &[&'t str]) -> Result<RelationTable, Fault
     ensures { IfOk result (λ table. OwesNoPoll table) }
 {
     match told(lines, "relation") {
-        None => built_in_table(alloc).map_err(refused),
+        None => Ok(built_in_table(alloc)?),
         Some(line) => {
-            let relation = relation_of(alloc, line)?;
-            RelationTable::try_new(alloc, single(alloc, relation)?).map_err(refused)
+            let relations = single(alloc, relation_of(alloc, line)?)?;
+            Ok(RelationTable::try_new(alloc, relations)?)
         }
-    }
-}
-
-fn refused<'t>(error: TableError) -> Fault<'t> {
-    match error {
-        TableError::NoMemory => Fault::NoMemory,
-        _ => Fault::Line("relation"),
     }
 }
 

@@ -13,6 +13,7 @@ pub fn judge<'t>(alloc: Global, lines: &[&'t str]) -> Result<Option<&'static str
         Some("reads") => sweep_reads(alloc, lines, client.as_slice()),
         Some("turns") => sweep_turns(alloc, lines, client.as_slice()),
         Some("writes") => sweep_writes(alloc, lines, client.as_slice()),
+        Some("lengths") => sweep_lengths(alloc, lines, client.as_slice()),
         Some(other) => Err(Fault::Line(other)),
     }
 }
@@ -158,8 +159,7 @@ fn sweep_cuts<'t>(
     for first in 1..client.len() {
         let mut plan = single(client);
         plan.reads = Reads::First(first);
-        let outcome = serve(alloc, lines, client, plan)?;
-        if let Some(difference) = difference(alloc, lines, &outcome, end, None)? {
+        if let Some(difference) = swept(alloc, lines, client, plan, end, None)? {
             return Ok(Some(difference));
         }
     }
@@ -175,7 +175,7 @@ fn sweep_reads<'t>(
     for taken in 0..client.len() {
         let mut plan = single(client);
         plan.source_fails = Some(taken as u64);
-        let written = answered_by(alloc, lines, taken)?;
+        let written = Some(answered_by(alloc, lines, taken)?);
         if let Some(difference) = swept(alloc, lines, client, plan, "ReadFault", written)? {
             return Ok(Some(difference));
         }
@@ -192,8 +192,25 @@ fn sweep_turns<'t>(
     for taken in 0..client.len() {
         let mut plan = single(client);
         plan.turns = taken as u64;
-        let written = answered_by(alloc, lines, taken)?;
+        let written = Some(answered_by(alloc, lines, taken)?);
         if let Some(difference) = swept(alloc, lines, client, plan, "TurnLimit", written)? {
+            return Ok(Some(difference));
+        }
+    }
+    Ok(None)
+}
+
+/// The input ends early: all that came is answered.
+fn sweep_lengths<'t>(
+    alloc: Global,
+    lines: &[&'t str],
+    client: &[u8],
+) -> Result<Option<&'static str>, Fault<'t>> {
+    for taken in 0..client.len() {
+        let plan = single(client);
+        let written = Some(answered_by(alloc, lines, taken)?);
+        let front = &client[..taken];
+        if let Some(difference) = swept(alloc, lines, front, plan, "InputEnd", written)? {
             return Ok(Some(difference));
         }
     }
@@ -213,7 +230,7 @@ fn sweep_writes<'t>(
         if written > before {
             let mut plan = single(client);
             plan.sink_fails = Some((call, 3));
-            let cut = before.saturating_add(3).min(written);
+            let cut = Some(before.saturating_add(3).min(written));
             if let Some(difference) = swept(alloc, lines, client, plan, "WriteFault", cut)? {
                 return Ok(Some(difference));
             }
@@ -231,8 +248,8 @@ fn swept<'t>(
     client: &[u8],
     plan: Plan<'t>,
     end: &str,
-    written: usize,
+    written: Option<usize>,
 ) -> Result<Option<&'static str>, Fault<'t>> {
     let outcome = serve(alloc, lines, client, plan)?;
-    difference(alloc, lines, &outcome, end, Some(written))
+    difference(alloc, lines, &outcome, end, written)
 }

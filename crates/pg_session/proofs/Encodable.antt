@@ -30,7 +30,8 @@ onto_no_zero : (k n : ℕ) (acc : List ℕ) → HasNoZero acc → HasNoZero (dig
 onto_no_zero zero n acc h = h
 onto_no_zero (suc k) n acc h =
     let more : HasNoZero (digit_glyph false (n % 10) ∷ acc) = (glyph_nonzero (n % 10), h) in
-    elim (n / 10 == 0) as (λ b. HasNoZero (cond b (digit_glyph false (n % 10) ∷ acc) (digits_onto k 10 false (n / 10) (digit_glyph false (n % 10) ∷ acc)))) [
+    elim (n / 10 == 0) as
+        (λ b. HasNoZero (cond b (digit_glyph false (n % 10) ∷ acc) (digits_onto k 10 false (n / 10) (digit_glyph false (n % 10) ∷ acc)))) [
       | true ↦ more
       | false ↦ onto_no_zero k (n / 10) (digit_glyph false (n % 10) ∷ acc) more
     ]
@@ -40,20 +41,24 @@ unfolding digits
 HasNoZero-decimal n = onto_no_zero 64 n [] tt
 
 -- the tag of a page
-pub tag_encodable : (tag : List ℕ) (n : ℕ) → n < 2 ^ 64 → tag ≡ codes "SELECT " ++ decimal n → IsEncodable (server.CommandComplete (record { tag = tag }))
+pub tag_encodable : (tag : List ℕ) (n : ℕ) → n < 2 ^ 64 → tag ≡ codes "SELECT " ++ decimal n
+    → IsEncodable (server.CommandComplete (record { tag = tag }))
 tag_encodable tag n small e =
     let few : length (decimal n) ≤ 20 = length-decimal-le 20 n (omega arith) (omega arith) small in
     let len : length tag ≡ 7 + length (decimal n) = omega (arith, ap length e) in
-    let text : HasNoZero tag = subst HasNoZero (sym e) (HasNoZero-append (codes "SELECT ") (decimal n) (by_test (codes "SELECT ") refl) (HasNoZero-decimal n)) in
+    let text : HasNoZero tag = subst HasNoZero (sym e) (HasNoZero-append (codes "SELECT ") (decimal n) (by_test (codes "SELECT ") refl)
+        (HasNoZero-decimal n)) in
     record { body = simp length-append (omega arith); texts = (text, tt) }
 
 HasNoZero-reverse : (t : List ℕ) → HasNoZero t → HasNoZero (reverse t)
 HasNoZero-reverse [] h = tt
-HasNoZero-reverse (x ∷ t) h = subst HasNoZero (sym (reverse-append (x ∷ []) t)) (HasNoZero-append (reverse t) (x ∷ []) (HasNoZero-reverse t h.1) (h.0, tt))
+HasNoZero-reverse (x ∷ t) h = subst HasNoZero (sym (reverse-append (x ∷ []) t))
+    (HasNoZero-append (reverse t) (x ∷ []) (HasNoZero-reverse t h.1) (h.0, tt))
 
 front_no_zero : (t : List ℕ) → HasNoZero t → HasNoZero (without_front_padding t)
 front_no_zero [] h = tt
-front_no_zero (x ∷ t) h = elim (is_padding x) as (λ b. HasNoZero (cond b (without_front_padding t) (x ∷ t))) [ true ↦ front_no_zero t h.1 | false ↦ h ]
+front_no_zero (x ∷ t) h = elim (is_padding x) as (λ b. HasNoZero (cond b (without_front_padding t) (x ∷ t)))
+    [ true ↦ front_no_zero t h.1 | false ↦ h ]
 
 pub HasNoZero-trimmed : (t : List ℕ) → HasNoZero t → HasNoZero (trimmed t)
 HasNoZero-trimmed t h = HasNoZero-reverse _ (front_no_zero _ (HasNoZero-reverse _ (front_no_zero t h)))
@@ -61,20 +66,24 @@ HasNoZero-trimmed t h = HasNoZero-reverse _ (front_no_zero _ (HasNoZero-reverse 
 front_len : (t : List ℕ) → length (without_front_padding t) ≤ length t
 front_len [] = omega arith
 front_len (x ∷ t) = let rest = front_len t in
-    elim (is_padding x) as (λ b. length (cond b (without_front_padding t) (x ∷ t)) ≤ length (x ∷ t)) [ true ↦ omega arith | false ↦ omega arith ]
+    elim (is_padding x) as (λ b. length (cond b (without_front_padding t) (x ∷ t)) ≤ length (x ∷ t))
+        [ true ↦ omega arith | false ↦ omega arith ]
 
 pub length-trimmed : (t : List ℕ) → length (trimmed t) ≤ length t
 length-trimmed t =
     let a = front_len t in let b = front_len (reverse (without_front_padding t)) in
-    let c = length-reverse (without_front_padding t) in let d = length-reverse (without_front_padding (reverse (without_front_padding t))) in omega arith
+    let c = length-reverse (without_front_padding t) in let d = length-reverse
+        (without_front_padding (reverse (without_front_padding t))) in omega arith
 
 -- a text that says that what has this name doesn't exist
-pub missing_no_zero : (kind name text : List ℕ) → text ≡ kind ++ quoted name ++ codes " does not exist" → HasNoZero kind → HasNoZero name → HasNoZero text
+pub missing_no_zero : (kind name text : List ℕ) → text ≡ kind ++ quoted name ++ codes " does not exist" → HasNoZero kind → HasNoZero name
+    → HasNoZero text
 missing_no_zero kind name text e p q = subst HasNoZero (sym e)
     (HasNoZero-append (kind ++ quoted name) (codes " does not exist") (HasNoZero-append kind (quoted name) p
     (λ k. omega arith, HasNoZero-append name (34 ∷ []) q (λ k. omega arith, tt))) (by_test (codes " does not exist") refl))
 
-pub missing_len : (kind name text : List ℕ) → text ≡ kind ++ quoted name ++ codes " does not exist" → length kind ≤ 50 → length name ≤ 1048576 → length text ≤ 1048700
+pub missing_len : (kind name text : List ℕ) → text ≡ kind ++ quoted name ++ codes " does not exist" → length kind ≤ 50
+    → length name ≤ 1048576 → length text ≤ 1048700
 missing_len kind name text e p q =
     let a = ap length e in let b = length-append (kind ++ quoted name) (codes " does not exist") in
     let c = length-append kind (quoted name) in let d = length-append name (34 ∷ []) in omega arith

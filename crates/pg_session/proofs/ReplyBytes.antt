@@ -13,7 +13,8 @@ pub quoted_joined : (kind name tail : List ℕ) → ((kind ++ 34 ∷ []) ++ name
 quoted_joined kind name tail = simp append_assoc
 
 -- a text that was put together from its parts
-pub quoted_from : (kind name tail a b c d : List ℕ) → a ≡ kind → b ≡ a ++ 34 ∷ [] → c ≡ b ++ name → d ≡ c ++ 34 ∷ tail → d ≡ (kind ++ quoted name) ++ tail
+pub quoted_from : (kind name tail a b c d : List ℕ) → a ≡ kind → b ≡ a ++ 34 ∷ [] → c ≡ b ++ name → d ≡ c ++ 34 ∷ tail → d
+    ≡ (kind ++ quoted name) ++ tail
 quoted_from kind name tail a b c d p q r s =
     s ∙ ap (λ l. l ++ 34 ∷ tail) (r ∙ ap (λ l. l ++ name) (q ∙ ap (λ l. l ++ 34 ∷ []) p)) ∙ quoted_joined kind name tail
 
@@ -27,17 +28,22 @@ Appends-none out = record { bytes = sym (append-nil out) }
 pub Appends-one : (out new_out : List ℕ) (m : PgWireBackendMessage) → new_out ≡ out ++ reply_bytes m → AppendsReplies out new_out (m ∷ [])
 Appends-one out new_out m e = record { bytes = e ∙ sym (ap (λ l. out ++ l) (append-nil (reply_bytes m))) }
 
-pub Appends-then : {a b c : List ℕ} {r s : List PgWireBackendMessage} → AppendsReplies a b r → AppendsReplies b c s → AppendsReplies a c (r ++ s)
-Appends-then {a} {b} {c} {r} {s} p q = record { bytes = q.bytes ∙ ap (λ l. l ++ replies_bytes s) p.bytes ∙ append_assoc a (replies_bytes r) (replies_bytes s) ∙ sym (ap (λ l. a ++ l) (replies_bytes-append r s)) }
+pub Appends-then : {a b c : List ℕ} {r s : List PgWireBackendMessage} → AppendsReplies a b r → AppendsReplies b c s
+    → AppendsReplies a c (r ++ s)
+Appends-then {a} {b} {c} {r} {s} p q = record { bytes = q.bytes ∙ ap (λ l. l ++ replies_bytes s) p.bytes
+    ∙ append_assoc a (replies_bytes r) (replies_bytes s) ∙ sym (ap (λ l. a ++ l) (replies_bytes-append r s)) }
 
 abbrev pub select_tag : ℕ → PgWireBackendMessage
 select_tag n = server.CommandComplete (record { tag = codes "SELECT " ++ decimal n })
 
 -- all rows, and then the tag that counts them
 pub rows_sent : {out mid new_out : List ℕ} (rows yielded left : List DataRow) (n : ℕ) → rows ≡ yielded ++ left → left ≡ [] → n ≡ length rows
-    → AppendsReplies out mid (map (λ row. server.DataRow row) yielded) → AppendsReplies mid new_out (select_tag n ∷ []) → AppendsReplies out new_out (row_replies rows)
+    → AppendsReplies out mid (map (λ row. server.DataRow row) yielded) → AppendsReplies mid new_out (select_tag n ∷ [])
+        → AppendsReplies out new_out (row_replies rows)
 rows_sent {out} {mid} {new_out} rows yielded left n all none count p q =
     let all_yielded : yielded ≡ rows = sym (all ∙ ap (λ l. yielded ++ l) none ∙ append-nil yielded) in
-    let p' : AppendsReplies out mid (map (λ row. server.DataRow row) rows) = subst (λ l. AppendsReplies out mid (map (λ row. server.DataRow row) l)) all_yielded p in
-    let q' : AppendsReplies mid new_out (select_tag (length rows) ∷ []) = subst (λ k. AppendsReplies mid new_out (select_tag k ∷ [])) count q in
+    let p' : AppendsReplies out mid (map (λ row. server.DataRow row) rows) = subst
+        (λ l. AppendsReplies out mid (map (λ row. server.DataRow row) l)) all_yielded p in
+    let q' : AppendsReplies mid new_out (select_tag (length rows) ∷ []) = subst
+        (λ k. AppendsReplies mid new_out (select_tag k ∷ [])) count q in
     Appends-then p' q'

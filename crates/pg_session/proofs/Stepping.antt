@@ -34,15 +34,18 @@ parsed_same : (answers : List Bool) (s : SessionState) (m : _) (o : Option ℕ) 
 parsed_same answers s m None = refl
 parsed_same answers s m (Some n) = refl
 
-bound_same : (answers : List Bool) (s : SessionState) (m : _) (o : Option Statement) → bound answers s m o ≡ with_left answers (bound [] s m o)
+bound_same : (answers : List Bool) (s : SessionState) (m : _) (o : Option Statement) → bound answers s m o
+    ≡ with_left answers (bound [] s m o)
 bound_same answers s m None = refl
 bound_same answers s m (Some n) = refl
 
-executed_same : (setting : Setting) (answers : List Bool) (s : SessionState) (m : _) (o : Option Portal) → executed setting answers s m o ≡ with_left answers (executed setting [] s m o)
+executed_same : (setting : Setting) (answers : List Bool) (s : SessionState) (m : _) (o : Option Portal) → executed setting answers s m o
+    ≡ with_left answers (executed setting [] s m o)
 executed_same setting answers s m None = refl
 executed_same setting answers s m (Some n) = refl
 
-row_same : (setting : Setting) (answers : List Bool) (s : SessionState) (p : PgWireConnectionState) (m : PgWireFrontendMessage) → row setting answers s p m ≡ with_left answers (row setting [] s p m)
+row_same : (setting : Setting) (answers : List Bool) (s : SessionState) (p : PgWireConnectionState) (m : PgWireFrontendMessage)
+    → row setting answers s p m ≡ with_left answers (row setting [] s p m)
 row_same setting answers s phase.AwaitingStartup (client.Startup m) = refl
 row_same setting answers s phase.AwaitingStartup (client.Parse m) = refl
 row_same setting answers s phase.AwaitingStartup (client.Bind m) = refl
@@ -63,16 +66,20 @@ row_same setting answers s phase.AwaitingSync (client.PgSync m) = refl
 row_same setting answers s phase.AwaitingSync (client.Terminate m) = refl
 
 built_same : (b : Bool) (setting : Setting) (answers : List Bool) (s : SessionState) (m : PgWireFrontendMessage)
-    → cond b (row setting answers s s.state m) (ends answers end.BadFrame) ≡ with_left answers (cond b (row setting [] s s.state m) (ends [] end.BadFrame))
+    → cond b (row setting answers s s.state m) (ends answers end.BadFrame)
+        ≡ with_left answers (cond b (row setting [] s s.state m) (ends [] end.BadFrame))
 built_same true setting answers s m = row_same setting answers s s.state m
 built_same false setting answers s m = refl
 
-answer_same : (setting : Setting) (answers : List Bool) (s : SessionState) (m : PgWireFrontendMessage) → answer setting answers s m ≡ with_left answers (answer setting [] s m)
+answer_same : (setting : Setting) (answers : List Bool) (s : SessionState) (m : PgWireFrontendMessage) → answer setting answers s m
+    ≡ with_left answers (answer setting [] s m)
 answer_same setting answers s m = built_same (is_built m) setting answers s m
 
 -- what the table answers to a message
-pub answered_by : (setting : Setting) (s : SessionState) (text frame rest : List ℕ) (m : PgWireFrontendMessage) → text ≡ frame ++ rest → IsFrame (awaits s) frame m
-    → IsAnswered setting s text rest (replies_bytes (answer setting [] s m).replies) (answer setting [] s m).calls (answer setting [] s m).next
+pub answered_by : (setting : Setting) (s : SessionState) (text frame rest : List ℕ) (m : PgWireFrontendMessage) → text ≡ frame ++ rest
+    → IsFrame (awaits s) frame m
+    → IsAnswered setting s text rest (replies_bytes (answer setting [] s m).replies) (answer setting [] s m).calls
+        (answer setting [] s m).next
 answered_by setting s text frame rest m e f = record {
   message = m;
   frame = frame;
@@ -83,7 +90,8 @@ answered_by setting s text frame rest m e f = record {
   goes_on = λ answers. ap (λ a. a.next) (answer_same setting answers s m);
 }
 
-pub serves_none : (setting : Setting) (s : SessionState) (text rest : List ℕ) (w : Option (List ℕ)) (o : List ℕ) (calls : List DeskCall) → rest ≡ text
+pub serves_none : (setting : Setting) (s : SessionState) (text rest : List ℕ) (w : Option (List ℕ)) (o : List ℕ) (calls : List DeskCall)
+    → rest ≡ text
     → IsServed setting s text rest (Goes s) w w o o calls calls
 serves_none setting s text rest w o calls e = record {
   bytes = [];
@@ -93,21 +101,26 @@ serves_none setting s text rest w o calls e = record {
   grown = sym (append-nil calls);
 }
 
-pub serves_one : (setting : Setting) (s : SessionState) (text frame rest : List ℕ) (m : PgWireFrontendMessage) → text ≡ frame ++ rest → IsFrame (awaits s) frame m
-    → {out new_out : List ℕ} {calls new_calls : List DeskCall} {next : Next} (w : Option (List ℕ)) → ((answers : List Bool) → IsCarriedOut (answer setting answers s m) out new_out calls new_calls next)
+pub serves_one : (setting : Setting) (s : SessionState) (text frame rest : List ℕ) (m : PgWireFrontendMessage) → text ≡ frame ++ rest
+    → IsFrame (awaits s) frame m
+    → {out new_out : List ℕ} {calls new_calls : List DeskCall} {next : Next} (w : Option (List ℕ))
+        → ((answers : List Bool) → IsCarriedOut (answer setting answers s m) out new_out calls new_calls next)
     → IsServed setting s text rest next w w out new_out calls new_calls
 serves_one setting s text frame rest m e f {out} {new_out} {calls} {new_calls} {next} w carried = record {
   bytes = replies_bytes (answer setting [] s m).replies;
   called = (answer setting [] s m).calls;
-  fed = subst (λ n. IsFed setting s text rest (replies_bytes (answer setting [] s m).replies) (answer setting [] s m).calls n) (carried []).goes_on
+  fed = subst (λ n. IsFed setting s text rest (replies_bytes (answer setting [] s m).replies) (answer setting [] s m).calls n)
+      (carried []).goes_on
       (IsFed-one (answered_by setting s text frame rest m e f));
   flows = Flows-wait w out new_out (replies_bytes (answer setting [] s m).replies) (carried []).replied.bytes;
   grown = (carried []).called;
 }
 
 -- and then more flows
-pub serves_flow : {setting : Setting} {s : SessionState} {text rest : List ℕ} {next : Next} {w v : Option (List ℕ)} {o p : List ℕ} {calls new_calls : List DeskCall} (u : Option (List ℕ)) (q : List ℕ)
-    → IsServed setting s text rest next w v o p calls new_calls → Flows v u p q [] → IsServed setting s text rest next w u o q calls new_calls
+pub serves_flow : {setting : Setting} {s : SessionState} {text rest : List ℕ} {next : Next} {w v : Option (List ℕ)} {o p : List ℕ}
+    {calls new_calls : List DeskCall} (u : Option (List ℕ)) (q : List ℕ)
+    → IsServed setting s text rest next w v o p calls new_calls → Flows v u p q []
+        → IsServed setting s text rest next w u o q calls new_calls
 serves_flow {w = w} {o = o} u q x y = record {
   bytes = x.bytes;
   called = x.called;
@@ -116,7 +129,8 @@ serves_flow {w = w} {o = o} u q x y = record {
   grown = x.grown;
 }
 
-pub cut_none : (setting : Setting) (s : SessionState) (text : List ℕ) (w : Option (List ℕ)) (o : List ℕ) (calls : List DeskCall) → IsCutOff setting s text w w o calls calls
+pub cut_none : (setting : Setting) (s : SessionState) (text : List ℕ) (w : Option (List ℕ)) (o : List ℕ) (calls : List DeskCall)
+    → IsCutOff setting s text w w o calls calls
 cut_none setting s text w o calls = record {
   rest = text;
   next = Goes s;
@@ -128,8 +142,10 @@ cut_none setting s text w o calls = record {
 }
 
 -- a message whose answer was cut off
-pub cut_one : (setting : Setting) (s : SessionState) (text frame rest : List ℕ) (m : PgWireFrontendMessage) → text ≡ frame ++ rest → IsFrame (awaits s) frame m
-    → (w : Option (List ℕ)) (o : List ℕ) (calls new_calls : List DeskCall) → GrowsByFrontOf (answer setting [] s m).calls calls new_calls → IsCutOff setting s text w w o calls new_calls
+pub cut_one : (setting : Setting) (s : SessionState) (text frame rest : List ℕ) (m : PgWireFrontendMessage) → text ≡ frame ++ rest
+    → IsFrame (awaits s) frame m
+    → (w : Option (List ℕ)) (o : List ℕ) (calls new_calls : List DeskCall) → GrowsByFrontOf (answer setting [] s m).calls calls new_calls
+        → IsCutOff setting s text w w o calls new_calls
 cut_one setting s text frame rest m e f w o calls new_calls g = record {
   rest = rest;
   next = (answer setting [] s m).next;
@@ -141,7 +157,8 @@ cut_one setting s text frame rest m e f w o calls new_calls g = record {
 }
 
 -- what was served and waits is sent, and the sending is cut off
-pub cut_served : {setting : Setting} {s : SessionState} {text rest : List ℕ} {next : Next} {w v : Option (List ℕ)} {o p : List ℕ} {calls new_calls : List DeskCall} (u : Option (List ℕ))
+pub cut_served : {setting : Setting} {s : SessionState} {text rest : List ℕ} {next : Next} {w v : Option (List ℕ)} {o p : List ℕ}
+    {calls new_calls : List DeskCall} (u : Option (List ℕ))
     → IsServed setting s text rest next w v o p calls new_calls → GrowsByFront v u p → IsCutOff setting s text w u o calls new_calls
 cut_served {rest = rest} {next = next} {calls = calls} {new_calls = new_calls} u x g = record {
   rest = rest;
@@ -154,7 +171,8 @@ cut_served {rest = rest} {next = next} {calls = calls} {new_calls = new_calls} u
 }
 
 -- where the conversation stands by the end that a message told
-pub stands_by : (e : Option EndKind) (s : SessionState) (rest : List ℕ) (step : Option Progress) → step ≡ option_map (λ kind. progress.Ended kind) e → e ≢ Some end.InputEnd → StandsAfterStep (next_of e s) s rest step
+pub stands_by : (e : Option EndKind) (s : SessionState) (rest : List ℕ) (step : Option Progress) → step
+    ≡ option_map (λ kind. progress.Ended kind) e → e ≢ Some end.InputEnd → StandsAfterStep (next_of e s) s rest step
 stands_by None s rest step h told = subst (λ p. StandsAfterStep (Goes s) s rest p) (sym h) refl
 stands_by (Some kind) s rest step h told = subst (λ p. StandsAfterStep (Ends kind) s rest p) (sym h) (λ e. told (ap Some e), λ more. refl)
 
@@ -162,8 +180,10 @@ pub bad_is_no_end_of_input : end.BadFrame ≢ end.InputEnd
 bad_is_no_end_of_input e = cc
 
 -- what was served, and then more
-pub serves_then : {setting : Setting} {s t : SessionState} {text mid rest : List ℕ} {next : Next} {w v u : Option (List ℕ)} {o p q : List ℕ} {k l m : List DeskCall}
-    → IsServed setting s text mid (Goes t) w v o p k l → IsServed setting t mid rest next v u p q l m → IsServed setting s text rest next w u o q k m
+pub serves_then : {setting : Setting} {s t : SessionState} {text mid rest : List ℕ} {next : Next} {w v u : Option (List ℕ)} {o p q : List ℕ}
+    {k l m : List DeskCall}
+    → IsServed setting s text mid (Goes t) w v o p k l → IsServed setting t mid rest next v u p q l m
+        → IsServed setting s text rest next w u o q k m
 serves_then {k = k} x y = record {
   bytes = x.bytes ++ y.bytes;
   called = x.called ++ y.called;
@@ -172,7 +192,8 @@ serves_then {k = k} x y = record {
   grown = y.grown ∙ ap (λ c. c ++ y.called) x.grown ∙ append_assoc k x.called y.called;
 }
 
-pub serves_to : {setting : Setting} {s t : SessionState} {text rest : List ℕ} {next : Next} {w v : Option (List ℕ)} {o p : List ℕ} {k l : List DeskCall}
+pub serves_to : {setting : Setting} {s t : SessionState} {text rest : List ℕ} {next : Next} {w v : Option (List ℕ)} {o p : List ℕ}
+    {k l : List DeskCall}
     → next ≡ Goes t → IsServed setting s text rest next w v o p k l → IsServed setting s text rest (Goes t) w v o p k l
 serves_to {setting} {s} {t} {text} {rest} {next} {w} {v} {o} {p} {k} {l} e x = subst (λ n. IsServed setting s text rest n w v o p k l) e x
 
@@ -192,7 +213,8 @@ cut_then {w = w} {v = v} {u = u} {o = o} {p = p} {k = k} x y = record {
 }
 
 -- More bytes keep the frames that are there.
-pub serves_more : {setting : Setting} {s : SessionState} {text rest : List ℕ} {next : Next} {w v : Option (List ℕ)} {o q : List ℕ} {k l : List DeskCall} (p : List ℕ)
+pub serves_more : {setting : Setting} {s : SessionState} {text rest : List ℕ} {next : Next} {w v : Option (List ℕ)} {o q : List ℕ}
+    {k l : List DeskCall} (p : List ℕ)
     → IsServed setting s text rest next w v o q k l → IsServed setting s (text ++ p) (rest ++ p) next w v o q k l
 serves_more {setting} {s} {text} {rest} {next} p x = record {
   bytes = x.bytes;
@@ -200,7 +222,8 @@ serves_more {setting} {s} {text} {rest} {next} p x = record {
   fed = record {
     messages = x.fed.messages;
     division = λ more. subst (λ t. DividesInto (awaits s) t x.fed.messages ((rest ++ p) ++ more)) (sym (append_assoc text p more))
-        (subst (λ r. DividesInto (awaits s) (text ++ (p ++ more)) x.fed.messages r) (sym (append_assoc rest p more)) (x.fed.division (p ++ more)));
+        (subst (λ r. DividesInto (awaits s) (text ++ (p ++ more)) x.fed.messages r) (sym (append_assoc rest p more))
+            (x.fed.division (p ++ more)));
     replied = x.fed.replied;
     called = x.fed.called;
     goes_on = x.fed.goes_on;
@@ -210,9 +233,12 @@ serves_more {setting} {s} {text} {rest} {next} p x = record {
 }
 
 -- the same where other bytes waited before
-pub serves_from : {setting : Setting} {s : SessionState} {text rest : List ℕ} {next : Next} {w v : Option (List ℕ)} {o p q : List ℕ} {k l : List DeskCall}
+pub serves_from : {setting : Setting} {s : SessionState} {text rest : List ℕ} {next : Next} {w v : Option (List ℕ)} {o p q : List ℕ}
+    {k l : List DeskCall}
     → o ≡ p → IsServed setting s text rest next w v o q k l → IsServed setting s text rest next w v p q k l
-serves_from {setting} {s} {text} {rest} {next} {w} {v} {o} {p} {q} {k} {l} e x = subst (λ n. IsServed setting s text rest next w v n q k l) e x
+serves_from {setting} {s} {text} {rest} {next} {w} {v} {o} {p} {q} {k} {l} e x = subst
+    (λ n. IsServed setting s text rest next w v n q k l) e x
 
-pub cut_from : {setting : Setting} {s : SessionState} {text : List ℕ} {w v : Option (List ℕ)} {o p : List ℕ} {k l : List DeskCall} → o ≡ p → IsCutOff setting s text w v o k l → IsCutOff setting s text w v p k l
+pub cut_from : {setting : Setting} {s : SessionState} {text : List ℕ} {w v : Option (List ℕ)} {o p : List ℕ} {k l : List DeskCall} → o ≡ p
+    → IsCutOff setting s text w v o k l → IsCutOff setting s text w v p k l
 cut_from {setting} {s} {text} {w} {v} {o} {p} {k} {l} e x = subst (λ n. IsCutOff setting s text w v n k l) e x

@@ -9,7 +9,8 @@ use Rattle.pg_portal.specs.declared.portal.Portal.{Portal}
 use Rattle.pg_portal.specs.declared.portal.Store.{Store}
 use Rattle.pg_session.specs.Steps.{IsGoodStore}
 
-each_after_insert : {X : Type 0} (P : X → Type 0) (m : NameMap X) (k : List ℕ) (v : X) → P v → ((q : List ℕ) (x : X) → fin.get m q ≡ Some x → P x)
+each_after_insert : {X : Type 0} (P : X → Type 0) (m : NameMap X) (k : List ℕ) (v : X) → P v
+    → ((q : List ℕ) (x : X) → fin.get m q ≡ Some x → P x)
     → (q : List ℕ) (x : X) → fin.get (fin.insert m k v) q ≡ Some x → P x
 each_after_insert P m k v pv each q x e = by_case (eq_by_cmp (slice_cmp nat_cmp) q k) (sym (fin.get-insert nat_list_cmp_total m k v q) ∙ e)
   where

@@ -39,7 +39,8 @@ refused answers s new_s {out} {new_out} code text shown e p q = record {
 }
 
 -- the same where a desk stood by
-pub refused_by_desk : (answers : List Bool) (s new_s : SessionState) {out new_out : List ℕ} (code text shown : List ℕ) (calls : List DeskCall) → text ≡ shown
+pub refused_by_desk : (answers : List Bool) (s new_s : SessionState) {out new_out : List ℕ} (code text shown : List ℕ)
+    (calls : List DeskCall) → text ≡ shown
     → AppendsReplies out new_out (error_response code text ∷ []) → new_s ≡ refused_state s
     → IsCarriedOut (refuses answers s (error_response code shown)) out new_out calls calls (Goes new_s)
 refused_by_desk answers s new_s {out} {new_out} code text shown calls e p q = record {
@@ -48,7 +49,8 @@ refused_by_desk answers s new_s {out} {new_out} code text shown calls e p q = re
   goes_on = ap Goes (sym q);
 }
 
-pub said : (answers : List Bool) (replies : List PgWireBackendMessage) (s : SessionState) {out new_out : List ℕ} → AppendsReplies out new_out replies
+pub said : (answers : List Bool) (replies : List PgWireBackendMessage) (s : SessionState) {out new_out : List ℕ}
+    → AppendsReplies out new_out replies
     → IsCarriedOut (says answers replies s) out new_out [] [] (Goes s)
 said answers replies s p = record { replied = p; called = refl; goes_on = refl }
 
@@ -82,10 +84,13 @@ portal_name_short m frame f =
     let l = f.limit in omega arith
 
 -- a row that calls nothing, where a desk stood by
-pub at_desk : {a : Answer} {out new_out : List ℕ} {next : Next} (calls : List DeskCall) → IsCarriedOut a out new_out [] [] next → IsCarriedOut a out new_out calls calls next
-at_desk {a} calls p = record { replied = p.replied; called = sym (ap (λ l. calls ++ l) (sym p.called) ∙ append-nil calls); goes_on = p.goes_on }
+pub at_desk : {a : Answer} {out new_out : List ℕ} {next : Next} (calls : List DeskCall) → IsCarriedOut a out new_out [] [] next
+    → IsCarriedOut a out new_out calls calls next
+at_desk {a} calls p = record { replied = p.replied; called = sym
+    (ap (λ l. calls ++ l) (sym p.called) ∙ append-nil calls); goes_on = p.goes_on }
 
 -- a form that is built is answered by the row of its phase
 pub answer_is : (setting : Setting) (answers : List Bool) (s : SessionState) (m : PgWireFrontendMessage) (p : PgWireConnectionState)
     → is_built m ≡ true → s.state ≡ p → answer setting answers s m ≡ row setting answers s p m
-answer_is setting answers s m p built at = ap (λ b. cond b (row setting answers s s.state m) (ends answers end.BadFrame)) built ∙ ap (λ q. row setting answers s q m) at
+answer_is setting answers s m p built at = ap (λ b. cond b (row setting answers s s.state m) (ends answers end.BadFrame)) built
+    ∙ ap (λ q. row setting answers s q m) at

@@ -67,7 +67,8 @@ error_response code message = server.ErrorResponse (record { info = record { sev
 
 -- An error of an extended message: the statements and portals stay, and all is dropped until the next Sync.
 abbrev pub refuses : List Bool → SessionState → PgWireBackendMessage → Answer
-refuses answers s error = says answers (error ∷ []) (record { state = phase.AwaitingSync; status = to_error_state s.status; store = s.store })
+refuses answers s error = says answers (error ∷ [])
+    (record { state = phase.AwaitingSync; status = to_error_state s.status; store = s.store })
 
 abbrev pub quoted : List ℕ → List ℕ
 quoted name = 34 ∷ name ++ 34 ∷ []
@@ -104,7 +105,8 @@ on_startup setting answers m = says answers (startup_replies setting.pid setting
 abbrev pub parsed : List Bool → SessionState → Parse → Option ℕ → Answer
 parsed answers s m None = refuses answers s (unknown_relation (trimmed m.query))
 parsed answers s m (Some relation) = says answers (server.ParseComplete (record {}) ∷ [])
-    (record { state = s.state; status = s.status; store = record { statements = fin.insert s.store.statements m.name (record { relation = relation }); portals = s.store.portals } })
+    (record { state = s.state; status = s.status; store = record
+        { statements = fin.insert s.store.statements m.name (record { relation = relation }); portals = s.store.portals } })
 
 abbrev pub on_parse : Setting → List Bool → SessionState → Parse → Answer
 on_parse setting answers s m = parsed answers s m (setting.told.relation_of (trimmed m.query))
@@ -113,7 +115,9 @@ on_parse setting answers s m = parsed answers s m (setting.told.relation_of (tri
 abbrev pub bound : List Bool → SessionState → Bind → Option Statement → Answer
 bound answers s m None = refuses answers s (missing_statement m.statement_name)
 bound answers s m (Some statement) = says answers (server.BindComplete (record {}) ∷ [])
-    (record { state = s.state; status = s.status; store = record { statements = s.store.statements; portals = fin.insert s.store.portals m.portal_name (record { relation = statement.relation; state = portal.Initial }) } })
+    (record { state = s.state; status = s.status; store = record
+        { statements = s.store.statements; portals = fin.insert s.store.portals m.portal_name
+        (record { relation = statement.relation; state = portal.Initial }) } })
 
 abbrev pub on_bind : List Bool → SessionState → Bind → Answer
 on_bind answers s m = bound answers s m (fin.get s.store.statements m.statement_name)
@@ -125,7 +129,8 @@ page_rows told relation portal.Finished = []
 
 -- one DataRow for each row, and a tag that counts them
 abbrev pub row_replies : List DataRow → List PgWireBackendMessage
-row_replies rows = map (λ row. server.DataRow row) rows ++ server.CommandComplete (record { tag = codes "SELECT " ++ decimal (length rows) }) ∷ []
+row_replies rows = map (λ row. server.DataRow row) rows ++ server.CommandComplete
+    (record { tag = codes "SELECT " ++ decimal (length rows) }) ∷ []
 
 -- to start a portal is one call of the registry
 abbrev pub start_calls : PortalExecutionState → List DeskCall
@@ -139,7 +144,10 @@ executed setting answers s m (Some p) = record {
   replies = row_replies (page_rows setting.told p.relation p.state);
   calls = start_calls p.state;
   left = answers;
-  next = Goes (record { state = s.state; status = s.status; store = record { statements = s.store.statements; portals = fin.insert s.store.portals m.name (record { relation = p.relation; state = portal.Finished }) } });
+  next = Goes
+      (record { state = s.state; status = s.status; store = record
+      { statements = s.store.statements; portals = fin.insert s.store.portals m.name
+      (record { relation = p.relation; state = portal.Finished }) } });
 }
 
 abbrev pub on_execute : Setting → List Bool → SessionState → Execute → Answer
@@ -148,7 +156,8 @@ on_execute setting answers s m = executed setting answers s m (fin.get s.store.p
 -- Sync: the unnamed portal goes, and the client is told that the server is ready.
 abbrev pub on_sync : List Bool → SessionState → Answer
 on_sync answers s = says answers (server.ReadyForQuery (record { status = s.status }) ∷ [])
-    (record { state = phase.ReadyForQuery; status = s.status; store = record { statements = s.store.statements; portals = fin.remove s.store.portals [] } })
+    (record { state = phase.ReadyForQuery; status = s.status; store = record
+        { statements = s.store.statements; portals = fin.remove s.store.portals [] } })
 
 -- result codes that are the one code 1: each column is binary
 abbrev pub is_one_binary : List ℤ → Bool

@@ -38,7 +38,8 @@ abbrev pub awaits : SessionState → Bool
 awaits s = is_startup_phase s.state
 
 -- The conversation over the whole frames of a text, and the bytes that are left of it.
-pub record Converses (setting : Setting) (answers : List Bool) (s : SessionState) (text : List ℕ) (given : Answer) (rest : List ℕ) : Type 0 where
+pub record Converses (setting : Setting) (answers : List Bool) (s : SessionState) (text : List ℕ) (given : Answer)
+    (rest : List ℕ) : Type 0 where
   pub messages : List PgWireFrontendMessage
   pub division : DividesInto (awaits s) text messages rest
   pub answered : given ≡ conversation setting answers s messages

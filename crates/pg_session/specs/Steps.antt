@@ -29,7 +29,8 @@ setting_of relation_of rows_of pid key = record { told = told_by relation_of row
 
 -- the setting of a host, by what its handlers tell
 abbrev pub host_setting : {H : Type 0} → (H → List ℕ → Option ℕ) → (H → ℕ → List DataRow) → Host H → Setting
-host_setting relation_of rows_of host = setting_of (relation_of (arc_value host.handlers)) (rows_of (arc_value host.handlers)) host.pid host.key
+host_setting relation_of rows_of host = setting_of (relation_of (arc_value host.handlers))
+    (rows_of (arc_value host.handlers)) host.pid host.key
 
 -- a list has grown by a front of others
 pub record GrowsByFrontOf {A : Type 0} (others old new : List A) : Type 0 where
@@ -87,7 +88,8 @@ pub record IsFed (setting : Setting) (s : SessionState) (text rest bytes : List 
   pub goes_on : (answers : List Bool) → (conversation setting answers s messages).next ≡ next
 
 -- A text was served as far as it goes: its frames were answered, the bytes went through the outbox, the calls were made.
-pub record IsServed (setting : Setting) (s : SessionState) (text rest : List ℕ) (next : Next) (written new_written : Option (List ℕ)) (out new_out : List ℕ) (calls new_calls : List DeskCall) : Type 0 where
+pub record IsServed (setting : Setting) (s : SessionState) (text rest : List ℕ) (next : Next) (written new_written : Option (List ℕ))
+    (out new_out : List ℕ) (calls new_calls : List DeskCall) : Type 0 where
   pub bytes : List ℕ
   pub called : List DeskCall
   pub fed : IsFed setting s text rest bytes called next
@@ -95,7 +97,8 @@ pub record IsServed (setting : Setting) (s : SessionState) (text rest : List ℕ
   pub grown : new_calls ≡ calls ++ called
 
 -- The serving of a text was cut off: the bytes that were written and the calls that were made are a front of the answer to its frames.
-pub record IsCutOff (setting : Setting) (s : SessionState) (text : List ℕ) (written new_written : Option (List ℕ)) (out : List ℕ) (calls new_calls : List DeskCall) : Type 0 where
+pub record IsCutOff (setting : Setting) (s : SessionState) (text : List ℕ) (written new_written : Option (List ℕ)) (out : List ℕ)
+    (calls new_calls : List DeskCall) : Type 0 where
   pub rest : List ℕ
   pub next : Next
   pub bytes : List ℕ

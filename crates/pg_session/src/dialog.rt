@@ -42,7 +42,8 @@ fn flush<K: Sink>(outbox: &mut Outbox, sink: &mut K) -> Result<(), ServeError>
 
 /// Sends what waits in the outbox where it is a chunk or more.
 fn flush_if_full<K: Sink>(outbox: &mut Outbox, sink: &mut K) -> Result<(), ServeError>
-    ensures ok { OnOk result (Flows (K.written sink.old) (K.written sink.new) outbox.old outbox.new []) }
+    ensures ok
+        { OnOk result (Flows (K.written sink.old) (K.written sink.new) outbox.old outbox.new []) }
     ensures err { OnErr result (GrowsByFront (K.written sink.old) (K.written sink.new) outbox.old) }
     ensures cause { HasSinkCause (K.faults sink.old) (K.faults sink.new) result }
 {
@@ -65,15 +66,21 @@ impl Dialog {
         requires good { IsGoodStore (H.count (arc_value host.now.handlers)) self.old.state.store }
         ensures served { IfOk result (λ step. (next : Next) × IsServed
             (host_setting H.relation_of H.rows_of host.now)
-            self.old.state self.old.rest.items self.new.rest.items next (K.written sink.old) (K.written sink.new)
+            self.old.state self.old.rest.items self.new.rest.items next (K.written sink.old)
+                (K.written sink.new)
             self.old.outbox self.new.outbox (D.calls desk.old) (D.calls desk.new)
             × StandsAfterStep next self.new.state self.new.rest.items step) }
         ensures cut_off { OnErr result (IsCutOff
             (host_setting H.relation_of H.rows_of host.now)
-            self.old.state self.old.rest.items (K.written sink.old) (K.written sink.new) self.old.outbox
+            self.old.state self.old.rest.items (K.written sink.old)
+                (K.written sink.new) self.old.outbox
             (D.calls desk.old) (D.calls desk.new)) }
-        ensures good { OnOk result (IsGoodStore (H.count (arc_value host.now.handlers)) self.new.state.store) }
-        ensures shorter { IfOk result (λ step. IfNone step (length self.new.rest.items < length self.old.rest.items)) }
+        ensures good
+            { OnOk result (IsGoodStore (H.count (arc_value host.now.handlers)) self.new.state.store)
+            }
+        ensures shorter
+            { IfOk result (λ step. IfNone step
+            (length self.new.rest.items < length self.old.rest.items)) }
         ensures cause { HasSinkCause (K.faults sink.old) (K.faults sink.new) result }
         ensures same { D.registration desk.new ≡ D.registration desk.old }
         ensures origin { D.origin desk.new ≡ D.origin desk.old }
@@ -103,15 +110,19 @@ impl Dialog {
         requires good { IsGoodStore (H.count (arc_value host.now.handlers)) self.old.state.store }
         ensures served { IfOk result (λ told. (next : Next) × IsServed
             (host_setting H.relation_of H.rows_of host.now)
-            self.old.state self.old.rest.items self.new.rest.items next (K.written sink.old) (K.written sink.new)
+            self.old.state self.old.rest.items self.new.rest.items next (K.written sink.old)
+                (K.written sink.new)
             self.old.outbox [] (D.calls desk.old) (D.calls desk.new)
             × Stands next self.new.state self.new.rest.items told) }
         ensures cut_off { OnErr result (IsCutOff
             (host_setting H.relation_of H.rows_of host.now)
-            self.old.state self.old.rest.items (K.written sink.old) (K.written sink.new) self.old.outbox
+            self.old.state self.old.rest.items (K.written sink.old)
+                (K.written sink.new) self.old.outbox
             (D.calls desk.old) (D.calls desk.new)) }
         ensures sent { OnOk result (self.new.outbox ≡ []) }
-        ensures good { OnOk result (IsGoodStore (H.count (arc_value host.now.handlers)) self.new.state.store) }
+        ensures good
+            { OnOk result (IsGoodStore (H.count (arc_value host.now.handlers)) self.new.state.store)
+            }
         ensures cause { HasSinkCause (K.faults sink.old) (K.faults sink.new) result }
         ensures same { D.registration desk.new ≡ D.registration desk.old }
         ensures origin { D.origin desk.new ≡ D.origin desk.old }
@@ -139,15 +150,19 @@ impl Dialog {
         requires good { IsGoodStore (H.count (arc_value host.now.handlers)) self.old.state.store }
         ensures served { IfOk result (λ told. (next : Next) × IsServed
             (host_setting H.relation_of H.rows_of host.now)
-            self.old.state (self.old.rest.items ++ piece.now) self.new.rest.items next (K.written sink.old) (K.written sink.new)
+            self.old.state (self.old.rest.items ++ piece.now) self.new.rest.items next
+                (K.written sink.old) (K.written sink.new)
             self.old.outbox [] (D.calls desk.old) (D.calls desk.new)
             × Stands next self.new.state self.new.rest.items told) }
         ensures cut_off { OnErr result (IsCutOff
             (host_setting H.relation_of H.rows_of host.now)
-            self.old.state (self.old.rest.items ++ piece.now) (K.written sink.old) (K.written sink.new) self.old.outbox
+            self.old.state (self.old.rest.items ++ piece.now) (K.written sink.old)
+                (K.written sink.new) self.old.outbox
             (D.calls desk.old) (D.calls desk.new)) }
         ensures sent { OnOk result (self.new.outbox ≡ []) }
-        ensures good { OnOk result (IsGoodStore (H.count (arc_value host.now.handlers)) self.new.state.store) }
+        ensures good
+            { OnOk result (IsGoodStore (H.count (arc_value host.now.handlers)) self.new.state.store)
+            }
         ensures cause { HasSinkCause (K.faults sink.old) (K.faults sink.new) result }
         ensures same { D.registration desk.new ≡ D.registration desk.old }
         ensures origin { D.origin desk.new ≡ D.origin desk.old }

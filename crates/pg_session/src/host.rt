@@ -92,7 +92,8 @@ impl<H: FirstRows> Host<H> {
             (answer (host_setting H.relation_of H.rows_of self.now) answers state.old message)
             outbox.old outbox.new (D.calls desk.old) (D.calls desk.new) (next_of end state.new)) }
         ensures ends { IfOk result (λ end. end ≢ Some InputEnd) }
-        ensures good { OnOk result (IsGoodStore (H.count (arc_value self.now.handlers)) state.new.store) }
+        ensures good
+            { OnOk result (IsGoodStore (H.count (arc_value self.now.handlers)) state.new.store) }
         ensures err { OnErr result ((answers : List Bool) → GrowsByFrontOf
             (answer (host_setting H.relation_of H.rows_of self.now) answers state.old message).calls
             (D.calls desk.old) (D.calls desk.new)) }
@@ -129,7 +130,8 @@ impl<H: FirstRows> Host<H> {
         message: &PgWireFrontendMessage,
     ) -> Result<Option<EndKind>, AllocError>
         ensures answer { IfOk result (λ end. (answers : List Bool) → IsCarriedOut
-            (row (host_setting H.relation_of H.rows_of self.now) answers state.old phase.AwaitingStartup message.now)
+            (row (host_setting H.relation_of H.rows_of self.now) answers state.old
+                phase.AwaitingStartup message.now)
             outbox.old outbox.new [] [] (next_of end state.new)) }
         ensures ends { IfOk result (λ end. end ≢ Some InputEnd) }
         ensures good { (count : ℕ) → IsGoodStore count state.old.store
@@ -160,12 +162,15 @@ impl<H: FirstRows> Host<H> {
         requires given { IsGiven false message }
         requires good { IsGoodStore (H.count (arc_value self.now.handlers)) state.old.store }
         ensures answer { IfOk result (λ end. (answers : List Bool) → IsCarriedOut
-            (row (host_setting H.relation_of H.rows_of self.now) answers state.old phase.ReadyForQuery message)
+            (row (host_setting H.relation_of H.rows_of self.now) answers state.old
+                phase.ReadyForQuery message)
             outbox.old outbox.new (D.calls desk.old) (D.calls desk.new) (next_of end state.new)) }
         ensures ends { IfOk result (λ end. end ≢ Some InputEnd) }
-        ensures good { OnOk result (IsGoodStore (H.count (arc_value self.now.handlers)) state.new.store) }
+        ensures good
+            { OnOk result (IsGoodStore (H.count (arc_value self.now.handlers)) state.new.store) }
         ensures err { OnErr result ((answers : List Bool) → GrowsByFrontOf
-            (row (host_setting H.relation_of H.rows_of self.now) answers state.old phase.ReadyForQuery message).calls
+            (row (host_setting H.relation_of H.rows_of self.now) answers state.old
+                phase.ReadyForQuery message).calls
             (D.calls desk.old) (D.calls desk.new)) }
         ensures same { D.registration desk.new ≡ D.registration desk.old }
         ensures origin { D.origin desk.new ≡ D.origin desk.old }
@@ -191,7 +196,8 @@ fn on_awaiting_sync(
     message: &PgWireFrontendMessage,
 ) -> Result<Option<EndKind>, AllocError>
     ensures answer { IfOk result (λ end. (setting : Setting) (answers : List Bool) → IsCarriedOut
-        (row setting answers state.old phase.AwaitingSync message.now) outbox.old outbox.new [] [] (next_of end state.new)) }
+        (row setting answers state.old phase.AwaitingSync message.now) outbox.old outbox.new [] []
+            (next_of end state.new)) }
     ensures ends { IfOk result (λ end. end ≢ Some InputEnd) }
     ensures good { (count : ℕ) → IsGoodStore count state.old.store
         → OnOk result (IsGoodStore count state.new.store) }

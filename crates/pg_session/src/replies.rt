@@ -43,7 +43,8 @@ pub(crate) fn push_error(
     requires code_len { length code.now ≤ 5 }
     requires message { HasNoZero message }
     requires message_len { length message ≤ longest_error_text }
-    ensures { OnOk result (AppendsReplies outbox.old outbox.new (error_response code.now message ∷ [])) }
+    ensures { OnOk result (AppendsReplies outbox.old outbox.new
+        (error_response code.now message ∷ [])) }
 {
     let info = ErrorInfo {
         severity: PgStr::copy_of(alloc, "ERROR")?,
@@ -66,7 +67,8 @@ fn push_parameter(
     requires name { HasNoZero name.now }
     requires value { HasNoZero value.now }
     requires short { length name.now + length value.now ≤ 100 }
-    ensures { OnOk result (AppendsReplies outbox.old outbox.new (parameter name.now value.now ∷ [])) }
+    ensures { OnOk result (AppendsReplies outbox.old outbox.new (parameter name.now value.now ∷ []))
+        }
 {
     let status = ParameterStatus {
         name: PgStr::copy_of(alloc, name)?,
@@ -77,7 +79,8 @@ fn push_parameter(
 
 /// AppendsReplies ReadyForQuery with a status.
 pub(crate) fn push_ready(outbox: &mut Outbox, status: TransactionStatus) -> Result<(), AllocError>
-    ensures { OnOk result (AppendsReplies outbox.old outbox.new (server.ReadyForQuery (record { status = status }) ∷ [])) }
+    ensures { OnOk result (AppendsReplies outbox.old outbox.new
+        (server.ReadyForQuery (record { status = status }) ∷ [])) }
 {
     push(
         outbox,
@@ -87,7 +90,8 @@ pub(crate) fn push_ready(outbox: &mut Outbox, status: TransactionStatus) -> Resu
 
 /// AppendsReplies BackendKeyData.
 fn push_key(outbox: &mut Outbox, pid: i32, key: [u8; 4]) -> Result<(), AllocError>
-    ensures { OnOk result (AppendsReplies outbox.old outbox.new (server.BackendKeyData (record { pid = pid; secret_key = key }) ∷ [])) }
+    ensures { OnOk result (AppendsReplies outbox.old outbox.new
+        (server.BackendKeyData (record { pid = pid; secret_key = key }) ∷ [])) }
 {
     let data = BackendKeyData {
         pid,
@@ -119,7 +123,8 @@ pub(crate) fn push_startup(
 
 /// AppendsReplies a CommandComplete that counts the rows of a page.
 fn push_select(alloc: Global, outbox: &mut Outbox, rows: usize) -> Result<(), AllocError>
-    ensures { OnOk result (AppendsReplies outbox.old outbox.new (server.CommandComplete (record { tag = codes "SELECT " ++ decimal rows }) ∷ [])) }
+    ensures { OnOk result (AppendsReplies outbox.old outbox.new
+        (server.CommandComplete (record { tag = codes "SELECT " ++ decimal rows }) ∷ [])) }
 {
     let tag = format!(in alloc; "SELECT {rows}")?;
     let tag = PgStr::copy_of(alloc, tag.as_str())?;

@@ -26,5 +26,6 @@ pub trait FirstRows {
     fn rows(&self, alloc: Global, relation: u32) -> Result<PgList<DataRow>, AllocError>
         requires { relation < count self.now }
         ensures rows { IfOk result (λ rows. rows ≡ rows_of self.now relation) }
-        ensures encodable { IfOk result (AllByRecursion (λ row. IsEncodable (server.DataRow row))) };
+        ensures encodable { IfOk result (AllByRecursion (λ row. IsEncodable (server.DataRow row)))
+            };
 }

@@ -37,8 +37,14 @@ fn refuse(
     requires code_len { length code.now ≤ 5 }
     requires message { HasNoZero message }
     requires message_len { length message ≤ longest_error_text }
-    ensures replies { OnOk result (AppendsReplies outbox.old outbox.new (error_response code.now message ∷ [])) }
-    ensures state { OnOk result (state.new ≡ record { state = phase.AwaitingSync; status = to_error_state state.old.status; store = state.old.store }) }
+    ensures replies
+        { OnOk result (AppendsReplies outbox.old outbox.new (error_response code.now message ∷ []))
+        }
+    ensures state
+        { OnOk result
+        (state.new
+        ≡ record { state = phase.AwaitingSync; status = to_error_state state.old.status; store =
+        state.old.store }) }
 {
     push_error(alloc, outbox, code, message)?;
     state.status = state.status.to_error_state();
@@ -94,7 +100,8 @@ pub(crate) fn on_bind(
 ) -> Result<(), AllocError>
     requires { IsGiven false (client.Bind message) }
     ensures answer { OnOk result ((answers : List Bool) → IsCarriedOut
-        (bound answers state.old message (fin.get state.old.store.statements message.statement_name))
+        (bound answers state.old message (fin.get state.old.store.statements
+            message.statement_name))
         outbox.old outbox.new [] [] (Goes state.new)) }
     ensures good { (count : ℕ) → IsGoodStore count state.old.store
         → OnOk result (IsGoodStore count state.new.store) }
@@ -142,12 +149,14 @@ pub(crate) fn on_execute<H: FirstRows, D: CancelDesk>(
     requires given { IsGiven false (client.Execute message) }
     requires good { IsGoodStore (H.count handlers.now) state.old.store }
     ensures answer { OnOk result ((answers : List Bool) (pid : ℤ) (key : List ℕ) → IsCarriedOut
-        (executed (setting_of (H.relation_of handlers.now) (H.rows_of handlers.now) pid key) answers state.old message
+        (executed (setting_of (H.relation_of handlers.now) (H.rows_of handlers.now) pid key) answers
+            state.old message
         (fin.get state.old.store.portals message.name))
         outbox.old outbox.new (D.calls desk.old) (D.calls desk.new) (Goes state.new)) }
     ensures good { OnOk result (IsGoodStore (H.count handlers.now) state.new.store) }
     ensures err { OnErr result ((answers : List Bool) (pid : ℤ) (key : List ℕ) → GrowsByFrontOf
-        (executed (setting_of (H.relation_of handlers.now) (H.rows_of handlers.now) pid key) answers state.old message
+        (executed (setting_of (H.relation_of handlers.now) (H.rows_of handlers.now) pid key) answers
+            state.old message
         (fin.get state.old.store.portals message.name)).calls
         (D.calls desk.old) (D.calls desk.new)) }
     ensures same { D.registration desk.new ≡ D.registration desk.old }
@@ -180,10 +189,13 @@ fn page<H: FirstRows, D: CancelDesk>(
     stage: PortalExecutionState,
 ) -> Result<PgList<DataRow>, AllocError>
     requires { relation < H.count handlers.now }
-    ensures rows { IfOk result (λ rows. rows ≡ page_rows (told_by (H.relation_of handlers.now) (H.rows_of handlers.now)) relation stage) }
+    ensures rows
+        { IfOk result (λ rows. rows ≡ page_rows
+        (told_by (H.relation_of handlers.now) (H.rows_of handlers.now)) relation stage) }
     ensures encodable { IfOk result (AllByRecursion (λ row. IsEncodable (server.DataRow row))) }
     ensures calls { OnOk result (D.calls desk.new ≡ D.calls desk.old ++ start_calls stage) }
-    ensures err { OnErr result (GrowsByFrontOf (start_calls stage) (D.calls desk.old) (D.calls desk.new)) }
+    ensures err
+        { OnErr result (GrowsByFrontOf (start_calls stage) (D.calls desk.old) (D.calls desk.new)) }
     ensures same { D.registration desk.new ≡ D.registration desk.old }
     ensures origin { D.origin desk.new ≡ D.origin desk.old }
 {

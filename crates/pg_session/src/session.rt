@@ -23,7 +23,8 @@ pub struct Session<H: FirstRows> {
     host: Host<H>,
     dialog: Dialog,
     opened: bool,
-    ghost good: { opened ≡ true → IsGoodStore (H.count (arc_value host.handlers)) dialog.state.store },
+    ghost good: { opened ≡ true → IsGoodStore
+        (H.count (arc_value host.handlers)) dialog.state.store },
     ghost sent: { opened ≡ true → dialog.outbox ≡ [] },
 }
 
@@ -49,9 +50,12 @@ impl<H: FirstRows + Drop> Session<H> {
         ensures handlers { IfOk result (λ session. (host_of session).handlers ≡ handlers) }
 
         // Nothing came, nothing was answered.
-        ensures so_far { IfOk result (λ session. (written : Option (List ℕ)) (calls : List DeskCall) → IsServed
-            (setting_of (H.relation_of (arc_value handlers)) (H.rows_of (arc_value handlers)) pid key)
-            first_state [] (unread session) (Goes (state_of session)) written written [] [] calls calls) }
+        ensures so_far { IfOk result (λ session. (written : Option (List ℕ)) (calls : List DeskCall)
+            → IsServed
+            (setting_of (H.relation_of (arc_value handlers))
+                (H.rows_of (arc_value handlers)) pid key)
+            first_state [] (unread session) (Goes (state_of session)) written written [] [] calls
+                calls) }
         ensures pid { IfOk result (λ session. (host_of session).pid ≡ pid) }
         ensures key { IfOk result (λ session. (host_of session).key ≡ key) }
     {
@@ -112,16 +116,21 @@ impl<H: FirstRows + Drop> Session<H> {
             (K.written sink.old) (K.written sink.new) [] (D.calls desk.old) (D.calls desk.new)) }
 
         // So are those of all that came before, and of this piece.
-        ensures continues { (s : SessionState) (text : List ℕ) (written : Option (List ℕ)) (calls : List DeskCall)
+        ensures continues { (s : SessionState) (text : List ℕ) (written : Option (List ℕ))
+            (calls : List DeskCall)
             → IsServed (setting self.old)
-            s text (unread self.old) (Goes (state_of self.old)) written (K.written sink.old) [] [] calls (D.calls desk.old)
+            s text (unread self.old) (Goes (state_of self.old)) written
+                (K.written sink.old) [] [] calls (D.calls desk.old)
             → IfOk result (λ told. (next : Next) × IsServed
             (setting self.old)
-            s (text ++ piece.now) (unread self.new) next written (K.written sink.new) [] [] calls (D.calls desk.new)
+            s (text ++ piece.now) (unread self.new) next written (K.written sink.new) [] [] calls
+                (D.calls desk.new)
             × Stands next (state_of self.new) (unread self.new) told) }
-        ensures continues_cut { (s : SessionState) (text : List ℕ) (written : Option (List ℕ)) (calls : List DeskCall)
+        ensures continues_cut { (s : SessionState) (text : List ℕ) (written : Option (List ℕ))
+            (calls : List DeskCall)
             → IsServed (setting self.old)
-            s text (unread self.old) (Goes (state_of self.old)) written (K.written sink.old) [] [] calls (D.calls desk.old)
+            s text (unread self.old) (Goes (state_of self.old)) written
+                (K.written sink.old) [] [] calls (D.calls desk.old)
             → OnErr result (IsCutOff
             (setting self.old)
             s (text ++ piece.now) written (K.written sink.new) [] calls (D.calls desk.new)) }

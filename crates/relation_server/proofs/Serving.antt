@@ -17,8 +17,10 @@ use Rattle.pg_session.specs.Steps as steps
 use Rattle.relation_server.specs.Program.{TakesFrom, IsServedRun, IsRunOfTaken, IsCutRunOfTaken, WentSo}
 
 -- what was served is a run over a text that begins with it
-is_run : {setting : Setting} {taken rest : List ℕ} {next : Next} {w v : Option (List ℕ)} {k l : List DeskCall} (x : steps.IsServed setting first_state taken rest next w v [] [] k l)
-    (text more : List ℕ) (kind : EndKind) → text ≡ taken ++ more → EndsWith next (rest ++ more) kind → IsRun setting text x.bytes x.called kind
+is_run : {setting : Setting} {taken rest : List ℕ} {next : Next} {w v : Option (List ℕ)} {k l : List DeskCall}
+    (x : steps.IsServed setting first_state taken rest next w v [] [] k l)
+    (text more : List ℕ) (kind : EndKind) → text ≡ taken ++ more → EndsWith next (rest ++ more) kind
+        → IsRun setting text x.bytes x.called kind
 is_run {setting} {taken} {rest} x text more kind e h = let answers = answers_of x.called in record {
   given = conversation setting answers first_state x.fed.messages;
   rest = rest ++ more;
@@ -32,46 +34,57 @@ is_run {setting} {taken} {rest} x text more kind e h = let answers = answers_of 
   ended = subst (λ n. EndsWith n (rest ++ more) kind) (sym (x.fed.goes_on answers)) h;
 }
 
-grows_to : (w v : Option (List ℕ)) (sent bytes : List ℕ) (P : List ℕ → Type 0) → GrowsBy w v sent → sent ≡ bytes → P bytes → (replies : List ℕ) × GrowsBy w v replies × P replies
+grows_to : (w v : Option (List ℕ)) (sent bytes : List ℕ) (P : List ℕ → Type 0) → GrowsBy w v sent → sent ≡ bytes → P bytes
+    → (replies : List ℕ) × GrowsBy w v replies × P replies
 grows_to w v sent bytes P g e p = (bytes, subst (λ b. GrowsBy w v b) e g, p)
 
 all_sent : (sent bytes : List ℕ) → sent ++ [] ≡ [] ++ bytes → sent ≡ bytes
 all_sent sent bytes e = sym (append-nil sent) ∙ e
 
 -- the run over the taken bytes, where one more read is needed
-pub run_of_taken : {setting : Setting} {s : SessionState} {taken rest : List ℕ} {w v : Option (List ℕ)} {k l : List DeskCall} (left new_left : Option (List ℕ))
-    → TakesFrom left new_left taken → (x : steps.IsServed setting first_state taken rest (Goes s) w v [] [] k l) → IsUnfinished (awaits s) rest → IsRunOfTaken setting left new_left w v x.called
+pub run_of_taken : {setting : Setting} {s : SessionState} {taken rest : List ℕ} {w v : Option (List ℕ)} {k l : List DeskCall}
+    (left new_left : Option (List ℕ))
+    → TakesFrom left new_left taken → (x : steps.IsServed setting first_state taken rest (Goes s) w v [] [] k l)
+        → IsUnfinished (awaits s) rest → IsRunOfTaken setting left new_left w v x.called
 run_of_taken {setting} {s} {taken} {rest} {w} {v} left new_left t x short = (
   taken,
   t,
-  grows_to w v x.flows.sent x.bytes (λ replies. IsRun setting taken replies x.called end.InputEnd) x.flows.grown (all_sent x.flows.sent x.bytes x.flows.same)
+  grows_to w v x.flows.sent x.bytes (λ replies. IsRun setting taken replies x.called end.InputEnd) x.flows.grown
+      (all_sent x.flows.sent x.bytes x.flows.same)
       (is_run x taken [] end.InputEnd (sym (append-nil taken)) (subst (λ r. IsUnfinished (awaits s) r) (sym (append-nil rest)) short)),
 )
 
 -- the run over all bytes, where the conversation has ended whatever follows
-pub served_run : {setting : Setting} {taken rest : List ℕ} {next : Next} {w v : Option (List ℕ)} {k l : List DeskCall} (left new_left : Option (List ℕ)) (kind : EndKind)
-    → TakesFrom left new_left taken → (x : steps.IsServed setting first_state taken rest next w v [] [] k l) → ((more : List ℕ) → EndsWith next (rest ++ more) kind) → IsServedRun setting left w v x.called kind
+pub served_run : {setting : Setting} {taken rest : List ℕ} {next : Next} {w v : Option (List ℕ)} {k l : List DeskCall}
+    (left new_left : Option (List ℕ)) (kind : EndKind)
+    → TakesFrom left new_left taken → (x : steps.IsServed setting first_state taken rest next w v [] [] k l)
+        → ((more : List ℕ) → EndsWith next (rest ++ more) kind) → IsServedRun setting left w v x.called kind
 served_run {setting} {taken} {w = w} {v = v} None new_left kind t x h = (
   taken,
   tt,
-  grows_to w v x.flows.sent x.bytes (λ replies. IsRun setting taken replies x.called kind) x.flows.grown (all_sent x.flows.sent x.bytes x.flows.same)
+  grows_to w v x.flows.sent x.bytes (λ replies. IsRun setting taken replies x.called kind) x.flows.grown
+      (all_sent x.flows.sent x.bytes x.flows.same)
       (is_run x taken [] kind (sym (append-nil taken)) (h [])),
 )
 served_run {setting} {w = w} {v = v} (Some text) new_left kind t x h = (
   text,
   refl,
-  grows_to w v x.flows.sent x.bytes (λ replies. IsRun setting text replies x.called kind) x.flows.grown (all_sent x.flows.sent x.bytes x.flows.same)
+  grows_to w v x.flows.sent x.bytes (λ replies. IsRun setting text replies x.called kind) x.flows.grown
+      (all_sent x.flows.sent x.bytes x.flows.same)
       (is_run x text t.0 kind t.1 (h t.0)),
 )
 
 -- the same where the end of the input was read
-pub ended_run : {setting : Setting} {s : SessionState} {taken rest : List ℕ} {w v : Option (List ℕ)} {k l : List DeskCall} (left mid new_left : Option (List ℕ)) (n : ℕ) (into : List ℕ)
+pub ended_run : {setting : Setting} {s : SessionState} {taken rest : List ℕ} {w v : Option (List ℕ)} {k l : List DeskCall}
+    (left mid new_left : Option (List ℕ)) (n : ℕ) (into : List ℕ)
     → TakesFrom left mid taken → IfSome mid (λ bytes. GivesFront n into bytes new_left) → n ≡ 0
-    → (x : steps.IsServed setting first_state taken rest (Goes s) w v [] [] k l) → IsUnfinished (awaits s) rest → IsServedRun setting left w v x.called end.InputEnd
+    → (x : steps.IsServed setting first_state taken rest (Goes s) w v [] [] k l) → IsUnfinished (awaits s) rest
+        → IsServedRun setting left w v x.called end.InputEnd
 ended_run {setting} {s} {taken} {rest} {w} {v} None mid new_left n into t g z x short = (
   taken,
   tt,
-  grows_to w v x.flows.sent x.bytes (λ replies. IsRun setting taken replies x.called end.InputEnd) x.flows.grown (all_sent x.flows.sent x.bytes x.flows.same)
+  grows_to w v x.flows.sent x.bytes (λ replies. IsRun setting taken replies x.called end.InputEnd) x.flows.grown
+      (all_sent x.flows.sent x.bytes x.flows.same)
       (is_run x taken [] end.InputEnd (sym (append-nil taken)) (subst (λ r. IsUnfinished (awaits s) r) (sym (append-nil rest)) short)),
 )
 ended_run {setting} {s} {taken} {rest} {w} {v} (Some text) mid new_left n into t g z x short =
@@ -79,27 +92,32 @@ ended_run {setting} {s} {taken} {rest} {w} {v} (Some text) mid new_left n into t
     let all : text ≡ taken ++ [] = t.1 ∙ ap (λ l. taken ++ l) (given.at_end z) in (
       text,
       refl,
-      grows_to w v x.flows.sent x.bytes (λ replies. IsRun setting text replies x.called end.InputEnd) x.flows.grown (all_sent x.flows.sent x.bytes x.flows.same)
+      grows_to w v x.flows.sent x.bytes (λ replies. IsRun setting text replies x.called end.InputEnd) x.flows.grown
+          (all_sent x.flows.sent x.bytes x.flows.same)
           (is_run x text [] end.InputEnd all (subst (λ r. IsUnfinished (awaits s) r) (sym (append-nil rest)) short)),
     )
 
 -- one more piece was taken
-pub takes_more : (left mid new_left : Option (List ℕ)) (taken : List ℕ) (n : ℕ) (into : List ℕ) → TakesFrom left mid taken → IfSome mid (λ bytes. GivesFront n into bytes new_left)
+pub takes_more : (left mid new_left : Option (List ℕ)) (taken : List ℕ) (n : ℕ) (into : List ℕ) → TakesFrom left mid taken
+    → IfSome mid (λ bytes. GivesFront n into bytes new_left)
     → TakesFrom left new_left (taken ++ take n into)
 takes_more None mid new_left taken n into t g = tt
 takes_more (Some text) mid new_left taken n into t g =
     let given : GivesFront n into t.0 new_left = subst (λ o. IfSome o (λ bytes. GivesFront n into bytes new_left)) t.2 g in (
       drop n t.0,
-      t.1 ∙ ap (λ l. taken ++ l) (sym (take-append-drop n t.0)) ∙ sym (append_assoc taken (take n t.0) (drop n t.0)) ∙ ap (λ l. (taken ++ l) ++ drop n t.0) (sym given.given),
+      t.1 ∙ ap (λ l. taken ++ l) (sym (take-append-drop n t.0)) ∙ sym (append_assoc taken (take n t.0) (drop n t.0))
+          ∙ ap (λ l. (taken ++ l) ++ drop n t.0) (sym given.given),
       given.rest,
     )
 
-cut_grows : (w v : Option (List ℕ)) (bytes : List ℕ) (P : List ℕ → Type 0) → GrowsByFront w v bytes → ((front : List ℕ) → BeginsWith bytes front → P front) → (front : List ℕ) × GrowsBy w v front × P front
+cut_grows : (w v : Option (List ℕ)) (bytes : List ℕ) (P : List ℕ → Type 0) → GrowsByFront w v bytes
+    → ((front : List ℕ) → BeginsWith bytes front → P front) → (front : List ℕ) × GrowsBy w v front × P front
 cut_grows None v bytes P g p = ([], tt, p [] (bytes, refl))
 cut_grows (Some x) v bytes P g p = (g.0, g.2, p g.0 g.1)
 
 -- a front of the run over the taken bytes
-pub cut_run_of_taken : {setting : Setting} {taken : List ℕ} {w v : Option (List ℕ)} {k l : List DeskCall} (left new_left : Option (List ℕ)) → TakesFrom left new_left taken
+pub cut_run_of_taken : {setting : Setting} {taken : List ℕ} {w v : Option (List ℕ)} {k l : List DeskCall} (left new_left : Option (List ℕ))
+    → TakesFrom left new_left taken
     → (x : steps.IsCutOff setting first_state taken w v [] k l) → IsCutRunOfTaken setting left new_left w v x.grown.front
 cut_run_of_taken {setting} {taken} {w} {v} left new_left t x = let answers = answers_of x.grown.front in (
   taken,
@@ -118,7 +136,8 @@ cut_run_of_taken {setting} {taken} {w} {v} left new_left t x = let answers = ans
 )
 
 -- the answers to faults of a session: only a write that failed, or want of memory
-pub went_by_fault : (setting : Setting) (error : ServeError) (left new_left w v : Option (List ℕ)) (calls : List DeskCall) → (error ≢ fault.ReadFault) → (error ≢ fault.TurnLimit)
+pub went_by_fault : (setting : Setting) (error : ServeError) (left new_left w v : Option (List ℕ)) (calls : List DeskCall)
+    → (error ≢ fault.ReadFault) → (error ≢ fault.TurnLimit)
     → IsCutRunOfTaken setting left new_left w v calls → WentSo setting (Err error) left new_left w v calls
 went_by_fault setting fault.ReadFault left new_left w v calls p q x = absurd (p refl)
 went_by_fault setting fault.WriteFault left new_left w v calls p q x = x
@@ -152,18 +171,25 @@ cut_at_start setting left w = ([], takes_none left, at w)
     )
 
 -- the same in an equal setting
-pub serves_in : {a b : Setting} {s : SessionState} {text rest : List ℕ} {next : Next} {w v : Option (List ℕ)} {o q : List ℕ} {k l : List DeskCall} → a ≡ b
+pub serves_in : {a b : Setting} {s : SessionState} {text rest : List ℕ} {next : Next} {w v : Option (List ℕ)} {o q : List ℕ}
+    {k l : List DeskCall} → a ≡ b
     → steps.IsServed a s text rest next w v o q k l → steps.IsServed b s text rest next w v o q k l
-serves_in {s = s} {text = text} {rest = rest} {next = next} {w = w} {v = v} {o = o} {q = q} {k = k} {l = l} e x = subst (λ c. steps.IsServed c s text rest next w v o q k l) e x
+serves_in {s = s} {text = text} {rest = rest} {next = next} {w = w} {v = v} {o = o} {q = q} {k = k} {l = l} e x = subst
+    (λ c. steps.IsServed c s text rest next w v o q k l) e x
 
-pub cut_in : {a b : Setting} {s : SessionState} {text : List ℕ} {w v : Option (List ℕ)} {o : List ℕ} {k l : List DeskCall} → a ≡ b → steps.IsCutOff a s text w v o k l → steps.IsCutOff b s text w v o k l
+pub cut_in : {a b : Setting} {s : SessionState} {text : List ℕ} {w v : Option (List ℕ)} {o : List ℕ} {k l : List DeskCall} → a ≡ b
+    → steps.IsCutOff a s text w v o k l → steps.IsCutOff b s text w v o k l
 cut_in {s = s} {text = text} {w = w} {v = v} {o = o} {k = k} {l = l} e x = subst (λ c. steps.IsCutOff c s text w v o k l) e x
 
-pub goes_to : {setting : Setting} {s t : SessionState} {text rest : List ℕ} {next : Next} {w v : Option (List ℕ)} {o q : List ℕ} {k l : List DeskCall} → next ≡ Goes t
+pub goes_to : {setting : Setting} {s t : SessionState} {text rest : List ℕ} {next : Next} {w v : Option (List ℕ)} {o q : List ℕ}
+    {k l : List DeskCall} → next ≡ Goes t
     → steps.IsServed setting s text rest next w v o q k l → steps.IsServed setting s text rest (Goes t) w v o q k l
-goes_to {setting} {s} {t} {text} {rest} {next} {w} {v} {o} {q} {k} {l} e x = subst (λ n. steps.IsServed setting s text rest n w v o q k l) e x
+goes_to {setting} {s} {t} {text} {rest} {next} {w} {v} {o} {q} {k} {l} e x = subst
+    (λ n. steps.IsServed setting s text rest n w v o q k l) e x
 
 -- a read that gave a byte counts
-pub counted_more : (n r new_r first spent limit : ℕ) → new_r ≡ (if n == 0 then r else min (r + 1) 18446744073709551615) → n ≢ 0 → r ≡ first + spent → spent < limit → first + limit < 2 ^ 64 → new_r ≡ first + (spent + 1)
+pub counted_more : (n r new_r first spent limit : ℕ) → new_r ≡ (if n == 0 then r else min (r + 1) 18446744073709551615) → n ≢ 0 → r
+    ≡ first + spent → spent < limit → first + limit < 2 ^ 64 → new_r ≡ first + (spent + 1)
 counted_more n r new_r first spent limit e p q h f =
-    ⊎_elim (λ t. absurd (p t.1)) (λ t. let m : new_r ≡ min (r + 1) 18446744073709551615 = e ∙ ap (λ b. cond b r (min (r + 1) 18446744073709551615)) t.0 in omega arith) (eqb_tells n 0)
+    ⊎_elim (λ t. absurd (p t.1)) (λ t. let m : new_r ≡ min (r + 1) 18446744073709551615 = e
+        ∙ ap (λ b. cond b r (min (r + 1) 18446744073709551615)) t.0 in omega arith) (eqb_tells n 0)

@@ -36,7 +36,8 @@ pub fn serve_relations_on<D: CancelDesk, S: Source, K: Sink>(
 
     // The bytes written and the new calls are the conversation table's answer to the client's bytes, however cut.
     ensures went { (calls : List DeskCall) × (D.calls desk.new ≡ D.calls desk.old ++ calls)
-        × WentSo (table_setting relations.now (D.registration desk.old)) result (S.left source.old) (S.left source.new)
+        × WentSo (table_setting relations.now (D.registration desk.old)) result (S.left source.old)
+            (S.left source.new)
         (K.written sink.old) (K.written sink.new) calls }
     ensures cause { HasCause result turn_limit
         (counts_of S.reads S.faults K.faults source.old sink.old)
@@ -79,13 +80,15 @@ fn serve_session<H: FirstRows + Drop, D: CancelDesk, S: Source, K: Sink>(
 ) -> Result<EndKind, ServeError>
     requires open { is_open session.old ≡ true }
     requires so_far { IsServed (setting session.old)
-        first_state [] (unread session.old) (Goes (state_of session.old)) (K.written sink.old) (K.written sink.old) [] [] (D.calls desk.old) (D.calls desk.old) }
+        first_state [] (unread session.old) (Goes (state_of session.old)) (K.written sink.old)
+            (K.written sink.old) [] [] (D.calls desk.old) (D.calls desk.old) }
     requires short { IsUnfinished (awaits (state_of session.old)) (unread session.old) }
     requires fresh { turns.old.spent ≡ 0 }
     requires room { 0 < length buffer.old }
     ensures went { (calls : List DeskCall) × (D.calls desk.new ≡ D.calls desk.old ++ calls)
         × WentSo (setting session.old)
-        result (S.left source.old) (S.left source.new) (K.written sink.old) (K.written sink.new) calls }
+        result (S.left source.old) (S.left source.new) (K.written sink.old)
+            (K.written sink.new) calls }
     ensures cause { HasCause result turns.old.limit
         (counts_of S.reads S.faults K.faults source.old sink.old)
         (counts_of S.reads S.faults K.faults source.new sink.new) }

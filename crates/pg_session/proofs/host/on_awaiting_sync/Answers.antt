@@ -6,5 +6,6 @@ use Rattle.pg_session.proofs.host.on_awaiting_sync.Goals as goal
 
 pub returns-in_ok-on_sync-in-PgSync-clause-answer : goal.returns-in_ok-on_sync-in-PgSync-clause-answer
 returns-in_ok-on_sync-in-PgSync-clause-answer c = λ setting answers.
-    subst (λ m. IsCarriedOut (row setting answers c.args.state.now phase.AwaitingSync m) c.args.outbox.now c.on_sync.new.outbox [] [] (Goes c.on_sync.new.state))
+    subst (λ m. IsCarriedOut (row setting answers c.args.state.now phase.AwaitingSync m) c.args.outbox.now c.on_sync.new.outbox [] []
+        (Goes c.on_sync.new.state))
     (sym c.in-PgSync.is) (c.in_ok-on_sync-in-PgSync.ensures.answer answers)

@@ -6,6 +6,8 @@ use Rattle.pg_session.proofs.replies.does_not_exist.Goals as goal
 
 pub returns : goal.returns
 returns c =
-    IfOk-weaker c.copy_of.result (λ t. t ≡ c.as_str.result.now) (λ t. t ≡ c.args.kind.now ++ quoted c.args.name.now ++ codes " does not exist")
+    IfOk-weaker c.copy_of.result (λ t. t ≡ c.as_str.result.now)
+        (λ t. t ≡ c.args.kind.now ++ quoted c.args.name.now ++ codes " does not exist")
     (λ t e. e ∙ c.as_str.ensures.value ∙ quoted_from c.args.kind.now c.args.name.now (codes " does not exist") _ _ _ _
-    c.in_ok-text.ensures.ok c.in_ok-push_str.ensures.bytes c.in_ok-push_str-2.ensures.bytes c.in_ok-push_str-3.ensures.bytes) c.copy_of.ensures
+    c.in_ok-text.ensures.ok c.in_ok-push_str.ensures.bytes c.in_ok-push_str-2.ensures.bytes c.in_ok-push_str-3.ensures.bytes)
+        c.copy_of.ensures

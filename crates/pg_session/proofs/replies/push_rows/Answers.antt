@@ -7,5 +7,7 @@ use Rattle.pg_session.proofs.replies.push_rows.Goals as goal
 
 pub returns : goal.returns
 returns c =
-    let none : into_iter_items c.loop-row.row-iterator ≡ [] = nil_from_length _ (sym c.loop-row.row-iterator.rest.ok.0 ∙ c.in-None.ensures.steps.0) in
-    on_ok_weaker c.push_select.result (λ e. rows_sent c.args.rows c.loop-row.yielded _ c.len-count.result c.loop-row.invariant.all none c.len-count.ensures c.loop-row.invariant.sent e) c.push_select.ensures
+    let none : into_iter_items c.loop-row.row-iterator ≡ [] = nil_from_length _
+        (sym c.loop-row.row-iterator.rest.ok.0 ∙ c.in-None.ensures.steps.0) in
+    on_ok_weaker c.push_select.result (λ e. rows_sent c.args.rows c.loop-row.yielded _ c.len-count.result c.loop-row.invariant.all none
+        c.len-count.ensures c.loop-row.invariant.sent e) c.push_select.ensures

@@ -11,5 +11,8 @@ push-requires c = tag_encodable _ c.args.rows c.ranges.rows.fits (c.in_ok-tag-2.
 
 pub returns : goal.returns
 returns c =
-    let tag_is : c.in_ok-tag-2.tag ≡ codes "SELECT " ++ decimal c.args.rows = c.in_ok-tag-2.ensures ∙ c.as_str.ensures.value ∙ c.in_ok-tag.ensures.ok in
-    on_ok_weaker c.push.result (λ e. subst (λ t. AppendsReplies c.args.outbox.now c.push.new.outbox (server.CommandComplete (record { tag = t }) ∷ [])) tag_is e) c.push.ensures
+    let tag_is : c.in_ok-tag-2.tag ≡ codes "SELECT " ++ decimal c.args.rows = c.in_ok-tag-2.ensures ∙ c.as_str.ensures.value
+        ∙ c.in_ok-tag.ensures.ok in
+    on_ok_weaker c.push.result
+        (λ e. subst (λ t. AppendsReplies c.args.outbox.now c.push.new.outbox (server.CommandComplete (record { tag = t }) ∷ [])) tag_is e)
+        c.push.ensures

@@ -8,7 +8,8 @@ use Rattle.pg_session.proofs.replies.push_startup.Goals as goal
 
 pub returns : goal.returns
 returns c =
-    let key = subst (λ pid. AppendsReplies c.push_parameter-4.new.outbox c.push_key.new.outbox (server.BackendKeyData (record { pid = pid; secret_key = c.args.key }) ∷ []))
+    let key = subst (λ pid. AppendsReplies c.push_parameter-4.new.outbox c.push_key.new.outbox
+        (server.BackendKeyData (record { pid = pid; secret_key = c.args.key }) ∷ []))
     (to_z-of_z w32 c.args.pid c.ranges.pid) c.in_ok-push_key.ensures in
     on_ok_weaker c.push_ready.result (λ e.
     Appends-then c.in_ok-push.ensures (Appends-then c.in_ok-push_parameter.ensures (Appends-then c.in_ok-push_parameter-2.ensures

@@ -19,7 +19,8 @@ returns-in_ok-put-in-Some-clause-good g c =
     let found : fin.get store.portals c.args.message.name ≡ Some c.in-Some.portal =
     ap (fin.get store.portals) (sym c.as_str-name.ensures) ∙ sym c.get.ensures ∙ sym c.copied.ensures ∙ c.in-Some.is in
     let named = c.requires.good.portals c.args.message.name c.in-Some.portal found in
-    on_ok_always c.push_rows.result (subst (λ m. IsGoodStore R (record { statements = store.statements; portals = m })) (sym c.in_ok-put-in-Some.ensures.ok)
+    on_ok_always c.push_rows.result (subst (λ m. IsGoodStore R (record { statements = store.statements; portals = m }))
+        (sym c.in_ok-put-in-Some.ensures.ok)
     (good_portal R store c.args.message.name _ named c.requires.good))
 
 pub returns-in_ok-text-in-None-clause-answer : goal.returns-in_ok-text-in-None-clause-answer
@@ -29,6 +30,10 @@ returns-in_ok-text-in-None-clause-answer g c =
     ap (fin.get store.portals) (sym c.as_str-name.ensures) ∙ sym c.get.ensures ∙ sym c.copied.ensures ∙ c.in-None.is in
     let shown = c.in_ok-text-in-None.ensures ∙ ap (λ n. codes "portal " ++ quoted n ++ codes " does not exist") c.as_str-name.ensures in
     on_ok_both c.refuse.result (λ p q answers pid key.
-    subst (λ o. IsCarriedOut (executed (setting_of (g.H.FirstRows.relation_of c.args.handlers.now) (g.H.FirstRows.rows_of c.args.handlers.now) pid key) answers c.args.state.now c.args.message o)
-    c.args.outbox.now c.refuse.new.outbox (g.D.CancelDesk.calls c.args.desk.now) (g.D.CancelDesk.calls c.args.desk.now) (Goes c.refuse.new.state)) (sym missing)
-    (refused_by_desk answers c.args.state.now c.refuse.new.state (codes "34000") _ _ (g.D.CancelDesk.calls c.args.desk.now) shown p q)) c.refuse.ensures.replies c.refuse.ensures.state
+    subst (λ o. IsCarriedOut
+        (executed (setting_of (g.H.FirstRows.relation_of c.args.handlers.now) (g.H.FirstRows.rows_of c.args.handlers.now) pid key) answers
+        c.args.state.now c.args.message o)
+    c.args.outbox.now c.refuse.new.outbox (g.D.CancelDesk.calls c.args.desk.now) (g.D.CancelDesk.calls c.args.desk.now)
+        (Goes c.refuse.new.state)) (sym missing)
+    (refused_by_desk answers c.args.state.now c.refuse.new.state (codes "34000") _ _ (g.D.CancelDesk.calls c.args.desk.now) shown p q))
+        c.refuse.ensures.replies c.refuse.ensures.state

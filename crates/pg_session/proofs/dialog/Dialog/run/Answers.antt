@@ -7,7 +7,8 @@ use Rattle.pg_session.proofs.dialog.Dialog.run.Goals as goal
 pub messages-init : goal.messages-init
 messages-init g c = record {
   served = serves_none (host_setting g.H.FirstRows.relation_of g.H.FirstRows.rows_of c.args.host.now)
-      c.args.self.now.state c.args.self.now.rest.items c.args.self.now.rest.items (g.K.Sink.written c.args.sink.now) c.args.self.now.outbox (g.D.CancelDesk.calls c.args.desk.now) refl;
+      c.args.self.now.state c.args.self.now.rest.items c.args.self.now.rest.items (g.K.Sink.written c.args.sink.now) c.args.self.now.outbox
+          (g.D.CancelDesk.calls c.args.desk.now) refl;
   good = c.requires.good;
   faults = omega arith;
   same = refl;
@@ -15,17 +16,21 @@ messages-init g c = record {
 }
 
 pub returns-in_err-step-clause-cut_off : goal.returns-in_err-step-clause-cut_off
-returns-in_err-step-clause-cut_off g c = on_err_always c.from_residual.result (cut_then c.messages.invariant.served c.in_err-step.ensures.cut_off)
+returns-in_err-step-clause-cut_off g c = on_err_always c.from_residual.result
+    (cut_then c.messages.invariant.served c.in_err-step.ensures.cut_off)
 
 pub returns-in_err-flush-in-Some-clause-cut_off : goal.returns-in_err-flush-in-Some-clause-cut_off
 returns-in_err-flush-in-Some-clause-cut_off g c =
-    on_err_always c.from_residual-in_err-flush-in-Some.result (cut_served (g.K.Sink.written c.flush.new.sink) (serves_then c.messages.invariant.served c.in_ok-step.ensures.served.1) c.in_err-flush-in-Some.ensures.err)
+    on_err_always c.from_residual-in_err-flush-in-Some.result (cut_served (g.K.Sink.written c.flush.new.sink)
+        (serves_then c.messages.invariant.served c.in_ok-step.ensures.served.1) c.in_err-flush-in-Some.ensures.err)
 
 pub returns-in-Some-clause-served : goal.returns-in-Some-clause-served
 returns-in-Some-clause-served g c =
     let step = c.in_ok-step.ensures.served in (
       step.0,
-      serves_flow (g.K.Sink.written c.flush.new.sink) [] (serves_then c.messages.invariant.served step.1) (Flows-sent (g.K.Sink.written c.step.new.sink) (g.K.Sink.written c.flush.new.sink) c.step.new.self.outbox [] c.in_ok-flush-in-Some.ensures.ok refl),
+      serves_flow (g.K.Sink.written c.flush.new.sink) [] (serves_then c.messages.invariant.served step.1)
+          (Flows-sent (g.K.Sink.written c.step.new.sink) (g.K.Sink.written c.flush.new.sink) c.step.new.self.outbox []
+          c.in_ok-flush-in-Some.ensures.ok refl),
       subst (λ o. StandsAfterStep step.0 c.step.new.self.state c.step.new.self.rest.items o) c.in-Some.is step.2,
     )
 

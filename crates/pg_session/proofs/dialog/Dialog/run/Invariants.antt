@@ -8,7 +8,8 @@ use Rattle.pg_session.proofs.dialog.Dialog.run.Given as goal
 abbrev pub invariant-messages : goal.invariant-messages
 invariant-messages g l = record {
   served : IsServed (host_setting g.H.FirstRows.relation_of g.H.FirstRows.rows_of l.fn.host)
-      l.fn.self.state l.fn.self.rest.items l.self.rest.items (Goes l.self.state) (g.K.Sink.written l.fn.sink) (g.K.Sink.written l.sink) l.fn.self.outbox l.self.outbox
+      l.fn.self.state l.fn.self.rest.items l.self.rest.items (Goes l.self.state) (g.K.Sink.written l.fn.sink)
+          (g.K.Sink.written l.sink) l.fn.self.outbox l.self.outbox
       (g.D.CancelDesk.calls l.fn.desk) (g.D.CancelDesk.calls l.desk);
   good : IsGoodStore (g.H.FirstRows.count (arc_value l.fn.host.handlers)) l.self.state.store;
   faults : g.K.Sink.faults l.fn.sink ≤ g.K.Sink.faults l.sink;

@@ -14,7 +14,8 @@ returns-in-Ok-None-clause-served g c =
     let kept : c.decode.new.src.items ≡ text = rw c.in-Ok-None.field-0-is at c.in-Ok-None.ensures.kept in
     let short : IsUnfinished c.awaits_startup-self.result text = rw c.in-Ok-None.field-0-is at c.in-Ok-None.ensures.none in (
       Goes s,
-      serves_none setting s text c.decode.new.src.items (g.K.Sink.written c.args.sink.now) c.args.self.now.outbox (g.D.CancelDesk.calls c.args.desk.now) kept,
+      serves_none setting s text c.decode.new.src.items (g.K.Sink.written c.args.sink.now) c.args.self.now.outbox
+          (g.D.CancelDesk.calls c.args.desk.now) kept,
       (refl, subst (λ t. IsUnfinished (awaits s) t) (sym kept) (subst (λ b. IsUnfinished b text) c.awaits_startup-self.ensures short)),
     )
 
@@ -25,22 +26,27 @@ returns-in-Err-Bad-clause-served g c =
     let kept : c.decode.new.src.items ≡ text = c.in-Err-Bad.ensures.err in
     let bad : IsBad c.awaits_startup-self.result text = c.in-Err-Bad.ensures.bad (ap Err c.in-Err-Bad.field-0-is) in (
       Goes s,
-      serves_none setting s text c.decode.new.src.items (g.K.Sink.written c.args.sink.now) c.args.self.now.outbox (g.D.CancelDesk.calls c.args.desk.now) kept,
-      (bad_is_no_end_of_input, λ more. bad_more (awaits s) c.decode.new.src.items more (subst (λ t. IsBad (awaits s) t) (sym kept) (subst (λ b. IsBad b text) c.awaits_startup-self.ensures bad))),
+      serves_none setting s text c.decode.new.src.items (g.K.Sink.written c.args.sink.now) c.args.self.now.outbox
+          (g.D.CancelDesk.calls c.args.desk.now) kept,
+      (bad_is_no_end_of_input, λ more. bad_more (awaits s) c.decode.new.src.items more
+          (subst (λ t. IsBad (awaits s) t) (sym kept) (subst (λ b. IsBad b text) c.awaits_startup-self.ensures bad))),
     )
 
 pub returns-in-Err-NoMemory-clause-cut_off : goal.returns-in-Err-NoMemory-clause-cut_off
 returns-in-Err-NoMemory-clause-cut_off g c =
-    cut_none _ c.args.self.now.state c.args.self.now.rest.items (g.K.Sink.written c.args.sink.now) c.args.self.now.outbox (g.D.CancelDesk.calls c.args.desk.now)
+    cut_none _ c.args.self.now.state c.args.self.now.rest.items (g.K.Sink.written c.args.sink.now) c.args.self.now.outbox
+        (g.D.CancelDesk.calls c.args.desk.now)
 
 pub returns-in_err-end-clause-cut_off : goal.returns-in_err-end-clause-cut_off
 returns-in_err-end-clause-cut_off g c =
     let setting = host_setting g.H.FirstRows.relation_of g.H.FirstRows.rows_of c.args.host.now in
     let s = c.args.self.now.state in
     let found = rw c.in-Ok-Some.field-0-is at c.in-Ok-Some.ensures.found in
-    on_err_always c.from_residual.result (cut_one setting s c.args.self.now.rest.items found.0 c.decode.new.src.items c.in-Ok-Some.message found.1
+    on_err_always c.from_residual.result (cut_one setting s c.args.self.now.rest.items found.0 c.decode.new.src.items c.in-Ok-Some.message
+        found.1
     (subst (λ b. IsFrame b found.0 c.in-Ok-Some.message) c.awaits_startup-self.ensures found.2)
-    (g.K.Sink.written c.args.sink.now) c.args.self.now.outbox (g.D.CancelDesk.calls c.args.desk.now) (g.D.CancelDesk.calls c.on_message.new.desk) (c.in_err-end.ensures.err []))
+    (g.K.Sink.written c.args.sink.now) c.args.self.now.outbox (g.D.CancelDesk.calls c.args.desk.now)
+        (g.D.CancelDesk.calls c.on_message.new.desk) (c.in_err-end.ensures.err []))
 
 pub returns-in_err-flush_if_full-clause-cut_off : goal.returns-in_err-flush_if_full-clause-cut_off
 returns-in_err-flush_if_full-clause-cut_off g c =
@@ -48,8 +54,10 @@ returns-in_err-flush_if_full-clause-cut_off g c =
     let s = c.args.self.now.state in
     let found = rw c.in-Ok-Some.field-0-is at c.in-Ok-Some.ensures.found in
     let served = serves_one setting s c.args.self.now.rest.items found.0 c.decode.new.src.items c.in-Ok-Some.message found.1
-    (subst (λ b. IsFrame b found.0 c.in-Ok-Some.message) c.awaits_startup-self.ensures found.2) (g.K.Sink.written c.args.sink.now) c.in_ok-end.ensures.answer in
-    on_err_always c.from_residual-in_err-flush_if_full.result (cut_served (g.K.Sink.written c.flush_if_full.new.sink) served c.in_err-flush_if_full.ensures.err)
+    (subst (λ b. IsFrame b found.0 c.in-Ok-Some.message) c.awaits_startup-self.ensures found.2)
+        (g.K.Sink.written c.args.sink.now) c.in_ok-end.ensures.answer in
+    on_err_always c.from_residual-in_err-flush_if_full.result (cut_served
+        (g.K.Sink.written c.flush_if_full.new.sink) served c.in_err-flush_if_full.ensures.err)
 
 pub returns-clause-served : goal.returns-clause-served
 returns-clause-served g c =
@@ -57,7 +65,8 @@ returns-clause-served g c =
     let s = c.args.self.now.state in
     let found = rw c.in-Ok-Some.field-0-is at c.in-Ok-Some.ensures.found in
     let served = serves_one setting s c.args.self.now.rest.items found.0 c.decode.new.src.items c.in-Ok-Some.message found.1
-    (subst (λ b. IsFrame b found.0 c.in-Ok-Some.message) c.awaits_startup-self.ensures found.2) (g.K.Sink.written c.args.sink.now) c.in_ok-end.ensures.answer in (
+    (subst (λ b. IsFrame b found.0 c.in-Ok-Some.message) c.awaits_startup-self.ensures found.2)
+        (g.K.Sink.written c.args.sink.now) c.in_ok-end.ensures.answer in (
       next_of c.in_ok-end.end c.on_message.new.state,
       serves_flow (g.K.Sink.written c.flush_if_full.new.sink) c.flush_if_full.new.outbox served c.in_ok-flush_if_full.ensures.ok,
       stands_by c.in_ok-end.end c.on_message.new.state c.decode.new.src.items c.ended_by.result c.ended_by.ensures c.in_ok-end.ensures.ends,

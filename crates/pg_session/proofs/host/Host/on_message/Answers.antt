@@ -12,6 +12,8 @@ returns-in-AwaitingSync-clause-answer g c =
     let setting = host_setting g.H.FirstRows.relation_of g.H.FirstRows.rows_of c.args.self.now in
     let built : is_built c.args.message ≡ true = sym c.is_built.ensures ∙ c.if-not-is_built.false in
     IfOk-weaker c.on_awaiting_sync-end.result _ _ (λ end p answers.
-    subst (λ a. IsCarriedOut a c.args.outbox.now c.on_awaiting_sync-end.new.outbox calls calls (next_of end c.on_awaiting_sync-end.new.state))
-    (sym (answer_is setting answers c.args.state.now c.args.message phase.AwaitingSync built c.in-AwaitingSync.is)) (at_desk calls (p setting answers)))
+    subst (λ a. IsCarriedOut a c.args.outbox.now c.on_awaiting_sync-end.new.outbox calls calls
+        (next_of end c.on_awaiting_sync-end.new.state))
+    (sym (answer_is setting answers c.args.state.now c.args.message phase.AwaitingSync built c.in-AwaitingSync.is))
+        (at_desk calls (p setting answers)))
     c.on_awaiting_sync-end.ensures.answer

@@ -9,5 +9,6 @@ pub returns-in_ok-on_sync-in-PgSync-clause-answer : goal.returns-in_ok-on_sync-i
 returns-in_ok-on_sync-in-PgSync-clause-answer g c = λ answers.
     let calls = g.D.CancelDesk.calls c.args.desk.now in
     let setting = host_setting g.H.FirstRows.relation_of g.H.FirstRows.rows_of c.args.self.now in
-    subst (λ m. IsCarriedOut (row setting answers c.args.state.now phase.ReadyForQuery m) c.args.outbox.now c.on_sync.new.outbox calls calls (Goes c.on_sync.new.state))
+    subst (λ m. IsCarriedOut (row setting answers c.args.state.now phase.ReadyForQuery m) c.args.outbox.now c.on_sync.new.outbox calls calls
+        (Goes c.on_sync.new.state))
     (sym c.in-PgSync.is) (at_desk calls (c.in_ok-on_sync-in-PgSync.ensures.answer answers))

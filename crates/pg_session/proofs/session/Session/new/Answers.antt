@@ -18,5 +18,8 @@ invariant_of-result g c = record {
 
 pub returns-clause-so_far : goal.returns-clause-so_far
 returns-clause-so_far g c = λ written calls.
-    serves_to (λ i. Goes (record { state = phase.AwaitingStartup; status = status.Idle; store = record { statements = sym c.new-2.ensures i; portals = sym c.new-3.ensures i } }))
+    serves_to
+        (λ i. Goes
+        (record { state = phase.AwaitingStartup; status = status.Idle; store = record
+        { statements = sym c.new-2.ensures i; portals = sym c.new-3.ensures i } }))
     (serves_none _ first_state [] c.new-5.result.items written [] calls c.new-5.ensures.items)
