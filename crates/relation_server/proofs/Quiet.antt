@@ -1,5 +1,5 @@
 -- A desk without a script answers no.
-use Rattle.std.proofs.Common.{◌≡◌, ℕ, zero, suc, Bool, List, [], ◌∷◌, length, refl, sym, subst, ◌∙◌}
+use Rattle.std.proofs.Common.{◌≡◌, ℕ, zero, suc, Bool, List, [], ◌∷◌, length, refl, sym, subst}
 use Rattle.pg_session.specs.declared.desk.DeskCall.{DeskCall}
 use Rattle.pg_session.specs.Answer.{answers_of}
 use Rattle.pg_session.specs.Script.{scripted, origin_of, IsScripted}
@@ -17,6 +17,8 @@ all_no zero = tt
 all_no (suc n) = (refl, all_no n)
 
 -- The calls of a desk that was made over no script have no answer but no.
-pub quiet : {script left : List Bool} {calls : List DeskCall} → IsScripted script left calls → origin_of script ≡ [] → AreNo (answers_of calls)
+pub quiet : {script left : List Bool} {calls : List DeskCall} → IsScripted script left calls → origin_of script ≡ []
+    → AreNo (answers_of calls)
 quiet {script} {left} {calls} x none =
-    subst AreNo (sym x.answered) (subst (λ s. AreNo (scripted s (length (answers_of calls)))) (sym (no_script script none)) (all_no (length (answers_of calls))))
+    subst AreNo (sym x.answered) (subst (λ s. AreNo (scripted s (length (answers_of calls)))) (sym (no_script script none))
+        (all_no (length (answers_of calls))))

@@ -15,7 +15,8 @@ length-binary_value i = length-append (count32 16) _ ∙ ap (λ n. 4 + n) (lengt
 
 length-payload : (row : List Interval) → length (flat_map binary_value row) ≡ 20 * length row
 length-payload [] = refl
-length-payload (i ∷ row) = length-append (binary_value i) (flat_map binary_value row) ∙ (let a = length-binary_value i in let b = length-payload row in omega arith)
+length-payload (i ∷ row) = length-append (binary_value i) (flat_map binary_value row)
+    ∙ (let a = length-binary_value i in let b = length-payload row in omega arith)
 
 pub IsEncodable-row : (row : List Interval) → length row ≤ 1600 → IsEncodable (server.DataRow (binary_row row))
 IsEncodable-row row narrow = record {

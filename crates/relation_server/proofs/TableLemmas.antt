@@ -29,7 +29,8 @@ place-push t i [] x = rw add-zero refl
 place-push t i (y ∷ xs) x =
     ap (λ o. cond (t y) (Some i) o) (place-push t (i + 1) xs x)
     ∙ or_at-cond (t y) i (position_from t (i + 1) xs) (cond (t x) (Some (i + 1 + length xs)) None)
-    ∙ ap (λ n. or_at (cond (t y) (Some i) (position_from t (i + 1) xs)) (cond (t x) (Some n) None)) (let e : i + 1 + length xs ≡ i + length (y ∷ xs) = omega arith in e)
+    ∙ ap (λ n. or_at (cond (t y) (Some i) (position_from t (i + 1) xs)) (cond (t x) (Some n) None))
+        (let e : i + 1 + length xs ≡ i + length (y ∷ xs) = omega arith in e)
 
 none_from_test : (o : Option ℕ) → is_some o ≡ false → o ≡ None
 none_from_test None h = refl
@@ -72,7 +73,8 @@ module _ (rs : List Relation) (i : ℕ) (r : Relation) (is : r ≡ get_or rs i r
       → refusal_after (take i rs) (drop i rs) ≡ or_else o (refusal_after (take (i + 1) rs) (drop (i + 1) rs))
   refusal-step o e =
       ap (λ xs. refusal_after (take i rs) xs) back
-      ∙ ap (λ n. or_else (refusal_at n (is_some (place_of (take i rs) r.name)) r) (refusal_after (take i rs ++ r ∷ []) (drop (i + 1) rs))) front_length
+      ∙ ap (λ n. or_else (refusal_at n (is_some (place_of (take i rs) r.name)) r) (refusal_after (take i rs ++ r ∷ []) (drop (i + 1) rs)))
+          front_length
       ∙ ap (λ p. or_else p (refusal_after (take i rs ++ r ∷ []) (drop (i + 1) rs))) (sym e)
       ∙ ap (λ xs. or_else o (refusal_after xs (drop (i + 1) rs))) (sym front)
 
@@ -99,14 +101,16 @@ bound_by false i m n o later h = let f : n < i + 1 + m = later h in omega arith
 -- a place that was found lies in the list
 pub position_from-bound : {X : Type 0} (t : X → Bool) (i : ℕ) (xs : List X) (n : ℕ) → position_from t i xs ≡ Some n → n < i + length xs
 position_from-bound t i [] n h = absurd (none≢some n h)
-position_from-bound t i (x ∷ xs) n h = bound_by (t x) i (length xs) n (position_from t (i + 1) xs) (λ k. position_from-bound t (i + 1) xs n k) h
+position_from-bound t i (x ∷ xs) n h = bound_by (t x) i (length xs) n (position_from t (i + 1) xs)
+    (λ k. position_from-bound t (i + 1) xs n k) h
 
 -- what is good about a relation of a valid table beside its name
 pub record IsSound (r : Relation) : Type 0 where
   pub columns : are_columns r.columns ≡ true
   pub rows : are_even (length r.columns) r.rows ≡ true
 
-passed : (a x y : Bool) (e f g : TableError) → (if a then Some e else if not x then Some f else if not y then Some g else None) ≡ None → (x ≡ true) × (y ≡ true)
+passed : (a x y : Bool) (e f g : TableError) → (if a then Some e else if not x then Some f else if not y then Some g else None) ≡ None
+    → (x ≡ true) × (y ≡ true)
 passed true x y e f g h = (cc, cc)
 passed false false y e f g h = (cc, cc)
 passed false true false e f g h = (refl, cc)
@@ -114,7 +118,8 @@ passed false true true e f g h = (refl, refl)
 
 IsSound-from_passed : (n : ℕ) (b : Bool) (r : Relation) → refusal_at n b r ≡ None → IsSound r
 IsSound-from_passed n b r h =
-    let p = passed (b || not (is_name r.name)) (are_columns r.columns) (are_even (length r.columns) r.rows) (BadName n) (BadColumn n) (RaggedRow n) h in
+    let p = passed (b || not (is_name r.name)) (are_columns r.columns) (are_even (length r.columns) r.rows) (BadName n) (BadColumn n)
+        (RaggedRow n) h in
     record { columns = p.0; rows = p.1 }
 
 neither : (o p : Option TableError) → or_else o p ≡ None → (o ≡ None) × (p ≡ None)
@@ -122,7 +127,8 @@ neither None p h = (refl, h)
 neither (Some e) p h = (cc, cc)
 
 -- each relation of a valid table is good
-pub IsSound-at : (earlier rs : List Relation) → refusal_after earlier rs ≡ None → (i : ℕ) (d : Relation) → i < length rs → IsSound (get_or rs i d)
+pub IsSound-at : (earlier rs : List Relation) → refusal_after earlier rs ≡ None → (i : ℕ) (d : Relation) → i < length rs
+    → IsSound (get_or rs i d)
 IsSound-at earlier [] h i d lt = absurd (let f : i < 0 = lt in omega arith)
 IsSound-at earlier (r ∷ rs) h zero d lt =
     IsSound-from_passed (length earlier) (is_some (place_of earlier r.name)) r

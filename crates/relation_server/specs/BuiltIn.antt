@@ -11,7 +11,8 @@ shifts = record {
   name = codes "shifts";
   unready = 0;
   columns = codes "span" ∷ [];
-  rows = (interval (pos 13) (pos 1) (pos 4215000000) ∷ []) ∷ (interval (pos 0) (pos 0) (negsuc 499999) ∷ []) ∷ (interval (negsuc 0) (pos 2) (pos 3000000) ∷ []) ∷ [];
+  rows = (interval (pos 13) (pos 1) (pos 4215000000) ∷ []) ∷ (interval (pos 0) (pos 0) (negsuc 499999) ∷ []) ∷
+      (interval (negsuc 0) (pos 2) (pos 3000000) ∷ []) ∷ [];
 }
 
 abbrev pub wide : Relation

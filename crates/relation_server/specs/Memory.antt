@@ -50,7 +50,8 @@ pub record IsNextCall (failed : Bool) (old new : Tape) : Type 0 where
   pub calls : new.calls ≡ raised old.calls
   pub faults : new.faults ≡ counted failed old.faults
 
--- What a sink in memory has: all that was written, the numbers of the calls that fail, each with the bytes that it takes, and how many calls
+-- What a sink in memory has: all that was written, the numbers of the calls that fail, each with the bytes that it takes, and how many
+-- calls
 -- and faults there were.
 pub record Drain : Type 0 where
   pub bytes : List ℕ

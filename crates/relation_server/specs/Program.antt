@@ -1,5 +1,5 @@
 -- What the server owes its client, and what the program tells of it: a status, and a line on its error output.
-use Rattle.std.specs.Prelude.{ℕ, ℤ, Bool, false, List, [], ◌++◌, ◌∷◌, ◌+◌, ◌≤◌, ◌<◌, ◌^◌, ◌≡◌, ◌≢◌, ◌⊎◌, Option, Some, None, Result, Ok, Err, IfSome, codes}
+use Rattle.std.specs.Prelude.{ℕ, ℤ, Bool, false, List, [], ◌++◌, ◌∷◌, ◌+◌, ◌≤◌, ◌<◌, ◌^◌, ◌≡◌, ◌≢◌, ◌⊎◌, Option, Some, Result, Ok, Err, IfSome, codes}
 use Rattle.std.specs.List.{AllByRecursion}
 use Rattle.pg_session.specs.declared.desk.DeskCall.{DeskCall}
 use Rattle.pg_session.specs.declared.ends.EndKind.{EndKind}
@@ -88,7 +88,8 @@ IsCutRunOfTaken setting left new_left old new calls = (taken : List ℕ) × Take
 
 -- What was written and called by the answer: the run over all client bytes where it is an end; the run over the taken bytes where one more
 -- read was needed; a front of it where a write failed or memory ran out.
-abbrev pub WentSo : Setting → Result EndKind ServeError → Option (List ℕ) → Option (List ℕ) → Option (List ℕ) → Option (List ℕ) → List DeskCall → Type 0
+abbrev pub WentSo : Setting → Result EndKind ServeError → Option (List ℕ) → Option (List ℕ) → Option (List ℕ) → Option (List ℕ)
+    → List DeskCall → Type 0
 WentSo setting (Ok kind) left new_left old new calls = IsServedRun setting left old new calls kind
 WentSo setting (Err ReadFault) left new_left old new calls = IsRunOfTaken setting left new_left old new calls
 WentSo setting (Err TurnLimit) left new_left old new calls = IsRunOfTaken setting left new_left old new calls
@@ -103,7 +104,8 @@ pub record Counts : Type 0 where
 
 -- the counts of a source and of a sink, by what their traits tell
 abbrev pub counts_of : {S K : Type 0} → (S → ℕ) → (S → ℕ) → (K → ℕ) → S → K → Counts
-counts_of reads read_faults write_faults source sink = record { reads = reads source; read_faults = read_faults source; write_faults = write_faults sink }
+counts_of reads read_faults write_faults source sink = record { reads = reads source; read_faults = read_faults source;
+    write_faults = write_faults sink }
 
 -- the turn that reads the end of the input
 abbrev pub end_turn : EndKind → ℕ
@@ -125,7 +127,8 @@ AreNo answers = AllByRecursion (λ yes. yes ≡ false) answers
 
 -- A conversation under this registration, whose queries nobody cancels, went so: what was written and called, and why it came to an end or
 -- was given up.
-pub record IsOutcome (registration : ℤ × List ℕ) (relations : List Relation) (turns : ℕ) (answer : Result EndKind ServeError) (left new_left old new : Option (List ℕ)) (before after : Counts) : Type 0 where
+pub record IsOutcome (registration : ℤ × List ℕ) (relations : List Relation) (turns : ℕ) (answer : Result EndKind ServeError)
+    (left new_left old new : Option (List ℕ)) (before after : Counts) : Type 0 where
   pub calls : List DeskCall
   pub quiet : AreNo (answers_of calls)
   pub went : WentSo (table_setting relations registration) answer left new_left old new calls

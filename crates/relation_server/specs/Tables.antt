@@ -14,7 +14,8 @@ is_foreign_to_names byte = (nat_le 9 byte && nat_le byte 13) || (byte == 32) || 
 
 -- A name that a query can say: 1 to 63 bytes, none of them whitespace, a semicolon or zero, and neither BEGIN nor COMMIT in any ASCII case.
 abbrev pub is_name : List ℕ → Bool
-is_name text = nat_le 1 (length text) && nat_le (length text) 63 && list_all (λ byte. not (is_foreign_to_names byte)) text && not (is_transaction_word text)
+is_name text = nat_le 1 (length text) && nat_le (length text) 63 && list_all (λ byte. not (is_foreign_to_names byte)) text && not
+    (is_transaction_word text)
 
 -- a column's name: at most 63 bytes, none of them zero
 abbrev pub is_column_name : List ℕ → Bool
@@ -48,7 +49,8 @@ or_else (Some e) later = Some e
 -- Refusal of relations that stand after earlier ones: that of the first which breaks a rule.
 abbrev pub refusal_after : List Relation → List Relation → Option TableError
 refusal_after earlier [] = None
-refusal_after earlier (r ∷ relations) = or_else (refusal_at (length earlier) (is_some (place_of earlier r.name)) r) (refusal_after (earlier ++ r ∷ []) relations)
+refusal_after earlier (r ∷ relations) = or_else (refusal_at (length earlier) (is_some (place_of earlier r.name)) r)
+    (refusal_after (earlier ++ r ∷ []) relations)
 
 abbrev pub refusal : List Relation → Option TableError
 refusal relations = refusal_after [] relations

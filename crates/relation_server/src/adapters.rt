@@ -28,7 +28,8 @@ impl<R: Read> Source for ReaderSource<R> {
     fn receive(&mut self, into: &mut [u8]) -> Result<usize, SourceFailed>
         requires { 0 < length into.old }
         // what is known of the reader's bytes goes on
-        ensures reader { ReadConsumes (R.remaining self.old.reader) (R.remaining self.new.reader) result into.new }
+        ensures reader { ReadConsumes (R.remaining self.old.reader)
+            (R.remaining self.new.reader) result into.new }
         ensures fits { IfOk result (λ n. n ≤ length into.old) }
         ensures counts { self.new.reads ≡ reads_after result self.old.reads }
         ensures faults { self.new.faults ≡ counted (is_err result) self.old.faults }
@@ -67,7 +68,9 @@ impl<W: Write> Sink for WriterSink<W> {
 
     fn send(&mut self, bytes: &[u8]) -> Result<(), SinkError>
         // what is known of the writer's bytes grows by all of them
-        ensures writer { OnOk result (Appends (W.contents self.old.writer) (W.contents self.new.writer) bytes.now) }
+        ensures writer
+            { OnOk result (Appends (W.contents self.old.writer)
+            (W.contents self.new.writer) bytes.now) }
         ensures faults { self.new.faults ≡ counted (is_err result) self.old.faults }
         ensures failed { OnErr result (HasRisen self.old.faults self.new.faults) }
         ensures no_memory { IsErrOf result SinkError.NoMemory → ⊥ }

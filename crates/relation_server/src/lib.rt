@@ -7,14 +7,8 @@ mod handler;
 mod memory;
 mod report;
 mod run;
-#[cfg(test)]
-mod run_tests;
 mod serve;
-#[cfg(test)]
-mod serve_tests;
 mod table;
-#[cfg(test)]
-mod tests;
 mod words;
 
 pub use adapters::{ReaderSource, WriterSink};

@@ -26,7 +26,9 @@ impl Model for MemorySource {
 
     ghost Value = { Tape };
 
-    ghost view = { λ s. record { left = drop s.position s.bytes; pieces = s.pieces; fails = s.fails; calls = s.calls; reads = s.reads; faults = s.faults } };
+    ghost view =
+        { λ s. record { left = drop s.position s.bytes; pieces = s.pieces; fails = s.fails; calls =
+        s.calls; reads = s.reads; faults = s.faults } };
 
     ghost invariant = { λ s. s.position ≤ length s.bytes };
 }
@@ -87,7 +89,8 @@ impl Source for MemorySource {
         ensures answer { result ≡ received self.old (length into.old) }
         ensures next { IsNextCall (is_err result) self.old self.new }
         ensures fits { IfOk result (λ n. n ≤ length into.old) }
-        ensures bytes { IfOk result (λ n. GivesFront n into.new self.old.left (Some self.new.left)) }
+        ensures bytes { IfOk result (λ n. GivesFront n into.new self.old.left (Some self.new.left))
+            }
         ensures counts { self.new.reads ≡ reads_after result self.old.reads }
         ensures failed { OnErr result (HasRisen self.old.faults self.new.faults) }
         ensures untouched { OnErr result (self.new.left ≡ self.old.left) }
@@ -124,7 +127,9 @@ impl Model for MemorySink {
 
     ghost Value = { Drain };
 
-    ghost view = { λ s. record { bytes = s.bytes.items; fails = s.fails; calls = s.calls; faults = s.faults } };
+    ghost view =
+        { λ s. record { bytes = s.bytes.items; fails = s.fails; calls = s.calls; faults = s.faults }
+        };
 }
 
 impl MemorySink {
@@ -165,13 +170,16 @@ impl Sink for MemorySink {
     ghost faults = { λ s. s.faults };
 
     fn send(&mut self, bytes: &[u8]) -> Result<(), SinkError>
-        ensures taken { TakesAsTold (told_to_fail self.old) result self.old.bytes self.new.bytes bytes.now }
+        ensures taken { TakesAsTold (told_to_fail self.old) result self.old.bytes self.new.bytes
+            bytes.now }
         ensures fails { self.new.fails ≡ self.old.fails }
         ensures calls { self.new.calls ≡ raised self.old.calls }
         ensures faults { self.new.faults ≡ counted (is_fault result) self.old.faults }
         ensures ok { OnOk result (GrowsBy (Some self.old.bytes) (Some self.new.bytes) bytes.now) }
-        ensures err { OnErr result (GrowsByFront (Some self.old.bytes) (Some self.new.bytes) bytes.now) }
-        ensures failed { IsErrOf result SinkError.Failed → HasRisen self.old.faults self.new.faults }
+        ensures err
+            { OnErr result (GrowsByFront (Some self.old.bytes) (Some self.new.bytes) bytes.now) }
+        ensures failed { IsErrOf result SinkError.Failed
+            → HasRisen self.old.faults self.new.faults }
         ensures no_memory { IsErrOf result SinkError.NoMemory → self.new.faults ≡ self.old.faults }
         ensures never_falls { self.old.faults ≤ self.new.faults }
     {
@@ -191,7 +199,8 @@ impl Sink for MemorySink {
 impl MemorySink {
     /// Appends bytes, and without memory none of them.
     fn append(&mut self, bytes: &[u8]) -> Result<(), SinkError>
-        ensures ok { OnOk result (self.new ≡ record self.old { bytes = self.old.bytes ++ bytes.now }) }
+        ensures ok
+            { OnOk result (self.new ≡ record self.old { bytes = self.old.bytes ++ bytes.now }) }
         ensures err { IfErr result (λ e. (e ≡ SinkError.NoMemory) × (self.new ≡ self.old)) }
     {
         match self.bytes.extend_from_slice(bytes) {

@@ -38,7 +38,8 @@ pub fn line(answer: Result<EndKind, ServeError>) -> &'static str
 
 /// Writes a line, where there is one, and answers this status, or that of no memory where the sink finds none.
 pub fn report<E: Sink>(status: u8, line: &str, err: &mut E) -> u8
-    ensures { IsReported status line.now result (E.written err.old) (E.written err.new) (E.faults err.old) (E.faults err.new) }
+    ensures { IsReported status line.now result (E.written err.old) (E.written err.new)
+        (E.faults err.old) (E.faults err.new) }
 {
     if line.is_empty() {
         return status;

@@ -66,7 +66,8 @@ impl Model for RelationTable {
 
     ghost view = { λ t. t.relations };
 
-    ghost invariant = { λ t. IsValid t.relations × ((name : List ℕ) → map.get t.places name ≡ place_of t.relations name) };
+    ghost invariant = { λ t. IsValid t.relations
+        × ((name : List ℕ) → map.get t.places name ≡ place_of t.relations name) };
 }
 
 impl RelationTable {
@@ -101,7 +102,8 @@ impl RelationTable {
 /// Where each name stands among relations that keep the rules.
 fn places_of(alloc: Global, relations: &[Relation]) -> Result<Named<u32>, TableError>
     requires { length relations.now < 2 ^ 32 }
-    ensures places { IfOk result (λ places. (name : List ℕ) → map.get places name ≡ place_of relations.now name) }
+    ensures places { IfOk result (λ places. (name : List ℕ) → map.get places name
+        ≡ place_of relations.now name) }
     ensures valid { OnOk result (IsValid relations.now) }
     ensures refused { IfErr result (λ error. IsCause relations.now error) }
 {

@@ -11,7 +11,8 @@ pub returns-in_default : goal.returns-in_default
 returns-in_default g c = record {
   calls = [];
   quiet = tt;
-  went = cut_at_start (table_setting built_in (c.args.pid, c.args.key)) (g.S.Source.left c.args.client.now) (g.K.Sink.written c.args.out.now);
+  went = cut_at_start (table_setting built_in (c.args.pid, c.args.key)) (g.S.Source.left c.args.client.now)
+      (g.K.Sink.written c.args.out.now);
   cause = tt;
 }
 
@@ -22,15 +23,19 @@ returns g c =
     let registered : registration_of desk ≡ (c.args.pid, c.args.key) = search rules in
     let called : c.serve_relations_on-answer.new.desk.calls ≡ went.0 = went.1 ∙ ap (λ calls. calls ++ went.0) c.new-desk.ensures.calls in
     let unscripted : origin_of c.serve_relations_on-answer.new.desk.script ≡ [] =
-        c.serve_relations_on-answer.ensures.origin ∙ ap origin_of (c.new-desk.ensures.script ∙ c.new.ensures) in
+    c.serve_relations_on-answer.ensures.origin ∙ ap origin_of (c.new-desk.ensures.script ∙ c.new.ensures) in
     record {
       calls = went.0;
       quiet = subst (λ calls. AreNo (answers_of calls)) called (quiet c.calls-answered_no.ensures.scripted unscripted);
-      went = subst (λ table. WentSo (table_setting table (c.args.pid, c.args.key)) c.serve_relations_on-answer.result (g.S.Source.left c.args.client.now)
-          (g.S.Source.left c.serve_relations_on-answer.new.source) (g.K.Sink.written c.args.out.now) (g.K.Sink.written c.serve_relations_on-answer.new.sink) went.0)
+      went = subst (λ table. WentSo (table_setting table (c.args.pid, c.args.key)) c.serve_relations_on-answer.result
+          (g.S.Source.left c.args.client.now)
+          (g.S.Source.left c.serve_relations_on-answer.new.source) (g.K.Sink.written c.args.out.now)
+              (g.K.Sink.written c.serve_relations_on-answer.new.sink) went.0)
           c.in-Ok.ensures.ok
-          (subst (λ registration. WentSo (table_setting c.in-Ok.table registration) c.serve_relations_on-answer.result (g.S.Source.left c.args.client.now)
-          (g.S.Source.left c.serve_relations_on-answer.new.source) (g.K.Sink.written c.args.out.now) (g.K.Sink.written c.serve_relations_on-answer.new.sink) went.0)
+          (subst (λ registration. WentSo (table_setting c.in-Ok.table registration) c.serve_relations_on-answer.result
+              (g.S.Source.left c.args.client.now)
+          (g.S.Source.left c.serve_relations_on-answer.new.source) (g.K.Sink.written c.args.out.now)
+              (g.K.Sink.written c.serve_relations_on-answer.new.sink) went.0)
           registered went.2);
       cause = c.serve_relations_on-answer.ensures.cause;
     }

@@ -19,7 +19,8 @@ sound rs ts place r same valid inside is =
     subst (λ x. IsSound x) (sym e) good
 
 narrow_from_sound : (r : Relation) → IsSound r → length r.columns ≤ 1600
-narrow_from_sound r s = leb-true (length r.columns) 1600 (and_left (nat_le (length r.columns) 1600) (list_all is_column_name r.columns) s.columns)
+narrow_from_sound r s = leb-true (length r.columns) 1600 (and_left (nat_le (length r.columns) 1600)
+    (list_all is_column_name r.columns) s.columns)
 
 pub bounds-relations-relation : goal.bounds-relations-relation
 bounds-relations-relation c = rw c.relations.ensures.relations c.requires
@@ -28,14 +29,16 @@ pub encoded_rows-requires-clause-narrow : goal.encoded_rows-requires-clause-narr
 encoded_rows-requires-clause-narrow c =
     let rs = c.args.self.now.relations.now in
     rw c.len.ensures (narrow_from_sound c.index-relations-relation.result
-    (sound rs c.relations.result.now c.args.relation c.index-relations-relation.result c.relations.ensures.relations c.relations.ensures.valid
+    (sound rs c.relations.result.now c.args.relation c.index-relations-relation.result c.relations.ensures.relations
+        c.relations.ensures.valid
     c.requires c.index-relations-relation.is))
 
 pub encoded_rows-requires-clause-even : goal.encoded_rows-requires-clause-even
 encoded_rows-requires-clause-even c =
     let rs = c.args.self.now.relations.now in
     rw (c.len.ensures, c.as_slice.ensures)
-    (sound rs c.relations.result.now c.args.relation c.index-relations-relation.result c.relations.ensures.relations c.relations.ensures.valid
+    (sound rs c.relations.result.now c.args.relation c.index-relations-relation.result c.relations.ensures.relations
+        c.relations.ensures.valid
     c.requires c.index-relations-relation.is).rows
 
 pub returns-clause-rows : goal.returns-clause-rows
@@ -45,5 +48,7 @@ returns-clause-rows c =
     let stands : slice_get rs c.args.relation ≡ Some r =
     slice_get_read rs (length rs) c.args.relation r refl c.requires
     (c.index-relations-relation.is ∙ ap (λ xs. get_or xs c.args.relation r) c.relations.ensures.relations) in
-    IfOk-weaker c.encoded_rows.result (λ (rows : List DataRow). rows ≡ map binary_row c.as_slice.result.now) (λ (rows : List DataRow). rows ≡ binary_rows rs c.args.relation)
-    (λ rows h. h ∙ ap (λ xs. map binary_row xs) c.as_slice.ensures ∙ ap (λ o. map binary_row (rows_of o)) (sym stands)) c.encoded_rows.ensures.rows
+    IfOk-weaker c.encoded_rows.result (λ (rows : List DataRow). rows ≡ map binary_row c.as_slice.result.now)
+        (λ (rows : List DataRow). rows ≡ binary_rows rs c.args.relation)
+    (λ rows h. h ∙ ap (λ xs. map binary_row xs) c.as_slice.ensures ∙ ap (λ o. map binary_row (rows_of o)) (sym stands))
+        c.encoded_rows.ensures.rows

@@ -1,9 +1,12 @@
 ghost use Rattle.std.specs.Prelude.{◌≤◌, IfOk};
 
-use crate::*;
 use pg_interval::Interval;
 use pg_messages::{PgBytes, PgList, PgStr};
 use pg_session::{FirstRows, Sink, SinkError, Source};
+use relation_server::{
+    MemorySink, MemorySource, ReaderSource, Relation, RelationHandler, RelationTable, TableError,
+    WriterSink, built_in_table, read_registration,
+};
 use std::alloc::{AllocError, Global};
 use std::io;
 use std::io::{Read, Write};

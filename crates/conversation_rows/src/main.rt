@@ -1,0 +1,65 @@
+//! Rows of conversations, as data on standard input: each is served by `serve_relations_on`, and a line tells whether
+//! its replies, its end and its registry calls are the ones that the row expects. The head of `stdin` has the format.
+#![tactic(auto)]
+
+mod counting;
+mod fault;
+mod message;
+mod row;
+mod serving;
+mod verdict;
+
+use crate::fault::Fault;
+use crate::row::{lines_of, name_of};
+use crate::verdict::judge;
+use std::alloc::Global;
+use std::io;
+
+/// What is told of a row.
+fn verdict_of<'t>(alloc: Global, text: &'t str, block: &'t str) -> Result<Option<&'static str>, Fault<'t>> {
+    let lines = lines_of(alloc, text, block)?;
+    judge(alloc, lines.as_slice())
+}
+
+/// Prints the line of a row, and answers whether all was as expected.
+fn print_row(rt: &impl Print, alloc: Global, text: &str, name: &str, block: &str) -> io::Result<bool> {
+    match verdict_of(alloc, text, block) {
+        Ok(None) => {
+            println!(rt; "{name}: ok")?;
+            Ok(true)
+        }
+        Ok(Some(difference)) => {
+            println!(rt; "{name}: {difference}")?;
+            Ok(false)
+        }
+        Err(Fault::Line(line)) => {
+            println!(rt; "{name}: what is {line}")?;
+            Ok(false)
+        }
+        Err(Fault::NoMemory) => {
+            println!(rt; "{name}: out of memory")?;
+            Ok(false)
+        }
+    }
+}
+
+/// Judges each row, and prints a line for each and their number.
+fn print_rows(rt: &impl Print, alloc: Global, text: &str) -> io::Result<()> {
+    let mut rows = 0u64;
+    let mut good = 0u64;
+    for block in text.split("\n\n") {
+        if let Some(name) = name_of(block, "row") {
+            rows = rows.saturating_add(1);
+            if print_row(rt, alloc, text, name, block)? {
+                good = good.saturating_add(1);
+            }
+        }
+    }
+    println!(rt; "{good} of {rows} rows are as expected")
+}
+
+fn main(rt: HostRuntime) -> io::Result<()> {
+    let alloc = rt.alloc();
+    let text = io::read_to_string(alloc, rt.reader())?;
+    print_rows(&rt, alloc, text.as_str())
+}

@@ -1,0 +1,240 @@
+use crate::fault::Fault;
+use std::alloc::Global;
+
+/// The layout of each message: its name, its type byte (none for the first packets of a client), and its fields
+/// (protocol: Message Formats). `i` is an Int32 in decimal, `w` an Int16, `b` a byte by its character, `s` a text with
+/// a zero behind it, `h` bytes in hexadecimal, `c` a count and so many Int16, `o` a count and so many Int32, `v` a
+/// count and so many values, `f` a count and so many fields of a row description, `S` all further fields as texts and
+/// then a zero, `E` the same where each text follows a byte.
+const LAYOUTS: [(&str, u8, &str); 27] = [
+    // the client's
+    ("Startup", 0, "iS"),
+    ("SSLRequest", 0, "i"),
+    ("GSSENCRequest", 0, "i"),
+    ("CancelRequest", 0, "iih"),
+    ("Query", b'Q', "s"),
+    ("Parse", b'P', "sso"),
+    ("Bind", b'B', "sscvc"),
+    ("Describe", b'D', "bs"),
+    ("Execute", b'E', "si"),
+    ("Close", b'C', "bs"),
+    ("Flush", b'H', ""),
+    ("Sync", b'S', ""),
+    ("Terminate", b'X', ""),
+    ("CopyFail", b'f', "s"),
+    // both sides'
+    ("CopyData", b'd', "h"),
+    ("CopyDone", b'c', ""),
+    // the server's
+    ("AuthenticationOk", b'R', "i"),
+    ("ParameterStatus", b'S', "ss"),
+    ("BackendKeyData", b'K', "ih"),
+    ("ReadyForQuery", b'Z', "b"),
+    ("ParseComplete", b'1', ""),
+    ("BindComplete", b'2', ""),
+    ("RowDescription", b'T', "f"),
+    ("DataRow", b'D', "v"),
+    ("CommandComplete", b'C', "s"),
+    ("NoData", b'n', ""),
+    ("ErrorResponse", b'E', "E"),
+];
+
+/// The layout of the message of this name.
+fn layout_of(name: &str) -> Option<(u8, &'static str)> {
+    for (known, type_byte, layout) in LAYOUTS {
+        if known == name {
+            return Some((type_byte, layout));
+        }
+    }
+    None
+}
+
+/// Appends the bytes of a message: its name and its fields, with a bar before each field; or `hex` and its bytes.
+pub fn put_message<'t>(alloc: Global, bytes: &mut Vec<u8>, line: &'t str) -> Result<(), Fault<'t>> {
+    if let Some(digits) = line.strip_prefix("hex ") {
+        return put_hex(alloc, bytes, digits, line);
+    }
+    let (name, fields) = line.split_once("|").unwrap_or((line, ""));
+    let Some((type_byte, layout)) = layout_of(name.trim()) else {
+        return Err(Fault::Line(line));
+    };
+    let body = body_of(alloc, layout, fields, line)?;
+    if type_byte != 0 {
+        bytes.push(type_byte)?;
+    }
+    put_count32(bytes, body.len().saturating_add(4))?;
+    bytes.extend_from_slice(body.as_slice())?;
+    Ok(())
+}
+
+/// The fields of a message, as its layout says.
+fn body_of<'t>(
+    alloc: Global,
+    layout: &str,
+    fields: &'t str,
+    line: &'t str,
+) -> Result<Vec<u8>, Fault<'t>> {
+    let mut body = Vec::new(alloc);
+    let mut fields = fields.split("|");
+    for kind in layout.bytes() {
+        put_kind(alloc, &mut body, kind, &mut fields, line)?;
+    }
+    Ok(body)
+}
+
+/// Appends what one letter of a layout says.
+fn put_kind<'t>(
+    alloc: Global,
+    body: &mut Vec<u8>,
+    kind: u8,
+    fields: &mut impl Iterator<Item = &'t str>,
+    line: &'t str,
+) -> Result<(), Fault<'t>> {
+    if kind == b'S' || kind == b'E' {
+        for field in fields {
+            put_text(body, kind, field.trim())?;
+        }
+        body.push(0)?;
+        return Ok(());
+    }
+    let Some(field) = fields.next() else {
+        return Err(Fault::Line(line));
+    };
+    put_field(alloc, body, kind, field.trim(), line)
+}
+
+/// Appends a text with a zero behind it; of an error's field the byte that tells its kind first.
+fn put_text<'t>(body: &mut Vec<u8>, kind: u8, text: &str) -> Result<(), Fault<'t>> {
+    let (byte, text) = match text.split_once(" ") {
+        Some((byte, rest)) if kind == b'E' => (byte, rest),
+        _ => ("", text),
+    };
+    body.extend_from_slice(byte.as_bytes())?;
+    body.extend_from_slice(text.as_bytes())?;
+    body.push(0)?;
+    Ok(())
+}
+
+/// Appends one field.
+fn put_field<'t>(
+    alloc: Global,
+    body: &mut Vec<u8>,
+    kind: u8,
+    field: &'t str,
+    line: &'t str,
+) -> Result<(), Fault<'t>> {
+    match kind {
+        b'i' => put_int32(body, field, line),
+        b'w' => put_int16(body, field, line),
+        b'b' => Ok(body.extend_from_slice(field.as_bytes())?),
+        b's' => put_text(body, kind, field),
+        b'h' => put_hex(alloc, body, field, line),
+        _ => put_list(alloc, body, kind, field, line),
+    }
+}
+
+/// Appends a count and the parts of a list.
+fn put_list<'t>(
+    alloc: Global,
+    body: &mut Vec<u8>,
+    kind: u8,
+    field: &'t str,
+    line: &'t str,
+) -> Result<(), Fault<'t>> {
+    if field.is_empty() {
+        return put_count16(body, 0);
+    }
+    put_count16(body, field.split(",").count())?;
+    for part in field.split(",") {
+        put_part(alloc, body, kind, part.trim(), line)?;
+    }
+    Ok(())
+}
+
+/// Appends one part of a list.
+fn put_part<'t>(
+    alloc: Global,
+    body: &mut Vec<u8>,
+    kind: u8,
+    part: &'t str,
+    line: &'t str,
+) -> Result<(), Fault<'t>> {
+    match kind {
+        b'c' => put_int16(body, part, line),
+        b'o' => put_int32(body, part, line),
+        b'v' => put_value(alloc, body, part, line),
+        b'f' => put_column(body, part, line),
+        _ => Err(Fault::Line(line)),
+    }
+}
+
+/// Appends a value: `null`, or its length and its bytes, told by `hex` or by `text`.
+fn put_value<'t>(
+    alloc: Global,
+    body: &mut Vec<u8>,
+    part: &'t str,
+    line: &'t str,
+) -> Result<(), Fault<'t>> {
+    if part == "null" {
+        return Ok(body.extend_from_slice(&(-1i32).to_be_bytes())?);
+    }
+    if let Some(text) = part.strip_prefix("text ") {
+        put_count32(body, text.len())?;
+        return Ok(body.extend_from_slice(text.as_bytes())?);
+    }
+    let Some(digits) = part.strip_prefix("hex ") else {
+        return Err(Fault::Line(line));
+    };
+    put_count32(body, digits.len() / 2)?;
+    put_hex(alloc, body, digits, line)
+}
+
+/// Appends a column of a row description: its name, type oid, type size and format code.
+fn put_column<'t>(body: &mut Vec<u8>, part: &'t str, line: &'t str) -> Result<(), Fault<'t>> {
+    let mut words = part.split_whitespace();
+    let (Some(name), Some(oid), Some(size), Some(format)) =
+        (words.next(), words.next(), words.next(), words.next())
+    else {
+        return Err(Fault::Line(line));
+    };
+    put_text(body, b's', name)?;
+    body.extend_from_slice(&[0, 0, 0, 0, 0, 0])?;
+    put_int32(body, oid, line)?;
+    put_int16(body, size, line)?;
+    put_int32(body, "-1", line)?;
+    put_int16(body, format, line)
+}
+
+fn put_int32<'t>(body: &mut Vec<u8>, word: &str, line: &'t str) -> Result<(), Fault<'t>> {
+    let Ok(number) = word.parse::<i32>() else {
+        return Err(Fault::Line(line));
+    };
+    Ok(body.extend_from_slice(&number.to_be_bytes())?)
+}
+
+fn put_int16<'t>(body: &mut Vec<u8>, word: &str, line: &'t str) -> Result<(), Fault<'t>> {
+    let Ok(number) = word.parse::<i16>() else {
+        return Err(Fault::Line(line));
+    };
+    Ok(body.extend_from_slice(&number.to_be_bytes())?)
+}
+
+fn put_count16<'t>(body: &mut Vec<u8>, count: usize) -> Result<(), Fault<'t>> {
+    Ok(body.extend_from_slice(&(count as u16).to_be_bytes())?)
+}
+
+fn put_count32<'t>(body: &mut Vec<u8>, count: usize) -> Result<(), Fault<'t>> {
+    Ok(body.extend_from_slice(&(count as u32).to_be_bytes())?)
+}
+
+fn put_hex<'t>(
+    alloc: Global,
+    body: &mut Vec<u8>,
+    digits: &str,
+    line: &'t str,
+) -> Result<(), Fault<'t>> {
+    let Ok(bytes) = hex::decode(alloc, digits) else {
+        return Err(Fault::Line(line));
+    };
+    Ok(body.extend_from_slice(bytes.as_slice())?)
+}
