@@ -5,8 +5,8 @@ use std::alloc::Global;
 /// (protocol: Message Formats). `i` is an Int32 in decimal, `w` an Int16, `b` a byte by its character, `s` a text with
 /// a zero behind it, `h` bytes in hexadecimal, `c` a count and so many Int16, `o` a count and so many Int32, `v` a
 /// count and so many values, `f` a count and so many fields of a row description, `S` all further fields as texts and
-/// then a zero, `E` the same where each text follows a byte.
-const LAYOUTS: [(&str, u8, &str); 27] = [
+/// then a zero, `E` the same where each text follows a byte. A layout `alone` is the type byte without a length.
+const LAYOUTS: [(&str, u8, &str); 29] = [
     // the client's
     ("Startup", 0, "iS"),
     ("SSLRequest", 0, "i"),
@@ -26,6 +26,8 @@ const LAYOUTS: [(&str, u8, &str); 27] = [
     ("CopyData", b'd', "h"),
     ("CopyDone", b'c', ""),
     // the server's
+    ("SslResponse", b'N', "alone"),
+    ("GssEncResponse", b'N', "alone"),
     ("AuthenticationOk", b'R', "i"),
     ("ParameterStatus", b'S', "ss"),
     ("BackendKeyData", b'K', "ih"),
@@ -58,6 +60,9 @@ pub fn put_message<'t>(alloc: Global, bytes: &mut Vec<u8>, line: &'t str) -> Res
     let Some((type_byte, layout)) = layout_of(name.trim()) else {
         return Err(Fault::Line(line));
     };
+    if layout == "alone" {
+        return Ok(bytes.push(type_byte)?);
+    }
     let body = body_of(alloc, layout, fields, line)?;
     if type_byte != 0 {
         bytes.push(type_byte)?;
@@ -192,9 +197,12 @@ fn put_value<'t>(
 /// Appends a column of a row description: its name, type oid, type size and format code.
 fn put_column<'t>(body: &mut Vec<u8>, part: &'t str, line: &'t str) -> Result<(), Fault<'t>> {
     let mut words = part.split_whitespace();
-    let (Some(name), Some(oid), Some(size), Some(format)) =
-        (words.next(), words.next(), words.next(), words.next())
-    else {
+    let (Some(name), Some(oid), Some(size), Some(format)) = (
+        words.next(),
+        words.next(),
+        words.next(),
+        words.next(),
+    ) else {
         return Err(Fault::Line(line));
     };
     put_text(body, b's', name)?;

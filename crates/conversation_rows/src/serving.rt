@@ -8,8 +8,7 @@ use pg_interval::Interval;
 use pg_messages::{PgBytes, PgList, PgStr};
 use pg_session::{DeskCall, EndKind, ScriptDesk, ServeError};
 use relation_server::{
-    MemorySink, MemorySource, Relation, RelationTable, built_in_table,
-    serve_relations_on,
+    MemorySink, MemorySource, Relation, RelationTable, built_in_table, serve_relations_on,
 };
 use std::alloc::{AllocError, Global};
 
@@ -92,11 +91,7 @@ fn sink_of<'t>(alloc: Global, fails: Option<(u64, usize)>) -> Result<CountingSin
     })
 }
 
-fn source_of<'t>(
-    alloc: Global,
-    client: &[u8],
-    plan: Plan<'t>,
-) -> Result<MemorySource, Fault<'t>> {
+fn source_of<'t>(alloc: Global, client: &[u8], plan: Plan<'t>) -> Result<MemorySource, Fault<'t>> {
     let pieces = pieces_of(alloc, plan.reads, client.len())?;
     let fails = calls_of(alloc, plan.source_fails)?;
     Ok(MemorySource::new(PgBytes::copy_of(alloc, client)?, pieces, fails))

@@ -106,7 +106,7 @@ fn are_called(calls: &[DeskCall], lines: &[&str]) -> bool {
     for line in lines {
         if let Some(call) = told_by(line, "call") {
             match calls.get(count) {
-                Some(made) if call_name(*made) == call => {}
+                Some(made) if is_call(*made, call) => {}
                 _ => return false,
             }
             count = count.saturating_add(1);
@@ -115,15 +115,28 @@ fn are_called(calls: &[DeskCall], lines: &[&str]) -> bool {
     count == calls.len()
 }
 
-/// The words for a registry call. Of a cancel the answer is told.
-fn call_name(call: DeskCall) -> &'static str {
+/// Whether these words tell this registry call: `start`, `ask` and its answer, or `cancel`, its answer, the pid and the
+/// key.
+fn is_call(call: DeskCall, words: &str) -> bool {
     match call {
-        DeskCall::Start => "start",
-        DeskCall::Ask(true) => "ask yes",
-        DeskCall::Ask(false) => "ask no",
-        DeskCall::Cancel(_, _, true) => "cancel yes",
-        DeskCall::Cancel(_, _, false) => "cancel no",
+        DeskCall::Start => words == "start",
+        DeskCall::Ask(true) => words == "ask yes",
+        DeskCall::Ask(false) => words == "ask no",
+        DeskCall::Cancel(pid, key, true) => is_cancel("cancel yes", pid, key, words),
+        DeskCall::Cancel(pid, key, false) => is_cancel("cancel no", pid, key, words),
     }
+}
+
+/// Whether the words are these, and then this pid in decimal and this key in hexadecimal.
+fn is_cancel(answered: &str, pid: i32, key: [u8; 4], words: &str) -> bool {
+    let Some(named) = words.strip_prefix(answered) else {
+        return false;
+    };
+    let Some((number, digits)) = named.trim().split_once(" ") else {
+        return false;
+    };
+    number.parse::<i32>() == Ok(pid)
+        && u32::from_str_radix(digits, 16) == Ok(u32::from_be_bytes(key))
 }
 
 /// The word for an end.
@@ -132,6 +145,8 @@ fn end_name(end: Result<EndKind, ServeError>) -> &'static str {
         Ok(EndKind::Terminate) => "Terminate",
         Ok(EndKind::InputEnd) => "InputEnd",
         Ok(EndKind::BadFrame) => "BadFrame",
+        Ok(EndKind::Fatal) => "Fatal",
+        Ok(EndKind::CancelServed) => "CancelServed",
         Err(ServeError::ReadFault) => "ReadFault",
         Err(ServeError::WriteFault) => "WriteFault",
         Err(ServeError::TurnLimit) => "TurnLimit",
