@@ -11,6 +11,17 @@ const C: [u8; 4] = [10, 11, 12, 13];
 
 const ZERO: [u8; 4] = [0, 0, 0, 0];
 
+/// The call once more.
+fn again(call: &RegistryCall) -> RegistryCall {
+    match call {
+        RegistryCall::Register(pid, key) => RegistryCall::Register(*pid, *key),
+        RegistryCall::Start => RegistryCall::Start,
+        RegistryCall::Ask => RegistryCall::Ask,
+        RegistryCall::Cancel(pid, key) => RegistryCall::Cancel(*pid, *key),
+        RegistryCall::Unregister => RegistryCall::Unregister,
+    }
+}
+
 /// Applies the call under a number that is live, or any where it registers.
 fn applied(
     rt: &impl Abort,
@@ -33,7 +44,7 @@ fn tell(
     for (number, call, answer) in steps {
         let place = registry.history().len();
         assert_eq!(rt;
-            applied(rt, &mut registry, *number, *call)?,
+            applied(rt, &mut registry, *number, again(call))?,
             *answer,
             "at {place}"
         );
@@ -41,16 +52,16 @@ fn tell(
     assert_eq!(rt; registry.history().len(), steps.len());
     for (place, entry) in registry.history().iter().enumerate() {
         if place < steps.len() {
-            let (number, call, answer) = steps[place];
+            let (number, call, answer) = &steps[place];
             let number = if matches!(call, RegistryCall::Register(..)) {
                 place as u64
             } else {
-                number
+                *number
             };
             let wanted = Entry {
                 number,
-                call,
-                answer,
+                call: again(call),
+                answer: *answer,
             };
             assert_eq!(rt; *entry, wanted, "at {place}");
         }

@@ -1,0 +1,5 @@
+use Rattle.std.proofs.Common.{rules, ◌≡◌, ap, sym, subst, ◌∙◌}
+use Rattle.pg_cancel.proofs.manager.ConnectionManager.ask.Goals as goal
+
+pub returns-clause-exactly : goal.returns-clause-exactly
+returns-clause-exactly = ?
