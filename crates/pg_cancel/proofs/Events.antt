@@ -16,6 +16,7 @@ use Rattle.pg_cancel.specs.declared.manager.RegisterError.TheVariants.{PidTaken,
 use Rattle.pg_cancel.specs.LegalHistory.{IsLegal, IsLive, HasPid, IsCanceled, IsAnswer, MayCall, entry_of}
 use Rattle.pg_cancel.specs.Connections.{calls_of, is_register, registers_of, entry, before_last, yes_if, Made, Registers, Begins}
 use Rattle.pg_cancel.specs.Turns.{Fits, holding, idle, called, entered, refused, grown, HasOut, IsFree, IsHandle, IsDoor, IsNote, IsOpening, IsLeft, IsToldTo, MayMake}
+use Rattle.pg_cancel.proofs.Histories.{registered_lives}
 use Rattle.pg_cancel.proofs.Beginnings.{the_answer, before_of, heard_by}
 use Rattle.pg_cancel.proofs.Views.{Adds, Answered, called_fits, entered_fits, false_true, holding_fits}
 
@@ -191,6 +192,12 @@ yes_is false same = let e : ◌≡◌ {A = RegistryAnswer} Yes No = same in cc (
 pub yes_exactly : (b : Bool) (P : Type 0) → (Yes ≡ yes_if b) ↔ P → (b ≡ true) ↔ P
 yes_exactly b P right = ((λ same. right.0 (ap yes_if (sym same))), (λ x. yes_is b (right.1 x)))
 
+-- whether a question was answered Yes
+pub asked_exactly : (n : ℕ) (c : RegistryCall) (seen mine seen' mine' : List Entry) (a : RegistryAnswer) (b : Bool) → a ≡ yes_if b → Made n c seen mine seen' mine' a
+    → (b ≡ true) ↔ IsAnswer (before_last seen') n c Yes
+asked_exactly n c seen mine seen' mine' a b same made =
+    yes_exactly b (IsAnswer (before_last seen') n c Yes) (exactly_made n c seen mine seen' mine' (yes_if b) Yes (made_as n c seen mine seen' mine' a (yes_if b) same made))
+
 pub heard_if : (n : ℕ) (seen mine seen' mine' : List Entry) (b : Bool) → Made n Ask seen mine seen' mine' (yes_if b) → IsCanceled seen n → b ≡ true
 heard_if n seen mine seen' mine' b made canceled = yes_is b (sym (heard_by seen made.between n (yes_if b) made.told made.quiet canceled))
 
@@ -276,9 +283,10 @@ refused_is v m' h n c a m is same next =
 pub still_door : (v : View) (m' : Sat) (h : List Entry) (e : Entry) → v.is_door ≡ true → m' ≡ (refused v h e, []) → IsDoor m'
 still_door v m' h e door is = subst IsDoor (sym is) ((refl, refl), refl, door)
 
-pub opening : (v : View) (m' : Sat) (h : List Entry) (call : RegistryCall) → Opened v h call Registered → IsLive (h ++ entry (length h) call Registered ∷ []) (length h)
+pub opening : (v : View) (m' : Sat) (h : List Entry) (call : RegistryCall) → Opened v h call Registered
     → m' ≡ (entered v h (entry (length h) call Registered), []) → IsOpening m' (length h) call
-opening v m' h call x live is =
+opening v m' h call x is =
+    let live = subst (λ e. IsLive (h ++ e ∷ []) (length h)) (own_place h (length h) call Registered x.register) (registered_lives h (length h) call x.told) in
     let g = entered_fits v h (entry (length h) call Registered) (record { number = refl; door = x.door }) x.was live in
     subst (λ (z : Sat). IsOpening z (length h) call) (sym is) ((refl, refl), refl, x.door, refl, refl, (x.legal, (g.own (length h) refl).seen))
 
@@ -294,6 +302,17 @@ pub free_exactly : {A : Type 0} (h : A) (n : ℕ) (pid : ℤ) (key : List ℕ) (
 free_exactly {A} h n pid key seen seen' made m =
     let right = exactly_registered n (Register pid key) seen seen' Registered (Taken m) made in
     ((λ same. absurd (cc (same))), (λ has. let is : Taken m ≡ Registered = right.1 has in absurd (cc (is))))
+
+pub registers_as : (n : ℕ) (p q : ℤ) (key : List ℕ) (seen x y : List Entry) (a : RegistryAnswer) → p ≡ q → x ≡ y → Registers n (Register p key) seen x a
+    → Registers n (Register q key) seen y a
+registers_as n p q key seen x y a pid goes made =
+    subst (λ z. Registers n (Register q key) seen z a) goes (subst (λ z. Registers n (Register z key) seen x a) pid made)
+
+pub refused_exactly : {A : Type 0} (e : RegisterError) (r : Result ℕ RegisterError) (pid : ℤ) (key : List ℕ) (seen seen' : List Entry) → r ≡ Err e
+    → ((m : ℕ) → r ≡ Err (PidTaken m) → (n : ℕ) × Registers n (Register pid key) seen seen' (Taken m)) → (◌≡◌ {A = Result A RegisterError} (Err e) (Err NoMemory) → ⊥)
+    → (m : ℕ) → (◌≡◌ {A = Result A RegisterError} (Err e) (Err (PidTaken m))) ↔ HasPid (before_last seen') m pid
+refused_exactly {A} (PidTaken k) r pid key seen seen' is taken some m = let t = taken k is in taken_exactly t.0 k pid key seen seen' t.1 m
+refused_exactly {A} NoMemory r pid key seen seen' is taken some m = absurd (some refl)
 
 pub begins_more : (mine mine' : List Entry) (e : Entry) (n : ℕ) (pid : ℤ) (key : List ℕ) → Begins mine n pid key → mine' ≡ mine ++ e ∷ [] → Begins mine' n pid key
 begins_more mine mine' e n pid key b is = (b.0 ++ e ∷ [], is ∙ ap (λ x. x ++ e ∷ []) b.1)

@@ -15,6 +15,8 @@ pub use history::Registry;
 pub use manager::{ConnectionManager, Door, RegisterError};
 
 #[cfg(test)]
+mod story;
+#[cfg(test)]
 mod tests;
 
 fn may_be_sent<T: Send>() {}

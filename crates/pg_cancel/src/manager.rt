@@ -102,14 +102,18 @@ impl ConnectionManager {
             (result ≡ Err (RegisterError.PidTaken m)) ↔ HasPid (before_last door.new.seen) m pid }
         ensures no_memory { result ≡ Err RegisterError.NoMemory → door.new ≡ door.old }
     {
-        let number = self.enter(rt, &mut door.seat, RegistryCall::Register(pid, key))?;
-        let seat = self.table.shared.split_seat::<PassOn>(&mut door.seat);
-        Ok(ConnectionHandle {
-            seat,
-            number,
-            pid,
-            key,
-        })
+        match self.enter(rt, &mut door.seat, RegistryCall::Register(pid, key)) {
+            Ok(number) => {
+                let seat = self.table.shared.split_seat::<PassOn>(&mut door.seat);
+                Ok(ConnectionHandle {
+                    seat,
+                    number,
+                    pid,
+                    key,
+                })
+            }
+            Err(refusal) => Err(refusal),
+        }
     }
 
     /// Waits for the turn and makes a Register. The seat of the door has the number then.
