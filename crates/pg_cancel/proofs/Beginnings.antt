@@ -82,7 +82,8 @@ pub canceled_on : (rest h : List Entry) (n : ℕ) → calls_of n rest ≡ [] →
 canceled_on [] h n quiet c = subst (λ x. IsCanceled x n) (sym (append-nil h)) c
 canceled_on (e ∷ rest) h n quiet c = dite (ℕ_discrete e.number n)
     (λ same. let some : e ∷ calls_of n rest ≡ [] = sym (calls_cons n e rest same) ∙ quiet in absurd (cc (some)))
-    (λ other. subst (λ x. IsCanceled x n) (append_assoc h (e ∷ []) rest) (canceled_on rest (h ++ e ∷ []) n (sym (calls_skip n e rest other) ∙ quiet) (canceled_more h e n other c)))
+    (λ other. subst (λ x. IsCanceled x n) (append_assoc h (e ∷ []) rest)
+        (canceled_on rest (h ++ e ∷ []) n (sym (calls_skip n e rest other) ∙ quiet) (canceled_more h e n other c)))
 
 -- the history before its last entry
 pub before_snoc : (h : List Entry) (e : Entry) → before_last (h ++ e ∷ []) ≡ h
@@ -100,5 +101,6 @@ the_answer h n c a legal told =
     λ other. ((λ same. subst (λ b. IsAnswer h n c b) (sym same) told), (λ right. determined h n c other a legal right told))
 
 -- who was canceled is answered Yes
-pub heard_by : (seen between : List Entry) (n : ℕ) (a : RegistryAnswer) → IsTheAnswer (seen ++ between) n Ask a → calls_of n between ≡ [] → IsCanceled seen n → a ≡ Yes
+pub heard_by : (seen between : List Entry) (n : ℕ) (a : RegistryAnswer) → IsTheAnswer (seen ++ between) n Ask a → calls_of n between ≡ []
+    → IsCanceled seen n → a ≡ Yes
 heard_by seen between n a told quiet c = sym ((told Yes).1 (canceled_on between seen n quiet c))

@@ -21,7 +21,8 @@ use Rattle.pg_cancel.proofs.Prefixes.{prefix_self, prefix_longer}
 use Rattle.pg_cancel.proofs.Beginnings.{calls_fresh}
 
 -- what fits a view fits one that differs in what it was told and in the turn
-pub refit : (log : List Entry) (v w : View) → Fits log v → w.seen ≡ v.seen → IsPrefix w.told w.seen → w.number ≡ v.number → w.mine ≡ v.mine → w.is_live ≡ v.is_live → w.is_door ≡ v.is_door → Fits log w
+pub refit : (log : List Entry) (v w : View) → Fits log v → w.seen ≡ v.seen → IsPrefix w.told w.seen → w.number ≡ v.number
+    → w.mine ≡ v.mine → w.is_live ≡ v.is_live → w.is_door ≡ v.is_door → Fits log w
 refit log v w f seen told number mine live door = record {
   seen = subst (λ x. IsPrefix x log) (sym seen) f.seen;
   told = told;
@@ -55,7 +56,8 @@ reader_fits log seen p = record {
 }
 
 was_door : (views : List View) (id : ℕ) (v w : View) → get_elem? views id ≡ some v → w.is_door ≡ v.is_door
-    → (j : ℕ) (a : View) → get_elem? (set views id w) j ≡ some a → a.is_door ≡ true → (b : View) × (get_elem? views j ≡ some b) × (b.is_door ≡ true)
+    → (j : ℕ) (a : View) → get_elem? (set views id w) j ≡ some a → a.is_door ≡ true
+    → (b : View) × (get_elem? views j ≡ some b) × (b.is_door ≡ true)
 was_door views id v w at door j a e is_yes = ⊎_elim
     (λ t. (v, subst (λ i. get_elem? views i ≡ some v) (sym t.0) at, sym door ∙ (ap (λ (u : View). u.is_door) t.1 ∙ is_yes)))
     (λ t. (a, t.1, is_yes))
@@ -63,7 +65,8 @@ was_door views id v w at door j a e is_yes = ⊎_elim
 
 -- one view changed: it is no other door, and no other seat has its number
 pub apart_set : (views : List View) (id : ℕ) (v w : View) → get_elem? views id ≡ some v → w.is_door ≡ v.is_door
-    → ((n : ℕ) → w.number ≡ Some n → (j : ℕ) (a : View) → j ≢ id → get_elem? views j ≡ some a → a.number ≢ Some n) → IsApart views → IsApart (set views id w)
+    → ((n : ℕ) → w.number ≡ Some n → (j : ℕ) (a : View) → j ≢ id → get_elem? views j ≡ some a → a.number ≢ Some n) → IsApart views
+    → IsApart (set views id w)
 apart_set views id v w at door own apart = record {
   numbers = λ j k n a b at_j at_k is_a is_b. ⊎_elim
       (λ s. ⊎_elim
@@ -82,21 +85,27 @@ apart_set views id v w at door own apart = record {
 }
 
 -- the same where the number stays
-pub apart_same : (views : List View) (id : ℕ) (v w : View) → get_elem? views id ≡ some v → w.is_door ≡ v.is_door → w.number ≡ v.number → IsApart views → IsApart (set views id w)
-apart_same views id v w at door number apart = apart_set views id v w at door (λ n is j a other e same. other (apart.numbers j id n a v e at same (sym number ∙ is))) apart
+pub apart_same : (views : List View) (id : ℕ) (v w : View) → get_elem? views id ≡ some v → w.is_door ≡ v.is_door → w.number ≡ v.number
+    → IsApart views → IsApart (set views id w)
+apart_same views id v w at door number apart =
+    apart_set views id v w at door (λ n is j a other e same. other (apart.numbers j id n a v e at same (sym number ∙ is))) apart
 
 -- the same where there is none
-pub apart_none : (views : List View) (id : ℕ) (v w : View) → get_elem? views id ≡ some v → w.is_door ≡ v.is_door → w.number ≡ None → IsApart views → IsApart (set views id w)
+pub apart_none : (views : List View) (id : ℕ) (v w : View) → get_elem? views id ≡ some v → w.is_door ≡ v.is_door → w.number ≡ None
+    → IsApart views → IsApart (set views id w)
 apart_none views id v w at door number apart = apart_set views id v w at door (λ n is. none_some n (sym number ∙ is)) apart
 
-pub at_end : {A : Type 0} (l : List A) (a b : A) (j : ℕ) → get_elem? (l ++ a ∷ []) j ≡ some b → (get_elem? l j ≡ some b) ⊎ ((j ≡ length l) × (a ≡ b))
+pub at_end : {A : Type 0} (l : List A) (a b : A) (j : ℕ) → get_elem? (l ++ a ∷ []) j ≡ some b
+    → (get_elem? l j ≡ some b) ⊎ ((j ≡ length l) × (a ≡ b))
 at_end [] a b zero e = inr (refl, some-injective a b e)
 at_end [] a b (suc j) e = absurd (cc (e))
 at_end (x ∷ xs) a b zero e = inl e
 at_end (x ∷ xs) a b (suc j) e = ⊎_elim (λ t. inl t) (λ t. inr (ap suc t.0, t.1)) (at_end xs a b j e)
 
 -- one view more: it is no door, and no other seat has its number
-pub apart_more : (views : List View) (w : View) → w.is_door ≡ false → ((n : ℕ) → w.number ≡ Some n → (j : ℕ) (a : View) → get_elem? views j ≡ some a → a.number ≢ Some n) → IsApart views → IsApart (views ++ w ∷ [])
+pub apart_more : (views : List View) (w : View) → w.is_door ≡ false
+    → ((n : ℕ) → w.number ≡ Some n → (j : ℕ) (a : View) → get_elem? views j ≡ some a → a.number ≢ Some n) → IsApart views
+    → IsApart (views ++ w ∷ [])
 apart_more views w door own apart = record {
   numbers = λ j k n a b at_j at_k is_a is_b. ⊎_elim
       (λ s. ⊎_elim
@@ -181,10 +190,12 @@ called_fits live v before e f a is_live = record {
   door = λ yes. refl;
 }
 
-called_keeps : (live : Bool) (id : ℕ) (v : View) (before : List Entry) (e : Entry) → Adds v e → KeepsOthers id v (called live v before e) before (before ++ e ∷ [])
+called_keeps : (live : Bool) (id : ℕ) (v : View) (before : List Entry) (e : Entry) → Adds v e
+    → KeepsOthers id v (called live v before e) before (before ++ e ∷ [])
 called_keeps live id v before e a views at apart fits = (
   apart_same views id v (called live v before e) at refl refl apart,
-  λ j w other e_at. other_after w before e (fits j w e_at) (λ n has same. other (apart.numbers j id n w v e_at at has (a.number ∙ ap Some same))) (λ _. a.quiet),
+  λ j w other e_at. other_after w before e (fits j w e_at)
+      (λ n has same. other (apart.numbers j id n w v e_at at has (a.number ∙ ap Some same))) (λ _. a.quiet),
 )
 
 -- a Register, by the door
@@ -193,7 +204,8 @@ pub record Enters (v : View) (before : List Entry) (e : Entry) : Type 0 where
   pub door : v.is_door ≡ true
 
 -- no other seat has the next place for its number, and none is a door
-door_keeps : (id : ℕ) (v : View) (before : List Entry) (e : Entry) → Enters v before e → (views : List View) → get_elem? views id ≡ some v → IsApart views
+door_keeps : (id : ℕ) (v : View) (before : List Entry) (e : Entry) → Enters v before e → (views : List View) → get_elem? views id ≡ some v
+    → IsApart views
     → ((j : ℕ) (a : View) → get_elem? views j ≡ some a → Fits before a)
     → (j : ℕ) (a : View) → j ≢ id → get_elem? views j ≡ some a → Fits (before ++ e ∷ []) a
 door_keeps id v before e a views at apart fits j w other e_at =
@@ -201,7 +213,8 @@ door_keeps id v before e a views at apart fits j w other e_at =
     (λ n has same. let known = ((fits j w e_at).own n has).known in let is = a.number in omega (arith, same))
     (λ yes. absurd (other (apart.doors j id w v e_at at yes a.door)))
 
-refused_keeps : (id : ℕ) (v : View) (before : List Entry) (e : Entry) → Enters v before e → KeepsOthers id v (refused v before e) before (before ++ e ∷ [])
+refused_keeps : (id : ℕ) (v : View) (before : List Entry) (e : Entry) → Enters v before e
+    → KeepsOthers id v (refused v before e) before (before ++ e ∷ [])
 refused_keeps id v before e a views at apart fits = (
   apart_none views id v (refused v before e) at refl refl apart,
   door_keeps id v before e a views at apart fits,
@@ -215,7 +228,8 @@ refused_fits v before e = record {
   door = λ yes. refl;
 }
 
-entered_keeps : (id : ℕ) (v : View) (before : List Entry) (e : Entry) → Enters v before e → KeepsOthers id v (entered v before e) before (before ++ e ∷ [])
+entered_keeps : (id : ℕ) (v : View) (before : List Entry) (e : Entry) → Enters v before e
+    → KeepsOthers id v (entered v before e) before (before ++ e ∷ [])
 entered_keeps id v before e a views at apart fits = (
   apart_set views id v (entered v before e) at refl
       (λ n is j w other e_at has.
@@ -226,7 +240,8 @@ entered_keeps id v before e a views at apart fits = (
   door_keeps id v before e a views at apart fits,
 )
 
-pub entered_fits : (v : View) (before : List Entry) (e : Entry) → Enters v before e → IsLegal before → IsLive (before ++ e ∷ []) (length before)
+pub entered_fits : (v : View) (before : List Entry) (e : Entry) → Enters v before e → IsLegal before
+    → IsLive (before ++ e ∷ []) (length before)
     → Fits (before ++ e ∷ []) (entered v before e)
 entered_fits v before e a legal live = record {
   seen = prefix_self (before ++ e ∷ []);
@@ -238,7 +253,8 @@ entered_fits v before e a legal live = record {
       let fresh : calls_of n before ≡ [] = subst (λ k. calls_of k before ≡ []) same (calls_fresh before legal) in
       let all : calls_of n (before ++ e ∷ []) ≡ e ∷ [] = filter-append (λ (x : Entry). x.number == n) before (e ∷ [])
           ∙ (ap (λ h. h ++ calls_of n (e ∷ [])) fresh ∙ calls_one n e number) in
-      record { known = omega (arith, same, longer); live = λ yes. subst (λ k. IsLive (before ++ e ∷ []) k) same live; all = all; seen = all };
+      record { known = omega (arith, same, longer); live = λ yes. subst (λ k. IsLive (before ++ e ∷ []) k) same live; all = all;
+          seen = all };
   door = λ yes. refl;
 }
 
@@ -248,11 +264,13 @@ entered_fits v before e a legal live = record {
 pub record Answered (before : List Entry) (number : ℕ) (call : RegistryCall) (answer : RegistryAnswer) : Type 0 where
   pub legal : IsLegal (before ++ entry_of before number call answer ∷ [])
   pub told : IsAnswer before number call answer
-  pub stays : (k : ℕ) → IsLive before k → ((call ≡ Unregister) × (number ≡ k) → ⊥) → IsLive (before ++ entry_of before number call answer ∷ []) k
+  pub stays : (k : ℕ) → IsLive before k → ((call ≡ Unregister) × (number ≡ k) → ⊥) → IsLive
+      (before ++ entry_of before number call answer ∷ []) k
   pub lives : answer ≡ Registered → IsLive (before ++ entry_of before number call answer ∷ []) (length before)
 
 -- a call that ends nothing leaves the seat's number live
-lives_on : (v : View) (before after : List Entry) (number : ℕ) (call : RegistryCall) → (call ≡ Unregister → ⊥) → v.number ≡ Some number → Fits before v
+lives_on : (v : View) (before after : List Entry) (number : ℕ) (call : RegistryCall) → (call ≡ Unregister → ⊥) → v.number ≡ Some number
+    → Fits before v
     → ((k : ℕ) → IsLive before k → ((call ≡ Unregister) × (number ≡ k) → ⊥) → IsLive after k) → v.is_live ≡ true → IsLive after number
 lives_on v before after number call other own f stays live = stays number ((f.own number own).live live) (λ ends. other ends.0)
 
@@ -261,26 +279,33 @@ pub grows_fits : (v : View) (before : List Entry) (number : ℕ) (call : Registr
     → Answered before number call answer → IsLegal before → Fits before v
     → Fits (before ++ entry_of before number call answer ∷ []) (grown v before (entry_of before number call answer))
 grows_fits v before number (Register pid key) Registered may x legal f =
-    let e = entry_of before number (Register pid key) Registered in entered_fits v before e (record { number = refl; door = may }) legal (x.lives refl)
-grows_fits v before number (Register pid key) (Taken m) may x legal f = refused_fits v before (entry_of before number (Register pid key) (Taken m))
+    let e = entry_of before number (Register pid key) Registered in
+    entered_fits v before e (record { number = refl; door = may }) legal (x.lives refl)
+grows_fits v before number (Register pid key) (Taken m) may x legal f =
+    refused_fits v before (entry_of before number (Register pid key) (Taken m))
 grows_fits v before number (Register pid key) _ may x legal f = absurd x.told
 grows_fits v before number Start answer may x legal f =
     let e = entry_of before number Start answer in
     called_fits v.is_live v before e f (record { number = may.0; quiet = refl })
-    (lives_on v before (before ++ e ∷ []) number Start (λ s. let same : ◌≡◌ {A = RegistryCall} Start Unregister = s in cc (same)) may.0 f x.stays)
+    (lives_on v before (before ++ e ∷ []) number Start
+        (λ s. let same : ◌≡◌ {A = RegistryCall} Start Unregister = s in cc (same)) may.0 f x.stays)
 grows_fits v before number Ask answer may x legal f =
     let e = entry_of before number Ask answer in
     called_fits v.is_live v before e f (record { number = may.0; quiet = refl })
-    (lives_on v before (before ++ e ∷ []) number Ask (λ s. let same : ◌≡◌ {A = RegistryCall} Ask Unregister = s in cc (same)) may.0 f x.stays)
+    (lives_on v before (before ++ e ∷ []) number Ask
+        (λ s. let same : ◌≡◌ {A = RegistryCall} Ask Unregister = s in cc (same)) may.0 f x.stays)
 grows_fits v before number (Cancel pid key) answer may x legal f =
     let e = entry_of before number (Cancel pid key) answer in
     called_fits v.is_live v before e f (record { number = may.0; quiet = refl })
-    (lives_on v before (before ++ e ∷ []) number (Cancel pid key) (λ s. let same : ◌≡◌ {A = RegistryCall} (Cancel pid key) Unregister = s in cc (same)) may.0 f x.stays)
+    (lives_on v before (before ++ e ∷ []) number (Cancel pid key)
+        (λ s. let same : ◌≡◌ {A = RegistryCall} (Cancel pid key) Unregister = s in cc (same)) may.0 f x.stays)
 grows_fits v before number Unregister answer may x legal f =
-    called_fits false v before (entry_of before number Unregister answer) f (record { number = may.0; quiet = refl }) (λ yes. false_true yes)
+    called_fits false v before (entry_of before number Unregister answer) f (record { number = may.0; quiet = refl })
+        (λ yes. false_true yes)
 
 -- and what the other seats know stays so
-pub grows_keeps : (id : ℕ) (v : View) (before : List Entry) (number : ℕ) (call : RegistryCall) (answer : RegistryAnswer) → MayMake v number call
+pub grows_keeps : (id : ℕ) (v : View) (before : List Entry) (number : ℕ) (call : RegistryCall) (answer : RegistryAnswer)
+    → MayMake v number call
     → IsAnswer before number call answer
     → KeepsOthers id v (grown v before (entry_of before number call answer)) before (before ++ entry_of before number call answer ∷ [])
 grows_keeps id v before number (Register pid key) Registered may x =
@@ -288,13 +313,17 @@ grows_keeps id v before number (Register pid key) Registered may x =
 grows_keeps id v before number (Register pid key) (Taken m) may x =
     refused_keeps id v before (entry_of before number (Register pid key) (Taken m)) record { number = refl; door = may }
 grows_keeps id v before number (Register pid key) _ may x = absurd x
-grows_keeps id v before number Start answer may x = called_keeps v.is_live id v before (entry_of before number Start answer) record { number = may.0; quiet = refl }
-grows_keeps id v before number Ask answer may x = called_keeps v.is_live id v before (entry_of before number Ask answer) record { number = may.0; quiet = refl }
+grows_keeps id v before number Start answer may x =
+    called_keeps v.is_live id v before (entry_of before number Start answer) record { number = may.0; quiet = refl }
+grows_keeps id v before number Ask answer may x =
+    called_keeps v.is_live id v before (entry_of before number Ask answer) record { number = may.0; quiet = refl }
 grows_keeps id v before number (Cancel pid key) answer may x =
     called_keeps v.is_live id v before (entry_of before number (Cancel pid key) answer) record { number = may.0; quiet = refl }
-grows_keeps id v before number Unregister answer may x = called_keeps false id v before (entry_of before number Unregister answer) record { number = may.0; quiet = refl }
+grows_keeps id v before number Unregister answer may x =
+    called_keeps false id v before (entry_of before number Unregister answer) record { number = may.0; quiet = refl }
 
-pub grows_free : (v : View) (before : List Entry) (number : ℕ) (call : RegistryCall) (answer : RegistryAnswer) → IsAnswer before number call answer
+pub grows_free : (v : View) (before : List Entry) (number : ℕ) (call : RegistryCall) (answer : RegistryAnswer)
+    → IsAnswer before number call answer
     → (grown v before (entry_of before number call answer)).turn ≡ None
 grows_free v before number (Register pid key) Registered x = refl
 grows_free v before number (Register pid key) (Taken m) x = refl

@@ -48,13 +48,15 @@ IsOut word homes views log holder =
 
 -- no two seats have one number, and there is one door
 pub record IsApart (views : List View) : Type 0 where
-  pub numbers : (j k n : ℕ) (v w : View) → get_elem? views j ≡ some v → get_elem? views k ≡ some w → v.number ≡ Some n → w.number ≡ Some n → j ≡ k
+  pub numbers : (j k n : ℕ) (v w : View) → get_elem? views j ≡ some v → get_elem? views k ≡ some w → v.number ≡ Some n → w.number ≡ Some n
+      → j ≡ k
   pub doors : (j k : ℕ) (v w : View) → get_elem? views j ≡ some v → get_elem? views k ≡ some w → v.is_door ≡ true → w.is_door ≡ true → j ≡ k
 
 -- every entry that is no Register has the number of a registration
 abbrev pub HasNoStray : List Entry → Type 0
 HasNoStray history =
-    (k : ℕ) (e : Entry) → slice_get history k ≡ Some e → is_register e.call ≡ false → (pid : ℤ) × (key : List ℕ) × IsRegisteredAt history e.number pid key
+    (k : ℕ) (e : Entry) → slice_get history k ≡ Some e → is_register e.call ≡ false → (pid : ℤ) × (key : List ℕ)
+        × IsRegisteredAt history e.number pid key
 
 pub record InTurn (s : State (List Entry) View) : Type 0 where
   pub log : List Entry
@@ -77,15 +79,17 @@ reader seen = record { seen = seen; told = []; number = None; mine = []; is_live
 
 -- the view of a seat that takes the turn, and of one that gives it back with nothing done
 abbrev pub holding : View → List Entry → View
-holding v log = record { seen = v.seen; told = v.told; number = v.number; mine = v.mine; is_live = v.is_live; is_door = v.is_door; turn = Some log }
+holding v log =
+    record { seen = v.seen; told = v.told; number = v.number; mine = v.mine; is_live = v.is_live; is_door = v.is_door; turn = Some log }
 
 abbrev pub idle : View → View
 idle v = record { seen = v.seen; told = v.told; number = v.number; mine = v.mine; is_live = v.is_live; is_door = v.is_door; turn = None }
 
--- of one that gives it back with an entry more: a call of its number, after which the number is live or not; a registration; one that was refused
+-- of one that gives it back with an entry more: a call of its number, after which that is live or not; a registration; a refused one
 abbrev pub called : Bool → View → List Entry → Entry → View
 called live v before e =
-    record { seen = before ++ e ∷ []; told = []; number = v.number; mine = v.mine ++ e ∷ []; is_live = live; is_door = v.is_door; turn = None }
+    record { seen = before ++ e ∷ []; told = []; number = v.number; mine = v.mine ++ e ∷ []; is_live = live; is_door = v.is_door;
+        turn = None }
 
 abbrev pub entered : View → List Entry → Entry → View
 entered v before e =
@@ -121,7 +125,8 @@ shorter xs ys = cond (ltb (length xs) (length ys)) xs ys
 -- a seat that took in what another had seen
 abbrev pub joined : View → View → View
 joined v w =
-    record { seen = longer v.seen w.seen; told = shorter v.seen w.seen; number = v.number; mine = v.mine; is_live = v.is_live; is_door = v.is_door; turn = v.turn }
+    record { seen = longer v.seen w.seen; told = shorter v.seen w.seen; number = v.number; mine = v.mine; is_live = v.is_live;
+        is_door = v.is_door; turn = v.turn }
 
 -- ---- steps
 
@@ -151,7 +156,8 @@ took st m r n = (r ≡ st.first → HasTurn m n r) × (r ≢ st.first → n ≡ 
 
 -- the turn is given back with an entry more
 abbrev pub publishes : At → Sat → ℕ → Sat → Type 0
-publishes st m r n = (before : List Entry) (e : Entry) → m.0.turn ≡ Some before → m.1 ≡ (0, before ++ e ∷ []) ∷ [] → n ≡ (grown m.0 before e, [])
+publishes st m r n =
+    (before : List Entry) (e : Entry) → m.0.turn ≡ Some before → m.1 ≡ (0, before ++ e ∷ []) ∷ [] → n ≡ (grown m.0 before e, [])
 
 -- the turn is given back with nothing done
 abbrev pub releases : At → Sat → ℕ → Sat → Type 0
@@ -182,7 +188,8 @@ IsNote m = IsFree m × (m.0.is_door ≡ false)
 -- a door that has just registered the place n by this call
 abbrev pub IsOpening : Sat → ℕ → RegistryCall → Type 0
 IsOpening m n call =
-    IsFree m × (m.0.number ≡ Some n) × (m.0.is_door ≡ true) × (m.0.is_live ≡ true) × (m.0.mine ≡ entry n call Registered ∷ []) × Knows n m.0.seen m.0.mine
+    IsFree m × (m.0.number ≡ Some n) × (m.0.is_door ≡ true) × (m.0.is_live ≡ true) × (m.0.mine ≡ entry n call Registered ∷ [])
+        × Knows n m.0.seen m.0.mine
 
 -- whose seat may make the call: the door's a Register, and that of a live number each other
 abbrev pub MayMake : View → ℕ → RegistryCall → Type 0

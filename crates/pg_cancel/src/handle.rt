@@ -14,7 +14,8 @@ use std::marker::Model;
 use std::sync::Wait;
 
 /// A live registration, the right to make calls under its number.
-/// Contracts see who issued it, its number, pid and key, what it has seen of the history, and its own calls there.
+/// Contracts see who issued it, its number, pid and key, what it has seen of the history, and its
+/// own calls there.
 #[derive(Drop)]
 pub struct ConnectionHandle {
     pub(crate) seat: Place,
@@ -29,9 +30,12 @@ impl Model for ConnectionHandle {
 
     ghost Value = { Connection };
 
-    ghost view = { λ h. record { issuer = h.seat.table_id; number = h.number; pid = h.pid; key = h.key; seen = h.seat.me.0.seen; mine = h.seat.me.0.mine } };
+    ghost view = { λ h. record {
+        issuer = h.seat.table_id; number = h.number; pid = h.pid; key = h.key;
+        seen = h.seat.me.0.seen; mine = h.seat.me.0.mine } };
 
-    ghost invariant = { λ h. IsHandle h.seat.me h.number × Begins h.seat.me.0.mine h.number h.pid h.key };
+    ghost invariant = { λ h.
+        IsHandle h.seat.me h.number × Begins h.seat.me.0.mine h.number h.pid h.key };
 }
 
 /// What a connection had seen of the history.
@@ -52,7 +56,8 @@ impl Model for Note {
 }
 
 impl ConnectionHandle {
-    /// The place of its registration. Its own calls, which begin with the Register, are those that it has seen under this number.
+    /// The place of its registration. Its own calls, which begin with the Register, are those that
+    /// it has seen under this number.
     pub fn number(&self) -> u64
         ensures number { result ≡ self.now.number }
         ensures begins { Begins self.now.mine self.now.number self.now.pid self.now.key }
@@ -85,7 +90,8 @@ impl ConnectionManager {
     ) -> Result<(), AllocError>
         requires issued { handle.old.issuer ≡ self.now }
         ensures same { IsSameConnection handle.old handle.new }
-        ensures ok { OnOk result (HasMade handle.old RegistryCall.Start handle.new RegistryAnswer.Done) }
+        ensures ok { OnOk result
+            (HasMade handle.old RegistryCall.Start handle.new RegistryAnswer.Done) }
         ensures err { OnErr result (handle.new ≡ handle.old) }
     {
         let number = handle.number;
@@ -95,16 +101,20 @@ impl ConnectionManager {
         }
     }
 
-    /// Whether the connection's query was canceled since it was started; without a query it is not. Waits for the turn.
+    /// Whether the connection's query was canceled since it was started; without a query it is not.
+    /// Waits for the turn.
     #[tactic(auto, using(crate::proofs::Events::begins_more))]
     pub fn ask<R: Wait>(&self, rt: &R, handle: &mut ConnectionHandle) -> Result<bool, AllocError>
         requires issued { handle.old.issuer ≡ self.now }
         ensures same { IsSameConnection handle.old handle.new }
-        ensures ok { IfOk result (λ yes. HasMade handle.old RegistryCall.Ask handle.new (yes_if yes)) }
-        ensures exactly { IfOk result (λ yes. (yes ≡ true) ↔ IsCanceled (before_last handle.new.seen) handle.old.number) }
+        ensures ok { IfOk result
+            (λ yes. HasMade handle.old RegistryCall.Ask handle.new (yes_if yes)) }
+        ensures exactly { IfOk result
+            (λ yes. (yes ≡ true) ↔ IsCanceled (before_last handle.new.seen) handle.old.number) }
 
         // A cancel that the handle has seen is heard.
-        ensures heard { IfOk result (λ yes. IsCanceled handle.old.seen handle.old.number → yes ≡ true) }
+        ensures heard { IfOk result
+            (λ yes. IsCanceled handle.old.seen handle.old.number → yes ≡ true) }
         ensures err { OnErr result (handle.new ≡ handle.old) }
     {
         let number = handle.number;
@@ -112,8 +122,8 @@ impl ConnectionManager {
         Ok(is_yes(answer))
     }
 
-    /// Cancels the query of the connection with this pid and key, and says whether there is such a connection.
-    /// Waits for the turn.
+    /// Cancels the query of the connection with this pid and key, and says whether there is such a
+    /// connection. Waits for the turn.
     #[tactic(auto, using(crate::proofs::Events::begins_more))]
     pub fn cancel<R: Wait>(
         &self,
@@ -124,8 +134,10 @@ impl ConnectionManager {
     ) -> Result<bool, AllocError>
         requires issued { handle.old.issuer ≡ self.now }
         ensures same { IsSameConnection handle.old handle.new }
-        ensures ok { IfOk result (λ yes. HasMade handle.old (RegistryCall.Cancel pid key) handle.new (yes_if yes)) }
-        ensures exactly { IfOk result (λ yes. (yes ≡ true) ↔ IsConnected (before_last handle.new.seen) pid key) }
+        ensures ok { IfOk result
+            (λ yes. HasMade handle.old (RegistryCall.Cancel pid key) handle.new (yes_if yes)) }
+        ensures exactly { IfOk result
+            (λ yes. (yes ≡ true) ↔ IsConnected (before_last handle.new.seen) pid key) }
         ensures err { OnErr result (handle.new ≡ handle.old) }
     {
         let number = handle.number;
@@ -165,32 +177,38 @@ impl ConnectionManager {
         }
     }
 
-    /// What the handle has seen, for another handle. It waits for nobody, takes no memory and makes no event.
+    /// What the handle has seen, for another handle.
+    /// It waits for nobody, takes no memory and makes no event.
     pub fn note(&self, handle: &mut ConnectionHandle) -> Note
         requires issued { handle.old.issuer ≡ self.now }
         ensures issued { result.issuer ≡ self.now }
         ensures seen { result.seen ≡ handle.old.seen }
-        ensures legal { IsLegal result.seen × (calls_of handle.old.number result.seen ≡ handle.old.mine) }
+        ensures legal { IsLegal result.seen }
+        ensures own { calls_of handle.old.number result.seen ≡ handle.old.mine }
         ensures same { handle.new ≡ handle.old }
     {
         let seat = self.table.shared.split_seat::<Copy>(&mut handle.seat);
         Note { seat }
     }
 
-    /// What the handle has seen then begins with all that it had seen, and with all that the note's giver had.
-    /// It waits for nobody, takes no memory and makes no event.
+    /// What the handle has seen then begins with all that it had seen, and with all that the note's
+    /// giver had. It waits for nobody, takes no memory and makes no event.
     pub fn take_in(&self, handle: &mut ConnectionHandle, note: Note)
         requires issued { (handle.old.issuer ≡ self.now) × (note.issuer ≡ self.now) }
-        ensures same { IsSameConnection handle.old handle.new × (handle.new.mine ≡ handle.old.mine) }
-        ensures seen { IsPrefix handle.old.seen handle.new.seen × IsPrefix note.seen handle.new.seen }
-        ensures legal { IsLegal handle.new.seen × (calls_of handle.new.number handle.new.seen ≡ handle.new.mine) }
+        ensures same { IsSameConnection handle.old handle.new }
+        ensures mine { handle.new.mine ≡ handle.old.mine }
+        ensures seen { IsPrefix handle.old.seen handle.new.seen }
+        ensures told { IsPrefix note.seen handle.new.seen }
+        ensures legal { IsLegal handle.new.seen }
+        ensures own { calls_of handle.new.number handle.new.seen ≡ handle.new.mine }
     {
         let Note { seat } = note;
         self.table.shared.join_seat::<TakeIn>(&mut handle.seat, seat);
         let _ = self.table.shared.load::<Compare>(&mut handle.seat, 0);
     }
 
-    /// Waits for the turn and makes a call, which is no Register, under the number of the seat's live registration.
+    /// Waits for the turn and makes a call, which is no Register, under the number of the seat's
+    /// live registration.
     fn make_call<R: Wait>(
         &self,
         rt: &R,
@@ -203,7 +221,8 @@ impl ConnectionManager {
         requires call { is_register call ≡ false }
         ensures same { (seat.new.table_id ≡ seat.old.table_id) × (seat.new.id ≡ seat.old.id) }
         ensures ok { IfOk result (λ answer. IsLeft seat.new.me number call
-            × Made number call seat.old.me.0.seen seat.old.me.0.mine seat.new.me.0.seen seat.new.me.0.mine answer) }
+            × Made number call seat.old.me.0.seen seat.old.me.0.mine
+                seat.new.me.0.seen seat.new.me.0.mine answer) }
         ensures told { IfOk result (IsToldTo call) }
         ensures err { OnErr result (seat.new.me ≡ seat.old.me) }
     {

@@ -31,7 +31,8 @@ impl Model for ConnectionManager {
 
     ghost view = { λ m. m.table.shared.table_id };
 
-    ghost invariant = { λ m. (m.table.shared.table_id.words ≡ 1) × (m.table.shared.table_id.slots ≡ 1) };
+    ghost invariant = { λ m.
+        (m.table.shared.table_id.words ≡ 1) × (m.table.shared.table_id.slots ≡ 1) };
 }
 
 /// The right to register. Each manager has one, which has seen every Register of the history.
@@ -88,16 +89,19 @@ impl ConnectionManager {
 
         // The registration, which the door and the handle have seen.
         ensures registered { IfOk result (λ h.
-            Registers h.number (RegistryCall.Register pid key) door.old.seen door.new.seen RegistryAnswer.Registered) }
-        ensures handle { IfOk result (λ h. (h.issuer ≡ self.now) × (h.pid ≡ pid) × (h.key ≡ key)) }
+            Registers h.number (RegistryCall.Register pid key)
+                door.old.seen door.new.seen RegistryAnswer.Registered) }
+        ensures handle { IfOk result
+            (λ h. (h.issuer ≡ self.now) × (h.pid ≡ pid) × (h.key ≡ key)) }
         ensures seen { IfOk result (λ h. h.seen ≡ door.new.seen) }
-        ensures mine { IfOk result (λ h.
-            h.mine ≡ entry h.number (RegistryCall.Register pid key) RegistryAnswer.Registered ∷ []) }
+        ensures mine { IfOk result (λ h. h.mine
+            ≡ entry h.number (RegistryCall.Register pid key) RegistryAnswer.Registered ∷ []) }
         ensures own { IfOk result (λ h. calls_of h.number h.seen ≡ h.mine) }
 
         // Or who has the pid: exactly the live registration that the history so far has of it.
         ensures taken { (m : ℕ) → result ≡ Err (RegisterError.PidTaken m) → (n : ℕ)
-            × Registers n (RegistryCall.Register pid key) door.old.seen door.new.seen (RegistryAnswer.Taken m) }
+            × Registers n (RegistryCall.Register pid key)
+                door.old.seen door.new.seen (RegistryAnswer.Taken m) }
         ensures exactly { result ≢ Err RegisterError.NoMemory → (m : ℕ) →
             (result ≡ Err (RegisterError.PidTaken m)) ↔ HasPid (before_last door.new.seen) m pid }
         ensures no_memory { result ≡ Err RegisterError.NoMemory → door.new ≡ door.old }
@@ -117,15 +121,22 @@ impl ConnectionManager {
     }
 
     /// Waits for the turn and makes a Register. The seat of the door has the number then.
-    fn enter<R: Wait>(&self, rt: &R, seat: &mut Place, call: RegistryCall) -> Result<u64, RegisterError>
+    fn enter<R: Wait>(
+        &self,
+        rt: &R,
+        seat: &mut Place,
+        call: RegistryCall,
+    ) -> Result<u64, RegisterError>
         requires issued { seat.old.table_id ≡ self.now }
         requires door { IsDoor seat.old.me }
         requires call { is_register call ≡ true }
         ensures same { (seat.new.table_id ≡ seat.old.table_id) × (seat.new.id ≡ seat.old.id) }
         ensures ok { IfOk result (λ number. IsOpening seat.new.me number call
-            × Registers number call seat.old.me.0.seen seat.new.me.0.seen RegistryAnswer.Registered) }
+            × Registers number call
+                seat.old.me.0.seen seat.new.me.0.seen RegistryAnswer.Registered) }
         ensures taken { (m : ℕ) → result ≡ Err (RegisterError.PidTaken m) → IsDoor seat.new.me
-            × ((n : ℕ) × Registers n call seat.old.me.0.seen seat.new.me.0.seen (RegistryAnswer.Taken m)) }
+            × ((n : ℕ) × Registers n call
+                seat.old.me.0.seen seat.new.me.0.seen (RegistryAnswer.Taken m)) }
         ensures no_memory { result ≡ Err RegisterError.NoMemory → seat.new.me ≡ seat.old.me }
     {
         let registry = self.take_turn(rt, seat);
@@ -147,10 +158,13 @@ impl ConnectionManager {
         requires fits { Fits registry seat.old.me.0 }
         ensures same { (seat.new.table_id ≡ seat.old.table_id) × (seat.new.id ≡ seat.old.id) }
         ensures ok { IfOk result (λ number. IsOpening seat.new.me number call
-            × Registers number call seat.old.me.0.seen seat.new.me.0.seen RegistryAnswer.Registered) }
+            × Registers number call
+                seat.old.me.0.seen seat.new.me.0.seen RegistryAnswer.Registered) }
         ensures taken { (m : ℕ) → result ≡ Err (RegisterError.PidTaken m) → IsDoor seat.new.me
-            × ((n : ℕ) × Registers n call seat.old.me.0.seen seat.new.me.0.seen (RegistryAnswer.Taken m)) }
-        ensures no_memory { result ≡ Err RegisterError.NoMemory → seat.new.me ≡ (idle seat.old.me.0, []) }
+            × ((n : ℕ) × Registers n call
+                seat.old.me.0.seen seat.new.me.0.seen (RegistryAnswer.Taken m)) }
+        ensures no_memory { result ≡ Err RegisterError.NoMemory →
+            seat.new.me ≡ (idle seat.old.me.0, []) }
     {
         let place = registry.history().len() as u64;
         match self.make_event(seat, registry, place, call) {
@@ -163,8 +177,8 @@ impl ConnectionManager {
         }
     }
 
-    /// The registry with its whole history, once no thread shares the manager. Nobody else can have the turn then, so it
-    /// doesn't wait.
+    /// The registry with its whole history, once no thread shares the manager. Nobody else can have
+    /// the turn then, so it doesn't wait.
     pub fn close<R: Wait>(self, rt: &R, door: Door) -> Registry
         requires issued { door.issuer ≡ self }
         ensures legal { IsLegal result }

@@ -2,7 +2,8 @@
 ghost use Rattle.std.specs.Prelude.{◌≡◌, IfSome};
 ghost use Rattle.std.specs.Thread.{IsSync};
 
-use crate::{ConnectionHandle, ConnectionManager, Door, Entry, RegisterError, Registry, RegistryAnswer, RegistryCall};
+use crate::{ConnectionHandle, ConnectionManager, Door, RegisterError};
+use crate::{Registry, RegistryAnswer, RegistryCall};
 use std::alloc::AllocError;
 use std::process::Abort;
 use std::sync::{Condvar, Mutex, Wait};
@@ -41,7 +42,7 @@ fn story_on_two_threads(rt: HostRuntime) -> Result<(), Fail> {
     Ok(())
 }
 
-/// Whether the second's cancels are heard by the first, which takes them in, and a start forgets them.
+/// Whether a cancel by the second is heard by the first, which takes in what the second has seen.
 fn hears<R: Wait>(
     rt: &R,
     manager: &ConnectionManager,

@@ -1,4 +1,4 @@
-//! The turn: who has it holds the registry. One event is made by the store that gives the turn back.
+//! The turn: who has it holds the registry. The store that gives it back makes one event, or none.
 ghost use Rattle.std.specs.Prelude.{◌≡◌, ◌*◌, ◌<◌, List, [], ◌∷◌, ◌++◌, length, IfOk, OnErr, Some, None};
 ghost use Rattle.pg_cancel.specs.LegalHistory.{IsLegal, IsAnswer, MayCall, entry_of};
 ghost use Rattle.pg_cancel.specs.Turns.{Fits, HasOut, IsFree, IsHolding, MayMake, grown, idle};
@@ -64,8 +64,10 @@ impl ConnectionManager {
         requires own { MayMake seat.old.me.0 number call }
         ensures same { (seat.new.table_id ≡ seat.old.table_id) × (seat.new.id ≡ seat.old.id) }
         ensures ok { IfOk result
-            (λ answer. seat.new.me ≡ (grown seat.old.me.0 registry (entry_of registry number call answer), [])) }
-        ensures legal { IfOk result (λ answer. IsLegal (registry ++ entry_of registry number call answer ∷ [])) }
+            (λ answer. seat.new.me
+                ≡ (grown seat.old.me.0 registry (entry_of registry number call answer), [])) }
+        ensures legal { IfOk result
+            (λ answer. IsLegal (registry ++ entry_of registry number call answer ∷ [])) }
         ensures answer { IfOk result (IsAnswer registry number call) }
         ensures err { OnErr result (seat.new.me ≡ (idle seat.old.me.0, [])) }
     {

@@ -13,7 +13,8 @@ returns-in-Registered-clause-ok c =
     let h = c.args.registry in
     let ok = c.in-Ok.ensures in
     let place : length c.history.result.now ≡ length h = ap (λ (x : List Entry). length x) c.history.ensures.entries in
-    let x = opened v h _ c.args.call _ Registered c.requires.call c.requires.door c.requires.fits c.requires.legal place ok.legal ok.answer c.in-Registered.is in
+    let x = opened v h _ c.args.call _ Registered
+        c.requires.call c.requires.door c.requires.fits c.requires.legal place ok.legal ok.answer c.in-Registered.is in
     let is = entered_is v m h _ c.args.call _ c.requires.call c.in-Registered.is ok.ok in
     subst (λ k. IsOpening m k c.args.call × Registers k c.args.call v.seen m.0.seen Registered) (sym place)
     (opening v m h c.args.call x is, registers v m.0 h c.args.call Registered x (ap (λ z. z.0.seen) is))
@@ -26,10 +27,12 @@ returns-in-Taken-clause-taken c =
     let ok = c.in-Ok.ensures in
     let holder = c.in-Taken.holder in
     let place : length c.history.result.now ≡ length h = ap (λ (x : List Entry). length x) c.history.ensures.entries in
-    let x = opened v h _ c.args.call _ (Taken holder) c.requires.call c.requires.door c.requires.fits c.requires.legal place ok.legal ok.answer c.in-Taken.is in
+    let x = opened v h _ c.args.call _
+        (Taken holder) c.requires.call c.requires.door c.requires.fits c.requires.legal place ok.legal ok.answer c.in-Taken.is in
     let is = refused_is v m h _ c.args.call _ holder c.requires.call c.in-Taken.is ok.ok in
     λ k same.
     let who : holder ≡ k = cc (same) in (
       still_door v m h _ c.requires.door is,
-      (length h, subst (λ y. Registers (length h) c.args.call v.seen m.0.seen (Taken y)) who (registers v m.0 h c.args.call (Taken holder) x (ap (λ z. z.0.seen) is))),
+      (length h, subst (λ y. Registers (length h) c.args.call v.seen m.0.seen (Taken y)) who
+          (registers v m.0 h c.args.call (Taken holder) x (ap (λ z. z.0.seen) is))),
     )

@@ -5,7 +5,8 @@ pub returns-clause-ok : goal.returns-clause-ok
 returns-clause-ok g c =
     let t = c.take_turn-registry.ensures in
     let r = c.make_event.ensures in
-    call_ensures c.args.seat.now.me c.take_turn-registry.new.seat.me c.make_event.new.seat.me c.take_turn-registry.result c.args.number c.args.call c.make_event.result
+    let out = c.take_turn-registry.new.seat.me in
+    call_ensures c.args.seat.now.me out c.make_event.new.seat.me c.take_turn-registry.result c.args.number c.args.call c.make_event.result
     c.requires.call c.requires.handle t.fits t.legal t.out r.ok r.legal r.answer
 
 pub returns-clause-told : goal.returns-clause-told

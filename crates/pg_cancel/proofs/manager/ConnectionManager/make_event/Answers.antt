@@ -16,7 +16,8 @@ store-requires c =
     let back = c.put_back-count.ensures.back in
     let slot : c.put_back-count.new.seat.me.1 ≡ (0, after) ∷ [] = ap (λ m. m.1) back ∙ ap (λ (x : List Entry). (0, x) ∷ []) ok.entry in
     let view = ap (λ m. m.0) back in
-    let count : c.put_back-count.result * 2 ≡ 2 * length after = omega (arith, c.put_back-count.ensures.count, ap (λ (x : List Entry). length x) ok.entry) in
+    let count : c.put_back-count.result * 2 ≡ 2 * length after =
+        omega (arith, c.put_back-count.ensures.count, ap (λ (x : List Entry). length x) ok.entry) in
     let x : Answered h n call a = record {
       legal = subst IsLegal ok.entry ok.legal;
       told = ok.answer;
@@ -35,8 +36,10 @@ store-requires-in-Err c =
     let back = c.put_back-count.ensures.back in
     let slot : c.put_back-count.new.seat.me.1 ≡ (0, h) ∷ [] = ap (λ m. m.1) back ∙ ap (λ (x : List Entry). (0, x) ∷ []) same in
     let view = ap (λ m. m.0) back in
-    let count : c.put_back-count.result * 2 ≡ 2 * length h = omega (arith, c.put_back-count.ensures.count, ap (λ (x : List Entry). length x) same) in (
+    let count : c.put_back-count.result * 2 ≡ 2 * length h =
+        omega (arith, c.put_back-count.ensures.count, ap (λ (x : List Entry). length x) same) in (
       search rules,
       search rules,
-      releases_turn _ _ _ _ h (search rules) (ap (λ v. v.turn) view ∙ c.requires.turn.0) slot count (subst IsLegal same c.in-Err.ensures.legal),
+      releases_turn _ _ _ _ h (search rules) (ap (λ v. v.turn) view ∙ c.requires.turn.0) slot count
+          (subst IsLegal same c.in-Err.ensures.legal),
     )

@@ -8,5 +8,6 @@ use Rattle.pg_cancel.proofs.manager.ConnectionManager.unregister.Goals as goal
 pub returns-in-Ok-clause-ok : goal.returns-in-Ok-clause-ok
 returns-in-Ok-clause-ok g c =
     let seen = c.make_call.new.seat.me.0.seen in
-    subst (λ (h : Connection). Made h.number Unregister h.seen h.mine seen (h.mine ++ entry h.number Unregister Done ∷ []) Done) c.handle.view_is
+    subst (λ (h : Connection). Made h.number Unregister h.seen h.mine seen
+        (h.mine ++ entry h.number Unregister Done ∷ []) Done) c.handle.view_is
     (ended _ _ _ _ _ _ c.in-Ok.ensures.told c.in-Ok.ensures.ok.1)
