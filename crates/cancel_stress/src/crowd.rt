@@ -6,11 +6,10 @@ use crate::plain::is_legal;
 use crate::worker::{Counts, Worker, end_all, workers};
 use pg_cancel::{ConnectionManager, Door};
 use std::alloc::Global;
-use std::io;
 use std::sync::Wait;
-use std::thread;
 use std::thread::Threads;
 use std::time::{Clock, Instant};
+use std::{io, thread};
 
 const THREADS: u32 = 8;
 

@@ -30,8 +30,14 @@ fn main(rt: HostRuntime) -> io::Result<()> {
         return Ok(());
     };
     println!(rt; "calls of each thread {calls}")?;
-    println!(rt; "cancels by pid and key {}, true {}", told.counts.right, told.counts.hits)?;
-    println!(rt; "cancels by another key {}, true {}", told.counts.wrong, told.counts.misses)?;
+    println!(rt;
+        "cancels by pid and key {}, true {}",
+        told.counts.right, told.counts.hits
+    )?;
+    println!(rt;
+        "cancels by another key {}, true {}",
+        told.counts.wrong, told.counts.misses
+    )?;
     println!(rt; "entries {}", told.entries)?;
     println!(rt; "legal {}", told.legal)?;
     Ok(())

@@ -119,7 +119,9 @@ impl<'a> Worker<'a> {
     }
 
     fn miss<R: Wait>(&mut self, rt: &R) -> Result<(), AllocError> {
-        let hit = self.manager.cancel(rt, &mut self.handle, self.other, [0xff; 4])?;
+        let hit = self
+            .manager
+            .cancel(rt, &mut self.handle, self.other, [0xff; 4])?;
         self.counts.wrong = self.counts.wrong.wrapping_add(1);
         if hit {
             self.counts.misses = self.counts.misses.wrapping_add(1);

@@ -1,5 +1,5 @@
 -- Laws of legal histories that the table's rule rests on.
-use Rattle.std.proofs.Common.{◌≡◌, ◌≢◌, Bool, true, false, append_assoc, ℕ, zero, suc, ◌+◌, ◌-◌, ◌<◌, ◌≤◌, ◌==◌, ℤ, List, [], ◌∷◌, ◌++◌, length, take, filter, slice_get, Some, refl, ap, sym, ◌∙◌, subst, arith, length-append, eq-eqb, ne_eqb}
+use Rattle.std.proofs.Common.{◌≡◌, ◌≢◌, false, append_assoc, ℕ, zero, suc, ◌+◌, ◌-◌, ◌<◌, ◌≤◌, List, [], ◌∷◌, ◌++◌, length, take, slice_get, Some, refl, ap, sym, ◌∙◌, subst, arith, length-append, eq-eqb, ne_eqb}
 use Rattle.std.proofs.lemmas.List.{append-nil, take-append-le, length-take-le}
 use Rattle.std.proofs.Math.Seq.{take-append_seam}
 use mathlib.Core.List.{IsPrefix}
@@ -15,7 +15,7 @@ use Rattle.pg_cancel.proofs.Histories.{Registers, Cancels, live_within, last_kee
 use Rattle.pg_cancel.proofs.Places.{at_within, at_old, at_from_taken, some_and}
 use Rattle.pg_cancel.specs.Connections.{calls_of, is_register, before_last, IsTheAnswer}
 use Rattle.pg_cancel.specs.Turns.{HasNoStray}
-use Rattle.pg_cancel.proofs.Prefixes.{prefix_get, prefix_self}
+use Rattle.pg_cancel.proofs.Prefixes.{prefix_get}
 
 -- a beginning of a legal history is legal
 pub legal_prefix : (xs ys : List Entry) → IsPrefix xs ys → IsLegal ys → IsLegal xs
@@ -83,7 +83,7 @@ canceled_on [] h n quiet c = subst (λ x. IsCanceled x n) (sym (append-nil h)) c
 canceled_on (e ∷ rest) h n quiet c = dite (ℕ_discrete e.number n)
     (λ same. let some : e ∷ calls_of n rest ≡ [] = sym (calls_cons n e rest same) ∙ quiet in absurd (cc (some)))
     (λ other. subst (λ x. IsCanceled x n) (append_assoc h (e ∷ []) rest)
-        (canceled_on rest (h ++ e ∷ []) n (sym (calls_skip n e rest other) ∙ quiet) (canceled_more h e n other c)))
+    (canceled_on rest (h ++ e ∷ []) n (sym (calls_skip n e rest other) ∙ quiet) (canceled_more h e n other c)))
 
 -- the history before its last entry
 pub before_snoc : (h : List Entry) (e : Entry) → before_last (h ++ e ∷ []) ≡ h

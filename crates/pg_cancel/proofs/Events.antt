@@ -1,8 +1,8 @@
 -- What an event tells the caller.
-use Rattle.std.proofs.Common.{◌≡◌, ℕ, ℤ, ◌+◌, Bool, true, false, List, [], ◌∷◌, ◌++◌, length, Option, Some, None, inl, inr, ◌↔◌, Result, Ok, Err, IfOk, sym, refl, ap, ◌∙◌, subst, arith}
+use Rattle.std.proofs.Common.{◌≡◌, ℕ, ℤ, Bool, true, false, List, [], ◌∷◌, ◌++◌, length, Some, inl, inr, ◌↔◌, Result, Ok, Err, IfOk, sym, refl, ap, ◌∙◌, subst}
 use Rattle.std.proofs.lemmas.List.{append-nil, append_cancel_left}
 use Rattle.std.proofs.lemmas.List.Elements.{filter-append}
-use Rattle.std.specs.Prelude.{filter, ◌==◌}
+use Rattle.std.specs.Prelude.{◌==◌}
 use Rattle.std.specs.declared.alloc.AllocError.{AllocError}
 use Rattle.atomic_table.specs.Table.{Me}
 use Rattle.pg_cancel.specs.declared.entries.Entry.{Entry}
@@ -15,10 +15,10 @@ use Rattle.pg_cancel.specs.declared.manager.RegisterError.{RegisterError}
 use Rattle.pg_cancel.specs.declared.manager.RegisterError.TheVariants.{PidTaken, NoMemory}
 use Rattle.pg_cancel.specs.LegalHistory.{IsLegal, IsLive, HasPid, IsCanceled, IsAnswer, MayCall, entry_of}
 use Rattle.pg_cancel.specs.Connections.{calls_of, is_register, registers_of, entry, before_last, yes_if, Made, Registers, Begins}
-use Rattle.pg_cancel.specs.Turns.{Fits, holding, idle, called, entered, refused, grown, HasOut, IsFree, IsHandle, IsDoor, IsNote, IsOpening, IsLeft, IsToldTo, MayMake}
+use Rattle.pg_cancel.specs.Turns.{Fits, holding, idle, called, entered, refused, grown, HasOut, IsFree, IsHandle, IsDoor, IsOpening, IsLeft, IsToldTo, MayMake}
 use Rattle.pg_cancel.proofs.Histories.{registered_lives}
 use Rattle.pg_cancel.proofs.Beginnings.{the_answer, before_of, heard_by}
-use Rattle.pg_cancel.proofs.Views.{Adds, Answered, called_fits, entered_fits, false_true, holding_fits}
+use Rattle.pg_cancel.proofs.Views.{called_fits, entered_fits, false_true, holding_fits}
 
 abbrev Sat : Type 0
 Sat = Me (List Entry) View
@@ -69,7 +69,7 @@ made : (v w : View) (h : List Entry) (n : ℕ) (c : RegistryCall) (a : RegistryA
 made v w h n c a live x is =
     let e = entry n c a in
     let g = called_fits false (holding v h) h e (holding_fits h h v x.fits) (record { number = x.number; quiet = x.quiet })
-        (λ yes. false_true yes) in
+    (λ yes. false_true yes) in
     let whole : h ≡ v.seen ++ x.fits.seen.0 = sym x.fits.seen.1 in
     let o = x.fits.own n x.number in
     subst (λ (u : View). Made n c v.seen v.mine u.seen u.mine a) (sym is) record {
@@ -97,8 +97,15 @@ pub asked : (v : View) (h : List Entry) (n : ℕ) (c : RegistryCall) (a : Regist
     → Fits h v
     → IsLegal h → IsLegal (h ++ entry_of h n c a ∷ []) → IsAnswer h n c a → Asked v h n c a
 asked v h n c a quiet number f was legal told =
-    record { quiet = quiet; number = number; fits = f; was = was; legal = subst (λ e. IsLegal (h ++ e ∷ []))
-        (own_number h n c a quiet) legal; told = told }
+    record {
+      quiet = quiet;
+      number = number;
+      fits = f;
+      was = was;
+      legal = subst (λ e. IsLegal (h ++ e ∷ []))
+          (own_number h n c a quiet) legal;
+      told = told;
+    }
 
 pub call_made : (v w : View) (h : List Entry) (n : ℕ) (c : RegistryCall) (a : RegistryAnswer) → Asked v h n c a
     → w ≡ grown (holding v h) h (entry_of h n c a) → Made n c v.seen v.mine w.seen w.mine a
@@ -134,8 +141,15 @@ left m m' h n Unregister a quiet was is x =
 -- the view before the turn, and after it was given back with nothing done
 as_idle : (m : Sat) → IsFree m → (idle m.0, []) ≡ m
 as_idle m free = λ i. (
-  record { seen = m.0.seen; told = m.0.told; number = m.0.number; mine = m.0.mine; is_live = m.0.is_live; is_door = m.0.is_door;
-      turn = sym free.1 i },
+  record {
+    seen = m.0.seen;
+    told = m.0.told;
+    number = m.0.number;
+    mine = m.0.mine;
+    is_live = m.0.is_live;
+    is_door = m.0.is_door;
+    turn = sym free.1 i;
+  },
   sym free.0 i,
 )
 
@@ -188,13 +202,13 @@ pub exactly_made : (n : ℕ) (c : RegistryCall) (seen mine seen' mine' : List En
     → (b ≡ a) ↔ IsAnswer (before_last seen') n c b
 exactly_made n c seen mine seen' mine' a b made =
     subst (λ h. (b ≡ a → IsAnswer h n c b) × (IsAnswer h n c b → b ≡ a))
-        (sym (before_of (seen ++ made.between) seen' (entry n c a) made.ends)) (made.told b)
+    (sym (before_of (seen ++ made.between) seen' (entry n c a) made.ends)) (made.told b)
 
 pub exactly_registered : (n : ℕ) (c : RegistryCall) (seen seen' : List Entry) (a b : RegistryAnswer) → Registers n c seen seen' a
     → (b ≡ a) ↔ IsAnswer (before_last seen') n c b
 exactly_registered n c seen seen' a b made =
     subst (λ h. (b ≡ a → IsAnswer h n c b) × (IsAnswer h n c b → b ≡ a))
-        (sym (before_of (seen ++ made.between) seen' (entry n c a) made.ends)) (made.told b)
+    (sym (before_of (seen ++ made.between) seen' (entry n c a) made.ends)) (made.told b)
 
 yes_is : (b : Bool) → Yes ≡ yes_if b → b ≡ true
 yes_is true same = refl
@@ -210,7 +224,7 @@ pub asked_exactly : (n : ℕ) (c : RegistryCall) (seen mine seen' mine' : List E
     → (b ≡ true) ↔ IsAnswer (before_last seen') n c Yes
 asked_exactly n c seen mine seen' mine' a b same made =
     yes_exactly b (IsAnswer (before_last seen') n c Yes)
-        (exactly_made n c seen mine seen' mine' (yes_if b) Yes (made_as n c seen mine seen' mine' a (yes_if b) same made))
+    (exactly_made n c seen mine seen' mine' (yes_if b) Yes (made_as n c seen mine seen' mine' a (yes_if b) same made))
 
 pub heard_if : (n : ℕ) (seen mine seen' mine' : List Entry) (b : Bool) → Made n Ask seen mine seen' mine' (yes_if b) → IsCanceled seen n
     → b ≡ true
@@ -262,8 +276,8 @@ registers v w h call a x seen =
     let f = x.fits in
     let whole : h ≡ v.seen ++ f.seen.0 = sym f.seen.1 in
     let parts : registers_of v.seen ++ registers_of f.seen.0 ≡ registers_of v.seen ++ [] =
-        sym (filter-append (λ (e : Entry). is_register e.call) v.seen f.seen.0)
-        ∙ (ap (λ y. registers_of y) f.seen.1 ∙ (f.door x.door ∙ sym (append-nil (registers_of v.seen)))) in
+    sym (filter-append (λ (e : Entry). is_register e.call) v.seen f.seen.0)
+    ∙ (ap (λ y. registers_of y) f.seen.1 ∙ (f.door x.door ∙ sym (append-nil (registers_of v.seen)))) in
     record {
       between = f.seen.0;
       ends = seen ∙ ap (λ y. y ++ entry n call a ∷ []) whole;
@@ -310,10 +324,10 @@ pub opening : (v : View) (m' : Sat) (h : List Entry) (call : RegistryCall) → O
     → m' ≡ (entered v h (entry (length h) call Registered), []) → IsOpening m' (length h) call
 opening v m' h call x is =
     let live = subst (λ e. IsLive (h ++ e ∷ []) (length h)) (own_place h (length h) call Registered x.register)
-        (registered_lives h (length h) call x.told) in
+    (registered_lives h (length h) call x.told) in
     let g = entered_fits v h (entry (length h) call Registered) (record { number = refl; door = x.door }) x.was live in
     subst (λ (z : Sat). IsOpening z (length h) call) (sym is)
-        ((refl, refl), refl, x.door, refl, refl, (x.legal, (g.own (length h) refl).seen))
+    ((refl, refl), refl, x.door, refl, refl, (x.legal, (g.own (length h) refl).seen))
 
 -- a registration was refused exactly where somebody had the pid, and that is who
 pub taken_exactly : {A : Type 0} (n k : ℕ) (pid : ℤ) (key : List ℕ) (seen seen' : List Entry)

@@ -1,5 +1,5 @@
 -- Each step on the registry's table keeps its rule.
-use Rattle.std.proofs.Common.{◌≡◌, ◌≢◌, ◌⊎◌, ℕ, zero, suc, ◌+◌, ◌*◌, ◌%◌, ◌<◌, ◌≤◌, Bool, true, false, cond, ltb, eqb, List, [], ◌∷◌, ◌++◌, length, get_or, set, Option, Some, None, inl, inr, ⊎_elim, sym, refl, ap, ◌∙◌, subst, arith, length-set, get_or-set_same, eq-eqb, ne_eqb}
+use Rattle.std.proofs.Common.{◌≡◌, ◌≢◌, ℕ, ◌+◌, ◌*◌, ◌%◌, ◌<◌, Bool, true, false, cond, ltb, eqb, List, [], ◌∷◌, ◌++◌, length, get_or, set, Option, Some, None, inl, inr, ⊎_elim, sym, refl, ap, ◌∙◌, subst, arith, length-set, get_or-set_same, eq-eqb, ne_eqb}
 use Rattle.std.proofs.lemmas.List.{append_cancel_left}
 use Rattle.std.proofs.lemmas.Bool.{lt-ltb, ltb-true}
 use Rattle.std.specs.Prelude.{◌==◌}
@@ -18,7 +18,7 @@ use Rattle.pg_cancel.specs.declared.entries.RegistryAnswer.{RegistryAnswer}
 use Rattle.pg_cancel.specs.declared.seat.View.{View}
 use Rattle.pg_cancel.specs.LegalHistory.{IsLegal, entry_of}
 use Rattle.pg_cancel.specs.Connections.{is_register}
-use Rattle.pg_cancel.specs.Turns.{Fits, IsHome, IsOut, IsApart, InTurn, MayMake, reader, holding, idle, grown, without_number, handle, longer, shorter, joined, looked, compared, HasTurn, took, publishes, releases}
+use Rattle.pg_cancel.specs.Turns.{Fits, IsHome, IsApart, InTurn, MayMake, reader, holding, idle, grown, without_number, handle, longer, joined, looked, compared, took, publishes, releases}
 use Rattle.pg_cancel.proofs.Prefixes.{prefix_self, prefix_shorter, between_filter}
 use Rattle.pg_cancel.proofs.Beginnings.{legal_prefix, no_stray}
 use Rattle.pg_cancel.proofs.Views.{KeepsOthers, Answered, holding_fits, idle_fits, false_true, none_some, reader_fits, apart_same, apart_none, apart_more, at_end, seat_inside, grows_fits, grows_keeps, grows_free}
@@ -71,8 +71,12 @@ taken s r id v new home inside at is =
           (λ t. r.fits j a t.1)
           (at_set s.views id j w a e);
       turn = λ j a e h has. ⊎_elim
-          (λ t. (t.0, (let same : ◌≡◌ {A = Option (List Entry)} (Some r.log) (Some h) = ap (λ (u : View). u.turn) t.1 ∙ has in cc
-              (same)), now))
+          (λ t. (
+            t.0,
+            (let same : ◌≡◌ {A = Option (List Entry)} (Some r.log) (Some h) = ap (λ (u : View). u.turn) t.1 ∙ has in cc
+                (same)),
+            now,
+          ))
           (λ t. absurd (nobody s r home j a h t.1 has))
           (at_set s.views id j w a e);
       apart = apart_same s.views id v w at refl refl r.apart;
@@ -119,7 +123,7 @@ given_back : (s : St) (r : InTurn s) (id : ℕ) (v w : View) (before after : Lis
 given_back s r id v w before after inside at has done legal mine keep =
     let wide = r.width in
     let now : get_or (set s.words 0 (2 * length after)) 0 0 ≡ 2 * length after =
-        get_or-set_same s.words 0 (2 * length after) 0 (omega arith) in
+    get_or-set_same s.words 0 (2 * length after) 0 (omega arith) in
     let me = r.turn id v at before has in
     let fit = mine (subst IsLegal (sym me.1) r.legal) (subst (λ h. Fits h v) (sym me.1) (r.fits id v at)) in
     let others = keep s.views at r.apart (λ j a e. subst (λ h. Fits h a) (sym me.1) (r.fits j a e)) in record {
@@ -198,10 +202,17 @@ changes s r id v w at free done fits apart = record {
   legal = r.legal;
   strays = r.strays;
   place = ⊎_elim (λ home. inl home)
-      (λ out. inr (out.0, out.1,
-          (out.2.0, set_else s.views id r.holder w
+      (λ out. inr (
+        out.0,
+        out.1,
+        (
+          out.2.0,
+          set_else s.views id r.holder w
               (λ same. not_holder s id v at free r.log out.2.0 (subst (λ k. get_elem? s.views k ≡ some out.2.0) same out.2.1) out.2.2)
-                  ∙ out.2.1, out.2.2))) r.place;
+              ∙ out.2.1,
+          out.2.2,
+        ),
+      )) r.place;
   fits = λ j a e. ⊎_elim (λ t. subst (Fits r.log) t.1 fits) (λ t. r.fits j a t.1) (at_set s.views id j w a e);
   turn = λ j a e h is. ⊎_elim (λ t. none_some h (sym done ∙ (ap (λ (u : View). u.turn) t.1 ∙ is))) (λ t. r.turn j a t.1 h is)
       (at_set s.views id j w a e);
@@ -228,9 +239,9 @@ arrives s r w done fits apart = record {
 pub copies : (id : ℕ) (v : View) → Splits InTurn id v v (reader v.seen)
 copies id v s r at =
     subst (λ views. InTurn record { words = s.words; homes = s.homes; views = views ++ reader v.seen ∷ [] })
-        (sym (set_again s.views id v at))
+    (sym (set_again s.views id v at))
     (arrives s r (reader v.seen) refl (reader_fits r.log v.seen (r.fits id v at).seen)
-        (apart_more s.views (reader v.seen) refl (λ n is. none_some n is) r.apart))
+    (apart_more s.views (reader v.seen) refl (λ n is. none_some n is) r.apart))
 
 without_fits : (log : List Entry) (v : View) → Fits log v → Fits log (without_number v)
 without_fits log v f = record { seen = f.seen; told = f.told; own = λ n is. none_some n is; door = f.door }
@@ -250,12 +261,12 @@ passes id v free s r at =
     let f = r.fits id v at in
     let cut = changes s r id v left at free refl (without_fits r.log v f) (apart_none s.views id v left at refl refl r.apart) in
     let fresh : (n : ℕ) → right.number ≡ Some n → (j : ℕ) (a : View) → get_elem? (set s.views id left) j ≡ some a → a.number ≢ Some n =
-        λ n is j a e has. ⊎_elim
-        (λ t. none_some n (ap (λ (u : View). u.number) t.1 ∙ has))
-        (λ t. absurd (let not = t.0 in not (r.apart.numbers j id n a v t.1 at has is)))
-        (at_set s.views id j left a e) in
+    λ n is j a e has. ⊎_elim
+    (λ t. none_some n (ap (λ (u : View). u.number) t.1 ∙ has))
+    (λ t. absurd (let not = t.0 in not (r.apart.numbers j id n a v t.1 at has is)))
+    (at_set s.views id j left a e) in
     arrives record { words = s.words; homes = s.homes; views = set s.views id left } cut right refl (handle_fits r.log v f)
-        (apart_more (set s.views id left) right refl fresh cut.apart)
+    (apart_more (set s.views id left) right refl fresh cut.apart)
 
 joined_by : (log : List Entry) (v w : View) → Fits log v → Fits log w → (b : Bool) → ltb (length v.seen) (length w.seen) ≡ b
     → IsPrefix (cond b v.seen w.seen) (cond b w.seen v.seen) × IsPrefix (cond b w.seen v.seen) log × IsPrefix v.seen (cond b w.seen v.seen)
@@ -286,8 +297,7 @@ takes_in id v other w free free_w door_w s r at apart at_w =
     let there : get_elem? s.views other ≡ some w = sym (set_else s.views id other (joined v w) apart) ∙ at_w in
     let x : View = joined v w in
     let first = changes s r id v x at free free (joined_fits r.log v w (r.fits id v at) (r.fits other w there))
-        (apart_same s.views id v x at refl refl r.apart) in
+    (apart_same s.views id v x at refl refl r.apart) in
     changes record { words = s.words; homes = s.homes; views = set s.views id x } first other w (reader []) at_w free_w refl
-        (reader_fits r.log [] (r.log, refl))
-        (apart_none (set s.views id x) other w (reader []) at_w (sym door_w) refl first.apart)
-
+    (reader_fits r.log [] (r.log, refl))
+    (apart_none (set s.views id x) other w (reader []) at_w (sym door_w) refl first.apart)

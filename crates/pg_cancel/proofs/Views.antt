@@ -2,7 +2,7 @@
 use Rattle.std.proofs.Common.{◌≡◌, ◌≢◌, ◌⊎◌, ℕ, zero, suc, ◌+◌, ◌<◌, Bool, true, false, List, [], ◌∷◌, ◌++◌, length, set, Option, Some, None, inl, inr, ⊎_elim, sym, refl, ap, ◌∙◌, subst, arith, length-append, eq-eqb, ne_eqb}
 use Rattle.std.proofs.lemmas.List.{append-nil}
 use Rattle.std.proofs.lemmas.List.Elements.{filter-append}
-use Rattle.std.specs.Prelude.{filter, ◌==◌}
+use Rattle.std.specs.Prelude.{◌==◌}
 use mathlib.Core.Option.{some, some-injective}
 use mathlib.Core.List.{IsPrefix}
 use lib.ListN.{get_elem?}
@@ -11,11 +11,11 @@ use Rattle.pg_cancel.specs.declared.entries.Entry.{Entry}
 use Rattle.pg_cancel.specs.declared.entries.RegistryCall.{RegistryCall}
 use Rattle.pg_cancel.specs.declared.entries.RegistryCall.TheVariants.{Register, Start, Ask, Cancel, Unregister}
 use Rattle.pg_cancel.specs.declared.entries.RegistryAnswer.{RegistryAnswer}
-use Rattle.pg_cancel.specs.declared.entries.RegistryAnswer.TheVariants.{Registered, Taken, Done, Yes, No}
+use Rattle.pg_cancel.specs.declared.entries.RegistryAnswer.TheVariants.{Registered, Taken}
 use Rattle.pg_cancel.specs.declared.seat.View.{View}
 use Rattle.pg_cancel.specs.LegalHistory.{IsLegal, IsLive, IsAnswer, entry_of}
 use Rattle.pg_cancel.specs.Connections.{calls_of, is_register, registers_of}
-use Rattle.pg_cancel.specs.Turns.{Owns, Fits, IsApart, MayMake, reader, holding, idle, called, entered, refused, grown}
+use Rattle.pg_cancel.specs.Turns.{Fits, IsApart, MayMake, reader, holding, idle, called, entered, refused, grown}
 use Rattle.pg_cancel.proofs.Histories.{live_keeps}
 use Rattle.pg_cancel.proofs.Prefixes.{prefix_self, prefix_longer}
 use Rattle.pg_cancel.proofs.Beginnings.{calls_fresh}
@@ -185,7 +185,7 @@ called_fits live v before e f a is_live = record {
       let longer : length (before ++ e ∷ []) ≡ length before + 1 = length-append before (e ∷ []) in
       let known = o.known in
       let all : calls_of n (before ++ e ∷ []) ≡ v.mine ++ e ∷ [] = filter-append (λ (x : Entry). x.number == n) before (e ∷ [])
-          ∙ (ap (λ h. h ++ calls_of n (e ∷ [])) o.all ∙ ap (λ h. v.mine ++ h) (calls_one n e number)) in
+      ∙ (ap (λ h. h ++ calls_of n (e ∷ [])) o.all ∙ ap (λ h. v.mine ++ h) (calls_one n e number)) in
       record { known = omega arith; live = λ yes. subst (λ k. IsLive (before ++ e ∷ []) k) number (is_live yes); all = all; seen = all };
   door = λ yes. refl;
 }
@@ -252,9 +252,13 @@ entered_fits v before e a legal live = record {
       let longer : length (before ++ e ∷ []) ≡ length before + 1 = length-append before (e ∷ []) in
       let fresh : calls_of n before ≡ [] = subst (λ k. calls_of k before ≡ []) same (calls_fresh before legal) in
       let all : calls_of n (before ++ e ∷ []) ≡ e ∷ [] = filter-append (λ (x : Entry). x.number == n) before (e ∷ [])
-          ∙ (ap (λ h. h ++ calls_of n (e ∷ [])) fresh ∙ calls_one n e number) in
-      record { known = omega (arith, same, longer); live = λ yes. subst (λ k. IsLive (before ++ e ∷ []) k) same live; all = all;
-          seen = all };
+      ∙ (ap (λ h. h ++ calls_of n (e ∷ [])) fresh ∙ calls_one n e number) in
+      record {
+        known = omega (arith, same, longer);
+        live = λ yes. subst (λ k. IsLive (before ++ e ∷ []) k) same live;
+        all = all;
+        seen = all;
+      };
   door = λ yes. refl;
 }
 
@@ -288,20 +292,20 @@ grows_fits v before number Start answer may x legal f =
     let e = entry_of before number Start answer in
     called_fits v.is_live v before e f (record { number = may.0; quiet = refl })
     (lives_on v before (before ++ e ∷ []) number Start
-        (λ s. let same : ◌≡◌ {A = RegistryCall} Start Unregister = s in cc (same)) may.0 f x.stays)
+    (λ s. let same : ◌≡◌ {A = RegistryCall} Start Unregister = s in cc (same)) may.0 f x.stays)
 grows_fits v before number Ask answer may x legal f =
     let e = entry_of before number Ask answer in
     called_fits v.is_live v before e f (record { number = may.0; quiet = refl })
     (lives_on v before (before ++ e ∷ []) number Ask
-        (λ s. let same : ◌≡◌ {A = RegistryCall} Ask Unregister = s in cc (same)) may.0 f x.stays)
+    (λ s. let same : ◌≡◌ {A = RegistryCall} Ask Unregister = s in cc (same)) may.0 f x.stays)
 grows_fits v before number (Cancel pid key) answer may x legal f =
     let e = entry_of before number (Cancel pid key) answer in
     called_fits v.is_live v before e f (record { number = may.0; quiet = refl })
     (lives_on v before (before ++ e ∷ []) number (Cancel pid key)
-        (λ s. let same : ◌≡◌ {A = RegistryCall} (Cancel pid key) Unregister = s in cc (same)) may.0 f x.stays)
+    (λ s. let same : ◌≡◌ {A = RegistryCall} (Cancel pid key) Unregister = s in cc (same)) may.0 f x.stays)
 grows_fits v before number Unregister answer may x legal f =
     called_fits false v before (entry_of before number Unregister answer) f (record { number = may.0; quiet = refl })
-        (λ yes. false_true yes)
+    (λ yes. false_true yes)
 
 -- and what the other seats know stays so
 pub grows_keeps : (id : ℕ) (v : View) (before : List Entry) (number : ℕ) (call : RegistryCall) (answer : RegistryAnswer)

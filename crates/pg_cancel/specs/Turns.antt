@@ -1,6 +1,6 @@
 -- The rule of the table behind a shared registry, and what each step on it tells. No public contract names it.
 -- H, `log` below, is the history so far. Word 0 is twice its length while the registry is at home, and one more while a seat has the turn.
-use Rattle.std.specs.Prelude.{◌≡◌, ◌≢◌, ◌⊎◌, ℕ, ℤ, ◌+◌, ◌*◌, ◌<◌, Bool, true, false, List, [], ◌∷◌, ◌++◌, length, slice_get, slice_index, Option, Some, None, cond, ltb}
+use Rattle.std.specs.Prelude.{◌≡◌, ◌≢◌, ◌⊎◌, ℕ, ℤ, ◌+◌, ◌*◌, ◌<◌, Bool, true, false, List, [], ◌∷◌, ◌++◌, length, slice_get, slice_index, Some, None, cond, ltb}
 use mathlib.Core.Option.{some, none}
 use mathlib.Core.Option as maybe
 use mathlib.Core.List.{IsPrefix}
@@ -56,7 +56,7 @@ pub record IsApart (views : List View) : Type 0 where
 abbrev pub HasNoStray : List Entry → Type 0
 HasNoStray history =
     (k : ℕ) (e : Entry) → slice_get history k ≡ Some e → is_register e.call ≡ false → (pid : ℤ) × (key : List ℕ)
-        × IsRegisteredAt history e.number pid key
+    × IsRegisteredAt history e.number pid key
 
 pub record InTurn (s : State (List Entry) View) : Type 0 where
   pub log : List Entry
@@ -88,8 +88,15 @@ idle v = record { seen = v.seen; told = v.told; number = v.number; mine = v.mine
 -- of one that gives it back with an entry more: a call of its number, after which that is live or not; a registration; a refused one
 abbrev pub called : Bool → View → List Entry → Entry → View
 called live v before e =
-    record { seen = before ++ e ∷ []; told = []; number = v.number; mine = v.mine ++ e ∷ []; is_live = live; is_door = v.is_door;
-        turn = None }
+    record {
+      seen = before ++ e ∷ [];
+      told = [];
+      number = v.number;
+      mine = v.mine ++ e ∷ [];
+      is_live = live;
+      is_door = v.is_door;
+      turn = None;
+    }
 
 abbrev pub entered : View → List Entry → Entry → View
 entered v before e =
@@ -125,8 +132,15 @@ shorter xs ys = cond (ltb (length xs) (length ys)) xs ys
 -- a seat that took in what another had seen
 abbrev pub joined : View → View → View
 joined v w =
-    record { seen = longer v.seen w.seen; told = shorter v.seen w.seen; number = v.number; mine = v.mine; is_live = v.is_live;
-        is_door = v.is_door; turn = v.turn }
+    record {
+      seen = longer v.seen w.seen;
+      told = shorter v.seen w.seen;
+      number = v.number;
+      mine = v.mine;
+      is_live = v.is_live;
+      is_door = v.is_door;
+      turn = v.turn;
+    }
 
 -- ---- steps
 
@@ -189,7 +203,7 @@ IsNote m = IsFree m × (m.0.is_door ≡ false)
 abbrev pub IsOpening : Sat → ℕ → RegistryCall → Type 0
 IsOpening m n call =
     IsFree m × (m.0.number ≡ Some n) × (m.0.is_door ≡ true) × (m.0.is_live ≡ true) × (m.0.mine ≡ entry n call Registered ∷ [])
-        × Knows n m.0.seen m.0.mine
+    × Knows n m.0.seen m.0.mine
 
 -- whose seat may make the call: the door's a Register, and that of a live number each other
 abbrev pub MayMake : View → ℕ → RegistryCall → Type 0

@@ -31,8 +31,13 @@ impl Model for ConnectionHandle {
     ghost Value = { Connection };
 
     ghost view = { λ h. record {
-        issuer = h.seat.table_id; number = h.number; pid = h.pid; key = h.key;
-        seen = h.seat.me.0.seen; mine = h.seat.me.0.mine } };
+      issuer = h.seat.table_id;
+      number = h.number;
+      pid = h.pid;
+      key = h.key;
+      seen = h.seat.me.0.seen;
+      mine = h.seat.me.0.mine;
+    } };
 
     ghost invariant = { λ h.
         IsHandle h.seat.me h.number × Begins h.seat.me.0.mine h.number h.pid h.key };
@@ -203,8 +208,9 @@ impl ConnectionManager {
         ensures own { calls_of handle.new.number handle.new.seen ≡ handle.new.mine }
     {
         let Note { seat } = note;
-        self.table.shared.join_seat::<TakeIn>(&mut handle.seat, seat);
-        let _ = self.table.shared.load::<Compare>(&mut handle.seat, 0);
+        let shared = &self.table.shared;
+        shared.join_seat::<TakeIn>(&mut handle.seat, seat);
+        let _ = shared.load::<Compare>(&mut handle.seat, 0);
     }
 
     /// Waits for the turn and makes a call, which is no Register, under the number of the seat's
@@ -222,7 +228,7 @@ impl ConnectionManager {
         ensures same { (seat.new.table_id ≡ seat.old.table_id) × (seat.new.id ≡ seat.old.id) }
         ensures ok { IfOk result (λ answer. IsLeft seat.new.me number call
             × Made number call seat.old.me.0.seen seat.old.me.0.mine
-                seat.new.me.0.seen seat.new.me.0.mine answer) }
+            seat.new.me.0.seen seat.new.me.0.mine answer) }
         ensures told { IfOk result (IsToldTo call) }
         ensures err { OnErr result (seat.new.me ≡ seat.old.me) }
     {

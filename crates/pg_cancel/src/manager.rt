@@ -90,7 +90,7 @@ impl ConnectionManager {
         // The registration, which the door and the handle have seen.
         ensures registered { IfOk result (λ h.
             Registers h.number (RegistryCall.Register pid key)
-                door.old.seen door.new.seen RegistryAnswer.Registered) }
+            door.old.seen door.new.seen RegistryAnswer.Registered) }
         ensures handle { IfOk result
             (λ h. (h.issuer ≡ self.now) × (h.pid ≡ pid) × (h.key ≡ key)) }
         ensures seen { IfOk result (λ h. h.seen ≡ door.new.seen) }
@@ -101,7 +101,7 @@ impl ConnectionManager {
         // Or who has the pid: exactly the live registration that the history so far has of it.
         ensures taken { (m : ℕ) → result ≡ Err (RegisterError.PidTaken m) → (n : ℕ)
             × Registers n (RegistryCall.Register pid key)
-                door.old.seen door.new.seen (RegistryAnswer.Taken m) }
+            door.old.seen door.new.seen (RegistryAnswer.Taken m) }
         ensures exactly { result ≢ Err RegisterError.NoMemory → (m : ℕ) →
             (result ≡ Err (RegisterError.PidTaken m)) ↔ HasPid (before_last door.new.seen) m pid }
         ensures no_memory { result ≡ Err RegisterError.NoMemory → door.new ≡ door.old }
@@ -133,10 +133,10 @@ impl ConnectionManager {
         ensures same { (seat.new.table_id ≡ seat.old.table_id) × (seat.new.id ≡ seat.old.id) }
         ensures ok { IfOk result (λ number. IsOpening seat.new.me number call
             × Registers number call
-                seat.old.me.0.seen seat.new.me.0.seen RegistryAnswer.Registered) }
+            seat.old.me.0.seen seat.new.me.0.seen RegistryAnswer.Registered) }
         ensures taken { (m : ℕ) → result ≡ Err (RegisterError.PidTaken m) → IsDoor seat.new.me
             × ((n : ℕ) × Registers n call
-                seat.old.me.0.seen seat.new.me.0.seen (RegistryAnswer.Taken m)) }
+            seat.old.me.0.seen seat.new.me.0.seen (RegistryAnswer.Taken m)) }
         ensures no_memory { result ≡ Err RegisterError.NoMemory → seat.new.me ≡ seat.old.me }
     {
         let registry = self.take_turn(rt, seat);
@@ -159,10 +159,10 @@ impl ConnectionManager {
         ensures same { (seat.new.table_id ≡ seat.old.table_id) × (seat.new.id ≡ seat.old.id) }
         ensures ok { IfOk result (λ number. IsOpening seat.new.me number call
             × Registers number call
-                seat.old.me.0.seen seat.new.me.0.seen RegistryAnswer.Registered) }
+            seat.old.me.0.seen seat.new.me.0.seen RegistryAnswer.Registered) }
         ensures taken { (m : ℕ) → result ≡ Err (RegisterError.PidTaken m) → IsDoor seat.new.me
             × ((n : ℕ) × Registers n call
-                seat.old.me.0.seen seat.new.me.0.seen (RegistryAnswer.Taken m)) }
+            seat.old.me.0.seen seat.new.me.0.seen (RegistryAnswer.Taken m)) }
         ensures no_memory { result ≡ Err RegisterError.NoMemory →
             seat.new.me ≡ (idle seat.old.me.0, []) }
     {

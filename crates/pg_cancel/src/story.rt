@@ -2,8 +2,10 @@
 ghost use Rattle.std.specs.Prelude.{◌≡◌, IfSome};
 ghost use Rattle.std.specs.Thread.{IsSync};
 
-use crate::{ConnectionHandle, ConnectionManager, Door, RegisterError};
-use crate::{Registry, RegistryAnswer, RegistryCall};
+use crate::{
+    ConnectionHandle, ConnectionManager, Door, RegisterError, Registry, RegistryAnswer,
+    RegistryCall,
+};
 use std::alloc::AllocError;
 use std::process::Abort;
 use std::sync::{Condvar, Mutex, Wait};
@@ -81,7 +83,10 @@ fn opening<R: Wait>(
     ensures handles { IfSome result (λ r. (r.0.issuer ≡ manager.now) × (r.1.issuer ≡ manager.now)) }
 {
     let first = manager.register(rt, door, 7, A).ok()?;
-    let refused = matches!(manager.register(rt, door, 7, B), Err(RegisterError::PidTaken(0)));
+    let refused = matches!(
+        manager.register(rt, door, 7, B),
+        Err(RegisterError::PidTaken(0))
+    );
     let second = manager.register(rt, door, 8, C).ok()?;
     if refused && first.number() == 0 && second.number() == 2 {
         Some((first, second))

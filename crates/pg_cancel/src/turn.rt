@@ -65,7 +65,7 @@ impl ConnectionManager {
         ensures same { (seat.new.table_id ≡ seat.old.table_id) × (seat.new.id ≡ seat.old.id) }
         ensures ok { IfOk result
             (λ answer. seat.new.me
-                ≡ (grown seat.old.me.0 registry (entry_of registry number call answer), [])) }
+            ≡ (grown seat.old.me.0 registry (entry_of registry number call answer), [])) }
         ensures legal { IfOk result
             (λ answer. IsLegal (registry ++ entry_of registry number call answer ∷ [])) }
         ensures answer { IfOk result (IsAnswer registry number call) }

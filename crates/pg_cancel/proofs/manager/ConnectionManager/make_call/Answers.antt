@@ -1,4 +1,4 @@
-use Rattle.pg_cancel.proofs.Events.{may_call, may_make, call_ensures, told_ensures}
+use Rattle.pg_cancel.proofs.Events.{call_ensures, told_ensures}
 use Rattle.pg_cancel.proofs.manager.ConnectionManager.make_call.Goals as goal
 
 pub returns-clause-ok : goal.returns-clause-ok

@@ -1,4 +1,4 @@
-use Rattle.std.proofs.Common.{rules, Ok, ◌≡◌, ℕ, ◌*◌, List, [], ◌∷◌, ◌++◌, length, ap, sym, ◌∙◌, subst, arith}
+use Rattle.std.proofs.Common.{rules, Ok, ◌≡◌, ◌*◌, List, [], ◌∷◌, ◌++◌, length, ap, ◌∙◌, subst, arith}
 use Rattle.pg_cancel.specs.declared.entries.Entry.{Entry}
 use Rattle.pg_cancel.specs.LegalHistory.{IsLegal, IsLive, entry_of}
 use Rattle.pg_cancel.proofs.Views.{Answered}
@@ -17,7 +17,7 @@ store-requires c =
     let slot : c.put_back-count.new.seat.me.1 ≡ (0, after) ∷ [] = ap (λ m. m.1) back ∙ ap (λ (x : List Entry). (0, x) ∷ []) ok.entry in
     let view = ap (λ m. m.0) back in
     let count : c.put_back-count.result * 2 ≡ 2 * length after =
-        omega (arith, c.put_back-count.ensures.count, ap (λ (x : List Entry). length x) ok.entry) in
+    omega (arith, c.put_back-count.ensures.count, ap (λ (x : List Entry). length x) ok.entry) in
     let x : Answered h n call a = record {
       legal = subst IsLegal ok.entry ok.legal;
       told = ok.answer;
@@ -37,7 +37,7 @@ store-requires-in-Err c =
     let slot : c.put_back-count.new.seat.me.1 ≡ (0, h) ∷ [] = ap (λ m. m.1) back ∙ ap (λ (x : List Entry). (0, x) ∷ []) same in
     let view = ap (λ m. m.0) back in
     let count : c.put_back-count.result * 2 ≡ 2 * length h =
-        omega (arith, c.put_back-count.ensures.count, ap (λ (x : List Entry). length x) same) in (
+    omega (arith, c.put_back-count.ensures.count, ap (λ (x : List Entry). length x) same) in (
       search rules,
       search rules,
       releases_turn _ _ _ _ h (search rules) (ap (λ v. v.turn) view ∙ c.requires.turn.0) slot count

@@ -1,4 +1,4 @@
-use Rattle.std.proofs.Common.{rules, sym, subst}
+use Rattle.std.proofs.Common.{rules}
 use Rattle.pg_cancel.proofs.Turning.{looks, takes_turn}
 use Rattle.pg_cancel.proofs.manager.ConnectionManager.take_turn.Goals as goal
 
