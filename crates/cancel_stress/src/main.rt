@@ -1,6 +1,7 @@
-//! Threads that share one cancel registry, each with a connection of its own, which they cancel among each other.
-//! Words: CALLS, the calls of each of eight threads. The history is then checked, entry by entry.
-//! Words: `times` ENTRIES CALLS: nanoseconds of a call on 1, 2, 4 and 8 threads, over a history of so many entries.
+//! Threads that share one cancel registry, each with a connection of its own, which they cancel
+//! among each other. Words: CALLS, the calls of each of eight threads; the history is then checked,
+//! entry by entry. Or `0 ENTRIES CALLS`, which tells the nanoseconds of a call on 1, 2, 4 and 8
+//! threads over a history of so many entries.
 #![tactic(auto)]
 
 mod crowd;
