@@ -2,3 +2,8 @@ pub mod Places
 pub mod Histories
 pub mod Indexing
 pub mod Noting
+pub mod Prefixes
+pub mod Beginnings
+pub mod Views
+pub mod Turning
+pub mod Events

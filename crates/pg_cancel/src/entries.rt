@@ -1,5 +1,5 @@
 /// A call of the registry. Each but `Register` is made under the number of a live registration.
-#[derive(Clone, Copy, Debug, PartialEq, Eq)]
+#[derive(Debug, PartialEq, Eq, Drop)]
 pub enum RegistryCall {
     /// Registers a connection's process id and secret key.
     Register(i32, [u8; 4]),
@@ -30,7 +30,7 @@ pub enum RegistryAnswer {
 
 /// One entry of the history: the number under which the call was made, the call, and its answer. The number of a
 /// `Register` is the entry's own place, counted from 0.
-#[derive(Clone, Copy, Debug, PartialEq, Eq)]
+#[derive(Debug, PartialEq, Eq, Drop)]
 pub struct Entry {
     pub number: u64,
     pub call: RegistryCall,

@@ -144,9 +144,10 @@ impl Holders {
         if number >= history.len() as u64 {
             return false;
         }
-        let RegistryCall::Register(pid, _) = history[number as usize].call else {
+        let RegistryCall::Register(held, _) = &history[number as usize].call else {
             return false;
         };
+        let pid = *held;
         match self.by_pid.get(&pid) {
             Some(holder) => holder.number == number,
             None => false,
@@ -181,8 +182,8 @@ fn pid_of(history: &[Entry], number: u64) -> i32
     requires { IsLive history.now number }
     ensures { HasPid history.now number result }
 {
-    match history[number as usize].call {
-        RegistryCall::Register(pid, _) => pid,
+    match &history[number as usize].call {
+        RegistryCall::Register(pid, _) => *pid,
         _ => unreachable!(),
     }
 }

@@ -1,5 +1,5 @@
 use super::*;
-use std::alloc::Global;
+use std::alloc::{AllocError, Global};
 use std::process::Abort;
 use std::test::Fail;
 
@@ -10,6 +10,17 @@ const B: [u8; 4] = [5, 6, 7, 8];
 const C: [u8; 4] = [10, 11, 12, 13];
 
 const ZERO: [u8; 4] = [0, 0, 0, 0];
+
+/// The call once more.
+fn again(call: &RegistryCall) -> RegistryCall {
+    match call {
+        RegistryCall::Register(pid, key) => RegistryCall::Register(*pid, *key),
+        RegistryCall::Start => RegistryCall::Start,
+        RegistryCall::Ask => RegistryCall::Ask,
+        RegistryCall::Cancel(pid, key) => RegistryCall::Cancel(*pid, *key),
+        RegistryCall::Unregister => RegistryCall::Unregister,
+    }
+}
 
 /// Applies the call under a number that is live, or any where it registers.
 fn applied(
@@ -33,29 +44,25 @@ fn tell(
     for (number, call, answer) in steps {
         let place = registry.history().len();
         assert_eq!(rt;
-            applied(rt, &mut registry, *number, *call)?,
+            applied(rt, &mut registry, *number, again(call))?,
             *answer,
             "at {place}"
         );
     }
     assert_eq!(rt; registry.history().len(), steps.len());
-    for (place, entry) in registry.history().iter().enumerate() {
-        if place < steps.len() {
-            let (number, call, answer) = steps[place];
-            let number = if matches!(call, RegistryCall::Register(..)) {
-                place as u64
-            } else {
-                number
-            };
-            let wanted = Entry {
-                number,
-                call,
-                answer,
-            };
-            assert_eq!(rt; *entry, wanted, "at {place}");
-        }
-    }
+    assert!(rt; is_entered(registry.history(), steps));
     Ok(())
+}
+
+/// Whether the history has the steps, each Register under its own place.
+fn is_entered(history: &[Entry], steps: &[(u64, RegistryCall, RegistryAnswer)]) -> bool {
+    let mut is = history.len() == steps.len();
+    for (place, (entry, (number, call, answer))) in history.iter().zip(steps.iter()).enumerate() {
+        let registers = matches!(call, RegistryCall::Register(..));
+        let number = if registers { place as u64 } else { *number };
+        is = is && entry.number == number && entry.call == *call && entry.answer == *answer;
+    }
+    is
 }
 
 #[test]
@@ -127,18 +134,30 @@ fn cancels_beside_the_story(rt: HostRuntime) -> Result<(), Fail> {
 #[test]
 fn t_index(rt: HostRuntime) -> Result<(), Fail> {
     let mut registry = Registry::new(rt.alloc());
-    let first = applied(&rt, &mut registry, 0, RegistryCall::Register(7, A))?;
-    assert_eq!(rt; first, RegistryAnswer::Registered);
+    assert!(rt; is_answered(&mut registry, true, RegistryAnswer::Registered)?);
     let started = applied(&rt, &mut registry, 0, RegistryCall::Start)?;
     assert_eq!(rt; started, RegistryAnswer::Done);
     for _ in 0..1_000_000 {
-        let answer = applied(&rt, &mut registry, 0, RegistryCall::Ask)?;
-        assert_eq!(rt; answer, RegistryAnswer::No);
+        assert!(rt; is_answered(&mut registry, false, RegistryAnswer::No)?);
     }
     for _ in 0..1_000_000 {
-        let answer = applied(&rt, &mut registry, 0, RegistryCall::Register(7, A))?;
-        assert_eq!(rt; answer, RegistryAnswer::Taken(0));
+        assert!(rt; is_answered(&mut registry, true, RegistryAnswer::Taken(0))?);
     }
     assert_eq!(rt; registry.history().len(), 2_000_002);
     Ok(())
+}
+
+/// Whether a Register of the pid 7, or an Ask of 0, is answered so.
+fn is_answered(
+    registry: &mut Registry,
+    registers: bool,
+    answer: RegistryAnswer,
+) -> Result<bool, AllocError> {
+    if registers {
+        return Ok(registry.apply(0, RegistryCall::Register(7, A))? == answer);
+    }
+    if !registry.is_live(0) {
+        return Ok(false);
+    }
+    Ok(registry.apply(0, RegistryCall::Ask)? == answer)
 }

@@ -1,0 +1,98 @@
+//! Whether a list of entries is a legal history, by a walk over the list that knows nothing of the registry's index.
+use pg_cancel::{Entry, RegistryAnswer, RegistryCall};
+use std::alloc::{AllocError, Global};
+
+/// A registration that was not ended.
+#[derive(Clone, Copy)]
+struct Live {
+    number: u64,
+    pid: i32,
+    key: [u8; 4],
+    started: bool,
+    canceled: bool,
+}
+
+/// The registrations that were not ended so far, a few.
+#[derive(Drop)]
+struct Walk {
+    live: Vec<Live>,
+}
+
+/// Whether each entry has the number and the answer that it must have after those before it.
+pub fn is_legal(alloc: Global, history: &[Entry]) -> Result<bool, AllocError> {
+    let mut walk = Walk {
+        live: Vec::new(alloc),
+    };
+    for (place, entry) in history.iter().enumerate() {
+        if !walk.may_follow(place as u64, entry)? {
+            return Ok(false);
+        }
+    }
+    Ok(true)
+}
+
+impl Walk {
+    /// Whether the entry may stand at this place; it is noted.
+    fn may_follow(&mut self, place: u64, entry: &Entry) -> Result<bool, AllocError> {
+        if let RegistryCall::Register(pid, key) = &entry.call {
+            return Ok(entry.number == place && self.register(place, *pid, *key)? == entry.answer);
+        }
+        let Some(own) = self.live.iter().position(|one| one.number == entry.number) else {
+            return Ok(false);
+        };
+        Ok(self.answer(own, &entry.call) == entry.answer)
+    }
+
+    fn register(
+        &mut self,
+        number: u64,
+        pid: i32,
+        key: [u8; 4],
+    ) -> Result<RegistryAnswer, AllocError> {
+        if let Some(holder) = self.live.iter().find(|one| one.pid == pid) {
+            return Ok(RegistryAnswer::Taken(holder.number));
+        }
+        self.live.push(Live {
+            number,
+            pid,
+            key,
+            started: false,
+            canceled: false,
+        })?;
+        Ok(RegistryAnswer::Registered)
+    }
+
+    /// What the call of the registration at the place `own` must be answered.
+    fn answer(&mut self, own: usize, call: &RegistryCall) -> RegistryAnswer {
+        match call {
+            RegistryCall::Cancel(pid, key) => self.cancel(*pid, *key),
+            RegistryCall::Unregister => {
+                if own < self.live.len() {
+                    let _ = self.live.swap_remove(own);
+                }
+                RegistryAnswer::Done
+            }
+            RegistryCall::Start => {
+                if let Some(one) = self.live.get_mut(own) {
+                    one.started = true;
+                    one.canceled = false;
+                }
+                RegistryAnswer::Done
+            }
+            _ => match self.live.get(own) {
+                Some(one) if one.canceled => RegistryAnswer::Yes,
+                _ => RegistryAnswer::No,
+            },
+        }
+    }
+
+    fn cancel(&mut self, pid: i32, key: [u8; 4]) -> RegistryAnswer {
+        for one in self.live.iter_mut() {
+            if one.pid == pid && one.key == key {
+                one.canceled = one.started;
+                return RegistryAnswer::Yes;
+            }
+        }
+        RegistryAnswer::No
+    }
+}

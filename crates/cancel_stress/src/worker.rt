@@ -1,0 +1,179 @@
+//! A connection that makes calls in a thread of its own.
+ghost use Rattle.std.specs.Prelude.{◌≡◌};
+
+use pg_cancel::{ConnectionHandle, ConnectionManager, Door};
+use std::alloc::{AllocError, Global};
+use std::sync::Wait;
+
+/// How many cancels there were, and how many were answered true.
+#[derive(Clone, Copy)]
+pub struct Counts {
+    /// Those that name the pid and the key of a connection.
+    pub right: u64,
+    pub hits: u64,
+    /// Those that name its pid with another key.
+    pub wrong: u64,
+    pub misses: u64,
+}
+
+/// A connection with the manager that issued its handle.
+#[derive(Drop)]
+pub struct Worker<'a> {
+    manager: &'a ConnectionManager,
+    handle: ConnectionHandle,
+    /// The connection that this one cancels.
+    other: i32,
+    pub counts: Counts,
+    pub failed: bool,
+    ghost issued: { handle.issuer ≡ manager.now },
+}
+
+/// The key of the connection with this pid.
+pub fn key_of(pid: i32) -> [u8; 4] {
+    pid.to_be_bytes()
+}
+
+pub fn no_counts() -> Counts {
+    Counts {
+        right: 0,
+        hits: 0,
+        wrong: 0,
+        misses: 0,
+    }
+}
+
+impl<'a> Worker<'a> {
+    /// A connection that cancels the one with the pid `other`.
+    pub fn new(manager: &'a ConnectionManager, handle: ConnectionHandle, other: i32) -> Worker<'a>
+        requires { handle.issuer ≡ manager.now }
+    {
+        Worker {
+            manager,
+            handle,
+            other,
+            counts: no_counts(),
+            failed: false,
+        }
+    }
+
+    /// Makes so many calls: starts, questions, and cancels by pid and key or by another key.
+    pub fn run<R: Wait>(&mut self, rt: &R, calls: u64) {
+        for call in 0..calls {
+            let made = match call % 5 {
+                0 => self.start(rt),
+                1 | 3 => self.ask(rt),
+                2 => self.cancel(rt),
+                _ => self.miss(rt),
+            };
+            if made.is_err() {
+                self.failed = true;
+                return;
+            }
+        }
+    }
+
+    /// Makes so many calls: starts and questions in turn.
+    pub fn query<R: Wait>(&mut self, rt: &R, calls: u64) {
+        for call in 0..calls {
+            let made = if call % 2 == 0 {
+                self.start(rt)
+            } else {
+                self.ask(rt)
+            };
+            if made.is_err() {
+                self.failed = true;
+                return;
+            }
+        }
+    }
+
+    /// The connection after so many calls of each kind.
+    pub fn after_calls<R: Wait>(mut self, rt: &R, calls: u64) -> Worker<'a> {
+        self.run(rt, calls);
+        self
+    }
+
+    /// The connection after so many starts and questions.
+    pub fn after_queries<R: Wait>(mut self, rt: &R, calls: u64) -> Worker<'a> {
+        self.query(rt, calls);
+        self
+    }
+
+    fn start<R: Wait>(&mut self, rt: &R) -> Result<(), AllocError> {
+        self.manager.start_query(rt, &mut self.handle)
+    }
+
+    fn ask<R: Wait>(&mut self, rt: &R) -> Result<(), AllocError> {
+        self.manager.ask(rt, &mut self.handle)?;
+        Ok(())
+    }
+
+    fn cancel<R: Wait>(&mut self, rt: &R) -> Result<(), AllocError> {
+        let key = key_of(self.other);
+        let hit = self.manager.cancel(rt, &mut self.handle, self.other, key)?;
+        self.counts.right = self.counts.right.wrapping_add(1);
+        if hit {
+            self.counts.hits = self.counts.hits.wrapping_add(1);
+        }
+        Ok(())
+    }
+
+    fn miss<R: Wait>(&mut self, rt: &R) -> Result<(), AllocError> {
+        let hit = self
+            .manager
+            .cancel(rt, &mut self.handle, self.other, [0xff; 4])?;
+        self.counts.wrong = self.counts.wrong.wrapping_add(1);
+        if hit {
+            self.counts.misses = self.counts.misses.wrapping_add(1);
+        }
+        Ok(())
+    }
+
+    /// Ends the registration. False where there was no memory.
+    pub fn end<R: Wait>(self, rt: &R) -> bool {
+        let Worker {
+            manager,
+            handle,
+            other: _,
+            counts: _,
+            failed: _,
+        } = self;
+        manager.unregister(rt, handle).is_ok()
+    }
+}
+
+/// So many connections, with pids from 1 on, each of which cancels the next. None where there was no memory.
+pub fn workers<'a, R: Wait>(
+    rt: &R,
+    alloc: Global,
+    manager: &'a ConnectionManager,
+    door: &mut Door,
+    count: u32,
+) -> Option<Vec<Worker<'a>>>
+    requires { door.old.issuer ≡ manager.now }
+    ensures { door.new.issuer ≡ door.old.issuer }
+{
+    let mut all = Vec::new(alloc);
+    for place in 0..count {
+        let pid = (place % 1000) as i32 + 1;
+        let handle = manager.register(rt, door, pid, key_of(pid)).ok()?;
+        let other = if place + 1 < count { pid + 1 } else { 1 };
+        all.push(Worker::new(manager, handle, other)).ok()?;
+    }
+    Some(all)
+}
+
+/// Ends all registrations, and adds up the counts. None where some call found no memory.
+pub fn end_all<R: Wait>(rt: &R, all: Vec<Worker<'_>>) -> Option<Counts> {
+    let mut sum = no_counts();
+    let mut whole = true;
+    for worker in all {
+        sum.right = sum.right.wrapping_add(worker.counts.right);
+        sum.hits = sum.hits.wrapping_add(worker.counts.hits);
+        sum.wrong = sum.wrong.wrapping_add(worker.counts.wrong);
+        sum.misses = sum.misses.wrapping_add(worker.counts.misses);
+        let made = !worker.failed;
+        whole = worker.end(rt) && made && whole;
+    }
+    whole.then_some(sum)
+}

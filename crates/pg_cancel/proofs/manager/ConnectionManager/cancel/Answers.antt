@@ -1,0 +1,12 @@
+use Rattle.std.proofs.Common.{rules, ◌≡◌, ◌↔◌, ℤ, true, w32, subst}
+use mir.Val.{to_z, of_z}
+use Rattle.pg_cancel.specs.LegalHistory.{IsConnected}
+use Rattle.pg_cancel.specs.Connections.{before_last}
+use Rattle.pg_cancel.proofs.Events.{asked_exactly}
+use Rattle.pg_cancel.proofs.manager.ConnectionManager.cancel.Goals as goal
+
+pub returns-clause-exactly : goal.returns-clause-exactly
+returns-clause-exactly g c =
+    let pid : to_z w32 (of_z w32 c.args.pid) ≡ c.args.pid = search rules in
+    subst (λ (p : ℤ). (c.is_yes.result ≡ true) ↔ IsConnected (before_last c.make_call.new.seat.me.0.seen) p c.args.key) pid
+    (asked_exactly _ _ _ _ _ _ _ c.is_yes.result c.is_yes.ensures c.in_ok-answer.ensures.ok.1)

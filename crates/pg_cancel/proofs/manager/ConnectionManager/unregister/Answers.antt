@@ -1,0 +1,13 @@
+use Rattle.std.proofs.Common.{[], ◌∷◌, ◌++◌, subst}
+use Rattle.pg_cancel.specs.declared.entries.RegistryCall.TheVariants.{Unregister}
+use Rattle.pg_cancel.specs.declared.entries.RegistryAnswer.TheVariants.{Done}
+use Rattle.pg_cancel.specs.Connections.{Connection, Made, entry}
+use Rattle.pg_cancel.proofs.Events.{ended}
+use Rattle.pg_cancel.proofs.manager.ConnectionManager.unregister.Goals as goal
+
+pub returns-in-Ok-clause-ok : goal.returns-in-Ok-clause-ok
+returns-in-Ok-clause-ok g c =
+    let seen = c.make_call.new.seat.me.0.seen in
+    subst (λ (h : Connection). Made h.number Unregister h.seen h.mine seen
+    (h.mine ++ entry h.number Unregister Done ∷ []) Done) c.handle.view_is
+    (ended _ _ _ _ _ _ c.in-Ok.ensures.told c.in-Ok.ensures.ok.1)

@@ -1,0 +1,98 @@
+-- What callers see of a shared registry: who issued a handle, which part of the one history it has seen, and its own calls there.
+use Rattle.std.specs.Prelude.{◌≡◌, ◌↔◌, ◌-◌, ◌==◌, ℕ, ℤ, Bool, true, false, List, [], ◌∷◌, ◌++◌, length, filter, take}
+use Rattle.atomic_table.specs.Seated.{TableId}
+use Rattle.pg_cancel.specs.declared.entries.Entry.{Entry}
+use Rattle.pg_cancel.specs.declared.entries.RegistryCall.{RegistryCall}
+use Rattle.pg_cancel.specs.declared.entries.RegistryCall.TheVariants.{Register, Unregister}
+use Rattle.pg_cancel.specs.declared.entries.RegistryAnswer.{RegistryAnswer}
+use Rattle.pg_cancel.specs.declared.entries.RegistryAnswer.TheVariants.{Registered, Done, Yes, No}
+use Rattle.pg_cancel.specs.LegalHistory.{IsLegal, IsAnswer}
+
+-- which manager it is: two are one where these are equal
+abbrev pub Issuer : Type 0
+Issuer = TableId
+
+-- a connection: the manager that issued it, the place of its registration, its pid and key, the history that it has seen, its calls
+pub record Connection : Type 0 where
+  pub issuer : Issuer
+  pub number : ℕ
+  pub pid : ℤ
+  pub key : List ℕ
+  pub seen : List Entry
+  pub mine : List Entry
+
+-- a door or a note: the manager that issued it, and the history that it has seen
+pub record Witness : Type 0 where
+  pub issuer : Issuer
+  pub seen : List Entry
+
+abbrev pub entry : ℕ → RegistryCall → RegistryAnswer → Entry
+entry number call answer = record { number = number; call = call; answer = answer }
+
+-- the entries with this number, in order
+abbrev pub calls_of : ℕ → List Entry → List Entry
+calls_of n history = filter (λ e. e.number == n) history
+
+abbrev pub is_register : RegistryCall → Bool
+is_register (Register pid key) = true
+is_register _ = false
+
+-- the Registers, in order
+abbrev pub registers_of : List Entry → List Entry
+registers_of history = filter (λ e. is_register e.call) history
+
+-- the history before its last entry
+abbrev pub before_last : List Entry → List Entry
+before_last history = take (length history - 1) history
+
+-- this answer to the call is right after the history, and no other is
+abbrev pub IsTheAnswer : List Entry → ℕ → RegistryCall → RegistryAnswer → Type 0
+IsTheAnswer history number call answer = (other : RegistryAnswer) → (other ≡ answer) ↔ IsAnswer history number call other
+
+-- The call was made once, under this number. What was seen goes on, ends with the call, and is legal. Of the number's calls
+-- just this one is new, and all of them are in `mine`.
+pub record Made (number : ℕ) (call : RegistryCall) (seen mine seen' mine' : List Entry) (answer : RegistryAnswer) : Type 0 where
+  pub between : List Entry
+  pub ends : seen' ≡ (seen ++ between) ++ entry number call answer ∷ []
+  pub mine_is : mine' ≡ mine ++ entry number call answer ∷ []
+  pub quiet : calls_of number between ≡ []
+  pub own : calls_of number seen' ≡ mine'
+  pub legal : IsLegal seen'
+  pub told : IsTheAnswer (seen ++ between) number call answer
+
+-- The Register was made once. What was seen goes on, ends with it, and is legal. It stands at the place `number`, and of all
+-- Registers just this one is new.
+pub record Registers (number : ℕ) (call : RegistryCall) (seen seen' : List Entry) (answer : RegistryAnswer) : Type 0 where
+  pub between : List Entry
+  pub ends : seen' ≡ (seen ++ between) ++ entry number call answer ∷ []
+  pub place : number ≡ length (seen ++ between)
+  pub quiet : registers_of between ≡ []
+  pub legal : IsLegal seen'
+  pub told : IsTheAnswer (seen ++ between) number call answer
+
+-- the connection made the call, with this answer
+abbrev pub HasMade : Connection → RegistryCall → Connection → RegistryAnswer → Type 0
+HasMade h call h' answer = Made h.number call h.seen h.mine h'.seen h'.mine answer
+
+-- the connection ended its registration, and its note has seen that
+abbrev pub HasEnded : Connection → Witness → Type 0
+HasEnded h note = Made h.number Unregister h.seen h.mine note.seen (h.mine ++ entry h.number Unregister Done ∷ []) Done
+
+abbrev pub IsSameConnection : Connection → Connection → Type 0
+IsSameConnection h h' = (h'.issuer ≡ h.issuer) × (h'.number ≡ h.number) × (h'.pid ≡ h.pid) × (h'.key ≡ h.key)
+
+-- what was seen is legal, and a number's calls there are `mine`
+abbrev pub Knows : ℕ → List Entry → List Entry → Type 0
+Knows number seen mine = IsLegal seen × (calls_of number seen ≡ mine)
+
+-- a connection's calls begin with the Register of its pid and key
+abbrev pub Begins : List Entry → ℕ → ℤ → List ℕ → Type 0
+Begins mine number pid key = (rest : List Entry) × (mine ≡ entry number (Register pid key) Registered ∷ rest)
+
+abbrev pub yes_if : Bool → RegistryAnswer
+yes_if true = Yes
+yes_if false = No
+
+-- the reference through which somebody works with a connection, the place of its registration, and which manager issued it
+abbrev pub origin_of : ℕ → ℕ → Issuer → List ℕ
+origin_of name number z = name ∷ number ∷ z.words ∷ z.slots ∷ z.views_name ∷ z.atom ∷ z.block ∷ z.offset ∷ z.slot_names

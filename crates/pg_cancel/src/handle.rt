@@ -1,0 +1,246 @@
+ghost use Rattle.std.specs.Prelude.{◌≡◌, ◌↔◌, ◌⊎◌, ℕ, [], ◌∷◌, ◌++◌, IfOk, IfErr, OnOk, OnErr, true, false};
+ghost use mathlib.Core.List.{IsPrefix};
+ghost use Rattle.pg_cancel.specs.LegalHistory.{IsLegal, IsCanceled, IsConnected};
+ghost use Rattle.pg_cancel.specs.declared.entries.RegistryCall.{RegistryCall};
+ghost use Rattle.pg_cancel.specs.declared.entries.RegistryAnswer.{RegistryAnswer};
+ghost use Rattle.pg_cancel.specs.Connections.{HasMade, HasEnded, Made, Begins, IsSameConnection, before_last, calls_of, is_register, yes_if};
+ghost use Rattle.pg_cancel.specs.Turns.{IsHandle, IsLeft, IsToldTo};
+
+use crate::entries::{RegistryAnswer, RegistryCall};
+use crate::manager::ConnectionManager;
+use crate::seat::{Compare, Copy, Place, TakeIn};
+use std::alloc::AllocError;
+use std::marker::Model;
+use std::sync::Wait;
+
+/// A live registration, the right to make calls under its number.
+/// Contracts see who issued it, its number, pid and key, what it has seen of the history, and its
+/// own calls there.
+#[derive(Drop)]
+pub struct ConnectionHandle {
+    pub(crate) seat: Place,
+    pub(crate) number: u64,
+    pub(crate) pid: i32,
+    pub(crate) key: [u8; 4],
+}
+
+impl Model for ConnectionHandle {
+    ghost use Rattle.pg_cancel.specs.Connections.{Connection, Begins};
+    ghost use Rattle.pg_cancel.specs.Turns.{IsHandle};
+
+    ghost Value = { Connection };
+
+    ghost view = { λ h. record {
+      issuer = h.seat.table_id;
+      number = h.number;
+      pid = h.pid;
+      key = h.key;
+      seen = h.seat.me.0.seen;
+      mine = h.seat.me.0.mine;
+    } };
+
+    ghost invariant = { λ h.
+        IsHandle h.seat.me h.number × Begins h.seat.me.0.mine h.number h.pid h.key };
+}
+
+/// What a connection had seen of the history.
+#[derive(Drop)]
+pub struct Note {
+    seat: Place,
+}
+
+impl Model for Note {
+    ghost use Rattle.pg_cancel.specs.Connections.{Witness};
+    ghost use Rattle.pg_cancel.specs.Turns.{IsNote};
+
+    ghost Value = { Witness };
+
+    ghost view = { λ n. record { issuer = n.seat.table_id; seen = n.seat.me.0.seen } };
+
+    ghost invariant = { λ n. IsNote n.seat.me };
+}
+
+impl ConnectionHandle {
+    /// The place of its registration. Its own calls, which begin with the Register, are those that
+    /// it has seen under this number.
+    pub fn number(&self) -> u64
+        ensures number { result ≡ self.now.number }
+        ensures begins { Begins self.now.mine self.now.number self.now.pid self.now.key }
+        ensures legal { IsLegal self.now.seen }
+        ensures own { calls_of self.now.number self.now.seen ≡ self.now.mine }
+    {
+        self.number
+    }
+
+    pub fn pid(&self) -> i32
+        ensures { result ≡ self.now.pid }
+    {
+        self.pid
+    }
+
+    pub fn key(&self) -> [u8; 4]
+        ensures { result ≡ self.now.key }
+    {
+        self.key
+    }
+}
+
+impl ConnectionManager {
+    /// The connection starts a query, for which no cancel has come yet. Waits for the turn.
+    #[tactic(auto, using(crate::proofs::Events::begins_more))]
+    pub fn start_query<R: Wait>(
+        &self,
+        rt: &R,
+        handle: &mut ConnectionHandle,
+    ) -> Result<(), AllocError>
+        requires issued { handle.old.issuer ≡ self.now }
+        ensures same { IsSameConnection handle.old handle.new }
+        ensures ok { OnOk result
+            (HasMade handle.old RegistryCall.Start handle.new RegistryAnswer.Done) }
+        ensures err { OnErr result (handle.new ≡ handle.old) }
+    {
+        let number = handle.number;
+        match self.make_call(rt, &mut handle.seat, number, RegistryCall::Start)? {
+            RegistryAnswer::Done => Ok(()),
+            _ => unreachable!(),
+        }
+    }
+
+    /// Whether the connection's query was canceled since it was started; without a query it is not.
+    /// Waits for the turn.
+    #[tactic(auto, using(crate::proofs::Events::begins_more))]
+    pub fn ask<R: Wait>(&self, rt: &R, handle: &mut ConnectionHandle) -> Result<bool, AllocError>
+        requires issued { handle.old.issuer ≡ self.now }
+        ensures same { IsSameConnection handle.old handle.new }
+        ensures ok { IfOk result
+            (λ yes. HasMade handle.old RegistryCall.Ask handle.new (yes_if yes)) }
+        ensures exactly { IfOk result
+            (λ yes. (yes ≡ true) ↔ IsCanceled (before_last handle.new.seen) handle.old.number) }
+
+        // A cancel that the handle has seen is heard.
+        ensures heard { IfOk result
+            (λ yes. IsCanceled handle.old.seen handle.old.number → yes ≡ true) }
+        ensures err { OnErr result (handle.new ≡ handle.old) }
+    {
+        let number = handle.number;
+        let answer = self.make_call(rt, &mut handle.seat, number, RegistryCall::Ask)?;
+        Ok(is_yes(answer))
+    }
+
+    /// Cancels the query of the connection with this pid and key, and says whether there is such a
+    /// connection. Waits for the turn.
+    #[tactic(auto, using(crate::proofs::Events::begins_more))]
+    pub fn cancel<R: Wait>(
+        &self,
+        rt: &R,
+        handle: &mut ConnectionHandle,
+        pid: i32,
+        key: [u8; 4],
+    ) -> Result<bool, AllocError>
+        requires issued { handle.old.issuer ≡ self.now }
+        ensures same { IsSameConnection handle.old handle.new }
+        ensures ok { IfOk result
+            (λ yes. HasMade handle.old (RegistryCall.Cancel pid key) handle.new (yes_if yes)) }
+        ensures exactly { IfOk result
+            (λ yes. (yes ≡ true) ↔ IsConnected (before_last handle.new.seen) pid key) }
+        ensures err { OnErr result (handle.new ≡ handle.old) }
+    {
+        let number = handle.number;
+        let answer = self.make_call(rt, &mut handle.seat, number, RegistryCall::Cancel(pid, key))?;
+        Ok(is_yes(answer))
+    }
+
+    /// Ends the registration. What the connection has seen stays in the note. Waits for the turn.
+    /// After want of memory the handle comes back as it was, and its registration is live.
+    pub fn unregister<R: Wait>(
+        &self,
+        rt: &R,
+        handle: ConnectionHandle,
+    ) -> Result<Note, (ConnectionHandle, AllocError)>
+        requires issued { handle.issuer ≡ self.now }
+        ensures issued { IfOk result (λ note. note.issuer ≡ self.now) }
+        ensures ok { IfOk result (λ note. HasEnded handle note) }
+        ensures err { IfErr result (λ e. e.0 ≡ handle) }
+    {
+        let ConnectionHandle {
+            mut seat,
+            number,
+            pid,
+            key,
+        } = handle;
+        match self.make_call(rt, &mut seat, number, RegistryCall::Unregister) {
+            Ok(_) => Ok(Note { seat }),
+            Err(AllocError) => Err((
+                ConnectionHandle {
+                    seat,
+                    number,
+                    pid,
+                    key,
+                },
+                AllocError,
+            )),
+        }
+    }
+
+    /// What the handle has seen, for another handle.
+    /// It waits for nobody, takes no memory and makes no event.
+    pub fn note(&self, handle: &mut ConnectionHandle) -> Note
+        requires issued { handle.old.issuer ≡ self.now }
+        ensures issued { result.issuer ≡ self.now }
+        ensures seen { result.seen ≡ handle.old.seen }
+        ensures legal { IsLegal result.seen }
+        ensures own { calls_of handle.old.number result.seen ≡ handle.old.mine }
+        ensures same { handle.new ≡ handle.old }
+    {
+        let seat = self.table.shared.split_seat::<Copy>(&mut handle.seat);
+        Note { seat }
+    }
+
+    /// What the handle has seen then begins with all that it had seen, and with all that the note's
+    /// giver had. It waits for nobody, takes no memory and makes no event.
+    pub fn take_in(&self, handle: &mut ConnectionHandle, note: Note)
+        requires issued { (handle.old.issuer ≡ self.now) × (note.issuer ≡ self.now) }
+        ensures same { IsSameConnection handle.old handle.new }
+        ensures mine { handle.new.mine ≡ handle.old.mine }
+        ensures seen { IsPrefix handle.old.seen handle.new.seen }
+        ensures told { IsPrefix note.seen handle.new.seen }
+        ensures legal { IsLegal handle.new.seen }
+        ensures own { calls_of handle.new.number handle.new.seen ≡ handle.new.mine }
+    {
+        let Note { seat } = note;
+        let shared = &self.table.shared;
+        shared.join_seat::<TakeIn>(&mut handle.seat, seat);
+        let _ = shared.load::<Compare>(&mut handle.seat, 0);
+    }
+
+    /// Waits for the turn and makes a call, which is no Register, under the number of the seat's
+    /// live registration.
+    fn make_call<R: Wait>(
+        &self,
+        rt: &R,
+        seat: &mut Place,
+        number: u64,
+        call: RegistryCall,
+    ) -> Result<RegistryAnswer, AllocError>
+        requires issued { seat.old.table_id ≡ self.now }
+        requires handle { IsHandle seat.old.me number }
+        requires call { is_register call ≡ false }
+        ensures same { (seat.new.table_id ≡ seat.old.table_id) × (seat.new.id ≡ seat.old.id) }
+        ensures ok { IfOk result (λ answer. IsLeft seat.new.me number call
+            × Made number call seat.old.me.0.seen seat.old.me.0.mine
+            seat.new.me.0.seen seat.new.me.0.mine answer) }
+        ensures told { IfOk result (IsToldTo call) }
+        ensures err { OnErr result (seat.new.me ≡ seat.old.me) }
+    {
+        let registry = self.take_turn(rt, seat);
+        self.make_event(seat, registry, number, call)
+    }
+}
+
+/// What an Ask or a Cancel was told.
+fn is_yes(answer: RegistryAnswer) -> bool
+    requires { (answer ≡ RegistryAnswer.Yes) ⊎ (answer ≡ RegistryAnswer.No) }
+    ensures { answer ≡ yes_if result }
+{
+    matches!(answer, RegistryAnswer::Yes)
+}

@@ -1,0 +1,117 @@
+//! The table behind a shared registry: word 0 tells whose turn it is, and slot 0 has the registry.
+use crate::entries::Entry;
+use crate::history::Registry;
+use atomic_table::{Join, Play, Seat, Split, Table, TableRule};
+use std::alloc::Global;
+use std::collections::LinkedList;
+
+/// What a seat knows. No value of it is made.
+pub struct View {
+    /// The beginning of the history that was seen.
+    pub seen: LinkedList<Entry>,
+    /// A beginning of it that another seat had seen.
+    pub told: LinkedList<Entry>,
+    /// The registration whose calls the seat makes or has made.
+    pub number: Option<u64>,
+    /// The entries with that number.
+    pub mine: LinkedList<Entry>,
+    /// The registration was not ended.
+    pub is_live: bool,
+    /// The seat makes all registrations.
+    pub is_door: bool,
+    /// The history, while the seat has the turn.
+    pub turn: Option<LinkedList<Entry>>,
+}
+
+pub struct Turns;
+
+impl TableRule<Registry, View, ()> for Turns {
+    ghost use Rattle.pg_cancel.specs.Turns.{InTurn, first_door};
+
+    ghost holds = { λ _. InTurn };
+
+    ghost first = { λ _. first_door };
+}
+
+pub type Board = Table<Registry, View, (), Turns, Global>;
+
+pub type Place = Seat<Registry, View>;
+
+/// A load, which changes nothing.
+pub struct Look;
+
+impl Play<Registry, View> for Look {
+    ghost use Rattle.pg_cancel.specs.Turns.{looked};
+
+    ghost then = { looked };
+}
+
+/// The turn is taken, or the word was another.
+pub struct Take;
+
+impl Play<Registry, View> for Take {
+    ghost use Rattle.pg_cancel.specs.Turns.{took};
+
+    ghost then = { took };
+}
+
+/// The turn is given back with one event.
+pub struct Publish;
+
+impl Play<Registry, View> for Publish {
+    ghost use Rattle.pg_cancel.specs.Turns.{publishes};
+
+    ghost then = { publishes };
+}
+
+/// The turn is given back with nothing done.
+pub struct Release;
+
+impl Play<Registry, View> for Release {
+    ghost use Rattle.pg_cancel.specs.Turns.{releases};
+
+    ghost then = { releases };
+}
+
+/// A new seat has seen as much.
+pub struct Copy;
+
+impl Split<View> for Copy {
+    ghost use Rattle.pg_cancel.specs.Turns.{reader};
+
+    ghost left = { λ v. v };
+
+    ghost right = { λ v. reader v.seen };
+}
+
+/// A new seat has seen as much, and has the number and its calls.
+pub struct PassOn;
+
+impl Split<View> for PassOn {
+    ghost use Rattle.pg_cancel.specs.Turns.{without_number, handle};
+
+    ghost left = { without_number };
+
+    ghost right = { handle };
+}
+
+/// A seat takes in what another has seen.
+pub struct TakeIn;
+
+impl Join<View> for TakeIn {
+    ghost use Rattle.pg_cancel.specs.Turns.{reader, joined};
+    ghost use Rattle.std.specs.Prelude.{[]};
+
+    ghost both = { joined };
+
+    ghost spent = { reader [] };
+}
+
+/// A load after that, which tells that both lists begin what is seen now.
+pub struct Compare;
+
+impl Play<Registry, View> for Compare {
+    ghost use Rattle.pg_cancel.specs.Turns.{compared};
+
+    ghost then = { compared };
+}

@@ -1,0 +1,278 @@
+//! The registry story through a manager, on one thread and on two.
+ghost use Rattle.std.specs.Prelude.{◌≡◌, IfSome};
+ghost use Rattle.std.specs.Thread.{IsSync};
+
+use crate::{
+    ConnectionHandle, ConnectionManager, Door, RegisterError, Registry, RegistryAnswer,
+    RegistryCall,
+};
+use std::alloc::AllocError;
+use std::process::Abort;
+use std::sync::{Condvar, Mutex, Wait};
+use std::test::Fail;
+use std::thread::{Threads, join};
+
+const A: [u8; 4] = [1, 2, 3, 4];
+
+const B: [u8; 4] = [5, 6, 7, 8];
+
+const C: [u8; 4] = [10, 11, 12, 13];
+
+const ZERO: [u8; 4] = [0, 0, 0, 0];
+
+#[test]
+fn story_on_one_thread(rt: HostRuntime) -> Result<(), Fail> {
+    let (manager, mut door) = ConnectionManager::new(rt.alloc())?;
+    let Some((mut first, mut second)) = opening(&rt, &manager, &mut door) else {
+        panic!(rt; "the story begins")
+    };
+    assert!(rt; queries(&rt, &manager, &mut first, &mut second)?);
+    assert!(rt; ending(&rt, &manager, &mut door, first, second));
+    assert!(rt; is_story(&manager.close(&rt, door)));
+    Ok(())
+}
+
+#[test]
+fn story_on_two_threads(rt: HostRuntime) -> Result<(), Fail> {
+    let (manager, mut door) = ConnectionManager::new(rt.alloc())?;
+    let Some((first, second)) = opening(&rt, &manager, &mut door) else {
+        panic!(rt; "the story begins")
+    };
+    let (first, second) = both(&rt, &manager, first, second);
+    assert!(rt; ending(&rt, &manager, &mut door, first, second));
+    assert!(rt; is_story(&manager.close(&rt, door)));
+    Ok(())
+}
+
+/// Whether a cancel by the second is heard by the first, which takes in what the second has seen.
+fn hears<R: Wait>(
+    rt: &R,
+    manager: &ConnectionManager,
+    first: &mut ConnectionHandle,
+    second: &mut ConnectionHandle,
+) -> Result<bool, AllocError>
+    requires { (first.old.issuer ≡ manager.now) × (second.old.issuer ≡ manager.now) }
+    ensures { (first.new.issuer ≡ first.old.issuer) × (second.new.issuer ≡ second.old.issuer) }
+{
+    let hit = manager.cancel(rt, second, first.pid(), first.key())?;
+    let note = manager.note(second);
+    manager.take_in(first, note);
+    Ok(hit && manager.ask(rt, first)?)
+}
+
+/// What one handle has noted, another takes in.
+#[test]
+fn notes_are_taken_in(rt: HostRuntime) -> Result<(), Fail> {
+    let (manager, mut door) = ConnectionManager::new(rt.alloc())?;
+    let Some((mut first, mut second)) = opening(&rt, &manager, &mut door) else {
+        panic!(rt; "the handles are there")
+    };
+    assert!(rt; queries(&rt, &manager, &mut first, &mut second)?);
+    assert!(rt; hears(&rt, &manager, &mut first, &mut second)?);
+    Ok(())
+}
+
+/// Three Registers, of which the second is refused.
+fn opening<R: Wait>(
+    rt: &R,
+    manager: &ConnectionManager,
+    door: &mut Door,
+) -> Option<(ConnectionHandle, ConnectionHandle)>
+    requires { door.old.issuer ≡ manager.now }
+    ensures door { door.new.issuer ≡ door.old.issuer }
+    ensures handles { IfSome result (λ r. (r.0.issuer ≡ manager.now) × (r.1.issuer ≡ manager.now)) }
+{
+    let first = manager.register(rt, door, 7, A).ok()?;
+    let refused = matches!(
+        manager.register(rt, door, 7, B),
+        Err(RegisterError::PidTaken(0))
+    );
+    let second = manager.register(rt, door, 8, C).ok()?;
+    if refused && first.number() == 0 && second.number() == 2 {
+        Some((first, second))
+    } else {
+        None
+    }
+}
+
+/// The queries of the first and the cancels of the second, in turn.
+fn queries<R: Wait>(
+    rt: &R,
+    manager: &ConnectionManager,
+    first: &mut ConnectionHandle,
+    second: &mut ConnectionHandle,
+) -> Result<bool, AllocError>
+    requires { (first.old.issuer ≡ manager.now) × (second.old.issuer ≡ manager.now) }
+    ensures { (first.new.issuer ≡ first.old.issuer) × (second.new.issuer ≡ second.old.issuer) }
+{
+    manager.start_query(rt, first)?;
+    let early = manager.ask(rt, first)?;
+    let hit = manager.cancel(rt, second, 7, A)?;
+    let asked = manager.ask(rt, first)?;
+    manager.start_query(rt, first)?;
+    let again = manager.ask(rt, first)?;
+    let other = manager.cancel(rt, second, 7, ZERO)?;
+    Ok(!early && hit && asked && !again && !other)
+}
+
+/// The first ends, which the second finds, and its pid is free again.
+fn ending<R: Wait>(
+    rt: &R,
+    manager: &ConnectionManager,
+    door: &mut Door,
+    first: ConnectionHandle,
+    mut second: ConnectionHandle,
+) -> bool
+    requires handles { (first.issuer ≡ manager.now) × (second.issuer ≡ manager.now) }
+    requires door { door.old.issuer ≡ manager.now }
+    ensures { door.new.issuer ≡ door.old.issuer }
+{
+    let ended = manager.unregister(rt, first).is_ok();
+    let missed = matches!(manager.cancel(rt, &mut second, 7, A), Ok(false));
+    match manager.register(rt, door, 7, A) {
+        Ok(third) => ended && missed && third.number() == 12,
+        Err(_) => false,
+    }
+}
+
+/// Whether the history is the story's.
+fn is_story(registry: &Registry) -> bool {
+    use RegistryAnswer::*;
+    use RegistryCall::*;
+    let story = [
+        (0, Register(7, A), Registered),
+        (1, Register(7, B), Taken(0)),
+        (2, Register(8, C), Registered),
+        (0, Start, Done),
+        (0, Ask, No),
+        (2, Cancel(7, A), Yes),
+        (0, Ask, Yes),
+        (0, Start, Done),
+        (0, Ask, No),
+        (2, Cancel(7, ZERO), No),
+        (0, Unregister, Done),
+        (2, Cancel(7, A), No),
+        (12, Register(7, A), Registered),
+    ];
+    let history = registry.history();
+    let mut is = history.len() == story.len();
+    for (entry, (number, call, answer)) in history.iter().zip(story.iter()) {
+        is = is && entry.number == *number && entry.call == *call && entry.answer == *answer;
+    }
+    is
+}
+
+/// The turns that two threads take.
+#[derive(Drop)]
+struct Turn {
+    of: Mutex<u32>,
+    moved: Condvar,
+}
+
+impl Turn {
+    fn wait<R: Wait>(&self, rt: &R, step: u32) {
+        let turn = self
+            .moved
+            .wait_while(rt, self.of.lock(rt), |turn| *turn != step);
+        drop(turn);
+    }
+
+    fn give<R: Wait>(&self, rt: &R, step: u32) {
+        let mut turn = self.of.lock(rt);
+        *turn = step;
+        self.moved.notify_all();
+    }
+}
+
+fn both<R: Threads + Wait + Abort + Sync>(
+    rt: &R,
+    manager: &ConnectionManager,
+    first: ConnectionHandle,
+    second: ConnectionHandle,
+) -> (ConnectionHandle, ConnectionHandle)
+    requires { (first.issuer ≡ manager.now) × (second.issuer ≡ manager.now) }
+    ensures { (result.0.issuer ≡ manager.now) × (result.1.issuer ≡ manager.now) }
+{
+    let turn = Turn {
+        of: Mutex::new(0),
+        moved: Condvar::new(),
+    };
+    let (a, b) = join(
+        rt,
+        || -> (ConnectionHandle, Result<bool, AllocError>)
+            requires { IsSync R.row × (first.issuer ≡ manager.now) }
+            ensures { result.0.issuer ≡ manager.entry.now }
+        { asks(rt, manager, first, &turn) },
+        || -> (ConnectionHandle, Result<bool, AllocError>)
+            requires { IsSync R.row × (second.issuer ≡ manager.now) }
+            ensures { result.0.issuer ≡ manager.entry.now }
+        { cancels(rt, manager, second, &turn) },
+    );
+    let (first, asked) = a;
+    let (second, hit) = b;
+    assert!(rt; asked.is_ok_and(|right| right) && hit.is_ok_and(|right| right));
+    (first, second)
+}
+
+fn asks<R: Wait>(
+    rt: &R,
+    manager: &ConnectionManager,
+    mut handle: ConnectionHandle,
+    turn: &Turn,
+) -> (ConnectionHandle, Result<bool, AllocError>)
+    requires { handle.issuer ≡ manager.now }
+    ensures { result.0.issuer ≡ manager.now }
+{
+    let asked = ask_in_turn(rt, manager, &mut handle, turn);
+    (handle, asked)
+}
+
+fn cancels<R: Wait>(
+    rt: &R,
+    manager: &ConnectionManager,
+    mut handle: ConnectionHandle,
+    turn: &Turn,
+) -> (ConnectionHandle, Result<bool, AllocError>)
+    requires { handle.issuer ≡ manager.now }
+    ensures { result.0.issuer ≡ manager.now }
+{
+    let hit = cancel_in_turn(rt, manager, &mut handle, turn);
+    (handle, hit)
+}
+
+fn ask_in_turn<R: Wait>(
+    rt: &R,
+    manager: &ConnectionManager,
+    handle: &mut ConnectionHandle,
+    turn: &Turn,
+) -> Result<bool, AllocError>
+    requires { handle.old.issuer ≡ manager.now }
+    ensures { handle.new.issuer ≡ handle.old.issuer }
+{
+    manager.start_query(rt, handle)?;
+    let early = manager.ask(rt, handle)?;
+    turn.give(rt, 1);
+    turn.wait(rt, 2);
+    let asked = manager.ask(rt, handle)?;
+    manager.start_query(rt, handle)?;
+    let again = manager.ask(rt, handle)?;
+    turn.give(rt, 3);
+    Ok(!early && asked && !again)
+}
+
+fn cancel_in_turn<R: Wait>(
+    rt: &R,
+    manager: &ConnectionManager,
+    handle: &mut ConnectionHandle,
+    turn: &Turn,
+) -> Result<bool, AllocError>
+    requires { handle.old.issuer ≡ manager.now }
+    ensures { handle.new.issuer ≡ handle.old.issuer }
+{
+    turn.wait(rt, 1);
+    let hit = manager.cancel(rt, handle, 7, A)?;
+    turn.give(rt, 2);
+    turn.wait(rt, 3);
+    let other = manager.cancel(rt, handle, 7, ZERO)?;
+    Ok(hit && !other)
+}
