@@ -4,3 +4,4 @@ pub mod Cells
 pub mod Words
 pub mod Options
 pub mod Dates
+pub mod Intervals
