@@ -1,3 +1,4 @@
 pub mod Cells
 pub mod Commas
+pub mod Texts
 pub mod Trimming

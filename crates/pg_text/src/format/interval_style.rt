@@ -1,10 +1,14 @@
-ghost use Rattle.std.specs.Prelude.{◌≡◌};
+ghost use Rattle.std.specs.Prelude.{◌≡◌, ◌≤◌, ◌++◌, length, IfOk, OnOk, OnErr, string_bytes};
+ghost use Rattle.pg_interval.specs.Printed.{printed};
+ghost use Rattle.pg_interval.specs.Reading.{StandsForOnly};
 ghost use Rattle.pg_text.specs.Cells.{IsRead};
-ghost use Rattle.pg_text.specs.Words.{or_invalid, interval_style_of};
+ghost use Rattle.pg_text.specs.Words.{or_invalid, interval_style_of, printed_style};
 
 use crate::error::CellError;
 use crate::format::words::{is_name, trimmed};
-use std::alloc::Global;
+use bytes::BytesMut;
+use pg_interval::Interval;
+use std::alloc::{AllocError, Global};
 
 pub const INTERVAL_STYLE_POSTGRES: &str = "postgres";
 pub const INTERVAL_STYLE_ISO_8601: &str = "iso_8601";
@@ -52,6 +56,37 @@ impl IntervalStyle {
             Some(IntervalStyle::PostgresVerbose)
         } else {
             None
+        }
+    }
+
+    /// Appends the text of an interval in this style. After an error nothing is appended.
+    #[tactic(auto, using(crate::proofs::Texts::length_stands))]
+    pub fn print(self, interval: &Interval, out: &mut BytesMut) -> Result<(), AllocError>
+        ensures printed { OnOk result (out.new.items
+            ≡ out.old.items ++ printed (printed_style self) interval.now) }
+        // the text stands for this interval and for no other
+        ensures stands { OnOk result (StandsForOnly (printed_style self)
+            (printed (printed_style self) interval.now) interval.now) }
+        ensures short { OnOk result (length (printed (printed_style self) interval.now) ≤ 4096) }
+        ensures err { OnErr result (out.new.items ≡ out.old.items) }
+    {
+        let text = self.text(*out.allocator(), interval)?;
+        out.extend_from_slice(text.as_bytes())?;
+        Ok(())
+    }
+
+    /// The text of an interval in this style.
+    fn text(self, alloc: Global, interval: &Interval) -> Result<String, AllocError>
+        ensures printed { IfOk result (λ text. string_bytes text
+            ≡ printed (printed_style self) interval.now) }
+        ensures stands { IfOk result (λ text. StandsForOnly (printed_style self)
+            (string_bytes text) interval.now) }
+    {
+        match self {
+            IntervalStyle::Postgres => interval.to_postgres(alloc),
+            IntervalStyle::ISO8601 => interval.to_iso_8601(alloc),
+            IntervalStyle::SQLStandard => interval.to_sql(alloc),
+            IntervalStyle::PostgresVerbose => interval.to_postgres_verbose(alloc),
         }
     }
 }
