@@ -1,14 +1,13 @@
 -- The interval in a cell.
-use Rattle.std.proofs.Common.{◌≡◌, ℕ, ℤ, ◌<◌, ◌≤◌, ◌↔◌, Bool, true, false, cond, List, ◌++◌, length, take, drop, slice_range, nat_lt, Some, None, Option, Ok, Err, Result, IsNone, refl, sym, ap, ◌∙◌, arith, rules, FitsSigned}
-use Rattle.std.specs.Int.{w32, w64, cast_unsigned, cast_signed, from_be_bytes}
+use Rattle.std.proofs.Common.{◌≡◌, ℕ, ℤ, ◌<◌, ◌≤◌, true, false, cond, List, length, take, slice_range, nat_lt, Ok, Err, sym, ap, ◌∙◌, arith, FitsSigned}
+use Rattle.std.specs.Int.{w32, w64, cast_unsigned, cast_signed}
 use Rattle.std.proofs.lemmas.Nat.{from_be_bytes-to_be_bytes_4, from_be_bytes-to_be_bytes_8}
 use Rattle.bytes.proofs.Ranges.{slice_range_front}
 use Rattle.std.proofs.lemmas.Bool.Decides.{nat_tests}
 use Rattle.std.proofs.Math.Facts.{Fits-of_z, to_z-of_z}
 use Rattle.pg_interval.specs.declared.pg_interval.Interval.{Interval}
 use Rattle.pg_interval.specs.Cell.{int64_bytes, int32_bytes, interval_cell, IsInterval}
-use Rattle.pg_interval.proofs.CellLemmas.{same_interval, take_in_parts}
-use Rattle.pg_text.specs.declared.error.CellError.{CellError}
+use Rattle.pg_interval.proofs.CellLemmas.{same_interval}
 use Rattle.pg_text.specs.declared.error.CellError.TheVariants.{ShortCell}
 use Rattle.pg_text.specs.Intervals.{int64_of, int32_of, interval_in, read_interval}
 

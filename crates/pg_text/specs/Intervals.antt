@@ -1,5 +1,5 @@
 -- The cells of intervals and of durations.
-use Rattle.std.specs.Prelude.{◌≡◌, ℕ, ℤ, Bool, true, false, List, length, slice_range, nat_lt, if◌then◌else◌, Option, None, Some, Result, Ok, Err}
+use Rattle.std.specs.Prelude.{ℕ, ℤ, Bool, true, false, List, length, slice_range, nat_lt, if◌then◌else◌, Some, Result, Ok, Err}
 use Rattle.std.specs.Int.{w32, w64, cast_signed, from_be_bytes}
 use Rattle.std.specs.Str.{is_utf8}
 use Rattle.pg_interval.specs.Duration.{duration_interval}

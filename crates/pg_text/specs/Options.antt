@@ -2,7 +2,8 @@
 use Rattle.std.specs.Prelude.{◌≡◌, ℕ, ℤ, pos, List, Option, None, Some, codes, FitsSigned}
 use Rattle.std.specs.BTreeMap.{BTreeMap, get}
 use Rattle.std.specs.Cmp.Lexicographic.{slice_cmp}
-use Rattle.std.specs.Ordering.{nat_cmp}
+use Rattle.std.specs.Ordering.{nat_cmp, int_cmp, ordering_then}
+use Rattle.std.specs.declared.cmp.Ordering.{Ordering}
 use Rattle.std.specs.Int.{w8}
 use Rattle.std.specs.Str.Parse.{IsNumeral, without_leading_sign, signed_digits_value}
 use Rattle.pg_text.specs.declared.format.FormatOptions.{FormatOptions}
@@ -28,3 +29,14 @@ IsSmallNumber text = IsNumeral 10 (without_leading_sign text) × FitsSigned w8 (
 abbrev pub IsFloatDigits : Option (List ℕ) → ℤ → Type 0
 IsFloatDigits None n = n ≡ pos 1
 IsFloatDigits (Some text) n = (IsSmallNumber text → n ≡ signed_digits_value 10 text) × (¬ (IsSmallNumber text) → n ≡ pos 1)
+
+-- the order of texts: byte by byte
+abbrev pub text_cmp : List ℕ → List ℕ → Ordering
+text_cmp a b = slice_cmp nat_cmp a b
+
+-- the order of options: by their fields, from the first to the last
+abbrev pub options_cmp : FormatOptions → FormatOptions → Ordering
+options_cmp a b = ordering_then (text_cmp a.date_style b.date_style)
+    (ordering_then (text_cmp a.interval_style b.interval_style)
+    (ordering_then (text_cmp a.bytea_output b.bytea_output)
+    (ordering_then (text_cmp a.time_zone b.time_zone) (int_cmp a.extra_float_digits b.extra_float_digits))))

@@ -1,5 +1,5 @@
 -- The values of the options that are words: PostgreSQL's documentation, "Locale and Formatting".
-use Rattle.std.specs.Prelude.{◌≡◌, ℕ, List, [], ◌∷◌, Option, None, Some, Result, Ok, Err, bytes_eq, codes}
+use Rattle.std.specs.Prelude.{ℕ, List, [], ◌∷◌, Option, None, Some, Result, Ok, Err, bytes_eq, codes}
 use Rattle.std.specs.List.{find}
 use Rattle.std.specs.Str.{str_to_ascii_lowercase}
 use Rattle.pg_interval.specs.PostgresText.{trimmed}

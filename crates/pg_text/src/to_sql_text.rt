@@ -3,9 +3,9 @@ ghost use Rattle.pg_text.specs.Cells.{Cell, IsAnswer, AtCell, IsShort, bytes_of}
 
 use crate::error::CellError;
 use crate::format::FormatOptions;
+use crate::format::interval_style::IntervalStyle;
 use crate::pg_type::PgType;
 use crate::to_sql::IsNull;
-use crate::format::interval_style::IntervalStyle;
 use bytes::BytesMut;
 use jiff::SignedDuration;
 use pg_interval::Interval;

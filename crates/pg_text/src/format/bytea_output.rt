@@ -7,6 +7,7 @@ use crate::format::words::{is_name, trimmed};
 use std::alloc::Global;
 
 pub const BYTEA_OUTPUT_HEX: &str = "hex";
+
 pub const BYTEA_OUTPUT_ESCAPE: &str = "escape";
 
 /// How byte strings are written as text (`bytea_output`).

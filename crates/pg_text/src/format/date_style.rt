@@ -8,12 +8,17 @@ use crate::format::words::{is_name, trimmed};
 use std::alloc::{AllocError, Global};
 
 pub const DATE_STYLE_ORDER_DMY: &str = "dmy";
+
 pub const DATE_STYLE_ORDER_MDY: &str = "mdy";
+
 pub const DATE_STYLE_ORDER_YMD: &str = "ymd";
 
 pub const DATE_STYLE_DISPLAY_ISO: &str = "iso";
+
 pub const DATE_STYLE_DISPLAY_SQL: &str = "sql";
+
 pub const DATE_STYLE_DISPLAY_GERMAN: &str = "german";
+
 pub const DATE_STYLE_DISPLAY_POSTGRES: &str = "postgres";
 
 /// The order of day, month and year in a date.
@@ -24,7 +29,6 @@ pub enum DateStyleOrder {
     #[default]
     YMD,
 }
-
 
 impl DateStyleOrder {
     /// The order that a text names: whitespace at its ends is left out, ASCII letters are lowered, and the orders are
@@ -68,7 +72,6 @@ pub enum DateStyleDisplayStyle {
     /// As `Wed Dec 17 07:37:16.000000 1997`.
     Postgres,
 }
-
 
 impl DateStyleDisplayStyle {
     /// The style that a text names: whitespace at its ends is left out, ASCII letters are lowered, and the styles are
@@ -135,7 +138,8 @@ impl DateStyle {
             (DateStyleDisplayStyle::SQL, Some(DateStyleOrder::DMY)) => "%d/%m/%Y %H:%M:%S%.6f",
             (DateStyleDisplayStyle::SQL, _) => "%m/%d/%Y %H:%M:%S%.6f",
             (DateStyleDisplayStyle::ISO, _) => "%Y-%m-%d %H:%M:%S%.6f",
-            (DateStyleDisplayStyle::Postgres, Some(DateStyleOrder::DMY)) => "%a %e %b %H:%M:%S%.6f %Y",
+            (DateStyleDisplayStyle::Postgres, Some(DateStyleOrder::DMY)) =>
+                "%a %e %b %H:%M:%S%.6f %Y",
             (DateStyleDisplayStyle::Postgres, _) => "%a %b %e %H:%M:%S%.6f %Y",
             (DateStyleDisplayStyle::German, _) => "%d.%m.%Y %H:%M:%S%.6f",
         }

@@ -11,8 +11,11 @@ use pg_interval::Interval;
 use std::alloc::{AllocError, Global};
 
 pub const INTERVAL_STYLE_POSTGRES: &str = "postgres";
+
 pub const INTERVAL_STYLE_ISO_8601: &str = "iso_8601";
+
 pub const INTERVAL_STYLE_SQL_STANDARD: &str = "sql_standard";
+
 pub const INTERVAL_STYLE_POSTGRES_VERBOSE: &str = "postgres_verbose";
 
 /// How intervals are written as text (`IntervalStyle`).

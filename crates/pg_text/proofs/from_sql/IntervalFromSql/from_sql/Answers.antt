@@ -1,5 +1,4 @@
-use Rattle.std.proofs.Common.{◌≡◌, true, false, rules, ◌<◌, length, FitsSigned}
-use Rattle.std.specs.Int.{w32, w64}
+use Rattle.std.proofs.Common.{◌≡◌, true, false, rules, ◌<◌, length}
 use Rattle.pg_interval.specs.Cell.{IsInterval}
 use Rattle.pg_text.proofs.Cells.{read_some}
 use Rattle.pg_text.proofs.from_sql.IntervalFromSql.from_sql.Goals as goal

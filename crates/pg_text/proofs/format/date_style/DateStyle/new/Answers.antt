@@ -1,5 +1,5 @@
 use Rattle.std.proofs.Common.{◌∙◌, sym, ap, Some}
-use Rattle.pg_text.specs.Dates.{around_comma, display_before, order_behind, display_in, order_in}
+use Rattle.pg_text.specs.Dates.{display_before, order_behind}
 use Rattle.pg_text.proofs.Commas.{around_none, around_match}
 use Rattle.pg_text.proofs.format.date_style.DateStyle.new.Goals as goal
 
