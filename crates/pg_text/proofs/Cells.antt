@@ -23,10 +23,12 @@ of_int32 z fits =
 cell_fields : (raw : List ℕ) (i : Interval) → IsInterval i → take 16 raw ≡ interval_cell i → interval_in raw ≡ i
 unfolding interval_cell
 cell_fields raw i fits e =
-    let at : (s t : ℕ) → t ≤ 16 → slice_range raw s t ≡ slice_range (interval_cell i) s t = λ s t h. sym (slice_range_front (interval_cell i) raw s t 16 e h) in
+    let at : (s t : ℕ) → t ≤ 16 → slice_range raw s t ≡ slice_range (interval_cell i) s t =
+            λ s t h. sym (slice_range_front (interval_cell i) raw s t 16 e h) in
     let months : int32_of (slice_range raw 12 16) ≡ i.months = ap int32_of (at 12 16 (omega arith)) ∙ of_int32 i.months fits.months in
     let days : int32_of (slice_range raw 8 12) ≡ i.days = ap int32_of (at 8 12 (omega arith)) ∙ of_int32 i.days fits.days in
-    let microseconds : int64_of (slice_range raw 0 8) ≡ i.microseconds = ap int64_of (at 0 8 (omega arith)) ∙ of_int64 i.microseconds fits.microseconds in
+    let microseconds : int64_of (slice_range raw 0 8) ≡ i.microseconds =
+            ap int64_of (at 0 8 (omega arith)) ∙ of_int64 i.microseconds fits.microseconds in
     same_interval (interval_in raw) i months days microseconds
 
 pub read_none : (raw : List ℕ) → length raw < 16 → Err ShortCell ≡ read_interval raw
@@ -34,7 +36,8 @@ read_none raw h =
     let e : nat_lt (length raw) 16 ≡ true = grind (arith, nat_tests) in
     sym (ap (λ b. cond b (Err ShortCell) (Ok (interval_in raw))) e)
 
-pub read_some : (raw : List ℕ) (i : Interval) → ¬ (length raw < 16) → IsInterval i → take 16 raw ≡ interval_cell i → Ok i ≡ read_interval raw
+pub read_some : (raw : List ℕ) (i : Interval) → ¬ (length raw < 16) → IsInterval i → take 16 raw ≡ interval_cell i
+    → Ok i ≡ read_interval raw
 read_some raw i h fits e =
     let long : nat_lt (length raw) 16 ≡ false = grind (arith, nat_tests) in
     sym (ap (λ b. cond b (Err ShortCell) (Ok (interval_in raw))) long ∙ ap Ok (cell_fields raw i fits e))

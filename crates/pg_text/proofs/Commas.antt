@@ -23,7 +23,8 @@ around_none [] lacks = refl
 around_none (c ∷ cs) lacks =
     not_here c cs (lacks 0 (omega arith)) ∙ ap (in_front c) (around_none cs (λ i h. lacks (suc i) (omega arith)))
 
-around_at : (s : List ℕ) (i : ℕ) (rest : List ℕ) → ((k : ℕ) → k < i → LacksTextAt comma s k) → drop i s ≡ comma ++ rest → around_comma s ≡ Some (take i s, rest)
+around_at : (s : List ℕ) (i : ℕ) (rest : List ℕ) → ((k : ℕ) → k < i → LacksTextAt comma s k) → drop i s ≡ comma ++ rest
+    → around_comma s ≡ Some (take i s, rest)
 around_at [] zero rest lacks e = absurd (cc)
 around_at [] (suc i) rest lacks e = absurd (cc)
 around_at (c ∷ cs) zero rest lacks e = ap around_comma e

@@ -19,7 +19,8 @@ order_of d = d.order
 -- what stands before the first `, ` and after it, or None where there is none
 abbrev pub around_comma : List ℕ → Option (List ℕ × List ℕ)
 around_comma [] = None
-around_comma (c ∷ cs) = if starts_with nat_eq (c ∷ cs) (codes ", ") then Some ([], drop 2 (c ∷ cs)) else option_map (λ p. (c ∷ p.0, p.1)) (around_comma cs)
+around_comma (c ∷ cs) = if starts_with nat_eq (c ∷ cs) (codes ", ") then Some ([], drop 2 (c ∷ cs))
+    else option_map (λ p. (c ∷ p.0, p.1)) (around_comma cs)
 
 -- the style in front of the comma, or in the whole text, and ISO where that is none
 abbrev pub display_in : List ℕ → DateStyleDisplayStyle

@@ -54,7 +54,9 @@ interval_text i options = text_in i (style_under options)
 
 -- the text of the interval of a duration of some nanoseconds
 abbrev pub duration_text : ℤ → FormatOptions → Cell
-duration_text nanos options = if fits_above 63 (duration_interval nanos).microseconds then interval_text (duration_interval nanos) options else Err DurationOverflow
+duration_text nanos options =
+    if fits_above 63 (duration_interval nanos).microseconds then interval_text (duration_interval nanos) options
+    else Err DurationOverflow
 
 -- the text stands in the style of the options for this interval and for no other
 abbrev pub StandsIn : Result IntervalStyle CellError → List ℕ → Interval → Type 0

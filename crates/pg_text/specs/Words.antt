@@ -36,7 +36,8 @@ interval_style_name style.SQLStandard = codes "sql_standard"
 interval_style_name style.PostgresVerbose = codes "postgres_verbose"
 
 abbrev pub interval_style_of : List ℕ → Option IntervalStyle
-interval_style_of text = value_named interval_style_name (style.Postgres ∷ style.ISO8601 ∷ style.SQLStandard ∷ style.PostgresVerbose ∷ []) text
+interval_style_of text =
+    value_named interval_style_name (style.Postgres ∷ style.ISO8601 ∷ style.SQLStandard ∷ style.PostgresVerbose ∷ []) text
 
 -- the style in which an interval is printed and read
 abbrev pub printed_style : IntervalStyle → Style
