@@ -1,4 +1,7 @@
 // Rows on options, types and formats.
+ghost use Rattle.std.specs.Prelude.{◌≡◌, ◌↔◌, IsTrue};
+ghost use Rattle.pg_text.specs.Options.{options_cmp};
+
 use crate::cut;
 use crate::told::{
     bytea_output_told, display_told, interval_style_told, name_told, options_told, order_told,
@@ -9,6 +12,7 @@ use pg_text::{
     IntervalStyle, PgType,
 };
 use std::alloc::{AllocError, Global};
+use std::cmp::Ordering;
 use std::collections::BTreeMap;
 
 /// What a row on options is answered, or None where it is none.
@@ -20,6 +24,7 @@ pub(crate) fn answer(
     let told = match word {
         "default" => default_options(alloc)?,
         "client" => client_options(alloc, fields)?,
+        "compare" => compare_with_default(alloc, fields)?,
         "first" => first_values(alloc)?,
         "interval_style" => interval_style(alloc, fields)?,
         "bytea_output" => bytea_output(alloc, fields)?,
@@ -41,9 +46,36 @@ fn default_options(alloc: Global) -> Result<String, AllocError> {
 
 /// The options of parameters, which are names and values in turn.
 fn client_options(alloc: Global, fields: &str) -> Result<String, AllocError> {
-    let parameters = parameters(alloc, fields)?;
-    let options = FormatOptions::from_client_metadata(alloc, &parameters)?;
+    let options = client_of(alloc, fields)?;
     options_told(alloc, &options)
+}
+
+fn client_of(alloc: Global, fields: &str) -> Result<FormatOptions, AllocError> {
+    let parameters = parameters(alloc, fields)?;
+    FormatOptions::from_client_metadata(alloc, &parameters)
+}
+
+/// The default options beside those of parameters: their order, and whether they are equal.
+fn compare_with_default(alloc: Global, fields: &str) -> Result<String, AllocError> {
+    let options = client_of(alloc, fields)?;
+    let first = FormatOptions::new_default(alloc)?;
+    let order = order_between(&first, &options);
+    let equal = are_equal(&first, &options);
+    format!(in alloc; "{order:?} {equal}")
+}
+
+/// `==` is equality of the five fields.
+fn are_equal(a: &FormatOptions, b: &FormatOptions) -> bool
+    ensures { IsTrue result ↔ (a.now ≡ b.now) }
+{
+    a == b
+}
+
+/// The order goes by the fields, from the first to the last.
+fn order_between(a: &FormatOptions, b: &FormatOptions) -> Ordering
+    ensures { result ≡ options_cmp a.now b.now }
+{
+    a.cmp(b)
 }
 
 fn parameters(alloc: Global, fields: &str) -> Result<BTreeMap<PgStr, PgStr>, AllocError> {

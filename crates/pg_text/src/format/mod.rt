@@ -1,7 +1,7 @@
 // The options by which values are written as text: PostgreSQL's "Locale and Formatting" settings.
-ghost use Rattle.std.specs.Prelude.{◌≡◌, ◌↔◌, IsTrue, IfOk, unwrap_or, codes};
+ghost use Rattle.std.specs.Prelude.{◌≡◌, IfOk, unwrap_or, codes};
 ghost use Rattle.std.specs.Option.{option_copied};
-ghost use Rattle.pg_text.specs.Options.{default_options, setting, IsFloatDigits, options_cmp};
+ghost use Rattle.pg_text.specs.Options.{default_options, setting, IsFloatDigits};
 
 pub mod bytea_output;
 pub mod date_style;
@@ -131,38 +131,5 @@ fn float_digits(text: Option<&PgStr>) -> i8
             Err(_) => DEFAULT_FLOAT_DIGITS,
         },
         None => DEFAULT_FLOAT_DIGITS,
-    }
-}
-
-#[cfg(test)]
-mod tests {
-    use super::*;
-    use std::cmp::Ordering;
-    use std::test::Fail;
-
-    /// `==` is equality of the five fields.
-    fn is_equal(a: &FormatOptions, b: &FormatOptions) -> bool
-        ensures { IsTrue result ↔ (a.now ≡ b.now) }
-    {
-        a == b
-    }
-
-    /// The order goes by the fields, from the first to the last.
-    fn compare(a: &FormatOptions, b: &FormatOptions) -> Ordering
-        ensures { result ≡ options_cmp a.now b.now }
-    {
-        a.cmp(b)
-    }
-
-    #[test]
-    fn compares_options(rt: HostRuntime) -> Result<(), Fail> {
-        let a = FormatOptions::new_default(rt.alloc())?;
-        let mut b = a.copy_of(rt.alloc())?;
-        assert!(rt; is_equal(&a, &b));
-        b.extra_float_digits = 2;
-        assert!(rt; !is_equal(&a, &b) && compare(&a, &b) == Ordering::Less);
-        b.time_zone = PgStr::copy_of(rt.alloc(), "Asia/Tokyo")?;
-        assert!(rt; compare(&a, &b) == Ordering::Greater);
-        Ok(())
     }
 }
