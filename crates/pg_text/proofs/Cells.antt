@@ -21,7 +21,7 @@ of_int32 z fits =
 
 -- the fields of the interval whose cell the bytes begin with
 cell_fields : (raw : List ℕ) (i : Interval) → IsInterval i → take 16 raw ≡ interval_cell i → interval_in raw ≡ i
-unfolding interval_cell
+unfolding interval_cell interval_in
 cell_fields raw i fits e =
     let at : (s t : ℕ) → t ≤ 16 → slice_range raw s t ≡ slice_range (interval_cell i) s t =
             λ s t h. sym (slice_range_front (interval_cell i) raw s t 16 e h) in

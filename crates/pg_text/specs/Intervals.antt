@@ -30,7 +30,7 @@ abbrev pub int32_of : List ℕ → ℤ
 int32_of bytes = cast_signed w32 (from_be_bytes w32 bytes)
 
 -- Int64 microseconds, Int32 days, Int32 months; later bytes count for nothing
-abbrev pub interval_in : List ℕ → Interval
+unfoldable pub interval_in : List ℕ → Interval
 interval_in raw = record {
   months = int32_of (slice_range raw 12 16);
   days = int32_of (slice_range raw 8 12);

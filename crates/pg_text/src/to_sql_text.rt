@@ -36,6 +36,7 @@ pub trait ToSqlText {
 }
 
 impl ToSqlText for Interval {
+    ghost use Rattle.std.specs.Str.{IsUtf8};
     ghost use Rattle.pg_text.specs.Intervals.{interval_text, style_under, StandsIn};
 
     ghost text = { λ interval _ options. interval_text interval options };
@@ -57,6 +58,8 @@ impl ToSqlText for Interval {
         // so the text stands for this interval and for no other
         ensures stands { OnOk result (AtCell (interval_text self.now format_options.now)
             (λ cell. StandsIn (style_under format_options.now) (bytes_of cell) self.now)) }
+        ensures utf8 { OnOk result (AtCell (interval_text self.now format_options.now)
+            (λ cell. IsUtf8 (bytes_of cell))) }
     {
         let name = format_options.interval_style.as_str();
         match IntervalStyle::named(name) {

@@ -11,13 +11,22 @@ pub const BYTEA_OUTPUT_HEX: &str = "hex";
 pub const BYTEA_OUTPUT_ESCAPE: &str = "escape";
 
 /// How byte strings are written as text (`bytea_output`).
-#[derive(Clone, Copy, Debug, Default, PartialEq, Eq)]
+#[derive(Clone, Copy, Debug, PartialEq, Eq)]
 pub enum ByteaOutput {
     /// Two hexadecimal digits for each byte.
-    #[default]
     Hex,
     /// Characters, and an octal escape for each byte that is none.
     Escape,
+}
+
+impl Default for ByteaOutput {
+    ghost use Rattle.pg_text.specs.declared.format.bytea_output.ByteaOutput.{ByteaOutput};
+
+    ghost is_default = { λ output. output ≡ ByteaOutput.Hex };
+
+    fn default() -> ByteaOutput {
+        ByteaOutput::Hex
+    }
 }
 
 impl ByteaOutput {

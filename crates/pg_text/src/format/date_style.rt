@@ -22,12 +22,21 @@ pub const DATE_STYLE_DISPLAY_GERMAN: &str = "german";
 pub const DATE_STYLE_DISPLAY_POSTGRES: &str = "postgres";
 
 /// The order of day, month and year in a date.
-#[derive(Clone, Copy, Debug, Default, PartialEq, Eq)]
+#[derive(Clone, Copy, Debug, PartialEq, Eq)]
 pub enum DateStyleOrder {
     DMY,
     MDY,
-    #[default]
     YMD,
+}
+
+impl Default for DateStyleOrder {
+    ghost use Rattle.pg_text.specs.declared.format.date_style.DateStyleOrder.{DateStyleOrder};
+
+    ghost is_default = { λ order. order ≡ DateStyleOrder.YMD };
+
+    fn default() -> DateStyleOrder {
+        DateStyleOrder::YMD
+    }
 }
 
 impl DateStyleOrder {
@@ -60,10 +69,9 @@ impl DateStyleOrder {
 }
 
 /// How dates are written as text.
-#[derive(Clone, Copy, Debug, Default, PartialEq, Eq)]
+#[derive(Clone, Copy, Debug, PartialEq, Eq)]
 pub enum DateStyleDisplayStyle {
     /// As `1997-12-17 07:37:16.000000`.
-    #[default]
     ISO,
     /// As `12/17/1997 07:37:16.000000`.
     SQL,
@@ -71,6 +79,16 @@ pub enum DateStyleDisplayStyle {
     German,
     /// As `Wed Dec 17 07:37:16.000000 1997`.
     Postgres,
+}
+
+impl Default for DateStyleDisplayStyle {
+    ghost use Rattle.pg_text.specs.declared.format.date_style.DateStyleDisplayStyle.{DateStyleDisplayStyle};
+
+    ghost is_default = { λ style. style ≡ DateStyleDisplayStyle.ISO };
+
+    fn default() -> DateStyleDisplayStyle {
+        DateStyleDisplayStyle::ISO
+    }
 }
 
 impl DateStyleDisplayStyle {

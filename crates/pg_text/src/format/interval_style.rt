@@ -1,4 +1,5 @@
 ghost use Rattle.std.specs.Prelude.{◌≡◌, ◌≤◌, ◌++◌, length, IfOk, OnOk, OnErr, string_bytes};
+ghost use Rattle.std.specs.Str.{IsUtf8};
 ghost use Rattle.pg_interval.specs.Printed.{printed};
 ghost use Rattle.pg_interval.specs.Reading.{StandsForOnly};
 ghost use Rattle.pg_text.specs.Cells.{IsRead};
@@ -19,10 +20,9 @@ pub const INTERVAL_STYLE_SQL_STANDARD: &str = "sql_standard";
 pub const INTERVAL_STYLE_POSTGRES_VERBOSE: &str = "postgres_verbose";
 
 /// How intervals are written as text (`IntervalStyle`).
-#[derive(Clone, Copy, Debug, Default, PartialEq, Eq)]
+#[derive(Clone, Copy, Debug, PartialEq, Eq)]
 pub enum IntervalStyle {
     /// As `1 year 2 mons 3 days 04:05:06`.
-    #[default]
     Postgres,
     /// As `P1Y2M3DT4H5M6S`.
     ISO8601,
@@ -30,6 +30,16 @@ pub enum IntervalStyle {
     SQLStandard,
     /// As `@ 1 year 2 mons 3 days 4 hours 5 mins 6 secs`.
     PostgresVerbose,
+}
+
+impl Default for IntervalStyle {
+    ghost use Rattle.pg_text.specs.declared.format.interval_style.IntervalStyle.{IntervalStyle};
+
+    ghost is_default = { λ style. style ≡ IntervalStyle.Postgres };
+
+    fn default() -> IntervalStyle {
+        IntervalStyle::Postgres
+    }
 }
 
 impl IntervalStyle {
@@ -71,10 +81,11 @@ impl IntervalStyle {
         ensures stands { OnOk result (StandsForOnly (printed_style self)
             (printed (printed_style self) interval.now) interval.now) }
         ensures short { OnOk result (length (printed (printed_style self) interval.now) ≤ 4096) }
+        ensures utf8 { OnOk result (IsUtf8 (printed (printed_style self) interval.now)) }
         ensures err { OnErr result (out.new.items ≡ out.old.items) }
     {
         let text = self.text(*out.allocator(), interval)?;
-        out.extend_from_slice(text.as_bytes())?;
+        out.extend_from_slice(text.as_str().as_bytes())?;
         Ok(())
     }
 
