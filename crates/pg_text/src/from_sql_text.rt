@@ -1,0 +1,48 @@
+ghost use Rattle.std.specs.Prelude.{ℕ, List, Result};
+ghost use Rattle.pg_text.specs.Cells.{IsRead};
+
+use crate::error::CellError;
+use crate::format::FormatOptions;
+use crate::pg_type::PgType;
+use std::alloc::Global;
+
+/// A value that is read of a cell's text.
+pub trait FromSqlText: Sized {
+    ghost use Rattle.pg_text.specs.declared.pg_type.PgType.{PgType};
+    ghost use Rattle.pg_text.specs.declared.error.CellError.{CellError};
+    ghost use Rattle.pg_text.specs.declared.format.FormatOptions.{FormatOptions};
+
+    // the value of a text in a column of a type, under these options, or why there is none
+    ghost read: { PgType → List ℕ → FormatOptions → Result Self CellError };
+
+    /// The value that this text stands for under the options. Only a refusal takes memory.
+    fn from_sql_text(
+        alloc: Global,
+        ty: PgType,
+        input: &[u8],
+        format_options: &FormatOptions,
+    ) -> Result<Self, CellError>
+        ensures { IsRead (read ty input.now format_options.now) result };
+}
+
+impl<T: FromSqlText> FromSqlText for Option<T> {
+    ghost use Rattle.pg_text.specs.Cells.{read_if_some};
+
+    ghost read = { λ ty input options. read_if_some (λ bytes. T.read ty bytes options) input };
+
+    /// None for an empty input, and else what T reads.
+    fn from_sql_text(
+        alloc: Global,
+        ty: PgType,
+        input: &[u8],
+        format_options: &FormatOptions,
+    ) -> Result<Option<T>, CellError> {
+        if input.is_empty() {
+            return Ok(None);
+        }
+        match T::from_sql_text(alloc, ty, input, format_options) {
+            Ok(value) => Ok(Some(value)),
+            Err(error) => Err(error),
+        }
+    }
+}

@@ -1,0 +1,30 @@
+// The types, options and cells of PostgreSQL values: what a value writes into a row, and how it is read back.
+#![tactic(auto)]
+
+mod error;
+mod field_format;
+mod format;
+mod from_sql;
+mod from_sql_text;
+mod pg_type;
+mod to_sql;
+mod to_sql_text;
+
+pub use error::CellError;
+pub use field_format::FieldFormat;
+pub use format::FormatOptions;
+pub use format::bytea_output::{BYTEA_OUTPUT_ESCAPE, BYTEA_OUTPUT_HEX, ByteaOutput};
+pub use format::date_style::{
+    DATE_STYLE_DISPLAY_GERMAN, DATE_STYLE_DISPLAY_ISO, DATE_STYLE_DISPLAY_POSTGRES,
+    DATE_STYLE_DISPLAY_SQL, DATE_STYLE_ORDER_DMY, DATE_STYLE_ORDER_MDY, DATE_STYLE_ORDER_YMD,
+    DateStyle, DateStyleDisplayStyle, DateStyleOrder,
+};
+pub use format::interval_style::{
+    INTERVAL_STYLE_ISO_8601, INTERVAL_STYLE_POSTGRES, INTERVAL_STYLE_POSTGRES_VERBOSE,
+    INTERVAL_STYLE_SQL_STANDARD, IntervalStyle,
+};
+pub use from_sql::FromSql;
+pub use from_sql_text::FromSqlText;
+pub use pg_type::PgType;
+pub use to_sql::{IsNull, ToSql};
+pub use to_sql_text::ToSqlText;
