@@ -4,9 +4,10 @@
 What has to be believed is every definition under specs/ that a public clause cites, and those which it stands on. A
 public clause is a `requires`, `ensures` or `ghost` of a public function, of a public trait, or of an implementation for
 a public type; what a type keeps in itself (an invariant) is none. The check reads crates.txt, finds these definitions,
-and compares them with the rows of docs/DEFINITIONS.md, both ways. It also asks that every row has the one form, that
-its file defines what the row names, and that its worked examples exist: a name in backticks is a test function, a row
-of a table program, or a file.
+and compares them with the rows of docs/DEFINITIONS.md, both ways: each that a clause cites is named in a row, each that
+those stand on is named in a row or stands in a row's file below a definition whose row says `with those below it`, and
+no row names any other. It also asks that every row has the one form, that its file defines what the row names, and that
+its worked examples exist: a name in backticks is a test function, a row of a table program, or a file.
 
 It prints what is missing or too much, and its status is then 1. With --list it prints the definitions by their files.
 """
@@ -322,6 +323,7 @@ class Row:
     def __init__(self, line, cells):
         self.line, self.cells = line, cells
         self.names = re.findall(r"`([^`]+)`", cells[0])
+        self.covers_below = "with those below it" in cells[0]
         self.files = re.findall(r"`([^`]+)`", cells[2])
         self.examples = re.findall(r"`([^`]+)`", cells[4])
 
@@ -362,10 +364,10 @@ def known_examples(crates):
     return tests, {text.strip() for text in told}
 
 
-def check_rows(rows, definitions, needed, crates, problems):
-    """What the rows say, against the sources. Answers the definitions that are named."""
+def check_rows(rows, definitions, below, needed, crates, problems):
+    """What the rows say, against the sources. Answers the definitions that are named, and those that are covered."""
     tests, told = known_examples(crates)
-    named = {}
+    named, covered = {}, set()
     for row in rows:
         place = f"docs/DEFINITIONS.md:{row.line}"
         if not row.names:
@@ -387,12 +389,14 @@ def check_rows(rows, definitions, needed, crates, problems):
                 problems.append(f"{place}: `{name}` of {row.files[0]} has a row before, at line {named[key]}")
             if name == inside[name].name:
                 named[key] = row.line
+            if row.covers_below:
+                covered |= {other for other in closure([key], below) if other[:2] == key[:2]}
         if not row.examples:
             problems.append(f"{place}: names no worked example in backticks")
         for example in row.examples:
             if example not in tests and example not in told and not (TOP / example).exists():
                 problems.append(f"{place}: no test, row or file is called `{example}`")
-    return named
+    return named, covered
 
 
 def closure(roots, below):
@@ -428,8 +432,8 @@ def main():
         for key in [k for k in definitions if k in needed]:
             print(definitions[key].path, key[2], "" if key in cited else "(below another)")
         return 0
-    named = check_rows(rows_of_page(problems), definitions, needed, crates, problems)
-    for key in [k for k in definitions if k in needed and k not in named]:
+    named, covered = check_rows(rows_of_page(problems), definitions, below, needed, crates, problems)
+    for key in [k for k in definitions if k in needed and k not in named and (k in cited or k not in covered)]:
         why = cited.get(key) or "stands below " + next(f"`{k[2]}`" for k in definitions if k in needed and key in below[k])
         problems.append(f"docs/DEFINITIONS.md: no row names `{key[2]}` of {definitions[key].path} ({why})")
     for problem in problems:
