@@ -52,6 +52,22 @@ def end_of_braces(text, at):
     return end_of_pair(text, at, "{}")
 
 
+def bound_names(text):
+    """The variables that a text binds: by a lambda, a quantifier, a `let`, or as a field of a record."""
+    binders = re.findall(r"λ([^.λ]*)\.", text) + re.findall(r"[({]\s*([^(){}:=]+?)\s*:(?!:)", text)
+    binders += re.findall(r"\blet\s+(\S+)", text) + re.findall(r"(?m)^\s+pub\s+(\S+)\s*:", text)
+    return {name for binder in binders for name in re.findall(NAME, binder) if name[0].islower() or not name[0].isascii()}
+
+
+def parts_of(body, name):
+    """A definition's type, and each of its equations as its right side without what its left side binds."""
+    starts = [m.start() for m in re.finditer(r"(?m)^" + re.escape(name) + r"(?=\s)", body)]
+    yield body[:starts[0]] if starts else body, set()
+    for start, end in zip(starts, starts[1:] + [len(body)]):
+        left, _, right = body[start:end].partition(" =")
+        yield right, {word for word in re.findall(NAME, left) if word[0].islower()}
+
+
 # The definitions of specs/.
 
 class Definition:
@@ -83,8 +99,8 @@ class Scope:
         if not found:
             return
         crate, file, listed, everything, alias = found.groups()
-        if file.startswith("declared") or not any(key[0] == crate for key in definitions):
-            return
+        if file.split(".")[0] in ("declared", "contracts") or not any(key[0] == crate for key in definitions):
+            return      # what Rattle writes of the Rust types, or another repository's
         if alias:
             self.modules[alias] = (crate, file)
         elif everything:
@@ -101,9 +117,11 @@ class Scope:
             self.modules[file] = (crate, file)
 
     def cited(self, text):
-        """The definitions that a text names."""
-        keys = set()
+        """The definitions that a text names, and not what it calls by such a name itself."""
+        keys, bound = set(), bound_names(text)
         for name, key in self.names.items():
+            if name in bound:
+                continue
             if "◌" in name:
                 parts = [part for part in re.split(r"◌", name) if part]
                 if all(re.search(r"(?<!\S)" + re.escape(part) + r"(?!\S)", text) for part in parts):
@@ -125,7 +143,7 @@ def specs_of(crate):
         starts = [m.start() for m in re.finditer(r"(?m)^\S", text)] + [len(text)]
         for start, end in zip(starts, starts[1:]):
             item = text[start:end]
-            head = re.match(r"(?:(?:abbrev|unfoldable|foldable|opaque|inline|pub|mutual|ghost)\s+)*(record|data)?\s*(\S+)\s", item)
+            head = re.match(r"(?:(?:abbrev|unfoldable|foldable|opaque|inline|pub|mutual|ghost)\s+)*(?:(record|data)\s+)?(\S+)\s", item)
             if not head or not re.match(r"(?:abbrev|unfoldable|foldable|opaque|inline|pub)\b", item) or item.startswith("pub mod"):
                 # an equation or a constructor of what was declared before
                 begun = re.match(r"(\S+)", item)
@@ -157,20 +175,31 @@ def stands_on(definitions):
         for line in re.findall(r"(?m)^(?:pub )?use (.*)$", without_notes(path.read_text())):
             scope.use(line, definitions)
         scopes[(crate, file)] = scope
-    return {key: scopes[key[:2]].cited(one.body) - {key} for key, one in definitions.items()}
+    below = {}
+    for key, one in definitions.items():
+        scope, below[key] = scopes[key[:2]], set()
+        for text, bound in parts_of(one.body, one.name):
+            below[key] |= {other for other in scope.cited(text) if other[2] not in bound or other[:2] != key[:2]} - {key}
+    return below
 
 
 # The public clauses of a crate.
 
 def exported(crate):
-    """The names that the crate's root gives out, its public modules among them."""
-    text = blanked((TOP / "crates" / crate / "src" / "lib.rt").read_text())
-    names, modules = set(), set(re.findall(r"(?m)^\s*pub mod (\w+)", text))
-    for use in re.findall(r"(?m)^\s*pub use ([^;]*);", text):
-        for item in re.findall(r"\w+(?:\s+as\s+\w+)?(?=\s*[,}]|\s*$)", use.strip()):
-            names.add(re.split(r"\s+as\s+", item)[0])
-        if use.rstrip().endswith("*"):
-            modules.add(use.strip().split("::")[-2])
+    """The names that the crate's root gives out, and its modules that can be seen whole."""
+    source = TOP / "crates" / crate / "src"
+    names, modules, todo = set(), set(), [source / "lib.rt"]
+    while todo:
+        path = todo.pop()
+        text = blanked(path.read_text())
+        inside = re.findall(r"(?m)^\s*pub mod (\w+)", text)
+        for use in re.findall(r"(?m)^\s*pub use ([^;]*);", text):
+            names |= {re.split(r"\s+as\s+", item)[0] for item in re.findall(r"\w+(?:\s+as\s+\w+)?(?=\s*[,}]|\s*$)", use.strip())}
+            if use.rstrip().endswith("*"):
+                inside.append(use.strip().split("::")[-2])
+        modules |= set(inside)
+        folder = path.parent if path.stem in ("lib", "mod") else path.parent / path.stem
+        todo += [file for module in inside for file in (folder / f"{module}.rt", folder / module / "mod.rt") if file.is_file()]
     return names, modules
 
 
