@@ -28,6 +28,6 @@ bench:
 	python3 bench/serve_loop.py crates/server/out/server
 	bench/print_times
 
-# Compares docs/DEFINITIONS.md with the definitions that the public clauses cite.
+# Compares docs/DEFINITIONS.md with what the public clauses cite, and docs/WRONG_BODIES.md with the edits and tests.
 docs:
-	@python3 tools/check_definitions.py
+	@status=0; for check in definitions wrong_bodies; do python3 -B tools/check_$$check.py || status=1; done; exit $$status

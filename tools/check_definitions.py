@@ -439,9 +439,14 @@ def closure(roots, below):
     return found
 
 
+def listed_crates():
+    """The crates of crates.txt."""
+    return [line.split(":")[0].split()[0] for line in (TOP / "crates.txt").read_text().split("\n")
+            if line.strip() and not line.startswith("#")]
+
+
 def main():
-    crates = [line.split(":")[0].split()[0] for line in (TOP / "crates.txt").read_text().split("\n")
-              if line.strip() and not line.startswith("#")]
+    crates = listed_crates()
     definitions = {}
     for crate in crates:
         definitions.update(specs_of(crate))
