@@ -203,6 +203,20 @@ def exported(crate):
     return names, modules
 
 
+ITEM = re.compile(r"(?P<attribute>#!?\[)|(?P<use>\bghost use\b)|(?P<ghost>\bghost\s+(?P<ghost_name>\w+))"
+                  r"|(?P<fn>(?P<pub>\bpub\s+)?(?:const\s+|unsafe\s+)*\bfn\s+(?P<fn_name>\w+))"
+                  r"|(?P<impl>\bimpl\b)|(?P<trait>(?P<pub_trait>\bpub\s+)?\btrait\s+(?P<trait_name>\w+))"
+                  r"|(?P<type>(?P<pub_type>\bpub\s+)?\b(?:struct|enum)\s+(?P<type_name>\w+))"
+                  r"|(?P<mod>\bmod\s+\w+)|(?P<other>\b(?:use|const|static|type)\b)")
+
+
+class Place:
+    """Where items stand: in a file, an `impl` or a trait (or its implementation), and whether that can be seen."""
+
+    def __init__(self, kind, is_public, name):
+        self.kind, self.is_public, self.name = kind, is_public, name
+
+
 class Reader:
     """Goes through one source file and collects what its public clauses cite."""
 
@@ -218,55 +232,44 @@ class Reader:
         for key in scope.cited(clause):
             self.cited.setdefault(key, where)
 
-    def block(self, start, end, scope, is_public, kind, where):
+    def block(self, start, end, scope, place):
         """The items of a file or of a block in braces."""
-        text, at = self.text, start
-        scope = scope.copy()
-        for use in re.finditer(r"\bghost use ([^;]*);", self.at_depth(start, end)):
-            scope.use(use.group(1), self.definitions)
-        item = re.compile(r"(?P<attribute>#!?\[)|(?P<use>\bghost use\b)|(?P<ghost>\bghost\s+(?P<ghost_name>\w+))"
-                          r"|(?P<fn>(?P<pub>\bpub\s+)?(?:const\s+|unsafe\s+)*\bfn\s+(?P<fn_name>\w+))"
-                          r"|(?P<impl>\bimpl\b)|(?P<trait>(?P<pub_trait>\bpub\s+)?\btrait\s+(?P<trait_name>\w+))"
-                          r"|(?P<type>(?P<pub_type>\bpub\s+)?\b(?:struct|enum)\s+(?P<type_name>\w+))"
-                          r"|(?P<mod>\bmod\s+\w+)|(?P<other>\b(?:use|const|static|type)\b)")
-        while True:
-            found = item.search(text, at, end)
-            if not found:
-                return
-            if found["attribute"]:
-                at = end_of_pair(text, found.end() - 1, "[]")
-            elif found["use"] or found["other"]:
-                at = self.end_of_statement(found.end(), end)
-            elif found["ghost"]:
-                at = self.end_of_statement(found.end(), end)
-                if is_public and found["ghost_name"] not in ("invariant",):
-                    self.note(scope, text[found.end():at], f"{where}, ghost {found['ghost_name']}")
-            elif found["fn"]:
-                seen = is_public if kind in ("trait", "trait impl") else bool(found["pub"]) and (
-                    is_public if kind == "impl" else self.is_given(found["fn_name"]))
-                at = self.function(found.end(), end, scope, seen, f"{where}{found['fn_name']}")
-            elif found["impl"]:
-                at = self.implementation(found.end(), end, scope)
-            elif found["trait"]:
-                brace = text.index("{", found.end())
-                at = end_of_braces(text, brace)
-                seen = bool(found["pub_trait"]) and self.is_given(found["trait_name"])
-                self.block(brace + 1, at - 1, scope, seen, "trait", f"{found['trait_name']}::")
-            elif found["type"]:
-                at = self.declared_type(found, end, scope)
-            else:
-                brace = re.compile(r"[;{]").search(text, found.end())
-                at = brace.end()
-                if brace.group() == "{":
-                    at = end_of_braces(text, brace.start())
-                    self.block(brace.end(), at - 1, scope, is_public, kind, where)
+        scope, at = scope.copy(), start
+        for use in re.finditer(r"\bghost use ([^;]*);", self.text[start:end]):
+            before = self.text[start:start + use.start()]
+            if before.count("{") == before.count("}"):
+                scope.use(use.group(1), self.definitions)
+        while found := ITEM.search(self.text, at, end):
+            at = self.item(found, end, scope, place)
 
-    def at_depth(self, start, end):
-        """The text of a block without the blocks inside it, but with the braces of its imports."""
-        text = self.text[start:end]
-        uses = [m.group() for m in re.finditer(r"\bghost use [^;]*;", text)
-                if self.text[start:start + m.start()].count("{") == self.text[start:start + m.start()].count("}")]
-        return "\n".join(uses)
+    def item(self, found, end, scope, place):
+        """One item, whose first words were found. Answers the place behind it."""
+        if found["attribute"]:
+            return end_of_pair(self.text, found.end() - 1, "[]")
+        if found["ghost"]:
+            stop = self.end_of_statement(found.end(), end)
+            if place.is_public and found["ghost_name"] != "invariant":
+                self.note(scope, self.text[found.end():stop], f"{place.name}, ghost {found['ghost_name']}")
+            return stop
+        if found["fn"]:
+            name = found["fn_name"]
+            seen = place.is_public and (place.kind == "trait" or bool(found["pub"]) and (place.kind == "impl" or self.is_given(name)))
+            return self.function(found.end(), end, scope, seen, place.name + name)
+        if found["impl"]:
+            return self.implementation(found.end(), scope)
+        if found["trait"]:
+            name, brace = found["trait_name"], self.text.index("{", found.end())
+            stop = end_of_braces(self.text, brace)
+            self.block(brace + 1, stop - 1, scope, Place("trait", bool(found["pub_trait"]) and self.is_given(name), f"{name}::"))
+            return stop
+        if found["type"]:
+            return self.declared_type(found, end, scope)
+        if found["mod"] and self.text[found.end():].lstrip().startswith("{"):
+            brace = self.text.index("{", found.end())
+            stop = end_of_braces(self.text, brace)
+            self.block(brace + 1, stop - 1, scope, place)
+            return stop
+        return self.end_of_statement(found.end(), end)
 
     def end_of_statement(self, at, end):
         while at < end and self.text[at] != ";":
@@ -294,7 +297,7 @@ class Reader:
                 self.note(scope, self.text[found.end():close - 1], f"{where}, {name}")
             at = close
 
-    def implementation(self, at, end, scope):
+    def implementation(self, at, scope):
         """An `impl` block: of a type that can be seen, and of a trait that can be seen or comes from elsewhere."""
         brace = self.text.index("{", at)
         close = end_of_braces(self.text, brace)
@@ -304,9 +307,8 @@ class Reader:
         target_name = (re.findall(r"\w+", re.sub(r"'\w+", "", target or head)) or [""])[-1]
         trait_name = (re.findall(r"\w+", trait) or [""])[-1]
         seen = self.sees(target_name) and (not trait_name or self.sees(trait_name))
-        kind = "trait impl" if trait_name else "impl"
-        where = f"{trait_name + ' for ' if trait_name else ''}{target_name}::"
-        self.block(brace + 1, close - 1, scope, seen, kind, where)
+        name = f"{trait_name} for {target_name}::" if trait_name else f"{target_name}::"
+        self.block(brace + 1, close - 1, scope, Place("trait" if trait_name else "impl", seen, name))
         return close
 
     def sees(self, name):
@@ -340,7 +342,7 @@ def public_citations(crate, definitions):
         module = path.stem if path.stem != "mod" else path.parent.name
         is_open = path.name == "lib.rt" or module in modules
         reader = Reader(text, own, names, is_open, definitions)
-        reader.block(0, len(text), Scope(), True, "file", "")
+        reader.block(0, len(text), Scope(), Place("file", True, ""))
         for key, where in reader.cited.items():
             cited.setdefault(key, f"crates/{crate}/{path.relative_to(source.parent)}: {where}")
     return cited
