@@ -381,7 +381,8 @@ def rows_of_page(problems):
 
 
 def known_examples(crates):
-    """The names of tests, and the texts in which a table program tells its rows."""
+    """The names of tests, and those of the rows of table programs: texts in the code, and beginnings of lines of
+    standard input and output up to a tab, a bar, a colon or an arrow."""
     tests, told = set(), []
     for crate in crates:
         folder = TOP / "crates" / crate
@@ -391,7 +392,8 @@ def known_examples(crates):
             told += re.findall(r'"((?:\\.|[^"\\\n])*)"', text)
         for name in ("stdin", "stdout"):
             if (folder / name).is_file():
-                told += re.split(r"[\n\t]|: ", (folder / name).read_bytes().decode("utf-8", "replace"))
+                lines = (folder / name).read_bytes().decode("utf-8", "replace").split("\n")
+                told += [part for line in lines for part in (line, re.split(r"\t|\||:| =>| ->", line)[0])]
     return tests, {text.strip() for text in told}
 
 
