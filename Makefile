@@ -1,17 +1,33 @@
-.PHONY: demo test bench
+.PHONY: demo build test bench docs
 
-# Serves the client of crates/server/stdin and shows its frames and the replies.
-demo: crates/server/out/server
-	python3 tools/show_frames.py crates/server/stdin crates/server/out/server 7 01020304
+CLIENT = crates/server/stdin
+WORDS = 7 01020304
+# Runs a command in a folder, and shows what it says only where it fails.
+QUIETLY = log=$$(mktemp) && if (cd $(1) && $(2)) >$$log 2>&1; then rm -f $$log; else cat $$log; rm -f $$log; exit 1; fi
 
-# Proves, tries every must-fail edit, runs every test and program.
+# Serves the client of crates/server/stdin and shows its frames and the replies. The program is built unproved.
+demo:
+	@echo "The program is built unproved, which takes about a minute. make build proves it first."
+	@python3 tools/show_frames.py $(CLIENT) tools/try_server $(WORDS)
+
+# Proves the program and all that it stands on, builds it, and shows the same frames from what was built.
+build:
+	@echo "The program is proved and built: from nothing half an hour or more, later only what changed."
+	@$(call QUIETLY,crates/server,rt run -- --version)
+	@python3 tools/show_frames.py $(CLIENT) crates/server/out/server $(WORDS)
+
+# Proves everything from nothing, tries every must-fail edit, runs every test and program.
 test:
 	rt ci
 
-# Times the first path's queries, and the printers.
-bench: crates/server/out/server
+# Times queries and the printers, on programs that are proved and built first.
+bench:
+	@echo "The two programs are proved and built: from nothing half an hour or more, later only what changed."
+	@$(call QUIETLY,crates/server,rt run -- --version)
+	@$(call QUIETLY,crates/print_bench,rt run -- 1)
 	python3 bench/serve_loop.py crates/server/out/server
 	bench/print_times
 
-crates/server/out/server:
-	cd crates/server && rt run -- --version
+# Compares docs/DEFINITIONS.md with what the public clauses cite, and docs/WRONG_BODIES.md with the edits and tests.
+docs:
+	@status=0; for check in definitions wrong_bodies; do python3 -B tools/check_$$check.py || status=1; done; exit $$status

@@ -10,7 +10,17 @@ use std::env;
 use std::process::ExitCode;
 
 /// What `--help` writes.
-const HELP: &[u8] = b"usage: relation_server PID KEY\n";
+const HELP: &[u8] = b"usage: relation_server PID KEY
+
+Serves its relations (shifts, wide and none) to one client that speaks PostgreSQL's protocol. The client's bytes come
+on standard input, and the replies go to standard output.
+
+  PID  the process id that the client is told: 1 to 2147483647, in decimal
+  KEY  the secret key that the client is told with it: eight hexadecimal digits
+       (A client names both to cancel a query from another connection.)
+
+Example: relation_server 7 01020304 < crates/server/stdin | xxd
+";
 
 /// What `--version` writes.
 const VERSION: &[u8] = b"relation_server 0.1.0\n";
