@@ -1,10 +1,12 @@
-//! Rows of conversations, as data on standard input: each is served by `serve_relations_on`, and a line tells whether
+//! Rows of conversations, as data on standard input: each is served by `serve_relations_on`, and where a row needs no
+//! more by the program's call `run_rows` too. A line tells whether
 //! its replies, its end and its registry calls are the ones that the row expects. The head of `stdin` has the format.
 #![tactic(auto)]
 
 mod counting;
 mod fault;
 mod message;
+mod program;
 mod row;
 mod serving;
 mod verdict;

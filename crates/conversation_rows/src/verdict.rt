@@ -1,4 +1,5 @@
 use crate::fault::Fault;
+use crate::program;
 use crate::row::{answered_by, messages_of, number_told, numbers_of, told, told_by};
 use crate::serving::{Outcome, Plan, Reads, serve};
 use pg_session::{DeskCall, EndKind, ServeError};
@@ -31,7 +32,7 @@ fn judge_told<'t>(
         return Ok(Some(difference));
     }
     match told(lines, "writes") {
-        None => Ok(None),
+        None => program::differs(alloc, lines, client),
         Some(lengths) => has_lengths(alloc, &outcome, lengths),
     }
 }

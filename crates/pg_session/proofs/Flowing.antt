@@ -1,5 +1,5 @@
 -- Bytes that went through an outbox, and then more.
-use Rattle.std.proofs.Common.{◌≡◌, ℕ, ◌+◌, ◌≤◌, ◌<◌, List, [], ◌∷◌, ◌++◌, Option, Some, None, IfSome, refl, sym, ap, subst, ◌∙◌, append_assoc, append-nil, arith}
+use Rattle.std.proofs.Common.{◌≡◌, ℕ, List, [], ◌++◌, Option, Some, None, refl, sym, ap, subst, ◌∙◌, append_assoc, append-nil}
 use Rattle.pg_session.specs.Streams.{GrowsBy, GrowsByFront, BeginsWith}
 use Rattle.pg_session.specs.Steps.{Flows, GrowsByFrontOf}
 

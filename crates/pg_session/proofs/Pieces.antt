@@ -6,7 +6,6 @@ use Rattle.pg_messages.specs.Frames.{DividesInto, IsFrame, awaits_startup_after,
 use Rattle.pg_messages.specs.Replies.{replies_bytes}
 use Rattle.pg_session.specs.declared.desk.DeskCall.{DeskCall}
 use Rattle.pg_session.specs.declared.desk.DeskCall.TheVariants as desk
-use Rattle.pg_session.specs.declared.ends.EndKind.{EndKind}
 use Rattle.pg_session.specs.Answer.{Answer, Table, Next, Goes, Ends, Stops, answers_of, left_by, conversation, continued, joined}
 use Rattle.pg_session.specs.Run.{Rules, IsFed}
 use Rattle.pg_session.proofs.ReplyBytes.{replies_bytes-append}

@@ -1,5 +1,5 @@
 -- Texts and bytes of replies.
-use Rattle.std.proofs.Common.{◌≡◌, ℕ, List, [], ◌∷◌, ◌++◌, length, codes, refl, sym, ap, ◌∙◌, append_assoc, append-nil, map, subst}
+use Rattle.std.proofs.Common.{◌≡◌, ℕ, List, [], ◌∷◌, ◌++◌, length, codes, sym, ap, ◌∙◌, append_assoc, append-nil, map, subst}
 use Rattle.std.proofs.lemmas.Grind.{flat_map-append}
 use Rattle.pg_messages.specs.Replies.{reply_bytes, replies_bytes}
 use Rattle.pg_messages.specs.declared.backend.PgWireBackendMessage.{PgWireBackendMessage}

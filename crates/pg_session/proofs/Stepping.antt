@@ -1,20 +1,18 @@
 -- One step of a session, and what is served step by step.
-use Rattle.std.proofs.Common.{◌≡◌, ◌≢◌, ℕ, Bool, true, false, cond, List, [], ◌∷◌, ◌++◌, Option, Some, None, Result, Ok, Err, OnOk, OnErr, IsTrue, refl, sym, ap, subst, ◌∙◌, append-nil, append_assoc}
+use Rattle.std.proofs.Common.{◌≡◌, ◌≢◌, ℕ, Bool, List, [], ◌∷◌, ◌++◌, Option, Some, None, Result, Ok, Err, OnErr, refl, sym, ap, subst, ◌∙◌, append-nil, append_assoc}
 use Rattle.pg_messages.specs.declared.frontend.PgWireFrontendMessage.{PgWireFrontendMessage}
-use Rattle.pg_messages.specs.declared.frontend.PgWireFrontendMessage.TheVariants as client
-use Rattle.pg_messages.specs.Frames.{IsFrame, DividesInto, context_after, awaits_startup_after}
+use Rattle.pg_messages.specs.Frames.{IsFrame, DividesInto}
 use Rattle.pg_messages.specs.Replies.{replies_bytes}
-use Rattle.pg_messages.specs.declared.codec.DecodeContext.{DecodeContext}
 use Rattle.pg_session.specs.declared.desk.DeskCall.{DeskCall}
 use Rattle.pg_session.specs.declared.ends.EndKind.{EndKind}
 use Rattle.pg_session.specs.declared.ends.EndKind.TheVariants as end
 use Rattle.pg_session.specs.declared.ends.Progress.{Progress}
 use Rattle.pg_session.specs.declared.ends.Progress.TheVariants as progress
-use Rattle.pg_session.specs.Answer.{Answer, Table, Next, Goes, Ends, Stops, answers_of, conversation, joined}
+use Rattle.pg_session.specs.Answer.{Answer, Next, Goes, Ends, answers_of, joined}
 use Rattle.std.specs.Option.{option_map}
 use Rattle.pg_session.specs.Run.{Rules, IsFed}
-use Rattle.pg_session.specs.Streams.{GrowsByFront, BeginsWith}
-use Rattle.pg_session.specs.Steps.{Flows, AppendsReplies, IsAnswered, IsCutAnswer, IsServed, IsCutOff, StandsAfterStep, next_of}
+use Rattle.pg_session.specs.Streams.{GrowsByFront}
+use Rattle.pg_session.specs.Steps.{Flows, IsAnswered, IsCutAnswer, IsServed, IsCutOff, StandsAfterStep, next_of}
 use Rattle.pg_session.proofs.Pieces.{Lawful, IsFed-none, IsFed-one, IsFed-then, divides-then, one_piece, conversation-one}
 use Rattle.pg_session.proofs.ReplyBytes.{replies_bytes-append}
 use Rattle.pg_session.proofs.Flowing.{Flows-none, Flows-wait, Flows-then, cut_at_once, cut_after, GrowsByFront-then}

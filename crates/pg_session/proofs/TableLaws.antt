@@ -16,10 +16,9 @@ use Rattle.pg_session.specs.declared.store.Statement.{Statement}
 use Rattle.pg_session.specs.declared.store.Portal.{Portal}
 use Rattle.pg_session.specs.declared.state.SessionState.{SessionState}
 use Rattle.pg_session.specs.declared.desk.DeskCall.{DeskCall}
-use Rattle.pg_session.specs.declared.ends.EndKind.{EndKind}
 use Rattle.pg_session.specs.declared.ends.EndKind.TheVariants as end
 use Rattle.pg_session.specs.Answer.{Answer, Next, Goes, Ends, Stops, answers_of, left_by}
-use Rattle.pg_session.specs.Conversation.{Setting, protocol_3_0, protocol_3_2, says, ends, refuses, not_built, unsupported_version, startup_replies, on_startup, on_cancel_request, startup_row, parsed, bound, executed, start_calls, ready_row, built_row, awaiting_sync_row, on_sync, is_built, row, table, is_startup_phase, awaits, core_rules}
+use Rattle.pg_session.specs.Conversation.{Setting, protocol_3_0, protocol_3_2, says, ends, not_built, unsupported_version, startup_replies, on_cancel_request, startup_row, parsed, bound, executed, start_calls, ready_row, awaiting_sync_row, on_sync, is_built, row, is_startup_phase, awaits, core_rules}
 use Rattle.std.specs.FinMap as fin
 use Rattle.pg_messages.specs.declared.response.TransactionStatus.TheVariants as status
 use Rattle.pg_session.specs.Queries.{trimmed}

@@ -1,21 +1,19 @@
 -- Rows of the conversation table that were carried out.
-use Rattle.std.proofs.Common.{◌≡◌, ℕ, ◌+◌, ◌≤◌, Bool, false, List, [], ◌∷◌, ◌++◌, Option, Some, None, Result, Ok, Err, OnOk, length, codes, refl, sym, ap, subst, ◌∙◌, arith, length-append, append-nil}
+use Rattle.std.proofs.Common.{◌≡◌, ℕ, ◌+◌, ◌≤◌, Bool, false, List, [], ◌∷◌, ◌++◌, Option, Some, Result, Ok, Err, OnOk, length, refl, sym, ap, subst, ◌∙◌, arith, length-append, append-nil}
 use Rattle.pg_messages.specs.declared.extendedquery.Parse.{Parse}
 use Rattle.pg_messages.specs.declared.extendedquery.Bind.{Bind}
 use Rattle.pg_messages.specs.declared.extendedquery.Execute.{Execute}
-use Rattle.pg_messages.specs.declared.backend.PgWireBackendMessage.{PgWireBackendMessage}
 use Rattle.pg_messages.specs.declared.frontend.PgWireFrontendMessage.TheVariants as client
-use Rattle.pg_messages.specs.Frames.{IsFrame, parse_body, bind_body, execute_body, format_codes, parameter_value}
+use Rattle.pg_messages.specs.Frames.{IsFrame, format_codes, parameter_value}
 use Rattle.pg_messages.specs.Fields.{string, count16, count32, int32}
 use Rattle.pg_messages.specs.Status.{to_error_state}
 use Rattle.pg_messages.specs.declared.frontend.PgWireFrontendMessage.{PgWireFrontendMessage}
-use Rattle.pg_session.specs.declared.store.PgWireConnectionState.{PgWireConnectionState}
 use Rattle.pg_session.specs.declared.store.PgWireConnectionState.TheVariants as phase
 use Rattle.pg_session.specs.declared.ends.EndKind.TheVariants as end
 use Rattle.pg_session.specs.declared.state.SessionState.{SessionState}
 use Rattle.pg_session.specs.declared.desk.DeskCall.{DeskCall}
 use Rattle.pg_session.specs.Answer.{Answer, Table, Next, Goes, answers_of}
-use Rattle.pg_session.specs.Conversation.{Setting, error, refuses, says, startup_row}
+use Rattle.pg_session.specs.Conversation.{Setting, error, refuses, startup_row}
 use Rattle.pg_session.specs.declared.desk.DeskCall.TheVariants as desk
 use Rattle.pg_session.specs.declared.ends.EndKind.{EndKind}
 use Rattle.pg_messages.specs.declared.startup.CancelRequest.{CancelRequest}

@@ -13,7 +13,6 @@ use Rattle.pg_messages.specs.declared.frontend.PgWireFrontendMessage.{PgWireFron
 use Rattle.pg_messages.specs.declared.frontend.PgWireFrontendMessage.TheVariants as client
 use Rattle.pg_messages.specs.declared.data.DataRow.{DataRow}
 use Rattle.pg_messages.specs.declared.response.TransactionStatus.TheVariants as status
-use Rattle.pg_messages.specs.declared.response.ErrorInfo.{ErrorInfo}
 use Rattle.pg_messages.specs.declared.backend.PgWireBackendMessage.{PgWireBackendMessage}
 use Rattle.pg_messages.specs.declared.backend.PgWireBackendMessage.TheVariants as server
 use Rattle.pg_messages.specs.Status.{to_error_state}
@@ -21,7 +20,6 @@ use Rattle.pg_session.specs.declared.store.Statement.{Statement}
 use Rattle.pg_session.specs.declared.store.Portal.{Portal}
 use Rattle.pg_session.specs.declared.store.PortalExecutionState.{PortalExecutionState}
 use Rattle.pg_session.specs.declared.store.PortalExecutionState.TheVariants as portal
-use Rattle.pg_session.specs.declared.store.Store.{Store}
 use Rattle.pg_session.specs.declared.store.PgWireConnectionState.{PgWireConnectionState}
 use Rattle.pg_session.specs.declared.store.PgWireConnectionState.TheVariants as phase
 use Rattle.pg_session.specs.declared.state.SessionState.{SessionState}

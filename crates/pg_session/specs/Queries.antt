@@ -1,5 +1,5 @@
 -- What the text of a query means. Whitespace is the bytes 09 to 0D and 20.
-use Rattle.std.specs.Prelude.{ℕ, Bool, true, false, List, [], ◌∷◌, ◌==◌, ◌&&◌, ◌||◌, nat_le, if◌then◌else◌, reverse, codes, nat_eq}
+use Rattle.std.specs.Prelude.{ℕ, Bool, List, [], ◌∷◌, ◌==◌, ◌&&◌, ◌||◌, nat_le, if◌then◌else◌, reverse, codes}
 use Rattle.std.specs.Str.{str_eq_ignore_ascii_case}
 
 -- whitespace and semicolons, which count for nothing round a query

@@ -1,6 +1,6 @@
 -- What a clause reads of a session.
 use Rattle.std.specs.Prelude.{ℕ, Bool, List}
-use Rattle.pg_session.specs.declared.host.Host.{Host}
+use Rattle.pg_session.specs.declared.server.Host.{Host}
 use Rattle.pg_session.specs.declared.rows.FirstRows.{Ghosts}
 use Rattle.pg_session.specs.declared.session.Session.{Session}
 use Rattle.pg_session.specs.declared.state.SessionState.{SessionState}

@@ -1,5 +1,5 @@
 -- What messages do to a session: the outbox and the registry's calls grow by their answer, and the state is the next one.
-use Rattle.std.specs.Prelude.{ℕ, ℤ, Bool, true, false, List, ◌++◌, ◌≡◌, ◌≢◌, ◌<◌, Option, Some, None}
+use Rattle.std.specs.Prelude.{ℕ, ℤ, Bool, List, ◌++◌, ◌≡◌, ◌≢◌, ◌<◌, Option, Some, None}
 use Rattle.std.specs.FinMap as fin
 use Rattle.std.specs.Arc.{arc_value}
 use Rattle.pg_messages.specs.declared.data.DataRow.{DataRow}
@@ -10,13 +10,13 @@ use Rattle.pg_messages.specs.Replies.{replies_bytes}
 use Rattle.pg_session.specs.declared.store.Statement.{Statement}
 use Rattle.pg_session.specs.declared.store.Portal.{Portal}
 use Rattle.pg_session.specs.declared.store.Store.{Store}
-use Rattle.pg_session.specs.declared.host.Host.{Host}
+use Rattle.pg_session.specs.declared.server.Host.{Host}
 use Rattle.pg_session.specs.declared.desk.DeskCall.{DeskCall}
 use Rattle.pg_session.specs.declared.ends.EndKind.{EndKind}
 use Rattle.pg_session.specs.declared.ends.EndKind.TheVariants as end
 use Rattle.pg_session.specs.declared.ends.Progress.{Progress}
 use Rattle.pg_session.specs.declared.ends.Progress.TheVariants as progress
-use Rattle.pg_session.specs.Answer.{Answer, Table, Next, Goes, Ends, Stops, answers_of, conversation}
+use Rattle.pg_session.specs.Answer.{Answer, Table, Next, Goes, Ends, answers_of, conversation}
 use Rattle.pg_session.specs.Conversation.{Told, Setting}
 use Rattle.pg_session.specs.Streams.{BeginsWith, GrowsBy, GrowsByFront}
 use Rattle.pg_session.specs.Run.{Rules, IsFed, EndsWith}

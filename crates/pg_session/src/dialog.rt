@@ -9,9 +9,9 @@ ghost use Rattle.pg_session.specs.Steps.{Flows, IsGoodStore, IsServed, IsCutOff,
 
 use crate::desk::CancelDesk;
 use crate::ends::{EndKind, Progress, ServeError};
-use crate::host::Host;
 use crate::outbox::{CHUNK, Outbox};
 use crate::rows::FirstRows;
+use crate::server::Host;
 use crate::state::SessionState;
 use crate::streams::Sink;
 use bytes::BytesMut;

@@ -4,13 +4,14 @@
 mod desk;
 mod dialog;
 mod ends;
-mod host;
+mod extended;
 mod outbox;
 mod query;
-mod replies;
 mod rows;
-mod rules;
+mod send;
+mod server;
 mod session;
+mod startup;
 mod state;
 mod store;
 mod streams;

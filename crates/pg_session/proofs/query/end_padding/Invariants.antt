@@ -1,4 +1,4 @@
-use Rattle.std.proofs.Common.{◌≡◌, ◌≤◌, ◌-◌, length, take}
+use Rattle.std.proofs.Common.{◌≡◌, ◌≤◌, length, take}
 use Rattle.std.specs.Str.{IsCharBoundary}
 use Rattle.pg_session.specs.Queries.{without_end_padding}
 use Rattle.pg_session.proofs.query.end_padding.Given as goal

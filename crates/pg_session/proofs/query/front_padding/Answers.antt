@@ -1,6 +1,6 @@
-use Rattle.std.proofs.Common.{refl, ◌∙◌, sym, ap, arith, ◌<◌, length, get_or, ◌≡◌, true, take, drop}
+use Rattle.std.proofs.Common.{refl, ◌∙◌, sym, arith, ◌<◌, length, get_or, ◌≡◌, true}
 use Rattle.std.proofs.lemmas.Str.{IsCharBoundary-start, IsCharBoundary-after_ascii}
-use Rattle.pg_session.proofs.Padding.{front_step, front_stop, padding_below_128}
+use Rattle.pg_session.proofs.Padding.{front_step, padding_below_128}
 use Rattle.pg_session.specs.Queries.{is_padding}
 use Rattle.pg_session.proofs.query.front_padding.Goals as goal
 

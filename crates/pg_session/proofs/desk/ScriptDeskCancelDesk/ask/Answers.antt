@@ -1,4 +1,4 @@
-use Rattle.std.proofs.Common.{◌≡◌, ◌++◌, [], ◌∷◌, drop, sym, ap, subst, ◌∙◌, rules}
+use Rattle.std.proofs.Common.{◌≡◌, ◌++◌, [], ◌∷◌, drop, sym, ap, subst, rules}
 use Rattle.pg_session.specs.declared.desk.DeskCall.TheVariants as desk
 use Rattle.pg_session.specs.Script.{first_or_no, IsScripted}
 use Rattle.pg_session.proofs.Scripts.{scripted_used}

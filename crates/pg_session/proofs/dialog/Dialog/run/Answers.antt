@@ -1,4 +1,4 @@
-use Rattle.std.proofs.Common.{[], ◌≡◌, ◌∙◌, subst, refl, arith}
+use Rattle.std.proofs.Common.{[], ◌∙◌, subst, refl, arith}
 use Rattle.pg_session.specs.Conversation.{awaits, core_rules}
 use Rattle.pg_session.specs.Steps.{StandsAfterStep, host_setting}
 use Rattle.pg_session.proofs.Flowing.{Flows-sent}

@@ -1,4 +1,4 @@
-use Rattle.std.proofs.Common.{◌≡◌, ◌++◌, ◌∙◌, [], List, ℕ, Bool, Err, None, sym, ap, subst, refl}
+use Rattle.std.proofs.Common.{◌≡◌, Err, sym, ap, subst, refl}
 use Rattle.pg_messages.specs.Frames.{IsFrame, IsUnfinished, IsBad}
 use Rattle.pg_session.specs.Answer.{Goes}
 use Rattle.pg_session.specs.Conversation.{awaits, core_rules}

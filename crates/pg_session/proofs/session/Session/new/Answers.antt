@@ -3,7 +3,6 @@ use Rattle.pg_messages.specs.declared.response.TransactionStatus.TheVariants as 
 use Rattle.pg_session.specs.declared.store.PgWireConnectionState.TheVariants as phase
 use Rattle.pg_session.specs.Answer.{Goes}
 use Rattle.pg_session.specs.Conversation.{core_rules, first_state}
-use Rattle.std.specs.Arc.{arc_value}
 use Rattle.pg_session.proofs.Stepping.{serves_none, serves_to}
 use Rattle.std.specs.FinMap as fin
 use Rattle.pg_session.specs.Steps.{IsGoodStore, setting_of}
