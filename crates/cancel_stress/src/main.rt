@@ -8,38 +8,47 @@ mod crowd;
 mod plain;
 mod worker;
 
-use crowd::{stressed, timed};
+use crowd::{Told, stressed, timed};
+use std::alloc::Global;
 use std::{env, io};
 
 fn main(rt: HostRuntime) -> io::Result<()> {
+    let [calls, entries, each] = numbers_of(env::args(&rt)?);
+    if calls > 0 {
+        return match stressed(&rt, rt.alloc(), calls) {
+            Some(told) => tell(&rt, calls, told),
+            None => println!(rt; "no memory"),
+        };
+    }
+    for threads in [1, 2, 4, 8] {
+        let told = timed(&rt, rt.alloc(), threads, entries, each)?;
+        println!(rt; "{threads} threads: {told} ns a call")?;
+    }
+    Ok(())
+}
+
+/// The numbers after the program's name, 0 where there is none.
+fn numbers_of(words: env::Args<Global>) -> [u64; 3] {
     let mut numbers = [0, 0, 0];
-    for (place, word) in env::args(&rt)?.enumerate() {
+    for (place, word) in words.enumerate() {
         if place > 0 && place < 4 {
             numbers[place - 1] = word.as_str().parse::<u64>().unwrap_or(0);
         }
     }
-    let [calls, entries, each] = numbers;
-    if calls == 0 {
-        for threads in [1, 2, 4, 8] {
-            let told = timed(&rt, rt.alloc(), threads, entries, each)?;
-            println!(rt; "{threads} threads: {told} ns a call")?;
-        }
-        return Ok(());
-    }
-    let Some(told) = stressed(&rt, rt.alloc(), calls) else {
-        println!(rt; "no memory")?;
-        return Ok(());
-    };
+    numbers
+}
+
+fn tell(rt: &impl Print, calls: u64, told: Told) -> io::Result<()> {
+    let counts = told.counts;
     println!(rt; "calls of each thread {calls}")?;
     println!(rt;
         "cancels by pid and key {}, true {}",
-        told.counts.right, told.counts.hits
+        counts.right, counts.hits
     )?;
     println!(rt;
         "cancels by another key {}, true {}",
-        told.counts.wrong, told.counts.misses
+        counts.wrong, counts.misses
     )?;
     println!(rt; "entries {}", told.entries)?;
-    println!(rt; "legal {}", told.legal)?;
-    Ok(())
+    println!(rt; "legal {}", told.legal)
 }
