@@ -67,10 +67,7 @@ fn key_data(alloc: Global, parts: &[&str]) -> Option<PgWireBackendMessage> {
         return None;
     };
     let secret_key = [*a, *b, *c, *d];
-    Some(PgWireBackendMessage::BackendKeyData(BackendKeyData {
-        pid,
-        secret_key,
-    }))
+    Some(PgWireBackendMessage::BackendKeyData(BackendKeyData { pid, secret_key }))
 }
 
 fn setting(alloc: Global, parts: &[&str]) -> Made {
@@ -94,9 +91,7 @@ fn done(alloc: Global, parts: &[&str]) -> Made {
     let Some(tag) = text_of(alloc, tag)? else {
         return Ok(None);
     };
-    Ok(Some(PgWireBackendMessage::CommandComplete(
-        CommandComplete { tag },
-    )))
+    Ok(Some(PgWireBackendMessage::CommandComplete(CommandComplete { tag })))
 }
 
 fn error(alloc: Global, parts: &[&str]) -> Made {
@@ -113,9 +108,7 @@ fn error(alloc: Global, parts: &[&str]) -> Made {
         return Ok(None);
     };
     let info = ErrorInfo::new(severity, code, message);
-    Ok(Some(PgWireBackendMessage::ErrorResponse(ErrorResponse {
-        info,
-    })))
+    Ok(Some(PgWireBackendMessage::ErrorResponse(ErrorResponse { info })))
 }
 
 fn types(alloc: Global, parts: &[&str]) -> Made {

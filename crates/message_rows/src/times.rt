@@ -13,7 +13,7 @@ use std::alloc::{AllocError, Global};
 use std::io;
 use std::time::{Clock, Instant};
 
-/// Prints the nanoseconds of each row's frame or reply, over so many, and of a frame of each stream.
+/// Prints the nanoseconds of each row's good frame or reply, over so many, and of a frame of each stream.
 pub fn time_rows(rt: &HostRuntime, count: u32, rows: &str) -> io::Result<()> {
     for line in rows.lines() {
         if let Some((name, row)) = line.split_once(": ") {
@@ -53,7 +53,10 @@ fn time_frames(
     let start = Instant::now(rt)?;
     let found = decoded(rt.alloc(), awaiting, count, &mut src);
     let nanoseconds = start.elapsed(rt)?.as_nanos();
-    println!(rt; "decode {name}: {} ns", nanoseconds / u128::from(found.max(1)))
+    if found == 0 {
+        return Ok(());
+    }
+    println!(rt; "decode {name}: {} ns", nanoseconds / u128::from(found))
 }
 
 /// Takes frames off the bytes, at most so many, and tells how many there were.
@@ -86,7 +89,10 @@ fn time_replies(
     let start = Instant::now(rt)?;
     encoded(rt.alloc(), count, &reply)?;
     let nanoseconds = start.elapsed(rt)?.as_nanos();
-    println!(rt; "encode {name}: {} ns", nanoseconds / u128::from(count.max(1)))
+    println!(rt;
+        "encode {name}: {} ns",
+        nanoseconds / u128::from(count.max(1))
+    )
 }
 
 fn encoded(alloc: Global, count: u32, reply: &PgWireBackendMessage) -> Result<(), AllocError>
