@@ -32,7 +32,7 @@ startup_read code body (client.Startup m) h =
       | inr u ↦
           let other : (k : ℕ) → m.code ≢ k → eqb code k ≡ false = λ k apart. eqb-apart code k (λ e. apart (sym h.0 ∙ e)) in
           rw (other 196608 u.unknown.0, other 196610 u.unknown.1.0, other 80877102 u.unknown.1.1.0, other 80877103 u.unknown.1.1.1.0, other 80877104 u.unknown.1.1.1.1.0)
-              (λ i. Some (client.Startup (record { code = h.0 i; parameters = sym u.parameters i })))
+          (λ i. Some (client.Startup (record { code = h.0 i; parameters = sym u.parameters i })))
     ]
 startup_read code body (client.SslNegotiation PostgresSsl) h = rw (h.0, h.1) refl
 startup_read code body (client.SslNegotiation PostgresGss) h = rw (h.0, h.1) refl
@@ -104,14 +104,22 @@ startup_carried code body m small fits e =
     let C : ℕ → PgWireFrontendMessage → Type 0 = λ k n. Carries true k body n in
     let packet : (k : ℕ) → (k ≡ 196608) ⊎ (k ≡ 196610) → (n : PgWireFrontendMessage) → told_as (startup_packet k) (whole (all_parameters_at body)) ≡ Some n → C k n =
     λ k spoken. told_takes (λ ps. AllByRecursion IsParameter ps) parameters_bytes all_parameters_at Reads-parameters (startup_packet k) (C k) body fits
-        (λ ps layout good. (refl, inl (record { code = spoken; layout = layout; parameters = good }))) in
+    (λ ps layout good. (refl, inl (record { code = spoken; layout = layout; parameters = good }))) in
     elim (found_beside C code (Some (startup_packet code [])) (startup_readings body) m e (
       packet 196608 (inl refl),
-      (packet 196610 (inr refl),
-      (told_takes IsCancel cancel_body cancel_at Reads-cancel client.CancelRequest (C 80877102) body fits (λ x layout good. (refl, layout, good)),
-      (bare_takes body (client.SslNegotiation PostgresSsl) (C 80877103) (λ empty. (refl, empty)),
-      (bare_takes body (client.SslNegotiation PostgresGss) (C 80877104) (λ empty. (refl, empty)),
-      tt)))),
+      (
+        packet 196610 (inr refl),
+        (
+          told_takes IsCancel cancel_body cancel_at Reads-cancel client.CancelRequest (C 80877102) body fits (λ x layout good. (refl, layout, good)),
+          (
+            bare_takes body (client.SslNegotiation PostgresSsl) (C 80877103) (λ empty. (refl, empty)),
+            (
+              bare_takes body (client.SslNegotiation PostgresGss) (C 80877104) (λ empty. (refl, empty)),
+              tt,
+            ),
+          ),
+        ),
+      ),
     )) [
       | inl h ↦ h
       | inr h ↦ subst (C code) (same_Some (startup_packet code []) m h.0) (refl, inr (record { code = small; unknown = h.1; parameters = refl }))
@@ -123,18 +131,40 @@ typed_carried kind body m fits e =
     let C : ℕ → PgWireFrontendMessage → Type 0 = λ k n. Carries false k body n in
     elim (found_beside C kind None (typed_readings body) m e (
       told_takes IsQuery query_body query_at Reads-query client.Query (C 81) body fits (λ x layout good. (refl, layout, good)),
-      (told_takes IsParse parse_body parse_at Reads-parse client.Parse (C 80) body fits (λ x layout good. (refl, layout, good)),
-      (told_takes IsBind bind_body bind_at Reads-bind client.Bind (C 66) body fits (λ x layout good. (refl, layout, good)),
-      (told_takes IsDescribe describe_body describe_at Reads-describe client.Describe (C 68) body fits (λ x layout good. (refl, layout, good)),
-      (told_takes IsExecute execute_body execute_at Reads-execute client.Execute (C 69) body fits (λ x layout good. (refl, layout, good)),
-      (told_takes IsClose close_body close_at Reads-close client.Close (C 67) body fits (λ x layout good. (refl, layout, good)),
-      ((λ n told. subst (C 100) (same_Some (client.CopyData (record { payload = body })) n told) (refl, refl)),
-      (told_takes IsCopyFail copy_fail_body copy_fail_at Reads-copy_fail client.CopyFail (C 102) body fits (λ x layout good. (refl, layout, good)),
-      (bare_takes body (client.Flush (record { })) (C 72) (λ empty. (refl, empty)),
-      (bare_takes body (client.PgSync (record { })) (C 83) (λ empty. (refl, empty)),
-      (bare_takes body (client.Terminate (record { })) (C 88) (λ empty. (refl, empty)),
-      (bare_takes body (client.CopyDone (record { })) (C 99) (λ empty. (refl, empty)),
-      tt))))))))))),
+      (
+        told_takes IsParse parse_body parse_at Reads-parse client.Parse (C 80) body fits (λ x layout good. (refl, layout, good)),
+        (
+          told_takes IsBind bind_body bind_at Reads-bind client.Bind (C 66) body fits (λ x layout good. (refl, layout, good)),
+          (
+            told_takes IsDescribe describe_body describe_at Reads-describe client.Describe (C 68) body fits (λ x layout good. (refl, layout, good)),
+            (
+              told_takes IsExecute execute_body execute_at Reads-execute client.Execute (C 69) body fits (λ x layout good. (refl, layout, good)),
+              (
+                told_takes IsClose close_body close_at Reads-close client.Close (C 67) body fits (λ x layout good. (refl, layout, good)),
+                (
+                  (λ n told. subst (C 100) (same_Some (client.CopyData (record { payload = body })) n told) (refl, refl)),
+                  (
+                    told_takes IsCopyFail copy_fail_body copy_fail_at Reads-copy_fail client.CopyFail (C 102) body fits (λ x layout good. (refl, layout, good)),
+                    (
+                      bare_takes body (client.Flush (record {})) (C 72) (λ empty. (refl, empty)),
+                      (
+                        bare_takes body (client.PgSync (record {})) (C 83) (λ empty. (refl, empty)),
+                        (
+                          bare_takes body (client.Terminate (record {})) (C 88) (λ empty. (refl, empty)),
+                          (
+                            bare_takes body (client.CopyDone (record {})) (C 99) (λ empty. (refl, empty)),
+                            tt,
+                          ),
+                        ),
+                      ),
+                    ),
+                  ),
+                ),
+              ),
+            ),
+          ),
+        ),
+      ),
     )) [
       | inl h ↦ h
       | inr h ↦ absurd (none-some m h.0)

@@ -7,3 +7,4 @@ pub mod KindLaws
 pub mod FrameLaws
 pub mod OneReading
 pub mod Texts
+pub mod RowBytes

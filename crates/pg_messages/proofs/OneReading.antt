@@ -140,13 +140,18 @@ bad_more awaiting rest more b =
     let told = told_more awaiting rest more b.0 in
     let same = good_more awaiting rest more b.0 in
     let long : length rest ≤ length (rest ++ more) = omega (arith, length-append rest more) in
-    let T : Type 0 → Type 0 = λ t. t in
-    (omega (arith, b.0, long), elim b.1 [
-      | inl refused ↦ inl (λ good. refused (subst T same good))
-      | inr whole ↦
-          inr (subst T (sym same) whole.0, omega (arith, told, whole.1, long),
-              λ m f. whole.2 m (subst (λ (l : List ℕ). IsFrame awaiting l m) (ap (λ (n : ℕ). take n (rest ++ more)) told ∙ take-append-le (told_len awaiting rest) rest more whole.1) f))
-    ])
+    let T : Type 0 → Type 0 = λ t. t in (
+      omega (arith, b.0, long),
+      elim b.1 [
+        | inl refused ↦ inl (λ good. refused (subst T same good))
+        | inr whole ↦
+            inr (
+              subst T (sym same) whole.0,
+              omega (arith, told, whole.1, long),
+              λ m f. whole.2 m (subst (λ (l : List ℕ). IsFrame awaiting l m) (ap (λ (n : ℕ). take n (rest ++ more)) told ∙ take-append-le (told_len awaiting rest) rest more whole.1) f),
+            )
+      ],
+    )
 
 -- ---- there is a division
 

@@ -160,10 +160,10 @@ typed_readings body = (81, told_as client.Query (whole (query_at body)))
     ∷ (67, told_as client.Close (whole (close_at body)))
     ∷ (100, Some (client.CopyData (record { payload = body })))
     ∷ (102, told_as client.CopyFail (whole (copy_fail_at body)))
-    ∷ (72, bare body (client.Flush (record { })))
-    ∷ (83, bare body (client.PgSync (record { })))
-    ∷ (88, bare body (client.Terminate (record { })))
-    ∷ (99, bare body (client.CopyDone (record { }))) ∷ []
+    ∷ (72, bare body (client.Flush (record {})))
+    ∷ (83, bare body (client.PgSync (record {})))
+    ∷ (88, bare body (client.Terminate (record {})))
+    ∷ (99, bare body (client.CopyDone (record {}))) ∷ []
 
 -- while the startup packet is awaited by its code, afterwards by the type byte
 unfoldable pub message_at : Bool → ℕ → List ℕ → Option PgWireFrontendMessage

@@ -69,15 +69,11 @@ pub fn startup_message(
         80877102 => Ok(PgWireFrontendMessage::CancelRequest(whole(alloc, body)?)),
         80877103 => {
             empty(body)?;
-            Ok(PgWireFrontendMessage::SslNegotiation(
-                SslNegotiationKind::PostgresSsl,
-            ))
+            Ok(PgWireFrontendMessage::SslNegotiation(SslNegotiationKind::PostgresSsl))
         }
         80877104 => {
             empty(body)?;
-            Ok(PgWireFrontendMessage::SslNegotiation(
-                SslNegotiationKind::PostgresGss,
-            ))
+            Ok(PgWireFrontendMessage::SslNegotiation(SslNegotiationKind::PostgresGss))
         }
         _ => {
             let parameters = PgList::new(alloc);

@@ -1,27 +1,25 @@
 // Messages of the PostgreSQL frontend/backend protocol: their values, their bytes, and the frames of a stream.
 #![tactic(auto)]
 
-mod values;
-mod fields;
-mod put;
-mod startup;
-mod simplequery;
-mod extendedquery;
-mod data;
-mod response;
-mod copy;
-mod frontend;
 mod backend;
-mod headers;
-mod frames;
 mod codec;
+mod copy;
+mod data;
 mod division;
+mod extendedquery;
+mod fields;
+mod frames;
+mod frontend;
+mod headers;
+mod put;
+mod response;
+mod simplequery;
+mod startup;
+mod values;
 
 pub use backend::PgWireBackendMessage;
 pub use codec::{DecodeContext, FrameError, PgWireMessageServerCodec, ProtocolVersion};
-pub use copy::{
-    CopyBothResponse, CopyData, CopyDone, CopyFail, CopyInResponse, CopyOutResponse,
-};
+pub use copy::{CopyBothResponse, CopyData, CopyDone, CopyFail, CopyInResponse, CopyOutResponse};
 pub use data::{
     DataRow, FORMAT_CODE_BINARY, FORMAT_CODE_TEXT, FieldDescription, NoData, ParameterDescription,
     RowDescription,

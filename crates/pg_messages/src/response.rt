@@ -130,7 +130,10 @@ impl Put for ErrorInfo {
     fn byte_len(&self) -> u64 {
         let severity = self.severity.byte_len();
         let texts = self.code.byte_len().saturating_add(self.message.byte_len());
-        severity.saturating_add(severity).saturating_add(texts).saturating_add(5)
+        severity
+            .saturating_add(severity)
+            .saturating_add(texts)
+            .saturating_add(5)
     }
 
     fn put(&self, dst: &mut BytesMut) {

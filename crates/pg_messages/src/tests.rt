@@ -13,7 +13,10 @@ fn t_lists(rt: HostRuntime) -> Result<(), Fail> {
     assert_eq!(rt; text.as_str(), "span");
     assert!(rt; text < PgStr::copy_of(rt.alloc(), "spans")?);
     let bytes = PgBytes::copy_of(rt.alloc(), &[1, 0, 255])?;
-    assert_eq!(rt; PgBytes::from_vec(bytes.into_vec()).as_slice(), [1, 0, 255].as_slice());
+    assert_eq!(rt;
+        PgBytes::from_vec(bytes.into_vec()).as_slice(),
+        [1, 0, 255].as_slice()
+    );
     let mut list = PgList::new(rt.alloc());
     list.push(FORMAT_CODE_TEXT)?;
     list.push(FORMAT_CODE_BINARY)?;
@@ -22,42 +25,36 @@ fn t_lists(rt: HostRuntime) -> Result<(), Fail> {
     Ok(())
 }
 
-// Whether the bytes are one frame, and the message of it is the wanted one.
-fn is_one_frame(
-    alloc: Global,
-    awaiting_startup: bool,
-    bytes: &[u8],
-    is_wanted: fn(&PgWireFrontendMessage) -> bool,
-) -> Result<bool, Fail> {
-    let mut src = BytesMut::copy_from_slice(alloc, bytes)?;
+// The message of one frame.
+fn decoded(alloc: Global, awaiting_startup: bool, bytes: &[u8]) -> Option<PgWireFrontendMessage> {
+    let mut src = BytesMut::copy_from_slice(alloc, bytes).ok()?;
     let mut codec = PgWireMessageServerCodec::new();
     codec.context.awaiting_startup = awaiting_startup;
-    let Ok(Some(message)) = codec.decode(alloc, &mut src) else {
-        return Ok(false);
-    };
-    Ok(is_wanted(&message) && src.is_empty())
+    codec.decode(alloc, &mut src).ok()?
 }
 
 #[test]
 fn frames(rt: HostRuntime) -> Result<(), Fail> {
     let alloc = rt.alloc();
     let packet = b"\0\0\0\x13\0\x03\0\0user\0demo\0\0".as_slice();
-    assert!(rt; is_one_frame(alloc, true, packet, is_user)?);
+    assert!(rt; is_user(decoded(alloc, true, packet)));
     let bind = b"B\0\0\0\x15a\0b\0\0\x01\0\x01\0\x01\0\0\0\x01x\0\0".as_slice();
-    assert!(rt; is_one_frame(alloc, false, bind, is_bind)?);
+    assert!(rt; is_bind(decoded(alloc, false, bind)));
     Ok(())
 }
 
-fn is_user(message: &PgWireFrontendMessage) -> bool {
+fn is_user(message: Option<PgWireFrontendMessage>) -> bool {
     match message {
-        PgWireFrontendMessage::Startup(m) => m.code == 196608 && m.parameters.len() == 1,
+        Some(PgWireFrontendMessage::Startup(m)) => m.code == 196608 && m.parameters.len() == 1,
         _ => false,
     }
 }
 
-fn is_bind(message: &PgWireFrontendMessage) -> bool {
+fn is_bind(message: Option<PgWireFrontendMessage>) -> bool {
     match message {
-        PgWireFrontendMessage::Bind(m) => m.portal_name.as_str() == "a" && m.parameters.len() == 1,
+        Some(PgWireFrontendMessage::Bind(m)) => {
+            m.portal_name.as_str() == "a" && m.parameters.len() == 1
+        }
         _ => false,
     }
 }

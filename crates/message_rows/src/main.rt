@@ -1,0 +1,132 @@
+// Reads rows, each a frame or a reply under a name, and prints what the codec makes of it. The rows and what
+// they must give are in the files stdin and stdout; tools/message_rows.py tells the latter apart from this.
+//
+// A row is `NAME: PHASE PARTS`, where PHASE is `startup`, `typed` or the name of a reply, and the parts are
+// words (parts.rt). Any other line is printed as it is. The word COUNT, if there is one, asks for the times
+// of so many decodes and encodes of each row instead (times.rt).
+#![tactic(auto)]
+
+mod parts;
+mod replies;
+mod sendable;
+mod show;
+mod times;
+
+use bytes::{BufMut, BytesMut};
+use parts::bytes_of;
+use pg_messages::{FrameError, PgWireFrontendMessage, PgWireMessageServerCodec};
+use replies::reply_of;
+use sendable::is_encodable;
+use show::{show_bytes, show_message};
+use std::alloc::{AllocError, Global};
+use std::{env, io};
+use times::time_rows;
+
+fn main(rt: HostRuntime) -> io::Result<()> {
+    let text = io::read_to_string(rt.alloc(), rt.reader())?;
+    let mut words = env::args(&rt)?;
+    let _program = words.next();
+    if let Some(word) = words.next() {
+        let count = word.as_str().parse::<u32>().unwrap_or(1);
+        return time_rows(&rt, count, text.as_str());
+    }
+    for line in text.as_str().lines() {
+        match line.split_once(": ") {
+            Some((name, row)) => answer_row(&rt, name, row)?,
+            None => println!(rt; "{line}")?,
+        }
+    }
+    Ok(())
+}
+
+/// Prints what the codec makes of a row.
+fn answer_row(rt: &HostRuntime, name: &str, row: &str) -> io::Result<()> {
+    let words = words_of(rt.alloc(), row)?;
+    print!(rt; "{name}: ")?;
+    match words.as_slice() {
+        ["startup", parts @ ..] => answer_frame(rt, true, parts),
+        ["typed", parts @ ..] => answer_frame(rt, false, parts),
+        [kind, parts @ ..] => answer_reply(rt, kind, parts),
+        [] => println!(rt; "no row"),
+    }
+}
+
+fn words_of(alloc: Global, row: &str) -> Result<Vec<&str>, AllocError> {
+    let mut words = Vec::new(alloc);
+    for word in row.split_whitespace() {
+        words.push(word)?;
+    }
+    Ok(words)
+}
+
+/// Prints the first answer that isn't None while the bytes come one by one, and how many had come; and what
+/// is left where they all come at once.
+fn answer_frame(rt: &HostRuntime, awaiting: bool, parts: &[&str]) -> io::Result<()> {
+    let Some(bytes) = bytes_of(rt.alloc(), parts)? else {
+        return println!(rt; "not of the form");
+    };
+    let all = bytes.as_slice();
+    let count = answered_at(rt.alloc(), awaiting, all)?;
+    let (front, _) = all.split_at(count.min(all.len()));
+    let mut src = BytesMut::copy_from_slice(rt.alloc(), front)?;
+    show_answer(rt, codec_at(awaiting).decode(rt.alloc(), &mut src))?;
+    print!(rt; " at {count}")?;
+    let mut src = BytesMut::copy_from_slice(rt.alloc(), all)?;
+    let kind = is_frame(codec_at(awaiting).decode(rt.alloc(), &mut src));
+    println!(rt; ", at once {kind} with {} left", src.len())
+}
+
+fn codec_at(awaiting_startup: bool) -> PgWireMessageServerCodec {
+    let mut codec = PgWireMessageServerCodec::new();
+    codec.context.awaiting_startup = awaiting_startup;
+    codec
+}
+
+/// How many bytes, one by one, have come at the first answer that isn't None.
+fn answered_at(alloc: Global, awaiting: bool, bytes: &[u8]) -> Result<usize, AllocError> {
+    let mut src = BytesMut::new(alloc);
+    let mut codec = codec_at(awaiting);
+    for byte in bytes {
+        src.put_u8(*byte)?;
+        let before = src.len();
+        if !is_none(codec.decode(alloc, &mut src)) {
+            return Ok(before);
+        }
+    }
+    Ok(bytes.len())
+}
+
+fn is_none(answer: Result<Option<PgWireFrontendMessage>, FrameError>) -> bool {
+    matches!(answer, Ok(None))
+}
+
+fn is_frame(answer: Result<Option<PgWireFrontendMessage>, FrameError>) -> bool {
+    matches!(answer, Ok(Some(_)))
+}
+
+fn show_answer(
+    rt: &HostRuntime,
+    answer: Result<Option<PgWireFrontendMessage>, FrameError>,
+) -> io::Result<()> {
+    match answer {
+        Ok(Some(message)) => show_message(rt, &message),
+        Ok(None) => print!(rt; "unfinished"),
+        Err(FrameError::Bad) => print!(rt; "bad"),
+        Err(FrameError::NoMemory) => print!(rt; "no memory"),
+    }
+}
+
+/// Prints the bytes of a reply behind one that is there already.
+fn answer_reply(rt: &HostRuntime, kind: &str, parts: &[&str]) -> io::Result<()> {
+    let Some(reply) = reply_of(rt.alloc(), kind, parts)? else {
+        return println!(rt; "not of the form");
+    };
+    if !is_encodable(&reply) {
+        return println!(rt; "body {}, cannot be sent", reply.body_len());
+    }
+    let mut dst = BytesMut::copy_from_slice(rt.alloc(), b"<")?;
+    PgWireMessageServerCodec::new().encode(&reply, &mut dst)?;
+    print!(rt; "body {},", reply.body_len())?;
+    show_bytes(rt, dst.as_slice())?;
+    println!(rt;)
+}

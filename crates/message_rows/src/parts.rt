@@ -1,0 +1,93 @@
+//! Bytes, texts and numbers from the words of a row.
+//!
+//! - `xHEX`: these bytes; `'TEXT`: the text, where `_` is a space; `h:N` and `i:N`: Int16 and Int32.
+//! - `N*PART`: the part N times.
+
+use pg_messages::{PgList, PgStr};
+use std::alloc::{AllocError, Global};
+use std::str::FromStr;
+
+/// The bytes that the words spell; None where one is not of the form.
+pub fn bytes_of(alloc: Global, words: &[&str]) -> Result<Option<Vec<u8>>, AllocError> {
+    let mut bytes = Vec::new(alloc);
+    for word in words {
+        let (times, part) = times_and_part(word);
+        for _ in 0..times {
+            if !put_part(alloc, part, &mut bytes)? {
+                return Ok(None);
+            }
+        }
+    }
+    Ok(Some(bytes))
+}
+
+/// How many times a word says its part, and the part.
+pub fn times_and_part(word: &str) -> (u32, &str) {
+    if let Some((count, part)) = word.split_once("*") {
+        if let Ok(times) = count.parse::<u32>() {
+            return (times, part);
+        }
+    }
+    (1, word)
+}
+
+/// Appends the bytes of a part; false where it is not of the form.
+fn put_part(alloc: Global, part: &str, bytes: &mut Vec<u8>) -> Result<bool, AllocError> {
+    if let Some(text) = part.strip_prefix("'") {
+        for byte in text.as_bytes() {
+            bytes.push(if *byte == b'_' { b' ' } else { *byte })?;
+        }
+        return Ok(true);
+    }
+    if let Some(digits) = part.strip_prefix("x") {
+        let Ok(given) = hex::decode(alloc, digits) else {
+            return Ok(false);
+        };
+        bytes.extend_from_slice(given.as_slice())?;
+        return Ok(true);
+    }
+    if let Some(number) = part.strip_prefix("h:") {
+        let Ok(number) = number.parse::<i16>() else {
+            return Ok(false);
+        };
+        bytes.extend_from_slice(&number.to_be_bytes())?;
+        return Ok(true);
+    }
+    let Some(Ok(number)) = part.strip_prefix("i:").map(|n| n.parse::<i32>()) else {
+        return Ok(false);
+    };
+    bytes.extend_from_slice(&number.to_be_bytes())?;
+    Ok(true)
+}
+
+/// The text of a word.
+pub fn text_of(alloc: Global, word: &str) -> Result<Option<PgStr>, AllocError> {
+    let Some(bytes) = bytes_of(alloc, &[word])? else {
+        return Ok(None);
+    };
+    match str::from_utf8(bytes.as_slice()) {
+        Ok(text) => Ok(Some(PgStr::copy_of(alloc, text)?)),
+        Err(_) => Ok(None),
+    }
+}
+
+/// The numbers of words, `N*NUMBER` N times.
+pub fn numbers_of<T: FromStr + Copy>(
+    alloc: Global,
+    words: &[&str],
+) -> Result<Option<PgList<T>>, AllocError>
+where
+    <T as FromStr>::Err: Drop,
+{
+    let mut numbers = PgList::new(alloc);
+    for word in words {
+        let (times, part) = times_and_part(word);
+        let Ok(number) = part.parse::<T>() else {
+            return Ok(None);
+        };
+        for _ in 0..times {
+            numbers.push(number)?;
+        }
+    }
+    Ok(Some(numbers))
+}

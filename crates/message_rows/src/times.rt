@@ -1,0 +1,135 @@
+//! How long the codec takes: each frame of the rows decoded, each reply encoded, and a stream of frames.
+
+ghost use Rattle.std.specs.Prelude.{◌<◌};
+ghost use Rattle.pg_messages.specs.Replies.{IsEncodable};
+
+use crate::parts::bytes_of;
+use crate::replies::reply_of;
+use crate::sendable::is_encodable;
+use crate::{codec_at, is_frame, words_of};
+use bytes::BytesMut;
+use pg_messages::{PgWireBackendMessage, PgWireMessageServerCodec};
+use std::alloc::{AllocError, Global};
+use std::io;
+use std::time::{Clock, Instant};
+
+/// Prints the nanoseconds of each row's good frame or reply, over so many, and of a frame of each stream.
+pub fn time_rows(rt: &HostRuntime, count: u32, rows: &str) -> io::Result<()> {
+    for line in rows.lines() {
+        if let Some((name, row)) = line.split_once(": ") {
+            time_row(rt, count, name, row)?;
+        }
+    }
+    for (piece, megabytes) in [(8192, 1), (8192, 10), (1, 1), (1, 10)] {
+        time_stream(rt, piece, megabytes)?;
+    }
+    Ok(())
+}
+
+fn time_row(rt: &HostRuntime, count: u32, name: &str, row: &str) -> io::Result<()> {
+    let words = words_of(rt.alloc(), row)?;
+    match words.as_slice() {
+        ["startup", parts @ ..] => time_frames(rt, count, name, true, parts),
+        ["typed", parts @ ..] => time_frames(rt, count, name, false, parts),
+        [kind, parts @ ..] => time_replies(rt, count, name, kind, parts),
+        [] => Ok(()),
+    }
+}
+
+fn time_frames(
+    rt: &HostRuntime,
+    count: u32,
+    name: &str,
+    awaiting: bool,
+    parts: &[&str],
+) -> io::Result<()> {
+    let Some(bytes) = bytes_of(rt.alloc(), parts)? else {
+        return Ok(());
+    };
+    let mut src = BytesMut::new(rt.alloc());
+    for _ in 0..count {
+        src.extend_from_slice(bytes.as_slice())?;
+    }
+    let start = Instant::now(rt)?;
+    let found = decoded(rt.alloc(), awaiting, count, &mut src);
+    let nanoseconds = start.elapsed(rt)?.as_nanos();
+    if found == 0 {
+        return Ok(());
+    }
+    println!(rt; "decode {name}: {} ns", nanoseconds / u128::from(found))
+}
+
+/// Takes frames off the bytes, at most so many, and tells how many there were.
+fn decoded(alloc: Global, awaiting: bool, most: u32, src: &mut BytesMut) -> u32 {
+    let mut codec = codec_at(awaiting);
+    let mut found: u32 = 0;
+    for _ in 0..most {
+        if !is_frame(codec.decode(alloc, src)) {
+            break;
+        }
+        codec.context.awaiting_startup = awaiting;
+        found = found.saturating_add(1);
+    }
+    found
+}
+
+fn time_replies(
+    rt: &HostRuntime,
+    count: u32,
+    name: &str,
+    kind: &str,
+    parts: &[&str],
+) -> io::Result<()> {
+    let Some(reply) = reply_of(rt.alloc(), kind, parts)? else {
+        return Ok(());
+    };
+    if !is_encodable(&reply) {
+        return Ok(());
+    }
+    let start = Instant::now(rt)?;
+    encoded(rt.alloc(), count, &reply)?;
+    let nanoseconds = start.elapsed(rt)?.as_nanos();
+    println!(rt;
+        "encode {name}: {} ns",
+        nanoseconds / u128::from(count.max(1))
+    )
+}
+
+fn encoded(alloc: Global, count: u32, reply: &PgWireBackendMessage) -> Result<(), AllocError>
+    requires { IsEncodable reply.now }
+{
+    let mut codec = PgWireMessageServerCodec::new();
+    let mut dst = BytesMut::new(alloc);
+    for _ in 0..count {
+        dst.clear();
+        codec.encode(reply, &mut dst)?;
+    }
+    Ok(())
+}
+
+// Bind, Execute and Sync over and over, in pieces as reads give them.
+fn time_stream(rt: &HostRuntime, piece: usize, megabytes: u32) -> io::Result<()>
+    requires { 0 < piece }
+{
+    let group = b"B\0\0\0\x0e\0\0\0\0\0\0\0\x01\0\x01E\0\0\0\x09\0\0\0\0\0S\0\0\0\x04";
+    let mut stream = Vec::new(rt.alloc());
+    for _ in 0..megabytes.min(100) * 33_334 {
+        stream.extend_from_slice(group)?;
+    }
+    let start = Instant::now(rt)?;
+    let found = fed(rt.alloc(), piece, stream.as_slice())?;
+    let nanoseconds = start.elapsed(rt)?.as_nanos() / u128::from(found.max(1));
+    println!(rt; "{megabytes} MB at reads of {piece}: {found} frames, {nanoseconds} ns each")
+}
+
+fn fed(alloc: Global, piece: usize, stream: &[u8]) -> Result<u32, AllocError>
+    requires { 0 < piece }
+{
+    let mut src = BytesMut::new(alloc);
+    let mut found: u32 = 0;
+    for bytes in stream.chunks(piece) {
+        src.extend_from_slice(bytes)?;
+        found = found.saturating_add(decoded(alloc, false, u32::MAX, &mut src));
+    }
+    Ok(found)
+}
