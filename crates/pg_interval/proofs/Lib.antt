@@ -16,3 +16,6 @@ mod TextsRead
 pub mod TimeTexts
 pub mod VerboseReads
 pub mod VerboseTexts
+mod ReadNumbers
+mod ReadSums
+mod ReadTimes

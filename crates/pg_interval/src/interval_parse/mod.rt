@@ -1,1 +1,6 @@
+mod number;
 pub mod parse_error;
+mod parts;
+mod postgres;
+mod texts;
+mod totals;
