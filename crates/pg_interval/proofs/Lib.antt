@@ -16,6 +16,9 @@ mod TextsRead
 pub mod TimeTexts
 pub mod VerboseReads
 pub mod VerboseTexts
+mod ReadItems
 mod ReadNumbers
 mod ReadSums
 mod ReadTimes
+mod ReadTokens
+mod ReadWhole

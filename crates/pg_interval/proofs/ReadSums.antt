@@ -3,10 +3,11 @@ use Rattle.std.proofs.Common.{◌≡◌, ℕ, zero, suc, ◌+◌, ◌*◌, ◌^�
 use Rattle.std.specs.Prelude.{if◌then◌else◌, ◌==◌, nat_lt}
 use Rattle.std.proofs.lemmas.Int.{ints}
 use Rattle.pg_interval.specs.Decimals.{Decimal, TimeUnit, Year, Month, Day, Hour, Minute, Second, with_sign, whole_part, worth, rounded, is_zero_decimal}
-use Rattle.pg_interval.specs.Pairs.{Pair, fits_above, fits_field, nothing, plus, sum_of, added, total_of}
-use Rattle.pg_interval.specs.Reader.{capped, capped_decimal, size_of, rounded_size, sum_left, so_far_of, joined, tallied, with_if}
+use Rattle.pg_interval.specs.Pairs.{Pair, checked, fits_above, fits_field, nothing, plus, sum_of, added, total_of}
+use Rattle.pg_interval.specs.Reader.{capped, capped_decimal, number_held, size_of, rounded_size, sum_left, so_far_of, joined, tallied, with_if}
 use Rattle.pg_interval.specs.declared.pg_interval.Interval.{Interval}
 use Rattle.pg_interval.specs.declared.interval_parse.parts.Amount.{Amount}
+use Rattle.pg_interval.specs.declared.interval_parse.parse_error.DecimalError.{DecimalError}
 use Rattle.pg_interval.specs.declared.interval_parse.parse_error.ParseError.{ParseError}
 use Rattle.pg_interval.proofs.NormalFacts.{same_interval}
 
@@ -103,7 +104,7 @@ size_worth Second d = same_interval _ _ (zero_sign d.negative) (zero_sign d.nega
 
 -- ---- one number more
 
-no_more : (i : Interval) → sum_of i nothing ≡ i
+pub no_more : (i : Interval) → sum_of i nothing ≡ i
 no_more i = same_interval _ _ (omega (arith, ints)) (omega (arith, ints)) (omega (arith, ints))
 
 tallied_by : (range : ParseError) (u : TimeUnit) (d : Decimal) (b : Bool) → fits_field u (whole_part d) ≡ b → added range (Ok d) u (Ok nothing) ≡ (if b then Ok (worth u d) else Err range)
@@ -152,6 +153,14 @@ total_more range (p ∷ ps) qs = ap (added range p.number p.unit) (total_more ra
 
 pub start_joined : (r : Result Interval ParseError) → joined (Ok nothing) r ≡ r
 start_joined r = plus_nothing r
+
+pub joined_nothing : (r : Result Interval ParseError) → joined r (Ok nothing) ≡ r
+joined_nothing (Ok i) = ap Ok (no_more i)
+joined_nothing (Err e) = refl
+
+pub tallied_held : (range : ParseError) (u : TimeUnit) (n : Result Decimal DecimalError) (r : Result Interval ParseError) → tallied range u (checked (number_held false n)) r ≡ tallied range u (checked n) r
+tallied_held range u (Ok d) r = tallied_capped range u d r
+tallied_held range u (Err e) r = refl
 
 pub add_sums : (r : Option ParseError) (p m s : Amount) (negative : Bool) → so_far_of r (sum_left (with_if (not negative) p s) (with_if negative m s)) ≡ joined (so_far_of r (sum_left p m)) (Ok (signed negative s))
 unfolding signed

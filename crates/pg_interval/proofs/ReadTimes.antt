@@ -102,13 +102,16 @@ abbrev pub from_parts : Bool → List ℕ → List ℕ → List ℕ → Option (
 from_parts minus h m s None = None
 from_parts minus h m s (Some f) = if are_digits h && are_digits m then (if are_digits s then Some (record { hours = number_of minus h []; minutes = number_of minus m []; seconds = number_of minus s (take 6 f) }) else None) else None
 
+abbrev no_times : Option Times
+no_times = None
+
 abbrev with_seconds : Bool → List ℕ → List ℕ → Option Decimal → Option Times
 with_seconds minus h m o = if are_digits h && are_digits m then (o >>= λ seconds. Some (record { hours = number_of minus h []; minutes = number_of minus m []; seconds = seconds })) else None
 
 joined_tail : (minus : Bool) (h m s : List ℕ) (o : Option (List ℕ)) → with_seconds minus h m (from_tail minus s o) ≡ from_parts minus h m s o
 joined_tail minus h m s None = by (are_digits h && are_digits m)
   where
-    by : (b : Bool) → (if b then None else None) ≡ None {T = Times}
+    by : (b : Bool) → (if b then None else None) ≡ no_times
     by true = refl
     by false = refl
 joined_tail minus h m s (Some f) = by (are_digits s)
@@ -192,7 +195,7 @@ empty_minutes turn minus token h m s r f e some none = no_time turn token (e ∙
 pub empty_seconds : (turn minus : Bool) (token h m s r f : List ℕ) → times_of token ≡ from_parts minus h m s (fraction_after r) → fraction_after r ≡ Some f → length s ≡ 0 → None ≡ option_map (held_times turn) (times_of token)
 empty_seconds turn minus token h m s r f e some none = no_time turn token (e ∙ ap (from_parts minus h m s) some ∙ (rw (no_bytes s none) (by (are_digits h && are_digits m))))
   where
-    by : (b : Bool) → (if b then None else None) ≡ None {T = Times}
+    by : (b : Bool) → (if b then None else None) ≡ no_times
     by true = refl
     by false = refl
 

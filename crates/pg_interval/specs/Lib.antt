@@ -14,3 +14,4 @@ pub mod Reading
 pub mod SqlText
 pub mod Texts
 pub mod WordReader
+pub mod ItemReader

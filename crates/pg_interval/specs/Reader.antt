@@ -1,7 +1,7 @@
 -- What the readers of interval texts keep on their way through a text.
 use Rattle.std.specs.List.{list_all}
-use Rattle.std.specs.Prelude.{ℕ, ◌+◌, ◌-◌, ◌*◌, ◌/◌, ◌^◌, min, Bool, true, false, not, ◌&&◌, ◌||◌, nat_lt, if◌then◌else◌, List, [], ◌∷◌, ◌++◌, map, ℤ, pos, ◌+ℤ◌, ◌-ℤ◌, Option, None, Some, Result, Ok, Err}
-use Rattle.pg_interval.specs.Texts.{◌>>=◌, is_whitespace, is_digit, is_letter, is_point, tokens}
+use Rattle.std.specs.Prelude.{ℕ, ◌+◌, ◌-◌, ◌*◌, ◌/◌, ◌^◌, min, Bool, true, false, not, ◌&&◌, ◌||◌, ◌==◌, nat_lt, if◌then◌else◌, List, [], ◌∷◌, ◌++◌, map, ℤ, pos, ◌+ℤ◌, ◌-ℤ◌, Option, None, Some, Result, Ok, Err}
+use Rattle.pg_interval.specs.Texts.{◌>>=◌, is_whitespace, is_digit, is_letter, is_point, is_colon, is_minus, tokens}
 use Rattle.pg_interval.specs.Decimals.{Decimal, TimeUnit, negated, worth}
 use Rattle.pg_interval.specs.Decimals as decimals
 use Rattle.pg_interval.specs.Pairs.{Pair, turned, total_of, plus, judged}
@@ -9,7 +9,7 @@ use Rattle.pg_interval.specs.PostgresText.{token_of, pairs_of_tokens, is_number_
 use Rattle.pg_interval.specs.IsoText.{is_designator}
 use Rattle.pg_interval.specs.declared.pg_interval.Interval.{Interval}
 use Rattle.pg_interval.specs.declared.interval_parse.texts.Kind.{Kind}
-use Rattle.pg_interval.specs.declared.interval_parse.texts.Kind.TheVariants.{Digit, Letter, Space, Solid, NumberByte}
+use Rattle.pg_interval.specs.declared.interval_parse.texts.Kind.TheVariants.{Digit, Letter, Space, Solid, NumberByte, Unmarked, NoMinus, NoColon, NoPoint}
 use Rattle.pg_interval.specs.declared.interval_parse.parts.Number.{Number}
 use Rattle.pg_interval.specs.declared.interval_parse.parts.Amount.{Amount}
 use Rattle.pg_interval.specs.declared.interval_parse.parts.Totals.{Totals}
@@ -25,6 +25,10 @@ is_kind Letter c = is_letter c
 is_kind Space c = is_whitespace c
 is_kind Solid c = not (is_whitespace c)
 is_kind NumberByte c = is_number_byte c
+is_kind Unmarked c = not (is_designator c || c == 84)
+is_kind NoMinus c = not (is_minus c)
+is_kind NoColon c = not (is_colon c)
+is_kind NoPoint c = not (is_point c)
 
 -- a number, or the word's largest where it is larger
 abbrev pub capped : ℕ → ℕ

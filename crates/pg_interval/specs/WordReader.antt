@@ -1,9 +1,10 @@
 -- What a reader of words and times keeps on its way, and what it answers from there.
-use Rattle.std.specs.Prelude.{ℕ, Bool, true, false, not, ◌&&◌, if◌then◌else◌, List, [], ◌∷◌, ◌++◌, map, take, Option, None, Some, option_map, Result, Ok, Err}
+use Rattle.std.specs.Prelude.{ℕ, Bool, true, false, not, ◌&&◌, if◌then◌else◌, List, [], ◌∷◌, ◌++◌, map, take, codes, bytes_eq, Option, None, Some, option_map, Result, Ok, Err}
+use Rattle.std.specs.Borrow.{Bor}
 use Rattle.std.specs.List.{list_any, slice_split}
 use Rattle.pg_interval.specs.Texts.{◌>>=◌, is_colon, is_point, is_minus, are_digits, begins, without_sign, tokens}
-use Rattle.pg_interval.specs.Decimals.{Decimal, TimeUnit, Year, Month, Day, Hour, Minute, Second, number_of, is_zero_decimal}
-use Rattle.pg_interval.specs.Pairs.{Pair, pair, turned_number, turned, checked, nothing}
+use Rattle.pg_interval.specs.Decimals.{Decimal, TimeUnit, Year, Month, Day, Hour, Minute, Second, number_of, decimal_of, is_zero_decimal}
+use Rattle.pg_interval.specs.Pairs.{Pair, pair, turned_number, turned, checked, judged, nothing}
 use Rattle.pg_interval.specs.PostgresText.{Token, token_of, pairs_of_tokens, seconds_of, unit_of_word, unit_of_verbose_word}
 use Rattle.pg_interval.specs.Reader.{decimal_from, capped_decimal, turned_if, fraction_after, so_far, tallied}
 use Rattle.pg_interval.specs.declared.pg_interval.Interval.{Interval}
@@ -11,8 +12,9 @@ use Rattle.pg_interval.specs.declared.interval_parse.parts.Clock.{Clock}
 use Rattle.pg_interval.specs.declared.interval_parse.parts.Seen.{Seen}
 use Rattle.pg_interval.specs.declared.interval_parse.parts.Words.{Words}
 use Rattle.pg_interval.specs.declared.interval_parse.parse_error.DecimalError.TheVariants.{OutOfRange}
+use Rattle.pg_interval.specs.declared.interval_parse.parse_error.Reason.TheVariants.{Shape}
 use Rattle.pg_interval.specs.declared.interval_parse.parse_error.ParseError.{ParseError}
-use Rattle.pg_interval.specs.declared.interval_parse.parse_error.ParseError.TheVariants.{ParseFloatErr}
+use Rattle.pg_interval.specs.declared.interval_parse.parse_error.ParseError.TheVariants.{ParseFloatErr, InvalidInterval}
 
 -- whether the unit has a number
 abbrev pub has : Seen → TimeUnit → Bool
@@ -68,9 +70,28 @@ taken turn s (p ∷ ps) = taken_one s p.unit (turned_by turn p.number) >>= λ t.
 abbrev pub unit_in : Bool → List ℕ → Option TimeUnit
 unit_in verbose w = if verbose then unit_of_verbose_word w else unit_of_word w
 
+-- a number as it is written, with the word of its unit
+abbrev pub taken_pair : Bool → Bool → State → List ℕ → List ℕ → Option State
+taken_pair verbose turn s number word = unit_in verbose word >>= λ u. taken_one s u (turned_by turn (checked (decimal_of number)))
+
 -- what the tokens of the rest of a text come to, after this state
 unfoldable pub left : Bool → Bool → State → List ℕ → Option (Result Interval ParseError)
 left verbose turn s text = pairs_of_tokens (unit_in verbose) (map token_of (tokens text)) >>= λ ps. taken turn s ps >>= λ t. Some t.sum
+
+-- the rest of a text, as a reader gives it
+abbrev pub rest_of : Option (Bor (List ℕ)) → Option (List ℕ)
+rest_of None = None
+rest_of (Some rest) = Some rest.now
+
+-- the same where the rest may be gone, since the shape is broken
+abbrev pub front_left : Bool → Bool → State → Option (List ℕ) → Option (Result Interval ParseError)
+front_left verbose turn s None = None
+front_left verbose turn s (Some rest) = left verbose turn s rest
+
+-- the answer that sums come to, where the shape isn't broken
+abbrev pub answered : Option (Result Interval ParseError) → Result Interval ParseError
+answered None = Err (InvalidInterval Shape)
+answered (Some r) = judged r
 
 -- the hours, minutes and seconds of a time
 pub record Times : Type 0 where
@@ -95,3 +116,14 @@ times_of_parts minus _ = None
 -- the numbers of a time, zeros among them
 unfoldable pub times_of : List ℕ → Option Times
 times_of text = times_of_parts (begins is_minus text) (slice_split is_colon (without_sign text))
+
+-- what a number and its word in front of the rest come to, and what a time in front of it comes to
+abbrev pub pair_left : Bool → Bool → State → List ℕ → List ℕ → List ℕ → Option (Result Interval ParseError)
+pair_left verbose turn s number word rest = taken_pair verbose turn s number word >>= λ t. left verbose turn t rest
+
+abbrev pub time_left : Bool → Bool → State → List ℕ → List ℕ → Option (Result Interval ParseError)
+time_left verbose turn s token rest = option_map (held_times turn) (times_of token) >>= λ t. taken_times s t >>= λ u. left verbose turn u rest
+
+-- what stands between `@` and `ago`
+unfoldable pub within_left : Bool → List ℕ → Option (Result Interval ParseError)
+within_left turn text = if bytes_eq text (codes "0") then Some (Ok nothing) else left true turn start text

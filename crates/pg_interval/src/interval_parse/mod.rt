@@ -1,3 +1,4 @@
+mod iso_8601;
 mod number;
 pub mod parse_error;
 mod parts;

@@ -70,3 +70,10 @@ pub(super) struct Clock {
     pub(super) minutes: Number,
     pub(super) seconds: Number,
 }
+
+/// What the items so far come to, and whether the `T` stood among them.
+#[derive(Drop)]
+pub(super) struct Items {
+    pub(super) in_time: bool,
+    pub(super) totals: Totals,
+}

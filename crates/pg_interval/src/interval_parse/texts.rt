@@ -1,9 +1,13 @@
 // Runs of bytes in an interval's text.
-ghost use Rattle.std.specs.Prelude.{◌≡◌, ◌+◌, ◌≤◌, ◌++◌, length, true, false};
+ghost use Rattle.std.specs.Prelude.{◌≡◌, ◌+◌, ◌≤◌, ◌++◌, ◌==◌, ◌||◌, length, true, false};
 ghost use Rattle.std.specs.List.{prefix_len, list_all};
 ghost use Rattle.pg_interval.specs.Texts.{is_digit, is_letter, is_sign, is_whitespace, begins};
 ghost use Rattle.pg_interval.specs.PostgresText.{is_number_byte, trimmed_end, trimmed_start};
+ghost use Rattle.pg_interval.specs.IsoText.{is_designator};
 ghost use Rattle.pg_interval.specs.Reader.{is_kind};
+
+/// The most bytes of a text that is read.
+pub(super) const LONGEST_TEXT: usize = 4096;
 
 /// A kind of bytes that stand in a row.
 #[derive(Clone, Copy)]
@@ -18,6 +22,14 @@ pub(super) enum Kind {
     Solid,
     /// A digit, a sign or a point.
     NumberByte,
+    /// Any other byte than `T` and an item's letter.
+    Unmarked,
+    /// Any other byte than `-`.
+    NoMinus,
+    /// Any other byte than `:`.
+    NoColon,
+    /// Any other byte than `.`.
+    NoPoint,
 }
 
 /// Is it a decimal digit?
@@ -60,6 +72,19 @@ pub(super) fn is_number_byte(byte: u8) -> bool
     is_digit(byte) || is_sign(byte) || byte == b'.'
 }
 
+/// Is it `T` or an item's letter?
+#[inline(always)]
+fn is_mark(byte: u8) -> bool
+    ensures { result ≡ (is_designator byte || byte == 84) }
+{
+    byte == b'Y'
+        || byte == b'M'
+        || byte == b'D'
+        || byte == b'H'
+        || byte == b'S'
+        || byte == b'T'
+}
+
 /// Is the byte of this kind?
 #[inline(always)]
 fn is_kind(kind: Kind, byte: u8) -> bool
@@ -71,6 +96,10 @@ fn is_kind(kind: Kind, byte: u8) -> bool
         Kind::Space => is_whitespace(byte),
         Kind::Solid => !is_whitespace(byte),
         Kind::NumberByte => is_number_byte(byte),
+        Kind::Unmarked => !is_mark(byte),
+        Kind::NoMinus => byte != b'-',
+        Kind::NoColon => byte != b':',
+        Kind::NoPoint => byte != b'.',
     }
 }
 
