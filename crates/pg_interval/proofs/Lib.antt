@@ -16,6 +16,7 @@ mod TextsRead
 pub mod TimeTexts
 pub mod VerboseReads
 pub mod VerboseTexts
+mod ReadFields
 mod ReadItems
 mod ReadNumbers
 mod ReadSums

@@ -1,10 +1,11 @@
 -- The steps by which a reader goes over the items of a text.
-use Rattle.std.proofs.Common.{◌≡◌, ℕ, zero, suc, ◌+◌, ◌<◌, ◌≤◌, Bool, true, false, not, ◌&&◌, ◌||◌, List, [], ◌∷◌, ◌++◌, length, ap, ◌∙◌, sym, refl, arith, Option, None, Some, Result, Ok, Err}
+use Rattle.std.proofs.Common.{◌≡◌, ◌≢◌, ℕ, zero, suc, drop, get_or, ◌+◌, ◌<◌, ◌≤◌, Bool, true, false, not, ◌&&◌, ◌||◌, List, [], ◌∷◌, ◌++◌, length, ap, ◌∙◌, sym, refl, arith, Option, None, Some, Result, Ok, Err}
 use mathlib.Core.List.{append_assoc, append-nil}
 use Rattle.std.specs.Prelude.{if◌then◌else◌, ◌==◌}
-use Rattle.std.specs.List.{list_all, list_any, slice_split, onto_first}
+use Rattle.std.specs.List.{list_all, list_any, slice_split, onto_first, prefix_len}
 use Rattle.std.proofs.lemmas.List.Folds.{list_any-append}
-use Rattle.pg_interval.specs.Texts.{◌>>=◌, begins}
+use Rattle.std.proofs.lemmas.Bool.{eqb-true}
+use Rattle.pg_interval.specs.Texts.{◌>>=◌, begins, is_digit, is_point, is_minus}
 use Rattle.pg_interval.specs.Decimals.{TimeUnit, decimal_of}
 use Rattle.pg_interval.specs.Pairs.{Pair, checked, decimal_pair, nothing, total_of}
 use Rattle.pg_interval.specs.IsoText.{Item, is_designator, is_item_number, longer, items_of, pairs_of_items, pairs_of_halves, date_unit, time_unit, iso_pairs}
@@ -17,7 +18,7 @@ use Rattle.pg_interval.specs.declared.interval_parse.parse_error.Reason.TheVaria
 use Rattle.pg_interval.specs.declared.interval_parse.parse_error.ParseError.{ParseError}
 use Rattle.pg_interval.specs.declared.interval_parse.parse_error.ParseError.TheVariants.{InvalidInterval}
 use Rattle.pg_interval.proofs.DigitTexts.{or_none_left, or_none_right, and_left, and_right, split_none, split_at}
-use Rattle.pg_interval.proofs.ReadNumbers.{split_parts, two_parts}
+use Rattle.pg_interval.proofs.ReadNumbers.{split_parts, two_parts, all_run, not_all_run}
 use Rattle.pg_interval.proofs.ReadTimes.{parts_front, first_with}
 use Rattle.pg_interval.proofs.ReadSums.{joined_joined, total_more, start_joined, joined_nothing}
 
@@ -241,3 +242,53 @@ unfolding iso_pairs
 iso_short [] h = refl
 iso_short (c ∷ []) h = refl
 iso_short (c ∷ d ∷ ds) h = absurd (omega arith)
+
+-- ---- the number of an item
+
+pub run_is_all : (p : ℕ → Bool) (xs : List ℕ) (n : ℕ) → n ≡ prefix_len p xs → n ≤ length xs → (n == length xs) ≡ list_all p xs
+run_is_all p xs n e h = by (n == length xs) refl
+  where
+    by : (b : Bool) → (n == length xs) ≡ b → (n == length xs) ≡ list_all p xs
+    by true f = f ∙ sym (all_run p xs (sym e ∙ eqb-true n (length xs) f))
+    by false f = let lt : prefix_len p xs < length xs = grind arith in f ∙ sym (not_all_run p xs lt)
+
+number_minus : (text rest : List ℕ) → text ≡ 45 ∷ rest → is_item_number text ≡ list_all (λ d. is_digit d || is_point d) rest
+number_minus text rest e = ap is_item_number e
+
+plain_by : (c : ℕ) (cs : List ℕ) → is_minus c ≡ false → is_item_number (c ∷ cs) ≡ list_all (λ d. is_digit d || is_point d) (c ∷ cs)
+plain_by c cs e = rw e refl
+
+number_plain : (text : List ℕ) → begins is_minus text ≡ false → is_item_number text ≡ list_all (λ d. is_digit d || is_point d) text
+number_plain [] e = refl
+number_plain (c ∷ cs) e = plain_by c cs e
+
+pub minus_number : (text rest : List ℕ) (n : ℕ) → text ≡ 45 ∷ rest → n ≡ prefix_len (λ d. is_digit d || is_point d) rest → n ≤ length rest → (n == length rest) ≡ is_item_number text
+minus_number text rest n e f h = run_is_all (λ d. is_digit d || is_point d) rest n f h ∙ sym (number_minus text rest e)
+
+pub plain_number : (text : List ℕ) (n : ℕ) → begins is_minus text ≡ false → n ≡ prefix_len (λ d. is_digit d || is_point d) text → n ≤ length text → (n == length text) ≡ is_item_number text
+plain_number text n e f h = run_is_all (λ d. is_digit d || is_point d) text n f h ∙ sym (number_plain text e)
+
+pub item_taken : (in_time : Bool) (r sum : Sum) (number : List ℕ) (l : ℕ) (rest : List ℕ) (u : TimeUnit) (b : Bool) → b ≡ is_item_number number → b ≡ true → Some u ≡ unit_at in_time l → sum ≡ tallied out_of_range u (checked (decimal_of number)) r → left in_time sum rest ≡ item_left in_time r number l rest
+item_taken in_time r sum number l rest u b e t named is =
+    ap (λ q. left in_time q rest) is
+    ∙ ap (λ o. o >>= λ v. left in_time (tallied out_of_range v (checked (decimal_of number)) r) rest) named
+    ∙ sym (ap (λ x. if x then (unit_at in_time l >>= λ v. left in_time (tallied out_of_range v (checked (decimal_of number)) r) rest) else None) (sym e ∙ t))
+
+pub stop_of : (behind : List ℕ) (l : ℕ) (rest : List ℕ) → behind ≡ l ∷ rest → begins is_unmarked behind ≡ false → is_unmarked l ≡ false
+stop_of behind l rest e h = sym (ap (begins is_unmarked) e) ∙ h
+
+pub other_mark : (l : ℕ) → l ≢ 84 → is_time_mark l ≡ false
+other_mark l h = grind arith
+
+pub the_mark : (l : ℕ) → l ≡ 84 → is_time_mark l ≡ true
+the_mark l h = rw h refl
+
+pub iso_whole_of : (text rest : List ℕ) → 2 ≤ length text → get_or text 0 0 ≡ 80 → rest ≡ drop 1 text → of_shape Iso8601 (iso_pairs text) ≡ answered (left false (Ok nothing) rest)
+iso_whole_of [] rest h at e = absurd (omega arith)
+iso_whole_of (c ∷ []) rest h at e = absurd (omega arith)
+iso_whole_of (c ∷ d ∷ ds) rest h at e = iso_whole c d ds at ∙ sym (ap (λ t. answered (left false (Ok nothing) t)) e)
+
+pub iso_broken_of : (text : List ℕ) → 2 ≤ length text → get_or text 0 0 ≢ 80 → of_shape Iso8601 (iso_pairs text) ≡ Err (InvalidInterval Shape)
+iso_broken_of [] h at = absurd (omega arith)
+iso_broken_of (c ∷ []) h at = absurd (omega arith)
+iso_broken_of (c ∷ d ∷ ds) h at = let e : (c == 80) ≡ false = grind arith in iso_broken c d ds e

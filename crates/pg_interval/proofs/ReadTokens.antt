@@ -146,7 +146,7 @@ word_text false w u e = unit_text w u e
 
 -- ---- tokens
 
-front_parts : (p : ℕ → Bool) (xs ys : List ℕ) → list_all p xs ≡ true → begins p ys ≡ false → prefix_len p (xs ++ ys) ≡ length xs
+pub front_parts : (p : ℕ → Bool) (xs ys : List ℕ) → list_all p xs ≡ true → begins p ys ≡ false → prefix_len p (xs ++ ys) ≡ length xs
 front_parts p [] [] all stop = refl
 front_parts p [] (y ∷ ys) all stop = rw stop refl
 front_parts p (x ∷ xs) ys all stop = by (p x) refl all (front_parts p xs ys)
@@ -155,7 +155,7 @@ front_parts p (x ∷ xs) ys all stop = by (p x) refl all (front_parts p xs ys)
     by true e f k = (rw e refl) ∙ ap (λ n. 1 + n) (k f stop) ∙ suc_one (length xs)
     by false e f k = cc
 
-front_taken : (xs ys : List ℕ) → take (length xs) (xs ++ ys) ≡ xs
+pub front_taken : (xs ys : List ℕ) → take (length xs) (xs ++ ys) ≡ xs
 front_taken [] ys = refl
 front_taken (x ∷ xs) ys = ap (λ t. x ∷ t) (front_taken xs ys)
 

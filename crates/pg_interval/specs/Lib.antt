@@ -15,3 +15,4 @@ pub mod SqlText
 pub mod Texts
 pub mod WordReader
 pub mod ItemReader
+pub mod FieldReader

@@ -9,7 +9,7 @@ use Rattle.pg_interval.specs.PostgresText.{token_of, pairs_of_tokens, is_number_
 use Rattle.pg_interval.specs.IsoText.{is_designator}
 use Rattle.pg_interval.specs.declared.pg_interval.Interval.{Interval}
 use Rattle.pg_interval.specs.declared.interval_parse.texts.Kind.{Kind}
-use Rattle.pg_interval.specs.declared.interval_parse.texts.Kind.TheVariants.{Digit, Letter, Space, Solid, NumberByte, Unmarked, NoMinus, NoColon, NoPoint}
+use Rattle.pg_interval.specs.declared.interval_parse.texts.Kind.TheVariants.{Digit, Letter, Space, Solid, NumberByte, DecimalByte, Unmarked, NoMinus, NoColon, NoPoint}
 use Rattle.pg_interval.specs.declared.interval_parse.parts.Number.{Number}
 use Rattle.pg_interval.specs.declared.interval_parse.parts.Amount.{Amount}
 use Rattle.pg_interval.specs.declared.interval_parse.parts.Totals.{Totals}
@@ -25,6 +25,7 @@ is_kind Letter c = is_letter c
 is_kind Space c = is_whitespace c
 is_kind Solid c = not (is_whitespace c)
 is_kind NumberByte c = is_number_byte c
+is_kind DecimalByte c = is_digit c || is_point c
 is_kind Unmarked c = not (is_designator c || c == 84)
 is_kind NoMinus c = not (is_minus c)
 is_kind NoColon c = not (is_colon c)

@@ -8,11 +8,11 @@ ghost use Rattle.pg_interval.specs.Reader.{so_far, time_unit};
 ghost use Rattle.pg_interval.specs.Reading.{Iso8601, of_shape, reading};
 ghost use Rattle.pg_interval.specs.WordReader.{answered, rest_of};
 
-use super::number::decimal;
+use super::number::{after_byte, decimal};
 use super::parse_error::{ParseError, Reason};
 use super::parts::{Items, Totals, Unit};
 use super::postgres::interval_of;
-use super::texts::{Kind, LONGEST_TEXT, cut, is_digit};
+use super::texts::{Kind, LONGEST_TEXT, cut, run_len};
 use crate::pg_interval::Interval;
 
 /// The unit that the letter names, before the `T` or after it.
@@ -39,13 +39,10 @@ fn unit_at(in_time: bool, letter: u8) -> Option<Unit>
 fn is_item_number(number: &[u8]) -> bool
     ensures { result ≡ is_item_number number.now }
 {
-    if number.is_empty() {
-        return true;
-    }
-    let (_first, rest) = number.split_at(1);
-    let first = number[0];
-    (first == b'-' || is_digit(first) || first == b'.')
-        && rest.iter().all(|byte| is_digit(*byte) || *byte == b'.')
+    let Some(rest) = after_byte(b'-', number) else {
+        return run_len(Kind::DecimalByte, number) == number.len();
+    };
+    run_len(Kind::DecimalByte, rest) == rest.len()
 }
 
 impl Items {

@@ -3,5 +3,6 @@ mod number;
 pub mod parse_error;
 mod parts;
 mod postgres;
+mod sql;
 mod texts;
 mod totals;

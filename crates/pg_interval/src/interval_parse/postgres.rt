@@ -193,7 +193,7 @@ impl Words {
 
 /// Is the word this name?
 #[inline(always)]
-fn is(word: &[u8], name: &str) -> bool
+pub(super) fn is(word: &[u8], name: &str) -> bool
     ensures { result ≡ bytes_eq word.now name.now }
 {
     word == name.as_bytes()

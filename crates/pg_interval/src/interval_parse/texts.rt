@@ -22,6 +22,8 @@ pub(super) enum Kind {
     Solid,
     /// A digit, a sign or a point.
     NumberByte,
+    /// A digit or a point.
+    DecimalByte,
     /// Any other byte than `T` and an item's letter.
     Unmarked,
     /// Any other byte than `-`.
@@ -96,6 +98,7 @@ fn is_kind(kind: Kind, byte: u8) -> bool
         Kind::Space => is_whitespace(byte),
         Kind::Solid => !is_whitespace(byte),
         Kind::NumberByte => is_number_byte(byte),
+        Kind::DecimalByte => is_digit(byte) || byte == b'.',
         Kind::Unmarked => !is_mark(byte),
         Kind::NoMinus => byte != b'-',
         Kind::NoColon => byte != b':',
