@@ -1,9 +1,8 @@
 -- The steps by which a reader goes over the fields of a text.
 use Rattle.std.proofs.Common.{◌≡◌, ℕ, suc, ◌+◌, ◌<◌, ◌≤◌, Bool, true, false, not, ◌&&◌, ◌||◌, List, [], ◌∷◌, ◌++◌, length, take, drop, ap, ◌∙◌, sym, refl, arith, Option, None, Some, Result, Ok, Err}
-use mathlib.Core.List.{append_assoc, append-nil}
-use Rattle.std.specs.Prelude.{if◌then◌else◌, ◌==◌, nat_le, codes, bytes_eq}
+use mathlib.Core.List.{append-nil}
+use Rattle.std.specs.Prelude.{if◌then◌else◌, nat_le, codes, bytes_eq}
 use Rattle.std.specs.List.{list_all, list_any, slice_split, before_first, after_first, prefix_len}
-use Rattle.std.proofs.lemmas.List.Folds.{list_any-append}
 use Rattle.pg_interval.specs.Texts.{◌>>=◌, is_digit, is_sign, is_point, is_colon, is_minus, is_whitespace, begins, without_sign, tokens}
 use Rattle.pg_interval.specs.Decimals.{Decimal, number_of, TimeUnit, Year, Month, Day, Hour, Minute, Second}
 use Rattle.pg_interval.specs.Pairs.{Pair, total_of, nothing, judged}
@@ -17,7 +16,7 @@ use Rattle.pg_interval.specs.declared.pg_interval.Interval.{Interval}
 use Rattle.pg_interval.specs.declared.interval_parse.parse_error.IntError.TheVariants.{Empty, InvalidDigit}
 use Rattle.pg_interval.specs.declared.interval_parse.parse_error.ParseError.{ParseError}
 use Rattle.pg_interval.specs.declared.interval_parse.parse_error.ParseError.TheVariants.{ParseIntErr}
-use Rattle.pg_interval.proofs.DigitTexts.{or_none_left, or_none_right, and_left, and_right, split_none, split_at}
+use Rattle.pg_interval.proofs.DigitTexts.{split_none, split_at}
 use Rattle.pg_interval.proofs.ReadNumbers.{two_parts, split_parts, not_all_run, all_run}
 use Rattle.pg_interval.proofs.ReadSums.{joined_joined, total_more, start_joined, joined_nothing, tallied_capped}
 use Rattle.pg_interval.proofs.ReadTokens.{token_first as first_token, tokens_trimmed, front_parts, front_taken}

@@ -1,6 +1,6 @@
 -- The steps by which a reader goes over the items of a text.
-use Rattle.std.proofs.Common.{◌≡◌, ◌≢◌, ℕ, zero, suc, drop, get_or, ◌+◌, ◌<◌, ◌≤◌, Bool, true, false, not, ◌&&◌, ◌||◌, List, [], ◌∷◌, ◌++◌, length, ap, ◌∙◌, sym, refl, arith, Option, None, Some, Result, Ok, Err}
-use mathlib.Core.List.{append_assoc, append-nil}
+use Rattle.std.proofs.Common.{◌≡◌, ◌≢◌, ℕ, drop, get_or, ◌<◌, ◌≤◌, Bool, true, false, not, ◌||◌, List, [], ◌∷◌, ◌++◌, length, ap, ◌∙◌, sym, refl, arith, Option, None, Some, Result, Ok, Err}
+use mathlib.Core.List.{append-nil}
 use Rattle.std.specs.Prelude.{if◌then◌else◌, ◌==◌}
 use Rattle.std.specs.List.{list_all, list_any, slice_split, onto_first, prefix_len}
 use Rattle.std.proofs.lemmas.List.Folds.{list_any-append}
@@ -19,7 +19,7 @@ use Rattle.pg_interval.specs.declared.interval_parse.parse_error.ParseError.{Par
 use Rattle.pg_interval.specs.declared.interval_parse.parse_error.ParseError.TheVariants.{InvalidInterval}
 use Rattle.pg_interval.proofs.DigitTexts.{or_none_left, or_none_right, and_left, and_right, split_none, split_at}
 use Rattle.pg_interval.proofs.ReadNumbers.{split_parts, two_parts, all_run, not_all_run}
-use Rattle.pg_interval.proofs.ReadTimes.{parts_front, first_with}
+use Rattle.pg_interval.proofs.ReadTimes.{parts_front}
 use Rattle.pg_interval.proofs.ReadSums.{joined_joined, total_more, start_joined, joined_nothing}
 
 -- ---- bytes without a mark
@@ -170,14 +170,17 @@ unfolding left
 no_letter_left true r number filled all = rw (no_marks number all) (ap (λ o. o >>= pairs_of_items time_unit >>= λ ps. Some (joined r (total_of out_of_range ps))) (no_item number filled (no_letters number all)))
 no_letter_left false r number filled all = ap (halves_left r) (split_none is_time_mark number (no_marks number all)) ∙ ap (λ o. o >>= pairs_of_items date_unit >>= λ ps. Some (joined r (total_of out_of_range ps))) (no_item number filled (no_letters number all))
 
+any_true : (b : Bool) → (b || true) ≡ true
+any_true true = refl
+any_true false = refl
+
+mark_past : (number : List ℕ) (l : ℕ) (rest : List ℕ) → is_time_mark l ≡ true → list_any is_time_mark (number ++ l ∷ rest) ≡ true
+mark_past number l rest mark = list_any-append is_time_mark number (l ∷ rest) ∙ ap (λ b. list_any is_time_mark number || (b || list_any is_time_mark rest)) mark ∙ any_true (list_any is_time_mark number)
+
 -- a second `T`
 pub second_mark : (r : Sum) (number : List ℕ) (l : ℕ) (rest : List ℕ) → is_time_mark l ≡ true → left true r (number ++ l ∷ rest) ≡ None
 unfolding left
-second_mark r number l rest mark = ap (λ b. if b then None else items_left time_unit r (number ++ l ∷ rest)) (list_any-append is_time_mark number (l ∷ rest) ∙ (rw mark (any_true (list_any is_time_mark number))))
-  where
-    any_true : (b : Bool) → (b || true) ≡ true
-    any_true true = refl
-    any_true false = refl
+second_mark r number l rest mark = ap (λ b. if b then None else items_left time_unit r (number ++ l ∷ rest)) (mark_past number l rest mark)
 
 date_none : (r : Sum) (number : List ℕ) (ps : List (List ℕ)) → items_of number ≡ None → halves_left r (number ∷ ps) ≡ None
 date_none r number [] e = ap (λ o. o >>= pairs_of_items date_unit >>= λ ps. Some (joined r (total_of out_of_range ps))) e

@@ -1,5 +1,5 @@
 -- The steps by which a reader reads a number of a text.
-use Rattle.std.proofs.Common.{◌≡◌, ℕ, zero, suc, ◌+◌, ◌-◌, ◌*◌, ◌/◌, ◌^◌, ◌<◌, ◌≤◌, min, Bool, true, false, not, ◌&&◌, ◌||◌, ◌≢◌, List, [], ◌∷◌, ◌++◌, length, get_or, take, drop, ap, ◌∙◌, sym, refl, arith, lit<, lit≤, add-one, Option, None, Some, Result, Ok, Err, cond}
+use Rattle.std.proofs.Common.{◌≡◌, ℕ, suc, ◌+◌, ◌-◌, ◌*◌, ◌^◌, ◌<◌, ◌≤◌, min, Bool, true, false, not, ◌&&◌, ◌||◌, ◌≢◌, List, [], ◌∷◌, ◌++◌, length, get_or, take, drop, ap, ◌∙◌, sym, refl, arith, lit<, Option, None, Some, Result, Ok, Err, cond}
 use mathlib.Core.List.{append-nil}
 use Rattle.std.specs.Prelude.{cond, if◌then◌else◌, ◌==◌, nat_lt}
 use Rattle.std.specs.List.{list_all, list_any, prefix_len, slice_split, onto_first}
@@ -10,12 +10,12 @@ use Rattle.std.proofs.lemmas.Str.{digit_value_digit}
 use Rattle.std.proofs.lemmas.List.Folds.{list_all_at, list_all-append}
 use Rattle.std.proofs.lemmas.List.Sums.{prefix_len-le-length}
 use Rattle.std.proofs.lemmas.List.{take_all}
-use Rattle.std.proofs.Math.Nat.{pow-le-pow_right, one-le-pow}
+use Rattle.std.proofs.Math.Nat.{pow-le-pow_right}
 use Rattle.pg_interval.specs.Texts.{is_digit, is_minus, is_point, is_empty, are_digits, begins, without_sign}
 use Rattle.pg_interval.specs.Decimals.{Decimal, number_of, decimal_of, decimal_of_parts, decimal_between}
 use Rattle.pg_interval.specs.Reader.{capped, capped_decimal, fraction_after, number_held, turned_if}
 use Rattle.pg_interval.specs.declared.interval_parse.parse_error.DecimalError.{DecimalError}
-use Rattle.pg_interval.specs.declared.interval_parse.parse_error.DecimalError.TheVariants.{Empty, Malformed, TooManyDigits}
+use Rattle.pg_interval.specs.declared.interval_parse.parse_error.DecimalError.TheVariants.{Malformed, TooManyDigits}
 use Rattle.pg_interval.proofs.DigitTexts.{and_left, and_right, split_none, split_at, none_of_digits, digit_no_point, not_longer}
 
 -- ---- lists

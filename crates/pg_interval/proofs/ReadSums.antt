@@ -1,8 +1,8 @@
 -- The steps by which a reader adds up what the numbers of a text are worth.
-use Rattle.std.proofs.Common.{◌≡◌, ℕ, zero, suc, ◌+◌, ◌*◌, ◌^◌, ◌<◌, ◌≤◌, min, Bool, true, false, not, ◌&&◌, List, [], ◌∷◌, ◌++◌, ap, ◌∙◌, sym, refl, arith, lit≤, Option, None, Some, Result, Ok, Err, ℤ, pos, negsuc, ◌+ℤ◌, ◌-ℤ◌, ◌*ℤ◌, ltb}
+use Rattle.std.proofs.Common.{◌≡◌, ℕ, zero, suc, ◌+◌, ◌*◌, ◌^◌, ◌≤◌, min, Bool, true, false, not, ◌&&◌, List, [], ◌∷◌, ◌++◌, ap, ◌∙◌, sym, refl, arith, lit≤, Option, None, Some, Result, Ok, Err, pos, ◌+ℤ◌, ◌*ℤ◌}
 use Rattle.std.specs.Prelude.{if◌then◌else◌, ◌==◌, nat_lt}
 use Rattle.std.proofs.lemmas.Int.{ints}
-use Rattle.pg_interval.specs.Decimals.{Decimal, TimeUnit, Year, Month, Day, Hour, Minute, Second, with_sign, whole_part, worth, rounded, is_zero_decimal}
+use Rattle.pg_interval.specs.Decimals.{Decimal, TimeUnit, Year, Month, Day, Hour, Minute, Second, with_sign, whole_part, worth, is_zero_decimal}
 use Rattle.pg_interval.specs.Pairs.{Pair, checked, fits_above, fits_field, nothing, plus, sum_of, added, total_of}
 use Rattle.pg_interval.specs.Reader.{capped, capped_decimal, number_held, size_of, rounded_size, sum_left, so_far_of, joined, tallied, with_if}
 use Rattle.pg_interval.specs.declared.pg_interval.Interval.{Interval}

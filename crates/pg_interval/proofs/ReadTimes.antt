@@ -1,16 +1,16 @@
 -- The steps by which a reader reads the hours, minutes and seconds of a time.
-use Rattle.std.proofs.Common.{◌≡◌, ℕ, ◌+◌, ◌<◌, ◌≤◌, Bool, true, false, not, ◌&&◌, ◌||◌, List, [], ◌∷◌, ◌++◌, length, take, ap, ◌∙◌, sym, refl, arith, Option, None, Some}
+use Rattle.std.proofs.Common.{◌≡◌, ℕ, ◌<◌, Bool, true, false, not, ◌&&◌, ◌||◌, List, [], ◌∷◌, ◌++◌, length, take, ap, ◌∙◌, sym, refl, arith, Option, None, Some}
 use mathlib.Core.List.{append-nil}
-use Rattle.std.specs.Prelude.{if◌then◌else◌, ◌==◌, option_map}
+use Rattle.std.specs.Prelude.{if◌then◌else◌, option_map}
 use Rattle.std.specs.List.{list_all, list_any, slice_split, onto_first}
-use Rattle.std.proofs.lemmas.List.Folds.{list_all-append, list_any-append}
+use Rattle.std.proofs.lemmas.List.Folds.{list_any-append}
 use Rattle.pg_interval.specs.Texts.{◌>>=◌, is_digit, is_minus, is_point, is_colon, is_empty, are_digits, begins, without_sign}
 use Rattle.pg_interval.specs.Decimals.{Decimal, number_of}
 use Rattle.pg_interval.specs.PostgresText.{seconds_of}
 use Rattle.pg_interval.specs.Reader.{capped_decimal, turned_if, fraction_after}
 use Rattle.pg_interval.specs.WordReader.{Times, times_of, times_of_parts, held_times}
-use Rattle.pg_interval.proofs.DigitTexts.{and_left, and_right, or_none_left, or_none_right, split_none, split_at, none_of_digits, digit_no_point, digit_no_colon}
-use Rattle.pg_interval.proofs.ReadNumbers.{split_parts, two_parts, turned_sign, fraction_digits, none_right, not_digit_first}
+use Rattle.pg_interval.proofs.DigitTexts.{or_none_left, or_none_right, split_none, split_at, none_of_digits, digit_no_point, digit_no_colon}
+use Rattle.pg_interval.proofs.ReadNumbers.{split_parts, two_parts, turned_sign, none_right, not_digit_first}
 
 -- what stands in front of the first part
 pub parts_front : (q : ℕ → Bool) (h r : List ℕ) (p : List ℕ) (ps : List (List ℕ)) → list_any q h ≡ false → slice_split q r ≡ p ∷ ps → slice_split q (h ++ r) ≡ (h ++ p) ∷ ps
@@ -125,6 +125,7 @@ no_colon_tail c cs h = by (is_point c) (list_all is_digit cs) refl refl
   where
     point_no_colon : (c : ℕ) → is_point c ≡ true → is_colon c ≡ false
     point_no_colon c h = grind arith
+
     by : (a b : Bool) → is_point c ≡ a → list_all is_digit cs ≡ b → (is_point c && list_all is_digit cs) ≡ false
     by false b e f = ap (λ x. x && list_all is_digit cs) e
     by true false e f = ap (λ x. is_point c && x) f ∙ none_right (is_point c)

@@ -1,6 +1,6 @@
 -- The steps by which a reader goes over the tokens of a text.
-use Rattle.std.proofs.Common.{◌≡◌, ℕ, suc, ◌+◌, ◌-◌, ◌<◌, ◌≤◌, Bool, true, false, not, ◌&&◌, ◌||◌, ◌⊎◌, List, [], ◌∷◌, ◌++◌, length, take, drop, get_or, map, ap, ◌∙◌, sym, refl, subst, arith, Option, None, Some, Result, Ok, Err}
-use mathlib.Core.List.{append_assoc, append-nil}
+use Rattle.std.proofs.Common.{◌≡◌, ℕ, suc, ◌+◌, ◌-◌, ◌<◌, ◌≤◌, Bool, true, false, not, ◌&&◌, ◌||◌, List, [], ◌∷◌, ◌++◌, length, take, drop, get_or, map, ap, ◌∙◌, sym, refl, subst, arith, Option, None, Some, Result, Ok, Err}
+use mathlib.Core.List.{append-nil}
 use Rattle.std.specs.Prelude.{cond, option_map, if◌then◌else◌, ◌==◌, filter, codes, bytes_eq}
 use Rattle.std.specs.List.{list_all, list_any, slice_split, take_while, prefix_len}
 use Rattle.std.proofs.Math.Seq.{take-suc}
@@ -12,12 +12,12 @@ use Rattle.pg_interval.specs.Decimals.{Decimal, TimeUnit, Year, Month, Day, Hour
 use Rattle.pg_interval.specs.Pairs.{Pair, pair, decimal_pair, checked}
 use Rattle.pg_interval.specs.PostgresText.{Token, Number, Word, Joined, Time, Other, token_of, time_of, time_pairs, or_other, token_split, token_of_parts, pairs_of_tokens, is_number_byte, unless_zero, those_not_zero, seconds_of, trimmed_start, trimmed_end, unit_of_word, unit_of_verbose_word}
 use Rattle.pg_interval.specs.Reader.{capped_decimal, turned_if, number_held}
-use Rattle.pg_interval.specs.WordReader.{State, Times, has, left, pair_left, time_left, taken_pair, taken, taken_one, taken_unless_zero, taken_times, times_of, times_of_parts, held_times, turned_by, unit_in, out_of_range, with_unit}
+use Rattle.pg_interval.specs.WordReader.{State, Times, has, left, pair_left, time_left, taken, taken_one, taken_unless_zero, taken_times, times_of, times_of_parts, held_times, turned_by, unit_in, out_of_range, with_unit}
 use Rattle.pg_interval.specs.declared.pg_interval.Interval.{Interval}
 use Rattle.pg_interval.specs.declared.interval_parse.parse_error.DecimalError.{DecimalError}
 use Rattle.pg_interval.specs.declared.interval_parse.parse_error.ParseError.{ParseError}
 use Rattle.pg_interval.specs.declared.interval_parse.parse_error.ParseError.TheVariants.{ParseFloatErr}
-use Rattle.pg_interval.proofs.DigitTexts.{or_none_left, or_none_right, split_at, tokens_whole}
+use Rattle.pg_interval.proofs.DigitTexts.{split_at, tokens_whole}
 use Rattle.pg_interval.proofs.PartTexts.{number_token}
 use Rattle.pg_interval.proofs.ReadSums.{tallied_capped, is_zero_capped}
 
@@ -74,6 +74,7 @@ space_last (c ∷ cs) y h = by (list_all is_whitespace (c ∷ cs)) refl (space_l
         true_right : (b : Bool) → (b && true) ≡ b
         true_right true = refl
         true_right false = refl
+
     by : (b : Bool) → list_all is_whitespace (c ∷ cs) ≡ b → trimmed_end (cs ++ y ∷ []) ≡ trimmed_end cs → trimmed_end ((c ∷ cs) ++ y ∷ []) ≡ trimmed_end (c ∷ cs)
     by b e k = (rw (more, k) refl)
 
@@ -237,15 +238,19 @@ alone_word t w e = by (list_any is_colon t) e
     no_time : (o : Option (List Pair)) → or_other o ≡ Word w → w ≡ t
     no_time None e = cc
     no_time (Some ps) e = cc
+
     of_parts : (n r : List ℕ) → n ++ r ≡ t → token_of_parts n r ≡ Word w → w ≡ t
     of_parts n [] whole e = cc
     of_parts [] (c ∷ cs) whole e = (let same : c ∷ cs ≡ w = cc in sym same) ∙ whole
     of_parts (d ∷ ds) (c ∷ cs) whole e = cc
+
     parts_whole : (n : ℕ) (xs : List ℕ) → take n xs ++ drop n xs ≡ xs
     parts_whole n xs = take-append-drop n xs
+
     of_split : (n r : List ℕ) (b : Bool) → n ++ r ≡ t → (if b then token_of_parts n r else Other) ≡ Word w → w ≡ t
     of_split n r true whole e = of_parts n r whole e
     of_split n r false whole e = cc
+
     by : (b : Bool) → (if b then time_of t else token_split (take_while is_number_byte t) (drop (length (take_while is_number_byte t)) t)) ≡ Word w → w ≡ t
     by true e = no_time (time_pairs (begins is_minus t) (slice_split is_colon (without_sign t))) e
     by false e = of_split (take_while is_number_byte t) (drop (length (take_while is_number_byte t)) t) (list_all is_letter (drop (length (take_while is_number_byte t)) t)) (ap (λ k. take_while is_number_byte t ++ drop k t) (length-prefix_len is_number_byte t) ∙ parts_whole (prefix_len is_number_byte t) t) e
@@ -371,9 +376,11 @@ after_time verbose turn s rest (Some t) = by (pairs_of_tokens (unit_in verbose) 
     none : (o : Option State) → no_answer ≡ (o >>= λ t. no_answer)
     none None = refl
     none (Some t) = refl
+
     more : (o : Option State) (qs : List Pair) → ((o >>= λ u. taken turn u qs) >>= λ u. Some u.sum) ≡ (o >>= λ u. taken turn u qs >>= λ u. Some u.sum)
     more None qs = refl
     more (Some u) qs = refl
+
     by : (o : Option (List Pair)) → ((o >>= λ qs. Some (pairs_of_times t ++ qs)) >>= λ ps. taken turn s ps >>= λ u. Some u.sum) ≡ (taken_times s (held_times turn t) >>= λ u. o >>= λ ps. taken turn u ps >>= λ u. Some u.sum)
     by None = none (taken_times s (held_times turn t))
     by (Some qs) = ap (λ o. o >>= λ u. Some u.sum) (taken_append turn s (pairs_of_times t) qs) ∙ ap (λ o. (o >>= λ u. taken turn u qs) >>= λ u. Some u.sum) (taken_those turn s t) ∙ more (taken_times s (held_times turn t)) qs

@@ -1,5 +1,5 @@
 -- What the readers of words answer at the end of a text.
-use Rattle.std.proofs.Common.{◌≡◌, ℕ, ◌-◌, ◌<◌, ◌≤◌, Bool, true, false, not, ◌&&◌, ◌||◌, List, [], ◌∷◌, ◌++◌, length, take, map, ap, ◌∙◌, sym, refl, arith, Option, None, Some, Result, Ok, Err}
+use Rattle.std.proofs.Common.{◌≡◌, ℕ, ◌-◌, ◌<◌, ◌≤◌, Bool, true, false, not, ◌&&◌, ◌||◌, List, [], ◌∷◌, length, take, map, ap, ◌∙◌, sym, refl, arith, Option, None, Some, Result, Ok, Err}
 use Rattle.std.specs.Prelude.{if◌then◌else◌, ◌==◌, nat_lt, codes, bytes_eq}
 use Rattle.std.specs.Bool.{nat_eq}
 use Rattle.std.specs.List.{list_any, ends_with}
@@ -9,7 +9,7 @@ use Rattle.pg_interval.specs.Pairs.{Pair, turned, total_of, nothing, judged}
 use Rattle.pg_interval.specs.PostgresText.{same_unit, each_unit_once, pairs_of_tokens, pairs_by_words, postgres_pairs, verbose_pairs, verbose_pairs_within, pairs_after_at, pairs_from_at, trimmed, trimmed_start, trimmed_end, token_of, unit_of_word, unit_of_verbose_word}
 use Rattle.pg_interval.specs.Reading.{Style, Postgres, PostgresVerbose, reading, of_shape, pairs_of}
 use Rattle.pg_interval.specs.Reader.{joined, tallied}
-use Rattle.pg_interval.specs.WordReader.{State, answered, has, left, none_seen, out_of_range, start, taken, taken_one, turned_by, with_unit, within_left}
+use Rattle.pg_interval.specs.WordReader.{State, answered, has, left, none_seen, out_of_range, start, taken, turned_by, with_unit, within_left}
 use Rattle.pg_interval.specs.declared.pg_interval.Interval.{Interval}
 use Rattle.pg_interval.specs.declared.interval_parse.parts.Seen.{Seen}
 use Rattle.pg_interval.specs.declared.interval_parse.parse_error.Reason.TheVariants.{TooLong, Shape}
@@ -129,7 +129,7 @@ taken_by turn s p ps false e h =
     let n = turned_by turn p.number in
     h (record { seen = with_unit s.seen p.unit; sum = tallied out_of_range p.unit n s.sum })
     ∙ ap (λ r. if once_after (with_unit s.seen p.unit) ps then Some (let t : State = record { seen = seen_after (with_unit s.seen p.unit) ps; sum = r } in t) else None)
-      (joined_joined s.sum (total_of out_of_range (turned_pair turn p ∷ [])) (total_of out_of_range (map (turned_pair turn) ps)) ∙ ap (joined s.sum) (sym (total_more out_of_range (turned_pair turn p ∷ []) (map (turned_pair turn) ps))))
+    (joined_joined s.sum (total_of out_of_range (turned_pair turn p ∷ [])) (total_of out_of_range (map (turned_pair turn) ps)) ∙ ap (joined s.sum) (sym (total_more out_of_range (turned_pair turn p ∷ []) (map (turned_pair turn) ps))))
 
 taken_is : (turn : Bool) (s : State) (ps : List Pair) → taken turn s ps ≡ (if once_after s.seen ps then Some (State-after turn s ps) else None)
 unfolding State-after once_after seen_after
@@ -149,7 +149,6 @@ unturned (p ∷ ps) = ap (λ qs. p ∷ qs) (unturned ps)
 all_turned : (ps : List Pair) → map (turned_pair true) ps ≡ map turned ps
 unfolding turned_pair
 all_turned ps = refl
-
 
 -- the styles whose numbers fail as decimals
 record IsDecimal (style : Style) : Type 0 where

@@ -6,7 +6,7 @@ use Rattle.pg_interval.specs.Decimals.{TimeUnit, decimal_of}
 use Rattle.pg_interval.specs.Pairs.{checked, total_of}
 use Rattle.pg_interval.specs.IsoText.{is_designator, is_item_number, items_of, pairs_of_items, date_unit, time_unit}
 use Rattle.pg_interval.specs.Reader.{joined, tallied, so_far}
-use Rattle.pg_interval.specs.WordReader.{out_of_range, rest_of}
+use Rattle.pg_interval.specs.WordReader.{out_of_range}
 use Rattle.pg_interval.specs.declared.pg_interval.Interval.{Interval}
 use Rattle.pg_interval.specs.declared.interval_parse.parts.Items.{Items}
 use Rattle.pg_interval.specs.declared.interval_parse.parse_error.ParseError.{ParseError}

@@ -1,11 +1,11 @@
 -- What the readers of interval texts keep on their way through a text.
 use Rattle.std.specs.List.{list_all}
-use Rattle.std.specs.Prelude.{ℕ, ◌+◌, ◌-◌, ◌*◌, ◌/◌, ◌^◌, min, Bool, true, false, not, ◌&&◌, ◌||◌, ◌==◌, nat_lt, if◌then◌else◌, List, [], ◌∷◌, ◌++◌, map, ℤ, pos, ◌+ℤ◌, ◌-ℤ◌, Option, None, Some, Result, Ok, Err}
-use Rattle.pg_interval.specs.Texts.{◌>>=◌, is_whitespace, is_digit, is_letter, is_point, is_colon, is_minus, tokens}
+use Rattle.std.specs.Prelude.{ℕ, ◌+◌, ◌*◌, ◌/◌, ◌^◌, min, Bool, true, false, not, ◌&&◌, ◌||◌, ◌==◌, if◌then◌else◌, List, [], ◌∷◌, pos, ◌-ℤ◌, Option, None, Some, Result, Ok, Err}
+use Rattle.pg_interval.specs.Texts.{is_whitespace, is_digit, is_letter, is_point, is_colon, is_minus}
 use Rattle.pg_interval.specs.Decimals.{Decimal, TimeUnit, negated, worth}
 use Rattle.pg_interval.specs.Decimals as decimals
-use Rattle.pg_interval.specs.Pairs.{Pair, turned, total_of, plus, judged}
-use Rattle.pg_interval.specs.PostgresText.{token_of, pairs_of_tokens, is_number_byte}
+use Rattle.pg_interval.specs.Pairs.{total_of, plus}
+use Rattle.pg_interval.specs.PostgresText.{is_number_byte}
 use Rattle.pg_interval.specs.IsoText.{is_designator}
 use Rattle.pg_interval.specs.declared.pg_interval.Interval.{Interval}
 use Rattle.pg_interval.specs.declared.interval_parse.texts.Kind.{Kind}
@@ -15,7 +15,6 @@ use Rattle.pg_interval.specs.declared.interval_parse.parts.Amount.{Amount}
 use Rattle.pg_interval.specs.declared.interval_parse.parts.Totals.{Totals}
 use Rattle.pg_interval.specs.declared.interval_parse.parts.Unit.{Unit}
 use Rattle.pg_interval.specs.declared.interval_parse.parts.Unit.TheVariants as units
-use Rattle.pg_interval.specs.declared.interval_parse.parse_error.DecimalError.{DecimalError}
 use Rattle.pg_interval.specs.declared.interval_parse.parse_error.ParseError.{ParseError}
 
 -- the bytes of a kind

@@ -1,12 +1,12 @@
 -- What a reader of words and times keeps on its way, and what it answers from there.
-use Rattle.std.specs.Prelude.{ℕ, Bool, true, false, not, ◌&&◌, if◌then◌else◌, List, [], ◌∷◌, ◌++◌, map, take, codes, bytes_eq, Option, None, Some, option_map, Result, Ok, Err}
+use Rattle.std.specs.Prelude.{ℕ, Bool, true, false, ◌&&◌, if◌then◌else◌, List, [], ◌∷◌, map, codes, bytes_eq, Option, None, Some, option_map, Result, Ok, Err}
 use Rattle.std.specs.Borrow.{Bor}
-use Rattle.std.specs.List.{list_any, slice_split}
+use Rattle.std.specs.List.{slice_split}
 use Rattle.pg_interval.specs.Texts.{◌>>=◌, is_colon, is_point, is_minus, are_digits, begins, without_sign, tokens}
 use Rattle.pg_interval.specs.Decimals.{Decimal, TimeUnit, Year, Month, Day, Hour, Minute, Second, number_of, decimal_of, is_zero_decimal}
-use Rattle.pg_interval.specs.Pairs.{Pair, pair, turned_number, turned, checked, judged, nothing}
-use Rattle.pg_interval.specs.PostgresText.{Token, token_of, pairs_of_tokens, seconds_of, unit_of_word, unit_of_verbose_word}
-use Rattle.pg_interval.specs.Reader.{decimal_from, capped_decimal, turned_if, fraction_after, so_far, tallied}
+use Rattle.pg_interval.specs.Pairs.{Pair, turned_number, checked, judged, nothing}
+use Rattle.pg_interval.specs.PostgresText.{token_of, pairs_of_tokens, seconds_of, unit_of_word, unit_of_verbose_word}
+use Rattle.pg_interval.specs.Reader.{decimal_from, capped_decimal, turned_if, so_far, tallied}
 use Rattle.pg_interval.specs.declared.pg_interval.Interval.{Interval}
 use Rattle.pg_interval.specs.declared.interval_parse.parts.Clock.{Clock}
 use Rattle.pg_interval.specs.declared.interval_parse.parts.Seen.{Seen}

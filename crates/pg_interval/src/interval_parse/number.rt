@@ -170,9 +170,7 @@ impl Number {
             Unit::Hour => {
                 Amount::new(0, 0, 3_600_000_000 * whole + 60_000_000 * self.rounded(60))
             }
-            Unit::Minute => {
-                Amount::new(0, 0, 60_000_000 * whole + 1_000_000 * self.rounded(60))
-            }
+            Unit::Minute => { Amount::new(0, 0, 60_000_000 * whole + 1_000_000 * self.rounded(60)) }
             Unit::Second => Amount::new(0, 0, 1_000_000 * whole + self.rounded(1_000_000)),
         }
     }

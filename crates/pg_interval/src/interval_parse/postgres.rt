@@ -37,11 +37,20 @@ impl Seen {
     {
         match unit {
             Unit::Year => Seen { year: true, ..self },
-            Unit::Month => Seen { month: true, ..self },
+            Unit::Month => Seen {
+                month: true,
+                ..self
+            },
             Unit::Day => Seen { day: true, ..self },
             Unit::Hour => Seen { hour: true, ..self },
-            Unit::Minute => Seen { minute: true, ..self },
-            Unit::Second => Seen { second: true, ..self },
+            Unit::Minute => Seen {
+                minute: true,
+                ..self
+            },
+            Unit::Second => Seen {
+                second: true,
+                ..self
+            },
         }
     }
 }

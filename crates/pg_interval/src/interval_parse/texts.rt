@@ -79,12 +79,7 @@ pub(super) fn is_number_byte(byte: u8) -> bool
 fn is_mark(byte: u8) -> bool
     ensures { result ≡ (is_designator byte || byte == 84) }
 {
-    byte == b'Y'
-        || byte == b'M'
-        || byte == b'D'
-        || byte == b'H'
-        || byte == b'S'
-        || byte == b'T'
+    byte == b'Y' || byte == b'M' || byte == b'D' || byte == b'H' || byte == b'S' || byte == b'T'
 }
 
 /// Is the byte of this kind?

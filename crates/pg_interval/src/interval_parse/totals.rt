@@ -4,7 +4,6 @@ ghost use Rattle.pg_interval.specs.Amounts.{IsWithin};
 ghost use Rattle.pg_interval.specs.Pairs.{checked, fits_field, judged, nothing};
 ghost use Rattle.pg_interval.specs.Decimals.{whole_part, worth};
 ghost use Rattle.pg_interval.specs.Reader.{decimal_from, joined, number_read, so_far, tallied, time_unit, with_if};
-
 ghost use Rattle.pg_interval.specs.declared.interval_parse.parse_error.DecimalError.TheVariants.{OutOfRange};
 ghost use Rattle.pg_interval.specs.declared.interval_parse.parse_error.ParseError.TheVariants.{ParseFloatErr};
 
@@ -119,9 +118,10 @@ impl Totals {
         let Ok(days) = i32::try_from(difference(self.plus.days, self.minus.days)) else {
             return Err(ParseError::InvalidInterval(Reason::Overflow));
         };
-        let Ok(microseconds) =
-            i64::try_from(difference(self.plus.microseconds, self.minus.microseconds))
-        else {
+        let Ok(microseconds) = i64::try_from(difference(
+            self.plus.microseconds,
+            self.minus.microseconds,
+        )) else {
             return Err(ParseError::InvalidTime(Reason::Overflow));
         };
         Ok(Interval::new(months, days, microseconds))

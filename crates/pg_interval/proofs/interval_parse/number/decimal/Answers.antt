@@ -1,8 +1,8 @@
-use Rattle.std.proofs.Common.{◌≡◌, ◌<◌, ◌∙◌, sym, length, arith, ap}
+use Rattle.std.proofs.Common.{◌∙◌, sym, arith, ap}
 use Rattle.pg_interval.specs.Texts.{begins, is_minus}
-use Rattle.pg_interval.specs.Decimals.{decimal_of, number_of}
-use Rattle.pg_interval.specs.Reader.{fraction_after, capped_decimal}
-use Rattle.pg_interval.proofs.ReadNumbers.{from_fraction, decimal_is, malformed_read, long_read, good_read}
+use Rattle.pg_interval.specs.Decimals.{number_of}
+use Rattle.pg_interval.specs.Reader.{capped_decimal}
+use Rattle.pg_interval.proofs.ReadNumbers.{decimal_is, malformed_read, long_read, good_read}
 use Rattle.pg_interval.proofs.interval_parse.number.decimal.Goals as goal
 
 pub returns-in_default : goal.returns-in_default

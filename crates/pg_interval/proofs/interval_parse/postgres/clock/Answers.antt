@@ -1,4 +1,4 @@
-use Rattle.std.proofs.Common.{◌≡◌, ◌<◌, ◌++◌, ◌∙◌, ap, sym, length, arith}
+use Rattle.std.proofs.Common.{◌++◌, ◌∙◌, ap, sym, arith}
 use Rattle.pg_interval.specs.Texts.{begins, is_minus}
 use Rattle.pg_interval.specs.Reader.{capped_decimal}
 use Rattle.pg_interval.specs.Decimals.{number_of}

@@ -1,9 +1,9 @@
-use Rattle.std.proofs.Common.{◌≡◌, ◌∙◌, true, false, ap, sym, take, length, ◌-◌}
+use Rattle.std.proofs.Common.{◌∙◌, true, false, ap, sym, take, length, ◌-◌}
 use Rattle.std.specs.Prelude.{codes}
 use Rattle.std.specs.Bool.{nat_eq}
 use Rattle.std.specs.List.{ends_with}
 use Rattle.pg_interval.specs.Texts.{begins}
-use Rattle.pg_interval.specs.PostgresText.{trimmed_start, trimmed_end}
+use Rattle.pg_interval.specs.PostgresText.{trimmed_end}
 use Rattle.pg_interval.specs.WordReader.{answered, within_left}
 use Rattle.pg_interval.proofs.ReadWhole.{no_at, plain_verbose, ago_verbose}
 use Rattle.pg_interval.proofs.interval_parse.postgres.read_verbose.Goals as goal

@@ -7,7 +7,7 @@ abbrev pub invariant-loop-rest : goal.invariant-loop-rest
 invariant-loop-rest l = record {
   left : left l.verbose l.turn (state l.words) l.rest ≡ left l.verbose l.turn start l.text;
   room : l.words.totals.count + 3 * length l.rest ≤ 3 * length l.text;
-  solid : begins is_whitespace l.rest ≡ false
+  solid : begins is_whitespace l.rest ≡ false;
 }
 
 abbrev pub decreases-loop-rest : goal.decreases-loop-rest

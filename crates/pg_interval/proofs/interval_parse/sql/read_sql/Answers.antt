@@ -66,4 +66,4 @@ returns-clause-answer c =
     let e = c.next_token-4.result.0.now in
     let re = c.next_token-4.result.1.now in
     let shape = sql_three c.args.text.now a ra b rb d rd e re c.next_token.ensures c.next_token-2.ensures c.next_token-3.ensures c.next_token-4.ensures (len_some a c.is_empty.result c.is_empty.ensures c.if-is_empty.false) (len_some b c.is_empty-2.result c.is_empty-2.ensures c.if-is_empty-2.false) (len_some d c.is_empty-3.result c.is_empty-3.ensures c.if-is_empty-3.false) (len_zero e c.is_empty-4.result c.is_empty-4.ensures c.if-not-is_empty.false) in
-    c.when-3.ensures.answer ∙ c.take_three-shaped.ensures.taken ∙ ap (λ r. answer r (pairs_of_three a b d)) c.new-totals.ensures.sums ∙ sym (ap (answer (Ok nothing)) shape)
+    c.when-2.ensures.answer ∙ c.take_three-shaped.ensures.taken ∙ ap (λ r. answer r (pairs_of_three a b d)) c.new-totals.ensures.sums ∙ sym (ap (answer (Ok nothing)) shape)

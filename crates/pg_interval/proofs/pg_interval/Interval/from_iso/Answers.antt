@@ -1,6 +1,6 @@
-use Rattle.std.proofs.Common.{◌≡◌, ◌≤◌, ◌<◌, ◌∙◌, ap, sym, length, arith}
+use Rattle.std.proofs.Common.{◌∙◌, ap, sym, length, arith}
 use Rattle.pg_interval.specs.IsoText.{iso_pairs}
-use Rattle.pg_interval.specs.Reading.{Iso8601, of_shape, reading}
+use Rattle.pg_interval.specs.Reading.{Iso8601, of_shape}
 use Rattle.pg_interval.proofs.ReadWhole.{long_text, short_text}
 use Rattle.pg_interval.proofs.pg_interval.Interval.from_iso.Goals as goal
 

@@ -1,5 +1,5 @@
-use Rattle.std.proofs.Common.{◌≡◌, ◌≤◌, ◌<◌, ◌∙◌, ap, sym, length, arith, false}
-use Rattle.pg_interval.specs.Reading.{Postgres, reading}
+use Rattle.std.proofs.Common.{◌∙◌, ap, sym, length, arith, false}
+use Rattle.pg_interval.specs.Reading.{Postgres}
 use Rattle.pg_interval.specs.WordReader.{answered, left, start}
 use Rattle.pg_interval.proofs.ReadWhole.{long_text, postgres_whole}
 use Rattle.pg_interval.proofs.pg_interval.Interval.from_postgres.Goals as goal

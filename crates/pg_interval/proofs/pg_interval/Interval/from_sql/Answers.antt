@@ -1,6 +1,6 @@
-use Rattle.std.proofs.Common.{◌≡◌, ◌≤◌, ◌<◌, ◌∙◌, ap, sym, length, arith}
+use Rattle.std.proofs.Common.{◌∙◌, ap, sym, length, arith}
 use Rattle.pg_interval.specs.SqlText.{sql_pairs}
-use Rattle.pg_interval.specs.Reading.{SqlStandard, of_shape, reading}
+use Rattle.pg_interval.specs.Reading.{SqlStandard, of_shape}
 use Rattle.pg_interval.specs.WordReader.{answered}
 use Rattle.pg_interval.proofs.ReadWhole.{long_text, short_text}
 use Rattle.pg_interval.proofs.ReadFields.{sql_answered}

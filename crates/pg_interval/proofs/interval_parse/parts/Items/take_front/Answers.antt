@@ -1,4 +1,4 @@
-use Rattle.std.proofs.Common.{◌≡◌, ◌<◌, ◌∷◌, ◌++◌, ◌∙◌, ap, sym, length, get_or, true, false, subst, arith}
+use Rattle.std.proofs.Common.{◌≡◌, ◌∷◌, ◌++◌, ◌∙◌, ap, sym, get_or, arith}
 use Rattle.pg_interval.specs.Reader.{so_far}
 use Rattle.pg_interval.specs.ItemReader.{left}
 use Rattle.pg_interval.proofs.ReadTokens.{number_alone, word_alone, len_zero, len_some, cons_of}

@@ -1,5 +1,5 @@
-use Rattle.std.proofs.Common.{◌≡◌, ℕ, ◌+◌, ◌*◌, ◌/◌, ◌^◌, ◌<◌, ◌≤◌, arith, lit<, rules, Fits, w64}
-use Rattle.std.proofs.Math.Nat.{one-le-pow, pow-le-pow_right, div-le_self, mul-le-mul_left}
+use Rattle.std.proofs.Common.{ℕ, ◌+◌, ◌*◌, ◌/◌, ◌^◌, ◌<◌, ◌≤◌, arith, lit<, rules, Fits, w64}
+use Rattle.std.proofs.Math.Nat.{one-le-pow, div-le_self, mul-le-mul_left}
 use Rattle.pg_interval.proofs.interval_parse.parts.Number.rounded.Goals as goal
 
 pub nonzero_div-result : goal.nonzero_div-result

@@ -1,6 +1,6 @@
-use Rattle.std.proofs.Common.{◌∙◌, ap, sym, Some, ◌∷◌, []}
-use Rattle.pg_interval.specs.Texts.{◌>>=◌, is_colon, is_point}
-use Rattle.pg_interval.specs.Decimals.{Year, Month, Day, Hour, Minute, Second}
+use Rattle.std.proofs.Common.{◌∙◌, ap, sym}
+use Rattle.pg_interval.specs.Texts.{is_point}
+use Rattle.pg_interval.specs.Decimals.{Minute}
 use Rattle.pg_interval.specs.SqlText.{field_number, field_pair, second_pairs}
 use Rattle.pg_interval.specs.Reader.{so_far}
 use Rattle.pg_interval.specs.FieldReader.{answer, int_read}
@@ -16,7 +16,7 @@ returns-in_default-clause-taken c =
     let r = so_far c.args.self.now in
     let b = c.args.minus in
     let m = c.cut.result.0.now in
-    one_step r (so_far c.take_whole-in_default.new.self) (field_pair b Minute m) (whole_step (so_far c.take_whole-in_default.new.self) r Minute (int_read c.field_number-in_default.result) (field_number b m) c.take_whole-in_default.ensures.sums c.field_number-in_default.ensures)
+    one_step r (so_far c.take_whole.new.self) (field_pair b Minute m) (whole_step (so_far c.take_whole.new.self) r Minute (int_read c.field_number.result) (field_number b m) c.take_whole.ensures.sums c.field_number.ensures)
     ∙ sym (ap (answer r) (minutes_alone b c.args.text.now m c.cut.result.1.now c.cut.ensures.parts c.cut.ensures.front c.cut.ensures.back c.in_default.ensures (sym c.begins_with_sign.ensures ∙ c.if-begins_with_sign.false)))
 
 pub returns-then-run_len-seconds-clause-taken : goal.returns-then-run_len-seconds-clause-taken
@@ -28,7 +28,7 @@ returns-clause-taken c =
     let b = c.args.minus in
     let m = c.cut.result.0.now in
     let s = c.in-Some.seconds.now in
-    let first = whole_step (so_far c.take_whole.new.self) r Minute (int_read c.field_number.result) (field_number b m) c.take_whole.ensures.sums c.field_number.ensures in
+    let first = whole_step (so_far c.take_whole-2.new.self) r Minute (int_read c.field_number-2.result) (field_number b m) c.take_whole-2.ensures.sums c.field_number-2.ensures in
     c.take_seconds.ensures.taken
-    ∙ then_pairs r (so_far c.take_whole.new.self) (field_pair b Minute m) (second_pairs b (slice_split is_point s)) first
+    ∙ then_pairs r (so_far c.take_whole-2.new.self) (field_pair b Minute m) (second_pairs b (slice_split is_point s)) first
     ∙ sym (ap (answer r) (minutes_seconds b c.args.text.now m c.cut.result.1.now s c.run_len.result c.cut.ensures.parts c.in-Some.ensures c.cut.ensures.front c.run_len.ensures.run c.run_len.ensures.within c.if-run_len-seconds.false (sym c.begins_with_sign.ensures ∙ c.if-begins_with_sign.false)))

@@ -1,6 +1,5 @@
-use Rattle.std.proofs.Common.{◌∙◌, ap, sym, Some, ◌∷◌, []}
-use Rattle.pg_interval.specs.Texts.{is_point}
-use Rattle.pg_interval.specs.Decimals.{Year, Month, Day, Hour, Minute, Second}
+use Rattle.std.proofs.Common.{◌∙◌, ap, sym}
+use Rattle.pg_interval.specs.Decimals.{Second}
 use Rattle.pg_interval.specs.SqlText.{field_number, field_pair, fraction_pair}
 use Rattle.pg_interval.specs.Reader.{so_far}
 use Rattle.pg_interval.specs.FieldReader.{answer, fraction_number, int_read}
@@ -15,7 +14,7 @@ returns-in_default-clause-taken c =
     let r = so_far c.args.self.now in
     let b = c.args.minus in
     let s = c.cut.result.0.now in
-    one_step r (so_far c.take_whole-in_default.new.self) (field_pair b Second s) (whole_step (so_far c.take_whole-in_default.new.self) r Second (int_read c.field_number-in_default.result) (field_number b s) c.take_whole-in_default.ensures.sums c.field_number-in_default.ensures)
+    one_step r (so_far c.take_whole.new.self) (field_pair b Second s) (whole_step (so_far c.take_whole.new.self) r Second (int_read c.field_number.result) (field_number b s) c.take_whole.ensures.sums c.field_number.ensures)
     ∙ sym (ap (answer r) (seconds_whole b c.args.text.now s c.cut.result.1.now c.cut.ensures.parts c.cut.ensures.front c.cut.ensures.back c.in_default.ensures (sym c.begins_with_sign.ensures ∙ c.if-begins_with_sign.false)))
 
 pub returns-then-run_len-fraction-clause-taken : goal.returns-then-run_len-fraction-clause-taken
@@ -30,7 +29,7 @@ returns-clause-taken c =
     let b = c.args.minus in
     let s = c.cut.result.0.now in
     let f = c.in-Some.fraction.now in
-    let first = whole_step (so_far c.take_whole.new.self) r Second (int_read c.field_number.result) (field_number b s) c.take_whole.ensures.sums c.field_number.ensures in
-    let second = whole_step (so_far c.take_whole-2.new.self) (so_far c.take_whole.new.self) Second (int_read c.fraction_number.result) (fraction_number b f) c.take_whole-2.ensures.sums c.fraction_number.ensures in
-    two_steps r (so_far c.take_whole.new.self) (so_far c.take_whole-2.new.self) (field_pair b Second s) (fraction_pair b f) first second
+    let first = whole_step (so_far c.take_whole-2.new.self) r Second (int_read c.field_number-2.result) (field_number b s) c.take_whole-2.ensures.sums c.field_number-2.ensures in
+    let second = whole_step (so_far c.take_whole-3.new.self) (so_far c.take_whole-2.new.self) Second (int_read c.fraction_number.result) (fraction_number b f) c.take_whole-3.ensures.sums c.fraction_number.ensures in
+    two_steps r (so_far c.take_whole-2.new.self) (so_far c.take_whole-3.new.self) (field_pair b Second s) (fraction_pair b f) first second
     ∙ sym (ap (answer r) (seconds_good b c.args.text.now s c.cut.result.1.now f c.run_len.result c.cut.ensures.parts c.in-Some.ensures c.cut.ensures.front c.run_len.ensures.run c.run_len.ensures.within c.if-run_len-fraction.false c.if-fraction-gt6.false (sym c.begins_with_sign.ensures ∙ c.if-begins_with_sign.false)))

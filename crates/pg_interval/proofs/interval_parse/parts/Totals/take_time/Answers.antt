@@ -1,6 +1,6 @@
-use Rattle.std.proofs.Common.{◌∙◌, ap, sym, Some, ◌∷◌, []}
-use Rattle.pg_interval.specs.Texts.{◌>>=◌, is_colon}
-use Rattle.pg_interval.specs.Decimals.{Year, Month, Day, Hour, Minute, Second}
+use Rattle.std.proofs.Common.{◌∙◌, ap, sym}
+use Rattle.pg_interval.specs.Texts.{is_colon}
+use Rattle.pg_interval.specs.Decimals.{Hour}
 use Rattle.pg_interval.specs.SqlText.{field_number, field_pair}
 use Rattle.pg_interval.specs.Reader.{so_far}
 use Rattle.pg_interval.specs.FieldReader.{answer, int_read, minute_pairs}

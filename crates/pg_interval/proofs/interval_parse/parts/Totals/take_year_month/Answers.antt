@@ -1,6 +1,6 @@
 use Rattle.std.proofs.Common.{◌∙◌, ◌∷◌, [], ap, sym, Some}
 use Rattle.pg_interval.specs.Texts.{begins, is_minus}
-use Rattle.pg_interval.specs.Decimals.{Year, Month, Day, Hour, Minute, Second}
+use Rattle.pg_interval.specs.Decimals.{Year, Month}
 use Rattle.pg_interval.specs.SqlText.{field_number, field_pair}
 use Rattle.pg_interval.specs.Reader.{so_far}
 use Rattle.pg_interval.specs.FieldReader.{answer, int_read}

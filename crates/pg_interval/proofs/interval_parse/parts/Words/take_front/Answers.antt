@@ -1,4 +1,4 @@
-use Rattle.std.proofs.Common.{◌≡◌, ◌<◌, ◌++◌, ◌∙◌, ap, sym, length, true, false, arith}
+use Rattle.std.proofs.Common.{◌++◌, ◌∙◌, ap, sym}
 use Rattle.std.specs.List.{list_all, list_any}
 use Rattle.pg_interval.specs.Texts.{begins, is_colon, is_whitespace}
 use Rattle.pg_interval.specs.PostgresText.{is_number_byte}
