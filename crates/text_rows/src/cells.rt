@@ -5,9 +5,7 @@ use bytes::BytesMut;
 use jiff::SignedDuration;
 use pg_interval::Interval;
 use pg_messages::PgStr;
-use pg_text::{
-    CellError, FormatOptions, FromSql, FromSqlText, IsNull, PgType, ToSql, ToSqlText,
-};
+use pg_text::{CellError, FormatOptions, FromSql, FromSqlText, IsNull, PgType, ToSql, ToSqlText};
 use std::alloc::{AllocError, Global};
 
 /// What a row on cells is answered.
@@ -108,7 +106,10 @@ fn cell_of(alloc: Global, text: &str) -> Result<Vec<u8>, AllocError> {
 
 fn read(alloc: Global, text: &str) -> Result<String, AllocError> {
     let cell = cell_of(alloc, text)?;
-    interval_told(alloc, Interval::from_sql(PgType::Interval, cell.as_slice()))
+    interval_told(
+        alloc,
+        <Interval as FromSql>::from_sql(PgType::Interval, cell.as_slice()),
+    )
 }
 
 fn read_some(alloc: Global, text: &str) -> Result<String, AllocError> {
@@ -147,7 +148,10 @@ fn some_told(
 /// The interval that a text stands for in a style.
 fn parse(alloc: Global, style: &str, text: &[u8]) -> Result<String, AllocError> {
     let options = options_with(alloc, style)?;
-    interval_told(alloc, Interval::from_sql_text(alloc, PgType::Interval, text, &options))
+    interval_told(
+        alloc,
+        Interval::from_sql_text(alloc, PgType::Interval, text, &options),
+    )
 }
 
 fn parse_hex(alloc: Global, style: &str, text: &str) -> Result<String, AllocError> {
@@ -161,11 +165,7 @@ fn parse_some(alloc: Global, style: &str, text: &[u8]) -> Result<String, AllocEr
     some_told(alloc, answer)
 }
 
-fn text_read_back(
-    alloc: Global,
-    interval: &Interval,
-    style: &str,
-) -> Result<String, AllocError> {
+fn text_read_back(alloc: Global, interval: &Interval, style: &str) -> Result<String, AllocError> {
     let options = options_with(alloc, style)?;
     interval_told(alloc, read_back(alloc, interval, &options))
 }
