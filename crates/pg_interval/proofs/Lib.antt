@@ -16,3 +16,10 @@ mod TextsRead
 pub mod TimeTexts
 pub mod VerboseReads
 pub mod VerboseTexts
+mod ReadFields
+mod ReadItems
+mod ReadNumbers
+mod ReadSums
+mod ReadTimes
+mod ReadTokens
+mod ReadWhole

@@ -1,3 +1,4 @@
+pub mod Amounts
 pub mod Arithmetic
 pub mod Cell
 pub mod Decimals
@@ -8,6 +9,10 @@ pub mod NormalForm
 pub mod Pairs
 pub mod PostgresText
 pub mod Printed
+pub mod Reader
 pub mod Reading
 pub mod SqlText
 pub mod Texts
+pub mod WordReader
+pub mod ItemReader
+pub mod FieldReader

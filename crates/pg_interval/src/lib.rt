@@ -11,4 +11,5 @@ mod pg_interval_sub;
 
 pub use interval_norm::IntervalNorm;
 pub use interval_parse::parse_error::{DecimalError, IntError, ParseError, Reason};
+pub use interval_parse::printed_texts_are_read_back;
 pub use pg_interval::Interval;

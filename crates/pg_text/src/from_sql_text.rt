@@ -3,7 +3,9 @@ ghost use Rattle.pg_text.specs.Cells.{IsRead};
 
 use crate::error::CellError;
 use crate::format::FormatOptions;
+use crate::format::interval_style::IntervalStyle;
 use crate::pg_type::PgType;
+use pg_interval::Interval;
 use std::alloc::Global;
 
 /// A value that is read of a cell's text.
@@ -23,6 +25,27 @@ pub trait FromSqlText: Sized {
         format_options: &FormatOptions,
     ) -> Result<Self, CellError>
         ensures { IsRead (read ty input.now format_options.now) result };
+}
+
+impl FromSqlText for Interval {
+    ghost use Rattle.pg_text.specs.Intervals.{read_text};
+
+    ghost read = { λ _ input options. read_text input options };
+
+    /// The interval that the text stands for in the options' style. `InvalidOptionValue`, with the style's text, comes
+    /// where that names none of the four, then `NotUtf8`, then `Parse` with the reader's refusal.
+    fn from_sql_text(
+        alloc: Global,
+        _ty: PgType,
+        input: &[u8],
+        format_options: &FormatOptions,
+    ) -> Result<Interval, CellError> {
+        let name = format_options.interval_style.as_str();
+        match IntervalStyle::named(name) {
+            Some(style) => style.read(input),
+            None => Err(CellError::invalid_option(alloc, name)),
+        }
+    }
 }
 
 impl<T: FromSqlText> FromSqlText for Option<T> {

@@ -5,7 +5,7 @@ use bytes::BytesMut;
 use jiff::SignedDuration;
 use pg_interval::Interval;
 use pg_messages::PgStr;
-use pg_text::{CellError, FormatOptions, FromSql, IsNull, PgType, ToSql, ToSqlText};
+use pg_text::{CellError, FormatOptions, FromSql, FromSqlText, IsNull, PgType, ToSql, ToSqlText};
 use std::alloc::{AllocError, Global};
 
 /// What a row on cells is answered.
@@ -24,6 +24,10 @@ pub(crate) fn answer(alloc: Global, word: &str, fields: &str) -> Result<String, 
         "binary_of_none" => binary(alloc, &None::<Interval>, first),
         "read" => read(alloc, first),
         "read_some" => read_some(alloc, first),
+        "parse" => parse(alloc, first, second.as_bytes()),
+        "parse_hex" => parse_hex(alloc, first, second),
+        "parse_some" => parse_some(alloc, first, second.as_bytes()),
+        "text_read_back" => text_read_back(alloc, &interval, first),
         _ => String::from_str(alloc, "no such row"),
     }
 }
@@ -102,7 +106,10 @@ fn cell_of(alloc: Global, text: &str) -> Result<Vec<u8>, AllocError> {
 
 fn read(alloc: Global, text: &str) -> Result<String, AllocError> {
     let cell = cell_of(alloc, text)?;
-    interval_told(alloc, Interval::from_sql(PgType::Interval, cell.as_slice()))
+    interval_told(
+        alloc,
+        <Interval as FromSql>::from_sql(PgType::Interval, cell.as_slice()),
+    )
 }
 
 fn read_some(alloc: Global, text: &str) -> Result<String, AllocError> {
@@ -136,4 +143,40 @@ fn some_told(
         Ok(None) => String::from_str(alloc, "None"),
         Err(error) => interval_told(alloc, Err(error)),
     }
+}
+
+/// The interval that a text stands for in a style.
+fn parse(alloc: Global, style: &str, text: &[u8]) -> Result<String, AllocError> {
+    let options = options_with(alloc, style)?;
+    interval_told(
+        alloc,
+        Interval::from_sql_text(alloc, PgType::Interval, text, &options),
+    )
+}
+
+fn parse_hex(alloc: Global, style: &str, text: &str) -> Result<String, AllocError> {
+    let bytes = cell_of(alloc, text)?;
+    parse(alloc, style, bytes.as_slice())
+}
+
+fn parse_some(alloc: Global, style: &str, text: &[u8]) -> Result<String, AllocError> {
+    let options = options_with(alloc, style)?;
+    let answer = Option::<Interval>::from_sql_text(alloc, PgType::Interval, text, &options);
+    some_told(alloc, answer)
+}
+
+fn text_read_back(alloc: Global, interval: &Interval, style: &str) -> Result<String, AllocError> {
+    let options = options_with(alloc, style)?;
+    interval_told(alloc, read_back(alloc, interval, &options))
+}
+
+/// The interval that its own text cell gives.
+fn read_back(
+    alloc: Global,
+    interval: &Interval,
+    options: &FormatOptions,
+) -> Result<Interval, CellError> {
+    let mut cell = BytesMut::new(alloc);
+    interval.to_sql_text(alloc, PgType::Interval, &mut cell, options)?;
+    Interval::from_sql_text(alloc, PgType::Interval, cell.as_slice(), options)
 }

@@ -1,14 +1,15 @@
 ghost use Rattle.std.specs.Prelude.{◌≡◌, ◌≤◌, ◌++◌, length, IfOk, OnOk, OnErr, string_bytes};
 ghost use Rattle.std.specs.Str.{IsUtf8};
 ghost use Rattle.pg_interval.specs.Printed.{printed};
-ghost use Rattle.pg_interval.specs.Reading.{StandsForOnly};
+ghost use Rattle.pg_interval.specs.Reading.{reading, StandsForOnly};
 ghost use Rattle.pg_text.specs.Cells.{IsRead};
+ghost use Rattle.pg_text.specs.Intervals.{read_in};
 ghost use Rattle.pg_text.specs.Words.{or_invalid, interval_style_of, printed_style};
 
 use crate::error::CellError;
 use crate::format::words::{is_name, trimmed};
 use bytes::BytesMut;
-use pg_interval::Interval;
+use pg_interval::{Interval, ParseError};
 use std::alloc::{AllocError, Global};
 
 pub const INTERVAL_STYLE_POSTGRES: &str = "postgres";
@@ -101,6 +102,33 @@ impl IntervalStyle {
             IntervalStyle::ISO8601 => interval.to_iso_8601(alloc),
             IntervalStyle::SQLStandard => interval.to_sql(alloc),
             IntervalStyle::PostgresVerbose => interval.to_postgres_verbose(alloc),
+        }
+    }
+
+    /// The interval that a text cell stands for in this style. `NotUtf8` comes before `Parse`, which has the reader's
+    /// refusal. No memory is taken.
+    #[tactic(auto, using(crate::proofs::Texts::read_as_text, crate::proofs::Texts::read_no_text))]
+    pub fn read(self, input: &[u8]) -> Result<Interval, CellError>
+        ensures { result ≡ read_in input.now (Ok self) }
+    {
+        match str::from_utf8(input) {
+            Ok(text) => match self.interval_in(text) {
+                Ok(interval) => Ok(interval),
+                Err(error) => Err(CellError::Parse(error)),
+            },
+            Err(_) => Err(CellError::NotUtf8),
+        }
+    }
+
+    /// The interval that a text stands for in this style.
+    fn interval_in(self, text: &str) -> Result<Interval, ParseError>
+        ensures { result ≡ reading (printed_style self) text.now }
+    {
+        match self {
+            IntervalStyle::Postgres => Interval::from_postgres(text),
+            IntervalStyle::ISO8601 => Interval::from_iso(text),
+            IntervalStyle::SQLStandard => Interval::from_sql(text),
+            IntervalStyle::PostgresVerbose => Interval::from_postgres_verbose(text),
         }
     }
 }
