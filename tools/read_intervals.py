@@ -2,7 +2,7 @@
 """What an interval text stands for in each of PostgreSQL's four styles: the rules of docs/FORMATS.md restated in plain
 Python, as a judge of the reader's answers.
 
-Reads rows of the program interval_rows from standard input, and writes the answers that it must give.
+Reads rows of the program interval_rows from standard input, and writes the answers that it must give to those that begin with `read`.
 """
 
 import re
@@ -152,7 +152,7 @@ def iso_pairs(text):
     return pairs
 
 
-def field(text, negative, places=0):
+def field(text, negative):
     if text == "":
         return "Failed to parse integer: empty"
     if not re.fullmatch("[0-9]+", text):
@@ -234,5 +234,6 @@ def read(style, text):
 
 if __name__ == "__main__":
     for line in sys.stdin:
-        style, count, text = line.rstrip("\n").split("|", 2)
-        print(read(style, text * int(count)))
+        if line.startswith("read|"):
+            _, style, count, text = line.rstrip("\n").split("|", 3)
+            print(read(style, text * int(count)))

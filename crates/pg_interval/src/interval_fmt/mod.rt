@@ -8,8 +8,6 @@ ghost use Rattle.pg_interval.specs.Reading.{StandsForOnly, Postgres, PostgresVer
 mod iso_8601;
 mod postgres;
 mod sql;
-#[cfg(test)]
-mod tests;
 
 use crate::interval_norm::IntervalNorm;
 use crate::pg_interval::Interval;

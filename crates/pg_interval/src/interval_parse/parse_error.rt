@@ -1,4 +1,4 @@
-ghost use Rattle.std.specs.Prelude.{◌≡◌, Some};
+ghost use Rattle.std.specs.Prelude.{◌≡◌, ◌↔◌, IsTrue, Some};
 ghost use Rattle.pg_interval.specs.ErrorText.{int_error_text, decimal_error_text, reason_text, error_text};
 ghost use Rattle.pg_interval.specs.declared.interval_parse.parse_error.ParseError.TheVariants.{ParseIntErr, ParseFloatErr};
 
@@ -154,57 +154,43 @@ mod tests {
     use super::*;
     use std::test::Fail;
 
+    /// `==` of refusals is equality.
+    fn is_equal(a: &ParseError, b: &ParseError) -> bool
+        ensures { IsTrue result ↔ (a.now ≡ b.now) }
+    {
+        a == b
+    }
+
+    /// `==` of reasons is equality.
+    fn is_equal_reason(a: &Reason, b: &Reason) -> bool
+        ensures { IsTrue result ↔ (a.now ≡ b.now) }
+    {
+        a == b
+    }
+
+    /// `==` of the errors of whole numbers is equality.
+    fn is_equal_int_error(a: &IntError, b: &IntError) -> bool
+        ensures { IsTrue result ↔ (a.now ≡ b.now) }
+    {
+        a == b
+    }
+
+    /// `==` of the errors of decimals is equality.
+    fn is_equal_decimal_error(a: &DecimalError, b: &DecimalError) -> bool
+        ensures { IsTrue result ↔ (a.now ≡ b.now) }
+    {
+        a == b
+    }
+
     #[test]
-    fn displayed_texts(rt: HostRuntime) -> Result<(), Fail> {
-        let texts = [
-            (
-                ParseError::from(IntError::Empty),
-                "Failed to parse integer: empty",
-            ),
-            (
-                ParseError::from(IntError::InvalidDigit),
-                "Failed to parse integer: invalid digit",
-            ),
-            (
-                ParseError::from(IntError::OutOfRange),
-                "Failed to parse integer: out of range",
-            ),
-            (
-                ParseError::from(DecimalError::Empty),
-                "Failed to parse float: empty",
-            ),
-            (
-                ParseError::from(DecimalError::Malformed),
-                "Failed to parse float: malformed",
-            ),
-            (
-                ParseError::from(DecimalError::TooManyDigits),
-                "Failed to parse float: too many digits",
-            ),
-            (
-                ParseError::from(DecimalError::OutOfRange),
-                "Failed to parse float: out of range",
-            ),
-            (
-                ParseError::from_year_month(Reason::Overflow),
-                "Invalid year/month interval: overflow",
-            ),
-            (
-                ParseError::from_time(Reason::Overflow),
-                "Invalid time interval: overflow",
-            ),
-            (
-                ParseError::from_invalid_interval(Reason::TooLong),
-                "Invalid interval: text too long",
-            ),
-            (
-                ParseError::from_invalid_interval(Reason::Shape),
-                "Invalid interval: broken shape",
-            ),
-        ];
-        for (error, text) in texts {
-            assert_eq!(rt; error.to_string(rt.alloc())?.as_str(), text);
-        }
+    fn refusals_compare(rt: HostRuntime) -> Result<(), Fail> {
+        let shape = ParseError::from_invalid_interval(Reason::Shape);
+        let empty = ParseError::from(IntError::Empty);
+        assert!(rt; is_equal(&shape, &shape));
+        assert!(rt; !is_equal(&shape, &empty));
+        assert!(rt; is_equal_reason(&Reason::Shape, &Reason::Shape));
+        assert!(rt; is_equal_int_error(&IntError::Empty, &IntError::Empty));
+        assert!(rt; is_equal_decimal_error(&DecimalError::Empty, &DecimalError::Empty));
         Ok(())
     }
 }

@@ -1,0 +1,159 @@
+// Answers rows about interval texts, a line for each row of standard input:
+//   read|STYLE|COUNT|PIECE   what the text of COUNT times PIECE stands for: months, days and microseconds, or the refusal
+//   print|MONTHS|DAYS|MICROSECONDS   the text in each style, and whether each is read back as the same interval
+//   error|PART|REASON   what a refusal displays
+#![tactic(auto)]
+
+use pg_interval::{DecimalError, IntError, Interval, ParseError, Reason};
+use std::alloc::{AllocError, Global};
+use std::io;
+
+fn main(rt: HostRuntime) -> io::Result<()> {
+    for line in rt.lines(rt.alloc()) {
+        let line = line?;
+        let answer = answer_of(rt.alloc(), line.as_str())?;
+        println!(rt; "{}", answer.as_str())?;
+    }
+    Ok(())
+}
+
+/// The row's answer.
+fn answer_of(alloc: Global, row: &str) -> Result<String, AllocError> {
+    let Some((kind, rest)) = row.split_once('|') else {
+        return String::from_str(alloc, "no row");
+    };
+    let Some((first, rest)) = rest.split_once('|') else {
+        return String::from_str(alloc, "no row");
+    };
+    if kind == "error" {
+        return error_text(alloc, first, rest);
+    }
+    let Some((second, third)) = rest.split_once('|') else {
+        return String::from_str(alloc, "no row");
+    };
+    if kind == "read" {
+        read(alloc, first, second, third)
+    } else {
+        printed(alloc, first, second, third)
+    }
+}
+
+/// What the piece, so many times, stands for.
+fn read(alloc: Global, style: &str, count: &str, piece: &str) -> Result<String, AllocError> {
+    let mut text = String::new(alloc);
+    for _ in 0..count.parse::<u32>().unwrap_or(0) {
+        text.push_str(piece)?;
+    }
+    match read_in(style, text.as_str()) {
+        Ok(interval) => shown(alloc, interval),
+        Err(error) => error.to_string(alloc),
+    }
+}
+
+/// The answer of the style's reader.
+fn read_in(style: &str, text: &str) -> Result<Interval, ParseError> {
+    if style == "postgres" {
+        Interval::from_postgres(text)
+    } else if style == "verbose" {
+        Interval::from_postgres_verbose(text)
+    } else if style == "iso" {
+        Interval::from_iso(text)
+    } else {
+        Interval::from_sql(text)
+    }
+}
+
+/// The interval's three numbers.
+fn shown(alloc: Global, interval: Interval) -> Result<String, AllocError> {
+    let Interval {
+        months,
+        days,
+        microseconds,
+    } = interval;
+    format!(in alloc; "{months} {days} {microseconds}")
+}
+
+/// The interval's text in each style, and whether each is read back.
+fn printed(
+    alloc: Global,
+    months: &str,
+    days: &str,
+    microseconds: &str,
+) -> Result<String, AllocError> {
+    let interval = Interval::new(
+        months.parse::<i32>().unwrap_or(0),
+        days.parse::<i32>().unwrap_or(0),
+        microseconds.parse::<i64>().unwrap_or(0),
+    );
+    let postgres = interval.to_postgres(alloc)?;
+    let verbose = interval.to_postgres_verbose(alloc)?;
+    let iso = interval.to_iso_8601(alloc)?;
+    let sql = interval.to_sql(alloc)?;
+    let same = is_read(interval, Interval::from_postgres(postgres.as_str()))
+        && is_read(interval, Interval::from_postgres_verbose(verbose.as_str()))
+        && is_read(interval, Interval::from_iso(iso.as_str()))
+        && is_read(interval, Interval::from_sql(sql.as_str()));
+    let back = if same { "read back" } else { "lost" };
+    let (postgres, verbose) = (postgres.as_str(), verbose.as_str());
+    let (iso, sql) = (iso.as_str(), sql.as_str());
+    format!(in alloc; "{postgres}|{verbose}|{iso}|{sql}|{back}")
+}
+
+/// Was this interval read?
+fn is_read(interval: Interval, answer: Result<Interval, ParseError>) -> bool {
+    match answer {
+        Ok(other) => other == interval,
+        Err(_) => false,
+    }
+}
+
+/// What the refusal displays.
+fn error_text(alloc: Global, part: &str, reason: &str) -> Result<String, AllocError> {
+    let error = if part == "integer" {
+        ParseError::from(int_error(reason))
+    } else if part == "float" {
+        ParseError::from(decimal_error(reason))
+    } else if part == "year_month" {
+        ParseError::from_year_month(reason_of(reason))
+    } else if part == "time" {
+        ParseError::from_time(reason_of(reason))
+    } else {
+        ParseError::from_invalid_interval(reason_of(reason))
+    };
+    error.to_string(alloc)
+}
+
+/// Why a text is no whole number.
+fn int_error(reason: &str) -> IntError {
+    if reason == "empty" {
+        IntError::Empty
+    } else if reason == "invalid_digit" {
+        IntError::InvalidDigit
+    } else {
+        IntError::OutOfRange
+    }
+}
+
+/// Why a text is no decimal.
+fn decimal_error(reason: &str) -> DecimalError {
+    if reason == "empty" {
+        DecimalError::Empty
+    } else if reason == "malformed" {
+        DecimalError::Malformed
+    } else if reason == "too_many_digits" {
+        DecimalError::TooManyDigits
+    } else {
+        DecimalError::OutOfRange
+    }
+}
+
+/// Why a text or a sum is no interval.
+fn reason_of(reason: &str) -> Reason {
+    if reason == "too_long" {
+        Reason::TooLong
+    } else if reason == "shape" {
+        Reason::Shape
+    } else {
+        Reason::Overflow
+    }
+}
