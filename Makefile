@@ -2,6 +2,8 @@
 
 CLIENT = crates/server/stdin
 WORDS = 7 01020304
+# The programs that bench/ measures.
+MEASURED = $(notdir $(wildcard $(addprefix crates/,server print_bench interval_rows read_bench message_rows cancel_stress)))
 # Runs a command in a folder, and shows what it says only where it fails.
 QUIETLY = log=$$(mktemp) && if (cd $(1) && $(2)) >$$log 2>&1; then rm -f $$log; else cat $$log; rm -f $$log; exit 1; fi
 
@@ -20,13 +22,12 @@ build:
 test:
 	rt ci
 
-# Times queries and the printers, on programs that are proved and built first.
+# Times queries, printers, readers, the codec and the registry, on programs that are proved and built first.
 bench:
-	@echo "The two programs are proved and built: from nothing half an hour or more, later only what changed."
-	@$(call QUIETLY,crates/server,rt run -- --version)
-	@$(call QUIETLY,crates/print_bench,rt run -- 1)
+	@echo "The programs are proved and built: from nothing half an hour or more, later only what changed."
+	@for program in $(MEASURED); do $(call QUIETLY,crates/$$program,rt run -- $$(cat args 2>/dev/null) < stdin); done
 	python3 bench/serve_loop.py crates/server/out/server
-	bench/print_times
+	@for times in $(wildcard bench/*_times); do echo $$times; $$times || exit 1; done
 
 # Compares docs/DEFINITIONS.md with what the public clauses cite, and docs/WRONG_BODIES.md with the edits and tests.
 docs:

@@ -381,8 +381,8 @@ def rows_of_page(problems):
 
 
 def known_examples(crates):
-    """The names of tests, and those of the rows of table programs: texts in the code, and beginnings of lines of
-    standard input and output up to a tab, a bar, a colon or an arrow."""
+    """The names of tests, and those of the rows of table programs: texts in the code; lines of standard input and output,
+    their fields between tabs or bars, and their beginnings up to a colon or an arrow."""
     tests, told = set(), []
     for crate in crates:
         folder = TOP / "crates" / crate
@@ -393,7 +393,7 @@ def known_examples(crates):
         for name in ("stdin", "stdout"):
             if (folder / name).is_file():
                 lines = (folder / name).read_bytes().decode("utf-8", "replace").split("\n")
-                told += [part for line in lines for part in (line, re.split(r"\t|\||:| =>| ->", line)[0])]
+                told += [part for line in lines for part in [line, re.split(r":| =>| ->", line)[0], *re.split(r"\t|\|", line)]]
     return tests, {text.strip() for text in told}
 
 
