@@ -16,13 +16,23 @@ use std::alloc::Global;
 use std::io;
 
 /// What is told of a row.
-fn verdict_of<'t>(alloc: Global, text: &'t str, block: &'t str) -> Result<Option<&'static str>, Fault<'t>> {
+fn verdict_of<'t>(
+    alloc: Global,
+    text: &'t str,
+    block: &'t str,
+) -> Result<Option<&'static str>, Fault<'t>> {
     let lines = lines_of(alloc, text, block)?;
     judge(alloc, lines.as_slice())
 }
 
 /// Prints the line of a row, and answers whether all was as expected.
-fn print_row(rt: &impl Print, alloc: Global, text: &str, name: &str, block: &str) -> io::Result<bool> {
+fn print_row(
+    rt: &impl Print,
+    alloc: Global,
+    text: &str,
+    name: &str,
+    block: &str,
+) -> io::Result<bool> {
     match verdict_of(alloc, text, block) {
         Ok(None) => {
             println!(rt; "{name}: ok")?;

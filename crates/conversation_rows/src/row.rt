@@ -15,11 +15,19 @@ pub fn name_of<'t>(block: &'t str, word: &str) -> Option<&'t str> {
 /// What a line says behind this word, or None where it begins with another.
 pub fn told_by<'t>(line: &'t str, word: &str) -> Option<&'t str> {
     let (first, rest) = line.split_once(" ").unwrap_or((line, ""));
-    if first == word { Some(rest.trim()) } else { None }
+    if first == word {
+        Some(rest.trim())
+    } else {
+        None
+    }
 }
 
 /// The lines of a row, where each `use` stands for the lines of the block that it names.
-pub fn lines_of<'t>(alloc: Global, text: &'t str, block: &'t str) -> Result<Vec<&'t str>, Fault<'t>> {
+pub fn lines_of<'t>(
+    alloc: Global,
+    text: &'t str,
+    block: &'t str,
+) -> Result<Vec<&'t str>, Fault<'t>> {
     let mut lines = Vec::new(alloc);
     for line in block.lines() {
         match told_by(line, "use") {
@@ -31,7 +39,11 @@ pub fn lines_of<'t>(alloc: Global, text: &'t str, block: &'t str) -> Result<Vec<
 }
 
 /// Appends the lines of the block that defines this name.
-fn push_defined<'t>(lines: &mut Vec<&'t str>, text: &'t str, name: &'t str) -> Result<(), Fault<'t>> {
+fn push_defined<'t>(
+    lines: &mut Vec<&'t str>,
+    text: &'t str,
+    name: &'t str,
+) -> Result<(), Fault<'t>> {
     for block in text.split("\n\n") {
         if name_of(block, "define") == Some(name) {
             for line in block.lines() {

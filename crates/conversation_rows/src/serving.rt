@@ -8,8 +8,7 @@ use pg_interval::Interval;
 use pg_messages::{PgBytes, PgList, PgStr};
 use pg_session::{DeskCall, EndKind, ScriptDesk, ServeError};
 use relation_server::{
-    MemorySink, MemorySource, Relation, RelationTable, built_in_table,
-    serve_relations_on,
+    MemorySink, MemorySource, Relation, RelationTable, built_in_table, serve_relations_on,
 };
 use std::alloc::{AllocError, Global};
 
@@ -92,11 +91,7 @@ fn sink_of<'t>(alloc: Global, fails: Option<(u64, usize)>) -> Result<CountingSin
     })
 }
 
-fn source_of<'t>(
-    alloc: Global,
-    client: &[u8],
-    plan: Plan<'t>,
-) -> Result<MemorySource, Fault<'t>> {
+fn source_of<'t>(alloc: Global, client: &[u8], plan: Plan<'t>) -> Result<MemorySource, Fault<'t>> {
     let pieces = pieces_of(alloc, plan.reads, client.len())?;
     let fails = calls_of(alloc, plan.source_fails)?;
     Ok(MemorySource::new(PgBytes::copy_of(alloc, client)?, pieces, fails))
@@ -164,14 +159,25 @@ fn relation_of<'t>(alloc: Global, line: &'t str) -> Result<Relation, Fault<'t>>
 }
 
 fn rows_of<'t>(alloc: Global, words: &'t str) -> Result<PgList<PgList<Interval>>, Fault<'t>> {
-    let numbers = numbers_of(alloc, words)?;
-    let [count, months, days, microseconds] = numbers.as_slice() else {
-        return Err(Fault::Line(words));
-    };
-    let interval = Interval::new(*months as i32, *days as i32, *microseconds as i64);
+    let (count, interval) = row_of(words)?;
     let mut rows = PgList::new(alloc);
-    for _ in 0..*count {
+    for _ in 0..count {
         rows.push(PgList::from_vec(Vec::from_slice(alloc, &[interval])?))?;
     }
     Ok(rows)
+}
+
+/// How many rows, and the interval of each.
+fn row_of<'t>(words: &'t str) -> Result<(u32, Interval), Fault<'t>> {
+    let mut parts = words.split_whitespace();
+    let count = parts.next().unwrap_or("").parse::<u32>();
+    let months = parts.next().unwrap_or("").parse::<i32>();
+    let days = parts.next().unwrap_or("").parse::<i32>();
+    let microseconds = parts.next().unwrap_or("").parse::<i64>();
+    match (count, months, days, microseconds) {
+        (Ok(count), Ok(months), Ok(days), Ok(microseconds)) => {
+            Ok((count, Interval::new(months, days, microseconds)))
+        }
+        _ => Err(Fault::Line(words)),
+    }
 }
