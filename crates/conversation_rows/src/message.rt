@@ -1,51 +1,50 @@
 use crate::fault::Fault;
+use crate::row::told_by;
 use std::alloc::Global;
 
-/// The layout of each message: its name, its type byte (none for the first packets of a client), and its fields
+/// The layout of each message: its name, its type byte (`-` for the first packets of a client), and its fields
 /// (protocol: Message Formats). `i` is an Int32 in decimal, `w` an Int16, `b` a byte by its character, `s` a text with
 /// a zero behind it, `h` bytes in hexadecimal, `c` a count and so many Int16, `o` a count and so many Int32, `v` a
 /// count and so many values, `f` a count and so many fields of a row description, `S` all further fields as texts and
-/// then a zero, `E` the same where each text follows a byte. A layout `alone` is the type byte without a length.
-const LAYOUTS: [(&str, u8, &str); 29] = [
-    // the client's
-    ("Startup", 0, "iS"),
-    ("SSLRequest", 0, "i"),
-    ("GSSENCRequest", 0, "i"),
-    ("CancelRequest", 0, "iih"),
-    ("Query", b'Q', "s"),
-    ("Parse", b'P', "sso"),
-    ("Bind", b'B', "sscvc"),
-    ("Describe", b'D', "bs"),
-    ("Execute", b'E', "si"),
-    ("Close", b'C', "bs"),
-    ("Flush", b'H', ""),
-    ("Sync", b'S', ""),
-    ("Terminate", b'X', ""),
-    ("CopyFail", b'f', "s"),
-    // both sides'
-    ("CopyData", b'd', "h"),
-    ("CopyDone", b'c', ""),
-    // the server's
-    ("SslResponse", b'N', "alone"),
-    ("GssEncResponse", b'N', "alone"),
-    ("AuthenticationOk", b'R', "i"),
-    ("ParameterStatus", b'S', "ss"),
-    ("BackendKeyData", b'K', "ih"),
-    ("ReadyForQuery", b'Z', "b"),
-    ("ParseComplete", b'1', ""),
-    ("BindComplete", b'2', ""),
-    ("RowDescription", b'T', "f"),
-    ("DataRow", b'D', "v"),
-    ("CommandComplete", b'C', "s"),
-    ("NoData", b'n', ""),
-    ("ErrorResponse", b'E', "E"),
-];
+/// then a zero, `E` the same where each text follows a byte. `alone` is the type byte without a length.
+const LAYOUTS: &str = "# the client's
+Startup - iS
+SSLRequest - i
+GSSENCRequest - i
+CancelRequest - iih
+Query Q s
+Parse P sso
+Bind B sscvc
+Describe D bs
+Execute E si
+Close C bs
+Flush H
+Sync S
+Terminate X
+CopyFail f s
+# of both sides
+CopyData d h
+CopyDone c
+# the server's
+SslResponse N alone
+GssEncResponse N alone
+AuthenticationOk R i
+ParameterStatus S ss
+BackendKeyData K ih
+ReadyForQuery Z b
+ParseComplete 1
+BindComplete 2
+RowDescription T f
+DataRow D v
+CommandComplete C s
+NoData n
+ErrorResponse E E";
 
-/// The layout of the message of this name.
-fn layout_of(name: &str) -> Option<(u8, &'static str)> {
-    for (known, type_byte, layout) in LAYOUTS {
-        if known == name {
-            return Some((type_byte, layout));
+/// The type byte and the layout of the message of this name.
+fn layout_of(name: &str) -> Option<(&'static str, &'static str)> {
+    for line in LAYOUTS.lines() {
+        if let Some(rest) = told_by(line, name) {
+            return Some(rest.split_once(" ").unwrap_or((rest, "")));
         }
     }
     None
@@ -61,11 +60,11 @@ pub fn put_message<'t>(alloc: Global, bytes: &mut Vec<u8>, line: &'t str) -> Res
         return Err(Fault::Line(line));
     };
     if layout == "alone" {
-        return Ok(bytes.push(type_byte)?);
+        return Ok(bytes.extend_from_slice(type_byte.as_bytes())?);
     }
     let body = body_of(alloc, layout, fields, line)?;
-    if type_byte != 0 {
-        bytes.push(type_byte)?;
+    if type_byte != "-" {
+        bytes.extend_from_slice(type_byte.as_bytes())?;
     }
     put_count32(bytes, body.len().saturating_add(4))?;
     bytes.extend_from_slice(body.as_slice())?;
@@ -80,32 +79,42 @@ fn body_of<'t>(
     line: &'t str,
 ) -> Result<Vec<u8>, Fault<'t>> {
     let mut body = Vec::new(alloc);
-    let mut fields = fields.split("|");
-    for kind in layout.bytes() {
-        put_kind(alloc, &mut body, kind, &mut fields, line)?;
+    for (place, kind) in layout.bytes().enumerate() {
+        put_kind(alloc, &mut body, kind, place, fields, line)?;
     }
     Ok(body)
 }
 
-/// Appends what one letter of a layout says.
+/// Appends what the letter at this place of a layout says of the fields.
 fn put_kind<'t>(
     alloc: Global,
     body: &mut Vec<u8>,
     kind: u8,
-    fields: &mut impl Iterator<Item = &'t str>,
+    place: usize,
+    fields: &'t str,
     line: &'t str,
 ) -> Result<(), Fault<'t>> {
     if kind == b'S' || kind == b'E' {
-        for field in fields {
-            put_text(body, kind, field.trim())?;
-        }
-        body.push(0)?;
-        return Ok(());
+        return put_texts(body, kind, place, fields);
     }
-    let Some(field) = fields.next() else {
+    let Some(field) = fields.split("|").nth(place) else {
         return Err(Fault::Line(line));
     };
     put_field(alloc, body, kind, field.trim(), line)
+}
+
+/// Appends each field from a place on as a text, and then a zero.
+fn put_texts<'t>(
+    body: &mut Vec<u8>,
+    kind: u8,
+    place: usize,
+    fields: &'t str,
+) -> Result<(), Fault<'t>> {
+    for field in fields.split("|").skip(place) {
+        put_text(body, kind, field.trim())?;
+    }
+    body.push(0)?;
+    Ok(())
 }
 
 /// Appends a text with a zero behind it; of an error's field the byte that tells its kind first.
@@ -228,11 +237,17 @@ fn put_int16<'t>(body: &mut Vec<u8>, word: &str, line: &'t str) -> Result<(), Fa
 }
 
 fn put_count16<'t>(body: &mut Vec<u8>, count: usize) -> Result<(), Fault<'t>> {
-    Ok(body.extend_from_slice(&(count as u16).to_be_bytes())?)
+    let Ok(count) = u16::try_from(count) else {
+        return Err(Fault::Line("too many parts"));
+    };
+    Ok(body.extend_from_slice(&count.to_be_bytes())?)
 }
 
 fn put_count32<'t>(body: &mut Vec<u8>, count: usize) -> Result<(), Fault<'t>> {
-    Ok(body.extend_from_slice(&(count as u32).to_be_bytes())?)
+    let Ok(count) = u32::try_from(count) else {
+        return Err(Fault::Line("too many bytes"));
+    };
+    Ok(body.extend_from_slice(&count.to_be_bytes())?)
 }
 
 fn put_hex<'t>(

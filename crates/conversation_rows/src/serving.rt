@@ -159,14 +159,25 @@ fn relation_of<'t>(alloc: Global, line: &'t str) -> Result<Relation, Fault<'t>>
 }
 
 fn rows_of<'t>(alloc: Global, words: &'t str) -> Result<PgList<PgList<Interval>>, Fault<'t>> {
-    let numbers = numbers_of(alloc, words)?;
-    let [count, months, days, microseconds] = numbers.as_slice() else {
-        return Err(Fault::Line(words));
-    };
-    let interval = Interval::new(*months as i32, *days as i32, *microseconds as i64);
+    let (count, interval) = row_of(words)?;
     let mut rows = PgList::new(alloc);
-    for _ in 0..*count {
+    for _ in 0..count {
         rows.push(PgList::from_vec(Vec::from_slice(alloc, &[interval])?))?;
     }
     Ok(rows)
+}
+
+/// How many rows, and the interval of each.
+fn row_of<'t>(words: &'t str) -> Result<(u32, Interval), Fault<'t>> {
+    let mut parts = words.split_whitespace();
+    let count = parts.next().unwrap_or("").parse::<u32>();
+    let months = parts.next().unwrap_or("").parse::<i32>();
+    let days = parts.next().unwrap_or("").parse::<i32>();
+    let microseconds = parts.next().unwrap_or("").parse::<i64>();
+    match (count, months, days, microseconds) {
+        (Ok(count), Ok(months), Ok(days), Ok(microseconds)) => {
+            Ok((count, Interval::new(months, days, microseconds)))
+        }
+        _ => Err(Fault::Line(words)),
+    }
 }

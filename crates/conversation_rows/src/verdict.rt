@@ -171,15 +171,30 @@ fn sweep_cuts<'t>(
     lines: &[&'t str],
     client: &[u8],
 ) -> Result<Option<&'static str>, Fault<'t>> {
-    let end = told(lines, "end").unwrap_or("Terminate");
     for first in 1..client.len() {
-        let mut plan = single(client);
-        plan.reads = Reads::First(first);
-        if let Some(difference) = swept(alloc, lines, client, plan, end, None)? {
+        if let Some(difference) = cut_at(alloc, lines, client, first)? {
             return Ok(Some(difference));
         }
     }
     Ok(None)
+}
+
+/// The difference where the first read gives so many bytes.
+fn cut_at<'t>(
+    alloc: Global,
+    lines: &[&'t str],
+    client: &[u8],
+    first: usize,
+) -> Result<Option<&'static str>, Fault<'t>> {
+    let plan = Plan {
+        reads: Reads::First(first),
+        source_fails: None,
+        sink_fails: None,
+        turns: 3,
+    };
+    let end = told(lines, "end").unwrap_or("Terminate");
+    let outcome = serve(alloc, lines, client, plan)?;
+    difference(alloc, lines, &outcome, end, None)
 }
 
 /// Each read fails in turn: all that was taken before is answered.
