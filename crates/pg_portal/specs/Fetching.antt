@@ -1,5 +1,5 @@
 -- What a fetch answers, and how far the portal has come then (protocol: Extended Query, Execute).
-use Rattle.std.specs.Prelude.{ℤ, Bool, true, false, List, [], ◌∷◌, ◌++◌, map, Result, Ok, Err, ◌≡◌, ◌≢◌, ◌⊎◌, codes}
+use Rattle.std.specs.Prelude.{ℤ, Bool, true, false, List, [], ◌∷◌, ◌++◌, map, Result, Ok, Err, IsOk, ◌≡◌, ◌≢◌, ◌⊎◌, codes}
 use Rattle.pg_messages.specs.declared.data.DataRow.{DataRow}
 use Rattle.pg_portal.specs.declared.error.PgWireError.{PgWireError}
 use Rattle.pg_portal.specs.declared.error.PgWireError.TheVariants.{PortalNotStarted, NoMemory}
@@ -64,15 +64,32 @@ TakesInOrder (Started old) new result = result ≢ Err NoMemory → AreTaken old
 TakesInOrder Unstarted new result = Unit {0}
 TakesInOrder Ended new result = Unit {0}
 
+-- the rows of a page
+abbrev pub rows_of : Result FetchResult PgWireError → List DataRow
+rows_of (Ok page) = page.rows
+rows_of (Err error) = []
+
+-- two fetches are one: its rows are theirs, one after another, and it comes as far
+pub record AreOneFetch (first second both : Fetched) : Type 0 where
+  pub answered : IsOk both.answer
+  pub rows : rows_of both.answer ≡ rows_of first.answer ++ rows_of second.answer
+  pub stage : both.stage ≡ second.stage
+
 -- ---- the page of a response
 
--- the page that was told, and what it leaves
-abbrev pub IsPage : ℤ → ToldRows → ToldRows → FetchResult → Type 0
-IsPage limit old new page = (Ok page ≡ (fetched limit (Started old)).answer) × IsLeft page.suspended (fetched limit (Started old)).stage old new
-  where
-    IsLeft : Bool → Stage → ToldRows → ToldRows → Type 0
-    IsLeft true stage old new = stage ≡ Started new
-    IsLeft false stage old new = (stage ≡ Ended) × (new.items ≡ [])
+-- how far a portal has come after a page
+abbrev pub after_page : Bool → ToldRows → Stage
+after_page true left = Started left
+after_page false left = Ended
 
+-- the page that is told, and what it leaves
+abbrev pub IsPage : ℤ → ToldRows → ToldRows → FetchResult → Type 0
+IsPage limit old new page = (Ok page ≡ (fetched limit (Started old)).answer)
+    × (after_page page.suspended new ≡ (fetched limit (Started old)).stage)
+    × (old.items ≡ map Ok page.rows ++ items_to_come (after_page page.suspended new))
+
+-- no page: memory is wanting, or an error stands in the place of a row
 abbrev pub IsRefusedPage : ℤ → ToldRows → ToldRows → PgWireError → Type 0
-IsRefusedPage limit old new error = IsRefusedFetch limit (Started old) (Started new) error
+IsRefusedPage limit old new error = ((error ≡ NoMemory) × IsKept (Started old) (Started new))
+    ⊎ ((Err error ≡ (fetched limit (Started old)).answer) × (Started new ≡ (fetched limit (Started old)).stage)
+    × AreTaken old.items (Err error) new.items)

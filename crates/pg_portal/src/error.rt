@@ -1,8 +1,7 @@
 //! Why a call of the session is refused, and what a client is told of it.
 
-ghost use Rattle.std.specs.Prelude.{◌≡◌, ◌++◌, IfOk, IsErr, codes};
+ghost use Rattle.std.specs.Prelude.{◌≡◌, ◌++◌, IfOk, IsErr};
 ghost use Rattle.pg_portal.specs.Errors.{info_of, error as error_info};
-ghost use Rattle.pg_portal.specs.Texts.{quoted};
 ghost use Rattle.pg_portal.specs.declared.error.PgWireError.{PgWireError};
 
 use itoa::Buffer;
@@ -58,8 +57,12 @@ impl PgWireError {
         ensures untold { self ≡ PgWireError.NoMemory → IsErr result }
     {
         match self {
-            PgWireError::StatementNotFound(name) => missing(alloc, "26000", "prepared statement", &name),
-            PgWireError::PortalNotFound(name) => missing(alloc, "34000", "portal", &name),
+            PgWireError::StatementNotFound(name) => {
+                told(alloc, "26000", "prepared statement \"", name.as_str(), "\" does not exist")
+            }
+            PgWireError::PortalNotFound(name) => {
+                told(alloc, "34000", "portal \"", name.as_str(), "\" does not exist")
+            }
             PgWireError::InvalidTargetType(byte) => {
                 let mut digits = Buffer::new();
                 told(alloc, "08P01", "invalid target type: ", digits.format(byte), "")
@@ -106,14 +109,4 @@ fn told(
         PgStr::copy_of(alloc, code)?,
         PgStr::copy_of(alloc, message.as_str())?,
     ))
-}
-
-/// The error that nothing of a kind stands under a name.
-fn missing(alloc: Global, code: &str, kind: &str, name: &PgStr) -> Result<ErrorInfo, AllocError>
-    ensures { IfOk result (λ info.
-        info ≡ error_info code.now (kind.now ++ codes " " ++ quoted name.now ++ codes " does not exist")) }
-{
-    let mut before = String::from_str(alloc, kind)?;
-    before.push_str(" \"")?;
-    told(alloc, code, before.as_str(), name.as_str(), "\" does not exist")
 }

@@ -4,6 +4,7 @@
 
 mod client;
 mod error;
+mod laws;
 mod mem_store;
 mod names;
 mod portal;
@@ -14,6 +15,7 @@ mod store;
 
 pub use client::{ClientInfo, Metadata, PgWireConnectionState};
 pub use error::PgWireError;
+pub use laws::{two_fetches_are_one, what_is_put_is_got};
 pub use mem_store::MemPortalStore;
 pub use names::Named;
 pub use portal::{FetchResult, Format, Portal, PortalExecutionState, is_reached};

@@ -226,7 +226,9 @@ fn is_padding(byte: u8) -> bool
 fn types_of(alloc: Global, oids: &[u32]) -> Result<PgList<Option<PgType>>, AllocError>
     ensures { IfOk result (λ types. types ≡ map type_of_oid oids.now) }
 {
-    Ok(PgList::from_vec(
-        oids.iter().map(|oid| PgType::from_oid(*oid)).collect(alloc)?,
-    ))
+    let mut types = PgList::new(alloc);
+    for oid in oids {
+        types.push(PgType::from_oid(*oid))?;
+    }
+    Ok(types)
 }

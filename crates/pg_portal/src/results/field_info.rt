@@ -187,3 +187,57 @@ impl FieldInfo {
         })
     }
 }
+
+impl PartialEq for FieldInfo {
+    ghost use Rattle.std.specs.Ordering.{eq_of_both, on};
+    ghost use Rattle.std.specs.Cmp.{and_per, on_per};
+
+    // each field is as in the other, and so are the options
+    ghost eq = {
+        eq_of_both (on (λ f. f.name) ⟦<PgStr as PartialEq>⟧.eq)
+        (eq_of_both (on (λ f. f.table_id) ⟦<Option<i32> as PartialEq>⟧.eq)
+        (eq_of_both (on (λ f. f.column_id) ⟦<Option<i16> as PartialEq>⟧.eq)
+        (eq_of_both (on (λ f. f.datatype) ⟦<PgType as PartialEq>⟧.eq)
+        (eq_of_both (on (λ f. f.format) ⟦<FieldFormat as PartialEq>⟧.eq)
+        (eq_of_both (on (λ f. f.format_options) ⟦<FormatOptions as PartialEq>⟧.eq)
+        (eq_of_both (on (λ f. f.type_size) ⟦<i16 as PartialEq>⟧.eq)
+        (on (λ f. f.type_modifier) ⟦<i32 as PartialEq>⟧.eq)))))))
+    };
+
+    ghost laws = {
+        and_per (on_per (λ f. f.name) ⟦<PgStr as PartialEq>⟧.laws)
+        (and_per (on_per (λ f. f.table_id) ⟦<Option<i32> as PartialEq>⟧.laws)
+        (and_per (on_per (λ f. f.column_id) ⟦<Option<i16> as PartialEq>⟧.laws)
+        (and_per (on_per (λ f. f.datatype) ⟦<PgType as PartialEq>⟧.laws)
+        (and_per (on_per (λ f. f.format) ⟦<FieldFormat as PartialEq>⟧.laws)
+        (and_per (on_per (λ f. f.format_options) ⟦<FormatOptions as PartialEq>⟧.laws)
+        (and_per (on_per (λ f. f.type_size) ⟦<i16 as PartialEq>⟧.laws)
+        (on_per (λ f. f.type_modifier) ⟦<i32 as PartialEq>⟧.laws)))))))
+    };
+
+    fn eq(&self, other: &FieldInfo) -> bool {
+        self.name == other.name
+            && self.table_id == other.table_id
+            && self.column_id == other.column_id
+            && self.datatype == other.datatype
+            && self.format == other.format
+            && *self.format_options == *other.format_options
+            && self.type_size == other.type_size
+            && self.type_modifier == other.type_modifier
+    }
+}
+
+impl Eq for FieldInfo {
+    ghost use Rattle.std.specs.Cmp.{and_equiv, on_equiv};
+
+    ghost laws = {
+        and_equiv (on_equiv (λ f. f.name) ⟦<PgStr as Eq>⟧.laws)
+        (and_equiv (on_equiv (λ f. f.table_id) ⟦<Option<i32> as Eq>⟧.laws)
+        (and_equiv (on_equiv (λ f. f.column_id) ⟦<Option<i16> as Eq>⟧.laws)
+        (and_equiv (on_equiv (λ f. f.datatype) ⟦<PgType as Eq>⟧.laws)
+        (and_equiv (on_equiv (λ f. f.format) ⟦<FieldFormat as Eq>⟧.laws)
+        (and_equiv (on_equiv (λ f. f.format_options) ⟦<FormatOptions as Eq>⟧.laws)
+        (and_equiv (on_equiv (λ f. f.type_size) ⟦<i16 as Eq>⟧.laws)
+        (on_equiv (λ f. f.type_modifier) ⟦<i32 as Eq>⟧.laws)))))))
+    };
+}
