@@ -1,5 +1,6 @@
 -- The two formats of a field: PostgreSQL's protocol, "Formats and Format Codes".
-use Rattle.std.specs.Prelude.{ℤ, pos, int_eq, if◌then◌else◌}
+use Rattle.std.specs.Prelude.{ℤ, pos, if◌then◌else◌}
+use Rattle.std.specs.Ordering.{int_eq}
 use Rattle.pg_text.specs.declared.field_format.FieldFormat.{FieldFormat}
 use Rattle.pg_text.specs.declared.field_format.FieldFormat.TheVariants.{Text, Binary}
 

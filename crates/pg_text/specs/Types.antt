@@ -5,7 +5,8 @@ use Rattle.pg_text.specs.declared.pg_type.PgType.{PgType}
 use Rattle.pg_text.specs.declared.pg_type.PgType.TheVariants.{Bool, Bytea, Char, Name, Int8, Int2, Int4, Text, Oid, Json, Float4, Float8, Unknown, Bpchar, Varchar, Date, Time, Timestamp, Timestamptz, Interval, IntervalArray, Timetz, Numeric, Void, Uuid, Jsonb}
 
 abbrev pub types : List PgType
-types = Bool ∷ Bytea ∷ Char ∷ Name ∷ Int8 ∷ Int2 ∷ Int4 ∷ Text ∷ Oid ∷ Json ∷ Float4 ∷ Float8 ∷ Unknown ∷ Bpchar ∷ Varchar ∷ Date ∷ Time ∷ Timestamp ∷ Timestamptz ∷ Interval ∷ IntervalArray ∷ Timetz ∷ Numeric ∷ Void ∷ Uuid ∷ Jsonb ∷ []
+types = Bool ∷ Bytea ∷ Char ∷ Name ∷ Int8 ∷ Int2 ∷ Int4 ∷ Text ∷ Oid ∷ Json ∷ Float4 ∷ Float8 ∷ Unknown ∷ Bpchar ∷ Varchar
+    ∷ Date ∷ Time ∷ Timestamp ∷ Timestamptz ∷ Interval ∷ IntervalArray ∷ Timetz ∷ Numeric ∷ Void ∷ Uuid ∷ Jsonb ∷ []
 
 -- the number of a type in the catalog
 abbrev pub oid_of : PgType → ℕ

@@ -1,6 +1,9 @@
+ghost use Rattle.std.specs.Prelude.{◌≡◌, ◌⊎◌};
+ghost use Rattle.pg_text.specs.declared.error.CellError.TheVariants.{InvalidOptionValue, NoMemory};
+
 use pg_interval::ParseError;
 use pg_messages::PgStr;
-use std::alloc::AllocError;
+use std::alloc::{AllocError, Global};
 
 /// Why a cell isn't written or read, or an option has no meaning.
 #[derive(Debug, Drop)]
@@ -22,12 +25,21 @@ pub enum CellError {
 }
 
 impl From<AllocError> for CellError {
-    ghost use Rattle.std.specs.Prelude.{◌≡◌};
-    ghost use Rattle.pg_text.specs.declared.error.CellError.TheVariants.{NoMemory};
-
     ghost from_gives = { λ _ e. e ≡ NoMemory };
 
     fn from(_error: AllocError) -> CellError {
         CellError::NoMemory
+    }
+}
+
+impl CellError {
+    /// The refusal of an option's value, which it holds, or `NoMemory`.
+    pub(crate) fn invalid_option(alloc: Global, value: &str) -> CellError
+        ensures { (result ≡ InvalidOptionValue value.now) ⊎ (result ≡ NoMemory) }
+    {
+        match PgStr::copy_of(alloc, value) {
+            Ok(value) => CellError::InvalidOptionValue(value),
+            Err(_) => CellError::NoMemory,
+        }
     }
 }

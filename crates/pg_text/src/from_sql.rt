@@ -2,6 +2,7 @@ ghost use Rattle.std.specs.Prelude.{ℕ, Bool, List, Result, ◌≡◌};
 
 use crate::error::CellError;
 use crate::pg_type::PgType;
+use pg_interval::Interval;
 
 /// A value that is read of a cell in the binary format of its type.
 pub trait FromSql: Sized {
@@ -20,4 +21,41 @@ pub trait FromSql: Sized {
     /// The value of these bytes, whether the type is accepted or not. No memory is taken.
     fn from_sql(ty: PgType, raw: &[u8]) -> Result<Self, CellError>
         ensures { result ≡ read ty raw.now };
+}
+
+impl FromSql for Interval {
+    ghost use Rattle.pg_text.specs.Intervals.{is_interval_type, read_interval};
+
+    ghost read = { λ _ raw. read_interval raw };
+
+    ghost accepted = { is_interval_type };
+
+    fn accepts(ty: PgType) -> bool {
+        matches!(ty, PgType::Interval)
+    }
+
+    /// The interval whose cell the first sixteen bytes are. Later bytes are ignored. `ShortCell` comes below
+    /// sixteen bytes.
+    fn from_sql(_ty: PgType, raw: &[u8]) -> Result<Interval, CellError> {
+        match Interval::from_cell(raw) {
+            Some(interval) => Ok(interval),
+            None => Err(CellError::ShortCell),
+        }
+    }
+}
+
+impl<T: FromSql> FromSql for Option<T> {
+    ghost use Rattle.pg_text.specs.Cells.{some_of};
+
+    ghost read = { λ ty raw. some_of (T.read ty raw) };
+
+    ghost accepted = { T.accepted };
+
+    fn accepts(ty: PgType) -> bool {
+        T::accepts(ty)
+    }
+
+    fn from_sql(ty: PgType, raw: &[u8]) -> Result<Option<T>, CellError> {
+        Ok(Some(T::from_sql(ty, raw)?))
+    }
 }

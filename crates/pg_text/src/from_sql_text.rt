@@ -24,3 +24,25 @@ pub trait FromSqlText: Sized {
     ) -> Result<Self, CellError>
         ensures { IsRead (read ty input.now format_options.now) result };
 }
+
+impl<T: FromSqlText> FromSqlText for Option<T> {
+    ghost use Rattle.pg_text.specs.Cells.{read_if_some};
+
+    ghost read = { λ ty input options. read_if_some (λ bytes. T.read ty bytes options) input };
+
+    /// None for an empty input, and else what T reads.
+    fn from_sql_text(
+        alloc: Global,
+        ty: PgType,
+        input: &[u8],
+        format_options: &FormatOptions,
+    ) -> Result<Option<T>, CellError> {
+        if input.is_empty() {
+            return Ok(None);
+        }
+        match T::from_sql_text(alloc, ty, input, format_options) {
+            Ok(value) => Ok(Some(value)),
+            Err(error) => Err(error),
+        }
+    }
+}

@@ -4,6 +4,7 @@ ghost use Rattle.pg_text.specs.Cells.{Cell, IsAnswer, AtCell, IsShort, bytes_of,
 use crate::error::CellError;
 use crate::pg_type::PgType;
 use bytes::BytesMut;
+use pg_interval::Interval;
 
 /// Whether a value was null.
 #[derive(Clone, Copy, Debug, PartialEq, Eq)]
@@ -47,5 +48,58 @@ pub trait ToSql {
             return Err(CellError::WrongType);
         }
         self.to_sql(ty, out)
+    }
+}
+
+impl ToSql for Interval {
+    ghost use Rattle.std.specs.Prelude.{Ok, Some};
+    ghost use Rattle.pg_interval.specs.Cell.{interval_cell};
+    ghost use Rattle.pg_text.specs.Intervals.{is_interval_type};
+
+    ghost binary = { λ interval _. Ok (Some (interval_cell interval)) };
+
+    ghost accepted = { is_interval_type };
+
+    fn accepts(ty: PgType) -> bool {
+        matches!(ty, PgType::Interval)
+    }
+
+    #[inline(always)]
+    fn to_sql(&self, _ty: PgType, out: &mut BytesMut) -> Result<IsNull, CellError> {
+        out.extend_from_slice(&self.to_cell())?;
+        Ok(IsNull::No)
+    }
+}
+
+impl<T: ToSql> ToSql for &T {
+    ghost binary = { λ value ty. T.binary value.now ty };
+
+    ghost accepted = { T.accepted };
+
+    fn accepts(ty: PgType) -> bool {
+        T::accepts(ty)
+    }
+
+    fn to_sql(&self, ty: PgType, out: &mut BytesMut) -> Result<IsNull, CellError> {
+        (**self).to_sql(ty, out)
+    }
+}
+
+impl<T: ToSql> ToSql for Option<T> {
+    ghost use Rattle.pg_text.specs.Cells.{cell_if_some};
+
+    ghost binary = { λ value ty. cell_if_some (λ x. T.binary x ty) value };
+
+    ghost accepted = { T.accepted };
+
+    fn accepts(ty: PgType) -> bool {
+        T::accepts(ty)
+    }
+
+    fn to_sql(&self, ty: PgType, out: &mut BytesMut) -> Result<IsNull, CellError> {
+        match self {
+            Some(value) => value.to_sql(ty, out),
+            None => Ok(IsNull::Yes),
+        }
     }
 }

@@ -3,9 +3,12 @@ ghost use Rattle.pg_text.specs.Cells.{Cell, IsAnswer, AtCell, IsShort, bytes_of}
 
 use crate::error::CellError;
 use crate::format::FormatOptions;
+use crate::format::interval_style::IntervalStyle;
 use crate::pg_type::PgType;
 use crate::to_sql::IsNull;
 use bytes::BytesMut;
+use jiff::SignedDuration;
+use pg_interval::Interval;
 use std::alloc::Global;
 
 /// A value that writes its cell as text.
@@ -30,4 +33,96 @@ pub trait ToSqlText {
             (λ cell. out.new.items ≡ out.old.items ++ bytes_of cell)) }
         ensures short { OnOk result (AtCell (text self.now ty format_options.now) IsShort) }
         ensures unchanged { OnErr result (out.new.items ≡ out.old.items) };
+}
+
+impl ToSqlText for Interval {
+    ghost use Rattle.std.specs.Str.{IsUtf8};
+    ghost use Rattle.pg_text.specs.Intervals.{interval_text, style_under, StandsIn};
+
+    ghost text = { λ interval _ options. interval_text interval options };
+
+    /// Appends the interval's text in the options' style. `InvalidOptionValue`, with the style's text, comes where
+    /// that names none of the four.
+    fn to_sql_text(
+        &self,
+        alloc: Global,
+        _ty: PgType,
+        out: &mut BytesMut,
+        format_options: &FormatOptions,
+    ) -> Result<IsNull, CellError>
+        ensures answer { IsAnswer (interval_text self.now format_options.now) result }
+        ensures appended { OnOk result (AtCell (interval_text self.now format_options.now)
+            (λ cell. out.new.items ≡ out.old.items ++ bytes_of cell)) }
+        ensures short { OnOk result (AtCell (interval_text self.now format_options.now) IsShort) }
+        ensures unchanged { OnErr result (out.new.items ≡ out.old.items) }
+        // so the text stands for this interval and for no other
+        ensures stands { OnOk result (AtCell (interval_text self.now format_options.now)
+            (λ cell. StandsIn (style_under format_options.now) (bytes_of cell) self.now)) }
+        ensures utf8 { OnOk result (AtCell (interval_text self.now format_options.now)
+            (λ cell. IsUtf8 (bytes_of cell))) }
+    {
+        let name = format_options.interval_style.as_str();
+        match IntervalStyle::named(name) {
+            Some(style) => {
+                style.print(self, out)?;
+                Ok(IsNull::No)
+            }
+            None => Err(CellError::invalid_option(alloc, name)),
+        }
+    }
+}
+
+impl ToSqlText for SignedDuration {
+    ghost use Rattle.jiff.specs.Words.{signed_nanos};
+    ghost use Rattle.pg_text.specs.Intervals.{duration_text};
+
+    ghost text = { λ duration _ options. duration_text (signed_nanos duration) options };
+
+    /// Appends the text of the duration's interval. `DurationOverflow` comes where there is none, and before the
+    /// style is looked at.
+    fn to_sql_text(
+        &self,
+        alloc: Global,
+        ty: PgType,
+        out: &mut BytesMut,
+        format_options: &FormatOptions,
+    ) -> Result<IsNull, CellError> {
+        match Interval::from_duration(*self) {
+            Some(interval) => interval.to_sql_text(alloc, ty, out, format_options),
+            None => Err(CellError::DurationOverflow),
+        }
+    }
+}
+
+impl<T: ToSqlText> ToSqlText for &T {
+    ghost text = { λ value ty options. T.text value.now ty options };
+
+    fn to_sql_text(
+        &self,
+        alloc: Global,
+        ty: PgType,
+        out: &mut BytesMut,
+        format_options: &FormatOptions,
+    ) -> Result<IsNull, CellError> {
+        (**self).to_sql_text(alloc, ty, out, format_options)
+    }
+}
+
+impl<T: ToSqlText> ToSqlText for Option<T> {
+    ghost use Rattle.pg_text.specs.Cells.{cell_if_some};
+
+    ghost text = { λ value ty options. cell_if_some (λ x. T.text x ty options) value };
+
+    fn to_sql_text(
+        &self,
+        alloc: Global,
+        ty: PgType,
+        out: &mut BytesMut,
+        format_options: &FormatOptions,
+    ) -> Result<IsNull, CellError> {
+        match self {
+            Some(value) => value.to_sql_text(alloc, ty, out, format_options),
+            None => Ok(IsNull::Yes),
+        }
+    }
 }

@@ -1,13 +1,28 @@
+ghost use Rattle.std.specs.Prelude.{◌≡◌, ◌≤◌, ◌++◌, length, IfOk, OnOk, OnErr, string_bytes};
+ghost use Rattle.std.specs.Str.{IsUtf8};
+ghost use Rattle.pg_interval.specs.Printed.{printed};
+ghost use Rattle.pg_interval.specs.Reading.{StandsForOnly};
+ghost use Rattle.pg_text.specs.Cells.{IsRead};
+ghost use Rattle.pg_text.specs.Words.{or_invalid, interval_style_of, printed_style};
+
+use crate::error::CellError;
+use crate::format::words::{is_name, trimmed};
+use bytes::BytesMut;
+use pg_interval::Interval;
+use std::alloc::{AllocError, Global};
+
 pub const INTERVAL_STYLE_POSTGRES: &str = "postgres";
+
 pub const INTERVAL_STYLE_ISO_8601: &str = "iso_8601";
+
 pub const INTERVAL_STYLE_SQL_STANDARD: &str = "sql_standard";
+
 pub const INTERVAL_STYLE_POSTGRES_VERBOSE: &str = "postgres_verbose";
 
 /// How intervals are written as text (`IntervalStyle`).
-#[derive(Clone, Copy, Debug, Default, PartialEq, Eq)]
+#[derive(Clone, Copy, Debug, PartialEq, Eq)]
 pub enum IntervalStyle {
     /// As `1 year 2 mons 3 days 04:05:06`.
-    #[default]
     Postgres,
     /// As `P1Y2M3DT4H5M6S`.
     ISO8601,
@@ -15,4 +30,77 @@ pub enum IntervalStyle {
     SQLStandard,
     /// As `@ 1 year 2 mons 3 days 4 hours 5 mins 6 secs`.
     PostgresVerbose,
+}
+
+impl Default for IntervalStyle {
+    ghost use Rattle.pg_text.specs.declared.format.interval_style.IntervalStyle.{IntervalStyle};
+
+    ghost is_default = { λ style. style ≡ IntervalStyle.Postgres };
+
+    fn default() -> IntervalStyle {
+        IntervalStyle::Postgres
+    }
+}
+
+impl IntervalStyle {
+    /// The style that a text names: whitespace at its ends is left out, ASCII letters are lowered, and the styles are
+    /// compared with their names. `InvalidOptionValue` holds a text that is none, as it was given.
+    pub fn try_from_text(alloc: Global, value: &str) -> Result<IntervalStyle, CellError>
+        ensures { IsRead (or_invalid value.now (interval_style_of value.now)) result }
+    {
+        match IntervalStyle::named(value) {
+            Some(option) => Ok(option),
+            None => Err(CellError::invalid_option(alloc, value)),
+        }
+    }
+
+    /// The value that a text names.
+    pub(crate) fn named(value: &str) -> Option<IntervalStyle>
+        ensures { result ≡ interval_style_of value.now }
+    {
+        let word = trimmed(value);
+        if is_name(word, INTERVAL_STYLE_POSTGRES) {
+            Some(IntervalStyle::Postgres)
+        } else if is_name(word, INTERVAL_STYLE_ISO_8601) {
+            Some(IntervalStyle::ISO8601)
+        } else if is_name(word, INTERVAL_STYLE_SQL_STANDARD) {
+            Some(IntervalStyle::SQLStandard)
+        } else if is_name(word, INTERVAL_STYLE_POSTGRES_VERBOSE) {
+            Some(IntervalStyle::PostgresVerbose)
+        } else {
+            None
+        }
+    }
+
+    /// Appends the text of an interval in this style. After an error nothing is appended.
+    #[tactic(auto, using(crate::proofs::Texts::length_stands))]
+    pub fn print(self, interval: &Interval, out: &mut BytesMut) -> Result<(), AllocError>
+        ensures printed { OnOk result (out.new.items
+            ≡ out.old.items ++ printed (printed_style self) interval.now) }
+        // the text stands for this interval and for no other
+        ensures stands { OnOk result (StandsForOnly (printed_style self)
+            (printed (printed_style self) interval.now) interval.now) }
+        ensures short { OnOk result (length (printed (printed_style self) interval.now) ≤ 4096) }
+        ensures utf8 { OnOk result (IsUtf8 (printed (printed_style self) interval.now)) }
+        ensures err { OnErr result (out.new.items ≡ out.old.items) }
+    {
+        let text = self.text(*out.allocator(), interval)?;
+        out.extend_from_slice(text.as_str().as_bytes())?;
+        Ok(())
+    }
+
+    /// The text of an interval in this style.
+    fn text(self, alloc: Global, interval: &Interval) -> Result<String, AllocError>
+        ensures printed { IfOk result (λ text. string_bytes text
+            ≡ printed (printed_style self) interval.now) }
+        ensures stands { IfOk result (λ text. StandsForOnly (printed_style self)
+            (string_bytes text) interval.now) }
+    {
+        match self {
+            IntervalStyle::Postgres => interval.to_postgres(alloc),
+            IntervalStyle::ISO8601 => interval.to_iso_8601(alloc),
+            IntervalStyle::SQLStandard => interval.to_sql(alloc),
+            IntervalStyle::PostgresVerbose => interval.to_postgres_verbose(alloc),
+        }
+    }
 }

@@ -1,0 +1,4 @@
+pub mod Cells
+pub mod Commas
+pub mod Texts
+pub mod Trimming
