@@ -17,7 +17,7 @@ use Rattle.std.proofs.lemmas.Option.{same_Some, cond_some, none-some}
 use Rattle.std.proofs.lemmas.Str.{is_utf8-from_IsUtf8, IsUtf8-from_is_utf8}
 use Rattle.pg_messages.specs.Fields.{count16, count32, string, IsText}
 use Rattle.pg_messages.specs.Frames.{parameter_value, IsParameterValue, IsParameter}
-use Rattle.pg_messages.specs.Reading.{◌>>=◌, both_at, items_at, number_at, signed_at, count_at, list_at, string_at, value_behind, value_at, after_zero, parameters_at, all_parameters_at, spoken, version_at}
+use Rattle.pg_messages.specs.Reading.{◌>>=◌, both_at, items_at, number_at, signed_at, count_at, list_at, string_at, value_behind, value_at, after_zero, parameters_at, all_parameters_at, four_at, byte_at}
 use Rattle.pg_messages.proofs.Utf8.{false_from}
 use Rattle.pg_messages.proofs.Laws.{IsBytes, Reads, bind_some, rest_fits, Reads-as, Reads-both, items_take, items_again}
 
@@ -167,11 +167,11 @@ Reads-string = record {
 
 -- ---- values behind their length
 
-chosen : {A : Type 0} (b : Bool) (x y z : A) → cond b x y ≡ z → ((b ≡ true) × (x ≡ z)) ⊎ ((b ≡ false) × (y ≡ z))
+pub chosen : {A : Type 0} (b : Bool) (x y z : A) → cond b x y ≡ z → ((b ≡ true) × (x ≡ z)) ⊎ ((b ≡ false) × (y ≡ z))
 chosen true x y z e = inl (refl, e)
 chosen false x y z e = inr (refl, e)
 
-eqb-apart : (a b : ℕ) → (a ≡ b → ⊥) → eqb a b ≡ false
+pub eqb-apart : (a b : ℕ) → (a ≡ b → ⊥) → eqb a b ≡ false
 eqb-apart a b h = false_from (eqb a b) (λ e. h (eqb-true a b e))
 
 value_taken : (n : ℕ) (bytes : List ℕ) (value : Option (List ℕ)) (rest : List ℕ) → value_behind (n, bytes) ≡ Some (value, rest) → (count32 n ++ bytes ≡ parameter_value value ++ rest) × IsParameterValue value
@@ -222,30 +222,27 @@ Reads-value = record {
   again = value_again;
 }
 
--- ---- the version of a startup packet
+-- ---- one byte, and four
 
-pub Reads-version : Reads (λ (n : ℕ). (n ≡ 196608) ⊎ (n ≡ 196610)) count32 version_at
-unfolding version_at
-Reads-version = record {
-  takes = λ bytes n rest fits e.
-      let a = bind_some (number_at w32 bytes) spoken (n, rest) e in
-      let one = number_takes w32 (2 ^ 32) wide32 bytes a.0.0 a.0.1 fits a.1 in
-      let P : ℕ × List ℕ → Type 0 = λ w. (bytes ≡ count32 w.0 ++ w.1) × ((w.0 ≡ 196608) ⊎ (w.0 ≡ 196610)) in
-      elim (chosen (eqb a.0.0 196608) (Some a.0) (cond (eqb a.0.0 196610) (Some a.0) None) (Some (n, rest)) a.2) [
-        | inl h ↦ subst P (same_Some a.0 (n, rest) h.1) (one.0, inl (eqb-true _ _ h.0))
-        | inr h ↦
-            elim (chosen (eqb a.0.0 196610) (Some a.0) None (Some (n, rest)) h.1) [
-              | inl k ↦ subst P (same_Some a.0 (n, rest) k.1) (one.0, inr (eqb-true _ _ k.0))
-              | inr k ↦ absurd (none-some (n, rest) k.1)
-            ]
-      ];
-  again = λ n rest good.
-      let at : (k : ℕ) → k < 2 ^ 32 → version_at (count32 k ++ rest) ≡ spoken (k, rest) = λ k lt. ap (λ (o : Option (ℕ × List ℕ)). o >>= spoken) (number_again w32 (2 ^ 32) wide32 k rest lt) in
-      let Q : ℕ → Type 0 = λ k. version_at (count32 k ++ rest) ≡ Some (k, rest) in
-      elim good [
-        | inl e ↦ subst Q (sym e) (at 196608 (omega arith))
-        | inr e ↦ subst Q (sym e) (at 196610 (omega arith))
-      ];
+pub Reads-byte : Reads (λ (b : ℕ). Unit {0}) (λ (b : ℕ). b ∷ []) byte_at
+Reads-byte = record { takes = byte_takes; again = λ b rest good. refl }
+  where
+    byte_takes : (bytes : List ℕ) (b : ℕ) (rest : List ℕ) → IsBytes bytes → byte_at bytes ≡ Some (b, rest) → (bytes ≡ (b ∷ []) ++ rest) × Unit {0}
+    byte_takes [] b rest fits e = absurd (none-some (b, rest) e)
+    byte_takes (x ∷ bytes) b rest fits e =
+        let made : ℕ × List ℕ = (x, bytes) in
+        subst (λ (w : ℕ × List ℕ). (x ∷ bytes ≡ (w.0 ∷ []) ++ w.1) × Unit {0}) (same_Some made (b, rest) e) (refl, tt)
+
+pub Reads-four : Reads (λ (k : List ℕ). length k ≡ 4) (λ (k : List ℕ). k) four_at
+Reads-four = record {
+  takes = λ bytes k rest fits e.
+      let g = guard_some (ltb (length bytes) 4) (take 4 bytes, drop 4 bytes) (k, rest) e in
+      let long : 4 ≤ length bytes = ltb-false _ _ g.0 in
+      let len : length (take 4 bytes) ≡ 4 = omega (arith, length-take 4 bytes) in
+      subst (λ (w : List ℕ × List ℕ). (bytes ≡ w.0 ++ w.1) × (length w.0 ≡ 4)) g.1 (sym (take-append-drop 4 bytes), len);
+  again = λ k rest good.
+      let long : ltb (length (k ++ rest)) 4 ≡ false = le-ltb _ _ (omega (arith, good, length-append k rest)) in
+      rw (long, take_at k rest 4 good, drop_at k rest 4 good) refl;
 }
 
 -- ---- pairs of texts up to a zero byte

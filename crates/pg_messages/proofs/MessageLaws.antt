@@ -1,28 +1,21 @@
 -- The bodies of messages: what is read is spelled so, and what is spelled so is read.
-use Rattle.std.proofs.Common.{◌≡◌, ℕ, ℤ, ◌^◌, ◌<◌, List, [], ◌∷◌, ◌++◌, length, Option, Result, Ok, Err, refl, sym, ap, ◌∙◌, append_assoc, ◌⊎◌}
+use Rattle.std.proofs.Common.{◌≡◌, ℕ, ℤ, ◌^◌, ◌<◌, List, [], ◌∷◌, ◌++◌, length, Option, refl, ap, append_assoc}
 use Rattle.std.specs.Prelude.{FitsSigned}
 use Rattle.std.specs.List.{flat_map, AllByRecursion}
 use Rattle.std.specs.Int.{w16, w32}
-use Rattle.std.proofs.lemmas.Option.{none-some}
-use Rattle.pg_messages.specs.declared.codec.FrameError.{FrameError}
-use Rattle.pg_messages.specs.declared.codec.FrameError.TheVariants as errors
-use Rattle.pg_messages.specs.declared.frontend.Startup.{Startup}
-use Rattle.pg_messages.specs.declared.frontend.Parse.{Parse}
-use Rattle.pg_messages.specs.declared.frontend.Bind.{Bind}
-use Rattle.pg_messages.specs.declared.frontend.Execute.{Execute}
-use Rattle.pg_messages.specs.Bodies.{Decodes}
+use Rattle.pg_messages.specs.declared.startup.CancelRequest.{CancelRequest}
+use Rattle.pg_messages.specs.declared.simplequery.Query.{Query}
+use Rattle.pg_messages.specs.declared.extendedquery.Parse.{Parse}
+use Rattle.pg_messages.specs.declared.extendedquery.Bind.{Bind}
+use Rattle.pg_messages.specs.declared.extendedquery.Describe.{Describe}
+use Rattle.pg_messages.specs.declared.extendedquery.Execute.{Execute}
+use Rattle.pg_messages.specs.declared.extendedquery.Close.{Close}
+use Rattle.pg_messages.specs.declared.copy.CopyFail.{CopyFail}
 use Rattle.pg_messages.specs.Fields.{int16, int32, count16, count32, string, IsText}
-use Rattle.pg_messages.specs.Frames.{startup_body, IsStartup, IsParameter, parse_body, IsParse, parameter_value, IsParameterValue, bind_body, IsBind, execute_body, IsExecute}
-use Rattle.pg_messages.specs.Reading.{Gives, whole, both_at, number_at, signed_at, list_at, string_at, value_at, all_parameters_at, version_at, startup_at, parse_at, bind_at, execute_at}
-use Rattle.pg_messages.proofs.Laws.{IsBytes, Reads, Reads-both, Reads-as, whole_takes, whole_again}
-use Rattle.pg_messages.proofs.FieldLaws.{wide16, wide32, Reads-number, Reads-signed, Reads-list, Reads-string, Reads-value, Reads-version, parameters_bytes, Reads-parameters}
-
--- a reader whose body is all of the bytes tells what is there
-pub decodes_whole : {X : Type 0} (G : X → Type 0) (s : X → List ℕ) (r : List ℕ → Option (X × List ℕ)) → Reads G s r → (body : List ℕ) (result : Result X FrameError) → IsBytes body → Gives (λ x. x) result (whole (r body))
-    → Decodes (λ (m : X). (body ≡ s m) × G m) result
-decodes_whole G s r base body (Ok x) fits given = whole_takes G s r base body x fits given
-decodes_whole {X} G s r base body (Err errors.Bad) fits given = λ m h. none-some m (sym given ∙ ap (λ (b : List ℕ). whole (r b)) h.0 ∙ whole_again G s r base m h.1)
-decodes_whole G s r base body (Err errors.NoMemory) fits given = tt
+use Rattle.pg_messages.specs.Frames.{cancel_body, IsCancel, query_body, IsQuery, parse_body, IsParse, parameter_value, IsParameterValue, bind_body, IsBind, describe_body, IsDescribe, execute_body, IsExecute, close_body, IsClose, copy_fail_body, IsCopyFail}
+use Rattle.pg_messages.specs.Reading.{both_at, number_at, signed_at, byte_at, four_at, list_at, string_at, value_at, cancel_at, query_at, parse_at, bind_at, describe_at, execute_at, close_at, copy_fail_at}
+use Rattle.pg_messages.proofs.Laws.{Reads, Reads-both, Reads-as}
+use Rattle.pg_messages.proofs.FieldLaws.{wide16, wide32, Reads-number, Reads-signed, Reads-list, Reads-string, Reads-value, Reads-byte, Reads-four}
 
 Reads-oid : Reads (λ (n : ℕ). n < 2 ^ 32) (λ (n : ℕ). count32 n) (number_at w32)
 Reads-oid = Reads-number w32 (2 ^ 32) wide32
@@ -59,15 +52,51 @@ Reads-values = Reads-list IsParameterValue parameter_value value_at Reads-value
 
 -- ---- the messages
 
-pub Reads-startup : Reads IsStartup startup_body startup_at
-unfolding startup_at
-Reads-startup =
-    Reads-as (λ (x : ℕ × List (List ℕ × List ℕ)). ((x.0 ≡ 196608) ⊎ (x.0 ≡ 196610)) × AllByRecursion IsParameter x.1) IsStartup
-    (λ (x : ℕ × List (List ℕ × List ℕ)). count32 x.0 ++ parameters_bytes x.1) startup_body (both_at version_at all_parameters_at)
-    (λ x. record { code = x.0; parameters = x.1 }) (λ (m : Startup). (m.code, m.parameters))
-    (λ x good. (append_assoc (count32 x.0) (flat_map (λ pair. string pair.0 ++ string pair.1) x.1) (0 ∷ []), record { code = good.0; parameters = good.1 }))
-    (λ m good. (append_assoc (count32 m.code) (flat_map (λ pair. string pair.0 ++ string pair.1) m.parameters) (0 ∷ []), refl, (good.code, good.parameters)))
-    (Reads-both (λ (n : ℕ). (n ≡ 196608) ⊎ (n ≡ 196610)) (λ (ps : List (List ℕ × List ℕ)). AllByRecursion IsParameter ps) count32 parameters_bytes version_at all_parameters_at Reads-version Reads-parameters)
+pub Reads-cancel : Reads IsCancel cancel_body cancel_at
+unfolding cancel_at
+Reads-cancel =
+    Reads-as (λ (x : ℤ × List ℕ). FitsSigned w32 x.0 × (length x.1 ≡ 4)) IsCancel
+    (λ (x : ℤ × List ℕ). int32 x.0 ++ x.1) cancel_body (both_at (signed_at w32) four_at)
+    (λ x. record { pid = x.0; secret_key = x.1 }) (λ (m : CancelRequest). (m.pid, m.secret_key))
+    (λ x good. (refl, record { pid = good.0; secret_key = good.1 }))
+    (λ m good. (refl, refl, (good.pid, good.secret_key)))
+    (Reads-both (λ (z : ℤ). FitsSigned w32 z) (λ (k : List ℕ). length k ≡ 4) (λ (z : ℤ). int32 z) (λ (k : List ℕ). k) (signed_at w32) four_at Reads-limit Reads-four)
+
+pub Reads-query : Reads IsQuery query_body query_at
+unfolding query_at
+Reads-query =
+    Reads-as IsText IsQuery string query_body string_at (λ x. record { query = x }) (λ (m : Query). m.query)
+    (λ x good. (refl, record { query = good })) (λ m good. (refl, refl, good.query)) Reads-string
+
+pub Reads-copy_fail : Reads IsCopyFail copy_fail_body copy_fail_at
+unfolding copy_fail_at
+Reads-copy_fail =
+    Reads-as IsText IsCopyFail string copy_fail_body string_at (λ x. record { message = x }) (λ (m : CopyFail). m.message)
+    (λ x good. (refl, record { message = good })) (λ m good. (refl, refl, good.message)) Reads-string
+
+-- a target byte and a name
+abbrev IsTarget : ℕ × List ℕ → Type 0
+IsTarget x = Unit {0} × IsText x.1
+
+abbrev target : ℕ × List ℕ → List ℕ
+target x = (x.0 ∷ []) ++ string x.1
+
+Reads-target : Reads IsTarget target (both_at byte_at string_at)
+Reads-target = Reads-both (λ (b : ℕ). Unit {0}) IsText (λ (b : ℕ). b ∷ []) string byte_at string_at Reads-byte Reads-string
+
+pub Reads-describe : Reads IsDescribe describe_body describe_at
+unfolding describe_at
+Reads-describe =
+    Reads-as IsTarget IsDescribe target describe_body (both_at byte_at string_at)
+    (λ x. record { target_type = x.0; name = x.1 }) (λ (m : Describe). (m.target_type, m.name))
+    (λ x good. (refl, record { name = good.1 })) (λ m good. (refl, refl, (tt, good.name))) Reads-target
+
+pub Reads-close : Reads IsClose close_body close_at
+unfolding close_at
+Reads-close =
+    Reads-as IsTarget IsClose target close_body (both_at byte_at string_at)
+    (λ x. record { target_type = x.0; name = x.1 }) (λ (m : Close). (m.target_type, m.name))
+    (λ x good. (refl, record { name = good.1 })) (λ m good. (refl, refl, (tt, good.name))) Reads-target
 
 pub Reads-parse : Reads IsParse parse_body parse_at
 unfolding parse_at

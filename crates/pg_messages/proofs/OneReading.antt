@@ -1,18 +1,16 @@
 -- A text begins with one frame at most, and has one division.
-use Rattle.std.proofs.Common.{◌≡◌, ℕ, ◌+◌, ◌≤◌, Bool, true, false, List, [], ◌∷◌, ◌++◌, length, get_or, take, drop, Option, refl, sym, ap, subst, ◌∙◌, append_assoc, arith, inl, inr, ◌⊎◌, Contains}
+use Rattle.std.proofs.Common.{◌≡◌, ℕ, zero, suc, ◌+◌, ◌^◌, ◌<◌, ◌≤◌, Bool, true, false, List, [], ◌∷◌, ◌++◌, length, get_or, take, drop, Option, Some, None, refl, sym, ap, subst, ◌∙◌, append_assoc, append-nil, arith, inl, inr, ◌⊎◌, Contains}
 use Rattle.std.specs.Int.{w32, from_be_bytes}
-use Rattle.std.proofs.lemmas.List.{take_at, length-append, append_cancel_left}
+use Rattle.std.specs.List.{AllByRecursion}
+use Rattle.std.proofs.lemmas.Bool.{cases_lt, cases_eq}
+use Rattle.std.proofs.lemmas.List.{take_at, take-append-drop, length-append, length-drop, append_cancel_left, take-append-le}
 use Rattle.std.proofs.lemmas.Nat.{from_be_bytes-to_be_bytes_4}
-use Rattle.std.proofs.lemmas.Option.{same_Some}
 use Rattle.pg_messages.specs.declared.frontend.PgWireFrontendMessage.{PgWireFrontendMessage}
-use Rattle.pg_messages.specs.declared.frontend.PgWireFrontendMessage.TheVariants as client
-use Rattle.pg_messages.specs.Bodies.{IsStartupBody, IsTypedBody}
-use Rattle.pg_messages.specs.Fields.{count32}
-use Rattle.pg_messages.specs.Frames.{IsStartupFrame, IsTypedFrame, IsFrame, IsUnfinished, IsGoodHeader, IsBad, DividesInto, awaits_startup_after, awaits_startup_after_all, header_len, told_len, type_bytes, startup_body, IsStartup, parse_body, IsParse, bind_body, IsBind, execute_body, IsExecute}
-use Rattle.pg_messages.specs.Reading.{whole, startup_at, parse_at, bind_at, execute_at}
-use Rattle.pg_messages.proofs.Laws.{Reads, whole_again}
-use Rattle.pg_messages.proofs.MessageLaws.{Reads-startup, Reads-parse, Reads-bind, Reads-execute}
-use Rattle.pg_messages.proofs.FrameLaws.{startup_inside, typed_inside}
+use Rattle.pg_messages.specs.Frames.{IsFrame, frame_bytes, IsUnfinished, IsGoodHeader, IsBad, DividesInto, awaits_startup_after, awaits_startup_after_all, header_len, told_len, type_bytes}
+use Rattle.pg_messages.specs.Reading.{message_at}
+use Rattle.pg_messages.proofs.Laws.{IsBytes}
+use Rattle.pg_messages.proofs.KindLaws.{one_message, nothing_carried, type_is_known}
+use Rattle.pg_messages.proofs.FrameLaws.{kind_of, body_of, inside, HasWhole, whole_in_front, frame_bad, frame_read, bytes_of_each}
 
 -- ---- the header of a frame in front
 
@@ -21,38 +19,26 @@ pub record Front (awaiting : Bool) (frame rest : List ℕ) : Type 0 where
   pub good : IsGoodHeader awaiting (frame ++ rest)
   pub header : header_len awaiting ≤ length frame
 
-startup_front : (frame rest body : List ℕ) → IsStartupFrame frame body → Front true frame rest
-startup_front frame rest body h =
-    let n = 4 + length body in
-    let told : told_len true ((count32 n ++ body) ++ rest) ≡ n = from_be_bytes-to_be_bytes_4 n (omega (arith, h.limit)) in
-    let all : Front true (count32 n ++ body) rest = record {
+pub front : (awaiting : Bool) (frame rest : List ℕ) (m : PgWireFrontendMessage) → IsFrame awaiting frame m → Front awaiting frame rest
+front true frame rest m h =
+    let size : length frame ≡ 8 + length h.body = omega (arith, ap length h.bytes) in
+    let told : told_len true (frame_bytes true h.kind h.body ++ rest) ≡ 8 + length h.body = from_be_bytes-to_be_bytes_4 (8 + length h.body) (omega (arith, size, h.limit)) in
+    let all : Front true (frame_bytes true h.kind h.body) rest = record {
       told = omega (arith, told);
-      good = (omega (arith, told, h.enough), omega (arith, told, h.limit));
+      good = (omega (arith, told), omega (arith, told, size, h.limit));
       header = omega arith;
     } in
     subst (λ (f : List ℕ). Front true f rest) (sym h.bytes) all
-
-typed_front : (frame rest : List ℕ) (kind : ℕ) (body : List ℕ) → Contains type_bytes kind → IsTypedFrame frame kind body → Front false frame rest
-typed_front frame rest kind body known h =
-    let n = 4 + length body in
-    let number : from_be_bytes w32 (count32 n) ≡ n = from_be_bytes-to_be_bytes_4 n (omega (arith, h.limit)) in
-    let told : told_len false ((kind ∷ count32 n ++ body) ++ rest) ≡ 1 + n = ap (λ (k : ℕ). 1 + k) number in
-    let all : Front false (kind ∷ count32 n ++ body) rest = record {
+front false frame rest m h =
+    let size : length frame ≡ 5 + length h.body = omega (arith, ap length h.bytes) in
+    let number = from_be_bytes-to_be_bytes_4 (4 + length h.body) (omega (arith, size, h.limit)) in
+    let told : told_len false (frame_bytes false h.kind h.body ++ rest) ≡ 5 + length h.body = ap (λ (n : ℕ). 1 + n) number ∙ omega arith in
+    let all : Front false (frame_bytes false h.kind h.body) rest = record {
       told = omega (arith, told);
-      good = (known, omega (arith, told), omega (arith, told, h.limit));
+      good = (type_is_known h.kind h.body m h.carries, omega (arith, told), omega (arith, told, size, h.limit));
       header = omega arith;
     } in
     subst (λ (f : List ℕ). Front false f rest) (sym h.bytes) all
-
-pub front : (awaiting : Bool) (frame rest : List ℕ) (m : PgWireFrontendMessage) → IsFrame awaiting frame m → Front awaiting frame rest
-front true frame rest (client.Startup m) h = startup_front frame rest (startup_body m) h.0
-front true frame rest _ h = absurd h
-front false frame rest (client.Startup m) h = absurd h
-front false frame rest (client.Parse m) h = typed_front frame rest 80 (parse_body m) (1, omega arith, refl) h.0
-front false frame rest (client.Bind m) h = typed_front frame rest 66 (bind_body m) (2, omega arith, refl) h.0
-front false frame rest (client.Execute m) h = typed_front frame rest 69 (execute_body m) (4, omega arith, refl) h.0
-front false frame rest (client.PgSync m) h = typed_front frame rest 83 [] (7, omega arith, refl) h
-front false frame rest (client.Terminate m) h = typed_front frame rest 88 [] (8, omega arith, refl) h
 
 -- ---- what a rest is not
 
@@ -75,27 +61,8 @@ frame_not_bad awaiting frame rest m h b =
 
 -- ---- one frame, one message
 
-one_value : {X : Type 0} (G : X → Type 0) (s : X → List ℕ) (r : List ℕ → Option (X × List ℕ)) → Reads G s r → (m n : X) → G m → G n → s m ≡ s n → m ≡ n
-one_value G s r base m n g h e = same_Some m n (sym (whole_again G s r base m g) ∙ ap (λ (b : List ℕ). whole (r b)) e ∙ whole_again G s r base n h)
-
-same_startup : (body : List ℕ) (m n : PgWireFrontendMessage) → IsStartupBody body m → IsStartupBody body n → m ≡ n
-same_startup body (client.Startup m) (client.Startup n) h j = ap client.Startup (one_value IsStartup startup_body startup_at Reads-startup m n h.1 j.1 (sym h.0 ∙ j.0))
-same_startup body (client.Startup m) _ h j = absurd j
-same_startup body _ _ h j = absurd h
-
-same_typed : (kind : ℕ) (body : List ℕ) (m n : PgWireFrontendMessage) → IsTypedBody kind body m → IsTypedBody kind body n → m ≡ n
-same_typed kind body (client.Startup m) _ h j = absurd h
-same_typed kind body _ (client.Startup n) h j = absurd j
-same_typed kind body (client.Parse m) (client.Parse n) h j = ap client.Parse (one_value IsParse parse_body parse_at Reads-parse m n h.2 j.2 (sym h.1 ∙ j.1))
-same_typed kind body (client.Bind m) (client.Bind n) h j = ap client.Bind (one_value IsBind bind_body bind_at Reads-bind m n h.2 j.2 (sym h.1 ∙ j.1))
-same_typed kind body (client.Execute m) (client.Execute n) h j = ap client.Execute (one_value IsExecute execute_body execute_at Reads-execute m n h.2 j.2 (sym h.1 ∙ j.1))
-same_typed kind body (client.PgSync m) (client.PgSync n) h j = refl
-same_typed kind body (client.Terminate m) (client.Terminate n) h j = refl
-same_typed kind body _ _ h j = absurd (omega (arith, h.0, j.0))
-
 same_message : (awaiting : Bool) (frame : List ℕ) (m n : PgWireFrontendMessage) → IsFrame awaiting frame m → IsFrame awaiting frame n → m ≡ n
-same_message true frame m n h j = same_startup (drop 4 frame) m n (startup_inside frame m h) (startup_inside frame n j)
-same_message false frame m n h j = same_typed (get_or frame 0 0) (drop 5 frame) m n (typed_inside frame m h) (typed_inside frame n j)
+same_message awaiting frame m n h j = one_message awaiting (kind_of awaiting frame) (body_of awaiting frame) m n (inside awaiting frame m h) (inside awaiting frame n j)
 
 pub one_frame : (awaiting : Bool) (a b x y : List ℕ) (m n : PgWireFrontendMessage) → IsFrame awaiting a m → IsFrame awaiting b n → a ++ x ≡ b ++ y → (a ≡ b) × (x ≡ y) × (m ≡ n)
 one_frame awaiting a b x y m n h j e =
@@ -103,6 +70,10 @@ one_frame awaiting a b x y m n h j e =
     let same : a ≡ b = sym (take_at a x (length a) refl) ∙ ap (take (length a)) e ∙ take_at b y (length a) (sym size) in
     let behind : x ≡ y = append_cancel_left a x y (e ∙ ap (λ (f : List ℕ). f ++ y) (sym same)) in
     (same, behind, same_message awaiting b m n (subst (λ (f : List ℕ). IsFrame awaiting f m) same h) j)
+
+-- a frame that begins another is that one
+pub whole_prefix : (awaiting : Bool) (frame more : List ℕ) (m n : PgWireFrontendMessage) → IsFrame awaiting frame m → IsFrame awaiting (frame ++ more) n → more ≡ []
+whole_prefix awaiting frame more m n h j = (one_frame awaiting frame (frame ++ more) more [] m n h j (sym (append-nil (frame ++ more)))).1
 
 -- ---- one division
 
@@ -135,3 +106,143 @@ pub division_kept : (ms : List PgWireFrontendMessage) (awaiting : Bool) (text re
 division_kept [] awaiting text rest more h = ap (λ (t : List ℕ). t ++ more) h
 division_kept (m ∷ ms) awaiting text rest more h =
     (h.0, h.1 ++ more, ap (λ (t : List ℕ). t ++ more) h.2 ∙ append_assoc h.0 h.1 more, h.3, division_kept ms (awaits_startup_after m awaiting) h.1 rest more h.4)
+
+-- a division of the rest goes on
+pub division_joined : (ms ns : List PgWireFrontendMessage) (awaiting : Bool) (text mid rest : List ℕ) → DividesInto awaiting text ms mid → DividesInto (awaits_startup_after_all ms awaiting) mid ns rest → DividesInto awaiting text (ms ++ ns) rest
+division_joined [] ns awaiting text mid rest h j = subst (λ (t : List ℕ). DividesInto awaiting t ns rest) (sym h) j
+division_joined (m ∷ ms) ns awaiting text mid rest h j = (h.0, h.1, h.2, h.3, division_joined ms ns (awaits_startup_after m awaiting) h.1 mid rest h.4 j)
+
+pub awaits_joined : (ms ns : List PgWireFrontendMessage) (awaiting : Bool) → awaits_startup_after_all (ms ++ ns) awaiting ≡ awaits_startup_after_all ns (awaits_startup_after_all ms awaiting)
+awaits_joined [] ns awaiting = refl
+awaits_joined (m ∷ ms) ns awaiting = awaits_joined ms ns (awaits_startup_after m awaiting)
+
+-- ---- bytes behind a bad header or frame
+
+drop_one : (r more : List ℕ) → 1 ≤ length r → drop 1 (r ++ more) ≡ drop 1 r ++ more
+drop_one [] more h = absurd (omega arith)
+drop_one (x ∷ r) more h = refl
+
+told_more : (awaiting : Bool) (r more : List ℕ) → header_len awaiting ≤ length r → told_len awaiting (r ++ more) ≡ told_len awaiting r
+told_more true r more h = ap (from_be_bytes w32) (take-append-le 4 r more h)
+told_more false r more h =
+    ap (λ (l : List ℕ). 1 + from_be_bytes w32 (take 4 l)) (drop_one r more (omega arith)) ∙ ap (λ (l : List ℕ). 1 + from_be_bytes w32 l) (take-append-le 4 (drop 1 r) more (omega (arith, length-drop 1 r)))
+
+first_more : (r more : List ℕ) → 1 ≤ length r → get_or (r ++ more) 0 0 ≡ get_or r 0 0
+first_more [] more h = absurd (omega arith)
+first_more (x ∷ r) more h = refl
+
+good_more : (awaiting : Bool) (r more : List ℕ) → header_len awaiting ≤ length r → IsGoodHeader awaiting (r ++ more) ≡ IsGoodHeader awaiting r
+good_more true r more h = ap (λ (n : ℕ). (8 ≤ n) × (n ≤ 10000)) (told_more true r more h)
+good_more false r more h = λ i. Contains type_bytes (first_more r more (omega arith) i) × (5 ≤ told_more false r more h i) × (told_more false r more h i ≤ 1048577)
+
+pub bad_more : (awaiting : Bool) (rest more : List ℕ) → IsBad awaiting rest → IsBad awaiting (rest ++ more)
+bad_more awaiting rest more b =
+    let told = told_more awaiting rest more b.0 in
+    let same = good_more awaiting rest more b.0 in
+    let long : length rest ≤ length (rest ++ more) = omega (arith, length-append rest more) in
+    let T : Type 0 → Type 0 = λ t. t in
+    (omega (arith, b.0, long), elim b.1 [
+      | inl refused ↦ inl (λ good. refused (subst T same good))
+      | inr whole ↦
+          inr (subst T (sym same) whole.0, omega (arith, told, whole.1, long),
+              λ m f. whole.2 m (subst (λ (l : List ℕ). IsFrame awaiting l m) (ap (λ (n : ℕ). take n (rest ++ more)) told ∙ take-append-le (told_len awaiting rest) rest more whole.1) f))
+    ])
+
+-- ---- there is a division
+
+contained : (xs : List ℕ) (x : ℕ) → Contains xs x ⊎ (Contains xs x → ⊥)
+contained [] x = inr (λ c. omega (arith, c.1))
+contained (y ∷ xs) x =
+    elim (cases_eq y x) [
+      | inl e ↦ inl (0, omega arith, e)
+      | inr other ↦
+          elim (contained xs x) [
+            | inl c ↦ inl (suc c.0, omega (arith, c.1), c.2)
+            | inr none ↦ inr (λ c. not_there y xs x other none c.0 c.1 c.2)
+          ]
+    ]
+  where
+    not_there : (y : ℕ) (xs : List ℕ) (x : ℕ) → (y ≡ x → ⊥) → (Contains xs x → ⊥) → (i : ℕ) → i < length (y ∷ xs) → get_or (y ∷ xs) i x ≡ x → ⊥
+    not_there y xs x other none zero lt e = other e
+    not_there y xs x other none (suc i) lt e = none (i, omega (arith, lt), e)
+
+between : (low high n : ℕ) → ((low ≤ n) × (n ≤ high)) ⊎ ((low ≤ n) × (n ≤ high) → ⊥)
+between low high n =
+    elim (cases_lt n low) [
+      | inl less ↦ inr (λ h. omega (arith, less, h.0))
+      | inr enough ↦ elim (cases_lt high n) [ inl more ↦ inr (λ h. omega (arith, more, h.1)) | inr few ↦ inl (enough, few) ]
+    ]
+
+header_judged : (awaiting : Bool) (text : List ℕ) → IsGoodHeader awaiting text ⊎ (IsGoodHeader awaiting text → ⊥)
+header_judged true text = between 8 10000 (told_len true text)
+header_judged false text =
+    elim (contained type_bytes (get_or text 0 0)) [
+      | inl c ↦ elim (between 5 1048577 (told_len false text)) [ inl h ↦ inl (c, h.0, h.1) | inr none ↦ inr (λ h. none (h.1, h.2)) ]
+      | inr none ↦ inr (λ h. none h.0)
+    ]
+
+bytes_judged : (bytes : List ℕ) → IsBytes bytes ⊎ (AllByRecursion (λ byte. byte < 2 ^ 8) bytes → ⊥)
+bytes_judged [] = inl (bytes_of_each [] tt)
+bytes_judged (b ∷ bytes) =
+    elim (cases_lt b 256) [
+      | inl small ↦ elim (bytes_judged bytes) [ inl fits ↦ inl (bytes_more b bytes small fits) | inr none ↦ inr (λ h. none h.1) ]
+      | inr large ↦ inr (λ h. omega (arith, large, h.0))
+    ]
+  where
+    bytes_more : (b : ℕ) (bytes : List ℕ) → b < 256 → IsBytes bytes → IsBytes (b ∷ bytes)
+    bytes_more b bytes small fits zero = small
+    bytes_more b bytes small fits (suc i) = fits i
+
+abbrev BeginsWithFrame : Bool → List ℕ → Type 0
+BeginsWithFrame awaiting text = (m : PgWireFrontendMessage) × (frame : List ℕ) × (others : List ℕ) × (text ≡ frame ++ others) × IsFrame awaiting frame m
+
+-- where a whole frame stands in front by its header
+whole_judged : (awaiting : Bool) (text : List ℕ) (len : ℕ) → header_len awaiting ≤ length text → HasWhole awaiting text len → IsBytes (take len text) ⊎ (AllByRecursion (λ byte. byte < 2 ^ 8) (take len text) → ⊥)
+    → IsRest awaiting text ⊎ BeginsWithFrame awaiting text
+whole_judged awaiting text len header h (inr none) =
+    let at = subst (λ (n : ℕ). n ≤ length text) h.told h.there in
+    inl (inr (header, inr (h.good, at, λ m f. none (subst (λ (n : ℕ). AllByRecursion (λ byte. byte < 2 ^ 8) (take n text)) (sym h.told) f.each))))
+whole_judged awaiting text len header h (inl fits) =
+    by (message_at awaiting (kind_of awaiting (take len text)) (body_of awaiting (take len text))) refl
+  where
+    by : (o : Option PgWireFrontendMessage) → message_at awaiting (kind_of awaiting (take len text)) (body_of awaiting (take len text)) ≡ o → IsRest awaiting text ⊎ BeginsWithFrame awaiting text
+    by (Some m) e = inr (m, take len text, drop len text, sym (take-append-drop len text), frame_read awaiting (take len text) m (whole_in_front awaiting text len h) fits e)
+    by None e = inl (inr (frame_bad awaiting text len h (nothing_carried awaiting (kind_of awaiting (take len text)) (body_of awaiting (take len text)) e)))
+
+first_judged : (awaiting : Bool) (text : List ℕ) → IsRest awaiting text ⊎ BeginsWithFrame awaiting text
+first_judged awaiting text =
+    elim (cases_lt (length text) (header_len awaiting)) [
+      | inl short ↦ inl (inl (inl short))
+      | inr header ↦
+          elim (header_judged awaiting text) [
+            | inr bad ↦ inl (inr (header, inl bad))
+            | inl good ↦
+                elim (cases_lt (length text) (told_len awaiting text)) [
+                  | inl less ↦ inl (inl (inr (header, good, less)))
+                  | inr there ↦
+                      let h : HasWhole awaiting text (told_len awaiting text) = record { told = refl; there = there; good = good } in
+                      whole_judged awaiting text (told_len awaiting text) header h (bytes_judged (take (told_len awaiting text) text))
+                ]
+          ]
+    ]
+
+abbrev Divided : Bool → List ℕ → Type 0
+Divided awaiting text = (ms : List PgWireFrontendMessage) × (rest : List ℕ) × DividesInto awaiting text ms rest × IsRest (awaits_startup_after_all ms awaiting) rest
+
+header_some : (awaiting : Bool) → 1 ≤ header_len awaiting
+header_some true = omega arith
+header_some false = omega arith
+
+divided : (n : ℕ) (awaiting : Bool) (text : List ℕ) → length text ≤ n → Divided awaiting text
+divided zero awaiting text le = ([], text, refl, inl (inl (omega (arith, le, header_some awaiting))))
+divided (suc n) awaiting text le =
+    elim (first_judged awaiting text) [
+      | inl rest ↦ ([], text, refl, rest)
+      | inr f ↦
+          let some : 1 ≤ length f.1 = omega (arith, (front awaiting f.1 f.2 f.0 f.4).header, header_some awaiting) in
+          let more = divided n (awaits_startup_after f.0 awaiting) f.2 (omega (arith, le, some, ap length f.3, length-append f.1 f.2)) in
+          (f.0 ∷ more.0, more.1, (f.1, f.2, f.3, f.4, more.2), more.3)
+    ]
+
+pub has_division : (awaiting : Bool) (text : List ℕ) → Divided awaiting text
+has_division awaiting text = divided (length text) awaiting text (omega arith)

@@ -1,8 +1,12 @@
 -- The data types that messages are made of (protocol: Message Data Types). Numbers are big-endian.
 use Rattle.std.specs.Prelude.{ℕ, ℤ, List, [], ◌∷◌, ◌++◌, ◌≢◌}
 use Rattle.std.specs.List.{AllByRecursion}
-use Rattle.std.specs.Int.{w16, w32, to_be_bytes, cast_unsigned}
+use Rattle.std.specs.Int.{w8, w16, w32, to_be_bytes, cast_unsigned}
 use Rattle.std.specs.Str.{IsUtf8}
+
+-- Int8 of a number with a sign, in two's complement
+abbrev pub int8 : ℤ → List ℕ
+int8 z = to_be_bytes w8 (cast_unsigned w8 z)
 
 -- Int16 of a number with a sign, in two's complement
 abbrev pub int16 : ℤ → List ℕ

@@ -1,5 +1,5 @@
 -- The frames of a client (protocol: Message Formats). A frame's message tells its bytes, so each kind of
--- message is one layout and one record of what the layout can carry.
+-- message is one layout, one record of what the layout can carry, and one arm of `Carries`.
 use Rattle.std.specs.Prelude.{ℕ, ℤ, Bool, true, false, List, [], ◌∷◌, ◌++◌, Option, Some, None, ◌≡◌, ◌≢◌, ◌≤◌, ◌<◌, ◌+◌, ◌^◌, ◌⊎◌, ◌==◌, if◌then◌else◌, length, take, drop, slice_index, IfSome, FitsSigned, Contains, codes}
 use Rattle.std.specs.List.{AllByRecursion, flat_map}
 use Rattle.std.specs.Int.{w16, w32, from_be_bytes}
@@ -7,16 +7,23 @@ use Rattle.pg_messages.specs.Fields.{int16, int32, count16, count32, string, IsT
 use Rattle.pg_messages.specs.declared.codec.DecodeContext.{DecodeContext}
 use Rattle.pg_messages.specs.declared.codec.ProtocolVersion.{ProtocolVersion}
 use Rattle.pg_messages.specs.declared.codec.ProtocolVersion.TheVariants.{PROTOCOL3_0, PROTOCOL3_2}
-use Rattle.pg_messages.specs.declared.frontend.Startup.{Startup}
-use Rattle.pg_messages.specs.declared.frontend.Parse.{Parse}
-use Rattle.pg_messages.specs.declared.frontend.Bind.{Bind}
-use Rattle.pg_messages.specs.declared.frontend.Execute.{Execute}
+use Rattle.pg_messages.specs.declared.startup.Startup.{Startup}
+use Rattle.pg_messages.specs.declared.startup.CancelRequest.{CancelRequest}
+use Rattle.pg_messages.specs.declared.startup.SslNegotiationKind.{SslNegotiationKind}
+use Rattle.pg_messages.specs.declared.startup.SslNegotiationKind.TheVariants.{PostgresSsl, PostgresGss}
+use Rattle.pg_messages.specs.declared.simplequery.Query.{Query}
+use Rattle.pg_messages.specs.declared.extendedquery.Parse.{Parse}
+use Rattle.pg_messages.specs.declared.extendedquery.Bind.{Bind}
+use Rattle.pg_messages.specs.declared.extendedquery.Describe.{Describe}
+use Rattle.pg_messages.specs.declared.extendedquery.Execute.{Execute}
+use Rattle.pg_messages.specs.declared.extendedquery.Close.{Close}
+use Rattle.pg_messages.specs.declared.copy.CopyFail.{CopyFail}
 use Rattle.pg_messages.specs.declared.frontend.PgWireFrontendMessage.{PgWireFrontendMessage}
 use Rattle.pg_messages.specs.declared.frontend.PgWireFrontendMessage.TheVariants as client
 
--- Startup: Int32 code, pairs of Strings, and a zero byte.
+-- Startup, behind the code: pairs of Strings, and a zero byte.
 abbrev pub startup_body : Startup → List ℕ
-startup_body m = count32 m.code ++ flat_map (λ pair. string pair.0 ++ string pair.1) m.parameters ++ 0 ∷ []
+startup_body m = flat_map (λ pair. string pair.0 ++ string pair.1) m.parameters ++ 0 ∷ []
 
 -- a name isn't empty, since a zero byte in its place ends the list
 pub record IsParameter (pair : List ℕ × List ℕ) : Type 0 where
@@ -24,10 +31,41 @@ pub record IsParameter (pair : List ℕ × List ℕ) : Type 0 where
   pub named : pair.0 ≢ []
   pub value : IsText pair.1
 
--- the two versions whose packet has this layout: 3.0 and 3.2
-pub record IsStartup (m : Startup) : Type 0 where
+-- A packet of a version that is spoken, 3.0 or 3.2, has this layout.
+pub record IsSpoken (body : List ℕ) (m : Startup) : Type 0 where
   pub code : (m.code ≡ 196608) ⊎ (m.code ≡ 196610)
+  pub layout : body ≡ startup_body m
   pub parameters : AllByRecursion IsParameter m.parameters
+
+-- the codes that say what the body is: the two versions, CancelRequest, SSLRequest and GSSENCRequest
+abbrev pub known_codes : List ℕ
+known_codes = 196608 ∷ 196610 ∷ 80877102 ∷ 80877103 ∷ 80877104 ∷ []
+
+-- Any other code is a version that isn't spoken, and the body isn't looked at.
+pub record IsUnspoken (m : Startup) : Type 0 where
+  pub code : m.code < 2 ^ 32
+  pub unknown : AllByRecursion (λ code. m.code ≢ code) known_codes
+  pub parameters : m.parameters ≡ []
+
+-- CancelRequest, behind the code: Int32 pid, and four bytes of key.
+abbrev pub cancel_body : CancelRequest → List ℕ
+cancel_body m = int32 m.pid ++ m.secret_key
+
+pub record IsCancel (m : CancelRequest) : Type 0 where
+  pub pid : FitsSigned w32 m.pid
+  pub secret_key : length m.secret_key ≡ 4
+
+-- the code of a request to encrypt, which has no body
+abbrev pub negotiation_code : SslNegotiationKind → ℕ
+negotiation_code PostgresSsl = 80877103
+negotiation_code PostgresGss = 80877104
+
+-- Query: String query.
+abbrev pub query_body : Query → List ℕ
+query_body m = string m.query
+
+pub record IsQuery (m : Query) : Type 0 where
+  pub query : IsText m.query
 
 -- Parse: String name, String query, Int16 count, and as many Int32 type oids.
 abbrev pub parse_body : Parse → List ℕ
@@ -68,6 +106,13 @@ pub record IsBind (m : Bind) : Type 0 where
   pub parameters : AllByRecursion IsParameterValue m.parameters
   pub result_column_format_codes : AreFormatCodes m.result_column_format_codes
 
+-- Describe: Byte1 target, String name.
+abbrev pub describe_body : Describe → List ℕ
+describe_body m = m.target_type ∷ string m.name
+
+pub record IsDescribe (m : Describe) : Type 0 where
+  pub name : IsText m.name
+
 -- Execute: String portal, Int32 limit.
 abbrev pub execute_body : Execute → List ℕ
 execute_body m = string m.name ++ int32 m.max_rows
@@ -76,27 +121,61 @@ pub record IsExecute (m : Execute) : Type 0 where
   pub name : IsText m.name
   pub max_rows : FitsSigned w32 m.max_rows
 
--- A frame of the startup phase: Int32 length, itself included, and the body. A length is 8 to 10,000.
-pub record IsStartupFrame (frame body : List ℕ) : Type 0 where
-  pub bytes : frame ≡ count32 (4 + length body) ++ body
-  pub enough : 8 ≤ 4 + length body
-  pub limit : 4 + length body ≤ 10000
+-- Close: Byte1 target, String name.
+abbrev pub close_body : Close → List ℕ
+close_body m = m.target_type ∷ string m.name
 
--- A typed frame: type byte, Int32 length, itself included and the type byte not, and the body. A length is 4 to 1,048,576.
-pub record IsTypedFrame (frame : List ℕ) (kind : ℕ) (body : List ℕ) : Type 0 where
-  pub bytes : frame ≡ kind ∷ count32 (4 + length body) ++ body
-  pub limit : 4 + length body ≤ 1048576
+pub record IsClose (m : Close) : Type 0 where
+  pub name : IsText m.name
+
+-- CopyFail: String message.
+abbrev pub copy_fail_body : CopyFail → List ℕ
+copy_fail_body m = string m.message
+
+pub record IsCopyFail (m : CopyFail) : Type 0 where
+  pub message : IsText m.message
+
+-- What a body carries behind a kind: the code of a startup packet while that is awaited, a type byte afterwards.
+abbrev pub Carries : Bool → ℕ → List ℕ → PgWireFrontendMessage → Type 0
+Carries true kind body (client.Startup m) = (kind ≡ m.code) × (IsSpoken body m ⊎ IsUnspoken m)
+Carries true kind body (client.SslNegotiation m) = (kind ≡ negotiation_code m) × (body ≡ [])
+Carries true kind body (client.CancelRequest m) = (kind ≡ 80877102) × (body ≡ cancel_body m) × IsCancel m
+Carries true kind body _ = ⊥
+Carries false kind body (client.Startup m) = ⊥
+Carries false kind body (client.SslNegotiation m) = ⊥
+Carries false kind body (client.CancelRequest m) = ⊥
+Carries false kind body (client.Query m) = (kind ≡ 81) × (body ≡ query_body m) × IsQuery m
+Carries false kind body (client.Parse m) = (kind ≡ 80) × (body ≡ parse_body m) × IsParse m
+Carries false kind body (client.Bind m) = (kind ≡ 66) × (body ≡ bind_body m) × IsBind m
+Carries false kind body (client.Describe m) = (kind ≡ 68) × (body ≡ describe_body m) × IsDescribe m
+Carries false kind body (client.Execute m) = (kind ≡ 69) × (body ≡ execute_body m) × IsExecute m
+Carries false kind body (client.Close m) = (kind ≡ 67) × (body ≡ close_body m) × IsClose m
+Carries false kind body (client.Flush m) = (kind ≡ 72) × (body ≡ [])
+Carries false kind body (client.PgSync m) = (kind ≡ 83) × (body ≡ [])
+Carries false kind body (client.Terminate m) = (kind ≡ 88) × (body ≡ [])
+Carries false kind body (client.CopyData m) = (kind ≡ 100) × (body ≡ m.payload)
+Carries false kind body (client.CopyDone m) = (kind ≡ 99) × (body ≡ [])
+Carries false kind body (client.CopyFail m) = (kind ≡ 102) × (body ≡ copy_fail_body m) × IsCopyFail m
+
+-- While the startup packet is awaited a frame is Int32 length, itself included, Int32 code, and a body;
+-- afterwards type byte, Int32 length, itself included and the type byte not, and a body.
+abbrev pub frame_bytes : Bool → ℕ → List ℕ → List ℕ
+frame_bytes true kind body = count32 (8 + length body) ++ count32 kind ++ body
+frame_bytes false kind body = kind ∷ count32 (4 + length body) ++ body
+
+-- the most bytes of a frame: a length is at most 10,000, and of a typed frame, whose type byte it doesn't count, 1,048,576
+abbrev pub most_bytes : Bool → ℕ
+most_bytes true = 10000
+most_bytes false = 1048577
 
 -- Good frame: this frame carries this message, while the startup packet is awaited or afterwards.
-abbrev pub IsFrame : Bool → List ℕ → PgWireFrontendMessage → Type 0
-IsFrame true frame (client.Startup m) = IsStartupFrame frame (startup_body m) × IsStartup m
-IsFrame true frame _ = ⊥
-IsFrame false frame (client.Startup m) = ⊥
-IsFrame false frame (client.Parse m) = IsTypedFrame frame 80 (parse_body m) × IsParse m
-IsFrame false frame (client.Bind m) = IsTypedFrame frame 66 (bind_body m) × IsBind m
-IsFrame false frame (client.Execute m) = IsTypedFrame frame 69 (execute_body m) × IsExecute m
-IsFrame false frame (client.PgSync m) = IsTypedFrame frame 83 []
-IsFrame false frame (client.Terminate m) = IsTypedFrame frame 88 []
+pub record IsFrame (awaiting : Bool) (frame : List ℕ) (m : PgWireFrontendMessage) : Type 0 where
+  pub kind : ℕ
+  pub body : List ℕ
+  pub bytes : frame ≡ frame_bytes awaiting kind body
+  pub each : AllByRecursion (λ byte. byte < 2 ^ 8) frame
+  pub limit : length frame ≤ most_bytes awaiting
+  pub carries : Carries awaiting kind body m
 
 -- The startup packet ends the startup phase; no other message changes it.
 abbrev pub awaits_startup_after : PgWireFrontendMessage → Bool → Bool
@@ -122,7 +201,7 @@ abbrev pub told_len : Bool → List ℕ → ℕ
 told_len true bytes = from_be_bytes w32 (take 4 bytes)
 told_len false bytes = 1 + from_be_bytes w32 (take 4 (drop 1 bytes))
 
--- the type bytes of a client's messages, whether or not each kind is served yet
+-- the type bytes of a client's messages
 abbrev pub type_bytes : List ℕ
 type_bytes = codes "QPBDECHSXdcf"
 
@@ -153,3 +232,26 @@ DividesInto awaiting text (m ∷ messages) rest = (frame : List ℕ) × (others 
 abbrev pub awaits_startup_after_all : List PgWireFrontendMessage → Bool → Bool
 awaits_startup_after_all [] awaiting = awaiting
 awaits_startup_after_all (m ∷ messages) awaiting = awaits_startup_after_all messages (awaits_startup_after m awaiting)
+
+-- the texts that a message carries
+abbrev pub message_texts : PgWireFrontendMessage → List (List ℕ)
+message_texts (client.Startup m) = flat_map (λ pair. pair.0 ∷ pair.1 ∷ []) m.parameters
+message_texts (client.Query m) = m.query ∷ []
+message_texts (client.Parse m) = m.name ∷ m.query ∷ []
+message_texts (client.Bind m) = m.portal_name ∷ m.statement_name ∷ []
+message_texts (client.Describe m) = m.name ∷ []
+message_texts (client.Execute m) = m.name ∷ []
+message_texts (client.Close m) = m.name ∷ []
+message_texts (client.CopyFail m) = m.message ∷ []
+message_texts _ = []
+
+-- the messages of the extended query
+abbrev pub is_extended_query : PgWireFrontendMessage → Bool
+is_extended_query (client.Parse m) = true
+is_extended_query (client.Bind m) = true
+is_extended_query (client.Describe m) = true
+is_extended_query (client.Execute m) = true
+is_extended_query (client.Close m) = true
+is_extended_query (client.Flush m) = true
+is_extended_query (client.PgSync m) = true
+is_extended_query _ = false

@@ -1,4 +1,3 @@
-pub mod Bodies
 pub mod Fields
 pub mod Frames
 pub mod Reading

@@ -1,16 +1,23 @@
 -- Reading fields from left to right, as functions on lists: the value and the bytes after it, or None where
 -- no value stands there. They tie the private readers to the layouts; no public promise cites them.
-use Rattle.std.specs.Prelude.{◌≡◌, ℕ, ℤ, zero, suc, ◌+◌, ◌^◌, List, [], ◌∷◌, length, take, drop, Option, Some, None, option_and_then, Result, Ok, Err, nat_lt, ◌==◌, if◌then◌else◌}
+use Rattle.std.specs.Prelude.{◌≡◌, Bool, true, false, ℕ, ℤ, zero, suc, ◌+◌, ◌^◌, List, [], ◌∷◌, length, take, drop, Option, Some, None, option_and_then, Result, Ok, Err, nat_lt, ◌==◌, if◌then◌else◌}
 use Rattle.std.specs.List.{position}
 use Rattle.std.specs.Int.{Width, w16, w32, byte_len, from_be_bytes, cast_signed}
 use Rattle.std.specs.Option.{option_map_or}
 use Rattle.std.specs.Str.{is_utf8}
 use Rattle.pg_messages.specs.declared.codec.FrameError.{FrameError}
 use Rattle.pg_messages.specs.declared.codec.FrameError.TheVariants as errors
-use Rattle.pg_messages.specs.declared.frontend.Startup.{Startup}
-use Rattle.pg_messages.specs.declared.frontend.Parse.{Parse}
-use Rattle.pg_messages.specs.declared.frontend.Bind.{Bind}
-use Rattle.pg_messages.specs.declared.frontend.Execute.{Execute}
+use Rattle.pg_messages.specs.declared.startup.CancelRequest.{CancelRequest}
+use Rattle.pg_messages.specs.declared.simplequery.Query.{Query}
+use Rattle.pg_messages.specs.declared.extendedquery.Parse.{Parse}
+use Rattle.pg_messages.specs.declared.extendedquery.Bind.{Bind}
+use Rattle.pg_messages.specs.declared.extendedquery.Describe.{Describe}
+use Rattle.pg_messages.specs.declared.extendedquery.Execute.{Execute}
+use Rattle.pg_messages.specs.declared.extendedquery.Close.{Close}
+use Rattle.pg_messages.specs.declared.copy.CopyFail.{CopyFail}
+use Rattle.pg_messages.specs.declared.startup.SslNegotiationKind.TheVariants.{PostgresSsl, PostgresGss}
+use Rattle.pg_messages.specs.declared.frontend.PgWireFrontendMessage.{PgWireFrontendMessage}
+use Rattle.pg_messages.specs.declared.frontend.PgWireFrontendMessage.TheVariants as client
 
 -- What a call returned, seen by view, is what reading gives, unless memory ran out.
 abbrev pub Gives : {X Y : Type 0} → (X → Y) → Result X FrameError → Option Y → Type 0
@@ -83,15 +90,22 @@ parameters_at (suc n) bytes = option_map_or (λ rest. Some ([], rest)) (after_ze
 abbrev pub all_parameters_at : List ℕ → Option (List (List ℕ × List ℕ) × List ℕ)
 all_parameters_at bytes = parameters_at (length bytes) bytes
 
--- a version that is spoken
-abbrev pub spoken : ℕ × List ℕ → Option (ℕ × List ℕ)
-spoken n = if n.0 == 196608 then Some n else (if n.0 == 196610 then Some n else None)
+-- four bytes
+abbrev pub four_at : List ℕ → Option (List ℕ × List ℕ)
+four_at bytes = if nat_lt (length bytes) 4 then None else Some (take 4 bytes, drop 4 bytes)
 
-unfoldable pub version_at : List ℕ → Option (ℕ × List ℕ)
-version_at bytes = number_at w32 bytes >>= spoken
+-- one byte
+abbrev pub byte_at : List ℕ → Option (ℕ × List ℕ)
+byte_at [] = None
+byte_at (byte ∷ rest) = Some (byte, rest)
 
-unfoldable pub startup_at : List ℕ → Option (Startup × List ℕ)
-startup_at = as_at (λ x. record { code = x.0; parameters = x.1 }) (both_at version_at all_parameters_at)
+-- ---- the bodies of messages
+
+unfoldable pub cancel_at : List ℕ → Option (CancelRequest × List ℕ)
+cancel_at = as_at (λ x. record { pid = x.0; secret_key = x.1 }) (both_at (signed_at w32) four_at)
+
+unfoldable pub query_at : List ℕ → Option (Query × List ℕ)
+query_at = as_at (λ x. record { query = x }) string_at
 
 unfoldable pub parse_at : List ℕ → Option (Parse × List ℕ)
 parse_at = as_at (λ x. record { name = x.0.0; query = x.0.1; type_oids = x.1 }) (both_at (both_at string_at string_at) (list_at (number_at w32)))
@@ -100,5 +114,58 @@ unfoldable pub bind_at : List ℕ → Option (Bind × List ℕ)
 bind_at = as_at (λ x. record { portal_name = x.0.0.0.0; statement_name = x.0.0.0.1; parameter_format_codes = x.0.0.1; parameters = x.0.1; result_column_format_codes = x.1 })
     (both_at (both_at (both_at (both_at string_at string_at) (list_at (signed_at w16))) (list_at value_at)) (list_at (signed_at w16)))
 
+unfoldable pub describe_at : List ℕ → Option (Describe × List ℕ)
+describe_at = as_at (λ x. record { target_type = x.0; name = x.1 }) (both_at byte_at string_at)
+
 unfoldable pub execute_at : List ℕ → Option (Execute × List ℕ)
 execute_at = as_at (λ x. record { name = x.0; max_rows = x.1 }) (both_at string_at (signed_at w32))
+
+unfoldable pub close_at : List ℕ → Option (Close × List ℕ)
+close_at = as_at (λ x. record { target_type = x.0; name = x.1 }) (both_at byte_at string_at)
+
+unfoldable pub copy_fail_at : List ℕ → Option (CopyFail × List ℕ)
+copy_fail_at = as_at (λ x. record { message = x }) string_at
+
+-- ---- the message of a body, by its kind
+
+-- a body seen as a message
+abbrev pub told_as : {X : Type 0} → (X → PgWireFrontendMessage) → Option X → Option PgWireFrontendMessage
+told_as message read = read >>= λ x. Some (message x)
+
+-- the message of an empty body
+abbrev pub bare : List ℕ → PgWireFrontendMessage → Option PgWireFrontendMessage
+bare body message = if length body == 0 then Some message else None
+
+-- what stands beside a key, or else
+abbrev pub beside : {X : Type 0} → ℕ → Option X → List (ℕ × Option X) → Option X
+beside key otherwise [] = otherwise
+beside key otherwise (entry ∷ entries) = if key == entry.0 then entry.1 else beside key otherwise entries
+
+abbrev pub startup_packet : ℕ → List (List ℕ × List ℕ) → PgWireFrontendMessage
+startup_packet code parameters = client.Startup (record { code = code; parameters = parameters })
+
+abbrev pub startup_readings : List ℕ → List (ℕ × Option PgWireFrontendMessage)
+startup_readings body = (196608, told_as (startup_packet 196608) (whole (all_parameters_at body)))
+    ∷ (196610, told_as (startup_packet 196610) (whole (all_parameters_at body)))
+    ∷ (80877102, told_as client.CancelRequest (whole (cancel_at body)))
+    ∷ (80877103, bare body (client.SslNegotiation PostgresSsl))
+    ∷ (80877104, bare body (client.SslNegotiation PostgresGss)) ∷ []
+
+abbrev pub typed_readings : List ℕ → List (ℕ × Option PgWireFrontendMessage)
+typed_readings body = (81, told_as client.Query (whole (query_at body)))
+    ∷ (80, told_as client.Parse (whole (parse_at body)))
+    ∷ (66, told_as client.Bind (whole (bind_at body)))
+    ∷ (68, told_as client.Describe (whole (describe_at body)))
+    ∷ (69, told_as client.Execute (whole (execute_at body)))
+    ∷ (67, told_as client.Close (whole (close_at body)))
+    ∷ (100, Some (client.CopyData (record { payload = body })))
+    ∷ (102, told_as client.CopyFail (whole (copy_fail_at body)))
+    ∷ (72, bare body (client.Flush (record { })))
+    ∷ (83, bare body (client.PgSync (record { })))
+    ∷ (88, bare body (client.Terminate (record { })))
+    ∷ (99, bare body (client.CopyDone (record { }))) ∷ []
+
+-- while the startup packet is awaited by its code, afterwards by the type byte
+unfoldable pub message_at : Bool → ℕ → List ℕ → Option PgWireFrontendMessage
+message_at true code body = beside code (Some (startup_packet code [])) (startup_readings body)
+message_at false kind body = beside kind None (typed_readings body)

@@ -1,142 +1,151 @@
-ghost use Rattle.std.specs.Prelude.{◌≡◌, ◌↔◌, IsTrue, codes};
+//! The replies of a server, and the writing of each.
 
-use crate::values::{PgBytes, PgStr};
+ghost use Rattle.std.specs.Prelude.{◌≡◌, ◌≤◌, ◌-◌, ◌^◌, ◌++◌, length, min};
+ghost use Rattle.pg_messages.specs.Replies.{IsEncodable, reply_type, reply_body, is_one_byte};
 
-/// The client is let in. Protocol, "Message Formats", AuthenticationOk: Byte1 `R`, Int32 length 8, Int32 0.
-#[derive(Drop)]
-pub struct AuthenticationOk {}
-
-/// A setting of the server, told at the start. Protocol, ParameterStatus: Byte1 `S`, Int32 length, String
-/// name, String value.
-#[derive(Drop)]
-pub struct ParameterStatus {
-    /// The setting's name.
-    pub name: PgStr,
-    /// Its value as text.
-    pub value: PgStr,
-}
-
-/// What a client sends back to cancel a query of this session. Protocol, BackendKeyData: Byte1 `K`, Int32
-/// length 12, Int32 pid, four bytes of key.
-#[derive(Drop)]
-pub struct BackendKeyData {
-    /// The session's process number.
-    pub pid: i32,
-    /// The session's secret.
-    pub secret_key: [u8; 4],
-}
-
-/// Where a session stands as to transactions.
-#[derive(Clone, Copy, Debug, PartialEq, Eq)]
-pub enum TransactionStatus {
-    /// Outside a transaction: `I`.
-    Idle,
-    /// In a transaction: `T`.
-    Transaction,
-    /// In a transaction that failed: `E`.
-    Error,
-}
-
-impl TransactionStatus {
-    ghost use Rattle.std.specs.Prelude.{◌≡◌};
-    ghost use Rattle.pg_messages.specs.Status.{to_error_state};
-
-    /// The status after an error: outside a transaction it stays so, and in one the transaction has failed.
-    pub fn to_error_state(self) -> TransactionStatus
-        ensures { result ≡ to_error_state self }
-    {
-        match self {
-            TransactionStatus::Idle => TransactionStatus::Idle,
-            _ => TransactionStatus::Error,
-        }
-    }
-}
-
-/// The server awaits the next query. Protocol, ReadyForQuery: Byte1 `Z`, Int32 length 5, Byte1 status, `I`,
-/// `T` or `E`.
-#[derive(Drop)]
-pub struct ReadyForQuery {
-    /// Where the session stands.
-    pub status: TransactionStatus,
-}
-
-/// A Parse was done. Protocol, ParseComplete: Byte1 `1`, Int32 length 4.
-#[derive(Drop)]
-pub struct ParseComplete {}
-
-/// A Bind was done. Protocol, BindComplete: Byte1 `2`, Int32 length 4.
-#[derive(Drop)]
-pub struct BindComplete {}
-
-/// A row of results. Protocol, DataRow: Byte1 `D`, Int32 length, Int16 count of cells, and for each cell
-/// Int32 length (-1 for null) and as many bytes.
-#[derive(Drop)]
-pub struct DataRow {
-    /// The cells as they are sent, each behind its length.
-    pub payload: PgBytes,
-    /// How many cells the payload has.
-    pub field_count: i16,
-}
-
-/// A command was done. Protocol, CommandComplete: Byte1 `C`, Int32 length, String tag.
-#[derive(Drop)]
-pub struct CommandComplete {
-    /// What was done, as `SELECT 3`.
-    pub tag: PgStr,
-}
-
-/// An error as it is told to a client.
-#[derive(Drop)]
-pub struct ErrorInfo {
-    /// `ERROR`, or `FATAL` where the session ends.
-    pub severity: PgStr,
-    /// The five characters of the error's code.
-    pub code: PgStr,
-    /// What a person reads.
-    pub message: PgStr,
-}
-
-impl ErrorInfo {
-    /// The error with these texts. It takes no memory.
-    pub fn new(severity: PgStr, code: PgStr, message: PgStr) -> ErrorInfo
-        ensures severity { result.severity ≡ severity }
-        ensures code { result.code ≡ code }
-        ensures message { result.message ≡ message }
-    {
-        ErrorInfo {
-            severity,
-            code,
-            message,
-        }
-    }
-
-    /// Whether the error ends the session: its severity is `FATAL`.
-    pub fn is_fatal(&self) -> bool
-        ensures { IsTrue result ↔ (self.now.severity ≡ codes "FATAL") }
-    {
-        self.severity.as_str() == "FATAL"
-    }
-}
-
-/// An error. Protocol, ErrorResponse: Byte1 `E`, Int32 length, the fields `S` severity, `V` severity, `C`
-/// code and `M` message, each a byte and a String, and a zero byte.
-#[derive(Drop)]
-pub struct ErrorResponse {
-    /// The error's texts.
-    pub info: ErrorInfo,
-}
+use crate::copy::{
+    CopyBothResponse, CopyData, CopyDone, CopyInResponse, CopyOutResponse, put_columns,
+};
+use crate::data::{DataRow, NoData, ParameterDescription, RowDescription};
+use crate::extendedquery::{BindComplete, CloseComplete, ParseComplete, PortalSuspended};
+use crate::put::{Put, list_len, put_list};
+use crate::response::{
+    CommandComplete, EmptyQueryResponse, ErrorResponse, GssEncResponse, ReadyForQuery, SslResponse,
+    status_byte,
+};
+use crate::startup::{AuthenticationOk, BackendKeyData, ParameterStatus};
+use bytes::BytesMut;
 
 /// A reply of the server. Each is one type byte, Int32 length, which counts itself and not the type byte,
-/// and a body.
+/// and a body; the answers to a request to encrypt are the byte `N` alone.
 #[derive(Drop)]
 pub enum PgWireBackendMessage {
+    SslResponse(SslResponse),
+    GssEncResponse(GssEncResponse),
     AuthenticationOk(AuthenticationOk),
     ParameterStatus(ParameterStatus),
     BackendKeyData(BackendKeyData),
     ReadyForQuery(ReadyForQuery),
     ParseComplete(ParseComplete),
     BindComplete(BindComplete),
+    CloseComplete(CloseComplete),
+    PortalSuspended(PortalSuspended),
+    ParameterDescription(ParameterDescription),
+    RowDescription(RowDescription),
+    NoData(NoData),
     DataRow(DataRow),
     CommandComplete(CommandComplete),
+    EmptyQueryResponse(EmptyQueryResponse),
     ErrorResponse(ErrorResponse),
+    CopyInResponse(CopyInResponse),
+    CopyOutResponse(CopyOutResponse),
+    CopyBothResponse(CopyBothResponse),
+    CopyData(CopyData),
+    CopyDone(CopyDone),
+}
+
+impl PgWireBackendMessage {
+    /// How many bytes stand behind the length; from the greatest u64 on that number. A reply can be sent
+    /// where there are at most 1,073,741,823.
+    pub fn body_len(&self) -> u64
+        ensures { result ≡ min (length (reply_body self.now)) (2 ^ 64 - 1) }
+    {
+        match self {
+            PgWireBackendMessage::AuthenticationOk(_) => 4,
+            PgWireBackendMessage::ParameterStatus(m) => {
+                m.name.byte_len().saturating_add(m.value.byte_len())
+            }
+            PgWireBackendMessage::BackendKeyData(m) => 4 + m.secret_key.as_slice().len() as u64,
+            PgWireBackendMessage::ReadyForQuery(_) => 1,
+            PgWireBackendMessage::ParameterDescription(m) => list_len(2, m.types.as_slice()),
+            PgWireBackendMessage::RowDescription(m) => list_len(2, m.fields.as_slice()),
+            PgWireBackendMessage::DataRow(m) => (m.payload.len() as u64).saturating_add(2),
+            PgWireBackendMessage::CommandComplete(m) => m.tag.byte_len(),
+            PgWireBackendMessage::ErrorResponse(m) => m.info.byte_len(),
+            PgWireBackendMessage::CopyInResponse(m) => list_len(3, m.column_formats.as_slice()),
+            PgWireBackendMessage::CopyOutResponse(m) => list_len(3, m.column_formats.as_slice()),
+            PgWireBackendMessage::CopyBothResponse(m) => list_len(3, m.column_formats.as_slice()),
+            PgWireBackendMessage::CopyData(m) => m.payload.len() as u64,
+            _ => 0,
+        }
+    }
+}
+
+/// The type byte of a reply.
+pub fn type_byte(item: &PgWireBackendMessage) -> u8
+    ensures { result ≡ reply_type item.now }
+{
+    match item {
+        PgWireBackendMessage::SslResponse(_) => b'N',
+        PgWireBackendMessage::GssEncResponse(_) => b'N',
+        PgWireBackendMessage::AuthenticationOk(_) => b'R',
+        PgWireBackendMessage::ParameterStatus(_) => b'S',
+        PgWireBackendMessage::BackendKeyData(_) => b'K',
+        PgWireBackendMessage::ReadyForQuery(_) => b'Z',
+        PgWireBackendMessage::ParseComplete(_) => b'1',
+        PgWireBackendMessage::BindComplete(_) => b'2',
+        PgWireBackendMessage::CloseComplete(_) => b'3',
+        PgWireBackendMessage::PortalSuspended(_) => b's',
+        PgWireBackendMessage::ParameterDescription(_) => b't',
+        PgWireBackendMessage::RowDescription(_) => b'T',
+        PgWireBackendMessage::NoData(_) => b'n',
+        PgWireBackendMessage::DataRow(_) => b'D',
+        PgWireBackendMessage::CommandComplete(_) => b'C',
+        PgWireBackendMessage::EmptyQueryResponse(_) => b'I',
+        PgWireBackendMessage::ErrorResponse(_) => b'E',
+        PgWireBackendMessage::CopyInResponse(_) => b'G',
+        PgWireBackendMessage::CopyOutResponse(_) => b'H',
+        PgWireBackendMessage::CopyBothResponse(_) => b'W',
+        PgWireBackendMessage::CopyData(_) => b'd',
+        PgWireBackendMessage::CopyDone(_) => b'c',
+    }
+}
+
+/// Whether the type byte is the whole reply.
+pub fn is_one_byte(item: &PgWireBackendMessage) -> bool
+    ensures { result ≡ is_one_byte item.now }
+{
+    matches!(
+        item,
+        PgWireBackendMessage::SslResponse(_) | PgWireBackendMessage::GssEncResponse(_)
+    )
+}
+
+/// Appends what stands behind the length.
+pub fn put_body(item: &PgWireBackendMessage, dst: &mut BytesMut)
+    requires fits { IsEncodable item.now }
+    requires room { length (reply_body item.now) ≤ dst.old.spare }
+    ensures { dst.new.items ≡ dst.old.items ++ reply_body item.now }
+{
+    match item {
+        PgWireBackendMessage::AuthenticationOk(_) => dst.extend_reserved(&[0, 0, 0, 0]),
+        PgWireBackendMessage::ParameterStatus(m) => {
+            m.name.put(dst);
+            m.value.put(dst);
+        }
+        PgWireBackendMessage::BackendKeyData(m) => {
+            m.pid.put(dst);
+            dst.extend_reserved(&m.secret_key);
+        }
+        PgWireBackendMessage::ReadyForQuery(m) => dst.extend_reserved(&[status_byte(m.status)]),
+        PgWireBackendMessage::ParameterDescription(m) => put_list(m.types.as_slice(), dst),
+        PgWireBackendMessage::RowDescription(m) => put_list(m.fields.as_slice(), dst),
+        PgWireBackendMessage::DataRow(m) => {
+            m.field_count.put(dst);
+            dst.extend_reserved(m.payload.as_slice());
+        }
+        PgWireBackendMessage::CommandComplete(m) => m.tag.put(dst),
+        PgWireBackendMessage::ErrorResponse(m) => m.info.put(dst),
+        PgWireBackendMessage::CopyInResponse(m) => {
+            put_columns(m.format, m.columns, m.column_formats.as_slice(), dst);
+        }
+        PgWireBackendMessage::CopyOutResponse(m) => {
+            put_columns(m.format, m.columns, m.column_formats.as_slice(), dst);
+        }
+        PgWireBackendMessage::CopyBothResponse(m) => {
+            put_columns(m.format, m.columns, m.column_formats.as_slice(), dst);
+        }
+        PgWireBackendMessage::CopyData(m) => dst.extend_reserved(m.payload.as_slice()),
+        _ => {}
+    }
 }

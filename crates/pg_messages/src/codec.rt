@@ -1,12 +1,17 @@
-ghost use Rattle.std.specs.Prelude.{◌≡◌, ◌++◌, ℕ, List, true, IfOk, OnOk, OnErr, IfSome, IfNone, MatchOption, IsErrOf};
+//! Frames of a client taken off a buffer, and replies put behind one.
+
+ghost use Rattle.std.specs.Prelude.{◌≡◌, ◌≤◌, ◌+◌, ◌++◌, ◌∷◌, ℕ, List, true, length, IfOk, OnOk, OnErr, IfSome, IfNone, MatchOption, IsErrOf};
 ghost use Rattle.pg_messages.specs.Frames.{IsFrame, IsUnfinished, IsBad, context_after};
+ghost use Rattle.pg_messages.specs.Fields.{count32, int16};
 ghost use Rattle.pg_messages.specs.Replies.{IsEncodable, reply_bytes};
+ghost use Rattle.pg_messages.specs.declared.backend.PgWireBackendMessage.TheVariants as server;
 ghost use Rattle.pg_messages.specs.declared.codec.ProtocolVersion.TheVariants.{PROTOCOL3_0};
 
-use crate::backend::PgWireBackendMessage;
+use crate::backend::{PgWireBackendMessage, is_one_byte, put_body, type_byte};
+use crate::copy::CopyData;
+use crate::data::DataRow;
 use crate::frames::first_frame;
 use crate::frontend::PgWireFrontendMessage;
-use crate::writing::{body_len, put_body, type_byte};
 use bytes::BytesMut;
 use std::alloc::{AllocError, Global};
 
@@ -110,6 +115,7 @@ impl PgWireMessageServerCodec {
     /// Appends the bytes of a reply: Byte1 type, Int32 length, which counts itself and not the type byte,
     /// and the body (protocol, "Message Formats"). The room is made at once, so want of memory is the
     /// only error, and after it the bytes are as they were.
+    #[inline]
     pub fn encode(
         &mut self,
         item: &PgWireBackendMessage,
@@ -120,13 +126,73 @@ impl PgWireMessageServerCodec {
         ensures err { OnErr result (dst.new.items ≡ dst.old.items) }
         ensures context { self.new ≡ self.old }
     {
-        let len = body_len(item);
-        dst.reserve(len + 5)?;
-        dst.extend_reserved(&[type_byte(item)]);
-        dst.extend_reserved(&(len as u32 + 4).to_be_bytes());
-        put_body(item, dst);
-        Ok(())
+        match item {
+            PgWireBackendMessage::DataRow(row) => put_row(row, dst),
+            PgWireBackendMessage::CopyData(copied) => put_copied(copied, dst),
+            _ => put_reply(item, dst),
+        }
     }
+}
+
+// Rows are most of what is sent: one growth, the head in one piece, and the cells as they stand.
+#[inline(always)]
+fn put_row(row: &DataRow, dst: &mut BytesMut) -> Result<(), AllocError>
+    requires { IsEncodable (server.DataRow row.now) }
+    ensures ok { OnOk result
+        (dst.new.items ≡ dst.old.items ++ reply_bytes (server.DataRow row.now)) }
+    ensures err { OnErr result (dst.new.items ≡ dst.old.items) }
+{
+    let cells = row.payload.as_slice();
+    let head = row_head(row);
+    dst.reserve(cells.len() + 7)?;
+    dst.extend_reserved(&head);
+    dst.extend_reserved(cells);
+    Ok(())
+}
+
+// Type byte, length and count.
+#[inline(always)]
+fn row_head(row: &DataRow) -> [u8; 7]
+    requires { length row.now.payload ≤ 1073741823 }
+    ensures { result
+        ≡ 68 ∷ count32 (length row.now.payload + 6) ++ int16 row.now.field_count }
+{
+    let [a, b, c, d] = (row.payload.len() as u32 + 6).to_be_bytes();
+    let [e, f] = row.field_count.to_be_bytes();
+    [b'D', a, b, c, d, e, f]
+}
+
+#[inline(always)]
+fn put_copied(copied: &CopyData, dst: &mut BytesMut) -> Result<(), AllocError>
+    requires { IsEncodable (server.CopyData copied.now) }
+    ensures ok { OnOk result
+        (dst.new.items ≡ dst.old.items ++ reply_bytes (server.CopyData copied.now)) }
+    ensures err { OnErr result (dst.new.items ≡ dst.old.items) }
+{
+    let bytes = copied.payload.as_slice();
+    let [a, b, c, d] = (bytes.len() as u32 + 4).to_be_bytes();
+    dst.reserve(bytes.len() + 5)?;
+    dst.extend_reserved(&[b'd', a, b, c, d]);
+    dst.extend_reserved(bytes);
+    Ok(())
+}
+
+fn put_reply(item: &PgWireBackendMessage, dst: &mut BytesMut) -> Result<(), AllocError>
+    requires { IsEncodable item.now }
+    ensures ok { OnOk result (dst.new.items ≡ dst.old.items ++ reply_bytes item.now) }
+    ensures err { OnErr result (dst.new.items ≡ dst.old.items) }
+{
+    if is_one_byte(item) {
+        dst.reserve(1)?;
+        dst.extend_reserved(&[type_byte(item)]);
+        return Ok(());
+    }
+    let len = item.body_len() as usize;
+    dst.reserve(len + 5)?;
+    dst.extend_reserved(&[type_byte(item)]);
+    dst.extend_reserved(&(len as u32 + 4).to_be_bytes());
+    put_body(item, dst);
+    Ok(())
 }
 
 fn after(message: &PgWireFrontendMessage, context: DecodeContext) -> DecodeContext

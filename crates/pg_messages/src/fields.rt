@@ -1,7 +1,8 @@
-// Reading the data types that messages are made of, from the front of bytes.
+//! Reading the data types that messages are made of, from the front of bytes.
+
 ghost use Rattle.std.specs.Prelude.{◌≡◌, ◌<◌, ◌==◌, ℕ, List, Option, IfSome, length, position};
 ghost use Rattle.std.specs.Int.{w16, w32};
-ghost use Rattle.pg_messages.specs.Reading.{Gives, number_at, signed_at, count_at, items_at, list_at, string_at, value_at};
+ghost use Rattle.pg_messages.specs.Reading.{Gives, whole, count_at, items_at, list_at};
 
 use crate::codec::FrameError;
 use crate::values::{PgBytes, PgList, PgStr};
@@ -15,6 +16,44 @@ pub trait Field: Sized {
     /// Reads the value at the front, and tells the bytes after it.
     fn read(alloc: Global, bytes: &[u8]) -> Result<(Self, &[u8]), FrameError>
         ensures { Gives (λ x. (x.0, x.1.now)) result (field_at bytes.now) };
+}
+
+/// A value that is all of the bytes.
+pub fn whole<T: Field + Drop>(alloc: Global, bytes: &[u8]) -> Result<T, FrameError>
+    ensures { Gives (λ x. x) result (whole (T.field_at bytes.now)) }
+{
+    let (value, rest) = T::read(alloc, bytes)?;
+    if !rest.is_empty() {
+        return Err(FrameError::Bad);
+    }
+    Ok(value)
+}
+
+impl Field for u8 {
+    ghost use Rattle.pg_messages.specs.Reading.{byte_at};
+
+    ghost field_at = { byte_at };
+
+    fn read(_alloc: Global, bytes: &[u8]) -> Result<(u8, &[u8]), FrameError> {
+        match bytes {
+            [byte, rest @ ..] => Ok((*byte, rest)),
+            [] => Err(FrameError::Bad),
+        }
+    }
+}
+
+impl Field for [u8; 4] {
+    ghost use Rattle.pg_messages.specs.Reading.{four_at};
+
+    ghost field_at = { four_at };
+
+    fn read(_alloc: Global, bytes: &[u8]) -> Result<([u8; 4], &[u8]), FrameError> {
+        if bytes.len() < 4 {
+            return Err(FrameError::Bad);
+        }
+        let (front, rest) = bytes.split_at(4);
+        Ok(([front[0], front[1], front[2], front[3]], rest))
+    }
 }
 
 impl Field for u32 {

@@ -1,11 +1,11 @@
-// The first frame of bytes, and its message.
-ghost use Rattle.std.specs.Prelude.{◌≡◌, ◌≢◌, ◌≤◌, true, false, [], length, take, IfOk, IfSome, IfNone, IsErrOf, OnOk, OnErr};
-ghost use Rattle.pg_messages.specs.Frames.{IsFrame, IsUnfinished, IsBad, told_len, parse_body, IsParse, bind_body, IsBind, execute_body, IsExecute, startup_body, IsStartup};
-ghost use Rattle.pg_messages.specs.Bodies.{Decodes, IsTypedBody, IsStartupBody};
+//! The first frame of bytes, and its message.
 
-use crate::bodies::whole;
+ghost use Rattle.std.specs.Prelude.{◌≡◌, ◌≤◌, true, false, length, take, drop, IfOk, IfSome, IfNone, IsErrOf};
+ghost use Rattle.std.specs.Int.{w32, from_be_bytes};
+ghost use Rattle.pg_messages.specs.Frames.{IsFrame, IsUnfinished, IsBad};
+
 use crate::codec::FrameError;
-use crate::frontend::{Bind, Execute, Parse, PgSync, PgWireFrontendMessage, Startup, Terminate};
+use crate::frontend::{PgWireFrontendMessage, startup_message, typed_message};
 use crate::headers::{startup_len, typed_len};
 use std::alloc::Global;
 
@@ -40,9 +40,21 @@ fn first_startup(
         return Ok(None);
     };
     let (frame, _) = bytes.split_at(len);
-    let (_, body) = frame.split_at(4);
-    let message = startup_message(alloc, body)?;
+    let (code, body) = code_and_body(frame);
+    let message = startup_message(alloc, code, body)?;
     Ok(Some((message, len)))
+}
+
+// What stands behind the length of a startup packet.
+fn code_and_body(frame: &[u8]) -> (u32, &[u8])
+    requires { 8 ≤ length frame.now }
+    ensures code { result.0 ≡ from_be_bytes w32 (take 4 (drop 4 frame.now)) }
+    ensures body { result.1.now ≡ drop 8 frame.now }
+{
+    let (_, behind) = frame.split_at(4);
+    let code = u32::from_be_bytes([behind[0], behind[1], behind[2], behind[3]]);
+    let (_, body) = frame.split_at(8);
+    (code, body)
 }
 
 fn first_typed(
@@ -61,64 +73,4 @@ fn first_typed(
     let (header, body) = frame.split_at(5);
     let message = typed_message(alloc, header[0], body)?;
     Ok(Some((message, len)))
-}
-
-fn startup_message(alloc: Global, body: &[u8]) -> Result<PgWireFrontendMessage, FrameError>
-    ensures { Decodes (IsStartupBody body.now) result }
-{
-    let message = startup(alloc, body)?;
-    Ok(PgWireFrontendMessage::Startup(message))
-}
-
-fn typed_message(alloc: Global, kind: u8, body: &[u8]) -> Result<PgWireFrontendMessage, FrameError>
-    ensures { Decodes (IsTypedBody kind body.now) result }
-{
-    match kind {
-        b'P' => Ok(PgWireFrontendMessage::Parse(parse(alloc, body)?)),
-        b'B' => Ok(PgWireFrontendMessage::Bind(bind(alloc, body)?)),
-        b'E' => Ok(PgWireFrontendMessage::Execute(execute(alloc, body)?)),
-        b'S' => {
-            empty(body)?;
-            Ok(PgWireFrontendMessage::PgSync(PgSync {}))
-        }
-        b'X' => {
-            empty(body)?;
-            Ok(PgWireFrontendMessage::Terminate(Terminate {}))
-        }
-        _ => Err(FrameError::Bad),
-    }
-}
-
-fn startup(alloc: Global, body: &[u8]) -> Result<Startup, FrameError>
-    ensures { Decodes (λ m. (body.now ≡ startup_body m) × IsStartup m) result }
-{
-    whole(alloc, body)
-}
-
-fn parse(alloc: Global, body: &[u8]) -> Result<Parse, FrameError>
-    ensures { Decodes (λ m. (body.now ≡ parse_body m) × IsParse m) result }
-{
-    whole(alloc, body)
-}
-
-fn bind(alloc: Global, body: &[u8]) -> Result<Bind, FrameError>
-    ensures { Decodes (λ m. (body.now ≡ bind_body m) × IsBind m) result }
-{
-    whole(alloc, body)
-}
-
-fn execute(alloc: Global, body: &[u8]) -> Result<Execute, FrameError>
-    ensures { Decodes (λ m. (body.now ≡ execute_body m) × IsExecute m) result }
-{
-    whole(alloc, body)
-}
-
-fn empty(body: &[u8]) -> Result<(), FrameError>
-    ensures ok { OnOk result (body.now ≡ []) }
-    ensures err { OnErr result (body.now ≢ []) }
-{
-    if !body.is_empty() {
-        return Err(FrameError::Bad);
-    }
-    Ok(())
 }

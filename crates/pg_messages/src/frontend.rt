@@ -1,74 +1,138 @@
-use crate::values::{PgBytes, PgList, PgStr};
+//! The messages of a client, and the reading of each by its kind.
 
-/// A format code of a value or a column: text.
-pub const FORMAT_CODE_TEXT: i16 = 0;
+ghost use Rattle.std.specs.Prelude.{◌≡◌, ◌≢◌, true, false, [], OnOk, OnErr};
+ghost use Rattle.pg_messages.specs.Frames.{is_extended_query};
+ghost use Rattle.pg_messages.specs.Reading.{Gives, message_at};
 
-/// A format code of a value or a column: binary.
-pub const FORMAT_CODE_BINARY: i16 = 1;
+use crate::codec::FrameError;
+use crate::copy::{CopyData, CopyDone, CopyFail};
+use crate::extendedquery::{Bind, Close, Describe, Execute, Flush, Parse, PgSync};
+use crate::fields::whole;
+use crate::simplequery::Query;
+use crate::startup::{CancelRequest, SslNegotiationKind, Startup, Terminate};
+use crate::values::{PgBytes, PgList};
+use std::alloc::Global;
 
-/// The first packet of a session. Protocol, "Message Formats", StartupMessage: Int32 length, which counts
-/// itself, Int32 version, pairs of Strings (name, value), and a zero byte.
-#[derive(Drop)]
-pub struct Startup {
-    /// The protocol version, its major part in the upper sixteen bits.
-    pub code: u32,
-    /// The parameters in their order; no name is empty.
-    pub parameters: PgList<(PgStr, PgStr)>,
-}
-
-/// Prepares a statement. Protocol, Parse: Byte1 `P`, Int32 length, String name, String query, Int16 count,
-/// and as many Int32 type oids.
-#[derive(Drop)]
-pub struct Parse {
-    /// The statement's name; the empty text is the unnamed one.
-    pub name: PgStr,
-    /// The query's text.
-    pub query: PgStr,
-    /// The types of the parameters that were told.
-    pub type_oids: PgList<u32>,
-}
-
-/// Makes a portal of a statement. Protocol, Bind: Byte1 `B`, Int32 length, String portal, String statement,
-/// Int16 count and as many Int16 format codes, Int16 count and as many values, each Int32 length (-1 for
-/// null) and as many bytes, and Int16 count and as many Int16 format codes of the results.
-#[derive(Drop)]
-pub struct Bind {
-    /// The portal's name; the empty text is the unnamed one.
-    pub portal_name: PgStr,
-    /// The statement's name; the empty text is the unnamed one.
-    pub statement_name: PgStr,
-    /// The formats of the values: none for text, one for all, or one for each.
-    pub parameter_format_codes: PgList<i16>,
-    /// The values, None for null.
-    pub parameters: PgList<Option<PgBytes>>,
-    /// The formats of the result's columns: none for text, one for all, or one for each.
-    pub result_column_format_codes: PgList<i16>,
-}
-
-/// Runs a portal. Protocol, Execute: Byte1 `E`, Int32 length, String portal, Int32 limit.
-#[derive(Drop)]
-pub struct Execute {
-    /// The portal's name; the empty text is the unnamed one.
-    pub name: PgStr,
-    /// The greatest number of rows; below 1 all of them.
-    pub max_rows: i32,
-}
-
-/// Ends a series of messages. Protocol, Sync: Byte1 `S`, Int32 length 4.
-#[derive(Drop)]
-pub struct PgSync {}
-
-/// Ends the session. Protocol, Terminate: Byte1 `X`, Int32 length 4.
-#[derive(Drop)]
-pub struct Terminate {}
-
-/// A message of the client.
+/// A message of the client. The first three come while the startup packet is awaited, the others afterwards.
 #[derive(Drop)]
 pub enum PgWireFrontendMessage {
     Startup(Startup),
+    SslNegotiation(SslNegotiationKind),
+    CancelRequest(CancelRequest),
+    Query(Query),
     Parse(Parse),
     Bind(Bind),
+    Describe(Describe),
     Execute(Execute),
+    Close(Close),
+    Flush(Flush),
     PgSync(PgSync),
     Terminate(Terminate),
+    CopyData(CopyData),
+    CopyDone(CopyDone),
+    CopyFail(CopyFail),
+}
+
+impl PgWireFrontendMessage {
+    /// Whether the message belongs to the extended query: Parse, Bind, Describe, Execute, Close, Flush and
+    /// Sync do.
+    pub fn is_extended_query(&self) -> bool
+        ensures { result ≡ is_extended_query self.now }
+    {
+        matches!(
+            self,
+            PgWireFrontendMessage::Parse(_)
+                | PgWireFrontendMessage::Bind(_)
+                | PgWireFrontendMessage::Describe(_)
+                | PgWireFrontendMessage::Execute(_)
+                | PgWireFrontendMessage::Close(_)
+                | PgWireFrontendMessage::Flush(_)
+                | PgWireFrontendMessage::PgSync(_)
+        )
+    }
+}
+
+/// The message of a body behind the code of a startup packet.
+#[tactic(auto, unfolding(crate::specs::Reading::message_at))]
+pub fn startup_message(
+    alloc: Global,
+    code: u32,
+    body: &[u8],
+) -> Result<PgWireFrontendMessage, FrameError>
+    ensures { Gives (λ m. m) result (message_at true code body.now) }
+{
+    match code {
+        196608 | 196610 => {
+            let parameters = whole(alloc, body)?;
+            Ok(PgWireFrontendMessage::Startup(Startup { code, parameters }))
+        }
+        80877102 => Ok(PgWireFrontendMessage::CancelRequest(whole(alloc, body)?)),
+        80877103 => {
+            empty(body)?;
+            Ok(PgWireFrontendMessage::SslNegotiation(
+                SslNegotiationKind::PostgresSsl,
+            ))
+        }
+        80877104 => {
+            empty(body)?;
+            Ok(PgWireFrontendMessage::SslNegotiation(
+                SslNegotiationKind::PostgresGss,
+            ))
+        }
+        _ => {
+            let parameters = PgList::new(alloc);
+            Ok(PgWireFrontendMessage::Startup(Startup { code, parameters }))
+        }
+    }
+}
+
+/// The message of a body behind a type byte.
+#[tactic(auto, unfolding(crate::specs::Reading::message_at))]
+pub fn typed_message(
+    alloc: Global,
+    kind: u8,
+    body: &[u8],
+) -> Result<PgWireFrontendMessage, FrameError>
+    ensures { Gives (λ m. m) result (message_at false kind body.now) }
+{
+    match kind {
+        b'Q' => Ok(PgWireFrontendMessage::Query(whole(alloc, body)?)),
+        b'P' => Ok(PgWireFrontendMessage::Parse(whole(alloc, body)?)),
+        b'B' => Ok(PgWireFrontendMessage::Bind(whole(alloc, body)?)),
+        b'D' => Ok(PgWireFrontendMessage::Describe(whole(alloc, body)?)),
+        b'E' => Ok(PgWireFrontendMessage::Execute(whole(alloc, body)?)),
+        b'C' => Ok(PgWireFrontendMessage::Close(whole(alloc, body)?)),
+        b'd' => {
+            let payload = PgBytes::copy_of(alloc, body)?;
+            Ok(PgWireFrontendMessage::CopyData(CopyData { payload }))
+        }
+        b'f' => Ok(PgWireFrontendMessage::CopyFail(whole(alloc, body)?)),
+        b'H' => {
+            empty(body)?;
+            Ok(PgWireFrontendMessage::Flush(Flush {}))
+        }
+        b'S' => {
+            empty(body)?;
+            Ok(PgWireFrontendMessage::PgSync(PgSync {}))
+        }
+        b'X' => {
+            empty(body)?;
+            Ok(PgWireFrontendMessage::Terminate(Terminate {}))
+        }
+        b'c' => {
+            empty(body)?;
+            Ok(PgWireFrontendMessage::CopyDone(CopyDone {}))
+        }
+        _ => Err(FrameError::Bad),
+    }
+}
+
+fn empty(body: &[u8]) -> Result<(), FrameError>
+    ensures ok { OnOk result (body.now ≡ []) }
+    ensures err { OnErr result (body.now ≢ []) }
+{
+    if !body.is_empty() {
+        return Err(FrameError::Bad);
+    }
+    Ok(())
 }

@@ -1,4 +1,5 @@
-// The headers of frames, judged as soon as they are whole.
+//! The headers of frames, judged as soon as they are whole.
+
 ghost use Rattle.std.specs.Prelude.{◌≡◌, ◌≤◌, ◌↔◌, true, false, length, IsTrue, Contains, IfOk, IfSome, IfNone, OnErr};
 ghost use Rattle.pg_messages.specs.Frames.{IsUnfinished, IsGoodHeader, told_len, type_bytes};
 

@@ -1,29 +1,49 @@
 // Messages of the PostgreSQL frontend/backend protocol: their values, their bytes, and the frames of a stream.
 #![tactic(auto)]
 
+mod values;
+mod fields;
+mod put;
+mod startup;
+mod simplequery;
+mod extendedquery;
+mod data;
+mod response;
+mod copy;
+mod frontend;
 mod backend;
-mod bodies;
+mod headers;
+mod frames;
 mod codec;
 mod division;
-mod fields;
-mod frames;
-mod frontend;
-mod headers;
-mod values;
-mod writing;
 
-pub use backend::{
-    AuthenticationOk, BackendKeyData, BindComplete, CommandComplete, DataRow, ErrorInfo,
-    ErrorResponse, ParameterStatus, ParseComplete, PgWireBackendMessage, ReadyForQuery,
-    TransactionStatus,
-};
+pub use backend::PgWireBackendMessage;
 pub use codec::{DecodeContext, FrameError, PgWireMessageServerCodec, ProtocolVersion};
-pub use division::{
-    frame_is_no_rest, more_bytes_keep_frames, one_division, one_frame, unfinished_is_not_bad,
+pub use copy::{
+    CopyBothResponse, CopyData, CopyDone, CopyFail, CopyInResponse, CopyOutResponse,
 };
-pub use frontend::{
-    Bind, Execute, FORMAT_CODE_BINARY, FORMAT_CODE_TEXT, Parse, PgSync, PgWireFrontendMessage,
-    Startup, Terminate,
+pub use data::{
+    DataRow, FORMAT_CODE_BINARY, FORMAT_CODE_TEXT, FieldDescription, NoData, ParameterDescription,
+    RowDescription,
+};
+pub use division::{
+    bad_stays_bad, context_follows_division, divisions_join, frame_is_no_rest, has_division,
+    more_bytes_keep_frames, no_frame_begins_another, one_division, one_frame, texts_of_frames,
+    unfinished_is_not_bad,
+};
+pub use extendedquery::{
+    Bind, BindComplete, Close, CloseComplete, Describe, Execute, Flush, Parse, ParseComplete,
+    PgSync, PortalSuspended, TARGET_TYPE_BYTE_PORTAL, TARGET_TYPE_BYTE_STATEMENT,
+};
+pub use frontend::PgWireFrontendMessage;
+pub use response::{
+    CommandComplete, EmptyQueryResponse, ErrorInfo, ErrorResponse, GssEncResponse, ReadyForQuery,
+    SslResponse, TransactionStatus,
+};
+pub use simplequery::Query;
+pub use startup::{
+    AuthenticationOk, BackendKeyData, CancelRequest, ParameterStatus, SslNegotiationKind, Startup,
+    Terminate,
 };
 pub use values::{PgBytes, PgList, PgStr};
 

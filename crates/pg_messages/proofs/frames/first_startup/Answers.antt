@@ -1,7 +1,8 @@
-use Rattle.std.proofs.Common.{◌≡◌, ◌∙◌, ap, subst, drop, take, List, ℕ, Err}
+use Rattle.std.proofs.Common.{◌≡◌, ◌∙◌, ap, take, drop, get_or, List, ℕ, true, false, arith}
+use Rattle.std.proofs.lemmas.List.{get_or-take}
 use Rattle.std.proofs.lemmas.Result.{err_from_is_err_and}
-use Rattle.pg_messages.specs.Bodies.{Decodes, IsStartupBody}
-use Rattle.pg_messages.proofs.FrameLaws.{startup_bad}
+use Rattle.pg_messages.proofs.FrameLaws.{StandsIn, message_bad, message_found}
+use Rattle.std.specs.Int.{w32, from_be_bytes}
 use Rattle.pg_messages.proofs.frames.first_startup.Goals as goal
 
 pub returns-in_err-message-clause-bad : goal.returns-in_err-message-clause-bad
@@ -10,6 +11,23 @@ returns-in_err-message-clause-bad c =
     let bytes = c.args.bytes.now in
     let len = c.in-Some.len in
     let told = rw c.in-Some.is at c.in_ok-len.ensures.told in
-    let body : c.split_at-2.result.1.now ≡ drop 4 (take len bytes) = c.split_at-2.ensures.back ∙ ap (drop 4) c.split_at.ensures.front in
-    let none = subst (λ (b : List ℕ). Decodes (IsStartupBody b) (Err c.in_err-message.field-0.0)) body c.in_err-message.ensures in
-    rw (p.1, p.2) (startup_bad bytes len c.in_err-message.field-0.0 told.0 told.1 told.2 none)
+    let parts = c.code_and_body-code.result in
+    let h : StandsIn true bytes len parts.0 parts.1.now = record {
+      whole = record { told = told.0; there = told.1; good = told.2 };
+      kind_is = c.code_and_body-code.ensures.code ∙ ap (λ (x : List ℕ). from_be_bytes w32 (take 4 (drop 4 x))) c.split_at.ensures.front;
+      body_is = c.code_and_body-code.ensures.body ∙ ap (drop 8) c.split_at.ensures.front;
+    } in
+    rw (p.1, p.2) (message_bad true bytes len parts.0 parts.1.now c.in_err-message.field-0.0 h c.in_err-message.ensures)
+
+pub returns-clause-found : goal.returns-clause-found
+returns-clause-found c =
+    let bytes = c.args.bytes.now in
+    let len = c.in-Some.len in
+    let told = rw c.in-Some.is at c.in_ok-len.ensures.told in
+    let parts = c.code_and_body-code.result in
+    let h : StandsIn true bytes len parts.0 parts.1.now = record {
+      whole = record { told = told.0; there = told.1; good = told.2 };
+      kind_is = c.code_and_body-code.ensures.code ∙ ap (λ (x : List ℕ). from_be_bytes w32 (take 4 (drop 4 x))) c.split_at.ensures.front;
+      body_is = c.code_and_body-code.ensures.body ∙ ap (drop 8) c.split_at.ensures.front;
+    } in
+    (told.1, message_found true bytes len parts.0 parts.1.now c.in_ok-message.message h (λ i. omega (arith, c.type_inv.bytes i)) c.in_ok-message.ensures)
