@@ -1,5 +1,5 @@
 -- What the page of a response answers, and what it leaves.
-use Rattle.std.proofs.Common.{◌≡◌, ◌++◌, ◌∙◌, List, [], ◌∷◌, ℕ, ℤ, Bool, true, false, Ok, Err, map, length, sym, ap, inl, inr}
+use Rattle.std.proofs.Common.{◌≡◌, ◌++◌, ◌∙◌, List, [], ◌∷◌, ℕ, ℤ, true, false, Ok, Err, map, length, sym, ap, inl, inr}
 use Rattle.std.specs.Arc.{arc_value}
 use Rattle.pg_messages.specs.declared.data.DataRow.{DataRow}
 use Rattle.pg_portal.specs.declared.error.PgWireError.{PgWireError}

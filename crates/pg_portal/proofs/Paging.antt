@@ -1,5 +1,5 @@
 -- A page over items, as it is taken item by item.
-use Rattle.std.proofs.Common.{rules, arith, ◌≡◌, ◌++◌, ◌≤◌, ◌+◌, List, [], ◌∷◌, ℕ, ℤ, pos, negsuc, Bool, true, false, Option, Some, None, Result, Ok, Err, map, length, take, drop, refl, sym, ap, ◌∙◌, append_assoc, if◌then◌else◌, unsigned_abs, nat_le, ◌&&◌, to_z, of_z}
+use Rattle.std.proofs.Common.{arith, ◌≡◌, ◌++◌, ◌≤◌, ◌+◌, List, [], ◌∷◌, ℕ, ℤ, pos, negsuc, Bool, true, false, Option, Some, None, Result, Ok, Err, map, length, take, drop, refl, sym, ap, ◌∙◌, append_assoc, if◌then◌else◌, unsigned_abs, to_z, of_z}
 use mir.Val.{SFits}
 use mir.Syntax.{w32}
 use Rattle.std.proofs.lemmas.Bool.Decides.{nat_tests}

@@ -1,5 +1,5 @@
 -- Two fetches of positive limits are one fetch of both.
-use Rattle.std.proofs.Common.{arith, ◌≡◌, ◌++◌, ◌∙◌, ◌+◌, ◌≤◌, ◌<◌, ◌⊎◌, inl, inr, List, [], ◌∷◌, ℕ, pos, Bool, true, false, Result, Ok, Err, IsOk, map, length, take, drop, refl, sym, ap, append_assoc, nat_le}
+use Rattle.std.proofs.Common.{arith, ◌≡◌, ◌++◌, ◌∙◌, ◌+◌, ◌≤◌, ◌<◌, ◌⊎◌, inl, inr, List, [], ◌∷◌, ℕ, pos, Bool, true, false, Ok, Err, IsOk, map, length, take, drop, refl, sym, ap, append_assoc, nat_le}
 use Rattle.std.proofs.lemmas.Bool.Decides.{nat_tests}
 use Rattle.std.proofs.lemmas.List.{length-append, length-take-le, map-append, append-nil, take-append-drop}
 use Rattle.pg_messages.specs.declared.data.DataRow.{DataRow}

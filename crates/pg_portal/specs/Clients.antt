@@ -1,5 +1,4 @@
 -- What a client told of itself in its startup packet (protocol: Message Formats, StartupMessage).
-use Rattle.std.specs.Prelude.{List}
 use Rattle.std.specs.List.{AllByRecursion}
 use Rattle.std.specs.FinMap as fin
 use Rattle.pg_portal.specs.declared.client.ClientInfo.{ClientInfo}

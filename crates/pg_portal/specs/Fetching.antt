@@ -4,7 +4,7 @@ use Rattle.pg_messages.specs.declared.data.DataRow.{DataRow}
 use Rattle.pg_portal.specs.declared.error.PgWireError.{PgWireError}
 use Rattle.pg_portal.specs.declared.error.PgWireError.TheVariants.{PortalNotStarted, NoMemory}
 use Rattle.pg_portal.specs.declared.portal.FetchResult.{FetchResult}
-use Rattle.pg_portal.specs.Page.{ItemPage, PageEnd, AtLimit, AtEnd, AtError, item_page}
+use Rattle.pg_portal.specs.Page.{PageEnd, AtLimit, AtEnd, AtError, item_page}
 use Rattle.pg_portal.specs.Rows.{RowItem}
 use Rattle.pg_portal.specs.Told.{ToldRows, Stage, Unstarted, Started, Ended}
 
@@ -19,10 +19,12 @@ with_items response items = record { command_tag = response.command_tag; fields 
 -- a page that ended so: at its limit the portal stays suspended, at the end it is finished, and at an error the page's rows are dropped
 abbrev pub fetched_page : ToldRows → List DataRow → PageEnd DataRow → Fetched
 fetched_page response rows (AtLimit items) = record {
-  answer = Ok (record { rows = rows; command_tag = response.command_tag; suspended = true }); stage = Started (with_items response items)
+  answer = Ok (record { rows = rows; command_tag = response.command_tag; suspended = true });
+  stage = Started (with_items response items);
 }
 fetched_page response rows AtEnd = record {
-  answer = Ok (record { rows = rows; command_tag = response.command_tag; suspended = false }); stage = Ended
+  answer = Ok (record { rows = rows; command_tag = response.command_tag; suspended = false });
+  stage = Ended;
 }
 fetched_page response rows (AtError error items) = record { answer = Err error; stage = Started (with_items response items) }
 

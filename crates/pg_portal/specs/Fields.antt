@@ -22,21 +22,37 @@ pub record Field : Type 0 where
 -- a column with the default options, size 0 and modifier -1
 abbrev pub plain_field : List ℕ → Option ℤ → Option ℤ → PgType → FieldFormat → Field
 plain_field name table column datatype format = record {
-  name = name; table_id = table; column_id = column; datatype = datatype; format = format;
-  format_options = default_options; type_size = pos 0; type_modifier = negsuc 0
+  name = name;
+  table_id = table;
+  column_id = column;
+  datatype = datatype;
+  format = format;
+  format_options = default_options;
+  type_size = pos 0;
+  type_modifier = negsuc 0;
 }
 
 -- what is told of a column; an absent table or column is 0
 abbrev pub description_of : Field → FieldDescription
 description_of field = record {
-  name = field.name; table_id = unwrap_or field.table_id (pos 0); column_id = unwrap_or field.column_id (pos 0);
-  type_id = oid_of field.datatype; type_size = field.type_size; type_modifier = field.type_modifier; format_code = format_code field.format
+  name = field.name;
+  table_id = unwrap_or field.table_id (pos 0);
+  column_id = unwrap_or field.column_id (pos 0);
+  type_id = oid_of field.datatype;
+  type_size = field.type_size;
+  type_modifier = field.type_modifier;
+  format_code = format_code field.format;
 }
 
 -- the column that was told; a type that isn't known is `unknown`
 abbrev pub described_field : FieldDescription → Field
 described_field told = record {
-  name = told.name; table_id = Some told.table_id; column_id = Some told.column_id;
-  datatype = unwrap_or (type_of_oid told.type_id) Unknown; format = format_of_code told.format_code;
-  format_options = default_options; type_size = told.type_size; type_modifier = told.type_modifier
+  name = told.name;
+  table_id = Some told.table_id;
+  column_id = Some told.column_id;
+  datatype = unwrap_or (type_of_oid told.type_id) Unknown;
+  format = format_of_code told.format_code;
+  format_options = default_options;
+  type_size = told.type_size;
+  type_modifier = told.type_modifier;
 }

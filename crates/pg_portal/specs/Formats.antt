@@ -1,5 +1,5 @@
 -- Formats of values and columns (protocol: Extended Query, Bind; Formats and Format Codes).
-use Rattle.std.specs.Prelude.{ℕ, ℤ, Bool, true, false, List, [], ◌∷◌, Option, None, Some, option_map, slice_get}
+use Rattle.std.specs.Prelude.{ℕ, ℤ, Bool, true, false, List, [], ◌∷◌, Option, Some, option_map, slice_get}
 use Rattle.pg_text.specs.declared.field_format.FieldFormat.{FieldFormat}
 use Rattle.pg_text.specs.declared.field_format.FieldFormat.TheVariants as field
 use Rattle.pg_text.specs.Formats.{format_of_code}

@@ -1,5 +1,5 @@
 -- Statements and portals as Parse and Bind make them (protocol: Extended Query).
-use Rattle.std.specs.Prelude.{ℕ, Bool, true, false, List, [], ◌∷◌, Option, Some, None, Result, Ok, Err, map, if◌then◌else◌}
+use Rattle.std.specs.Prelude.{ℕ, List, [], Option, Some, None, Result, Ok, Err, map, if◌then◌else◌}
 use Rattle.pg_messages.specs.declared.extendedquery.Parse.{Parse}
 use Rattle.pg_messages.specs.declared.extendedquery.Bind.{Bind}
 use Rattle.pg_text.specs.declared.pg_type.PgType.{PgType}
@@ -10,7 +10,7 @@ use Rattle.pg_portal.specs.declared.portal.Format.TheVariants.{UnifiedText}
 use Rattle.pg_portal.specs.declared.stmt.StoredStatement.{StoredStatement}
 use Rattle.pg_portal.specs.Formats.{format_of}
 use Rattle.pg_portal.specs.Texts.{is_blank}
-use Rattle.pg_portal.specs.Told.{ParserTold, BoundPortal, TablePortal, Unstarted}
+use Rattle.pg_portal.specs.Told.{ParserTold, BoundPortal}
 
 -- the types of these numbers, None where there is no such type
 abbrev pub types_of : List ℕ → List (Option PgType)
@@ -30,12 +30,19 @@ prepared parser client message =
 -- the portal that a Bind makes of a statement
 abbrev pub bound_by : {S : Type 0} → Bind → StoredStatement S → BoundPortal S
 bound_by message statement = record {
-  name = message.portal_name; statement = statement; parameter_format = format_of message.parameter_format_codes;
-  parameters = message.parameters; result_column_format = format_of message.result_column_format_codes
+  name = message.portal_name;
+  statement = statement;
+  parameter_format = format_of message.parameter_format_codes;
+  parameters = message.parameters;
+  result_column_format = format_of message.result_column_format_codes;
 }
 
 -- the portal of a cursor: no parameter, and text results
 abbrev pub cursor_of : {S : Type 0} → List ℕ → StoredStatement S → BoundPortal S
 cursor_of name statement = record {
-  name = name; statement = statement; parameter_format = UnifiedText; parameters = []; result_column_format = UnifiedText
+  name = name;
+  statement = statement;
+  parameter_format = UnifiedText;
+  parameters = [];
+  result_column_format = UnifiedText;
 }

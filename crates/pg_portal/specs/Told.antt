@@ -1,5 +1,5 @@
 -- What a parser of queries tells, and what a store tells of its statements and portals.
-use Rattle.std.specs.Prelude.{ℕ, ℤ, Bool, List, Option, Some, None, Result, Ok, Err, ◌≡◌, ◌⊎◌, map}
+use Rattle.std.specs.Prelude.{ℕ, Bool, List, Option, Some, None, Result, Err, ◌≡◌, ◌⊎◌}
 use Rattle.std.specs.Arc.{arc_value}
 use Rattle.pg_text.specs.declared.pg_type.PgType.{PgType}
 use Rattle.pg_portal.specs.declared.error.PgWireError.{PgWireError}
@@ -36,7 +36,9 @@ pub record ToldRows : Type 0 where
 
 abbrev pub told_rows : {R : Type 0} → (R → List RowItem) → QueryResponse R → ToldRows
 told_rows items response = record {
-  command_tag = response.command_tag; fields = arc_value response.row_schema; items = items response.data_rows
+  command_tag = response.command_tag;
+  fields = arc_value response.row_schema;
+  items = items response.data_rows;
 }
 
 -- a portal as its Bind made it
@@ -65,8 +67,11 @@ stage_of items Finished = Ended
 
 abbrev pub bound_of : {S R : Type 0} → Portal S R → BoundPortal S
 bound_of portal = record {
-  name = portal.name; statement = arc_value portal.statement; parameter_format = portal.parameter_format;
-  parameters = portal.parameters; result_column_format = portal.result_column_format
+  name = portal.name;
+  statement = arc_value portal.statement;
+  parameter_format = portal.parameter_format;
+  parameters = portal.parameters;
+  result_column_format = portal.result_column_format;
 }
 
 abbrev pub portal_of : {S R : Type 0} → (R → List RowItem) → Portal S R → TablePortal S

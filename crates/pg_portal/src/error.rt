@@ -58,30 +58,72 @@ impl PgWireError {
     {
         match self {
             PgWireError::StatementNotFound(name) => {
-                told(alloc, "26000", "prepared statement \"", name.as_str(), "\" does not exist")
+                told(
+                    alloc,
+                    "26000",
+                    "prepared statement \"",
+                    name.as_str(),
+                    "\" does not exist",
+                )
             }
             PgWireError::PortalNotFound(name) => {
-                told(alloc, "34000", "portal \"", name.as_str(), "\" does not exist")
+                told(
+                    alloc,
+                    "34000",
+                    "portal \"",
+                    name.as_str(),
+                    "\" does not exist",
+                )
             }
             PgWireError::InvalidTargetType(byte) => {
                 let mut digits = Buffer::new();
-                told(alloc, "08P01", "invalid target type: ", digits.format(byte), "")
+                told(
+                    alloc,
+                    "08P01",
+                    "invalid target type: ",
+                    digits.format(byte),
+                    "",
+                )
             }
             PgWireError::QueryCanceled => {
-                told(alloc, "57014", "canceling statement due to user request", "", "")
+                told(
+                    alloc,
+                    "57014",
+                    "canceling statement due to user request",
+                    "",
+                    "",
+                )
             }
             PgWireError::UserError(info) => Ok(info),
             PgWireError::NotReadyForQuery => told(alloc, "08P01", "not ready for query", "", ""),
             PgWireError::InvalidOptionValue(value) => {
-                told(alloc, "22023", "invalid option value \"", value.as_str(), "\"")
+                told(
+                    alloc,
+                    "22023",
+                    "invalid option value \"",
+                    value.as_str(),
+                    "\"",
+                )
             }
             PgWireError::PortalNotStarted => told(alloc, "XX000", "portal is not started", "", ""),
             PgWireError::InvalidRustTypeForParameter(name) => {
-                told(alloc, "XX000", "type ", name.as_str(), " is not accepted for the parameter")
+                told(
+                    alloc,
+                    "XX000",
+                    "type ",
+                    name.as_str(),
+                    " is not accepted for the parameter",
+                )
             }
             PgWireError::ParameterIndexOutOfBound(index) => {
                 let mut digits = Buffer::new();
-                told(alloc, "XX000", "parameter index ", digits.format(index), " is out of bounds")
+                told(
+                    alloc,
+                    "XX000",
+                    "parameter index ",
+                    digits.format(index),
+                    " is out of bounds",
+                )
             }
             PgWireError::FailedToParseParameter(_cause) => {
                 told(alloc, "XX000", "failed to parse parameter", "", "")

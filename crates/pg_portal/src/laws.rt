@@ -13,7 +13,7 @@ pub fn two_fetches_are_one()
         → IsOk (fetched (pos a) stage).answer
         → IsOk (fetched (pos b) (fetched (pos a) stage).stage).answer
         → AreOneFetch (fetched (pos a) stage) (fetched (pos b) (fetched (pos a) stage).stage)
-            (fetched (pos (a + b)) stage) }
+        (fetched (pos (a + b)) stage) }
 {}
 
 /// What is put under a name is got under it, and all other names stay.

@@ -55,7 +55,7 @@ impl<S: Drop, R: RowSource> PortalStore for MemPortalStore<S, R> {
     ) -> Result<(), AllocError>
         ensures ok { OnOk result (⟦<MemPortalStore<S, R> as PortalStore>⟧.statements self.new
             ≡ fin.insert (⟦<MemPortalStore<S, R> as PortalStore>⟧.statements self.old)
-                (arc_value statement).id (entry.Value (arc_value statement))) }
+            (arc_value statement).id (entry.Value (arc_value statement))) }
         ensures err { OnErr result (⟦<MemPortalStore<S, R> as PortalStore>⟧.statements self.new
             ≡ ⟦<MemPortalStore<S, R> as PortalStore>⟧.statements self.old) }
         ensures portals { ⟦<MemPortalStore<S, R> as PortalStore>⟧.portals self.new
@@ -85,7 +85,7 @@ impl<S: Drop, R: RowSource> PortalStore for MemPortalStore<S, R> {
     fn put_portal(&mut self, alloc: Global, portal: Portal<S, R>) -> Result<(), AllocError>
         ensures ok { OnOk result (⟦<MemPortalStore<S, R> as PortalStore>⟧.portals self.new
             ≡ fin.insert (⟦<MemPortalStore<S, R> as PortalStore>⟧.portals self.old)
-                portal.name (entry.Value (portal_of R.items portal))) }
+            portal.name (entry.Value (portal_of R.items portal))) }
         ensures err { OnErr result (⟦<MemPortalStore<S, R> as PortalStore>⟧.portals self.new
             ≡ ⟦<MemPortalStore<S, R> as PortalStore>⟧.portals self.old) }
         ensures statements { ⟦<MemPortalStore<S, R> as PortalStore>⟧.statements self.new

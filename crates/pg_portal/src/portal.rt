@@ -88,7 +88,10 @@ impl Format {
         match self {
             Format::UnifiedText => Ok(Format::UnifiedText),
             Format::UnifiedBinary => Ok(Format::UnifiedBinary),
-            Format::Individual(codes) => Ok(Format::Individual(copy_of_codes(alloc, codes.as_slice())?)),
+            Format::Individual(codes) => Ok(Format::Individual(copy_of_codes(
+                alloc,
+                codes.as_slice(),
+            )?)),
         }
     }
 }

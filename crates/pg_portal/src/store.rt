@@ -138,9 +138,9 @@ pub trait PortalStore: Drop {
         ensures* writes_back { sem 𝓛 (LendsSo Self.row (portal_row Self.Statement.row Self.Rows.row)
             self.entry result
             (λ n w. OnSome result
-                ((portals n ≡ fin.insert (portals self.old) name.now
-                    (entry.Value (portal_of Self.Rows.items w)))
-                × (statements n ≡ statements self.old)))
+            ((portals n ≡ fin.insert (portals self.old) name.now
+            (entry.Value (portal_of Self.Rows.items w)))
+            × (statements n ≡ statements self.old)))
             (λ n. (portals n ≡ portals self.old) × (statements n ≡ statements self.old))) }
         ensures value { option_map (portal_of Self.Rows.items) (option_copied_mut result)
             ≡ value_under (fin.get (portals self.old) name.now) };

@@ -48,10 +48,7 @@ pub struct DescribeStatementResponse {
 
 impl DescribeStatementResponse {
     /// These parameters and columns. It takes no memory.
-    pub fn new(
-        parameters: PgList<PgType>,
-        fields: PgList<FieldInfo>,
-    ) -> DescribeStatementResponse
+    pub fn new(parameters: PgList<PgType>, fields: PgList<FieldInfo>) -> DescribeStatementResponse
         ensures { result ≡ record { parameters = parameters; fields = fields } }
     {
         DescribeStatementResponse { parameters, fields }

@@ -74,12 +74,18 @@ impl DataRowEncoder {
         ensures unchanged { OnErr result (self.new ≡ self.old) }
         ensures refusal { IfErr result (λ error.
             IsSomeAnd (slice_get self.old.fields self.old.cells) (λ field. IsRefusal
-                (field_cell T.binary T.text value.now field.datatype field.format field.format_options)
-                error)) }
+            (field_cell T.binary T.text value.now field.datatype field.format field.format_options)
+            error)) }
     {
         let field = &self.fields.as_slice()[usize::from(self.cells)];
         let options = field.format_options();
-        push_cell(&mut self.payload, value, field.datatype(), field.format(), options)?;
+        push_cell(
+            &mut self.payload,
+            value,
+            field.datatype(),
+            field.format(),
+            options,
+        )?;
         self.cells += 1;
         Ok(())
     }

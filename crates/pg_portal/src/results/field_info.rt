@@ -30,8 +30,14 @@ impl Model for FieldInfo {
     ghost Value = { Field };
 
     ghost view = { λ f. record {
-        name = f.name; table_id = f.table_id; column_id = f.column_id; datatype = f.datatype; format = f.format;
-        format_options = arc_value f.format_options; type_size = f.type_size; type_modifier = f.type_modifier
+      name = f.name;
+      table_id = f.table_id;
+      column_id = f.column_id;
+      datatype = f.datatype;
+      format = f.format;
+      format_options = arc_value f.format_options;
+      type_size = f.type_size;
+      type_modifier = f.type_modifier;
     } };
 }
 
@@ -168,7 +174,11 @@ impl FieldInfo {
         let type_size = value.type_size;
         let type_modifier = value.type_modifier;
         let field = FieldInfo::new(alloc, value.name, table_id, column_id, datatype, format)?;
-        Ok(field.with_type_size(type_size).with_type_modifier(type_modifier))
+        Ok(
+            field
+                .with_type_size(type_size)
+                .with_type_modifier(type_modifier),
+        )
     }
 
     /// An equal value, which shares the options.

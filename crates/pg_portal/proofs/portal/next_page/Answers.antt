@@ -1,4 +1,4 @@
-use Rattle.std.proofs.Common.{rules, ◌∙◌, ap, sym}
+use Rattle.std.proofs.Common.{rules}
 use Rattle.std.proofs.lemmas.Int.{to_z-of_z}
 use Rattle.std.proofs.lemmas.Result.{err_from_is_err_and}
 use Rattle.pg_portal.proofs.Fetches.{told_later, suspended_page, complete_page, refused_page, wanting_page}
@@ -44,6 +44,6 @@ returns-in_err-push-in-Some-Ok-clause-refusal g c =
     let p = err_from_is_err_and c.from_residual-in_err-push-in-Some-Ok.result c.from_residual-in_err-push-in-Some-Ok.ensures.1 in
     rw p.1
     (wanting_page c.args.max_rows old _ (g.R.RowSource.items c.next.new.self) (goes_on c.args.max_rows old.items c.loop-response.rows _ (g.R.RowSource.items c.next.new.self) c.in-Some-Ok.row going
-      (test_is c.args.max_rows _ _ _ _ fits c.is_reached.ensures c.len.ensures c.loop-response-test.true) (let taken = c.in_ok-next.ensures.next in search rules))
+    (test_is c.args.max_rows _ _ _ _ fits c.is_reached.ensures c.len.ensures c.loop-response-test.true) (let taken = c.in_ok-next.ensures.next in search rules))
     p.0 _ p.2
     (told_later g.R.RowSource.items c.args.response.now (record { command_tag = c.loop-response.response.command_tag; row_schema = c.loop-response.response.row_schema; data_rows = c.next.new.self }) l.same_tag l.same_schema))

@@ -9,4 +9,4 @@ returns-in-StatementNotFound-clause-info c =
     IfOk-weaker c.told.result (λ info. info ≡ error (codes "26000") (codes "prepared statement \"" ++ name ++ codes "\" does not exist")) (λ info. info ≡ info_of c.args.self)
     (λ info e. e ∙ rw c.in-StatementNotFound.is (simp append_assoc))
     (subst (λ (text : List ℕ). IfOk c.told.result (λ info. info ≡ error (codes "26000") (codes "prepared statement \"" ++ text ++ codes "\" does not exist")))
-      c.as_str.ensures c.told.ensures)
+    c.as_str.ensures c.told.ensures)
