@@ -1,1 +1,5 @@
 pub mod NameMaps
+pub mod StoreMaps
+pub mod Paging
+pub mod Fetches
+pub mod TwoFetches

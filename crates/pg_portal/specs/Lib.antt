@@ -1,1 +1,15 @@
 pub mod Names
+pub mod Texts
+pub mod Errors
+pub mod Clients
+pub mod Rows
+pub mod Formats
+pub mod Fields
+pub mod Tags
+pub mod Encoding
+pub mod Describing
+pub mod Page
+pub mod Told
+pub mod Noop
+pub mod Fetching
+pub mod Statements

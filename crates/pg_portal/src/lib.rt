@@ -1,6 +1,29 @@
-//! Statements and portals of a session.
+//! Statements and portals of a session: how queries are parsed, bound and fetched page by page, and the
+//! store that keeps them.
 #![tactic(auto)]
 
+mod client;
+mod error;
+mod laws;
+mod mem_store;
 mod names;
+mod portal;
+mod results;
+mod rows;
+mod stmt;
+mod store;
 
+pub use client::{ClientInfo, Metadata, PgWireConnectionState};
+pub use error::PgWireError;
+pub use laws::{two_fetches_are_one, what_is_put_is_got};
+pub use mem_store::MemPortalStore;
 pub use names::Named;
+pub use portal::{FetchResult, Format, Portal, PortalExecutionState, is_reached};
+pub use results::describe::{DescribePortalResponse, DescribeResponse, DescribeStatementResponse};
+pub use results::encoder::DataRowEncoder;
+pub use results::field_info::FieldInfo;
+pub use results::response::{QueryResponse, Response};
+pub use results::tag::Tag;
+pub use rows::{ListRows, RowSource};
+pub use stmt::{NoopQueryParser, QueryParser, StoredStatement};
+pub use store::{Entry, PortalStore};

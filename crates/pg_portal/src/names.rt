@@ -1,5 +1,9 @@
-ghost use Rattle.std.specs.Prelude.{◌≡◌, OnOk, OnErr};
-ghost use Rattle.std.specs.Option.{option_copied};
+//! Entries under names.
+
+ghost use Rattle.std.specs.Prelude.{◌≡◌, OnOk, OnErr, OnSome};
+ghost use Rattle.std.specs.Option.{option_copied, option_copied_mut};
+ghost use Rattle.std.specs.Borrow.{LendsSo, sem};
+ghost use Rattle.pg_portal.specs.contracts.names.Named.{the_row};
 ghost use Rattle.std.specs.FinMap as map;
 
 use pg_messages::PgStr;
@@ -60,5 +64,24 @@ impl<T> Named<T> {
         ensures { self.new ≡ map.remove self.old name.now }
     {
         self.entries.remove(name);
+    }
+
+    /// Removes all entries. No memory is taken.
+    pub fn clear(&mut self)
+    where
+        T: Drop,
+        ensures { self.new ≡ map.empty }
+    {
+        self.entries.clear();
+    }
+
+    /// The entry under a name, lent, or None exactly where there is none. What it is when the borrow ends stands
+    /// under the name, and all else is as it was.
+    pub fn get_mut(&mut self, name: &str) -> Option<&mut T>
+        ensures* writes_back { sem 𝓛 (LendsSo (the_row T.row) T.row self.entry result
+            (λ n w. OnSome result (n ≡ map.insert self.old name.now w)) (λ n. n ≡ self.old)) }
+        ensures value { option_copied_mut result ≡ map.get self.old name.now }
+    {
+        self.entries.get_mut(name)
     }
 }

@@ -1,0 +1,52 @@
+-- Page: the rows that one Execute sends (protocol: Extended Query, Execute with a limit of rows).
+use Rattle.std.specs.Prelude.{ℕ, ℤ, pos, negsuc, Bool, true, false, List, [], ◌∷◌, Option, Some, None, Result, Ok, Err, ◌&&◌, nat_le, if◌then◌else◌, length, take, drop, unsigned_abs}
+use Rattle.pg_portal.specs.declared.error.PgWireError.{PgWireError}
+
+-- a limit of at least 1 that so many rows reach
+abbrev pub is_reached : ℤ → ℕ → Bool
+is_reached (pos limit) rows = nat_le 1 limit && nat_le limit rows
+is_reached (negsuc n) rows = false
+
+pub record Page (A : Type 0) : Type 0 where
+  pub rows : List A
+  pub suspended : Bool
+
+-- Page of the rows to come: as many as the limit, suspended, where the rows reach it; else all of them, complete.
+abbrev pub page : {A : Type 0} → ℤ → List A → Page A
+page limit rows = if is_reached limit (length rows)
+    then (record { rows = take (unsigned_abs limit) rows; suspended = true })
+    else (record { rows = rows; suspended = false })
+
+-- ---- over items, which are rows or errors
+
+abbrev pub before_error : {A : Type 0} → List (Result A PgWireError) → List A
+before_error [] = []
+before_error (Ok item ∷ items) = item ∷ before_error items
+before_error (Err e ∷ items) = []
+
+-- the first error, and the items behind it
+abbrev pub first_error : {A : Type 0} → List (Result A PgWireError) → Option (PgWireError × List (Result A PgWireError))
+first_error [] = None
+first_error (Ok item ∷ items) = first_error items
+first_error (Err e ∷ items) = Some (e, items)
+
+-- how a page over items ends: at its limit, at the end of the items, or at an error; each with the items that are left
+pub data PageEnd (A : Type 0) : Type 0 where
+  AtLimit : List (Result A PgWireError) → PageEnd A
+  AtEnd : PageEnd A
+  AtError : PgWireError → List (Result A PgWireError) → PageEnd A
+
+pub record ItemPage (A : Type 0) : Type 0 where
+  pub rows : List A
+  pub ending : PageEnd A
+
+-- the page of these rows, which stand before an error or before the end; an error drops them
+abbrev pub ended_page : {A : Type 0} → List A → Option (PgWireError × List (Result A PgWireError)) → ItemPage A
+ended_page rows None = record { rows = rows; ending = AtEnd }
+ended_page rows (Some e) = record { rows = []; ending = AtError e.0 e.1 }
+
+-- Page over items: the page of the rows before the first error. Where they don't reach the limit, the error is met.
+abbrev pub item_page : {A : Type 0} → ℤ → List (Result A PgWireError) → ItemPage A
+item_page limit items =
+    let p = page limit (before_error items) in
+    if p.suspended then (record { rows = p.rows; ending = AtLimit (drop (length p.rows) items) }) else ended_page p.rows (first_error items)

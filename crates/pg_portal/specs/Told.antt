@@ -1,0 +1,91 @@
+-- What a parser of queries tells, and what a store tells of its statements and portals.
+use Rattle.std.specs.Prelude.{ℕ, Bool, List, Option, Some, None, Result, Err, ◌≡◌, ◌⊎◌}
+use Rattle.std.specs.Arc.{arc_value}
+use Rattle.pg_text.specs.declared.pg_type.PgType.{PgType}
+use Rattle.pg_portal.specs.declared.error.PgWireError.{PgWireError}
+use Rattle.pg_portal.specs.declared.error.PgWireError.TheVariants.{NoMemory}
+use Rattle.pg_portal.specs.declared.client.ClientInfo.{ClientInfo}
+use Rattle.pg_portal.specs.declared.portal.Format.{Format}
+use Rattle.pg_portal.specs.declared.portal.Portal.{Portal}
+use Rattle.pg_portal.specs.declared.portal.PortalExecutionState.{PortalExecutionState}
+use Rattle.pg_portal.specs.declared.portal.PortalExecutionState.TheVariants.{Initial, Suspended, Finished}
+use Rattle.pg_portal.specs.declared.results.response.QueryResponse.{QueryResponse}
+use Rattle.pg_portal.specs.declared.stmt.StoredStatement.{StoredStatement}
+use Rattle.pg_portal.specs.declared.store.Entry.{Entry}
+use Rattle.pg_portal.specs.declared.store.Entry.TheVariants.{Empty, Value}
+use Rattle.pg_portal.specs.Fields.{Field}
+use Rattle.pg_portal.specs.Rows.{RowItem}
+
+-- the outcome that is told, or want of memory
+abbrev pub IsOutcome : {A : Type 0} → Result A PgWireError → Result A PgWireError → Type 0
+IsOutcome told result = (result ≡ told) ⊎ (result ≡ Err NoMemory)
+
+-- The statements that a parser can give; what it makes of a query of a client, with the types of parameters that were given, where
+-- None is an empty statement; and of a statement that it can give its parameters' types, and its columns with formats and without.
+pub record ParserTold (S : Type 0) : Type 0 where
+  pub gives : S → Bool
+  pub parse : ClientInfo → List ℕ → List (Option PgType) → Result (Option S) PgWireError
+  pub parameter_types : S → Result (List PgType) PgWireError
+  pub columns : S → Option Format → Result (List Field) PgWireError
+
+-- what a query answered with rows: its tag, its columns, and the items to come
+pub record ToldRows : Type 0 where
+  pub command_tag : List ℕ
+  pub fields : List Field
+  pub items : List RowItem
+
+abbrev pub told_rows : {R : Type 0} → (R → List RowItem) → QueryResponse R → ToldRows
+told_rows items response = record {
+  command_tag = response.command_tag;
+  fields = arc_value response.row_schema;
+  items = items response.data_rows;
+}
+
+-- a portal as its Bind made it
+pub record BoundPortal (S : Type 0) : Type 0 where
+  pub name : List ℕ
+  pub statement : StoredStatement S
+  pub parameter_format : Format
+  pub parameters : List (Option (List ℕ))
+  pub result_column_format : Format
+
+-- how far a portal has come
+pub data Stage : Type 0 where
+  Unstarted : Stage
+  Started : ToldRows → Stage
+  Ended : Stage
+
+-- a portal of the table
+pub record TablePortal (S : Type 0) : Type 0 where
+  pub bound : BoundPortal S
+  pub stage : Stage
+
+abbrev pub stage_of : {R : Type 0} → (R → List RowItem) → PortalExecutionState R → Stage
+stage_of items Initial = Unstarted
+stage_of items (Suspended response) = Started (told_rows items response)
+stage_of items Finished = Ended
+
+abbrev pub bound_of : {S R : Type 0} → Portal S R → BoundPortal S
+bound_of portal = record {
+  name = portal.name;
+  statement = arc_value portal.statement;
+  parameter_format = portal.parameter_format;
+  parameters = portal.parameters;
+  result_column_format = portal.result_column_format;
+}
+
+abbrev pub portal_of : {S R : Type 0} → (R → List RowItem) → Portal S R → TablePortal S
+portal_of items portal = record { bound = bound_of portal; stage = stage_of items portal.state }
+
+-- the value of an entry that isn't empty
+abbrev pub value_of : {T : Type 0} → Entry T → Option T
+value_of Empty = None
+value_of (Value value) = Some value
+
+abbrev pub value_under : {T : Type 0} → Option (Entry T) → Option T
+value_under None = None
+value_under (Some entry) = value_of entry
+
+abbrev pub entry_map : {X Y : Type 0} → (X → Y) → Entry X → Entry Y
+entry_map f Empty = Empty
+entry_map f (Value x) = Value (f x)

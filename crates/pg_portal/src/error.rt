@@ -1,0 +1,154 @@
+//! Why a call of the session is refused, and what a client is told of it.
+
+ghost use Rattle.std.specs.Prelude.{◌≡◌, ◌++◌, IfOk, IsErr};
+ghost use Rattle.pg_portal.specs.Errors.{info_of, error as error_info};
+ghost use Rattle.pg_portal.specs.declared.error.PgWireError.{PgWireError};
+
+use itoa::Buffer;
+use pg_messages::{ErrorInfo, PgStr};
+use pg_text::CellError;
+use std::alloc::{AllocError, Global};
+
+/// Why a message isn't carried out.
+#[derive(Drop)]
+pub enum PgWireError {
+    /// No statement stands under this name.
+    StatementNotFound(PgStr),
+    /// No portal stands under this name.
+    PortalNotFound(PgStr),
+    /// A Describe names neither a statement nor a portal but this byte.
+    InvalidTargetType(u8),
+    /// The query was canceled.
+    QueryCanceled,
+    /// The error that a handler or a parser tells.
+    UserError(ErrorInfo),
+    /// A query came before the session awaited one.
+    NotReadyForQuery,
+    /// The text of an option, as it was given, is none of its values.
+    InvalidOptionValue(PgStr),
+    /// A portal was fetched before it was started.
+    PortalNotStarted,
+    /// A parameter of the type of this name isn't read as the value that was asked for.
+    InvalidRustTypeForParameter(PgStr),
+    /// There is no parameter, or no format of one, at this index.
+    ParameterIndexOutOfBound(usize),
+    /// A parameter's bytes stand for no value.
+    FailedToParseParameter(CellError),
+    /// Memory ran out.
+    NoMemory,
+}
+
+impl From<AllocError> for PgWireError {
+    ghost use Rattle.std.specs.Prelude.{◌≡◌};
+    ghost use Rattle.pg_portal.specs.declared.error.PgWireError.TheVariants.{NoMemory};
+
+    ghost from_gives = { λ _ error. error ≡ NoMemory };
+
+    fn from(_error: AllocError) -> PgWireError {
+        PgWireError::NoMemory
+    }
+}
+
+impl PgWireError {
+    /// What a client is told of the error: its severity, its code and its message. Want of memory has no text, so
+    /// `NoMemory` is always an error here.
+    pub fn into_info(self, alloc: Global) -> Result<ErrorInfo, AllocError>
+        ensures info { IfOk result (λ info. info ≡ info_of self) }
+        ensures untold { self ≡ PgWireError.NoMemory → IsErr result }
+    {
+        match self {
+            PgWireError::StatementNotFound(name) => {
+                told(
+                    alloc,
+                    "26000",
+                    "prepared statement \"",
+                    name.as_str(),
+                    "\" does not exist",
+                )
+            }
+            PgWireError::PortalNotFound(name) => {
+                told(
+                    alloc,
+                    "34000",
+                    "portal \"",
+                    name.as_str(),
+                    "\" does not exist",
+                )
+            }
+            PgWireError::InvalidTargetType(byte) => {
+                let mut digits = Buffer::new();
+                told(
+                    alloc,
+                    "08P01",
+                    "invalid target type: ",
+                    digits.format(byte),
+                    "",
+                )
+            }
+            PgWireError::QueryCanceled => {
+                told(
+                    alloc,
+                    "57014",
+                    "canceling statement due to user request",
+                    "",
+                    "",
+                )
+            }
+            PgWireError::UserError(info) => Ok(info),
+            PgWireError::NotReadyForQuery => told(alloc, "08P01", "not ready for query", "", ""),
+            PgWireError::InvalidOptionValue(value) => {
+                told(
+                    alloc,
+                    "22023",
+                    "invalid option value \"",
+                    value.as_str(),
+                    "\"",
+                )
+            }
+            PgWireError::PortalNotStarted => told(alloc, "XX000", "portal is not started", "", ""),
+            PgWireError::InvalidRustTypeForParameter(name) => {
+                told(
+                    alloc,
+                    "XX000",
+                    "type ",
+                    name.as_str(),
+                    " is not accepted for the parameter",
+                )
+            }
+            PgWireError::ParameterIndexOutOfBound(index) => {
+                let mut digits = Buffer::new();
+                told(
+                    alloc,
+                    "XX000",
+                    "parameter index ",
+                    digits.format(index),
+                    " is out of bounds",
+                )
+            }
+            PgWireError::FailedToParseParameter(_cause) => {
+                told(alloc, "XX000", "failed to parse parameter", "", "")
+            }
+            PgWireError::NoMemory => Err(AllocError),
+        }
+    }
+}
+
+/// An error of severity ERROR: its message is a text between two others.
+fn told(
+    alloc: Global,
+    code: &str,
+    before: &str,
+    text: &str,
+    after: &str,
+) -> Result<ErrorInfo, AllocError>
+    ensures { IfOk result (λ info. info ≡ error_info code.now (before.now ++ text.now ++ after.now)) }
+{
+    let mut message = String::from_str(alloc, before)?;
+    message.push_str(text)?;
+    message.push_str(after)?;
+    Ok(ErrorInfo::new(
+        PgStr::copy_of(alloc, "ERROR")?,
+        PgStr::copy_of(alloc, code)?,
+        PgStr::copy_of(alloc, message.as_str())?,
+    ))
+}

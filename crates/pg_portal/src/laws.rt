@@ -1,0 +1,25 @@
+//! Laws of pages and of stores. Each function takes nothing and does nothing: its contract is the law.
+
+ghost use Rattle.std.specs.Prelude.{◌≡◌, ◌≢◌, ℕ, ◌+◌, ◌≤◌, pos, List, Some, IsOk};
+ghost use Rattle.std.specs.FinMap as fin;
+ghost use Rattle.pg_portal.specs.Fetching.{fetched, AreOneFetch};
+ghost use Rattle.pg_portal.specs.Names.{NameMap};
+ghost use Rattle.pg_portal.specs.Told.{Stage};
+
+/// Two fetches of positive limits, one after another and without a row's error, give the rows that one fetch of
+/// both limits together gives, and leave the portal as far.
+pub fn two_fetches_are_one()
+    ensures { (a b : ℕ) (stage : Stage) → 1 ≤ a → 1 ≤ b
+        → IsOk (fetched (pos a) stage).answer
+        → IsOk (fetched (pos b) (fetched (pos a) stage).stage).answer
+        → AreOneFetch (fetched (pos a) stage) (fetched (pos b) (fetched (pos a) stage).stage)
+        (fetched (pos (a + b)) stage) }
+{}
+
+/// What is put under a name is got under it, and all other names stay.
+pub fn what_is_put_is_got<T>()
+    ensures put { (names : NameMap T) (name : List ℕ) (entry : T)
+        → fin.get (fin.insert names name entry) name ≡ Some entry }
+    ensures others { (names : NameMap T) (name other : List ℕ) (entry : T) → other ≢ name
+        → fin.get (fin.insert names name entry) other ≡ fin.get names other }
+{}

@@ -1,0 +1,125 @@
+//! A store in memory.
+
+ghost use Rattle.std.specs.Prelude.{◌≡◌, OnOk, OnErr};
+ghost use Rattle.std.specs.Arc.{arc_value};
+ghost use Rattle.std.specs.FinMap as fin;
+ghost use Rattle.pg_portal.specs.Told.{portal_of};
+ghost use Rattle.pg_portal.specs.declared.store.Entry.TheVariants as entry;
+
+use crate::names::Named;
+use crate::portal::Portal;
+use crate::rows::RowSource;
+use crate::stmt::StoredStatement;
+use crate::store::{Entry, PortalStore};
+use pg_messages::PgStr;
+use std::alloc::{AllocError, Global};
+use std::sync::Arc;
+
+/// Statements and portals in two ordered maps, whose keys a look-up by a text finds without memory.
+#[derive(Drop)]
+pub struct MemPortalStore<S, R> {
+    statements: Named<Entry<Arc<StoredStatement<S>>>>,
+    portals: Named<Entry<Portal<S, R>>>,
+}
+
+impl<S: Drop, R: RowSource> MemPortalStore<S, R> {
+    /// An empty store, which takes no memory.
+    pub fn new(alloc: Global) -> MemPortalStore<S, R>
+        ensures statements { ⟦<MemPortalStore<S, R> as PortalStore>⟧.statements result ≡ fin.empty }
+        ensures portals { ⟦<MemPortalStore<S, R> as PortalStore>⟧.portals result ≡ fin.empty }
+    {
+        MemPortalStore {
+            statements: Named::new(alloc),
+            portals: Named::new(alloc),
+        }
+    }
+}
+
+impl<S: Drop, R: RowSource> PortalStore for MemPortalStore<S, R> {
+    ghost use Rattle.std.specs.Arc.{arc_value};
+    ghost use Rattle.pg_portal.specs.Names.{map_values};
+    ghost use Rattle.pg_portal.specs.Told.{entry_map, portal_of};
+
+    type Statement = S;
+
+    type Rows = R;
+
+    ghost statements = { λ store. map_values (entry_map arc_value) store.statements };
+
+    ghost portals = { λ store. map_values (entry_map (portal_of R.items)) store.portals };
+
+    fn put_statement(
+        &mut self,
+        alloc: Global,
+        statement: Arc<StoredStatement<S>>,
+    ) -> Result<(), AllocError>
+        ensures ok { OnOk result (⟦<MemPortalStore<S, R> as PortalStore>⟧.statements self.new
+            ≡ fin.insert (⟦<MemPortalStore<S, R> as PortalStore>⟧.statements self.old)
+            (arc_value statement).id (entry.Value (arc_value statement))) }
+        ensures err { OnErr result (⟦<MemPortalStore<S, R> as PortalStore>⟧.statements self.new
+            ≡ ⟦<MemPortalStore<S, R> as PortalStore>⟧.statements self.old) }
+        ensures portals { ⟦<MemPortalStore<S, R> as PortalStore>⟧.portals self.new
+            ≡ ⟦<MemPortalStore<S, R> as PortalStore>⟧.portals self.old }
+    {
+        let name = PgStr::copy_of(alloc, statement.id.as_str())?;
+        self.statements.put(name, Entry::Value(statement))
+    }
+
+    fn put_empty_statement(&mut self, alloc: Global, name: &str) -> Result<(), AllocError> {
+        let name = PgStr::copy_of(alloc, name)?;
+        self.statements.put(name, Entry::Empty)
+    }
+
+    fn rm_statement(&mut self, name: &str) {
+        self.statements.remove(name);
+    }
+
+    fn get_statement(&self, name: &str) -> Option<Entry<&Arc<StoredStatement<S>>>> {
+        match self.statements.get(name) {
+            Some(Entry::Value(statement)) => Some(Entry::Value(statement)),
+            Some(Entry::Empty) => Some(Entry::Empty),
+            None => None,
+        }
+    }
+
+    fn put_portal(&mut self, alloc: Global, portal: Portal<S, R>) -> Result<(), AllocError>
+        ensures ok { OnOk result (⟦<MemPortalStore<S, R> as PortalStore>⟧.portals self.new
+            ≡ fin.insert (⟦<MemPortalStore<S, R> as PortalStore>⟧.portals self.old)
+            portal.name (entry.Value (portal_of R.items portal))) }
+        ensures err { OnErr result (⟦<MemPortalStore<S, R> as PortalStore>⟧.portals self.new
+            ≡ ⟦<MemPortalStore<S, R> as PortalStore>⟧.portals self.old) }
+        ensures statements { ⟦<MemPortalStore<S, R> as PortalStore>⟧.statements self.new
+            ≡ ⟦<MemPortalStore<S, R> as PortalStore>⟧.statements self.old }
+    {
+        let name = PgStr::copy_of(alloc, portal.name.as_str())?;
+        self.portals.put(name, Entry::Value(portal))
+    }
+
+    fn put_empty_portal(&mut self, alloc: Global, name: &str) -> Result<(), AllocError> {
+        let name = PgStr::copy_of(alloc, name)?;
+        self.portals.put(name, Entry::Empty)
+    }
+
+    fn rm_portal(&mut self, name: &str) {
+        self.portals.remove(name);
+    }
+
+    fn clear_portals(&mut self) {
+        self.portals.clear();
+    }
+
+    fn get_portal(&self, name: &str) -> Option<Entry<&Portal<S, R>>> {
+        match self.portals.get(name) {
+            Some(Entry::Value(portal)) => Some(Entry::Value(portal)),
+            Some(Entry::Empty) => Some(Entry::Empty),
+            None => None,
+        }
+    }
+
+    fn portal_mut(&mut self, name: &str) -> Option<&mut Portal<S, R>> {
+        match self.portals.get_mut(name) {
+            Some(entry) => entry.value_mut(),
+            None => None,
+        }
+    }
+}

@@ -1,0 +1,7 @@
+//! What queries give: columns, rows, tags, and responses.
+
+pub mod describe;
+pub mod encoder;
+pub mod field_info;
+pub mod response;
+pub mod tag;
