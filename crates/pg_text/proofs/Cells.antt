@@ -24,11 +24,11 @@ cell_fields : (raw : List ℕ) (i : Interval) → IsInterval i → take 16 raw �
 unfolding interval_cell interval_in
 cell_fields raw i fits e =
     let at : (s t : ℕ) → t ≤ 16 → slice_range raw s t ≡ slice_range (interval_cell i) s t =
-            λ s t h. sym (slice_range_front (interval_cell i) raw s t 16 e h) in
+    λ s t h. sym (slice_range_front (interval_cell i) raw s t 16 e h) in
     let months : int32_of (slice_range raw 12 16) ≡ i.months = ap int32_of (at 12 16 (omega arith)) ∙ of_int32 i.months fits.months in
     let days : int32_of (slice_range raw 8 12) ≡ i.days = ap int32_of (at 8 12 (omega arith)) ∙ of_int32 i.days fits.days in
     let microseconds : int64_of (slice_range raw 0 8) ≡ i.microseconds =
-            ap int64_of (at 0 8 (omega arith)) ∙ of_int64 i.microseconds fits.microseconds in
+    ap int64_of (at 0 8 (omega arith)) ∙ of_int64 i.microseconds fits.microseconds in
     same_interval (interval_in raw) i months days microseconds
 
 pub read_none : (raw : List ℕ) → length raw < 16 → Err ShortCell ≡ read_interval raw

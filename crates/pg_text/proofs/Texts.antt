@@ -2,7 +2,7 @@
 use Rattle.std.proofs.Common.{◌≡◌, ℕ, ◌≤◌, Bool, true, false, cond, List, length, nat_lt, Ok, Err, Result, refl, arith, sym, ap, ◌∙◌}
 use Rattle.std.proofs.lemmas.Bool.Decides.{nat_tests}
 use Rattle.std.proofs.lemmas.Str.{is_utf8-from_IsUtf8}
-use Rattle.std.specs.Str.{IsUtf8, is_utf8}
+use Rattle.std.specs.Str.{IsUtf8}
 use Rattle.pg_messages.proofs.Utf8.{is_utf8-fails}
 use Rattle.pg_text.specs.declared.error.CellError.TheVariants.{NotUtf8}
 use Rattle.pg_text.specs.declared.format.interval_style.IntervalStyle.{IntervalStyle}
