@@ -176,17 +176,9 @@ fn is_any_present(fields: &[i64]) -> bool
 mod tests {
     use super::*;
 
-    /// `==` is equality of the seven numbers.
-    fn is_equal(a: &IntervalNorm, b: &IntervalNorm) -> bool
-        ensures { IsTrue result ↔ (a.now ≡ b.now) }
-    {
-        a == b
-    }
-
     #[test]
     fn normal_forms(rt: HostRuntime) {
         let mut years = IntervalNorm::default();
-        assert!(rt; is_equal(&years, &years));
         assert!(rt; years.is_zeroed() && years.is_normal());
         years.years = 178956971;
         assert_eq!(rt;
