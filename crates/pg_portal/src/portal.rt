@@ -1,0 +1,327 @@
+//! Portals: statements with their parameters and formats, whose rows are fetched page by page.
+
+ghost use Rattle.std.specs.Prelude.{◌≡◌, length, option_map, IfOk, IfErr, OnOk};
+ghost use Rattle.std.specs.Arc.{arc_value};
+ghost use Rattle.pg_portal.specs.Fetching.{IsRefusedFetch, TakesInOrder, IsPage, IsRefusedPage, fetched, no_rows};
+ghost use Rattle.pg_portal.specs.Formats.{format_of, format_for, unified, is_text, is_binary};
+ghost use Rattle.pg_portal.specs.Page.{is_reached};
+ghost use Rattle.pg_portal.specs.Statements.{bound_by, cursor_of};
+ghost use Rattle.pg_portal.specs.Told.{Unstarted, Started, stage_of, bound_of, told_rows};
+ghost use Rattle.pg_portal.specs.declared.error.PgWireError.{PgWireError};
+
+use crate::error::PgWireError;
+use crate::results::response::QueryResponse;
+use crate::rows::RowSource;
+use crate::stmt::StoredStatement;
+use pg_messages::{Bind, DataRow, PgBytes, PgList, PgStr};
+use pg_text::FieldFormat;
+use std::alloc::{AllocError, Global};
+use std::sync::Arc;
+
+/// The formats of values or columns.
+#[derive(Debug, Default, Drop)]
+pub enum Format {
+    /// All are text.
+    #[default]
+    UnifiedText,
+    /// All are binary.
+    UnifiedBinary,
+    /// Each has the format of its code.
+    Individual(PgList<i16>),
+}
+
+impl From<i16> for Format {
+    ghost use Rattle.std.specs.Prelude.{◌≡◌};
+    ghost use Rattle.pg_text.specs.Formats.{format_of_code};
+    ghost use Rattle.pg_portal.specs.Formats.{unified};
+
+    ghost from_gives = { λ code format. format ≡ unified (format_of_code code) };
+
+    /// One format for all: binary for the code 1, else text.
+    fn from(code: i16) -> Format {
+        match FieldFormat::from(code) {
+            FieldFormat::Binary => Format::UnifiedBinary,
+            FieldFormat::Text => Format::UnifiedText,
+        }
+    }
+}
+
+impl Format {
+    /// The format of the value at an index, or None exactly where it is past individual codes. No memory is taken.
+    pub fn format_for(&self, idx: usize) -> Option<FieldFormat>
+        ensures { result ≡ format_for self.now idx }
+    {
+        match self {
+            Format::UnifiedText => Some(FieldFormat::Text),
+            Format::UnifiedBinary => Some(FieldFormat::Binary),
+            Format::Individual(codes) => match codes.as_slice().get(idx) {
+                Some(code) => Some(FieldFormat::from(*code)),
+                None => None,
+            },
+        }
+    }
+
+    /// Whether the value at an index is text, or None exactly where it is past individual codes.
+    pub fn is_text(&self, idx: usize) -> Option<bool>
+        ensures { result ≡ option_map is_text (format_for self.now idx) }
+    {
+        match self.format_for(idx) {
+            Some(format) => Some(matches!(format, FieldFormat::Text)),
+            None => None,
+        }
+    }
+
+    /// Whether the value at an index is binary, or None exactly where it is past individual codes.
+    pub fn is_binary(&self, idx: usize) -> Option<bool>
+        ensures { result ≡ option_map is_binary (format_for self.now idx) }
+    {
+        match self.format_for(idx) {
+            Some(format) => Some(matches!(format, FieldFormat::Binary)),
+            None => None,
+        }
+    }
+
+    /// An equal value.
+    pub fn copy_of(&self, alloc: Global) -> Result<Format, AllocError>
+        ensures { IfOk result (λ copy. copy ≡ self.now) }
+    {
+        match self {
+            Format::UnifiedText => Ok(Format::UnifiedText),
+            Format::UnifiedBinary => Ok(Format::UnifiedBinary),
+            Format::Individual(codes) => Ok(Format::Individual(copy_of_codes(
+                alloc,
+                codes.as_slice(),
+            )?)),
+        }
+    }
+}
+
+/// A copy of codes.
+fn copy_of_codes(alloc: Global, codes: &[i16]) -> Result<PgList<i16>, AllocError>
+    ensures { IfOk result (λ copy. copy ≡ codes.now) }
+{
+    Ok(PgList::from_vec(Vec::from_slice(alloc, codes)?))
+}
+
+/// The formats of a Bind's codes: none is text, one is for all, several are one for each.
+fn format_of(alloc: Global, codes: &[i16]) -> Result<Format, AllocError>
+    ensures { IfOk result (λ format. format ≡ format_of codes.now) }
+{
+    match codes {
+        [] => Ok(Format::UnifiedText),
+        [code] => Ok(Format::from(*code)),
+        _ => Ok(Format::Individual(copy_of_codes(alloc, codes)?)),
+    }
+}
+
+/// How far a portal has come.
+#[derive(Default, Drop)]
+pub enum PortalExecutionState<R> {
+    /// It wasn't started.
+    #[default]
+    Initial,
+    /// It was started: what is to come of its rows.
+    Suspended(QueryResponse<R>),
+    /// A page of it was complete.
+    Finished,
+}
+
+/// A page of a portal.
+#[derive(Drop)]
+pub struct FetchResult {
+    /// The rows.
+    pub rows: PgList<DataRow>,
+    /// The command that gave them, as `SELECT`.
+    pub command_tag: PgStr,
+    /// Whether the page ended at its limit.
+    pub suspended: bool,
+}
+
+/// A statement with its parameters and formats.
+#[derive(Drop)]
+pub struct Portal<S, R> {
+    /// Its name; the empty text is the unnamed one.
+    pub name: PgStr,
+    /// The statement. A later one of the same name doesn't change it.
+    pub statement: Arc<StoredStatement<S>>,
+    /// The formats of the parameters.
+    pub parameter_format: Format,
+    /// The parameters as they came, None for null.
+    pub parameters: PgList<Option<PgBytes>>,
+    /// The formats of the result's columns.
+    pub result_column_format: Format,
+    /// How far it has come.
+    pub state: PortalExecutionState<R>,
+}
+
+impl<S: Drop, R: RowSource> Portal<S, R> {
+    /// The unstarted portal that a Bind makes of a statement. The only error is `NoMemory`.
+    pub fn try_new(
+        alloc: Global,
+        bind: &Bind,
+        statement: Arc<StoredStatement<S>>,
+    ) -> Result<Portal<S, R>, PgWireError>
+        ensures bound { IfOk result (λ portal. bound_of portal ≡ bound_by bind.now (arc_value statement)) }
+        ensures unstarted { IfOk result (λ portal. stage_of R.items portal.state ≡ Unstarted) }
+        ensures refusal { IfErr result (λ error. error ≡ PgWireError.NoMemory) }
+    {
+        Ok(Portal {
+            name: PgStr::copy_of(alloc, bind.portal_name.as_str())?,
+            statement,
+            parameter_format: format_of(alloc, bind.parameter_format_codes.as_slice())?,
+            parameters: copy_of_parameters(alloc, bind.parameters.as_slice())?,
+            result_column_format: format_of(alloc, bind.result_column_format_codes.as_slice())?,
+            state: PortalExecutionState::Initial,
+        })
+    }
+
+    /// The unstarted portal of a cursor: no parameter, and text results. It takes no memory.
+    pub fn new_cursor(
+        alloc: Global,
+        name: PgStr,
+        statement: Arc<StoredStatement<S>>,
+    ) -> Portal<S, R>
+        ensures bound { bound_of result ≡ cursor_of name (arc_value statement) }
+        ensures unstarted { stage_of R.items result.state ≡ Unstarted }
+    {
+        Portal {
+            name,
+            statement,
+            parameter_format: Format::UnifiedText,
+            parameters: PgList::new(alloc),
+            result_column_format: Format::UnifiedText,
+            state: PortalExecutionState::Initial,
+        }
+    }
+
+    /// How many parameters there are.
+    pub fn parameter_len(&self) -> usize
+        ensures { result ≡ length self.now.parameters }
+    {
+        self.parameters.len()
+    }
+
+    /// How far the portal has come. No memory is taken.
+    pub fn state(&self) -> &PortalExecutionState<R>
+        ensures { result.now ≡ self.now.state }
+    {
+        &self.state
+    }
+
+    /// Starts the portal with a response, whatever it was before. No memory is taken.
+    pub fn start(&mut self, response: QueryResponse<R>)
+        ensures started { stage_of R.items self.new.state ≡ Started (told_rows R.items response) }
+        ensures bound { bound_of self.new ≡ bound_of self.old }
+    {
+        self.state = PortalExecutionState::Suspended(response);
+    }
+
+    /// The next page: at most so many rows, and below 1 all of them. It is suspended where the limit was reached,
+    /// also where the last row reached it, and else complete. A finished portal has no further row, and the tag
+    /// `SELECT`.
+    ///
+    /// `PortalNotStarted` comes exactly where the portal wasn't started. The error of an item is answered; then
+    /// the item and the rows of this page before it are gone. After `NoMemory` a started portal is still started,
+    /// and rows of this page may be gone; any other is as it was.
+    pub fn fetch(&mut self, alloc: Global, max_rows: i32) -> Result<FetchResult, PgWireError>
+        ensures page { IfOk result (λ page.
+            Ok page ≡ (fetched max_rows (stage_of R.items self.old.state)).answer) }
+        ensures stage { OnOk result (stage_of R.items self.new.state
+            ≡ (fetched max_rows (stage_of R.items self.old.state)).stage) }
+        ensures refusal { IfErr result (IsRefusedFetch max_rows
+            (stage_of R.items self.old.state) (stage_of R.items self.new.state)) }
+        ensures taken { TakesInOrder
+            (stage_of R.items self.old.state) (stage_of R.items self.new.state) result }
+        ensures bound { bound_of self.new ≡ bound_of self.old }
+    {
+        let page = match &mut self.state {
+            PortalExecutionState::Initial => return Err(PgWireError::PortalNotStarted),
+            PortalExecutionState::Finished => return Ok(no_rows(alloc)?),
+            PortalExecutionState::Suspended(response) => next_page(alloc, response, max_rows)?,
+        };
+        if page.suspended {
+            return Ok(page);
+        }
+        self.state = PortalExecutionState::Finished;
+        Ok(page)
+    }
+}
+
+/// The page of a finished portal.
+fn no_rows(alloc: Global) -> Result<FetchResult, AllocError>
+    ensures { IfOk result (λ page. page ≡ no_rows) }
+{
+    Ok(FetchResult {
+        rows: PgList::new(alloc),
+        command_tag: PgStr::copy_of(alloc, "SELECT")?,
+        suspended: false,
+    })
+}
+
+/// Whether a page of so many rows has reached its limit. A limit below 1 is never reached.
+#[inline(always)]
+pub fn is_reached(max_rows: i32, rows: usize) -> bool
+    ensures { result ≡ is_reached max_rows rows }
+{
+    max_rows >= 1 && max_rows.cast_unsigned() as usize <= rows
+}
+
+/// The next page of a response.
+fn next_page<R: RowSource>(
+    alloc: Global,
+    response: &mut QueryResponse<R>,
+    max_rows: i32,
+) -> Result<FetchResult, PgWireError>
+    ensures page { IfOk result (λ page. IsPage max_rows
+        (told_rows R.items response.old) (told_rows R.items response.new) page) }
+    ensures refusal { IfErr result (IsRefusedPage max_rows
+        (told_rows R.items response.old) (told_rows R.items response.new)) }
+{
+    let command_tag = PgStr::copy_of(alloc, response.command_tag.as_str())?;
+    let mut rows = PgList::new(alloc);
+    while !is_reached(max_rows, rows.len()) {
+        match response.data_rows.next()? {
+            None => {
+                return Ok(FetchResult {
+                    rows,
+                    command_tag,
+                    suspended: false,
+                });
+            }
+            Some(Err(error)) => return Err(error),
+            Some(Ok(row)) => rows.push(row)?,
+        }
+    }
+    Ok(FetchResult {
+        rows,
+        command_tag,
+        suspended: true,
+    })
+}
+
+/// A copy of parameters.
+fn copy_of_parameters(
+    alloc: Global,
+    parameters: &[Option<PgBytes>],
+) -> Result<PgList<Option<PgBytes>>, AllocError>
+    ensures { IfOk result (λ copy. copy ≡ parameters.now) }
+{
+    let mut copy = PgList::new(alloc);
+    for parameter in parameters {
+        copy.push(copy_of_parameter(alloc, parameter)?)?;
+    }
+    Ok(copy)
+}
+
+/// A copy of a parameter.
+fn copy_of_parameter(
+    alloc: Global,
+    parameter: &Option<PgBytes>,
+) -> Result<Option<PgBytes>, AllocError>
+    ensures { IfOk result (λ copy. copy ≡ parameter.now) }
+{
+    match parameter {
+        Some(bytes) => Ok(Some(PgBytes::copy_of(alloc, bytes.as_slice())?)),
+        None => Ok(None),
+    }
+}
