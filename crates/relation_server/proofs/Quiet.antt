@@ -21,4 +21,4 @@ pub quiet : {script left : List Bool} {calls : List DeskCall} → IsScripted scr
     → AreNo (answers_of calls)
 quiet {script} {left} {calls} x none =
     subst AreNo (sym x.answered) (subst (λ s. AreNo (scripted s (length (answers_of calls)))) (sym (no_script script none))
-        (all_no (length (answers_of calls))))
+    (all_no (length (answers_of calls))))

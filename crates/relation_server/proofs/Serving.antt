@@ -138,6 +138,7 @@ cut_at_start setting left w = ([], takes_none left, at w)
       replied = ([], refl);
       called = ([], refl);
     }
+
     at : (o : Option (List ℕ)) → (front : List ℕ) × GrowsBy o o front × IsCutRun (core_rules setting) first_state [] front []
     at None = ([], tt, empty)
     at (Some x) = (

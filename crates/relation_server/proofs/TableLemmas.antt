@@ -30,7 +30,7 @@ place-push t i (y ∷ xs) x =
     ap (λ o. cond (t y) (Some i) o) (place-push t (i + 1) xs x)
     ∙ or_at-cond (t y) i (position_from t (i + 1) xs) (cond (t x) (Some (i + 1 + length xs)) None)
     ∙ ap (λ n. or_at (cond (t y) (Some i) (position_from t (i + 1) xs)) (cond (t x) (Some n) None))
-        (let e : i + 1 + length xs ≡ i + length (y ∷ xs) = omega arith in e)
+    (let e : i + 1 + length xs ≡ i + length (y ∷ xs) = omega arith in e)
 
 none_from_test : (o : Option ℕ) → is_some o ≡ false → o ≡ None
 none_from_test None h = refl
@@ -74,7 +74,7 @@ module _ (rs : List Relation) (i : ℕ) (r : Relation) (is : r ≡ get_or rs i r
   refusal-step o e =
       ap (λ xs. refusal_after (take i rs) xs) back
       ∙ ap (λ n. or_else (refusal_at n (is_some (place_of (take i rs) r.name)) r) (refusal_after (take i rs ++ r ∷ []) (drop (i + 1) rs)))
-          front_length
+      front_length
       ∙ ap (λ p. or_else p (refusal_after (take i rs ++ r ∷ []) (drop (i + 1) rs))) (sym e)
       ∙ ap (λ xs. or_else o (refusal_after xs (drop (i + 1) rs))) (sym front)
 
@@ -119,7 +119,7 @@ passed false true true e f g h = (refl, refl)
 IsSound-from_passed : (n : ℕ) (b : Bool) (r : Relation) → refusal_at n b r ≡ None → IsSound r
 IsSound-from_passed n b r h =
     let p = passed (b || not (is_name r.name)) (are_columns r.columns) (are_even (length r.columns) r.rows) (BadName n) (BadColumn n)
-        (RaggedRow n) h in
+    (RaggedRow n) h in
     record { columns = p.0; rows = p.1 }
 
 neither : (o p : Option TableError) → or_else o p ≡ None → (o ≡ None) × (p ≡ None)

@@ -104,8 +104,11 @@ pub record Counts : Type 0 where
 
 -- the counts of a source and of a sink, by what their traits tell
 abbrev pub counts_of : {S K : Type 0} → (S → ℕ) → (S → ℕ) → (K → ℕ) → S → K → Counts
-counts_of reads read_faults write_faults source sink = record { reads = reads source; read_faults = read_faults source;
-    write_faults = write_faults sink }
+counts_of reads read_faults write_faults source sink = record {
+  reads = reads source;
+  read_faults = read_faults source;
+  write_faults = write_faults sink;
+}
 
 -- the turn that reads the end of the input
 abbrev pub end_turn : EndKind → ℕ

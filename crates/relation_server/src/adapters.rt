@@ -68,8 +68,7 @@ impl<W: Write> Sink for WriterSink<W> {
 
     fn send(&mut self, bytes: &[u8]) -> Result<(), SinkError>
         // what is known of the writer's bytes grows by all of them
-        ensures writer
-            { OnOk result (Appends (W.contents self.old.writer)
+        ensures writer { OnOk result (Appends (W.contents self.old.writer)
             (W.contents self.new.writer) bytes.now) }
         ensures faults { self.new.faults ≡ counted (is_err result) self.old.faults }
         ensures failed { OnErr result (HasRisen self.old.faults self.new.faults) }

@@ -26,9 +26,15 @@ impl Model for MemorySource {
 
     ghost Value = { Tape };
 
-    ghost view =
-        { λ s. record { left = drop s.position s.bytes; pieces = s.pieces; fails = s.fails; calls =
-        s.calls; reads = s.reads; faults = s.faults } };
+    ghost view = { λ s. record {
+      left = drop s.position s.bytes;
+      pieces = s.pieces;
+      fails = s.fails;
+      calls =
+          s.calls;
+      reads = s.reads;
+      faults = s.faults;
+    } };
 
     ghost invariant = { λ s. s.position ≤ length s.bytes };
 }
@@ -89,8 +95,7 @@ impl Source for MemorySource {
         ensures answer { result ≡ received self.old (length into.old) }
         ensures next { IsNextCall (is_err result) self.old self.new }
         ensures fits { IfOk result (λ n. n ≤ length into.old) }
-        ensures bytes { IfOk result (λ n. GivesFront n into.new self.old.left (Some self.new.left))
-            }
+        ensures bytes { IfOk result (λ n. GivesFront n into.new self.old.left (Some self.new.left)) }
         ensures counts { self.new.reads ≡ reads_after result self.old.reads }
         ensures failed { OnErr result (HasRisen self.old.faults self.new.faults) }
         ensures untouched { OnErr result (self.new.left ≡ self.old.left) }
@@ -127,9 +132,7 @@ impl Model for MemorySink {
 
     ghost Value = { Drain };
 
-    ghost view =
-        { λ s. record { bytes = s.bytes.items; fails = s.fails; calls = s.calls; faults = s.faults }
-        };
+    ghost view = { λ s. record { bytes = s.bytes.items; fails = s.fails; calls = s.calls; faults = s.faults } };
 }
 
 impl MemorySink {
@@ -176,8 +179,7 @@ impl Sink for MemorySink {
         ensures calls { self.new.calls ≡ raised self.old.calls }
         ensures faults { self.new.faults ≡ counted (is_fault result) self.old.faults }
         ensures ok { OnOk result (GrowsBy (Some self.old.bytes) (Some self.new.bytes) bytes.now) }
-        ensures err
-            { OnErr result (GrowsByFront (Some self.old.bytes) (Some self.new.bytes) bytes.now) }
+        ensures err { OnErr result (GrowsByFront (Some self.old.bytes) (Some self.new.bytes) bytes.now) }
         ensures failed { IsErrOf result SinkError.Failed
             → HasRisen self.old.faults self.new.faults }
         ensures no_memory { IsErrOf result SinkError.NoMemory → self.new.faults ≡ self.old.faults }
@@ -199,8 +201,7 @@ impl Sink for MemorySink {
 impl MemorySink {
     /// Appends bytes, and without memory none of them.
     fn append(&mut self, bytes: &[u8]) -> Result<(), SinkError>
-        ensures ok
-            { OnOk result (self.new ≡ record self.old { bytes = self.old.bytes ++ bytes.now }) }
+        ensures ok { OnOk result (self.new ≡ record self.old { bytes = self.old.bytes ++ bytes.now }) }
         ensures err { IfErr result (λ e. (e ≡ SinkError.NoMemory) × (self.new ≡ self.old)) }
     {
         match self.bytes.extend_from_slice(bytes) {

@@ -36,17 +36,17 @@ pub fn run_rows<S: Source, K: Sink, E: Sink>(
 ) -> u8
     ensures usage { registration_of words.now ≡ None
         → IsReported 2 usage result (E.written err.old) (E.written err.new) (E.faults err.old)
-            (E.faults err.new) }
+        (E.faults err.new) }
     ensures untouched { registration_of words.now ≡ None → (client.new ≡ client.old)
         × (out.new ≡ out.old) }
     ensures served { IfSome (registration_of words.now)
         (λ registration. (answer : Result EndKind ServeError)
         × IsOutcome registration built_in turns_of_a_client answer (S.left client.old)
-            (S.left client.new) (K.written out.old) (K.written out.new)
+        (S.left client.new) (K.written out.old) (K.written out.new)
         (counts_of S.reads S.faults K.faults client.old out.old)
         (counts_of S.reads S.faults K.faults client.new out.new)
         × IsReported (status_of answer) (line_of answer) result (E.written err.old)
-            (E.written err.new) (E.faults err.old) (E.faults err.new)) }
+        (E.written err.new) (E.faults err.old) (E.faults err.new)) }
 {
     let Some(registration) = read_registration(words) else {
         return report(USAGE, "usage: relation_server PID KEY\n", err);

@@ -17,11 +17,7 @@ fn good_words(alloc: Global) -> Result<PgList<PgStr>, AllocError> {
 /// A source of the client's bytes.
 fn client(alloc: Global) -> Result<MemorySource, AllocError> {
     let bytes = PgBytes::copy_of(alloc, CLIENT)?;
-    Ok(MemorySource::new(
-        bytes,
-        PgList::new(alloc),
-        PgList::new(alloc),
-    ))
+    Ok(MemorySource::new(bytes, PgList::new(alloc), PgList::new(alloc)))
 }
 
 /// Whether words are answered by this status, so many bytes of replies, and this text for people.

@@ -16,12 +16,12 @@ loop-done-preserved g c =
     let bytes = c.args.bytes.now in
     let done = c.loop-done.done in
     let bound : c.in-Ok.n ≤ length bytes - done = omega (arith, rw (take_rest bytes done, length-drop done bytes) at c.in-Ok.ensures.bound)
-        in
+    in
     let h = rw (take_rest bytes done) at c.in-Ok.ensures.bytes in
     record {
       within = omega arith;
       written = rw (take-add done c.in-Ok.n bytes)
           (Appends-append (g.W.Write.contents c.args.writer.now) (g.W.Write.contents c.loop-done.writer)
-              (g.W.Write.contents c.write.new.self)
+          (g.W.Write.contents c.write.new.self)
           (take done bytes) (take c.in-Ok.n (drop done bytes)) c.loop-done.invariant.written h);
     }

@@ -7,5 +7,5 @@ use Rattle.relation_server.proofs.handler.encoded_rows.Goals as goal
 pub returns-clause-encodable : goal.returns-clause-encodable
 returns-clause-encodable c =
     let whole = c.loop-row.invariant ∙ ap (λ rows. map binary_row rows)
-        (take_all c.loop-row.row-index c.args.rows.now c.loop-row-test.false) in
+    (take_all c.loop-row.row-index c.args.rows.now c.loop-row-test.false) in
     rw whole (IsEncodable-rows c.args.width c.args.rows.now c.requires.narrow c.requires.even)

@@ -30,12 +30,12 @@ returns g c =
       went = subst (λ table. WentSo (table_setting table (c.args.pid, c.args.key)) c.serve_relations_on-answer.result
           (g.S.Source.left c.args.client.now)
           (g.S.Source.left c.serve_relations_on-answer.new.source) (g.K.Sink.written c.args.out.now)
-              (g.K.Sink.written c.serve_relations_on-answer.new.sink) went.0)
+          (g.K.Sink.written c.serve_relations_on-answer.new.sink) went.0)
           c.in-Ok.ensures.ok
           (subst (λ registration. WentSo (table_setting c.in-Ok.table registration) c.serve_relations_on-answer.result
-              (g.S.Source.left c.args.client.now)
+          (g.S.Source.left c.args.client.now)
           (g.S.Source.left c.serve_relations_on-answer.new.source) (g.K.Sink.written c.args.out.now)
-              (g.K.Sink.written c.serve_relations_on-answer.new.sink) went.0)
+          (g.K.Sink.written c.serve_relations_on-answer.new.sink) went.0)
           registered went.2);
       cause = c.serve_relations_on-answer.ensures.cause;
     }

@@ -26,13 +26,13 @@ returns-in_default-new-clause-went g c = (
 pub returns-clause-went : goal.returns-clause-went
 returns-clause-went g c =
     let rel = c.args.relations.now in let host = c.in-Ok-new.session.host in let registration = g.D.CancelDesk.registration c.args.desk.now
-        in
+    in
     let pid_stays : to_z w32 (of_z w32 c.identity-pid.result.0) ≡ c.identity-pid.result.0 = search rules in
     let pid_is : host.pid ≡ registration.0 = c.in-Ok-new.ensures.pid ∙ pid_stays ∙ ap (λ r. r.0) c.identity-pid.ensures in
     let key_is : host.key ≡ registration.1 = c.in-Ok-new.ensures.key ∙ ap (λ r. r.1) c.identity-pid.ensures in
     let handler_is = ap arc_value c.in-Ok-new.ensures.handlers ∙ c.in-Ok.ensures.ok in
     let same : setting_of (place_of (arc_value host.handlers).relations.now)
-        (binary_rows (arc_value host.handlers).relations.now) host.pid host.key ≡ table_setting rel registration =
+    (binary_rows (arc_value host.handlers).relations.now) host.pid host.key ≡ table_setting rel registration =
     ap (λ h. setting_of (place_of h.relations.now) (binary_rows h.relations.now) host.pid host.key) handler_is
     ∙ ap (λ p. setting_of (place_of rel) (binary_rows rel) p host.key) pid_is
     ∙ ap (λ k. setting_of (place_of rel) (binary_rows rel) registration.0 k) key_is in

@@ -17,7 +17,7 @@ is_some-copied (Some x) = refl
 -- whether a name is taken, as the index tells it
 taken : (rs : List Relation) (m : NameMap ℕ) (name : List ℕ) (r : Relation) (o : Option (Bor ℕ)) (b : Bool)
     → ((q : List ℕ) → map.get m q ≡ place_of rs q) → name ≡ r.name → option_copied o ≡ map.get m name → b ≡ is_some o → b
-        ≡ is_some (place_of rs r.name)
+    ≡ is_some (place_of rs r.name)
 taken rs m name r o b h same got e = e ∙ sym (is_some-copied o) ∙ ap (λ p. is_some p) (got ∙ h name ∙ ap (λ q. place_of rs q) same)
 
 judged : (i place : ℕ) (b is : Bool) (r : Relation) (o : Option TableError) → place ≡ i → b ≡ is → o ≡ refusal_at place b r → o
@@ -53,7 +53,7 @@ loop-relation-preserved c =
       count = omega arith;
       places = λ q. ap (λ m. map.get m q) c.in_ok-put.ensures.ok
           ∙ ap (λ n. map.get (map.insert c.loop-relation.places n c.loop-relation.place) q)
-              (c.in_ok-copy_of.ensures ∙ c.as_str-in-loop-relation.ensures)
+          (c.in_ok-copy_of.ensures ∙ c.as_str-in-loop-relation.ensures)
           ∙ ap (λ k. map.get (map.insert c.loop-relation.places r.name k) q) c.loop-relation.invariant.count
           ∙ places-step rs i r c.relation-item.is within c.loop-relation.places c.loop-relation.invariant.places new q;
       refusal = sym (refusal-step rs i r c.relation-item.is within c.judge.result verdict

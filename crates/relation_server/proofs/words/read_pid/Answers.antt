@@ -28,10 +28,10 @@ is_pid-read word r e parses was pid =
     let front = and_left (is_numeral word && nat_le 1 (digits_value 10 word)) (nat_le (digits_value 10 word) 2147483647) pid in
     let low = leb-true 1 (digits_value 10 word) (and_right (is_numeral word) (nat_le 1 (digits_value 10 word)) front) in
     let digits = and_left (list_all is_ascii_digit word) (not (slice_index word 0 == 48))
-        (and_left (is_numeral word) (nat_le 1 (digits_value 10 word)) front) in
+    (and_left (is_numeral word) (nat_le 1 (digits_value 10 word)) front) in
     let small : digits_value 10 word ≤ 2147483647 = leb-true (digits_value 10 word) 2147483647 high in
     let read = parse_gives (numerals_by_value (λ ds. all_ascii_digits ds ≡ true) tells_all_ascii_digits) 32 word r parses
-        (sym (same_digits word) ∙ digits) (filled word low) (omega arith) in
+    (sym (same_digits word) ∙ digits) (filled word low) (omega arith) in
     cc
 
 pub returns-in_default : goal.returns-in_default

@@ -30,7 +30,7 @@ encoded_rows-requires-clause-narrow c =
     let rs = c.args.self.now.relations.now in
     rw c.len.ensures (narrow_from_sound c.index-relations-relation.result
     (sound rs c.relations.result.now c.args.relation c.index-relations-relation.result c.relations.ensures.relations
-        c.relations.ensures.valid
+    c.relations.ensures.valid
     c.requires c.index-relations-relation.is))
 
 pub encoded_rows-requires-clause-even : goal.encoded_rows-requires-clause-even
@@ -38,7 +38,7 @@ encoded_rows-requires-clause-even c =
     let rs = c.args.self.now.relations.now in
     rw (c.len.ensures, c.as_slice.ensures)
     (sound rs c.relations.result.now c.args.relation c.index-relations-relation.result c.relations.ensures.relations
-        c.relations.ensures.valid
+    c.relations.ensures.valid
     c.requires c.index-relations-relation.is).rows
 
 pub returns-clause-rows : goal.returns-clause-rows
@@ -49,6 +49,6 @@ returns-clause-rows c =
     slice_get_read rs (length rs) c.args.relation r refl c.requires
     (c.index-relations-relation.is ∙ ap (λ xs. get_or xs c.args.relation r) c.relations.ensures.relations) in
     IfOk-weaker c.encoded_rows.result (λ (rows : List DataRow). rows ≡ map binary_row c.as_slice.result.now)
-        (λ (rows : List DataRow). rows ≡ binary_rows rs c.args.relation)
+    (λ (rows : List DataRow). rows ≡ binary_rows rs c.args.relation)
     (λ rows h. h ∙ ap (λ xs. map binary_row xs) c.as_slice.ensures ∙ ap (λ o. map binary_row (rows_of o)) (sym stands))
-        c.encoded_rows.ensures.rows
+    c.encoded_rows.ensures.rows
