@@ -176,6 +176,21 @@ fn is_any_present(fields: &[i64]) -> bool
 mod tests {
     use super::*;
 
+    /// `==` of normal forms is equality of all fields.
+    fn is_equal(a: &IntervalNorm, b: &IntervalNorm) -> bool
+        ensures { IsTrue result ↔ (a.now ≡ b.now) }
+    {
+        a == b
+    }
+
+    #[test]
+    fn normal_forms_compare(rt: HostRuntime) {
+        let zero = IntervalNorm::default();
+        let mut day = IntervalNorm::default();
+        day.days = 1;
+        assert!(rt; is_equal(&zero, &zero) && !is_equal(&zero, &day));
+    }
+
     #[test]
     fn normal_forms(rt: HostRuntime) {
         let mut years = IntervalNorm::default();
