@@ -46,25 +46,24 @@ fn encoded_rows(
     ensures encodable { IfOk result (AllByRecursion (λ row. IsEncodable (server.DataRow row))) }
 {
     let mut encoded = PgList::new(alloc);
-    let mut values = Vec::with_capacity(alloc, 20 * width)?;
     for row in rows {
-        encoded.push(encoded_row(alloc, row.as_slice(), &mut values)?)?;
+        encoded.push(encoded_row(alloc, row.as_slice())?)?;
     }
     Ok(encoded)
 }
 
-/// A row in the binary format. What the buffer holds is lost, and its room is used.
-fn encoded_row(alloc: Global, row: &[Interval], values: &mut Vec<u8>) -> Result<DataRow, AllocError>
+/// A row in the binary format. Its payload is filled once, with room for just its bytes, and moved.
+fn encoded_row(alloc: Global, row: &[Interval]) -> Result<DataRow, AllocError>
     requires { length row.now ≤ 1600 }
     ensures { IfOk result (λ encoded. encoded ≡ binary_row row.now) }
 {
-    values.clear();
+    let mut values = Vec::with_capacity(alloc, 20 * row.len())?;
     for interval in row {
         values.extend_from_slice(&[0, 0, 0, 16])?;
         values.extend_from_slice(&interval.to_cell())?;
     }
     Ok(DataRow {
-        payload: PgBytes::copy_of(alloc, values.as_slice())?,
+        payload: PgBytes::from_vec(values),
         field_count: row.len() as i16,
     })
 }
