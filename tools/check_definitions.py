@@ -7,7 +7,8 @@ a public type; what a type keeps in itself (an invariant) is none. The check rea
 and compares them with the rows of docs/DEFINITIONS.md, both ways: each that a clause cites is named in a row, each that
 those stand on is named in a row or stands in a row's file below a definition whose row says `with those below it`, and
 no row names any other. It also asks that every row has the one form, that its file defines what the row names, and that
-its worked examples exist: a name in backticks is a test function, a row of a table program, or a file.
+its worked examples exist: a name in backticks is a test function, a row of a table program, or a file. A row that has none
+yet says `none yet`, and is counted.
 
 It prints what is missing or too much, and its status is then 1. With --list it prints the definitions by their files.
 """
@@ -357,6 +358,7 @@ class Row:
         self.covers_below = "with those below it" in cells[0]
         self.files = re.findall(r"`([^`]+)`", cells[2])
         self.examples = re.findall(r"`([^`]+)`", cells[4])
+        self.lacks_example = cells[4] == "none yet"
 
 
 def rows_of_page(problems):
@@ -424,7 +426,7 @@ def check_rows(rows, definitions, below, needed, crates, problems):
                 named[key] = row.line
             if row.covers_below:
                 covered |= {other for other in closure([key], below) if other[:2] == key[:2]}
-        if not row.examples:
+        if not row.examples and not row.lacks_example:
             problems.append(f"{place}: names no worked example in backticks")
         for example in row.examples:
             if example not in tests and example not in told and not (TOP / example).exists():
@@ -470,13 +472,16 @@ def main():
         for key in [k for k in definitions if k in needed]:
             print(definitions[key].path, key[2], "" if key in cited else "(below another)")
         return 0
-    named, covered = check_rows(rows_of_page(problems), definitions, below, needed, crates, problems)
+    rows = rows_of_page(problems)
+    named, covered = check_rows(rows, definitions, below, needed, crates, problems)
     for key in [k for k in definitions if k in needed and k not in named and (k in cited or k not in covered)]:
         why = cited.get(key) or "stands below " + next(f"`{k[2]}`" for k in definitions if k in needed and key in below[k])
         problems.append(f"docs/DEFINITIONS.md: no row names `{key[2]}` of {definitions[key].path} ({why})")
     for problem in problems:
         print(problem)
     print(f"{len(cited)} definitions in public clauses, {len(needed)} with those that they stand on, {len(problems)} problems")
+    if lacking := sum(row.lacks_example for row in rows):
+        print(f"{lacking} rows of {len(rows)} have no worked example yet")
     return 1 if problems else 0
 
 
