@@ -57,20 +57,27 @@ fn frames(rt: HostRuntime) -> Result<(), Fail> {
 }
 
 fn is_user(message: Option<PgWireFrontendMessage>) -> bool {
-    match message {
+    let is = match &message {
         Some(PgWireFrontendMessage::Startup(m)) => m.code == 196608 && m.parameters.len() == 1,
         _ => false,
-    }
+    };
+    let_go(message);
+    is
 }
 
 fn is_bind(message: Option<PgWireFrontendMessage>) -> bool {
-    match message {
+    let is = match &message {
         Some(PgWireFrontendMessage::Bind(m)) => {
             m.portal_name.as_str() == "a" && m.parameters.len() == 1
         }
         _ => false,
-    }
+    };
+    let_go(message);
+    is
 }
+
+// Drops the message.
+fn let_go(_message: Option<PgWireFrontendMessage>) {}
 
 // Puts ReadyForQuery in a transaction behind the bytes.
 fn put_ready(dst: &mut BytesMut) -> Result<(), AllocError> {
