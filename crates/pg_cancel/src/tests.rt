@@ -22,35 +22,41 @@ fn again(call: &RegistryCall) -> RegistryCall {
     }
 }
 
-/// Applies the call under a number that is live, or any where it registers.
-fn applied(
-    rt: &impl Abort,
+/// Whether the call is so answered, under a number that is live, or any where it registers.
+fn is_answered(
     registry: &mut Registry,
     number: u64,
     call: RegistryCall,
-) -> Result<RegistryAnswer, Fail> {
+    answer: &RegistryAnswer,
+) -> Result<bool, AllocError> {
     let registers = matches!(call, RegistryCall::Register(..));
-    assert!(rt; registers || registry.is_live(number), "{number} is live");
-    Ok(registry.apply(number, call)?)
+    if !registers && !registry.is_live(number) {
+        return Ok(false);
+    }
+    Ok(registry.apply(number, call)? == *answer)
 }
 
-/// Applies the calls in turn to a new registry, and compares the answers, and at last the entries.
+/// Applies the calls in turn, and compares the answers, and at last the entries.
+fn is_told(
+    registry: &mut Registry,
+    steps: &[(u64, RegistryCall, RegistryAnswer)],
+) -> Result<bool, AllocError> {
+    for (number, call, answer) in steps {
+        if !is_answered(registry, *number, again(call), answer)? {
+            return Ok(false);
+        }
+    }
+    Ok(is_entered(registry.history(), steps))
+}
+
+/// Tells the steps to a new registry.
 fn tell(
     rt: &impl Abort,
     alloc: Global,
     steps: &[(u64, RegistryCall, RegistryAnswer)],
 ) -> Result<(), Fail> {
     let mut registry = Registry::new(alloc);
-    for (number, call, answer) in steps {
-        let place = registry.history().len();
-        assert_eq!(rt;
-            applied(rt, &mut registry, *number, again(call))?,
-            *answer,
-            "at {place}"
-        );
-    }
-    assert_eq!(rt; registry.history().len(), steps.len());
-    assert!(rt; is_entered(registry.history(), steps));
+    assert!(rt; is_told(&mut registry, steps)?);
     Ok(())
 }
 
@@ -134,30 +140,25 @@ fn cancels_beside_the_story(rt: HostRuntime) -> Result<(), Fail> {
 #[test]
 fn t_index(rt: HostRuntime) -> Result<(), Fail> {
     let mut registry = Registry::new(rt.alloc());
-    assert!(rt; is_answered(&mut registry, true, RegistryAnswer::Registered)?);
-    let started = applied(&rt, &mut registry, 0, RegistryCall::Start)?;
-    assert_eq!(rt; started, RegistryAnswer::Done);
-    for _ in 0..1_000_000 {
-        assert!(rt; is_answered(&mut registry, false, RegistryAnswer::No)?);
-    }
-    for _ in 0..1_000_000 {
-        assert!(rt; is_answered(&mut registry, true, RegistryAnswer::Taken(0))?);
-    }
-    assert_eq!(rt; registry.history().len(), 2_000_002);
+    assert!(rt; is_indexed(&mut registry)?);
     Ok(())
 }
 
-/// Whether a Register of the pid 7, or an Ask of 0, is answered so.
-fn is_answered(
-    registry: &mut Registry,
-    registers: bool,
-    answer: RegistryAnswer,
-) -> Result<bool, AllocError> {
-    if registers {
-        return Ok(registry.apply(0, RegistryCall::Register(7, A))? == answer);
+/// Whether a registration and a start are followed by a million queries and a million refused registrations.
+fn is_indexed(registry: &mut Registry) -> Result<bool, AllocError> {
+    let registered = is_registered(registry, &RegistryAnswer::Registered)?;
+    let started = is_answered(registry, 0, RegistryCall::Start, &RegistryAnswer::Done)?;
+    let mut are = registered && started;
+    for _ in 0..1_000_000 {
+        are = is_answered(registry, 0, RegistryCall::Ask, &RegistryAnswer::No)? && are;
     }
-    if !registry.is_live(0) {
-        return Ok(false);
+    for _ in 0..1_000_000 {
+        are = is_registered(registry, &RegistryAnswer::Taken(0))? && are;
     }
-    Ok(registry.apply(0, RegistryCall::Ask)? == answer)
+    Ok(are && registry.history().len() == 2_000_002)
+}
+
+/// Whether a Register of the pid 7 is answered so.
+fn is_registered(registry: &mut Registry, answer: &RegistryAnswer) -> Result<bool, AllocError> {
+    is_answered(registry, 0, RegistryCall::Register(7, A), answer)
 }

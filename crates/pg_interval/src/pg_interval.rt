@@ -77,7 +77,6 @@ fn int32_at(bytes: &[u8], start: usize) -> i32
 mod tests {
     use super::*;
     use std::alloc::AllocError;
-    use std::test::Fail;
 
     /// `==` is equality of the three numbers.
     fn is_equal(a: &Interval, b: &Interval) -> bool
@@ -93,34 +92,61 @@ mod tests {
         a.clone()
     }
 
+    /// Months, days and microseconds, and their cell.
+    const CELLS: [(i32, i32, i64, &[u8; 16]); 4] = [
+        (
+            13,
+            1,
+            4215000000,
+            b"\x00\x00\x00\x00\xfb\x3b\xcb\xc0\x00\x00\x00\x01\x00\x00\x00\x0d",
+        ),
+        (
+            0,
+            0,
+            -500000,
+            b"\xff\xff\xff\xff\xff\xf8\x5e\xe0\x00\x00\x00\x00\x00\x00\x00\x00",
+        ),
+        (
+            -1,
+            2,
+            3000000,
+            b"\x00\x00\x00\x00\x00\x2d\xc6\xc0\x00\x00\x00\x02\xff\xff\xff\xff",
+        ),
+        (
+            i32::MIN,
+            i32::MIN,
+            i64::MIN,
+            b"\x80\x00\x00\x00\x00\x00\x00\x00\x80\x00\x00\x00\x80\x00\x00\x00",
+        ),
+    ];
+
+    /// Is this what the cell is read as?
+    fn is_read(cell: &[u8], interval: Interval) -> bool {
+        match Interval::from_cell(cell) {
+            Some(read) => read == interval,
+            None => false,
+        }
+    }
+
+    /// Is the interval's clone equal to it?
+    fn is_cloned(interval: Interval) -> bool {
+        match clone_of(&interval) {
+            Ok(clone) => is_equal(&interval, &clone),
+            Err(_) => false,
+        }
+    }
+
+    fn is_cell(interval: Interval, cell: &[u8; 16]) -> bool {
+        interval.to_cell() == *cell && is_read(cell.as_slice(), interval) && is_cloned(interval)
+    }
+
     #[test]
-    fn cells_both_ways(rt: HostRuntime) -> Result<(), Fail> {
-        let cells = [
-            (
-                Interval::new(13, 1, 4215000000),
-                b"\x00\x00\x00\x00\xfb\x3b\xcb\xc0\x00\x00\x00\x01\x00\x00\x00\x0d",
-            ),
-            (
-                Interval::new(0, 0, -500000),
-                b"\xff\xff\xff\xff\xff\xf8\x5e\xe0\x00\x00\x00\x00\x00\x00\x00\x00",
-            ),
-            (
-                Interval::new(-1, 2, 3000000),
-                b"\x00\x00\x00\x00\x00\x2d\xc6\xc0\x00\x00\x00\x02\xff\xff\xff\xff",
-            ),
-            (
-                Interval::new(i32::MIN, i32::MIN, i64::MIN),
-                b"\x80\x00\x00\x00\x00\x00\x00\x00\x80\x00\x00\x00\x80\x00\x00\x00",
-            ),
-        ];
-        for (interval, cell) in cells {
-            assert_eq!(rt; interval.to_cell(), *cell);
-            assert_eq!(rt; Interval::from_cell(cell.as_slice()), Some(interval));
-            assert!(rt; is_equal(&interval, &clone_of(&interval)?));
+    fn cells_both_ways(rt: HostRuntime) {
+        for (months, days, microseconds, cell) in CELLS {
+            assert!(rt; is_cell(Interval::new(months, days, microseconds), cell));
         }
         let longer = [0, 0, 0, 0, 0, 0, 0, 3, 0, 0, 0, 2, 0, 0, 0, 1, 255];
-        assert_eq!(rt; Interval::from_cell(&longer), Some(Interval::new(1, 2, 3)));
-        assert_eq!(rt; Interval::from_cell(&longer[..15]), None);
-        Ok(())
+        assert!(rt; is_read(&longer, Interval::new(1, 2, 3)));
+        assert!(rt; Interval::from_cell(&longer[..15]).is_none());
     }
 }

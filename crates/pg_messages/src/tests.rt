@@ -4,24 +4,37 @@ ghost use Rattle.pg_messages.specs.Replies.{IsEncodable};
 
 use super::*;
 use bytes::BytesMut;
-use std::alloc::Global;
+use std::alloc::{AllocError, Global};
 use std::test::*;
+
+fn is_text(alloc: Global) -> Result<bool, AllocError> {
+    let text = PgStr::copy_of(alloc, "span")?;
+    let longer = PgStr::copy_of(alloc, "spans")?;
+    Ok(text.as_str() == "span" && text < longer)
+}
+
+fn are_bytes(alloc: Global) -> Result<bool, AllocError> {
+    let bytes = PgBytes::copy_of(alloc, &[1, 0, 255])?;
+    Ok(PgBytes::from_vec(bytes.into_vec()).as_slice() == [1, 0, 255].as_slice())
+}
+
+fn both_formats(alloc: Global) -> Result<PgList<i16>, Fail> {
+    let mut list = PgList::new(alloc);
+    list.push(FORMAT_CODE_TEXT)?;
+    list.push(FORMAT_CODE_BINARY)?;
+    Ok(list)
+}
+
+fn is_pair(list: PgList<i16>) -> bool {
+    let is = list.as_slice() == [0, 1].as_slice();
+    is && PgList::from_vec(list.into_vec()).len() == 2
+}
 
 #[test]
 fn t_lists(rt: HostRuntime) -> Result<(), Fail> {
-    let text = PgStr::copy_of(rt.alloc(), "span")?;
-    assert_eq!(rt; text.as_str(), "span");
-    assert!(rt; text < PgStr::copy_of(rt.alloc(), "spans")?);
-    let bytes = PgBytes::copy_of(rt.alloc(), &[1, 0, 255])?;
-    assert_eq!(rt;
-        PgBytes::from_vec(bytes.into_vec()).as_slice(),
-        [1, 0, 255].as_slice()
-    );
-    let mut list = PgList::new(rt.alloc());
-    list.push(FORMAT_CODE_TEXT)?;
-    list.push(FORMAT_CODE_BINARY)?;
-    assert_eq!(rt; list.as_slice(), [0, 1].as_slice());
-    assert_eq!(rt; PgList::from_vec(list.into_vec()).len(), 2);
+    assert!(rt; is_text(rt.alloc())?);
+    assert!(rt; are_bytes(rt.alloc())?);
+    assert!(rt; is_pair(both_formats(rt.alloc())?));
     Ok(())
 }
 
@@ -44,27 +57,39 @@ fn frames(rt: HostRuntime) -> Result<(), Fail> {
 }
 
 fn is_user(message: Option<PgWireFrontendMessage>) -> bool {
-    match message {
+    let is = match &message {
         Some(PgWireFrontendMessage::Startup(m)) => m.code == 196608 && m.parameters.len() == 1,
         _ => false,
-    }
+    };
+    let_go(message);
+    is
 }
 
 fn is_bind(message: Option<PgWireFrontendMessage>) -> bool {
-    match message {
+    let is = match &message {
         Some(PgWireFrontendMessage::Bind(m)) => {
             m.portal_name.as_str() == "a" && m.parameters.len() == 1
         }
         _ => false,
-    }
+    };
+    let_go(message);
+    is
+}
+
+// Drops the message.
+fn let_go(_message: Option<PgWireFrontendMessage>) {}
+
+// Puts ReadyForQuery in a transaction behind the bytes.
+fn put_ready(dst: &mut BytesMut) -> Result<(), AllocError> {
+    let status = TransactionStatus::Idle.to_in_transaction_state();
+    let reply = PgWireBackendMessage::ReadyForQuery(ReadyForQuery { status });
+    PgWireMessageServerCodec::new().encode(&reply, dst)
 }
 
 #[test]
 fn a_reply(rt: HostRuntime) -> Result<(), Fail> {
-    let status = TransactionStatus::Idle.to_in_transaction_state();
-    let reply = PgWireBackendMessage::ReadyForQuery(ReadyForQuery { status });
     let mut dst = BytesMut::new(rt.alloc());
-    PgWireMessageServerCodec::new().encode(&reply, &mut dst)?;
-    assert_eq!(rt; dst.as_slice(), b"Z\0\0\0\x05T".as_slice());
+    put_ready(&mut dst)?;
+    assert!(rt; dst.as_slice() == b"Z\0\0\0\x05T".as_slice());
     Ok(())
 }
