@@ -30,11 +30,16 @@ fn is_pair(list: PgList<i16>) -> bool {
     is && PgList::from_vec(list.into_vec()).len() == 2
 }
 
+fn are_target_bytes(statement: u8, portal: u8) -> bool {
+    statement == b'S' && portal == b'P'
+}
+
 #[test]
 fn t_lists(rt: HostRuntime) -> Result<(), Fail> {
     assert!(rt; is_text(rt.alloc())?);
     assert!(rt; are_bytes(rt.alloc())?);
     assert!(rt; is_pair(both_formats(rt.alloc())?));
+    assert!(rt; are_target_bytes(TARGET_TYPE_BYTE_STATEMENT, TARGET_TYPE_BYTE_PORTAL));
     Ok(())
 }
 
