@@ -80,14 +80,23 @@ fn time_replies(
     kind: &str,
     parts: &[&str],
 ) -> io::Result<()> {
-    let Some(reply) = reply_of(rt.alloc(), kind, parts)? else {
-        return Ok(());
-    };
-    if !is_encodable(&reply) {
+    match reply_of(rt.alloc(), kind, parts)? {
+        Some(reply) => time_reply(rt, count, name, &reply),
+        None => Ok(()),
+    }
+}
+
+fn time_reply(
+    rt: &HostRuntime,
+    count: u32,
+    name: &str,
+    reply: &PgWireBackendMessage,
+) -> io::Result<()> {
+    if !is_encodable(reply) {
         return Ok(());
     }
     let start = Instant::now(rt)?;
-    encoded(rt.alloc(), count, &reply)?;
+    encoded(rt.alloc(), count, reply)?;
     let nanoseconds = start.elapsed(rt)?.as_nanos();
     println!(rt;
         "encode {name}: {} ns",
