@@ -140,12 +140,14 @@ fn show_answer(
     rt: &HostRuntime,
     answer: Result<Option<PgWireFrontendMessage>, FrameError>,
 ) -> io::Result<()> {
-    match answer {
-        Ok(Some(message)) => show_message(rt, &message),
+    let shown = match &answer {
+        Ok(Some(message)) => show_message(rt, message),
         Ok(None) => print!(rt; "unfinished"),
         Err(FrameError::Bad) => print!(rt; "bad"),
         Err(FrameError::NoMemory) => print!(rt; "no memory"),
-    }
+    };
+    let_go(answer);
+    shown
 }
 
 /// Prints what the codec makes of the reply of these words.
