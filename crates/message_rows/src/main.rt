@@ -14,7 +14,9 @@ mod times;
 
 use bytes::{BufMut, BytesMut};
 use parts::bytes_of;
-use pg_messages::{FrameError, PgWireFrontendMessage, PgWireMessageServerCodec};
+use pg_messages::{
+    FrameError, PgWireBackendMessage, PgWireFrontendMessage, PgWireMessageServerCodec,
+};
 use replies::reply_of;
 use sendable::is_encodable;
 use show::{show_bytes, show_message};
@@ -23,16 +25,30 @@ use std::{env, io};
 use times::time_rows;
 
 fn main(rt: HostRuntime) -> io::Result<()> {
+    let count = times_asked(&rt)?;
     let text = io::read_to_string(rt.alloc(), rt.reader())?;
-    let mut words = env::args(&rt)?;
-    let _program = words.next();
-    if let Some(word) = words.next() {
-        let count = word.as_str().parse::<u32>().unwrap_or(1);
-        return time_rows(&rt, count, text.as_str());
+    match count {
+        Some(count) => time_rows(&rt, count, text.as_str()),
+        None => answer_rows(&rt, text.as_str()),
     }
-    for line in text.as_str().lines() {
+}
+
+/// The number that the first argument is.
+fn times_asked(rt: &HostRuntime) -> io::Result<Option<u32>> {
+    let mut words = env::args(rt)?;
+    let _program = words.next();
+    Ok(
+        words
+            .next()
+            .map(|word| word.as_str().parse::<u32>().unwrap_or(1)),
+    )
+}
+
+/// Prints what the codec makes of each row.
+fn answer_rows(rt: &HostRuntime, rows: &str) -> io::Result<()> {
+    for line in rows.lines() {
         match line.split_once(": ") {
-            Some((name, row)) => answer_row(&rt, name, row)?,
+            Some((name, row)) => answer_row(rt, name, row)?,
             None => println!(rt; "{line}")?,
         }
     }
@@ -65,13 +81,22 @@ fn answer_frame(rt: &HostRuntime, awaiting: bool, parts: &[&str]) -> io::Result<
     let Some(bytes) = bytes_of(rt.alloc(), parts)? else {
         return println!(rt; "not of the form");
     };
-    let all = bytes.as_slice();
-    let count = answered_at(rt.alloc(), awaiting, all)?;
-    let (front, _) = all.split_at(count.min(all.len()));
+    show_one_by_one(rt, awaiting, bytes.as_slice())?;
+    show_at_once(rt, awaiting, bytes.as_slice())
+}
+
+/// Prints the first answer that isn't None while the bytes come one by one, and how many had come.
+fn show_one_by_one(rt: &HostRuntime, awaiting: bool, bytes: &[u8]) -> io::Result<()> {
+    let count = answered_at(rt.alloc(), awaiting, bytes)?;
+    let (front, _) = bytes.split_at(count.min(bytes.len()));
     let mut src = BytesMut::copy_from_slice(rt.alloc(), front)?;
     show_answer(rt, codec_at(awaiting).decode(rt.alloc(), &mut src))?;
-    print!(rt; " at {count}")?;
-    let mut src = BytesMut::copy_from_slice(rt.alloc(), all)?;
+    print!(rt; " at {count}")
+}
+
+/// Prints whether all the bytes give a frame, and how many are left.
+fn show_at_once(rt: &HostRuntime, awaiting: bool, bytes: &[u8]) -> io::Result<()> {
+    let mut src = BytesMut::copy_from_slice(rt.alloc(), bytes)?;
     let kind = is_frame(codec_at(awaiting).decode(rt.alloc(), &mut src));
     println!(rt; ", at once {kind} with {} left", src.len())
 }
@@ -97,35 +122,49 @@ fn answered_at(alloc: Global, awaiting: bool, bytes: &[u8]) -> Result<usize, All
 }
 
 fn is_none(answer: Result<Option<PgWireFrontendMessage>, FrameError>) -> bool {
-    matches!(answer, Ok(None))
+    let is = matches!(answer, Ok(None));
+    let_go(answer);
+    is
 }
 
 fn is_frame(answer: Result<Option<PgWireFrontendMessage>, FrameError>) -> bool {
-    matches!(answer, Ok(Some(_)))
+    let is = matches!(answer, Ok(Some(_)));
+    let_go(answer);
+    is
 }
+
+/// Drops the answer.
+fn let_go(_answer: Result<Option<PgWireFrontendMessage>, FrameError>) {}
 
 fn show_answer(
     rt: &HostRuntime,
     answer: Result<Option<PgWireFrontendMessage>, FrameError>,
 ) -> io::Result<()> {
-    match answer {
-        Ok(Some(message)) => show_message(rt, &message),
+    let shown = match &answer {
+        Ok(Some(message)) => show_message(rt, message),
         Ok(None) => print!(rt; "unfinished"),
         Err(FrameError::Bad) => print!(rt; "bad"),
         Err(FrameError::NoMemory) => print!(rt; "no memory"),
+    };
+    let_go(answer);
+    shown
+}
+
+/// Prints what the codec makes of the reply of these words.
+fn answer_reply(rt: &HostRuntime, kind: &str, parts: &[&str]) -> io::Result<()> {
+    match reply_of(rt.alloc(), kind, parts)? {
+        Some(reply) => show_reply(rt, &reply),
+        None => println!(rt; "not of the form"),
     }
 }
 
 /// Prints the bytes of a reply behind one that is there already.
-fn answer_reply(rt: &HostRuntime, kind: &str, parts: &[&str]) -> io::Result<()> {
-    let Some(reply) = reply_of(rt.alloc(), kind, parts)? else {
-        return println!(rt; "not of the form");
-    };
-    if !is_encodable(&reply) {
+fn show_reply(rt: &HostRuntime, reply: &PgWireBackendMessage) -> io::Result<()> {
+    if !is_encodable(reply) {
         return println!(rt; "body {}, cannot be sent", reply.body_len());
     }
     let mut dst = BytesMut::copy_from_slice(rt.alloc(), b"<")?;
-    PgWireMessageServerCodec::new().encode(&reply, &mut dst)?;
+    PgWireMessageServerCodec::new().encode(reply, &mut dst)?;
     print!(rt; "body {},", reply.body_len())?;
     show_bytes(rt, dst.as_slice())?;
     println!(rt;)

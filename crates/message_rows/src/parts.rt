@@ -34,22 +34,12 @@ pub fn times_and_part(word: &str) -> (u32, &str) {
 /// Appends the bytes of a part; false where it is not of the form.
 fn put_part(alloc: Global, part: &str, bytes: &mut Vec<u8>) -> Result<bool, AllocError> {
     if let Some(text) = part.strip_prefix("'") {
-        for byte in text.as_bytes() {
-            bytes.push(if *byte == b'_' { b' ' } else { *byte })?;
-        }
-        return Ok(true);
+        return put_text(text, bytes);
     }
     if let Some(digits) = part.strip_prefix("x") {
-        let Ok(given) = hex::decode(alloc, digits) else {
-            return Ok(false);
-        };
-        bytes.extend_from_slice(given.as_slice())?;
-        return Ok(true);
+        return put_hex(alloc, digits, bytes);
     }
-    if let Some(number) = part.strip_prefix("h:") {
-        let Ok(number) = number.parse::<i16>() else {
-            return Ok(false);
-        };
+    if let Some(Ok(number)) = part.strip_prefix("h:").map(|n| n.parse::<i16>()) {
         bytes.extend_from_slice(&number.to_be_bytes())?;
         return Ok(true);
     }
@@ -57,6 +47,23 @@ fn put_part(alloc: Global, part: &str, bytes: &mut Vec<u8>) -> Result<bool, Allo
         return Ok(false);
     };
     bytes.extend_from_slice(&number.to_be_bytes())?;
+    Ok(true)
+}
+
+/// Appends the text, a space for each `_`.
+fn put_text(text: &str, bytes: &mut Vec<u8>) -> Result<bool, AllocError> {
+    for byte in text.as_bytes() {
+        bytes.push(if *byte == b'_' { b' ' } else { *byte })?;
+    }
+    Ok(true)
+}
+
+/// Appends the bytes of the digits; false where these are none.
+fn put_hex(alloc: Global, digits: &str, bytes: &mut Vec<u8>) -> Result<bool, AllocError> {
+    let Ok(given) = hex::decode(alloc, digits) else {
+        return Ok(false);
+    };
+    bytes.extend_from_slice(given.as_slice())?;
     Ok(true)
 }
 

@@ -5,8 +5,9 @@ use pg_messages::{
     AuthenticationOk, BackendKeyData, BindComplete, CloseComplete, CommandComplete,
     CopyBothResponse, CopyData, CopyDone, CopyInResponse, CopyOutResponse, DataRow,
     EmptyQueryResponse, ErrorInfo, ErrorResponse, FieldDescription, GssEncResponse, NoData,
-    ParameterDescription, ParameterStatus, ParseComplete, PgBytes, PgList, PgWireBackendMessage,
-    PortalSuspended, ReadyForQuery, RowDescription, SslResponse, TransactionStatus,
+    ParameterDescription, ParameterStatus, ParseComplete, PgBytes, PgList, PgStr,
+    PgWireBackendMessage, PortalSuspended, ReadyForQuery, RowDescription, SslResponse,
+    TransactionStatus,
 };
 use std::alloc::{AllocError, Global};
 
@@ -139,27 +140,56 @@ fn field_of(alloc: Global, part: &str) -> Result<Option<FieldDescription>, Alloc
     let Some((name, numbers)) = part.split_once(",") else {
         return Ok(None);
     };
+    let Some((ids, rest)) = ids_in(numbers) else {
+        return Ok(None);
+    };
+    let Some(form) = form_in(rest) else {
+        return Ok(None);
+    };
     let Some(name) = text_of(alloc, name)? else {
         return Ok(None);
     };
-    Ok(field_with(name, numbers))
+    Ok(Some(field_with(name, ids, form)))
 }
 
-fn field_with(name: pg_messages::PgStr, numbers: &str) -> Option<FieldDescription> {
+/// The table, the column and the type of a column.
+type Ids = (i32, i16, u32);
+
+/// The size and the modifier of a column's type, and the format of its values.
+type Form = (i16, i32, i16);
+
+/// The first three numbers behind a column's name, and the text of the others.
+fn ids_in(numbers: &str) -> Option<(Ids, &str)> {
     let (table_id, rest) = numbers.split_once(",")?;
     let (column_id, rest) = rest.split_once(",")?;
     let (type_id, rest) = rest.split_once(",")?;
-    let (type_size, rest) = rest.split_once(",")?;
+    let table_id = table_id.parse::<i32>().ok()?;
+    let column_id = column_id.parse::<i16>().ok()?;
+    let type_id = type_id.parse::<u32>().ok()?;
+    Some(((table_id, column_id, type_id), rest))
+}
+
+fn form_in(numbers: &str) -> Option<Form> {
+    let (type_size, rest) = numbers.split_once(",")?;
     let (type_modifier, format_code) = rest.split_once(",")?;
-    Some(FieldDescription {
+    let type_size = type_size.parse::<i16>().ok()?;
+    let type_modifier = type_modifier.parse::<i32>().ok()?;
+    let format_code = format_code.parse::<i16>().ok()?;
+    Some((type_size, type_modifier, format_code))
+}
+
+fn field_with(name: PgStr, ids: Ids, form: Form) -> FieldDescription {
+    let (table_id, column_id, type_id) = ids;
+    let (type_size, type_modifier, format_code) = form;
+    FieldDescription {
         name,
-        table_id: table_id.parse::<i32>().ok()?,
-        column_id: column_id.parse::<i16>().ok()?,
-        type_id: type_id.parse::<u32>().ok()?,
-        type_size: type_size.parse::<i16>().ok()?,
-        type_modifier: type_modifier.parse::<i32>().ok()?,
-        format_code: format_code.parse::<i16>().ok()?,
-    })
+        table_id,
+        column_id,
+        type_id,
+        type_size,
+        type_modifier,
+        format_code,
+    }
 }
 
 fn row(alloc: Global, parts: &[&str]) -> Made {

@@ -1,16 +1,13 @@
 //! What a row tells of a message: its name and fields, the long ones by their ends.
 
-use pg_messages::{PgBytes, PgStr, PgWireFrontendMessage, SslNegotiationKind};
+use pg_messages::{Bind, PgBytes, PgStr, PgWireFrontendMessage, SslNegotiationKind, Startup};
 use std::fmt::Display;
 use std::io;
 
 /// Prints a message.
 pub fn show_message(rt: &HostRuntime, message: &PgWireFrontendMessage) -> io::Result<()> {
     match message {
-        PgWireFrontendMessage::Startup(m) => {
-            print!(rt; "Startup {}", m.code)?;
-            show_pairs(rt, m.parameters.as_slice())
-        }
+        PgWireFrontendMessage::Startup(m) => show_startup(rt, m),
         PgWireFrontendMessage::SslNegotiation(SslNegotiationKind::PostgresSsl) => {
             print!(rt; "SslNegotiation PostgresSsl")
         }
@@ -39,28 +36,35 @@ fn show_extended(rt: &HostRuntime, message: &PgWireFrontendMessage) -> io::Resul
             show_texts(rt, "Parse", &[&m.name, &m.query])?;
             show_items(rt, m.type_oids.as_slice())
         }
-        PgWireFrontendMessage::Bind(m) => {
-            show_texts(rt, "Bind", &[&m.portal_name, &m.statement_name])?;
-            show_items(rt, m.parameter_format_codes.as_slice())?;
-            show_values(rt, m.parameters.as_slice())?;
-            show_items(rt, m.result_column_format_codes.as_slice())
-        }
-        PgWireFrontendMessage::Describe(m) => {
-            print!(rt; "Describe {}", m.target_type)?;
-            show_text(rt, m.name.as_str())
-        }
+        PgWireFrontendMessage::Bind(m) => show_bind(rt, m),
+        PgWireFrontendMessage::Describe(m) => show_target(rt, "Describe", m.target_type, &m.name),
         PgWireFrontendMessage::Execute(m) => {
             show_texts(rt, "Execute", &[&m.name])?;
             print!(rt; " {}", m.max_rows)
         }
-        PgWireFrontendMessage::Close(m) => {
-            print!(rt; "Close {}", m.target_type)?;
-            show_text(rt, m.name.as_str())
-        }
+        PgWireFrontendMessage::Close(m) => show_target(rt, "Close", m.target_type, &m.name),
         PgWireFrontendMessage::Flush(_) => print!(rt; "Flush"),
         PgWireFrontendMessage::PgSync(_) => print!(rt; "PgSync"),
         _ => print!(rt; "not an extended query"),
     }
+}
+
+fn show_startup(rt: &HostRuntime, startup: &Startup) -> io::Result<()> {
+    print!(rt; "Startup {}", startup.code)?;
+    show_pairs(rt, startup.parameters.as_slice())
+}
+
+fn show_bind(rt: &HostRuntime, bind: &Bind) -> io::Result<()> {
+    show_texts(rt, "Bind", &[&bind.portal_name, &bind.statement_name])?;
+    show_items(rt, bind.parameter_format_codes.as_slice())?;
+    show_values(rt, bind.parameters.as_slice())?;
+    show_items(rt, bind.result_column_format_codes.as_slice())
+}
+
+/// Prints what a Describe or a Close is of.
+fn show_target(rt: &HostRuntime, kind: &str, target_type: u8, name: &PgStr) -> io::Result<()> {
+    print!(rt; "{kind} {target_type}")?;
+    show_text(rt, name.as_str())
 }
 
 fn show_texts(rt: &HostRuntime, kind: &str, texts: &[&PgStr]) -> io::Result<()> {

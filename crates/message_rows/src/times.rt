@@ -43,13 +43,29 @@ fn time_frames(
     awaiting: bool,
     parts: &[&str],
 ) -> io::Result<()> {
-    let Some(bytes) = bytes_of(rt.alloc(), parts)? else {
-        return Ok(());
-    };
-    let mut src = BytesMut::new(rt.alloc());
-    for _ in 0..count {
-        src.extend_from_slice(bytes.as_slice())?;
+    match bytes_of(rt.alloc(), parts)? {
+        Some(bytes) => time_frame(rt, count, name, awaiting, bytes.as_slice()),
+        None => Ok(()),
     }
+}
+
+/// The bytes so many times.
+fn repeated(alloc: Global, count: u32, bytes: &[u8]) -> Result<BytesMut, AllocError> {
+    let mut src = BytesMut::new(alloc);
+    for _ in 0..count {
+        src.extend_from_slice(bytes)?;
+    }
+    Ok(src)
+}
+
+fn time_frame(
+    rt: &HostRuntime,
+    count: u32,
+    name: &str,
+    awaiting: bool,
+    bytes: &[u8],
+) -> io::Result<()> {
+    let mut src = repeated(rt.alloc(), count, bytes)?;
     let start = Instant::now(rt)?;
     let found = decoded(rt.alloc(), awaiting, count, &mut src);
     let nanoseconds = start.elapsed(rt)?.as_nanos();
@@ -80,14 +96,23 @@ fn time_replies(
     kind: &str,
     parts: &[&str],
 ) -> io::Result<()> {
-    let Some(reply) = reply_of(rt.alloc(), kind, parts)? else {
-        return Ok(());
-    };
-    if !is_encodable(&reply) {
+    match reply_of(rt.alloc(), kind, parts)? {
+        Some(reply) => time_reply(rt, count, name, &reply),
+        None => Ok(()),
+    }
+}
+
+fn time_reply(
+    rt: &HostRuntime,
+    count: u32,
+    name: &str,
+    reply: &PgWireBackendMessage,
+) -> io::Result<()> {
+    if !is_encodable(reply) {
         return Ok(());
     }
     let start = Instant::now(rt)?;
-    encoded(rt.alloc(), count, &reply)?;
+    encoded(rt.alloc(), count, reply)?;
     let nanoseconds = start.elapsed(rt)?.as_nanos();
     println!(rt;
         "encode {name}: {} ns",
