@@ -1,4 +1,4 @@
-ghost use Rattle.std.specs.Prelude.{◌≡◌, ◌++◌, [], length, IfOk, OnOk, OnErr};
+ghost use Rattle.std.specs.Prelude.{◌≡◌, ◌≤◌, ◌++◌, [], length, IfOk, OnOk, OnErr};
 ghost use Rattle.pg_messages.specs.Replies.{IsEncodable, reply_bytes};
 
 use bytes::BytesMut;
@@ -23,13 +23,21 @@ impl Model for Outbox {
 /// As many bytes are sent at once, where there are so many.
 pub(crate) const CHUNK: usize = 65536;
 
+/// An empty buffer with room for 65,536 bytes.
+fn buffer_of_a_chunk(alloc: Global) -> Result<BytesMut, AllocError>
+    ensures empty { IfOk result (λ buffer. buffer.items ≡ []) }
+    ensures room { IfOk result (λ buffer. 65536 ≤ buffer.spare) }
+{
+    BytesMut::with_capacity(alloc, CHUNK)
+}
+
 impl Outbox {
     /// An empty outbox with room for 65,536 bytes.
     pub fn new(alloc: Global) -> Result<Outbox, AllocError>
         ensures { IfOk result (λ outbox. outbox ≡ []) }
     {
         Ok(Outbox {
-            bytes: BytesMut::with_capacity(alloc, CHUNK)?,
+            bytes: buffer_of_a_chunk(alloc)?,
         })
     }
 
