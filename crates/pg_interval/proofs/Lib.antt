@@ -1,3 +1,4 @@
+pub mod AsciiTexts
 pub mod CellLemmas
 pub mod DecimalsLemmas
 pub mod DigitTexts
@@ -16,6 +17,7 @@ mod TextsRead
 pub mod TimeTexts
 pub mod VerboseReads
 pub mod VerboseTexts
+pub mod Widths
 mod ReadFields
 mod ReadItems
 mod ReadNumbers

@@ -1,11 +1,12 @@
 -- What the words of a printed text are in each case.
-use Rattle.std.proofs.Common.{◌≡◌, ◌≢◌, ℕ, zero, suc, ℤ, pos, negsuc, ◌<◌, ◌≤◌, ◌+◌, ◌^◌, Bool, true, false, not, cond, ◌&&◌, ◌||◌, ◌↔◌, List, [], ◌∷◌, ◌++◌, length, ap, ◌∙◌, sym, refl, arith, lit<, map, subst, inl, inr, ◌⊎◌, ◌<ℤ◌, get_or, FitsSigned, w32, w64, to_z, of_z}
+use Rattle.std.proofs.Common.{◌≡◌, ◌≢◌, ℕ, zero, suc, ℤ, pos, negsuc, ◌<◌, ◌≤◌, ◌+◌, ◌^◌, Bool, true, false, not, cond, ◌&&◌, ◌||◌, ◌↔◌, List, [], ◌∷◌, ◌++◌, length, drop, length-drop, ap, ◌∙◌, sym, refl, arith, lit<, map, subst, inl, inr, ◌⊎◌, ◌<ℤ◌, get_or, FitsSigned, w32, w64, to_z, of_z}
 use Rattle.std.specs.Int.Signed.{mag}
 use mathlib.Core.List.{append_assoc, append-nil, map-append}
 use Rattle.std.proofs.lemmas.Grind.{flat_map-append}
-use Rattle.std.specs.Prelude.{unsigned_abs, decimal, codes, bytes_eq, flat_map, IsTrue, All, Any, nat_eq, if◌then◌else◌}
+use Rattle.std.specs.Prelude.{unsigned_abs, decimal, codes, bytes_eq, IsTrue, All, Any, nat_eq, if◌then◌else◌}
 use Rattle.std.specs.List.{join_with_byte}
 use Rattle.std.proofs.lemmas.Int.{to_z-of_z, ints}
+use Rattle.std.proofs.lemmas.List.{drop_all}
 use Rattle.std.proofs.lemmas.List.Elements.{All-cons, All-nil}
 use Rattle.std.specs.Int.{is_positive, is_negative}
 use Rattle.std.proofs.lemmas.Fmt.{decimal_injective}
@@ -13,7 +14,7 @@ use Rattle.std.proofs.lemmas.Slice.Eq.{bytes_eq-Decides}
 use Rattle.std.proofs.Math.Bool.{and-false}
 use Rattle.std.specs.Fmt.{digits}
 use Rattle.pg_interval.specs.NormalForm.{all_fields, time_fields}
-use Rattle.pg_interval.specs.Printed.{is_zero, is_all_zero, is_time_zero, is_year_month_zero, minus_if, digits_of, with_space, spaced, word_end, part_of, part_text, own_text, Part, time_texts, after_hours, two_digits, date_parts, postgres_text, verbose_time_parts, verbose_part_text, second_parts, is_second_zero, is_second_negative, is_ago, is_time_positive, is_time_negative}
+use Rattle.pg_interval.specs.Printed.{is_zero, is_all_zero, is_time_zero, is_year_month_zero, minus_if, digits_of, joined_before, space_before, word_end, part_of, part_text, own_text, Part, time_texts, after_hours, two_digits, date_parts, postgres_text, verbose_time_parts, second_parts, is_second_zero, is_second_negative, is_ago, is_time_positive, is_time_negative}
 use Rattle.pg_interval.specs.declared.interval_norm.IntervalNorm.{IntervalNorm}
 
 pub ruleset signed_passed = (to_z-of_z, append_assoc, append-nil)
@@ -197,30 +198,31 @@ pub ruleset word_ends = (word_end_minus, word_end_one, word_end_many, append-nil
 
 -- ---- parts in a row
 
-pub spaced-append : (text : List ℕ) (ps qs : List (List ℕ)) → spaced text (ps ++ qs) ≡ spaced (spaced text ps) qs
-spaced-append text [] qs = refl
-spaced-append text (p ∷ ps) qs = spaced-append (with_space text ++ p) ps qs
+space_some : (text : List ℕ) → 0 < length text → space_before text ≡ 32 ∷ text
+space_some [] h = absurd (omega arith)
+space_some (c ∷ cs) h = refl
 
-join_merge : (a b : List ℕ) (ps : List (List ℕ)) → join_with_byte 32 ((a ++ 32 ∷ b) ∷ ps) ≡ join_with_byte 32 (a ∷ b ∷ ps)
-join_merge a b [] = refl
-join_merge a b (p ∷ ps) = simp append_assoc
+-- a space is put where something stands behind it
+pub space_put_some : (text : List ℕ) (end : ℕ) → end < length text → space_before (drop end text) ≡ 32 ∷ drop end text
+space_put_some text end h = space_some (drop end text) (omega (arith, length-drop end text))
 
--- a text before the parts stays in front, where it isn't empty
-spaced_after : (c : ℕ) (cs : List ℕ) (ps : List (List ℕ)) → spaced (c ∷ cs) ps ≡ join_with_byte 32 ((c ∷ cs) ∷ ps)
-spaced_after c cs [] = refl
-spaced_after c cs (p ∷ ps) =
-    spaced_after c ((cs ++ 32 ∷ []) ++ p) ps
-    ∙ ap (λ t. join_with_byte 32 ((c ∷ t) ∷ ps)) (append_assoc cs (32 ∷ []) p)
-    ∙ join_merge (c ∷ cs) p ps
+pub space_put_none : (text : List ℕ) (end : ℕ) → length text ≤ end → space_before (drop end text) ≡ drop end text
+space_put_none text end h = rw (drop_all end text h) refl
+
+pub ruleset space_put = (space_put_some, space_put_none)
+
+pub joined_before-append : (ps qs : List (List ℕ)) (text : List ℕ) → joined_before (ps ++ qs) text ≡ joined_before ps (joined_before qs text)
+joined_before-append [] qs text = refl
+joined_before-append (p ∷ ps) qs text = ap (λ t. p ++ space_before t) (joined_before-append ps qs text)
 
 IsFilled : List ℕ → Type 0
 IsFilled [] = ⊥
 IsFilled (c ∷ cs) = Unit {0}
 
--- the first part, if there is one, isn't empty
-BeginsFilled : List (List ℕ) → Type 0
-BeginsFilled [] = Unit {0}
-BeginsFilled (p ∷ ps) = IsFilled p
+-- no part is empty
+AreFilled : List (List ℕ) → Type 0
+AreFilled [] = Unit {0}
+AreFilled (p ∷ ps) = IsFilled p × AreFilled ps
 
 filled_left : (a b : List ℕ) → IsFilled a → IsFilled (a ++ b)
 unfolding IsFilled
@@ -232,51 +234,61 @@ unfolding IsFilled
 filled_right [] b h = h
 filled_right (c ∷ cs) b h = tt
 
-begins_filled : (ps qs : List (List ℕ)) → BeginsFilled ps → BeginsFilled qs → BeginsFilled (ps ++ qs)
-unfolding BeginsFilled
-begins_filled [] qs h k = k
-begins_filled (p ∷ ps) qs h k = h
+are_filled : (ps qs : List (List ℕ)) → AreFilled ps → AreFilled qs → AreFilled (ps ++ qs)
+unfolding AreFilled
+are_filled [] qs h k = k
+are_filled (p ∷ ps) qs h k = (h.0, are_filled ps qs h.1 k)
 
-spaced_filled : (ps : List (List ℕ)) → BeginsFilled ps → spaced [] ps ≡ join_with_byte 32 ps
-unfolding BeginsFilled IsFilled
-spaced_filled [] h = refl
-spaced_filled ([] ∷ ps) h = elim h [ ]
-spaced_filled ((c ∷ cs) ∷ ps) h = spaced_after c cs ps
+space_filled : (text : List ℕ) → IsFilled text → space_before text ≡ 32 ∷ text
+unfolding IsFilled
+space_filled [] h = elim h [ ]
+space_filled (c ∷ cs) h = refl
 
-part_filled : (z : ℤ) (name : List ℕ) → BeginsFilled (map own_text (part_of z name))
-unfolding BeginsFilled IsFilled part_of part_text
-part_filled z name = elim (is_zero z) as (λ b. BeginsFilled (map own_text (if b then [] else record { negative = is_negative z; digits = digits_of z; word = name } ∷ []))) [
+join_filled : (p : List ℕ) (ps : List (List ℕ)) → IsFilled p → IsFilled (join_with_byte 32 (p ∷ ps))
+join_filled p [] h = h
+join_filled p (q ∷ ps) h = filled_left p (32 ∷ join_with_byte 32 (q ∷ ps)) h
+
+joined_filled : (ps : List (List ℕ)) → AreFilled ps → joined_before ps [] ≡ join_with_byte 32 ps
+unfolding AreFilled
+joined_filled [] h = refl
+joined_filled (p ∷ []) h = append-nil p
+joined_filled (p ∷ q ∷ ps) h = ap (λ t. p ++ space_before t) (joined_filled (q ∷ ps) h.1) ∙ ap (λ t. p ++ t) (space_filled (join_with_byte 32 (q ∷ ps)) (join_filled q ps h.1.0))
+
+part_filled : (z : ℤ) (name : List ℕ) → AreFilled (map own_text (part_of z name))
+unfolding AreFilled part_of part_text
+part_filled z name = elim (is_zero z) as (λ b. AreFilled (map own_text (if b then [] else record { negative = is_negative z; digits = digits_of z; word = name } ∷ []))) [
   | true ↦ tt
-  | false ↦ filled_left _ (word_end _) (filled_right (minus_if (is_negative z) ++ digits_of z) (32 ∷ name) tt)
+  | false ↦ (filled_left _ (word_end _) (filled_right (minus_if (is_negative z) ++ digits_of z) (32 ∷ name) (unfold IsFilled in tt)), tt)
 ]
 
-time_filled : (n : IntervalNorm) → BeginsFilled (time_texts n)
-unfolding BeginsFilled IsFilled time_texts after_hours
-time_filled n = elim (is_time_zero n) as (λ b. BeginsFilled (if b then [] else (minus_if (is_time_negative n) ++ two_digits n.hours ++ after_hours n) ∷ [])) [
+time_filled : (n : IntervalNorm) → AreFilled (time_texts n)
+unfolding AreFilled time_texts after_hours
+time_filled n = elim (is_time_zero n) as (λ b. AreFilled (if b then [] else (minus_if (is_time_negative n) ++ two_digits n.hours ++ after_hours n) ∷ [])) [
   | true ↦ tt
-  | false ↦ filled_right (minus_if (is_time_negative n) ++ two_digits n.hours) (after_hours n) tt
+  | false ↦ (filled_right (minus_if (is_time_negative n) ++ two_digits n.hours) (after_hours n) (unfold IsFilled in tt), tt)
 ]
 
 map_three : (ps qs rs : List Part) → map own_text (ps ++ qs ++ rs) ≡ map own_text ps ++ map own_text qs ++ map own_text rs
 map_three ps qs rs = simp map-append
 
 -- the parts of a text, one behind another
-pub parts_joined : (n : IntervalNorm) → spaced (spaced (spaced (spaced [] (map own_text (part_of n.years (codes "year")))) (map own_text (part_of n.months (codes "mon")))) (map own_text (part_of n.days (codes "day")))) (time_texts n) ≡ join_with_byte 32 (map own_text (date_parts n) ++ time_texts n)
+parts_joined : (n : IntervalNorm) → joined_before (map own_text (part_of n.years (codes "year"))) (joined_before (map own_text (part_of n.months (codes "mon"))) (joined_before (map own_text (part_of n.days (codes "day"))) (joined_before (time_texts n) []))) ≡ join_with_byte 32 (map own_text (date_parts n) ++ time_texts n)
 unfolding date_parts
 parts_joined n =
     let y : List (List ℕ) = map own_text (part_of n.years (codes "year")) in
     let m : List (List ℕ) = map own_text (part_of n.months (codes "mon")) in
     let d : List (List ℕ) = map own_text (part_of n.days (codes "day")) in
-    let filled : BeginsFilled (((y ++ m) ++ d) ++ time_texts n) = begins_filled ((y ++ m) ++ d) (time_texts n) (begins_filled (y ++ m) d (begins_filled y m (part_filled n.years (codes "year")) (part_filled n.months (codes "mon"))) (part_filled n.days (codes "day"))) (time_filled n) in
-    sym (spaced-append [] ((y ++ m) ++ d) (time_texts n) ∙ ap (λ t. spaced t (time_texts n)) (spaced-append [] (y ++ m) d ∙ ap (λ t. spaced t d) (spaced-append [] y m)))
-    ∙ spaced_filled (((y ++ m) ++ d) ++ time_texts n) filled
-    ∙ ap (λ ps. join_with_byte 32 (ps ++ time_texts n)) (sym (map_three (part_of n.years (codes "year")) (part_of n.months (codes "mon")) (part_of n.days (codes "day"))))
+    let t : List (List ℕ) = time_texts n in
+    let filled : AreFilled (((y ++ m) ++ d) ++ t) = are_filled ((y ++ m) ++ d) t (are_filled (y ++ m) d (are_filled y m (part_filled n.years (codes "year")) (part_filled n.months (codes "mon"))) (part_filled n.days (codes "day"))) (time_filled n) in
+    sym (joined_before-append ((y ++ m) ++ d) t [] ∙ joined_before-append (y ++ m) d (joined_before t []) ∙ joined_before-append y m (joined_before d (joined_before t [])))
+    ∙ joined_filled (((y ++ m) ++ d) ++ t) filled
+    ∙ ap (λ ps. join_with_byte 32 (ps ++ t)) (sym (map_three (part_of n.years (codes "year")) (part_of n.months (codes "mon")) (part_of n.days (codes "day"))))
 
--- what one part after another leaves
-pub postgres_printed : (n : IntervalNorm) (t0 t1 t2 t3 t4 : List ℕ) (y m d : ℤ) → y ≡ n.years → m ≡ n.months → d ≡ n.days → is_all_zero n ≡ false → t0 ≡ [] → t1 ≡ spaced t0 (map own_text (part_of y (codes "year"))) → t2 ≡ spaced t1 (map own_text (part_of m (codes "mon"))) → t3 ≡ spaced t2 (map own_text (part_of d (codes "day"))) → t4 ≡ spaced t3 (time_texts n) → t4 ≡ postgres_text n
+-- what one part in front of another leaves
+pub postgres_printed : (n : IntervalNorm) (rest t0 t1 t2 t3 : List ℕ) (y m d : ℤ) → y ≡ n.years → m ≡ n.months → d ≡ n.days → is_all_zero n ≡ false → rest ≡ [] → t0 ≡ joined_before (time_texts n) rest → t1 ≡ joined_before (map own_text (part_of d (codes "day"))) t0 → t2 ≡ joined_before (map own_text (part_of m (codes "mon"))) t1 → t3 ≡ joined_before (map own_text (part_of y (codes "year"))) t2 → t3 ≡ postgres_text n ++ rest
 unfolding postgres_text
-postgres_printed n t0 t1 t2 t3 t4 y m d ey em ed some e0 e1 e2 e3 e4 =
-    rw (e4, e3, e2, e1, e0, ey, em, ed, some) (parts_joined n)
+postgres_printed n rest t0 t1 t2 t3 y m d ey em ed some none e0 e1 e2 e3 =
+    rw (e3, e2, e1, e0, ey, em, ed, some, none) (parts_joined n ∙ sym (append-nil (join_with_byte 32 (map own_text (date_parts n) ++ time_texts n))))
 
 not_negative : (z : ℤ) → is_zero z ≡ true → is_negative z ≡ false
 not_negative z h = ap is_negative (zero_is_zero z h)
@@ -293,17 +305,11 @@ seconds_ago n hours minutes = rw (is_zero_yes n.hours hours, is_zero_yes n.minut
 
 pub ruleset second_words = (word_end_point, signed_passed)
 
-pub ruleset spaced_joined = (parts_joined)
-
-pub ruleset verbose_joined = (append_assoc)
+pub ruleset parts_put = (flat_map-append, append_assoc, append-nil, to_z-of_z)
 
 -- an i32 fits an i64
 pub fits_wider : (z : ℤ) → FitsSigned w32 z → FitsSigned w64 z
 fits_wider z h = let small : mag z < 2 ^ 31 = h.sfits in record { sfits = omega arith }
-
-pub dates_printed : (ago : Bool) (n : IntervalNorm) (t0 t1 t2 t3 : List ℕ) (y m d : ℤ) → t1 ≡ t0 ++ flat_map (verbose_part_text ago) (part_of y (codes "year")) → t2 ≡ t1 ++ flat_map (verbose_part_text ago) (part_of m (codes "mon")) → t3 ≡ t2 ++ flat_map (verbose_part_text ago) (part_of d (codes "day")) → y ≡ n.years → m ≡ n.months → d ≡ n.days → t3 ≡ t0 ++ flat_map (verbose_part_text ago) (date_parts n)
-unfolding date_parts
-dates_printed ago n t0 t1 t2 t3 y m d e1 e2 e3 ey em ed = rw (e3, e2, e1, ey, em, ed) (simp (flat_map-append, append_assoc))
 
 -- an i32 as an i64
 pub widened : (z : ℤ) → FitsSigned w32 z → to_z w64 (of_z w64 (to_z w32 (of_z w32 z))) ≡ z

@@ -99,15 +99,15 @@ date_parts n = part_of n.years (codes "year") ++ part_of n.months (codes "mon") 
 unfoldable pub time_texts : IntervalNorm → List (List ℕ)
 time_texts n = if is_time_zero n then [] else (minus_if (is_time_negative n) ++ two_digits n.hours ++ after_hours n) ∷ []
 
--- a space where something stands before it
-abbrev pub with_space : List ℕ → List ℕ
-with_space [] = []
-with_space (c ∷ cs) = (c ∷ cs) ++ 32 ∷ []
+-- a space where something stands behind it
+abbrev pub space_before : List ℕ → List ℕ
+space_before [] = []
+space_before (c ∷ cs) = 32 ∷ c ∷ cs
 
--- the text, and one part after another behind it, with a space between each two
-abbrev pub spaced : List ℕ → List (List ℕ) → List ℕ
-spaced text [] = text
-spaced text (p ∷ ps) = spaced (with_space text ++ p) ps
+-- the parts one behind another in front of a text, with a space between each two
+abbrev pub joined_before : List (List ℕ) → List ℕ → List ℕ
+joined_before [] text = text
+joined_before (p ∷ ps) text = p ++ space_before (joined_before ps text)
 
 -- the parts and the time, a space between each two
 unfoldable pub postgres_text : IntervalNorm → List ℕ
@@ -116,6 +116,10 @@ postgres_text n = if is_all_zero n then codes "00:00:00" else join_with_byte 32 
 unfoldable pub without_last_zeros : List ℕ → List ℕ
 without_last_zeros [] = []
 without_last_zeros (d ∷ ds) = if list_all (λ c. c == 48) (d ∷ ds) then [] else d ∷ without_last_zeros ds
+
+-- a digit in front of others, unless it is a zero and there are none
+abbrev pub kept_digit : ℕ → Bool → List ℕ → List ℕ
+kept_digit digit first digits = if (digit == 0) && first then digits else (48 + digit) ∷ digits
 
 -- the microseconds as decimals of the seconds
 unfoldable pub decimals_of : ℤ → List ℕ

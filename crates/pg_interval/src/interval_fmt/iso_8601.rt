@@ -1,74 +1,77 @@
-ghost use Rattle.std.specs.Prelude.{◌≡◌, ◌++◌, ◌<◌, OnOk, IfOk, string_bytes};
-ghost use Rattle.pg_interval.specs.NormalForm.{IsNormal};
-ghost use Rattle.pg_interval.specs.Printed.{iso_text, iso_time_text, item_text, second_text};
+ghost use Rattle.std.specs.Prelude.{◌≡◌, ◌+◌, ◌++◌, ◌∷◌, [], ◌<◌, ◌≤◌, drop, length, unsigned_abs};
+ghost use Rattle.pg_interval.specs.Printed.{iso_text, iso_time_text, item_text, second_text, digits_of};
+ghost use Rattle.pg_interval.specs.Widths.{HasWidths};
 
-use super::{LONGEST, push_char, push_digits, push_fraction, push_minus_if};
+use super::LONGEST;
+use super::back::{put_byte, put_digits, put_fraction, put_minus_if, put_word};
 use crate::interval_norm::IntervalNorm;
-use std::alloc::{AllocError, Global};
 
-impl IntervalNorm {
-    /// The text in the style `iso_8601`: `PT0S` for zero, else `P` and each number that isn't zero with its own minus
-    /// and its letter, the time's behind a `T`.
-    #[tactic(auto, using(crate::proofs::PrintedLemmas::signed_passed), unfolding(crate::specs::Printed::iso_text))]
-    pub fn into_iso_8601(self, alloc: Global) -> Result<String, AllocError>
-        requires { IsNormal self }
-        ensures printed { IfOk result (λ text. string_bytes text ≡ iso_text self) }
-    {
-        if self.prints_zero() {
-            return String::from_str(alloc, "PT0S");
-        }
-        let mut out = String::with_capacity(alloc, LONGEST)?;
-        push_char(&mut out, 'P')?;
-        push_item(&mut out, i64::from(self.years), 'Y')?;
-        push_item(&mut out, i64::from(self.months), 'M')?;
-        push_item(&mut out, i64::from(self.days), 'D')?;
-        push_time(&mut out, &self)?;
-        Ok(out)
+/// Writes the text in the style `iso_8601`: `PT0S` for zero, else `P` and each number that isn't zero with its own
+/// minus and its letter, the time's behind a `T`.
+#[tactic(auto, using(crate::proofs::PrintedLemmas::signed_passed), unfolding(crate::specs::Printed::iso_text))]
+pub fn put_iso(fields: &IntervalNorm, text: &mut [u8; LONGEST], end: usize) -> usize
+    requires widths { HasWidths fields.now }
+    requires room { (56 ≤ end) × (end ≤ 96) }
+    ensures place { result ≤ end }
+    ensures written { drop result text.new ≡ iso_text fields.now ++ drop end text.old }
+{
+    if fields.prints_zero() {
+        return put_word(b"PT0S", text, end);
     }
+    let time = put_time(fields, text, end);
+    let days = put_item(i64::from(fields.days), b'D', text, time);
+    let months = put_item(i64::from(fields.months), b'M', text, days);
+    let years = put_item(i64::from(fields.years), b'Y', text, months);
+    put_byte(b'P', text, years)
 }
 
-/// Appends `T` and the fields of the time that aren't zero, if there are any.
+/// Writes `T` and the fields of the time that aren't zero, if there are any.
 #[tactic(auto, using(crate::proofs::PrintedLemmas::signed_passed), unfolding(crate::specs::Printed::iso_time_text))]
-fn push_time(out: &mut String, fields: &IntervalNorm) -> Result<(), AllocError>
-    ensures { OnOk result (string_bytes out.new ≡ string_bytes out.old ++ iso_time_text fields.now) }
+fn put_time(fields: &IntervalNorm, text: &mut [u8; LONGEST], end: usize) -> usize
+    requires widths { HasWidths fields.now }
+    requires room { (28 ≤ end) × (end ≤ 96) }
+    ensures place { (result ≤ end) × (end ≤ result + 28) }
+    ensures written { drop result text.new ≡ iso_time_text fields.now ++ drop end text.old }
 {
     if !fields.prints_time() {
-        return Ok(());
+        return end;
     }
-    push_char(out, 'T')?;
-    push_item(out, fields.hours, 'H')?;
-    push_item(out, fields.minutes, 'M')?;
-    push_seconds(out, fields)?;
-    Ok(())
+    let seconds = put_seconds(fields, text, end);
+    let minutes = put_item(fields.minutes, b'M', text, seconds);
+    let hours = put_item(fields.hours, b'H', text, minutes);
+    put_byte(b'T', text, hours)
 }
 
-/// Appends the number with its minus, and the letter, unless the number is zero.
+/// Writes the number with its minus, and the letter, unless the number is zero.
+#[inline(always)]
 #[tactic(auto, using(crate::proofs::PrintedLemmas::signed_passed), unfolding(crate::specs::Printed::item_text, crate::specs::Printed::is_zero))]
-fn push_item(out: &mut String, number: i64, letter: char) -> Result<(), AllocError>
-    requires { letter < 128 }
-    ensures { OnOk result (string_bytes out.new ≡ string_bytes out.old ++ item_text number letter) }
+fn put_item(number: i64, letter: u8, text: &mut [u8; LONGEST], end: usize) -> usize
+    requires { (length (digits_of number) + 2 ≤ end) × (end ≤ 96) }
+    ensures place { (result ≤ end) × (end ≤ result + length (digits_of number) + 2) }
+    ensures written { drop result text.new ≡ item_text number letter ++ drop end text.old }
 {
     let digits = number.unsigned_abs();
     if digits == 0 {
-        return Ok(());
+        return end;
     }
-    push_minus_if(out, number.is_negative())?;
-    push_digits(out, digits)?;
-    push_char(out, letter)?;
-    Ok(())
+    let before_letter = put_byte(letter, text, end);
+    let before_digits = put_digits(digits, text, before_letter);
+    put_minus_if(number.is_negative(), text, before_digits)
 }
 
-/// Appends the seconds with their microseconds, unless both are zero.
+/// Writes the seconds with their microseconds, unless both are zero.
 #[tactic(auto, using(crate::proofs::PrintedLemmas::signed_passed), unfolding(crate::specs::Printed::second_text, crate::specs::Printed::is_zero))]
-fn push_seconds(out: &mut String, fields: &IntervalNorm) -> Result<(), AllocError>
-    ensures { OnOk result (string_bytes out.new ≡ string_bytes out.old ++ second_text fields.now) }
+fn put_seconds(fields: &IntervalNorm, text: &mut [u8; LONGEST], end: usize) -> usize
+    requires widths { HasWidths fields.now }
+    requires room { (11 ≤ end) × (end ≤ 96) }
+    ensures place { (result ≤ end) × (end ≤ result + 11) }
+    ensures written { drop result text.new ≡ second_text fields.now ++ drop end text.old }
 {
     if fields.is_second_zero() {
-        return Ok(());
+        return end;
     }
-    push_minus_if(out, fields.is_second_negative())?;
-    push_digits(out, fields.seconds.unsigned_abs())?;
-    push_fraction(out, fields.microseconds)?;
-    push_char(out, 'S')?;
-    Ok(())
+    let letter = put_byte(b'S', text, end);
+    let point = put_fraction(fields.microseconds, text, letter);
+    let digits = put_digits(fields.seconds.unsigned_abs(), text, point);
+    put_minus_if(fields.is_second_negative(), text, digits)
 }

@@ -1,23 +1,81 @@
 // The four styles in which PostgreSQL prints an interval (`intervalstyle`).
-ghost use Rattle.std.specs.Prelude.{◌≡◌, ◌+◌, ◌++◌, ◌∷◌, [], ◌<◌, OnOk, IfOk, string_bytes, decimal, not};
+ghost use Rattle.std.specs.Prelude.{◌≡◌, ◌≤◌, length, IfOk, string_bytes, not};
+ghost use Rattle.std.specs.Str.{IsUtf8};
 ghost use Rattle.pg_interval.specs.Cell.{IsInterval};
 ghost use Rattle.pg_interval.specs.NormalForm.{normal_form, IsNormal};
-ghost use Rattle.pg_interval.specs.Printed.{is_all_zero, is_year_month_zero, is_zero, is_time_zero, is_time_positive, is_time_negative, is_second_zero, is_second_negative, minus_if, two_digits_of, six_digits, fraction_of, after_hours, printed, IsPrintedOnlyFor};
+ghost use Rattle.pg_interval.specs.Printed.{is_all_zero, is_year_month_zero, is_zero, is_time_zero, is_time_positive, is_time_negative, is_second_zero, is_second_negative, postgres_text, verbose_text, iso_text, sql_text, printed, IsPrintedOnlyFor};
 ghost use Rattle.pg_interval.specs.Reading.{StandsForOnly, Postgres, PostgresVerbose, Iso8601, SqlStandard};
 
+mod back;
 mod iso_8601;
+mod parts;
 mod postgres;
 mod sql;
+pub mod text;
+mod verbose;
 
 use crate::interval_norm::IntervalNorm;
 use crate::pg_interval::Interval;
-use itoa::Buffer;
+use iso_8601::put_iso;
+use postgres::put_postgres;
+use sql::put_sql;
 use std::alloc::{AllocError, Global};
+use text::IntervalText;
+use verbose::put_verbose;
 
-/// Room for the longest text of all styles, so that a text takes memory once.
+/// Room for the longest text of all styles.
 const LONGEST: usize = 96;
 
 impl Interval {
+    /// The text in the style `postgres`, as `1 year 2 mons 3 days 04:05:06.700000`. It takes no memory.
+    pub fn postgres_text(&self) -> IntervalText
+        ensures printed { result ≡ printed Postgres self.now }
+        // the text stands for this interval and for no other, and no other prints as it does
+        ensures stands { StandsForOnly Postgres result self.now }
+        ensures distinct { IsPrintedOnlyFor Postgres result self.now }
+        ensures short { length result ≤ 96 }
+        ensures utf8 { IsUtf8 result }
+    {
+        self.in_normal_form().postgres_text()
+    }
+
+    /// The text in the style `postgres_verbose`, as `@ 1 year 2 mons 3 days 4 hours 5 mins 6.7 secs`. It takes no
+    /// memory.
+    pub fn postgres_verbose_text(&self) -> IntervalText
+        ensures printed { result ≡ printed PostgresVerbose self.now }
+        // the text stands for this interval and for no other, and no other prints as it does
+        ensures stands { StandsForOnly PostgresVerbose result self.now }
+        ensures distinct { IsPrintedOnlyFor PostgresVerbose result self.now }
+        ensures short { length result ≤ 96 }
+        ensures utf8 { IsUtf8 result }
+    {
+        self.in_normal_form().postgres_verbose_text()
+    }
+
+    /// The text in the style `iso_8601`, as `P1Y2M3DT4H5M6.700000S`. It takes no memory.
+    pub fn iso_8601_text(&self) -> IntervalText
+        ensures printed { result ≡ printed Iso8601 self.now }
+        // the text stands for this interval and for no other, and no other prints as it does
+        ensures stands { StandsForOnly Iso8601 result self.now }
+        ensures distinct { IsPrintedOnlyFor Iso8601 result self.now }
+        ensures short { length result ≤ 96 }
+        ensures utf8 { IsUtf8 result }
+    {
+        self.in_normal_form().iso_8601_text()
+    }
+
+    /// The text in the style `sql_standard`, as `+1-2 +3 +4:05:06.700000`. It takes no memory.
+    pub fn sql_text(&self) -> IntervalText
+        ensures printed { result ≡ printed SqlStandard self.now }
+        // the text stands for this interval and for no other, and no other prints as it does
+        ensures stands { StandsForOnly SqlStandard result self.now }
+        ensures distinct { IsPrintedOnlyFor SqlStandard result self.now }
+        ensures short { length result ≤ 96 }
+        ensures utf8 { IsUtf8 result }
+    {
+        self.in_normal_form().sql_text()
+    }
+
     /// The text in the style `postgres`, as `1 year 2 mons 3 days 04:05:06.700000`.
     pub fn to_postgres(&self, alloc: Global) -> Result<String, AllocError>
         ensures printed { IfOk result (λ text. string_bytes text ≡ printed Postgres self.now) }
@@ -25,7 +83,7 @@ impl Interval {
         ensures stands { IfOk result (λ text. StandsForOnly Postgres (string_bytes text) self.now) }
         ensures distinct { IfOk result (λ text. IsPrintedOnlyFor Postgres (string_bytes text) self.now) }
     {
-        self.in_normal_form().into_postgres(alloc)
+        self.postgres_text().to_string(alloc)
     }
 
     /// The text in the style `postgres_verbose`, as `@ 1 year 2 mons 3 days 4 hours 5 mins 6.7 secs`.
@@ -35,7 +93,7 @@ impl Interval {
         ensures stands { IfOk result (λ text. StandsForOnly PostgresVerbose (string_bytes text) self.now) }
         ensures distinct { IfOk result (λ text. IsPrintedOnlyFor PostgresVerbose (string_bytes text) self.now) }
     {
-        self.in_normal_form().into_postgres_verbose(alloc)
+        self.postgres_verbose_text().to_string(alloc)
     }
 
     /// The text in the style `iso_8601`, as `P1Y2M3DT4H5M6.700000S`.
@@ -45,7 +103,7 @@ impl Interval {
         ensures stands { IfOk result (λ text. StandsForOnly Iso8601 (string_bytes text) self.now) }
         ensures distinct { IfOk result (λ text. IsPrintedOnlyFor Iso8601 (string_bytes text) self.now) }
     {
-        self.in_normal_form().into_iso_8601(alloc)
+        self.iso_8601_text().to_string(alloc)
     }
 
     /// The text in the style `sql_standard`, as `+1-2 +3 +4:05:06.700000`.
@@ -55,16 +113,107 @@ impl Interval {
         ensures stands { IfOk result (λ text. StandsForOnly SqlStandard (string_bytes text) self.now) }
         ensures distinct { IfOk result (λ text. IsPrintedOnlyFor SqlStandard (string_bytes text) self.now) }
     {
-        self.in_normal_form().into_sql(alloc)
+        self.sql_text().to_string(alloc)
     }
 
     /// The interval's normal form.
+    #[inline(always)]
     fn in_normal_form(self) -> IntervalNorm
         ensures form { result ≡ normal_form self }
         ensures normal { IsNormal result }
         ensures within { IsInterval self }
     {
         IntervalNorm::from(&self)
+    }
+}
+
+impl IntervalNorm {
+    /// The text in the style `postgres`: the years, months and days that aren't zero, each with its own minus, and
+    /// the time, unless it is zero. Zero prints `00:00:00`.
+    pub fn into_postgres(self, alloc: Global) -> Result<String, AllocError>
+        requires { IsNormal self }
+        ensures printed { IfOk result (λ text. string_bytes text ≡ postgres_text self) }
+    {
+        self.postgres_text().to_string(alloc)
+    }
+
+    /// The text in the style `postgres_verbose`: `@` and the parts that aren't zero. Where the first is negative,
+    /// each number is negated and the text ends with `ago`. Zero prints `@ 0`.
+    pub fn into_postgres_verbose(self, alloc: Global) -> Result<String, AllocError>
+        requires { IsNormal self }
+        ensures printed { IfOk result (λ text. string_bytes text ≡ verbose_text self) }
+    {
+        self.postgres_verbose_text().to_string(alloc)
+    }
+
+    /// The text in the style `iso_8601`: `PT0S` for zero, else `P` and each number that isn't zero with its own minus
+    /// and its letter, the time's behind a `T`.
+    pub fn into_iso_8601(self, alloc: Global) -> Result<String, AllocError>
+        requires { IsNormal self }
+        ensures printed { IfOk result (λ text. string_bytes text ≡ iso_text self) }
+    {
+        self.iso_8601_text().to_string(alloc)
+    }
+
+    /// The text in the style `sql_standard`: `0` for zero, years and months alone, days and time alone where no two
+    /// have opposite signs, and else all three, each with its sign.
+    pub fn into_sql(self, alloc: Global) -> Result<String, AllocError>
+        requires { IsNormal self }
+        ensures printed { IfOk result (λ text. string_bytes text ≡ sql_text self) }
+    {
+        self.sql_text().to_string(alloc)
+    }
+
+    /// The text in the style `postgres`, on the stack.
+    #[inline(always)]
+    fn postgres_text(&self) -> IntervalText
+        requires { IsNormal self.now }
+        ensures printed { result ≡ postgres_text self.now }
+        ensures short { length result ≤ 96 }
+        ensures utf8 { IsUtf8 result }
+    {
+        let mut bytes = [0; LONGEST];
+        let start = put_postgres(self, &mut bytes);
+        IntervalText::new(bytes, start)
+    }
+
+    /// The text in the style `postgres_verbose`, on the stack.
+    #[inline(always)]
+    fn postgres_verbose_text(&self) -> IntervalText
+        requires { IsNormal self.now }
+        ensures printed { result ≡ verbose_text self.now }
+        ensures short { length result ≤ 96 }
+        ensures utf8 { IsUtf8 result }
+    {
+        let mut bytes = [0; LONGEST];
+        let start = put_verbose(self, &mut bytes, LONGEST);
+        IntervalText::new(bytes, start)
+    }
+
+    /// The text in the style `iso_8601`, on the stack.
+    #[inline(always)]
+    fn iso_8601_text(&self) -> IntervalText
+        requires { IsNormal self.now }
+        ensures printed { result ≡ iso_text self.now }
+        ensures short { length result ≤ 96 }
+        ensures utf8 { IsUtf8 result }
+    {
+        let mut bytes = [0; LONGEST];
+        let start = put_iso(self, &mut bytes, LONGEST);
+        IntervalText::new(bytes, start)
+    }
+
+    /// The text in the style `sql_standard`, on the stack.
+    #[inline(always)]
+    fn sql_text(&self) -> IntervalText
+        requires { IsNormal self.now }
+        ensures printed { result ≡ sql_text self.now }
+        ensures short { length result ≤ 96 }
+        ensures utf8 { IsUtf8 result }
+    {
+        let mut bytes = [0; LONGEST];
+        let start = put_sql(self, &mut bytes, LONGEST);
+        IntervalText::new(bytes, start)
     }
 }
 
@@ -129,104 +278,4 @@ impl IntervalNorm {
     {
         self.seconds.is_negative() || self.microseconds.is_negative()
     }
-}
-
-/// Appends the character.
-#[inline]
-fn push_char(out: &mut String, character: char) -> Result<(), AllocError>
-    requires { character < 128 }
-    ensures { OnOk result (string_bytes out.new ≡ string_bytes out.old ++ character ∷ []) }
-{
-    out.push(character)
-}
-
-/// Appends the text.
-#[inline]
-fn push_text(out: &mut String, text: &str) -> Result<(), AllocError>
-    ensures { OnOk result (string_bytes out.new ≡ string_bytes out.old ++ text.now) }
-{
-    out.push_str(text)
-}
-
-/// Appends a minus where it is wanted.
-fn push_minus_if(out: &mut String, negative: bool) -> Result<(), AllocError>
-    ensures { OnOk result (string_bytes out.new ≡ string_bytes out.old ++ minus_if negative) }
-{
-    if negative {
-        push_char(out, '-')?;
-    }
-    Ok(())
-}
-
-/// Appends the number in decimal digits.
-#[tactic(auto, using(std::proofs::lemmas::Fmt::decimal_digit))]
-fn push_digits(out: &mut String, number: u64) -> Result<(), AllocError>
-    ensures { OnOk result (string_bytes out.new ≡ string_bytes out.old ++ decimal number) }
-{
-    if number < 10 {
-        push_digit(out, number)
-    } else {
-        push_text(out, Buffer::new().format(number))
-    }
-}
-
-/// Appends the digit.
-fn push_digit(out: &mut String, digit: u64) -> Result<(), AllocError>
-    requires { digit < 10 }
-    ensures { OnOk result (string_bytes out.new ≡ string_bytes out.old ++ (48 + digit) ∷ []) }
-{
-    push_char(out, char::from(b'0' + digit as u8))
-}
-
-/// Appends the number in decimal digits, two of them at least.
-#[tactic(auto, unfolding(crate::specs::Printed::two_digits_of))]
-fn push_two_digits(out: &mut String, number: u64) -> Result<(), AllocError>
-    ensures { OnOk result (string_bytes out.new ≡ string_bytes out.old ++ two_digits_of number) }
-{
-    if number < 10 {
-        push_char(out, '0')?;
-    }
-    push_digits(out, number)?;
-    Ok(())
-}
-
-/// Appends the last six digits of the number.
-#[tactic(auto, unfolding(crate::specs::Printed::six_digits))]
-fn push_six_digits(out: &mut String, number: u64) -> Result<(), AllocError>
-    ensures { OnOk result (string_bytes out.new ≡ string_bytes out.old ++ six_digits number) }
-{
-    push_digit(out, number / 100_000 % 10)?;
-    push_digit(out, number / 10_000 % 10)?;
-    push_digit(out, number / 1000 % 10)?;
-    push_digit(out, number / 100 % 10)?;
-    push_digit(out, number / 10 % 10)?;
-    push_digit(out, number % 10)?;
-    Ok(())
-}
-
-/// Appends a point and the six digits of these microseconds, unless there are none.
-#[tactic(auto, unfolding(crate::specs::Printed::fraction_of, crate::specs::Printed::is_zero))]
-fn push_fraction(out: &mut String, microseconds: i64) -> Result<(), AllocError>
-    ensures { OnOk result (string_bytes out.new ≡ string_bytes out.old ++ fraction_of microseconds) }
-{
-    let microseconds = microseconds.unsigned_abs();
-    if microseconds == 0 {
-        return Ok(());
-    }
-    push_char(out, '.')?;
-    push_six_digits(out, microseconds)?;
-    Ok(())
-}
-
-/// Appends what follows the hours of a time.
-#[tactic(auto, unfolding(crate::specs::Printed::after_hours))]
-fn push_after_hours(out: &mut String, fields: &IntervalNorm) -> Result<(), AllocError>
-    ensures { OnOk result (string_bytes out.new ≡ string_bytes out.old ++ after_hours fields.now) }
-{
-    push_char(out, ':')?;
-    push_two_digits(out, fields.minutes.unsigned_abs())?;
-    push_char(out, ':')?;
-    push_two_digits(out, fields.seconds.unsigned_abs())?;
-    push_fraction(out, fields.microseconds)?;
-    Ok(())
 }

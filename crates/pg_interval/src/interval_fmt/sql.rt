@@ -1,27 +1,12 @@
-ghost use Rattle.std.specs.Prelude.{◌≡◌, ◌++◌, OnOk, IfOk, string_bytes};
-ghost use Rattle.pg_interval.specs.NormalForm.{IsNormal};
+ghost use Rattle.std.specs.Prelude.{◌≡◌, ◌+◌, ◌++◌, ◌∷◌, [], ◌<◌, ◌≤◌, drop, length, decimal};
 ghost use Rattle.pg_interval.specs.Printed.{sql_text, fields_text, signed_days_text, sign_of, year_month_text, sql_time_text, day_time_text, signed_text, are_opposite, is_year_month_negative, is_time_negative};
+ghost use Rattle.pg_interval.specs.Widths.{HasWidths};
 
-use super::{LONGEST, push_after_hours, push_char, push_digits, push_minus_if};
+use super::LONGEST;
+use super::back::{put_after_hours, put_byte, put_digits, put_minus_if};
 use crate::interval_norm::IntervalNorm;
-use std::alloc::{AllocError, Global};
 
 impl IntervalNorm {
-    /// The text in the style `sql_standard`: `0` for zero, years and months alone, days and time alone where no two
-    /// have opposite signs, and else all three, each with its sign.
-    #[tactic(auto, using(crate::proofs::PrintedLemmas::signed_passed), unfolding(crate::specs::Printed::sql_text))]
-    pub fn into_sql(self, alloc: Global) -> Result<String, AllocError>
-        requires { IsNormal self }
-        ensures printed { IfOk result (λ text. string_bytes text ≡ sql_text self) }
-    {
-        if self.prints_zero() {
-            return String::from_str(alloc, "0");
-        }
-        let mut out = String::with_capacity(alloc, LONGEST)?;
-        push_fields(&mut out, &self)?;
-        Ok(out)
-    }
-
     /// Are the years or the months below zero?
     fn is_year_month_negative(&self) -> bool
         ensures { result ≡ is_year_month_negative self.now }
@@ -38,89 +23,123 @@ impl IntervalNorm {
     }
 }
 
-/// Appends the text of an interval that isn't zero.
+/// Writes the text in the style `sql_standard`: `0` for zero, years and months alone, days and time alone where no two
+/// have opposite signs, and else all three, each with its sign.
+#[tactic(auto, using(crate::proofs::PrintedLemmas::signed_passed), unfolding(crate::specs::Printed::sql_text))]
+pub fn put_sql(fields: &IntervalNorm, text: &mut [u8; LONGEST], end: usize) -> usize
+    requires widths { HasWidths fields.now }
+    requires room { (50 ≤ end) × (end ≤ 96) }
+    ensures place { result ≤ end }
+    ensures written { drop result text.new ≡ sql_text fields.now ++ drop end text.old }
+{
+    if fields.prints_zero() {
+        return put_byte(b'0', text, end);
+    }
+    put_fields(fields, text, end)
+}
+
+/// Writes the text of an interval that isn't zero.
+#[inline(always)]
 #[tactic(auto, using(crate::proofs::PrintedLemmas::signed_passed), unfolding(crate::specs::Printed::fields_text))]
-fn push_fields(out: &mut String, fields: &IntervalNorm) -> Result<(), AllocError>
-    ensures { OnOk result (string_bytes out.new ≡ string_bytes out.old ++ fields_text fields.now) }
+fn put_fields(fields: &IntervalNorm, text: &mut [u8; LONGEST], end: usize) -> usize
+    requires widths { HasWidths fields.now }
+    requires room { (50 ≤ end) × (end ≤ 96) }
+    ensures place { result ≤ end }
+    ensures written { drop result text.new ≡ fields_text fields.now ++ drop end text.old }
 {
     if !fields.prints_days() && !fields.prints_time() {
-        push_minus_if(out, fields.is_year_month_negative())?;
-        push_year_month(out, fields)?;
+        let digits = put_year_month(fields, text, end);
+        put_minus_if(fields.is_year_month_negative(), text, digits)
     } else if !fields.prints_year_month() && !fields.has_opposite_signs() {
-        push_day_time(out, fields)?;
+        put_day_time(fields, text, end)
     } else {
-        push_signed(out, fields)?;
+        put_signed(fields, text, end)
     }
-    Ok(())
 }
 
-/// Appends `-` or `+`.
-fn push_sign(out: &mut String, negative: bool) -> Result<(), AllocError>
-    ensures { OnOk result (string_bytes out.new ≡ string_bytes out.old ++ sign_of negative) }
+/// Writes `-` or `+`.
+#[inline(always)]
+fn put_sign(negative: bool, text: &mut [u8; LONGEST], end: usize) -> usize
+    requires { (1 ≤ end) × (end ≤ 96) }
+    ensures place { result + 1 ≡ end }
+    ensures written { drop result text.new ≡ sign_of negative ++ drop end text.old }
 {
-    push_char(out, if negative { '-' } else { '+' })
+    put_byte(if negative { b'-' } else { b'+' }, text, end)
 }
 
-/// Appends years and months without a sign.
+/// Writes years and months without a sign.
+#[inline(always)]
 #[tactic(auto, using(crate::proofs::PrintedLemmas::signed_passed), unfolding(crate::specs::Printed::year_month_text))]
-fn push_year_month(out: &mut String, fields: &IntervalNorm) -> Result<(), AllocError>
-    ensures { OnOk result (string_bytes out.new ≡ string_bytes out.old ++ year_month_text fields.now) }
+fn put_year_month(fields: &IntervalNorm, text: &mut [u8; LONGEST], end: usize) -> usize
+    requires widths { HasWidths fields.now }
+    requires room { (12 ≤ end) × (end ≤ 96) }
+    ensures place { (result ≤ end) × (end ≤ result + 12) }
+    ensures written { drop result text.new ≡ year_month_text fields.now ++ drop end text.old }
 {
-    push_digits(out, u64::from(fields.years.unsigned_abs()))?;
-    push_char(out, '-')?;
-    push_digits(out, u64::from(fields.months.unsigned_abs()))?;
-    Ok(())
+    let months = put_digits(u64::from(fields.months.unsigned_abs()), text, end);
+    let minus = put_byte(b'-', text, months);
+    put_digits(u64::from(fields.years.unsigned_abs()), text, minus)
 }
 
-/// Appends the time without a sign.
+/// Writes the time without a sign.
+#[inline(always)]
 #[tactic(auto, using(crate::proofs::PrintedLemmas::signed_passed), unfolding(crate::specs::Printed::sql_time_text))]
-fn push_time(out: &mut String, fields: &IntervalNorm) -> Result<(), AllocError>
-    ensures { OnOk result (string_bytes out.new ≡ string_bytes out.old ++ sql_time_text fields.now) }
+fn put_time(fields: &IntervalNorm, text: &mut [u8; LONGEST], end: usize) -> usize
+    requires widths { HasWidths fields.now }
+    requires room { (23 ≤ end) × (end ≤ 96) }
+    ensures place { (result ≤ end) × (end ≤ result + 23) }
+    ensures written { drop result text.new ≡ sql_time_text fields.now ++ drop end text.old }
 {
-    push_digits(out, fields.hours.unsigned_abs())?;
-    push_after_hours(out, fields)?;
-    Ok(())
+    let after_hours = put_after_hours(fields, text, end);
+    put_digits(fields.hours.unsigned_abs(), text, after_hours)
 }
 
-/// Appends the days, unless they are zero, and the time, with one sign in front.
+/// Writes the days, unless they are zero, and the time, with one sign in front.
+#[inline(always)]
 #[tactic(auto, using(crate::proofs::PrintedLemmas::signed_passed), unfolding(crate::specs::Printed::day_time_text, crate::specs::Printed::is_zero))]
-fn push_day_time(out: &mut String, fields: &IntervalNorm) -> Result<(), AllocError>
-    ensures { OnOk result (string_bytes out.new ≡ string_bytes out.old ++ day_time_text fields.now) }
+fn put_day_time(fields: &IntervalNorm, text: &mut [u8; LONGEST], end: usize) -> usize
+    requires widths { HasWidths fields.now }
+    requires room { (50 ≤ end) × (end ≤ 96) }
+    ensures place { result ≤ end }
+    ensures written { drop result text.new ≡ day_time_text fields.now ++ drop end text.old }
 {
+    let time = put_time(fields, text, end);
     let days = fields.days.unsigned_abs();
     if days == 0 {
-        push_minus_if(out, fields.is_time_negative())?;
-        push_time(out, fields)?;
-        return Ok(());
+        return put_minus_if(fields.is_time_negative(), text, time);
     }
-    push_minus_if(out, fields.days.is_negative())?;
-    push_digits(out, u64::from(days))?;
-    push_char(out, ' ')?;
-    push_time(out, fields)?;
-    Ok(())
+    let space = put_byte(b' ', text, time);
+    let digits = put_digits(u64::from(days), text, space);
+    put_minus_if(fields.days.is_negative(), text, digits)
 }
 
-/// Appends years and months, days, and the time, each with its sign.
+/// Writes years and months, days, and the time, each with its sign.
+#[inline(always)]
 #[tactic(auto, using(crate::proofs::PrintedLemmas::signed_passed), unfolding(crate::specs::Printed::signed_text))]
-fn push_signed(out: &mut String, fields: &IntervalNorm) -> Result<(), AllocError>
-    ensures { OnOk result (string_bytes out.new ≡ string_bytes out.old ++ signed_text fields.now) }
+fn put_signed(fields: &IntervalNorm, text: &mut [u8; LONGEST], end: usize) -> usize
+    requires widths { HasWidths fields.now }
+    requires room { (50 ≤ end) × (end ≤ 96) }
+    ensures place { result ≤ end }
+    ensures written { drop result text.new ≡ signed_text fields.now ++ drop end text.old }
 {
-    push_sign(out, fields.is_year_month_negative())?;
-    push_year_month(out, fields)?;
-    push_char(out, ' ')?;
-    push_signed_days(out, fields)?;
-    push_char(out, ' ')?;
-    push_sign(out, fields.is_time_negative())?;
-    push_time(out, fields)?;
-    Ok(())
+    let time = put_time(fields, text, end);
+    let time_sign = put_sign(fields.is_time_negative(), text, time);
+    let space = put_byte(b' ', text, time_sign);
+    let days = put_signed_days(fields, text, space);
+    let second_space = put_byte(b' ', text, days);
+    let year_month = put_year_month(fields, text, second_space);
+    put_sign(fields.is_year_month_negative(), text, year_month)
 }
 
-/// Appends the days with their sign.
+/// Writes the days with their sign.
+#[inline(always)]
 #[tactic(auto, using(crate::proofs::PrintedLemmas::signed_passed), unfolding(crate::specs::Printed::signed_days_text))]
-fn push_signed_days(out: &mut String, fields: &IntervalNorm) -> Result<(), AllocError>
-    ensures { OnOk result (string_bytes out.new ≡ string_bytes out.old ++ signed_days_text fields.now) }
+fn put_signed_days(fields: &IntervalNorm, text: &mut [u8; LONGEST], end: usize) -> usize
+    requires widths { HasWidths fields.now }
+    requires room { (11 ≤ end) × (end ≤ 96) }
+    ensures place { (result ≤ end) × (end ≤ result + 11) }
+    ensures written { drop result text.new ≡ signed_days_text fields.now ++ drop end text.old }
 {
-    push_sign(out, fields.days.is_negative())?;
-    push_digits(out, u64::from(fields.days.unsigned_abs()))?;
-    Ok(())
+    let digits = put_digits(u64::from(fields.days.unsigned_abs()), text, end);
+    put_sign(fields.days.is_negative(), text, digits)
 }

@@ -1,0 +1,248 @@
+-- A printed text is ASCII, so it is UTF-8.
+use Rattle.std.proofs.Common.{ℕ, zero, suc, ◌+◌, ◌/◌, ◌%◌, ◌^◌, ◌<◌, Bool, true, false, List, [], ◌∷◌, ◌++◌, map, arith, lit<, ℤ, subst}
+use Rattle.std.specs.Prelude.{codes, bytes_eq, flat_map, if◌then◌else◌, nat_lt, unsigned_abs, ◌==◌}
+use Rattle.std.specs.List.{join_with_byte, list_all}
+use Rattle.std.specs.Int.{is_negative}
+use Rattle.std.specs.Int.Signed.{mag}
+use Rattle.std.specs.Str.{IsUtf8, IsAscii}
+use Rattle.std.proofs.lemmas.Str.{IsUtf8-from_ascii, IsAscii-append}
+use Rattle.std.proofs.lemmas.Str.Ascii.{IsAscii-nil, IsAscii-cons}
+use Rattle.std.proofs.lemmas.Fmt.{IsAscii-decimal}
+use Rattle.pg_interval.specs.NormalForm.{IsNormal}
+use Rattle.pg_interval.specs.Printed.{is_zero, minus_if, sign_of, digits_of, two_digits_of, two_digits, last_digits, six_digits, fraction_of, is_all_zero, is_time_zero, is_time_negative, is_second_zero, is_second_negative, after_hours, Part, part_of, word_end, part_text, own_text, date_parts, time_texts, postgres_text, without_last_zeros, decimals_of, second_digits, second_parts, verbose_time_parts, verbose_parts, is_ago, verbose_part_text, ago_end, verbose_text_of, verbose_text, item_text, second_text, iso_time_text, iso_text, year_month_text, sql_time_text, is_year_month_negative, day_time_text, signed_days_text, signed_text, fields_text, sql_text}
+use Rattle.pg_interval.specs.declared.interval_norm.IntervalNorm.{IntervalNorm}
+use Rattle.pg_interval.proofs.NormalFacts.{IsSized, normal_sizes}
+use Rattle.pg_interval.proofs.PartTexts.{abs_small}
+
+wider : (z : ℤ) → mag z < 2 ^ 31 → mag z < 2 ^ 63
+wider z h = omega arith
+
+-- every byte is below 128
+record Ascii (text : List ℕ) : Type 0 where
+  bytes : IsAscii text
+
+nothing : Ascii []
+nothing = record { bytes = IsAscii-nil }
+
+one : (b : ℕ) (bs : List ℕ) → b < 128 → Ascii bs → Ascii (b ∷ bs)
+one b bs h t = record { bytes = IsAscii-cons b bs h t.bytes }
+
+both : (xs ys : List ℕ) → Ascii xs → Ascii ys → Ascii (xs ++ ys)
+both xs ys a b = record { bytes = IsAscii-append xs ys a.bytes b.bytes }
+
+either : (b : Bool) (xs ys : List ℕ) → Ascii xs → Ascii ys → Ascii (if b then xs else ys)
+either true xs ys h k = h
+either false xs ys h k = k
+
+digits : (z : ℤ) → mag z < 2 ^ 63 → Ascii (digits_of z)
+digits z h = record { bytes = IsAscii-decimal (unsigned_abs z) (abs_small z h) }
+
+minus : (b : Bool) → Ascii (minus_if b)
+minus b = either b (45 ∷ []) [] (one 45 [] (lit< tt) nothing) nothing
+
+sign : (b : Bool) → Ascii (sign_of b)
+sign b = either b (45 ∷ []) (43 ∷ []) (one 45 [] (lit< tt) nothing) (one 43 [] (lit< tt) nothing)
+
+two : (z : ℤ) → mag z < 2 ^ 63 → Ascii (two_digits z)
+unfolding two_digits_of
+two z h = either (nat_lt (unsigned_abs z) 10) (48 ∷ digits_of z) (digits_of z) (one 48 _ (lit< tt) (digits z h)) (digits z h)
+
+last : (k n : ℕ) → Ascii (last_digits k n)
+last zero n = nothing
+last (suc k) n = one (48 + n / 10 ^ k % 10) (last_digits k n) (omega arith) (last k n)
+
+fraction : (z : ℤ) → Ascii (fraction_of z)
+unfolding fraction_of six_digits
+fraction z = either (is_zero z) [] (46 ∷ last_digits 6 (unsigned_abs z)) nothing (one 46 _ (lit< tt) (last 6 (unsigned_abs z)))
+
+after : (n : IntervalNorm) → IsSized n → Ascii (after_hours n)
+unfolding after_hours
+after n size = both (58 ∷ two_digits n.minutes ++ 58 ∷ two_digits n.seconds) (fraction_of n.microseconds) (both (58 ∷ two_digits n.minutes) (58 ∷ two_digits n.seconds) (one 58 _ (lit< tt) (two n.minutes size.minutes)) (one 58 _ (lit< tt) (two n.seconds size.seconds))) (fraction n.microseconds)
+
+-- ---- iso_8601
+
+item : (z : ℤ) (letter : ℕ) → letter < 128 → mag z < 2 ^ 63 → Ascii (item_text z letter)
+unfolding item_text
+item z letter l h = either (is_zero z) [] (minus_if (is_negative z) ++ digits_of z ++ letter ∷ []) nothing (both (minus_if (is_negative z) ++ digits_of z) (letter ∷ []) (both (minus_if (is_negative z)) (digits_of z) (minus (is_negative z)) (digits z h)) (one letter [] l nothing))
+
+second : (n : IntervalNorm) → IsSized n → Ascii (second_text n)
+unfolding second_text
+second n size = either (is_second_zero n) [] (minus_if (is_second_negative n) ++ digits_of n.seconds ++ fraction_of n.microseconds ++ 83 ∷ []) nothing (both _ (83 ∷ []) (both _ (fraction_of n.microseconds) (both _ (digits_of n.seconds) (minus (is_second_negative n)) (digits n.seconds size.seconds)) (fraction n.microseconds)) (one 83 [] (lit< tt) nothing))
+
+iso_time : (n : IntervalNorm) → IsSized n → Ascii (iso_time_text n)
+unfolding iso_time_text
+iso_time n size = either (is_time_zero n) [] (84 ∷ item_text n.hours 72 ++ item_text n.minutes 77 ++ second_text n) nothing (both _ (second_text n) (both _ (item_text n.minutes 77) (one 84 (item_text n.hours 72) (lit< tt) (item n.hours 72 (lit< tt) size.hours)) (item n.minutes 77 (lit< tt) size.minutes)) (second n size))
+
+iso : (n : IntervalNorm) → IsSized n → Ascii (iso_text n)
+unfolding iso_text
+iso n size = either (is_all_zero n) (codes "PT0S") (80 ∷ item_text n.years 89 ++ item_text n.months 77 ++ item_text n.days 68 ++ iso_time_text n)
+    (one 80 _ (lit< tt) (one 84 _ (lit< tt) (one 48 _ (lit< tt) (one 83 [] (lit< tt) nothing))))
+    (both _ (iso_time_text n) (both _ (item_text n.days 68) (both _ (item_text n.months 77) (one 80 (item_text n.years 89) (lit< tt) (item n.years 89 (lit< tt) (wider n.years size.years))) (item n.months 77 (lit< tt) (wider n.months size.months))) (item n.days 68 (lit< tt) (wider n.days size.days))) (iso_time n size))
+
+-- ---- sql_standard
+
+year_month : (n : IntervalNorm) → IsSized n → Ascii (year_month_text n)
+unfolding year_month_text
+year_month n size = both (digits_of n.years) (45 ∷ digits_of n.months) (digits n.years (wider n.years size.years)) (one 45 _ (lit< tt) (digits n.months (wider n.months size.months)))
+
+sql_time : (n : IntervalNorm) → IsSized n → Ascii (sql_time_text n)
+unfolding sql_time_text
+sql_time n size = both (digits_of n.hours) (after_hours n) (digits n.hours size.hours) (after n size)
+
+day_time : (n : IntervalNorm) → IsSized n → Ascii (day_time_text n)
+unfolding day_time_text
+day_time n size = either (is_zero n.days) (minus_if (is_time_negative n) ++ sql_time_text n) (minus_if (is_negative n.days) ++ digits_of n.days ++ 32 ∷ sql_time_text n)
+    (both _ (sql_time_text n) (minus (is_time_negative n)) (sql_time n size))
+    (both _ (32 ∷ sql_time_text n) (both _ (digits_of n.days) (minus (is_negative n.days)) (digits n.days (wider n.days size.days))) (one 32 _ (lit< tt) (sql_time n size)))
+
+signed_days : (n : IntervalNorm) → IsSized n → Ascii (signed_days_text n)
+unfolding signed_days_text
+signed_days n size = both _ (digits_of n.days) (sign (is_negative n.days)) (digits n.days (wider n.days size.days))
+
+signed : (n : IntervalNorm) → IsSized n → Ascii (signed_text n)
+unfolding signed_text
+signed n size =
+    both _ (sql_time_text n)
+    (both _ (32 ∷ sign_of (is_time_negative n))
+    (both _ (32 ∷ signed_days_text n)
+    (both _ (year_month_text n) (sign (is_year_month_negative n)) (year_month n size))
+    (one 32 _ (lit< tt) (signed_days n size)))
+    (one 32 _ (lit< tt) (sign (is_time_negative n))))
+    (sql_time n size)
+
+fields : (n : IntervalNorm) → IsSized n → Ascii (fields_text n)
+unfolding fields_text
+fields n size = either _ (minus_if (is_year_month_negative n) ++ year_month_text n) _
+    (both _ (year_month_text n) (minus (is_year_month_negative n)) (year_month n size))
+    (either _ (day_time_text n) (signed_text n) (day_time n size) (signed n size))
+
+sql : (n : IntervalNorm) → IsSized n → Ascii (sql_text n)
+unfolding sql_text
+sql n size = either (is_all_zero n) (codes "0") (fields_text n) (one 48 [] (lit< tt) nothing) (fields n size)
+
+-- ---- postgres and postgres_verbose
+
+ending : (number : List ℕ) → Ascii (word_end number)
+unfolding word_end
+ending number = either (bytes_eq number (codes "1")) [] (codes "s") nothing (one 115 [] (lit< tt) nothing)
+
+part : (b : Bool) (ds name : List ℕ) → Ascii ds → Ascii name → Ascii (part_text b ds name)
+unfolding part_text
+part b ds name h k = both _ (word_end (minus_if b ++ ds)) (both _ (32 ∷ name) (both _ ds (minus b) h) (one 32 name (lit< tt) k)) (ending (minus_if b ++ ds))
+
+-- each number and each word of the parts
+data Parts : List Part → Type 0 where
+  none : Parts []
+  more : {p : Part} {ps : List Part} → Ascii p.digits → Ascii p.word → Parts ps → Parts (p ∷ ps)
+
+parts_both : (ps qs : List Part) → Parts ps → Parts qs → Parts (ps ++ qs)
+parts_both [] qs h k = k
+parts_both (p ∷ ps) qs (more d w h) k = more d w (parts_both ps qs h k)
+
+part_is : (z : ℤ) (name : List ℕ) → mag z < 2 ^ 63 → Ascii name → Parts (part_of z name)
+unfolding part_of
+part_is z name h k = elim (is_zero z) as (λ b. Parts (if b then [] else record { negative = is_negative z; digits = digits_of z; word = name } ∷ [])) [ true ↦ none | false ↦ more (digits z h) k none ]
+
+year : Ascii (codes "year")
+year = one 121 _ (lit< tt) (one 101 _ (lit< tt) (one 97 _ (lit< tt) (one 114 _ (lit< tt) nothing)))
+
+mon : Ascii (codes "mon")
+mon = one 109 _ (lit< tt) (one 111 _ (lit< tt) (one 110 _ (lit< tt) nothing))
+
+day : Ascii (codes "day")
+day = one 100 _ (lit< tt) (one 97 _ (lit< tt) (one 121 _ (lit< tt) nothing))
+
+hour : Ascii (codes "hour")
+hour = one 104 _ (lit< tt) (one 111 _ (lit< tt) (one 117 _ (lit< tt) (one 114 _ (lit< tt) nothing)))
+
+min : Ascii (codes "min")
+min = one 109 _ (lit< tt) (one 105 _ (lit< tt) (one 110 _ (lit< tt) nothing))
+
+sec : Ascii (codes "sec")
+sec = one 115 _ (lit< tt) (one 101 _ (lit< tt) (one 99 _ (lit< tt) nothing))
+
+dates : (n : IntervalNorm) → IsSized n → Parts (date_parts n)
+unfolding date_parts
+dates n size = parts_both _ (part_of n.days (codes "day")) (parts_both _ (part_of n.months (codes "mon")) (part_is n.years (codes "year") (wider n.years size.years) year) (part_is n.months (codes "mon") (wider n.months size.months) mon)) (part_is n.days (codes "day") (wider n.days size.days) day)
+
+-- each text of a list
+data Texts : List (List ℕ) → Type 0 where
+  none : Texts []
+  more : {t : List ℕ} {ts : List (List ℕ)} → Ascii t → Texts ts → Texts (t ∷ ts)
+
+texts_both : (ts us : List (List ℕ)) → Texts ts → Texts us → Texts (ts ++ us)
+texts_both [] us h k = k
+texts_both (t ∷ ts) us (more a h) k = more a (texts_both ts us h k)
+
+own_texts : (ps : List Part) → Parts ps → Texts (map own_text ps)
+own_texts [] h = none
+own_texts (p ∷ ps) (more d w h) = more (part p.negative p.digits p.word d w) (own_texts ps h)
+
+times : (n : IntervalNorm) → IsSized n → Texts (time_texts n)
+unfolding time_texts
+times n size = elim (is_time_zero n) as (λ b. Texts (if b then [] else (minus_if (is_time_negative n) ++ two_digits n.hours ++ after_hours n) ∷ [])) [
+  | true ↦ none
+  | false ↦ more (both _ (after_hours n) (both _ (two_digits n.hours) (minus (is_time_negative n)) (two n.hours size.hours)) (after n size)) none
+]
+
+joined : (ts : List (List ℕ)) → Texts ts → Ascii (join_with_byte 32 ts)
+joined [] h = nothing
+joined (t ∷ []) (more a h) = a
+joined (t ∷ u ∷ ts) (more a h) = both t (32 ∷ join_with_byte 32 (u ∷ ts)) a (one 32 _ (lit< tt) (joined (u ∷ ts) h))
+
+postgres : (n : IntervalNorm) → IsSized n → Ascii (postgres_text n)
+unfolding postgres_text
+postgres n size = either (is_all_zero n) (codes "00:00:00") (join_with_byte 32 (map own_text (date_parts n) ++ time_texts n))
+    (one 48 _ (lit< tt) (one 48 _ (lit< tt) (one 58 _ (lit< tt) (one 48 _ (lit< tt) (one 48 _ (lit< tt) (one 58 _ (lit< tt) (one 48 _ (lit< tt) (one 48 _ (lit< tt) nothing))))))))
+    (joined _ (texts_both (map own_text (date_parts n)) (time_texts n) (own_texts (date_parts n) (dates n size)) (times n size)))
+
+zeros_cut : (ds : List ℕ) → Ascii ds → Ascii (without_last_zeros ds)
+unfolding without_last_zeros
+zeros_cut [] h = nothing
+zeros_cut (d ∷ ds) h = either (list_all (λ c. c == 48) (d ∷ ds)) [] (d ∷ without_last_zeros ds) nothing (one d _ (h.bytes 0) (zeros_cut ds (record { bytes = λ i. h.bytes (suc i) })))
+
+decimals : (z : ℤ) → Ascii (decimals_of z)
+unfolding decimals_of six_digits
+decimals z = either (is_zero z) [] (46 ∷ without_last_zeros (last_digits 6 (unsigned_abs z))) nothing (one 46 _ (lit< tt) (zeros_cut _ (last 6 (unsigned_abs z))))
+
+seconds : (n : IntervalNorm) → IsSized n → Parts (second_parts n)
+unfolding second_parts second_digits
+seconds n size = elim (is_second_zero n) as (λ b. Parts (if b then [] else record { negative = is_second_negative n; digits = digits_of n.seconds ++ decimals_of n.microseconds; word = codes "sec" } ∷ [])) [ true ↦ none | false ↦ more (both _ (decimals_of n.microseconds) (digits n.seconds size.seconds) (decimals n.microseconds)) sec none ]
+
+verbose_times : (n : IntervalNorm) → IsSized n → Parts (verbose_time_parts n)
+unfolding verbose_time_parts
+verbose_times n size = parts_both _ (second_parts n) (parts_both _ (part_of n.minutes (codes "min")) (part_is n.hours (codes "hour") size.hours hour) (part_is n.minutes (codes "min") size.minutes min)) (seconds n size)
+
+verbose_flat : (ago : Bool) (ps : List Part) → Parts ps → Ascii (flat_map (verbose_part_text ago) ps)
+unfolding verbose_part_text
+verbose_flat ago [] h = nothing
+verbose_flat ago (p ∷ ps) (more d w h) = both (verbose_part_text ago p) (flat_map (verbose_part_text ago) ps) (one 32 _ (lit< tt) (part _ p.digits p.word d w)) (verbose_flat ago ps h)
+
+ago_is : (ago : Bool) → Ascii (ago_end ago)
+ago_is ago = either ago (codes " ago") [] (one 32 _ (lit< tt) (one 97 _ (lit< tt) (one 103 _ (lit< tt) (one 111 _ (lit< tt) nothing)))) nothing
+
+verbose : (n : IntervalNorm) → IsSized n → Ascii (verbose_text n)
+unfolding verbose_text
+verbose n size =
+    let ago : Bool = is_ago (verbose_parts n) in
+    let parts : Parts (verbose_parts n) = parts_both _ (verbose_time_parts n) (dates n size) (verbose_times n size) in
+    either (is_all_zero n) (codes "@ 0") (verbose_text_of ago (verbose_parts n))
+    (one 64 _ (lit< tt) (one 32 _ (lit< tt) (one 48 _ (lit< tt) nothing)))
+    (both _ (ago_end ago) (one 64 _ (lit< tt) (verbose_flat ago (verbose_parts n) parts)) (ago_is ago))
+
+-- ---- UTF-8
+
+utf8 : (text : IntervalNorm → List ℕ) → ((n : IntervalNorm) → IsSized n → Ascii (text n)) → (n : IntervalNorm) → IsNormal n → IsUtf8 (text n)
+utf8 text ascii n normal = IsUtf8-from_ascii (text n) (ascii n (subst IsSized normal.2 (normal_sizes normal.0 normal.1))).bytes
+
+pub postgres_utf8 : (n : IntervalNorm) → IsNormal n → IsUtf8 (postgres_text n)
+postgres_utf8 = utf8 postgres_text postgres
+
+pub verbose_utf8 : (n : IntervalNorm) → IsNormal n → IsUtf8 (verbose_text n)
+verbose_utf8 = utf8 verbose_text verbose
+
+pub iso_utf8 : (n : IntervalNorm) → IsNormal n → IsUtf8 (iso_text n)
+iso_utf8 = utf8 iso_text iso
+
+pub sql_utf8 : (n : IntervalNorm) → IsNormal n → IsUtf8 (sql_text n)
+sql_utf8 = utf8 sql_text sql

@@ -1,0 +1,86 @@
+-- How many digits the numbers of a normal form have at most, and the digits of small numbers.
+use Rattle.std.proofs.Common.{◌≡◌, ℕ, zero, suc, ◌+◌, ◌/◌, ◌%◌, ◌^◌, ◌<◌, ◌≤◌, true, false, List, [], ◌∷◌, ◌++◌, length, append-nil, ap, ◌∙◌, refl, subst, arith, lit<, ℤ, pos, negsuc, neg_ℤ}
+use Rattle.std.specs.Prelude.{int_div, int_rem, unsigned_abs, decimal, if◌then◌else◌, nat_lt}
+use Rattle.std.specs.Int.Signed.{mag}
+use Rattle.std.proofs.lemmas.Fmt.{length-decimal-le, decimal_digit, decimal_step}
+use Rattle.pg_interval.specs.Cell.{IsInterval}
+use Rattle.pg_interval.specs.NormalForm.{normal_form, IsNormal}
+use Rattle.pg_interval.specs.Printed.{two_digits_of, six_digits}
+use Rattle.pg_interval.specs.Widths.{HasWidths}
+use Rattle.pg_interval.specs.declared.pg_interval.Interval.{Interval}
+use Rattle.pg_interval.specs.declared.interval_norm.IntervalNorm.{IntervalNorm}
+
+abs_neg : (x : ℕ) → unsigned_abs (neg_ℤ (pos x)) ≡ x
+abs_neg zero = refl
+abs_neg (suc x) = refl
+
+div_abs : (z : ℤ) (b : ℕ) → unsigned_abs (int_div z (pos b)) ≡ unsigned_abs z / b
+div_abs (pos a) b = refl
+div_abs (negsuc a) b = abs_neg (suc a / b)
+
+rem_abs : (z : ℤ) (b : ℕ) → unsigned_abs (int_rem z (pos b)) ≡ unsigned_abs z % b
+rem_abs (pos a) b = refl
+rem_abs (negsuc a) b = abs_neg (suc a % b)
+
+abs_le : (k : ℕ) (z : ℤ) → mag z < 2 ^ k → unsigned_abs z ≤ 2 ^ k
+abs_le k (pos n) h = omega arith
+abs_le k (negsuc n) h = omega arith
+
+two_long : (n : ℕ) → n < 100 → length (decimal n) ≤ 2
+two_long n h = length-decimal-le 2 n (lit< tt) h (omega arith)
+
+nine_long : (n : ℕ) → n < 1000000000 → length (decimal n) ≤ 9
+nine_long n h = length-decimal-le 9 n (lit< tt) h (omega arith)
+
+ten_long : (n : ℕ) → n < 10000000000 → length (decimal n) ≤ 10
+ten_long n h = length-decimal-le 10 n (lit< tt) h (omega arith)
+
+pub interval_widths : (i : Interval) → IsInterval i → HasWidths (normal_form i)
+unfolding normal_form
+interval_widths i within =
+    let m : unsigned_abs i.months ≤ 2 ^ 31 = abs_le 31 i.months within.months.sfits in
+    let d : unsigned_abs i.days ≤ 2 ^ 31 = abs_le 31 i.days within.days.sfits in
+    let u : unsigned_abs i.microseconds ≤ 2 ^ 63 = abs_le 63 i.microseconds within.microseconds.sfits in
+    let years : unsigned_abs (int_div i.months (pos 12)) < 1000000000 = rw (div_abs i.months 12) (omega arith) in
+    let months : unsigned_abs (int_rem i.months (pos 12)) < 100 = rw (rem_abs i.months 12) (omega arith) in
+    let hours : unsigned_abs (int_div i.microseconds (pos 3600000000)) < 10000000000 = rw (div_abs i.microseconds 3600000000) (omega arith) in
+    let minutes : unsigned_abs (int_rem (int_div i.microseconds (pos 60000000)) (pos 60)) < 100 = rw (rem_abs (int_div i.microseconds (pos 60000000)) 60) (omega arith) in
+    let seconds : unsigned_abs (int_rem (int_div i.microseconds (pos 1000000)) (pos 60)) < 100 = rw (rem_abs (int_div i.microseconds (pos 1000000)) 60) (omega arith) in
+    let microseconds : unsigned_abs (int_rem i.microseconds (pos 1000000)) < 1000000 = rw (rem_abs i.microseconds 1000000) (omega arith) in
+    record {
+      years = nine_long _ years;
+      months = two_long _ months;
+      days = ten_long _ (omega arith);
+      hours = ten_long _ hours;
+      minutes = two_long _ minutes;
+      minutes_small = minutes;
+      seconds = two_long _ seconds;
+      seconds_small = seconds;
+      microseconds_small = microseconds;
+    }
+
+pub normal_widths : (n : IntervalNorm) → IsNormal n → HasWidths n
+normal_widths n normal = subst HasWidths normal.2 (interval_widths normal.0 normal.1)
+
+-- both digits of a number below 100
+pub two_digits : (n : ℕ) → n < 100 → two_digits_of n ≡ (48 + n / 10) ∷ (48 + n % 10) ∷ []
+unfolding two_digits_of
+two_digits n h = elim (nat_lt n 10) as (λ b. (b ≡ nat_lt n 10) → (if b then 48 ∷ decimal n else decimal n) ≡ (48 + n / 10) ∷ (48 + n % 10) ∷ []) [
+  | true ↦ λ e. let small : n < 10 = grind arith in let q : n / 10 ≡ 0 = omega arith in let r : n % 10 ≡ n = omega arith in rw (decimal_digit n small, q, r) refl
+  | false ↦ λ e. let large : 10 ≤ n = grind arith in rw (decimal_step n large (omega arith), decimal_digit (n / 10) (omega arith)) refl
+] refl
+
+-- six digits by three pairs
+pub six_by_pairs : (n : ℕ) (rest : List ℕ) → n < 1000000 → six_digits n ++ rest ≡ (48 + n / 10000 / 10) ∷ (48 + n / 10000 % 10) ∷ (48 + n / 100 % 100 / 10) ∷ (48 + n / 100 % 100 % 10) ∷ (48 + n % 100 / 10) ∷ (48 + n % 100 % 10) ∷ rest
+unfolding six_digits
+six_by_pairs n rest h =
+    let a : n / 10000 / 10 ≡ n / 100000 % 10 = omega arith in
+    let b : n / 100 % 100 / 10 ≡ n / 1000 % 10 = omega arith in
+    let c : n / 100 % 100 % 10 ≡ n / 100 % 10 = omega arith in
+    let d : n % 100 / 10 ≡ n / 10 % 10 = omega arith in
+    let e : n % 100 % 10 ≡ n / 1 % 10 = omega arith in
+    rw (a, b, c, d, e) refl
+
+-- behind the whole array nothing stands
+pub whole_put : (text put rest : List ℕ) → put ≡ text ++ rest → rest ≡ [] → put ≡ text
+whole_put text put rest h none = h ∙ ap (λ t. text ++ t) none ∙ append-nil text
