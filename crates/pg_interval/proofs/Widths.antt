@@ -1,5 +1,8 @@
 -- How many digits the numbers of a normal form have at most, and the digits of small numbers.
-use Rattle.std.proofs.Common.{◌≡◌, ℕ, zero, suc, ◌+◌, ◌/◌, ◌%◌, ◌^◌, ◌<◌, ◌≤◌, true, false, List, [], ◌∷◌, ◌++◌, length, append-nil, ap, ◌∙◌, refl, subst, arith, lit<, ℤ, pos, negsuc, neg_ℤ}
+use Rattle.std.proofs.Common.{◌≡◌, ℕ, zero, suc, ◌+◌, ◌-◌, ◌*◌, ◌/◌, ◌%◌, ◌^◌, ◌<◌, ◌≤◌, Bool, true, false, ◌&&◌, T, eqb, List, [], ◌∷◌, ◌++◌, length, get_or, drop, append-nil, append_assoc, length-append, ap, ◌∙◌, sym, refl, subst, inl, inr, arith, lit<, eq-zero-or-pos, eqb→eq, ℤ, pos, negsuc, neg_ℤ}
+use lib.Ieee.Fits.{and_l, and_r}
+use Rattle.std.proofs.Math.Seq.{drop-drop}
+use Rattle.pg_interval.specs.declared.interval_fmt.digits.TheConstants.{PAIRS}
 use Rattle.std.specs.Prelude.{int_div, int_rem, unsigned_abs, decimal, if◌then◌else◌, nat_lt}
 use Rattle.std.specs.Int.Signed.{mag}
 use Rattle.std.proofs.lemmas.Fmt.{length-decimal-le, decimal_digit, decimal_step}
@@ -61,6 +64,53 @@ interval_widths i within =
 
 pub normal_widths : (n : IntervalNorm) → IsNormal n → HasWidths n
 normal_widths n normal = subst HasWidths normal.2 (interval_widths normal.0 normal.1)
+
+-- a byte that isn't counted
+pub behind_byte : (b : ℕ) (bytes rest : List ℕ) (place : ℕ) → drop place bytes ≡ b ∷ rest → drop (place + 1) bytes ≡ rest
+behind_byte b bytes rest place h = sym (drop-drop 1 place bytes) ∙ ap (drop 1) h
+
+-- ---- digits by pairs
+
+abbrev are_pairs : ℕ → Bool
+are_pairs zero = true
+are_pairs (suc p) = (eqb (get_or PAIRS (p * 2) 0) (48 + p / 10) && eqb (get_or PAIRS (p * 2 + 1) 0) (48 + p % 10)) && are_pairs p
+
+pairs_below : (n p : ℕ) → T (are_pairs n) → p < n → (get_or PAIRS (p * 2) 0 ≡ 48 + p / 10) × (get_or PAIRS (p * 2 + 1) 0 ≡ 48 + p % 10)
+pairs_below zero p t h = absurd (omega arith)
+pairs_below (suc n) p t h =
+    elim (eq-zero-or-pos (n - p)) [
+      | inl z ↦ let e : p ≡ n = omega arith in let a = and_l _ (are_pairs n) t in rw e (eqb→eq _ _ (and_l _ _ a), eqb→eq _ _ (and_r _ _ a))
+      | inr g ↦ pairs_below n p (and_r _ (are_pairs n) t) (omega arith)
+    ]
+
+-- what the table has
+pub pairs_at : (p : ℕ) → p < 100 → (get_or PAIRS (p * 2) 0 ≡ 48 + p / 10) × (get_or PAIRS (p * 2 + 1) 0 ≡ 48 + p % 10)
+pairs_at p h = pairs_below 100 p tt h
+
+pub decimal_two : (n : ℕ) → 10 ≤ n → n < 100 → decimal n ≡ (48 + n / 10) ∷ (48 + n % 10) ∷ []
+decimal_two n lo hi = rw (decimal_step n lo (omega arith), decimal_digit (n / 10) (omega arith)) refl
+
+pub length_one : (n : ℕ) → n < 10 → length (decimal n) ≡ 1
+length_one n h = ap length (decimal_digit n h)
+
+pub length_two : (n : ℕ) → 10 ≤ n → n < 100 → length (decimal n) ≡ 2
+length_two n lo hi = ap length (decimal_two n lo hi)
+
+pub decimal_pair : (n : ℕ) → 100 ≤ n → n < 2 ^ 64 → decimal n ≡ decimal (n / 100) ++ (48 + n % 100 / 10) ∷ (48 + n % 100 % 10) ∷ []
+decimal_pair n lo hi =
+    let a : n / 10 / 10 ≡ n / 100 = omega arith in
+    let b : n / 10 % 10 ≡ n % 100 / 10 = omega arith in
+    let c : n % 10 ≡ n % 100 % 10 = omega arith in
+    rw (decimal_step n (omega arith) hi, decimal_step (n / 10) (omega arith) (omega arith), append_assoc, a, b, ← c) refl
+
+pub length_pair : (n : ℕ) → 100 ≤ n → n < 2 ^ 64 → length (decimal n) ≡ length (decimal (n / 100)) + 2
+length_pair n lo hi = ap length (decimal_pair n lo hi) ∙ length-append _ _
+
+-- one digit or both of a pair
+pub one_of_pair : (n : ℕ) (bytes rest : List ℕ) (place : ℕ) → n < 10 → drop place bytes ≡ (48 + n / 10) ∷ (48 + n % 10) ∷ rest → drop (place + 1) bytes ≡ decimal n ++ rest
+one_of_pair n bytes rest place h e =
+    let r : n % 10 ≡ n = omega arith in
+    behind_byte (48 + n / 10) bytes ((48 + n % 10) ∷ rest) place e ∙ ap (λ m. (48 + m) ∷ rest) r ∙ ap (λ t. t ++ rest) (sym (decimal_digit n h))
 
 -- both digits of a number below 100
 pub two_digits : (n : ℕ) → n < 100 → two_digits_of n ≡ (48 + n / 10) ∷ (48 + n % 10) ∷ []

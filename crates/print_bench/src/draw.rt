@@ -39,4 +39,18 @@ impl Draw {
         let days = self.signed_half();
         Interval::new(months, days, self.signed())
     }
+
+    /// A number within a thousand, of either sign.
+    fn thousand(&mut self) -> i32 {
+        (self.number() % 2001) as i32 - 1000
+    }
+
+    /// The next small interval: months and days within a thousand, and a time within 2 ^ 30 microseconds, which are
+    /// 18 minutes.
+    pub fn small_interval(&mut self) -> Interval {
+        let months = self.thousand();
+        let days = self.thousand();
+        let microseconds = (self.number() % 0x8000_0001) as i64 - 0x4000_0000;
+        Interval::new(months, days, microseconds)
+    }
 }

@@ -1,11 +1,12 @@
-// Prints intervals drawn from a seed in each of the four styles, and tells how many bytes that gave.
-// Words: COUNT, and `times` to tell the nanoseconds of a print as well.
+// Prints intervals drawn from a seed in each of the four styles, small ones and then ones of any size, and tells how many
+// bytes that gave.
+// Words: COUNT, and `times` to tell the nanoseconds of a print as well, into a text of its own and then on the stack.
 #![tactic(auto)]
 
 mod draw;
 
 use draw::Draw;
-use pg_interval::Interval;
+use pg_interval::{Interval, IntervalText};
 use std::alloc::{AllocError, Global};
 use std::time::{Clock, Instant};
 use std::{env, io};
@@ -19,6 +20,13 @@ enum Style {
     SqlStandard,
 }
 
+const STYLES: [Style; 4] = [
+    Style::Postgres,
+    Style::PostgresVerbose,
+    Style::Iso8601,
+    Style::SqlStandard,
+];
+
 fn main(rt: HostRuntime) -> io::Result<()> {
     let mut words = env::args(&rt)?;
     let _program = words.next();
@@ -26,23 +34,29 @@ fn main(rt: HostRuntime) -> io::Result<()> {
     if let Some(word) = words.next() {
         count = word.as_str().parse::<u32>().unwrap_or(0);
     }
-    let timed = words.next().is_some();
-    let intervals = drawn(rt.alloc(), count)?;
-    for style in [
-        Style::Postgres,
-        Style::PostgresVerbose,
-        Style::Iso8601,
-        Style::SqlStandard,
-    ] {
-        let start = Instant::now(&rt)?;
-        let bytes = printed_bytes(rt.alloc(), style, intervals.as_slice())?;
-        let nanoseconds = start.elapsed(&rt)?.as_nanos();
-        println!(rt; "{} {bytes}", name_of(style))?;
-        if timed && count > 0 {
-            println!(rt; "  {} ns", nanoseconds / u128::from(count))?;
+    let timed = words.next().is_some() && count > 0;
+    for small in [true, false] {
+        let intervals = drawn(rt.alloc(), count, small)?;
+        for style in STYLES {
+            let start = Instant::now(&rt)?;
+            let bytes = printed_bytes(rt.alloc(), style, intervals.as_slice())?;
+            let kept = start.elapsed(&rt)?.as_nanos();
+            println!(rt; "{}, {} {bytes}", size_name(small), name_of(style))?;
+            if timed {
+                let start = Instant::now(&rt)?;
+                let same = stack_bytes(style, intervals.as_slice()) == bytes;
+                let stacked = start.elapsed(&rt)?.as_nanos();
+                let each = u128::from(count);
+                println!(rt; "  {} ns, {} ns, {same}", kept / each, stacked / each)?;
+            }
         }
     }
     Ok(())
+}
+
+/// The draw's name.
+fn size_name(small: bool) -> &'static str {
+    if small { "small" } else { "any size" }
 }
 
 /// The style's name in PostgreSQL.
@@ -56,16 +70,20 @@ fn name_of(style: Style) -> &'static str {
 }
 
 /// As many intervals as asked for.
-fn drawn(alloc: Global, count: u32) -> Result<Vec<Interval>, AllocError> {
+fn drawn(alloc: Global, count: u32, small: bool) -> Result<Vec<Interval>, AllocError> {
     let mut intervals = Vec::new(alloc);
     let mut draw = Draw::new(2026);
     for _ in 0..count {
-        intervals.push(draw.interval())?;
+        intervals.push(if small {
+            draw.small_interval()
+        } else {
+            draw.interval()
+        })?;
     }
     Ok(intervals)
 }
 
-/// The bytes of all texts.
+/// The bytes of all texts, each in memory of its own.
 fn printed_bytes(alloc: Global, style: Style, intervals: &[Interval]) -> Result<u64, AllocError> {
     let mut bytes = 0u64;
     for interval in intervals {
@@ -82,5 +100,24 @@ fn text_of(alloc: Global, style: Style, interval: &Interval) -> Result<String, A
         Style::PostgresVerbose => interval.to_postgres_verbose(alloc),
         Style::Iso8601 => interval.to_iso_8601(alloc),
         Style::SqlStandard => interval.to_sql(alloc),
+    }
+}
+
+/// The bytes of all texts, each on the stack.
+fn stack_bytes(style: Style, intervals: &[Interval]) -> u64 {
+    let mut bytes = 0u64;
+    for interval in intervals {
+        bytes = bytes.wrapping_add(stack_text(style, interval).as_bytes().len() as u64);
+    }
+    bytes
+}
+
+/// The interval's text, on the stack.
+fn stack_text(style: Style, interval: &Interval) -> IntervalText {
+    match style {
+        Style::Postgres => interval.postgres_text(),
+        Style::PostgresVerbose => interval.postgres_verbose_text(),
+        Style::Iso8601 => interval.iso_8601_text(),
+        Style::SqlStandard => interval.sql_text(),
     }
 }

@@ -1,12 +1,12 @@
 // Bytes in an array, written from its end to its front: a call writes in front of what stands from `end` on, and tells
 // where its own bytes begin.
-ghost use Rattle.std.specs.Prelude.{◌≡◌, ◌+◌, ◌/◌, ◌%◌, ◌^◌, ◌<◌, ◌≤◌, ◌++◌, ◌∷◌, [], length, drop, decimal, unsigned_abs};
-ghost use Rattle.pg_interval.specs.Printed.{minus_if, two_digits_of, six_digits, fraction_of, after_hours};
+ghost use Rattle.std.specs.Prelude.{◌≡◌, ◌+◌, ◌^◌, ◌<◌, ◌≤◌, ◌++◌, ◌∷◌, [], length, drop, unsigned_abs, if◌then◌else◌};
+ghost use Rattle.pg_interval.specs.Printed.{minus_if, fraction_of, after_hours};
 ghost use Rattle.pg_interval.specs.Widths.{HasWidths};
 
 use super::LONGEST;
+use super::digits::{put_six_digits, put_two_digits};
 use crate::interval_norm::IntervalNorm;
-use itoa::write_digits;
 
 /// Writes the byte.
 #[inline(always)]
@@ -19,6 +19,18 @@ pub fn put_byte(byte: u8, text: &mut [u8; LONGEST], end: usize) -> usize
     end - 1
 }
 
+/// Writes the byte where it is wanted. It is written always, which takes no branch, and then not counted.
+#[inline(always)]
+#[tactic(auto, using(crate::proofs::Widths::behind_byte))]
+pub fn put_byte_if(wanted: bool, byte: u8, text: &mut [u8; LONGEST], end: usize) -> usize
+    requires { (1 ≤ end) × (end ≤ 96) }
+    ensures place { (result ≤ end) × (end ≤ result + 1) }
+    ensures written { drop result text.new ≡ (if wanted then byte ∷ [] else []) ++ drop end text.old }
+{
+    let place = put_byte(byte, text, end);
+    place + usize::from(!wanted)
+}
+
 /// Writes a minus where it is wanted.
 #[inline(always)]
 pub fn put_minus_if(negative: bool, text: &mut [u8; LONGEST], end: usize) -> usize
@@ -26,11 +38,7 @@ pub fn put_minus_if(negative: bool, text: &mut [u8; LONGEST], end: usize) -> usi
     ensures place { (result ≤ end) × (end ≤ result + 1) }
     ensures written { drop result text.new ≡ minus_if negative ++ drop end text.old }
 {
-    if negative {
-        put_byte(b'-', text, end)
-    } else {
-        end
-    }
+    put_byte_if(negative, b'-', text, end)
 }
 
 /// Writes the bytes of the word.
@@ -43,61 +51,6 @@ pub fn put_word(word: &[u8], text: &mut [u8; LONGEST], end: usize) -> usize
     let start = end - word.len();
     text[start..end].copy_from_slice(word);
     start
-}
-
-/// Writes the number in decimal digits.
-#[inline(always)]
-pub fn put_digits(number: u64, text: &mut [u8; LONGEST], end: usize) -> usize
-    requires { (length (decimal number) ≤ end) × (end ≤ 96) }
-    ensures place { result + length (decimal number) ≡ end }
-    ensures written { drop result text.new ≡ decimal number ++ drop end text.old }
-{
-    write_digits(number, text, end)
-}
-
-/// Writes the last digit of the number.
-#[inline(always)]
-pub fn put_last_digit(number: u64, text: &mut [u8; LONGEST], end: usize) -> usize
-    requires { (1 ≤ end) × (end ≤ 96) }
-    ensures place { result + 1 ≡ end }
-    ensures written { drop result text.new ≡ (48 + number % 10) ∷ drop end text.old }
-{
-    put_byte(b'0' + (number % 10) as u8, text, end)
-}
-
-/// Writes both digits of a number below 100.
-#[inline(always)]
-fn put_pair(number: u64, text: &mut [u8; LONGEST], end: usize) -> usize
-    requires { (number < 100) × (2 ≤ end) × (end ≤ 96) }
-    ensures place { result + 2 ≡ end }
-    ensures written { drop result text.new ≡ (48 + number / 10) ∷ (48 + number % 10) ∷ drop end text.old }
-{
-    let ones = put_last_digit(number, text, end);
-    put_last_digit(number / 10, text, ones)
-}
-
-/// Writes the number in decimal digits, two of them at least.
-#[inline(always)]
-#[tactic(auto, using(crate::proofs::Widths::two_digits), unfolding(crate::specs::Printed::two_digits_of))]
-pub fn put_two_digits(number: u64, text: &mut [u8; LONGEST], end: usize) -> usize
-    requires { (number < 100) × (2 ≤ end) × (end ≤ 96) }
-    ensures place { result + 2 ≡ end }
-    ensures written { drop result text.new ≡ two_digits_of number ++ drop end text.old }
-{
-    put_pair(number, text, end)
-}
-
-/// Writes the six digits of a number of microseconds below a second.
-#[inline(always)]
-#[tactic(auto, using(crate::proofs::Widths::six_by_pairs), unfolding(crate::specs::Printed::six_digits))]
-pub fn put_six_digits(number: u64, text: &mut [u8; LONGEST], end: usize) -> usize
-    requires { (number < 1000000) × (6 ≤ end) × (end ≤ 96) }
-    ensures place { result + 6 ≡ end }
-    ensures written { drop result text.new ≡ six_digits number ++ drop end text.old }
-{
-    let four = put_pair(number % 100, text, end);
-    let two = put_pair(number / 100 % 100, text, four);
-    put_pair(number / 10_000, text, two)
 }
 
 /// Writes a point and the six digits of these microseconds, unless there are none.

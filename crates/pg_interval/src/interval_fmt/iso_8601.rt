@@ -3,11 +3,13 @@ ghost use Rattle.pg_interval.specs.Printed.{iso_text, iso_time_text, item_text, 
 ghost use Rattle.pg_interval.specs.Widths.{HasWidths};
 
 use super::LONGEST;
-use super::back::{put_byte, put_digits, put_fraction, put_minus_if, put_word};
+use super::back::{put_byte, put_fraction, put_minus_if, put_word};
+use super::digits::put_digits;
 use crate::interval_norm::IntervalNorm;
 
 /// Writes the text in the style `iso_8601`: `PT0S` for zero, else `P` and each number that isn't zero with its own
 /// minus and its letter, the time's behind a `T`.
+#[inline(always)]
 #[tactic(auto, using(crate::proofs::PrintedLemmas::signed_passed), unfolding(crate::specs::Printed::iso_text))]
 pub fn put_iso(fields: &IntervalNorm, text: &mut [u8; LONGEST], end: usize) -> usize
     requires widths { HasWidths fields.now }
@@ -26,6 +28,7 @@ pub fn put_iso(fields: &IntervalNorm, text: &mut [u8; LONGEST], end: usize) -> u
 }
 
 /// Writes `T` and the fields of the time that aren't zero, if there are any.
+#[inline(always)]
 #[tactic(auto, using(crate::proofs::PrintedLemmas::signed_passed), unfolding(crate::specs::Printed::iso_time_text))]
 fn put_time(fields: &IntervalNorm, text: &mut [u8; LONGEST], end: usize) -> usize
     requires widths { HasWidths fields.now }
@@ -60,6 +63,7 @@ fn put_item(number: i64, letter: u8, text: &mut [u8; LONGEST], end: usize) -> us
 }
 
 /// Writes the seconds with their microseconds, unless both are zero.
+#[inline(always)]
 #[tactic(auto, using(crate::proofs::PrintedLemmas::signed_passed), unfolding(crate::specs::Printed::second_text, crate::specs::Printed::is_zero))]
 fn put_seconds(fields: &IntervalNorm, text: &mut [u8; LONGEST], end: usize) -> usize
     requires widths { HasWidths fields.now }

@@ -7,6 +7,7 @@ ghost use Rattle.pg_interval.specs.Printed.{is_all_zero, is_year_month_zero, is_
 ghost use Rattle.pg_interval.specs.Reading.{StandsForOnly, Postgres, PostgresVerbose, Iso8601, SqlStandard};
 
 mod back;
+mod digits;
 mod iso_8601;
 mod parts;
 mod postgres;
@@ -241,17 +242,24 @@ impl IntervalNorm {
     }
 
     /// Is some field of the time not zero?
+    #[tactic(auto, unfolding(crate::specs::Printed::is_time_zero, crate::specs::Printed::is_zero))]
     fn prints_time(&self) -> bool
         ensures { result ≡ not (is_time_zero self.now) }
     {
-        self.is_time_present()
+        self.hours.unsigned_abs() != 0
+            || self.minutes.unsigned_abs() != 0
+            || self.seconds.unsigned_abs() != 0
+            || self.microseconds.unsigned_abs() != 0
     }
 
     /// Is some field of the time above zero?
     fn is_time_positive(&self) -> bool
         ensures { result ≡ is_time_positive self.now }
     {
-        self.is_time_interval_pos()
+        self.hours.is_positive()
+            || self.minutes.is_positive()
+            || self.seconds.is_positive()
+            || self.microseconds.is_positive()
     }
 
     /// Is some field of the time below zero?

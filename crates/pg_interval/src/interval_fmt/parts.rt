@@ -3,7 +3,8 @@ ghost use Rattle.std.specs.Prelude.{◌≡◌, ◌+◌, ◌++◌, ◌∷◌, [],
 ghost use Rattle.pg_interval.specs.Printed.{part_text, word_end, minus_if};
 
 use super::LONGEST;
-use super::back::{put_byte, put_digits, put_minus_if, put_word};
+use super::back::{put_byte, put_byte_if, put_minus_if, put_word};
+use super::digits::put_digits;
 
 /// Writes a number, a space and its word, with an `s` unless the number is 1.
 #[inline(always)]
@@ -35,9 +36,5 @@ pub fn put_word_end(negative: bool, number: u64, text: &mut [u8; LONGEST], end: 
     ensures place { (result ≤ end) × (end ≤ result + 1) }
     ensures written { drop result text.new ≡ word_end (minus_if negative ++ decimal number) ++ drop end text.old }
 {
-    if negative || number != 1 {
-        put_byte(b's', text, end)
-    } else {
-        end
-    }
+    put_byte_if(negative || number != 1, b's', text, end)
 }

@@ -3,12 +3,14 @@ ghost use Rattle.pg_interval.specs.Printed.{postgres_text, part_of, own_text, ti
 ghost use Rattle.pg_interval.specs.Widths.{HasWidths};
 
 use super::LONGEST;
-use super::back::{put_after_hours, put_byte, put_digits, put_minus_if, put_two_digits, put_word};
+use super::back::{put_after_hours, put_byte, put_minus_if, put_word};
+use super::digits::{put_digits, put_two_digits};
 use super::parts::put_part;
 use crate::interval_norm::IntervalNorm;
 
 /// Writes the text in the style `postgres`: the years, months and days that aren't zero, each with its own minus, and
 /// the time, unless it is zero. Zero prints `00:00:00`.
+#[inline(always)]
 #[tactic(auto, unfolding(crate::specs::Printed::postgres_text, crate::specs::Printed::date_parts))]
 pub fn put_postgres(fields: &IntervalNorm, text: &mut [u8; LONGEST]) -> usize
     requires { HasWidths fields.now }
@@ -25,6 +27,7 @@ pub fn put_postgres(fields: &IntervalNorm, text: &mut [u8; LONGEST]) -> usize
 }
 
 /// Writes the time, unless it is zero.
+#[inline(always)]
 #[tactic(auto, using(crate::proofs::PrintedLemmas::signed_passed), unfolding(crate::specs::Printed::time_texts))]
 fn put_time(fields: &IntervalNorm, text: &mut [u8; LONGEST], end: usize) -> usize
     requires widths { HasWidths fields.now }
@@ -45,7 +48,7 @@ fn put_time(fields: &IntervalNorm, text: &mut [u8; LONGEST], end: usize) -> usiz
 #[inline(always)]
 #[tactic(auto, unfolding(crate::specs::Printed::two_digits_of))]
 fn put_hours(number: u64, text: &mut [u8; LONGEST], end: usize) -> usize
-    requires { (length (decimal number) ≤ 10) × (10 ≤ end) × (end ≤ 96) }
+    requires { (length (decimal number) ≤ 10) × (11 ≤ end) × (end ≤ 96) }
     ensures place { (result ≤ end) × (end ≤ result + 10) }
     ensures written { drop result text.new ≡ two_digits_of number ++ drop end text.old }
 {
@@ -57,6 +60,7 @@ fn put_hours(number: u64, text: &mut [u8; LONGEST], end: usize) -> usize
 }
 
 /// Writes a part with its own minus, and a space between it and what stands behind it.
+#[inline(always)]
 #[tactic(auto, using(crate::proofs::PrintedLemmas::signed_passed), unfolding(crate::specs::Printed::part_of, crate::specs::Printed::is_zero))]
 fn put_own_part(number: i32, word: &[u8], text: &mut [u8; LONGEST], end: usize) -> usize
     requires word { length word.now ≤ 4 }

@@ -3,7 +3,8 @@ ghost use Rattle.pg_interval.specs.Printed.{sql_text, fields_text, signed_days_t
 ghost use Rattle.pg_interval.specs.Widths.{HasWidths};
 
 use super::LONGEST;
-use super::back::{put_after_hours, put_byte, put_digits, put_minus_if};
+use super::back::{put_after_hours, put_byte, put_minus_if};
+use super::digits::put_digits;
 use crate::interval_norm::IntervalNorm;
 
 impl IntervalNorm {
@@ -25,6 +26,7 @@ impl IntervalNorm {
 
 /// Writes the text in the style `sql_standard`: `0` for zero, years and months alone, days and time alone where no two
 /// have opposite signs, and else all three, each with its sign.
+#[inline(always)]
 #[tactic(auto, using(crate::proofs::PrintedLemmas::signed_passed), unfolding(crate::specs::Printed::sql_text))]
 pub fn put_sql(fields: &IntervalNorm, text: &mut [u8; LONGEST], end: usize) -> usize
     requires widths { HasWidths fields.now }
@@ -72,7 +74,7 @@ fn put_sign(negative: bool, text: &mut [u8; LONGEST], end: usize) -> usize
 #[tactic(auto, using(crate::proofs::PrintedLemmas::signed_passed), unfolding(crate::specs::Printed::year_month_text))]
 fn put_year_month(fields: &IntervalNorm, text: &mut [u8; LONGEST], end: usize) -> usize
     requires widths { HasWidths fields.now }
-    requires room { (12 ≤ end) × (end ≤ 96) }
+    requires room { (13 ≤ end) × (end ≤ 96) }
     ensures place { (result ≤ end) × (end ≤ result + 12) }
     ensures written { drop result text.new ≡ year_month_text fields.now ++ drop end text.old }
 {
@@ -86,7 +88,7 @@ fn put_year_month(fields: &IntervalNorm, text: &mut [u8; LONGEST], end: usize) -
 #[tactic(auto, using(crate::proofs::PrintedLemmas::signed_passed), unfolding(crate::specs::Printed::sql_time_text))]
 fn put_time(fields: &IntervalNorm, text: &mut [u8; LONGEST], end: usize) -> usize
     requires widths { HasWidths fields.now }
-    requires room { (23 ≤ end) × (end ≤ 96) }
+    requires room { (24 ≤ end) × (end ≤ 96) }
     ensures place { (result ≤ end) × (end ≤ result + 23) }
     ensures written { drop result text.new ≡ sql_time_text fields.now ++ drop end text.old }
 {

@@ -3,7 +3,8 @@ ghost use Rattle.pg_interval.specs.Printed.{verbose_text, verbose_part_text, par
 ghost use Rattle.pg_interval.specs.Widths.{HasWidths};
 
 use super::LONGEST;
-use super::back::{put_byte, put_digits, put_last_digit, put_minus_if, put_six_digits, put_word};
+use super::back::{put_byte, put_minus_if, put_word};
+use super::digits::{put_digits, put_last_digit, put_six_digits};
 use super::parts::{put_part, put_word_end};
 use crate::interval_norm::IntervalNorm;
 
@@ -41,6 +42,7 @@ impl IntervalNorm {
 
 /// Writes the text in the style `postgres_verbose`: `@` and the parts that aren't zero. Where the first is negative,
 /// each number is negated and the text ends with `ago`. Zero prints `@ 0`.
+#[inline(always)]
 #[tactic(auto, using(crate::proofs::PrintedLemmas::parts_put), unfolding(crate::specs::Printed::verbose_text))]
 pub fn put_verbose(fields: &IntervalNorm, text: &mut [u8; LONGEST], end: usize) -> usize
     requires widths { HasWidths fields.now }
@@ -124,6 +126,7 @@ fn put_verbose_part(
 }
 
 /// Writes a space and the seconds with their decimals, negated where the text ends with `ago`.
+#[inline(always)]
 #[tactic(auto, using(crate::proofs::PrintedLemmas::signed_passed), unfolding(crate::specs::Printed::second_parts, crate::specs::Printed::verbose_part_text, crate::specs::Printed::part_text))]
 fn put_seconds(ago: bool, fields: &IntervalNorm, text: &mut [u8; LONGEST], end: usize) -> usize
     requires widths { HasWidths fields.now }
@@ -166,7 +169,7 @@ fn put_second_end(
 #[tactic(auto, using(crate::proofs::PrintedLemmas::signed_passed), unfolding(crate::specs::Printed::second_digits))]
 fn put_second_digits(fields: &IntervalNorm, text: &mut [u8; LONGEST], end: usize) -> usize
     requires widths { HasWidths fields.now }
-    requires room { (9 ≤ end) × (end ≤ 96) }
+    requires room { (10 ≤ end) × (end ≤ 96) }
     ensures place { (result ≤ end) × (end ≤ result + 9) }
     ensures written { drop result text.new ≡ second_digits fields.now ++ drop end text.old }
 {

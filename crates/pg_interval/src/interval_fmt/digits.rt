@@ -1,0 +1,83 @@
+// The digits of a number, two at a time, in front of what stands from `end` on.
+ghost use Rattle.std.specs.Prelude.{◌≡◌, ◌+◌, ◌/◌, ◌%◌, ◌<◌, ◌≤◌, ◌++◌, ◌∷◌, length, drop, decimal};
+ghost use Rattle.pg_interval.specs.Printed.{two_digits_of, six_digits};
+
+use super::LONGEST;
+use super::back::put_byte;
+
+/// Both digits of each number below 100.
+static PAIRS: [u8; 200] =
+    *b"00010203040506070809101112131415161718192021222324252627282930313233343536373839404142434445464748495051525354555657585960616263646566676869707172737475767778798081828384858687888990919293949596979899";
+
+/// Writes the number in decimal digits. It needs one byte more than they are: a pair is written where one is left.
+#[inline(always)]
+pub fn put_digits(number: u64, text: &mut [u8; LONGEST], end: usize) -> usize
+    requires { (length (decimal number) + 1 ≤ end) × (end ≤ 96) }
+    ensures place { result + length (decimal number) ≡ end }
+    ensures written { drop result text.new ≡ decimal number ++ drop end text.old }
+{
+    let mut left = number;
+    let mut place = end;
+    while left >= 100 {
+        place = put_pair(left % 100, text, place);
+        left /= 100;
+    }
+    put_one_or_two(left, text, place)
+}
+
+/// Writes a number below 100 in decimal digits.
+#[inline(always)]
+fn put_one_or_two(number: u64, text: &mut [u8; LONGEST], end: usize) -> usize
+    requires { (number < 100) × (2 ≤ end) × (end ≤ 96) }
+    ensures place { result + length (decimal number) ≡ end }
+    ensures written { drop result text.new ≡ decimal number ++ drop end text.old }
+{
+    let tens = put_pair(number, text, end);
+    if number < 10 { tens + 1 } else { tens }
+}
+
+/// Writes both digits of a number below 100.
+#[inline(always)]
+fn put_pair(number: u64, text: &mut [u8; LONGEST], end: usize) -> usize
+    requires { (number < 100) × (2 ≤ end) × (end ≤ 96) }
+    ensures place { result + 2 ≡ end }
+    ensures written { drop result text.new ≡ (48 + number / 10) ∷ (48 + number % 10) ∷ drop end text.old }
+{
+    let from = number as usize * 2;
+    let ones = put_byte(PAIRS[from + 1], text, end);
+    put_byte(PAIRS[from], text, ones)
+}
+
+/// Writes a number below 100 in two digits.
+#[inline(always)]
+#[tactic(auto, using(crate::proofs::Widths::two_digits))]
+pub fn put_two_digits(number: u64, text: &mut [u8; LONGEST], end: usize) -> usize
+    requires { (number < 100) × (2 ≤ end) × (end ≤ 96) }
+    ensures place { result + 2 ≡ end }
+    ensures written { drop result text.new ≡ two_digits_of number ++ drop end text.old }
+{
+    put_pair(number, text, end)
+}
+
+/// Writes the six digits of a number of microseconds below a second.
+#[inline(always)]
+#[tactic(auto, using(crate::proofs::Widths::six_by_pairs))]
+pub fn put_six_digits(number: u64, text: &mut [u8; LONGEST], end: usize) -> usize
+    requires { (number < 1000000) × (6 ≤ end) × (end ≤ 96) }
+    ensures place { result + 6 ≡ end }
+    ensures written { drop result text.new ≡ six_digits number ++ drop end text.old }
+{
+    let four = put_pair(number % 100, text, end);
+    let two = put_pair(number / 100 % 100, text, four);
+    put_pair(number / 10_000, text, two)
+}
+
+/// Writes the last digit of the number.
+#[inline(always)]
+pub fn put_last_digit(number: u64, text: &mut [u8; LONGEST], end: usize) -> usize
+    requires { (1 ≤ end) × (end ≤ 96) }
+    ensures place { result + 1 ≡ end }
+    ensures written { drop result text.new ≡ (48 + number % 10) ∷ drop end text.old }
+{
+    put_byte(b'0' + (number % 10) as u8, text, end)
+}
