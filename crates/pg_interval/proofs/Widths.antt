@@ -1,14 +1,15 @@
 -- How many digits the numbers of a normal form have at most, and the digits of small numbers.
-use Rattle.std.proofs.Common.{◌≡◌, ℕ, zero, suc, ◌+◌, ◌-◌, ◌*◌, ◌/◌, ◌%◌, ◌^◌, ◌<◌, ◌≤◌, Bool, true, false, ◌&&◌, T, eqb, List, [], ◌∷◌, ◌++◌, length, get_or, drop, append-nil, append_assoc, length-append, ap, ◌∙◌, sym, refl, subst, inl, inr, arith, lit<, eq-zero-or-pos, eqb→eq, ℤ, pos, negsuc, neg_ℤ}
+use Rattle.std.proofs.Common.{◌≡◌, ℕ, zero, suc, ◌+◌, ◌-◌, ◌*◌, ◌/◌, ◌%◌, ◌^◌, ◌<◌, ◌≤◌, Bool, true, false, ◌&&◌, T, eqb, List, [], ◌∷◌, ◌++◌, length, get_or, drop, append-nil, append_assoc, length-append, ap, ◌∙◌, sym, refl, subst, ◌⊎◌, inl, inr, arith, lit<, eq-zero-or-pos, eqb→eq, ℤ, pos, negsuc, neg_ℤ}
 use lib.Ieee.Fits.{and_l, and_r}
 use Rattle.std.proofs.Math.Seq.{drop-drop}
 use Rattle.pg_interval.specs.declared.interval_fmt.digits.TheConstants.{PAIRS}
 use Rattle.std.specs.Prelude.{int_div, int_rem, unsigned_abs, decimal, if◌then◌else◌, nat_lt}
 use Rattle.std.specs.Int.Signed.{mag}
+use Rattle.std.proofs.lemmas.List.{drop-append-le}
 use Rattle.std.proofs.lemmas.Fmt.{length-decimal-le, decimal_digit, decimal_step}
 use Rattle.pg_interval.specs.Cell.{IsInterval}
 use Rattle.pg_interval.specs.NormalForm.{normal_form, IsNormal}
-use Rattle.pg_interval.specs.Printed.{two_digits_of, six_digits}
+use Rattle.pg_interval.specs.Printed.{last_digits, two_digits_of, six_digits}
 use Rattle.pg_interval.specs.Widths.{HasWidths}
 use Rattle.pg_interval.specs.declared.pg_interval.Interval.{Interval}
 use Rattle.pg_interval.specs.declared.interval_norm.IntervalNorm.{IntervalNorm}
@@ -90,12 +91,6 @@ pairs_at p h = pairs_below 100 p tt h
 pub decimal_two : (n : ℕ) → 10 ≤ n → n < 100 → decimal n ≡ (48 + n / 10) ∷ (48 + n % 10) ∷ []
 decimal_two n lo hi = rw (decimal_step n lo (omega arith), decimal_digit (n / 10) (omega arith)) refl
 
-pub length_one : (n : ℕ) → n < 10 → length (decimal n) ≡ 1
-length_one n h = ap length (decimal_digit n h)
-
-pub length_two : (n : ℕ) → 10 ≤ n → n < 100 → length (decimal n) ≡ 2
-length_two n lo hi = ap length (decimal_two n lo hi)
-
 pub decimal_pair : (n : ℕ) → 100 ≤ n → n < 2 ^ 64 → decimal n ≡ decimal (n / 100) ++ (48 + n % 100 / 10) ∷ (48 + n % 100 % 10) ∷ []
 decimal_pair n lo hi =
     let a : n / 10 / 10 ≡ n / 100 = omega arith in
@@ -103,14 +98,81 @@ decimal_pair n lo hi =
     let c : n % 10 ≡ n % 100 % 10 = omega arith in
     rw (decimal_step n (omega arith) hi, decimal_step (n / 10) (omega arith) (omega arith), append_assoc, a, b, ← c) refl
 
-pub length_pair : (n : ℕ) → 100 ≤ n → n < 2 ^ 64 → length (decimal n) ≡ length (decimal (n / 100)) + 2
-length_pair n lo hi = ap length (decimal_pair n lo hi) ∙ length-append _ _
+-- ---- four digits
 
--- one digit or both of a pair
-pub one_of_pair : (n : ℕ) (bytes rest : List ℕ) (place : ℕ) → n < 10 → drop place bytes ≡ (48 + n / 10) ∷ (48 + n % 10) ∷ rest → drop (place + 1) bytes ≡ decimal n ++ rest
-one_of_pair n bytes rest place h e =
-    let r : n % 10 ≡ n = omega arith in
-    behind_byte (48 + n / 10) bytes ((48 + n % 10) ∷ rest) place e ∙ ap (λ m. (48 + m) ∷ rest) r ∙ ap (λ t. t ++ rest) (sym (decimal_digit n h))
+pub four_by_pairs : (n : ℕ) (rest : List ℕ) → n < 10000 → last_digits 4 n ++ rest ≡ (48 + n / 100 / 10) ∷ (48 + n / 100 % 10) ∷ (48 + n % 100 / 10) ∷ (48 + n % 100 % 10) ∷ rest
+four_by_pairs n rest h =
+    let a : n / 100 / 10 ≡ n / 1000 % 10 = omega arith in
+    let b : n % 100 / 10 ≡ n / 10 % 10 = omega arith in
+    let c : n % 100 % 10 ≡ n / 1 % 10 = omega arith in
+    rw (a, b, c) refl
+
+-- the digits of a number below 10,000, by its size
+pub digits_one : (n : ℕ) → n < 10 → decimal n ≡ drop 3 (last_digits 4 n)
+digits_one n h = let a : n / 1 % 10 ≡ n = omega arith in rw (decimal_digit n h, a) refl
+
+pub digits_two : (n : ℕ) → 10 ≤ n → n < 100 → decimal n ≡ drop 2 (last_digits 4 n)
+digits_two n lo hi = let a : n / 10 % 10 ≡ n / 10 = omega arith in let b : n / 1 % 10 ≡ n % 10 = omega arith in rw (decimal_two n lo hi, a, b) refl
+
+pub digits_three : (n : ℕ) → 100 ≤ n → n < 1000 → decimal n ≡ drop 1 (last_digits 4 n)
+digits_three n lo hi =
+    let a : n / 100 % 10 ≡ n / 100 = omega arith in
+    let b : n % 100 / 10 ≡ n / 10 % 10 = omega arith in
+    let c : n % 100 % 10 ≡ n / 1 % 10 = omega arith in
+    rw (decimal_pair n lo (omega arith), decimal_digit (n / 100) (omega arith), a, b, c) refl
+
+pub digits_four : (n : ℕ) → 1000 ≤ n → n < 10000 → decimal n ≡ last_digits 4 n
+digits_four n lo hi =
+    let a : n / 100 / 10 ≡ n / 1000 % 10 = omega arith in
+    let b : n % 100 / 10 ≡ n / 10 % 10 = omega arith in
+    let c : n % 100 % 10 ≡ n / 1 % 10 = omega arith in
+    rw (decimal_pair n (omega arith) (omega arith), decimal_two (n / 100) (omega arith) (omega arith), a, b, c) refl
+
+pub length_one : (n : ℕ) → n < 10 → length (decimal n) ≡ 1
+length_one n h = ap length (digits_one n h)
+
+pub length_two : (n : ℕ) → 10 ≤ n → n < 100 → length (decimal n) ≡ 2
+length_two n lo hi = ap length (digits_two n lo hi)
+
+pub length_three : (n : ℕ) → 100 ≤ n → n < 1000 → length (decimal n) ≡ 3
+length_three n lo hi = ap length (digits_three n lo hi)
+
+pub length_four : (n : ℕ) → 1000 ≤ n → n < 10000 → length (decimal n) ≡ 4
+length_four n lo hi = ap length (digits_four n lo hi)
+
+pub ruleset lengths_to_four = (length_one, length_two, length_three, length_four)
+
+lt-or-le : (n b : ℕ) → (n < b) ⊎ (b ≤ n)
+lt-or-le n b = elim (eq-zero-or-pos (b - n)) [ inl z ↦ inr (omega arith) | inr g ↦ inl (omega arith) ]
+
+-- the zeros in front are as many as the digits are fewer than four
+zeros_dropped : (n z : ℕ) → n < 10000 → z + length (decimal n) ≡ 4 → drop z (last_digits 4 n) ≡ decimal n
+zeros_dropped n z h e = elim (lt-or-le n 10) [
+  | inl one ↦ let long : length (decimal n) ≡ 1 = length_one n one in let three : z ≡ 3 = omega arith in ap (λ k. drop k (last_digits 4 n)) three ∙ sym (digits_one n one)
+  | inr ten ↦ elim (lt-or-le n 100) [
+    | inl two ↦ let long : length (decimal n) ≡ 2 = length_two n ten two in let left : z ≡ 2 = omega arith in ap (λ k. drop k (last_digits 4 n)) left ∙ sym (digits_two n ten two)
+    | inr hundred ↦ elim (lt-or-le n 1000) [
+      | inl three ↦ let long : length (decimal n) ≡ 3 = length_three n hundred three in let left : z ≡ 1 = omega arith in ap (λ k. drop k (last_digits 4 n)) left ∙ sym (digits_three n hundred three)
+      | inr thousand ↦ let long : length (decimal n) ≡ 4 = length_four n thousand h in let left : z ≡ 0 = omega arith in ap (λ k. drop k (last_digits 4 n)) left ∙ sym (digits_four n thousand h)
+    ]
+  ]
+]
+
+pub behind_zeros : (n z place : ℕ) (bytes rest : List ℕ) → n < 10000 → z + length (decimal n) ≡ 4 → drop place bytes ≡ last_digits 4 n ++ rest → drop (place + z) bytes ≡ decimal n ++ rest
+behind_zeros n z place bytes rest h e w =
+    sym (drop-drop z place bytes) ∙ ap (drop z) w ∙ drop-append-le z (last_digits 4 n) rest (omega arith) ∙ ap (λ t. t ++ rest) (zeros_dropped n z h e)
+
+pub decimal_four : (n : ℕ) → 10000 ≤ n → n < 2 ^ 64 → decimal n ≡ decimal (n / 10000) ++ last_digits 4 (n % 10000)
+decimal_four n lo hi =
+    let a : n / 100 / 100 ≡ n / 10000 = omega arith in
+    let b : n / 100 % 100 / 10 ≡ n % 10000 / 1000 % 10 = omega arith in
+    let c : n / 100 % 100 % 10 ≡ n % 10000 / 100 % 10 = omega arith in
+    let d : n % 100 / 10 ≡ n % 10000 / 10 % 10 = omega arith in
+    let e : n % 100 % 10 ≡ n % 10000 / 1 % 10 = omega arith in
+    rw (decimal_pair n (omega arith) hi, decimal_pair (n / 100) (omega arith) (omega arith), append_assoc, a, b, c, d, e) refl
+
+pub length_by_four : (n : ℕ) → 10000 ≤ n → n < 2 ^ 64 → length (decimal n) ≡ length (decimal (n / 10000)) + 4
+length_by_four n lo hi = ap length (decimal_four n lo hi) ∙ length-append _ _
 
 -- both digits of a number below 100
 pub two_digits : (n : ℕ) → n < 100 → two_digits_of n ≡ (48 + n / 10) ∷ (48 + n % 10) ∷ []

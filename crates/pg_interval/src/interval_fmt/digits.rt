@@ -1,6 +1,6 @@
 // The digits of a number, two at a time, in front of what stands from `end` on.
 ghost use Rattle.std.specs.Prelude.{◌≡◌, ◌+◌, ◌/◌, ◌%◌, ◌<◌, ◌≤◌, ◌++◌, ◌∷◌, length, drop, decimal};
-ghost use Rattle.pg_interval.specs.Printed.{two_digits_of, six_digits};
+ghost use Rattle.pg_interval.specs.Printed.{last_digits, two_digits_of, six_digits};
 
 use super::LONGEST;
 use super::back::put_byte;
@@ -9,31 +9,54 @@ use super::back::put_byte;
 static PAIRS: [u8; 200] =
     *b"00010203040506070809101112131415161718192021222324252627282930313233343536373839404142434445464748495051525354555657585960616263646566676869707172737475767778798081828384858687888990919293949596979899";
 
-/// Writes the number in decimal digits. It needs one byte more than they are: a pair is written where one is left.
+/// Writes the number in decimal digits. It needs three bytes more than they are: four are written where one is left.
 #[inline(always)]
 pub fn put_digits(number: u64, text: &mut [u8; LONGEST], end: usize) -> usize
-    requires { (length (decimal number) + 1 ≤ end) × (end ≤ 96) }
+    requires { (length (decimal number) + 3 ≤ end) × (end ≤ 96) }
     ensures place { result + length (decimal number) ≡ end }
     ensures written { drop result text.new ≡ decimal number ++ drop end text.old }
 {
     let mut left = number;
     let mut place = end;
-    while left >= 100 {
-        place = put_pair(left % 100, text, place);
-        left /= 100;
+    while left >= 10_000 {
+        place = put_four(left % 10_000, text, place);
+        left /= 10_000;
     }
-    put_one_or_two(left, text, place)
+    put_up_to_four(left, text, place)
 }
 
-/// Writes a number below 100 in decimal digits.
+/// Writes a number below 10,000 in decimal digits: all four are written, and the zeros in front not counted.
 #[inline(always)]
-fn put_one_or_two(number: u64, text: &mut [u8; LONGEST], end: usize) -> usize
-    requires { (number < 100) × (2 ≤ end) × (end ≤ 96) }
+#[tactic(auto, using(crate::proofs::Widths::behind_zeros))]
+fn put_up_to_four(number: u64, text: &mut [u8; LONGEST], end: usize) -> usize
+    requires { (number < 10000) × (4 ≤ end) × (end ≤ 96) }
     ensures place { result + length (decimal number) ≡ end }
     ensures written { drop result text.new ≡ decimal number ++ drop end text.old }
 {
-    let tens = put_pair(number, text, end);
-    if number < 10 { tens + 1 } else { tens }
+    let four = put_four(number, text, end);
+    four + zeros_in_front(number)
+}
+
+/// The zeros in front of a number's four digits, of which the last always counts.
+#[inline(always)]
+#[tactic(auto, using(crate::proofs::Widths::lengths_to_four))]
+fn zeros_in_front(number: u64) -> usize
+    requires { number < 10000 }
+    ensures { result + length (decimal number) ≡ 4 }
+{
+    usize::from(number < 10) + usize::from(number < 100) + usize::from(number < 1000)
+}
+
+/// Writes the four digits of a number below 10,000.
+#[inline(always)]
+#[tactic(auto, using(crate::proofs::Widths::four_by_pairs))]
+fn put_four(number: u64, text: &mut [u8; LONGEST], end: usize) -> usize
+    requires { (number < 10000) × (4 ≤ end) × (end ≤ 96) }
+    ensures place { result + 4 ≡ end }
+    ensures written { drop result text.new ≡ last_digits 4 number ++ drop end text.old }
+{
+    let two = put_pair(number % 100, text, end);
+    put_pair(number / 100, text, two)
 }
 
 /// Writes both digits of a number below 100.

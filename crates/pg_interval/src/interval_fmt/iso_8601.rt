@@ -13,7 +13,7 @@ use crate::interval_norm::IntervalNorm;
 #[tactic(auto, using(crate::proofs::PrintedLemmas::signed_passed), unfolding(crate::specs::Printed::iso_text))]
 pub fn put_iso(fields: &IntervalNorm, text: &mut [u8; LONGEST], end: usize) -> usize
     requires widths { HasWidths fields.now }
-    requires room { (56 ≤ end) × (end ≤ 96) }
+    requires room { (58 ≤ end) × (end ≤ 96) }
     ensures place { result ≤ end }
     ensures written { drop result text.new ≡ iso_text fields.now ++ drop end text.old }
 {
@@ -32,7 +32,7 @@ pub fn put_iso(fields: &IntervalNorm, text: &mut [u8; LONGEST], end: usize) -> u
 #[tactic(auto, using(crate::proofs::PrintedLemmas::signed_passed), unfolding(crate::specs::Printed::iso_time_text))]
 fn put_time(fields: &IntervalNorm, text: &mut [u8; LONGEST], end: usize) -> usize
     requires widths { HasWidths fields.now }
-    requires room { (28 ≤ end) × (end ≤ 96) }
+    requires room { (30 ≤ end) × (end ≤ 96) }
     ensures place { (result ≤ end) × (end ≤ result + 28) }
     ensures written { drop result text.new ≡ iso_time_text fields.now ++ drop end text.old }
 {
@@ -49,7 +49,7 @@ fn put_time(fields: &IntervalNorm, text: &mut [u8; LONGEST], end: usize) -> usiz
 #[inline(always)]
 #[tactic(auto, using(crate::proofs::PrintedLemmas::signed_passed), unfolding(crate::specs::Printed::item_text, crate::specs::Printed::is_zero))]
 fn put_item(number: i64, letter: u8, text: &mut [u8; LONGEST], end: usize) -> usize
-    requires { (length (digits_of number) + 2 ≤ end) × (end ≤ 96) }
+    requires { (length (digits_of number) + 4 ≤ end) × (end ≤ 96) }
     ensures place { (result ≤ end) × (end ≤ result + length (digits_of number) + 2) }
     ensures written { drop result text.new ≡ item_text number letter ++ drop end text.old }
 {
@@ -67,7 +67,7 @@ fn put_item(number: i64, letter: u8, text: &mut [u8; LONGEST], end: usize) -> us
 #[tactic(auto, using(crate::proofs::PrintedLemmas::signed_passed), unfolding(crate::specs::Printed::second_text, crate::specs::Printed::is_zero))]
 fn put_seconds(fields: &IntervalNorm, text: &mut [u8; LONGEST], end: usize) -> usize
     requires widths { HasWidths fields.now }
-    requires room { (11 ≤ end) × (end ≤ 96) }
+    requires room { (13 ≤ end) × (end ≤ 96) }
     ensures place { (result ≤ end) × (end ≤ result + 11) }
     ensures written { drop result text.new ≡ second_text fields.now ++ drop end text.old }
 {

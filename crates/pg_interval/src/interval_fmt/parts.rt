@@ -17,7 +17,7 @@ pub fn put_part(
     end: usize,
 ) -> usize
     requires word { length word.now ≤ 4 }
-    requires room { (length (decimal number) + 7 ≤ end) × (end ≤ 96) }
+    requires room { (length (decimal number) + 9 ≤ end) × (end ≤ 96) }
     ensures place { (result ≤ end) × (end ≤ result + length (decimal number) + 7) }
     ensures written { drop result text.new ≡ part_text negative (decimal number) word.now ++ drop end text.old }
 {

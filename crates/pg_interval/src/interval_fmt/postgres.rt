@@ -31,7 +31,7 @@ pub fn put_postgres(fields: &IntervalNorm, text: &mut [u8; LONGEST]) -> usize
 #[tactic(auto, using(crate::proofs::PrintedLemmas::signed_passed), unfolding(crate::specs::Printed::time_texts))]
 fn put_time(fields: &IntervalNorm, text: &mut [u8; LONGEST], end: usize) -> usize
     requires widths { HasWidths fields.now }
-    requires room { (25 ≤ end) × (end ≤ 96) }
+    requires room { (27 ≤ end) × (end ≤ 96) }
     ensures place { (result ≤ end) × (end ≤ result + 25) }
     ensures written { drop result text.new ≡ joined_before (time_texts fields.now) (drop end text.old) }
 {
@@ -48,7 +48,7 @@ fn put_time(fields: &IntervalNorm, text: &mut [u8; LONGEST], end: usize) -> usiz
 #[inline(always)]
 #[tactic(auto, unfolding(crate::specs::Printed::two_digits_of))]
 fn put_hours(number: u64, text: &mut [u8; LONGEST], end: usize) -> usize
-    requires { (length (decimal number) ≤ 10) × (11 ≤ end) × (end ≤ 96) }
+    requires { (length (decimal number) ≤ 10) × (13 ≤ end) × (end ≤ 96) }
     ensures place { (result ≤ end) × (end ≤ result + 10) }
     ensures written { drop result text.new ≡ two_digits_of number ++ drop end text.old }
 {
@@ -64,7 +64,7 @@ fn put_hours(number: u64, text: &mut [u8; LONGEST], end: usize) -> usize
 #[tactic(auto, using(crate::proofs::PrintedLemmas::signed_passed), unfolding(crate::specs::Printed::part_of, crate::specs::Printed::is_zero))]
 fn put_own_part(number: i32, word: &[u8], text: &mut [u8; LONGEST], end: usize) -> usize
     requires word { length word.now ≤ 4 }
-    requires room { (length (digits_of number) + 8 ≤ end) × (end ≤ 96) }
+    requires room { (length (digits_of number) + 10 ≤ end) × (end ≤ 96) }
     ensures place { (result ≤ end) × (end ≤ result + length (digits_of number) + 8) }
     ensures written { drop result text.new ≡ joined_before (map own_text (part_of number word.now)) (drop end text.old) }
 {

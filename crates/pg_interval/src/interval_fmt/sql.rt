@@ -30,7 +30,7 @@ impl IntervalNorm {
 #[tactic(auto, using(crate::proofs::PrintedLemmas::signed_passed), unfolding(crate::specs::Printed::sql_text))]
 pub fn put_sql(fields: &IntervalNorm, text: &mut [u8; LONGEST], end: usize) -> usize
     requires widths { HasWidths fields.now }
-    requires room { (50 ≤ end) × (end ≤ 96) }
+    requires room { (52 ≤ end) × (end ≤ 96) }
     ensures place { result ≤ end }
     ensures written { drop result text.new ≡ sql_text fields.now ++ drop end text.old }
 {
@@ -45,7 +45,7 @@ pub fn put_sql(fields: &IntervalNorm, text: &mut [u8; LONGEST], end: usize) -> u
 #[tactic(auto, using(crate::proofs::PrintedLemmas::signed_passed), unfolding(crate::specs::Printed::fields_text))]
 fn put_fields(fields: &IntervalNorm, text: &mut [u8; LONGEST], end: usize) -> usize
     requires widths { HasWidths fields.now }
-    requires room { (50 ≤ end) × (end ≤ 96) }
+    requires room { (52 ≤ end) × (end ≤ 96) }
     ensures place { result ≤ end }
     ensures written { drop result text.new ≡ fields_text fields.now ++ drop end text.old }
 {
@@ -74,7 +74,7 @@ fn put_sign(negative: bool, text: &mut [u8; LONGEST], end: usize) -> usize
 #[tactic(auto, using(crate::proofs::PrintedLemmas::signed_passed), unfolding(crate::specs::Printed::year_month_text))]
 fn put_year_month(fields: &IntervalNorm, text: &mut [u8; LONGEST], end: usize) -> usize
     requires widths { HasWidths fields.now }
-    requires room { (13 ≤ end) × (end ≤ 96) }
+    requires room { (15 ≤ end) × (end ≤ 96) }
     ensures place { (result ≤ end) × (end ≤ result + 12) }
     ensures written { drop result text.new ≡ year_month_text fields.now ++ drop end text.old }
 {
@@ -88,7 +88,7 @@ fn put_year_month(fields: &IntervalNorm, text: &mut [u8; LONGEST], end: usize) -
 #[tactic(auto, using(crate::proofs::PrintedLemmas::signed_passed), unfolding(crate::specs::Printed::sql_time_text))]
 fn put_time(fields: &IntervalNorm, text: &mut [u8; LONGEST], end: usize) -> usize
     requires widths { HasWidths fields.now }
-    requires room { (24 ≤ end) × (end ≤ 96) }
+    requires room { (26 ≤ end) × (end ≤ 96) }
     ensures place { (result ≤ end) × (end ≤ result + 23) }
     ensures written { drop result text.new ≡ sql_time_text fields.now ++ drop end text.old }
 {
@@ -101,7 +101,7 @@ fn put_time(fields: &IntervalNorm, text: &mut [u8; LONGEST], end: usize) -> usiz
 #[tactic(auto, using(crate::proofs::PrintedLemmas::signed_passed), unfolding(crate::specs::Printed::day_time_text, crate::specs::Printed::is_zero))]
 fn put_day_time(fields: &IntervalNorm, text: &mut [u8; LONGEST], end: usize) -> usize
     requires widths { HasWidths fields.now }
-    requires room { (50 ≤ end) × (end ≤ 96) }
+    requires room { (52 ≤ end) × (end ≤ 96) }
     ensures place { result ≤ end }
     ensures written { drop result text.new ≡ day_time_text fields.now ++ drop end text.old }
 {
@@ -120,7 +120,7 @@ fn put_day_time(fields: &IntervalNorm, text: &mut [u8; LONGEST], end: usize) -> 
 #[tactic(auto, using(crate::proofs::PrintedLemmas::signed_passed), unfolding(crate::specs::Printed::signed_text))]
 fn put_signed(fields: &IntervalNorm, text: &mut [u8; LONGEST], end: usize) -> usize
     requires widths { HasWidths fields.now }
-    requires room { (50 ≤ end) × (end ≤ 96) }
+    requires room { (52 ≤ end) × (end ≤ 96) }
     ensures place { result ≤ end }
     ensures written { drop result text.new ≡ signed_text fields.now ++ drop end text.old }
 {
@@ -138,7 +138,7 @@ fn put_signed(fields: &IntervalNorm, text: &mut [u8; LONGEST], end: usize) -> us
 #[tactic(auto, using(crate::proofs::PrintedLemmas::signed_passed), unfolding(crate::specs::Printed::signed_days_text))]
 fn put_signed_days(fields: &IntervalNorm, text: &mut [u8; LONGEST], end: usize) -> usize
     requires widths { HasWidths fields.now }
-    requires room { (11 ≤ end) × (end ≤ 96) }
+    requires room { (13 ≤ end) × (end ≤ 96) }
     ensures place { (result ≤ end) × (end ≤ result + 11) }
     ensures written { drop result text.new ≡ signed_days_text fields.now ++ drop end text.old }
 {

@@ -46,7 +46,7 @@ impl IntervalNorm {
 #[tactic(auto, using(crate::proofs::PrintedLemmas::parts_put), unfolding(crate::specs::Printed::verbose_text))]
 pub fn put_verbose(fields: &IntervalNorm, text: &mut [u8; LONGEST], end: usize) -> usize
     requires widths { HasWidths fields.now }
-    requires room { (94 ≤ end) × (end ≤ 96) }
+    requires room { (95 ≤ end) × (end ≤ 96) }
     ensures place { result ≤ end }
     ensures written { drop result text.new ≡ verbose_text fields.now ++ drop end text.old }
 {
@@ -79,7 +79,7 @@ fn put_ago_end(ago: bool, text: &mut [u8; LONGEST], end: usize) -> usize
 #[tactic(auto, using(crate::proofs::PrintedLemmas::parts_put), unfolding(crate::specs::Printed::verbose_time_parts))]
 fn put_time_parts(ago: bool, fields: &IntervalNorm, text: &mut [u8; LONGEST], end: usize) -> usize
     requires widths { HasWidths fields.now }
-    requires room { (44 ≤ end) × (end ≤ 96) }
+    requires room { (46 ≤ end) × (end ≤ 96) }
     ensures place { (result ≤ end) × (end ≤ result + 44) }
     ensures written { drop result text.new ≡ flat_map (verbose_part_text ago) (verbose_time_parts fields.now) ++ drop end text.old }
 {
@@ -93,7 +93,7 @@ fn put_time_parts(ago: bool, fields: &IntervalNorm, text: &mut [u8; LONGEST], en
 #[tactic(auto, using(crate::proofs::PrintedLemmas::parts_put), unfolding(crate::specs::Printed::date_parts))]
 fn put_date_parts(ago: bool, fields: &IntervalNorm, text: &mut [u8; LONGEST], end: usize) -> usize
     requires widths { HasWidths fields.now }
-    requires room { (45 ≤ end) × (end ≤ 96) }
+    requires room { (47 ≤ end) × (end ≤ 96) }
     ensures place { (result ≤ end) × (end ≤ result + 45) }
     ensures written { drop result text.new ≡ flat_map (verbose_part_text ago) (date_parts fields.now) ++ drop end text.old }
 {
@@ -113,7 +113,7 @@ fn put_verbose_part(
     end: usize,
 ) -> usize
     requires word { length word.now ≤ 4 }
-    requires room { (length (digits_of number) + 8 ≤ end) × (end ≤ 96) }
+    requires room { (length (digits_of number) + 10 ≤ end) × (end ≤ 96) }
     ensures place { (result ≤ end) × (end ≤ result + length (digits_of number) + 8) }
     ensures written { drop result text.new ≡ flat_map (verbose_part_text ago) (part_of number word.now) ++ drop end text.old }
 {
@@ -130,7 +130,7 @@ fn put_verbose_part(
 #[tactic(auto, using(crate::proofs::PrintedLemmas::signed_passed), unfolding(crate::specs::Printed::second_parts, crate::specs::Printed::verbose_part_text, crate::specs::Printed::part_text))]
 fn put_seconds(ago: bool, fields: &IntervalNorm, text: &mut [u8; LONGEST], end: usize) -> usize
     requires widths { HasWidths fields.now }
-    requires room { (16 ≤ end) × (end ≤ 96) }
+    requires room { (18 ≤ end) × (end ≤ 96) }
     ensures place { (result ≤ end) × (end ≤ result + 16) }
     ensures written { drop result text.new ≡ flat_map (verbose_part_text ago) (second_parts fields.now) ++ drop end text.old }
 {
@@ -169,7 +169,7 @@ fn put_second_end(
 #[tactic(auto, using(crate::proofs::PrintedLemmas::signed_passed), unfolding(crate::specs::Printed::second_digits))]
 fn put_second_digits(fields: &IntervalNorm, text: &mut [u8; LONGEST], end: usize) -> usize
     requires widths { HasWidths fields.now }
-    requires room { (10 ≤ end) × (end ≤ 96) }
+    requires room { (12 ≤ end) × (end ≤ 96) }
     ensures place { (result ≤ end) × (end ≤ result + 9) }
     ensures written { drop result text.new ≡ second_digits fields.now ++ drop end text.old }
 {
