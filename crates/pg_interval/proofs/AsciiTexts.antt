@@ -9,7 +9,13 @@ use Rattle.std.proofs.lemmas.Str.{IsUtf8-from_ascii, IsAscii-append}
 use Rattle.std.proofs.lemmas.Str.Ascii.{IsAscii-nil, IsAscii-cons}
 use Rattle.std.proofs.lemmas.Fmt.{IsAscii-decimal}
 use Rattle.pg_interval.specs.NormalForm.{IsNormal}
-use Rattle.pg_interval.specs.Printed.{is_zero, minus_if, sign_of, digits_of, two_digits_of, two_digits, last_digits, six_digits, fraction_of, is_all_zero, is_time_zero, is_time_negative, is_second_zero, is_second_negative, after_hours, Part, part_of, word_end, part_text, own_text, date_parts, time_texts, postgres_text, without_last_zeros, decimals_of, second_digits, second_parts, verbose_time_parts, verbose_parts, is_ago, verbose_part_text, ago_end, verbose_text_of, verbose_text, item_text, second_text, iso_time_text, iso_text, year_month_text, sql_time_text, is_year_month_negative, day_time_text, signed_days_text, signed_text, fields_text, sql_text}
+use Rattle.pg_interval.specs.Printed.{is_zero, minus_if, sign_of, digits_of, two_digits_of, two_digits, last_digits, six_digits}
+use Rattle.pg_interval.specs.Printed.{fraction_of, is_all_zero, is_time_zero, is_time_negative, is_second_zero, is_second_negative}
+use Rattle.pg_interval.specs.Printed.{after_hours, Part, part_of, word_end, part_text, own_text, date_parts, time_texts, postgres_text}
+use Rattle.pg_interval.specs.Printed.{without_last_zeros, decimals_of, second_digits, second_parts, verbose_time_parts, verbose_parts}
+use Rattle.pg_interval.specs.Printed.{is_ago, verbose_part_text, ago_end, verbose_text_of, verbose_text, item_text, second_text}
+use Rattle.pg_interval.specs.Printed.{iso_time_text, iso_text, year_month_text, sql_time_text, is_year_month_negative, day_time_text}
+use Rattle.pg_interval.specs.Printed.{signed_days_text, signed_text, fields_text, sql_text}
 use Rattle.pg_interval.specs.declared.interval_norm.IntervalNorm.{IntervalNorm}
 use Rattle.pg_interval.proofs.NormalFacts.{IsSized, normal_sizes}
 use Rattle.pg_interval.proofs.PartTexts.{abs_small}
@@ -57,33 +63,55 @@ fraction z = either (is_zero z) [] (46 ∷ last_digits 6 (unsigned_abs z)) nothi
 
 after : (n : IntervalNorm) → IsSized n → Ascii (after_hours n)
 unfolding after_hours
-after n size = both (58 ∷ two_digits n.minutes ++ 58 ∷ two_digits n.seconds) (fraction_of n.microseconds) (both (58 ∷ two_digits n.minutes) (58 ∷ two_digits n.seconds) (one 58 _ (lit< tt) (two n.minutes size.minutes)) (one 58 _ (lit< tt) (two n.seconds size.seconds))) (fraction n.microseconds)
+after n size =
+    let minutes : Ascii (58 ∷ two_digits n.minutes) = one 58 _ (lit< tt) (two n.minutes size.minutes) in
+    let seconds : Ascii (58 ∷ two_digits n.seconds) = one 58 _ (lit< tt) (two n.seconds size.seconds) in
+    both _ (fraction_of n.microseconds) (both _ (58 ∷ two_digits n.seconds) minutes seconds) (fraction n.microseconds)
 
 -- ---- iso_8601
 
 item : (z : ℤ) (letter : ℕ) → letter < 128 → mag z < 2 ^ 63 → Ascii (item_text z letter)
 unfolding item_text
-item z letter l h = either (is_zero z) [] (minus_if (is_negative z) ++ digits_of z ++ letter ∷ []) nothing (both (minus_if (is_negative z) ++ digits_of z) (letter ∷ []) (both (minus_if (is_negative z)) (digits_of z) (minus (is_negative z)) (digits z h)) (one letter [] l nothing))
+item z letter l h =
+    let number : Ascii (minus_if (is_negative z) ++ digits_of z) = both _ (digits_of z) (minus (is_negative z)) (digits z h) in
+    either (is_zero z) [] (minus_if (is_negative z) ++ digits_of z ++ letter ∷ []) nothing (both _ (letter ∷ []) number (one letter [] l nothing))
 
 second : (n : IntervalNorm) → IsSized n → Ascii (second_text n)
 unfolding second_text
-second n size = either (is_second_zero n) [] (minus_if (is_second_negative n) ++ digits_of n.seconds ++ fraction_of n.microseconds ++ 83 ∷ []) nothing (both _ (83 ∷ []) (both _ (fraction_of n.microseconds) (both _ (digits_of n.seconds) (minus (is_second_negative n)) (digits n.seconds size.seconds)) (fraction n.microseconds)) (one 83 [] (lit< tt) nothing))
+second n size =
+    let b : Bool = is_second_negative n in
+    let whole : Ascii (minus_if b ++ digits_of n.seconds) = both _ (digits_of n.seconds) (minus b) (digits n.seconds size.seconds) in
+    either (is_second_zero n) [] (minus_if b ++ digits_of n.seconds ++ fraction_of n.microseconds ++ 83 ∷ [])
+    nothing
+    (both _ (83 ∷ []) (both _ (fraction_of n.microseconds) whole (fraction n.microseconds)) (one 83 [] (lit< tt) nothing))
 
 iso_time : (n : IntervalNorm) → IsSized n → Ascii (iso_time_text n)
 unfolding iso_time_text
-iso_time n size = either (is_time_zero n) [] (84 ∷ item_text n.hours 72 ++ item_text n.minutes 77 ++ second_text n) nothing (both _ (second_text n) (both _ (item_text n.minutes 77) (one 84 (item_text n.hours 72) (lit< tt) (item n.hours 72 (lit< tt) size.hours)) (item n.minutes 77 (lit< tt) size.minutes)) (second n size))
+iso_time n size =
+    let hours : Ascii (84 ∷ item_text n.hours 72) = one 84 _ (lit< tt) (item n.hours 72 (lit< tt) size.hours) in
+    let minutes : Ascii (item_text n.minutes 77) = item n.minutes 77 (lit< tt) size.minutes in
+    either (is_time_zero n) [] (84 ∷ item_text n.hours 72 ++ item_text n.minutes 77 ++ second_text n)
+    nothing
+    (both _ (second_text n) (both _ (item_text n.minutes 77) hours minutes) (second n size))
 
 iso : (n : IntervalNorm) → IsSized n → Ascii (iso_text n)
 unfolding iso_text
-iso n size = either (is_all_zero n) (codes "PT0S") (80 ∷ item_text n.years 89 ++ item_text n.months 77 ++ item_text n.days 68 ++ iso_time_text n)
+iso n size =
+    let years : Ascii (80 ∷ item_text n.years 89) = one 80 _ (lit< tt) (item n.years 89 (lit< tt) (wider n.years size.years)) in
+    let months : Ascii (item_text n.months 77) = item n.months 77 (lit< tt) (wider n.months size.months) in
+    let days : Ascii (item_text n.days 68) = item n.days 68 (lit< tt) (wider n.days size.days) in
+    either (is_all_zero n) (codes "PT0S") (80 ∷ item_text n.years 89 ++ item_text n.months 77 ++ item_text n.days 68 ++ iso_time_text n)
     (one 80 _ (lit< tt) (one 84 _ (lit< tt) (one 48 _ (lit< tt) (one 83 [] (lit< tt) nothing))))
-    (both _ (iso_time_text n) (both _ (item_text n.days 68) (both _ (item_text n.months 77) (one 80 (item_text n.years 89) (lit< tt) (item n.years 89 (lit< tt) (wider n.years size.years))) (item n.months 77 (lit< tt) (wider n.months size.months))) (item n.days 68 (lit< tt) (wider n.days size.days))) (iso_time n size))
+    (both _ (iso_time_text n) (both _ (item_text n.days 68) (both _ (item_text n.months 77) years months) days) (iso_time n size))
 
 -- ---- sql_standard
 
 year_month : (n : IntervalNorm) → IsSized n → Ascii (year_month_text n)
 unfolding year_month_text
-year_month n size = both (digits_of n.years) (45 ∷ digits_of n.months) (digits n.years (wider n.years size.years)) (one 45 _ (lit< tt) (digits n.months (wider n.months size.months)))
+year_month n size =
+    both (digits_of n.years) (45 ∷ digits_of n.months)
+    (digits n.years (wider n.years size.years))
+    (one 45 _ (lit< tt) (digits n.months (wider n.months size.months)))
 
 sql_time : (n : IntervalNorm) → IsSized n → Ascii (sql_time_text n)
 unfolding sql_time_text
@@ -91,9 +119,11 @@ sql_time n size = both (digits_of n.hours) (after_hours n) (digits n.hours size.
 
 day_time : (n : IntervalNorm) → IsSized n → Ascii (day_time_text n)
 unfolding day_time_text
-day_time n size = either (is_zero n.days) (minus_if (is_time_negative n) ++ sql_time_text n) (minus_if (is_negative n.days) ++ digits_of n.days ++ 32 ∷ sql_time_text n)
+day_time n size =
+    let days : Ascii (minus_if (is_negative n.days) ++ digits_of n.days) = both _ (digits_of n.days) (minus (is_negative n.days)) (digits n.days (wider n.days size.days)) in
+    either (is_zero n.days) _ (minus_if (is_negative n.days) ++ digits_of n.days ++ 32 ∷ sql_time_text n)
     (both _ (sql_time_text n) (minus (is_time_negative n)) (sql_time n size))
-    (both _ (32 ∷ sql_time_text n) (both _ (digits_of n.days) (minus (is_negative n.days)) (digits n.days (wider n.days size.days))) (one 32 _ (lit< tt) (sql_time n size)))
+    (both _ (32 ∷ sql_time_text n) days (one 32 _ (lit< tt) (sql_time n size)))
 
 signed_days : (n : IntervalNorm) → IsSized n → Ascii (signed_days_text n)
 unfolding signed_days_text
@@ -128,7 +158,8 @@ ending number = either (bytes_eq number (codes "1")) [] (codes "s") nothing (one
 
 part : (b : Bool) (ds name : List ℕ) → Ascii ds → Ascii name → Ascii (part_text b ds name)
 unfolding part_text
-part b ds name h k = both _ (word_end (minus_if b ++ ds)) (both _ (32 ∷ name) (both _ ds (minus b) h) (one 32 name (lit< tt) k)) (ending (minus_if b ++ ds))
+part b ds name h k =
+    both _ (word_end (minus_if b ++ ds)) (both _ (32 ∷ name) (both _ ds (minus b) h) (one 32 name (lit< tt) k)) (ending (minus_if b ++ ds))
 
 -- each number and each word of the parts
 data Parts : List Part → Type 0 where
@@ -141,7 +172,9 @@ parts_both (p ∷ ps) qs (more d w h) k = more d w (parts_both ps qs h k)
 
 part_is : (z : ℤ) (name : List ℕ) → mag z < 2 ^ 63 → Ascii name → Parts (part_of z name)
 unfolding part_of
-part_is z name h k = elim (is_zero z) as (λ b. Parts (if b then [] else record { negative = is_negative z; digits = digits_of z; word = name } ∷ [])) [ true ↦ none | false ↦ more (digits z h) k none ]
+part_is z name h k =
+    let own : Part = record { negative = is_negative z; digits = digits_of z; word = name } in
+    elim (is_zero z) as (λ b. Parts (if b then [] else own ∷ [])) [ true ↦ none | false ↦ more (digits z h) k none ]
 
 year : Ascii (codes "year")
 year = one 121 _ (lit< tt) (one 101 _ (lit< tt) (one 97 _ (lit< tt) (one 114 _ (lit< tt) nothing)))
@@ -163,7 +196,11 @@ sec = one 115 _ (lit< tt) (one 101 _ (lit< tt) (one 99 _ (lit< tt) nothing))
 
 dates : (n : IntervalNorm) → IsSized n → Parts (date_parts n)
 unfolding date_parts
-dates n size = parts_both _ (part_of n.days (codes "day")) (parts_both _ (part_of n.months (codes "mon")) (part_is n.years (codes "year") (wider n.years size.years) year) (part_is n.months (codes "mon") (wider n.months size.months) mon)) (part_is n.days (codes "day") (wider n.days size.days) day)
+dates n size =
+    let years : Parts (part_of n.years (codes "year")) = part_is n.years (codes "year") (wider n.years size.years) year in
+    let months : Parts (part_of n.months (codes "mon")) = part_is n.months (codes "mon") (wider n.months size.months) mon in
+    let days : Parts (part_of n.days (codes "day")) = part_is n.days (codes "day") (wider n.days size.days) day in
+    parts_both _ (part_of n.days (codes "day")) (parts_both _ (part_of n.months (codes "mon")) years months) days
 
 -- each text of a list
 data Texts : List (List ℕ) → Type 0 where
@@ -180,10 +217,14 @@ own_texts (p ∷ ps) (more d w h) = more (part p.negative p.digits p.word d w) (
 
 times : (n : IntervalNorm) → IsSized n → Texts (time_texts n)
 unfolding time_texts
-times n size = elim (is_time_zero n) as (λ b. Texts (if b then [] else (minus_if (is_time_negative n) ++ two_digits n.hours ++ after_hours n) ∷ [])) [
-  | true ↦ none
-  | false ↦ more (both _ (after_hours n) (both _ (two_digits n.hours) (minus (is_time_negative n)) (two n.hours size.hours)) (after n size)) none
-]
+times n size =
+    let text : List ℕ = minus_if (is_time_negative n) ++ two_digits n.hours ++ after_hours n in
+    let hours : Ascii (minus_if (is_time_negative n) ++ two_digits n.hours) =
+    both _ (two_digits n.hours) (minus (is_time_negative n)) (two n.hours size.hours) in
+    elim (is_time_zero n) as (λ b. Texts (if b then [] else text ∷ [])) [
+      | true ↦ none
+      | false ↦ more (both _ (after_hours n) hours (after n size)) none
+    ]
 
 joined : (ts : List (List ℕ)) → Texts ts → Ascii (join_with_byte 32 ts)
 joined [] h = nothing
@@ -192,34 +233,52 @@ joined (t ∷ u ∷ ts) (more a h) = both t (32 ∷ join_with_byte 32 (u ∷ ts)
 
 postgres : (n : IntervalNorm) → IsSized n → Ascii (postgres_text n)
 unfolding postgres_text
-postgres n size = either (is_all_zero n) (codes "00:00:00") (join_with_byte 32 (map own_text (date_parts n) ++ time_texts n))
-    (one 48 _ (lit< tt) (one 48 _ (lit< tt) (one 58 _ (lit< tt) (one 48 _ (lit< tt) (one 48 _ (lit< tt) (one 58 _ (lit< tt) (one 48 _ (lit< tt) (one 48 _ (lit< tt) nothing))))))))
+postgres n size =
+    let two_zeros : (rest : List ℕ) → Ascii rest → Ascii (48 ∷ 48 ∷ rest) = λ rest h. one 48 _ (lit< tt) (one 48 _ (lit< tt) h) in
+    let seconds : Ascii (codes ":00") = one 58 _ (lit< tt) (two_zeros [] nothing) in
+    either (is_all_zero n) (codes "00:00:00") (join_with_byte 32 (map own_text (date_parts n) ++ time_texts n))
+    (two_zeros _ (one 58 _ (lit< tt) (two_zeros _ seconds)))
     (joined _ (texts_both (map own_text (date_parts n)) (time_texts n) (own_texts (date_parts n) (dates n size)) (times n size)))
 
 zeros_cut : (ds : List ℕ) → Ascii ds → Ascii (without_last_zeros ds)
 unfolding without_last_zeros
 zeros_cut [] h = nothing
-zeros_cut (d ∷ ds) h = either (list_all (λ c. c == 48) (d ∷ ds)) [] (d ∷ without_last_zeros ds) nothing (one d _ (h.bytes 0) (zeros_cut ds (record { bytes = λ i. h.bytes (suc i) })))
+zeros_cut (d ∷ ds) h =
+    either (list_all (λ c. c == 48) (d ∷ ds)) [] (d ∷ without_last_zeros ds)
+    nothing
+    (one d _ (h.bytes 0) (zeros_cut ds (record { bytes = λ i. h.bytes (suc i) })))
 
 decimals : (z : ℤ) → Ascii (decimals_of z)
 unfolding decimals_of six_digits
-decimals z = either (is_zero z) [] (46 ∷ without_last_zeros (last_digits 6 (unsigned_abs z))) nothing (one 46 _ (lit< tt) (zeros_cut _ (last 6 (unsigned_abs z))))
+decimals z =
+    either (is_zero z) [] (46 ∷ without_last_zeros (last_digits 6 (unsigned_abs z)))
+    nothing
+    (one 46 _ (lit< tt) (zeros_cut _ (last 6 (unsigned_abs z))))
 
 seconds : (n : IntervalNorm) → IsSized n → Parts (second_parts n)
 unfolding second_parts second_digits
-seconds n size = elim (is_second_zero n) as (λ b. Parts (if b then [] else record { negative = is_second_negative n; digits = digits_of n.seconds ++ decimals_of n.microseconds; word = codes "sec" } ∷ [])) [ true ↦ none | false ↦ more (both _ (decimals_of n.microseconds) (digits n.seconds size.seconds) (decimals n.microseconds)) sec none ]
+seconds n size =
+    let number : List ℕ = digits_of n.seconds ++ decimals_of n.microseconds in
+    let own : Part = record { negative = is_second_negative n; digits = number; word = codes "sec" } in
+    let ascii : Ascii number = both _ (decimals_of n.microseconds) (digits n.seconds size.seconds) (decimals n.microseconds) in
+    elim (is_second_zero n) as (λ b. Parts (if b then [] else own ∷ [])) [ true ↦ none | false ↦ more ascii sec none ]
 
 verbose_times : (n : IntervalNorm) → IsSized n → Parts (verbose_time_parts n)
 unfolding verbose_time_parts
-verbose_times n size = parts_both _ (second_parts n) (parts_both _ (part_of n.minutes (codes "min")) (part_is n.hours (codes "hour") size.hours hour) (part_is n.minutes (codes "min") size.minutes min)) (seconds n size)
+verbose_times n size =
+    let hours : Parts (part_of n.hours (codes "hour")) = part_is n.hours (codes "hour") size.hours hour in
+    let minutes : Parts (part_of n.minutes (codes "min")) = part_is n.minutes (codes "min") size.minutes min in
+    parts_both _ (second_parts n) (parts_both _ (part_of n.minutes (codes "min")) hours minutes) (seconds n size)
 
 verbose_flat : (ago : Bool) (ps : List Part) → Parts ps → Ascii (flat_map (verbose_part_text ago) ps)
 unfolding verbose_part_text
 verbose_flat ago [] h = nothing
-verbose_flat ago (p ∷ ps) (more d w h) = both (verbose_part_text ago p) (flat_map (verbose_part_text ago) ps) (one 32 _ (lit< tt) (part _ p.digits p.word d w)) (verbose_flat ago ps h)
+verbose_flat ago (p ∷ ps) (more d w h) =
+    both (verbose_part_text ago p) (flat_map (verbose_part_text ago) ps) (one 32 _ (lit< tt) (part _ p.digits p.word d w)) (verbose_flat ago ps h)
 
 ago_is : (ago : Bool) → Ascii (ago_end ago)
-ago_is ago = either ago (codes " ago") [] (one 32 _ (lit< tt) (one 97 _ (lit< tt) (one 103 _ (lit< tt) (one 111 _ (lit< tt) nothing)))) nothing
+ago_is ago =
+    either ago (codes " ago") [] (one 32 _ (lit< tt) (one 97 _ (lit< tt) (one 103 _ (lit< tt) (one 111 _ (lit< tt) nothing)))) nothing
 
 verbose : (n : IntervalNorm) → IsSized n → Ascii (verbose_text n)
 unfolding verbose_text
@@ -232,7 +291,8 @@ verbose n size =
 
 -- ---- UTF-8
 
-utf8 : (text : IntervalNorm → List ℕ) → ((n : IntervalNorm) → IsSized n → Ascii (text n)) → (n : IntervalNorm) → IsNormal n → IsUtf8 (text n)
+utf8 : (text : IntervalNorm → List ℕ) → ((n : IntervalNorm) → IsSized n → Ascii (text n)) → (n : IntervalNorm) → IsNormal n
+    → IsUtf8 (text n)
 utf8 text ascii n normal = IsUtf8-from_ascii (text n) (ascii n (subst IsSized normal.2 (normal_sizes normal.0 normal.1))).bytes
 
 pub postgres_utf8 : (n : IntervalNorm) → IsNormal n → IsUtf8 (postgres_text n)

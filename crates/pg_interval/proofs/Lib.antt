@@ -10,6 +10,7 @@ pub mod PairSums
 pub mod PartTexts
 pub mod PostgresReads
 pub mod PrintedLemmas
+pub mod PutDigits
 pub mod SqlReads
 pub mod Stands
 mod TextsPrinted

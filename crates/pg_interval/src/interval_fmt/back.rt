@@ -21,11 +21,12 @@ pub fn put_byte(byte: u8, text: &mut [u8; LONGEST], end: usize) -> usize
 
 /// Writes the byte where it is wanted. It is written always, which takes no branch, and then not counted.
 #[inline(always)]
-#[tactic(auto, using(crate::proofs::Widths::behind_byte))]
+#[tactic(auto, using(crate::proofs::PutDigits::behind_byte))]
 pub fn put_byte_if(wanted: bool, byte: u8, text: &mut [u8; LONGEST], end: usize) -> usize
     requires { (1 ≤ end) × (end ≤ 96) }
     ensures place { (result ≤ end) × (end ≤ result + 1) }
-    ensures written { drop result text.new ≡ (if wanted then byte ∷ [] else []) ++ drop end text.old }
+    ensures written { drop result text.new
+        ≡ (if wanted then byte ∷ [] else []) ++ drop end text.old }
 {
     let place = put_byte(byte, text, end);
     place + usize::from(!wanted)

@@ -27,7 +27,7 @@ pub fn put_digits(number: u64, text: &mut [u8; LONGEST], end: usize) -> usize
 
 /// Writes a number below 10,000 in decimal digits: all four are written, and the zeros in front not counted.
 #[inline(always)]
-#[tactic(auto, using(crate::proofs::Widths::behind_zeros))]
+#[tactic(auto, using(crate::proofs::PutDigits::behind_zeros))]
 fn put_up_to_four(number: u64, text: &mut [u8; LONGEST], end: usize) -> usize
     requires { (number < 10000) × (4 ≤ end) × (end ≤ 96) }
     ensures place { result + length (decimal number) ≡ end }
@@ -39,7 +39,7 @@ fn put_up_to_four(number: u64, text: &mut [u8; LONGEST], end: usize) -> usize
 
 /// The zeros in front of a number's four digits, of which the last always counts.
 #[inline(always)]
-#[tactic(auto, using(crate::proofs::Widths::lengths_to_four))]
+#[tactic(auto, using(crate::proofs::PutDigits::lengths_to_four))]
 fn zeros_in_front(number: u64) -> usize
     requires { number < 10000 }
     ensures { result + length (decimal number) ≡ 4 }
@@ -49,7 +49,7 @@ fn zeros_in_front(number: u64) -> usize
 
 /// Writes the four digits of a number below 10,000.
 #[inline(always)]
-#[tactic(auto, using(crate::proofs::Widths::four_by_pairs))]
+#[tactic(auto, using(crate::proofs::PutDigits::four_by_pairs))]
 fn put_four(number: u64, text: &mut [u8; LONGEST], end: usize) -> usize
     requires { (number < 10000) × (4 ≤ end) × (end ≤ 96) }
     ensures place { result + 4 ≡ end }
@@ -64,7 +64,8 @@ fn put_four(number: u64, text: &mut [u8; LONGEST], end: usize) -> usize
 fn put_pair(number: u64, text: &mut [u8; LONGEST], end: usize) -> usize
     requires { (number < 100) × (2 ≤ end) × (end ≤ 96) }
     ensures place { result + 2 ≡ end }
-    ensures written { drop result text.new ≡ (48 + number / 10) ∷ (48 + number % 10) ∷ drop end text.old }
+    ensures written { drop result text.new
+        ≡ (48 + number / 10) ∷ (48 + number % 10) ∷ drop end text.old }
 {
     let from = number as usize * 2;
     let ones = put_byte(PAIRS[from + 1], text, end);
@@ -73,7 +74,7 @@ fn put_pair(number: u64, text: &mut [u8; LONGEST], end: usize) -> usize
 
 /// Writes a number below 100 in two digits.
 #[inline(always)]
-#[tactic(auto, using(crate::proofs::Widths::two_digits))]
+#[tactic(auto, using(crate::proofs::PutDigits::two_digits))]
 pub fn put_two_digits(number: u64, text: &mut [u8; LONGEST], end: usize) -> usize
     requires { (number < 100) × (2 ≤ end) × (end ≤ 96) }
     ensures place { result + 2 ≡ end }
@@ -84,7 +85,7 @@ pub fn put_two_digits(number: u64, text: &mut [u8; LONGEST], end: usize) -> usiz
 
 /// Writes the six digits of a number of microseconds below a second.
 #[inline(always)]
-#[tactic(auto, using(crate::proofs::Widths::six_by_pairs))]
+#[tactic(auto, using(crate::proofs::PutDigits::six_by_pairs))]
 pub fn put_six_digits(number: u64, text: &mut [u8; LONGEST], end: usize) -> usize
     requires { (number < 1000000) × (6 ≤ end) × (end ≤ 96) }
     ensures place { result + 6 ≡ end }

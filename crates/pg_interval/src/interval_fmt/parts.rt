@@ -19,7 +19,8 @@ pub fn put_part(
     requires word { length word.now ≤ 4 }
     requires room { (length (decimal number) + 9 ≤ end) × (end ≤ 96) }
     ensures place { (result ≤ end) × (end ≤ result + length (decimal number) + 7) }
-    ensures written { drop result text.new ≡ part_text negative (decimal number) word.now ++ drop end text.old }
+    ensures written { drop result text.new
+        ≡ part_text negative (decimal number) word.now ++ drop end text.old }
 {
     let letter = put_word_end(negative, number, text, end);
     let letters = put_word(word, text, letter);
@@ -34,7 +35,8 @@ pub fn put_part(
 pub fn put_word_end(negative: bool, number: u64, text: &mut [u8; LONGEST], end: usize) -> usize
     requires { (1 ≤ end) × (end ≤ 96) }
     ensures place { (result ≤ end) × (end ≤ result + 1) }
-    ensures written { drop result text.new ≡ word_end (minus_if negative ++ decimal number) ++ drop end text.old }
+    ensures written { drop result text.new
+        ≡ word_end (minus_if negative ++ decimal number) ++ drop end text.old }
 {
     put_byte_if(negative || number != 1, b's', text, end)
 }

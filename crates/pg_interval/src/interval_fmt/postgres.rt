@@ -33,7 +33,8 @@ fn put_time(fields: &IntervalNorm, text: &mut [u8; LONGEST], end: usize) -> usiz
     requires widths { HasWidths fields.now }
     requires room { (27 ≤ end) × (end ≤ 96) }
     ensures place { (result ≤ end) × (end ≤ result + 25) }
-    ensures written { drop result text.new ≡ joined_before (time_texts fields.now) (drop end text.old) }
+    ensures written { drop result text.new
+        ≡ joined_before (time_texts fields.now) (drop end text.old) }
 {
     if !fields.prints_time() {
         return end;
@@ -66,7 +67,8 @@ fn put_own_part(number: i32, word: &[u8], text: &mut [u8; LONGEST], end: usize) 
     requires word { length word.now ≤ 4 }
     requires room { (length (digits_of number) + 10 ≤ end) × (end ≤ 96) }
     ensures place { (result ≤ end) × (end ≤ result + length (digits_of number) + 8) }
-    ensures written { drop result text.new ≡ joined_before (map own_text (part_of number word.now)) (drop end text.old) }
+    ensures written { drop result text.new
+        ≡ joined_before (map own_text (part_of number word.now)) (drop end text.old) }
 {
     let digits = number.unsigned_abs();
     if digits == 0 {

@@ -81,7 +81,8 @@ fn put_time_parts(ago: bool, fields: &IntervalNorm, text: &mut [u8; LONGEST], en
     requires widths { HasWidths fields.now }
     requires room { (46 ≤ end) × (end ≤ 96) }
     ensures place { (result ≤ end) × (end ≤ result + 44) }
-    ensures written { drop result text.new ≡ flat_map (verbose_part_text ago) (verbose_time_parts fields.now) ++ drop end text.old }
+    ensures written { drop result text.new
+        ≡ flat_map (verbose_part_text ago) (verbose_time_parts fields.now) ++ drop end text.old }
 {
     let seconds = put_seconds(ago, fields, text, end);
     let minutes = put_verbose_part(ago, fields.minutes, b"min", text, seconds);
@@ -95,7 +96,8 @@ fn put_date_parts(ago: bool, fields: &IntervalNorm, text: &mut [u8; LONGEST], en
     requires widths { HasWidths fields.now }
     requires room { (47 ≤ end) × (end ≤ 96) }
     ensures place { (result ≤ end) × (end ≤ result + 45) }
-    ensures written { drop result text.new ≡ flat_map (verbose_part_text ago) (date_parts fields.now) ++ drop end text.old }
+    ensures written { drop result text.new
+        ≡ flat_map (verbose_part_text ago) (date_parts fields.now) ++ drop end text.old }
 {
     let days = put_verbose_part(ago, i64::from(fields.days), b"day", text, end);
     let months = put_verbose_part(ago, i64::from(fields.months), b"mon", text, days);
@@ -115,7 +117,8 @@ fn put_verbose_part(
     requires word { length word.now ≤ 4 }
     requires room { (length (digits_of number) + 10 ≤ end) × (end ≤ 96) }
     ensures place { (result ≤ end) × (end ≤ result + length (digits_of number) + 8) }
-    ensures written { drop result text.new ≡ flat_map (verbose_part_text ago) (part_of number word.now) ++ drop end text.old }
+    ensures written { drop result text.new
+        ≡ flat_map (verbose_part_text ago) (part_of number word.now) ++ drop end text.old }
 {
     let digits = number.unsigned_abs();
     if digits == 0 {
@@ -132,7 +135,8 @@ fn put_seconds(ago: bool, fields: &IntervalNorm, text: &mut [u8; LONGEST], end: 
     requires widths { HasWidths fields.now }
     requires room { (18 ≤ end) × (end ≤ 96) }
     ensures place { (result ≤ end) × (end ≤ result + 16) }
-    ensures written { drop result text.new ≡ flat_map (verbose_part_text ago) (second_parts fields.now) ++ drop end text.old }
+    ensures written { drop result text.new
+        ≡ flat_map (verbose_part_text ago) (second_parts fields.now) ++ drop end text.old }
 {
     if fields.is_second_zero() {
         return end;
@@ -156,7 +160,8 @@ fn put_second_end(
 ) -> usize
     requires { (1 ≤ end) × (end ≤ 96) }
     ensures place { (result ≤ end) × (end ≤ result + 1) }
-    ensures written { drop result text.new ≡ word_end (minus_if negative ++ second_digits fields.now) ++ drop end text.old }
+    ensures written { drop result text.new
+        ≡ word_end (minus_if negative ++ second_digits fields.now) ++ drop end text.old }
 {
     if fields.microseconds.unsigned_abs() == 0 {
         return put_word_end(negative, fields.seconds.unsigned_abs(), text, end);
@@ -199,7 +204,8 @@ fn put_decimals(microseconds: i64, text: &mut [u8; LONGEST], end: usize) -> usiz
 fn put_without_last_zeros(number: u64, text: &mut [u8; LONGEST], end: usize) -> usize
     requires { (number < 1000000) × (6 ≤ end) × (end ≤ 96) }
     ensures place { (result ≤ end) × (end ≤ result + 6) }
-    ensures written { drop result text.new ≡ without_last_zeros (six_digits number) ++ drop end text.old }
+    ensures written { drop result text.new
+        ≡ without_last_zeros (six_digits number) ++ drop end text.old }
 {
     if number % 10 == 0 {
         put_some_digits(number, text, end)
@@ -213,7 +219,8 @@ fn put_without_last_zeros(number: u64, text: &mut [u8; LONGEST], end: usize) -> 
 fn put_some_digits(number: u64, text: &mut [u8; LONGEST], end: usize) -> usize
     requires { (number < 1000000) × (6 ≤ end) × (end ≤ 96) }
     ensures place { (result ≤ end) × (end ≤ result + 6) }
-    ensures written { drop result text.new ≡ without_last_zeros (six_digits number) ++ drop end text.old }
+    ensures written { drop result text.new
+        ≡ without_last_zeros (six_digits number) ++ drop end text.old }
 {
     let mut left = number;
     let mut place = end;
@@ -230,7 +237,8 @@ fn put_some_digits(number: u64, text: &mut [u8; LONGEST], end: usize) -> usize
 fn put_unless_last_zero(number: u64, text: &mut [u8; LONGEST], place: usize, end: usize) -> usize
     requires { (1 ≤ place) × (place ≤ 96) }
     ensures place { (result ≤ place) × (place ≤ result + 1) }
-    ensures written { drop result text.new ≡ kept_digit (number % 10) (place == end) (drop place text.old) }
+    ensures written { drop result text.new
+        ≡ kept_digit (number % 10) (place == end) (drop place text.old) }
 {
     if number % 10 == 0 && place == end {
         place

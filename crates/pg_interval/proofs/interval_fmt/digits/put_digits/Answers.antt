@@ -1,10 +1,11 @@
 use Rattle.std.proofs.Common.{arith, append_assoc}
 use Rattle.std.proofs.lemmas.Fmt.{decimal_nonempty}
-use Rattle.pg_interval.proofs.Widths.{decimal_four, length_by_four}
+use Rattle.pg_interval.proofs.PutDigits.{decimal_four, length_by_four}
 use Rattle.pg_interval.proofs.interval_fmt.digits.put_digits.Goals as goal
 
 pub put_four-place-requires : goal.put_four-place-requires
-put_four-place-requires c = (omega arith, omega (arith, length_by_four c.loop-left.left c.loop-left-test.true c.loop-left.auto.left-fits.fits), omega arith)
+put_four-place-requires c =
+    (omega arith, omega (arith, length_by_four c.loop-left.left c.loop-left-test.true c.loop-left.auto.left-fits.fits), omega arith)
 
 pub loop-left-preserved : goal.loop-left-preserved
 loop-left-preserved c =

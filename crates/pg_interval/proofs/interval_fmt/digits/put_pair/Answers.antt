@@ -1,4 +1,4 @@
-use Rattle.pg_interval.proofs.Widths.{pairs_at}
+use Rattle.pg_interval.proofs.PutDigits.{pairs_at}
 use Rattle.std.proofs.Common.{refl}
 use Rattle.pg_interval.proofs.interval_fmt.digits.put_pair.Goals as goal
 

@@ -1,7 +1,8 @@
 use Rattle.std.proofs.Common.{◌∙◌, sym, subst, refl}
 use Rattle.std.specs.Str.{IsUtf8}
 use Rattle.pg_interval.proofs.AsciiTexts.{iso_utf8}
-use Rattle.pg_interval.proofs.Widths.{normal_widths, whole_put}
+use Rattle.pg_interval.proofs.Widths.{normal_widths}
+use Rattle.pg_interval.proofs.PutDigits.{whole_put}
 use Rattle.pg_interval.proofs.interval_norm.IntervalNorm.iso_8601_text.Goals as goal
 
 pub put_iso-start-requires-clause-widths : goal.put_iso-start-requires-clause-widths

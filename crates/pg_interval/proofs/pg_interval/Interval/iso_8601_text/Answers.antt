@@ -9,7 +9,8 @@ pub returns-clause-printed : goal.returns-clause-printed
 returns-clause-printed c = c.iso_8601_text.ensures.printed ∙ ap iso_text c.in_normal_form.ensures.form
 
 pub returns-clause-stands : goal.returns-clause-stands
-returns-clause-stands c = stands_from Iso8601 _ c.args.self.now (iso_stands c.args.self.now c.in_normal_form.ensures.within) (returns-clause-printed c)
+returns-clause-stands c =
+    stands_from Iso8601 _ c.args.self.now (iso_stands c.args.self.now c.in_normal_form.ensures.within) (returns-clause-printed c)
 
 pub returns-clause-distinct : goal.returns-clause-distinct
 returns-clause-distinct c = distinct_from Iso8601 _ c.args.self.now iso_stands c.in_normal_form.ensures.within (returns-clause-printed c)

@@ -9,7 +9,9 @@ pub returns-clause-printed : goal.returns-clause-printed
 returns-clause-printed c = c.postgres_text.ensures.printed ∙ ap postgres_text c.in_normal_form.ensures.form
 
 pub returns-clause-stands : goal.returns-clause-stands
-returns-clause-stands c = stands_from Postgres _ c.args.self.now (postgres_stands c.args.self.now c.in_normal_form.ensures.within) (returns-clause-printed c)
+returns-clause-stands c =
+    stands_from Postgres _ c.args.self.now (postgres_stands c.args.self.now c.in_normal_form.ensures.within) (returns-clause-printed c)
 
 pub returns-clause-distinct : goal.returns-clause-distinct
-returns-clause-distinct c = distinct_from Postgres _ c.args.self.now postgres_stands c.in_normal_form.ensures.within (returns-clause-printed c)
+returns-clause-distinct c =
+    distinct_from Postgres _ c.args.self.now postgres_stands c.in_normal_form.ensures.within (returns-clause-printed c)
