@@ -1,6 +1,8 @@
 pub mod CellLemmas
 pub mod DecimalsLemmas
 pub mod DigitTexts
+mod FrontFields
+mod FrontReads
 pub mod IsoReads
 pub mod NormalFacts
 pub mod NormalFormLemmas

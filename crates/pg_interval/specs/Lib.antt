@@ -16,3 +16,4 @@ pub mod Texts
 pub mod WordReader
 pub mod ItemReader
 pub mod FieldReader
+pub mod FrontReader

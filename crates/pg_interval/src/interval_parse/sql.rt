@@ -13,6 +13,7 @@ use super::number::{after_byte, number_of, sign_of, without_sign};
 use super::parse_error::{IntError, ParseError, Reason};
 use super::parts::{Number, Totals, Unit};
 use super::postgres::{interval_of, is};
+use super::sql_front::read_three;
 use super::texts::{Kind, LONGEST_TEXT, cut, is_sign, run_len, trim_start};
 use crate::pg_interval::Interval;
 
@@ -291,6 +292,9 @@ impl Interval {
         let text = text.as_bytes();
         if text.len() > LONGEST_TEXT {
             return Err(ParseError::InvalidInterval(Reason::TooLong));
+        }
+        if let Some(interval) = read_three(text) {
+            return Ok(interval);
         }
         interval_of(read_sql(text))
     }
