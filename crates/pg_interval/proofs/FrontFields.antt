@@ -30,7 +30,7 @@ use Rattle.pg_interval.proofs.SqlReads.{Sign, none, minus_sign, plus_sign, sign_
 
 -- ---- a sign in front
 
-same_byte : (c d : ℕ) → (c == d) ≡ true → c ≡ d
+pub same_byte : (c d : ℕ) → (c == d) ≡ true → c ≡ d
 same_byte c d h = grind arith
 
 sign_split_by : (c : ℕ) (cs xs : List ℕ) (a b : Bool) → (c == 43) ≡ a → (c == 45) ≡ b → (if a || b then cs else c ∷ cs) ≡ xs → (s : Sign) × (c ∷ cs ≡ sign_text s ++ xs)
@@ -60,12 +60,12 @@ signed_front text digits xs are h =
 below_true : (m n : ℕ) → m < n → nat_lt m n ≡ true
 below_true m n h = grind arith
 
-fits_small : (k : ℕ) (b : Bool) (n : ℕ) → n < 2 ^ k → fits_above k (with_sign b n) ≡ true
+pub fits_small : (k : ℕ) (b : Bool) (n : ℕ) → n < 2 ^ k → fits_above k (with_sign b n) ≡ true
 fits_small k true zero h = below_true zero (2 ^ k) h
 fits_small k true (suc n) h = below_true n (2 ^ k) (omega arith)
 fits_small k false n h = below_true n (2 ^ k) h
 
-wider : (n : ℕ) → n < 2 ^ 31 → n < 2 ^ 63
+pub wider : (n : ℕ) → n < 2 ^ 31 → n < 2 ^ 63
 wider n h = omega arith
 
 -- a whole number in front of the other pairs

@@ -2,6 +2,7 @@ pub mod CellLemmas
 pub mod DecimalsLemmas
 pub mod DigitTexts
 mod FrontFields
+mod FrontItems
 mod FrontReads
 pub mod IsoReads
 pub mod NormalFacts

@@ -1,13 +1,16 @@
 -- What the first try of a reader finds in front of a text.
-use Rattle.std.specs.Prelude.{◌≡◌, ℕ, ◌+◌, ◌^◌, ◌<◌, ◌≤◌, Bool, true, false, List, ◌∷◌, ◌++◌, length, ℤ, pos, Option, Some, Ok}
+use Rattle.std.specs.Prelude.{◌≡◌, ℕ, ◌*◌, ◌^◌, ◌<◌, Bool, true, false, if◌then◌else◌, List, [], ◌∷◌, ◌++◌, length, ℤ, pos, Option, Some, Result, Ok}
 use Rattle.std.specs.List.{list_any, slice_split}
 use Rattle.std.specs.Str.Parse.{digits_value}
-use Rattle.pg_interval.specs.Texts.{is_whitespace, is_colon, is_point, is_empty, are_digits}
-use Rattle.pg_interval.specs.Decimals.{with_sign}
+use Rattle.pg_interval.specs.Texts.{is_whitespace, is_colon, is_point, is_minus, is_empty, are_digits}
+use Rattle.pg_interval.specs.Decimals.{TimeUnit, Year, Month, Day, Hour, Minute, Second, with_sign}
 use Rattle.pg_interval.specs.Pairs.{Pair, total_of}
 use Rattle.pg_interval.specs.SqlText.{second_pairs}
 use Rattle.pg_interval.specs.FieldReader.{int_out_of_range}
+use Rattle.pg_interval.specs.ItemReader.{left}
 use Rattle.pg_interval.specs.declared.pg_interval.Interval.{Interval}
+use Rattle.pg_interval.specs.declared.interval_parse.iso_front.Sums.{Sums}
+use Rattle.pg_interval.specs.declared.interval_parse.parse_error.ParseError.{ParseError}
 
 -- digits in front of a text, the number that they make, and what stands behind them
 pub record IsNumberFront (n : ℕ) (text rest : List ℕ) : Type 0 where
@@ -48,3 +51,33 @@ pub record IsSeconds (size : ℕ) (text : List ℕ) : Type 0 where
   pub bare : list_any is_whitespace text ≡ false
   pub plain : list_any is_colon text ≡ false
   pub small : size < 2 ^ 52
+
+-- what a whole number of a unit is worth
+abbrev pub amount : TimeUnit → Bool → ℕ → Interval
+amount Year minus n = only_months (with_sign minus (12 * n))
+amount Month minus n = only_months (with_sign minus n)
+amount Day minus n = only_days (with_sign minus n)
+amount Hour minus n = only_time (with_sign minus (3600000000 * n))
+amount Minute minus n = only_time (with_sign minus (60000000 * n))
+amount Second minus n = only_time (with_sign minus (1000000 * n))
+
+-- the text without the minus that it may begin with
+abbrev pub without_minus : List ℕ → List ℕ
+without_minus [] = []
+without_minus (c ∷ cs) = if is_minus c then cs else c ∷ cs
+
+-- six digits between a point and `S` in front of a text, the number that they make, and what stands behind the `S`
+pub record IsFraction (n : ℕ) (text rest : List ℕ) : Type 0 where
+  pub digits : List ℕ
+  pub are : are_digits digits ≡ true
+  pub value : digits_value 10 digits ≡ n
+  pub small : n < 2 ^ 31
+  pub six : length digits ≡ 6
+  pub parts : text ≡ 46 ∷ (digits ++ 83 ∷ rest)
+
+abbrev pub sums_of : Sums → Interval
+sums_of s = record { months = s.months; days = s.days; microseconds = s.microseconds }
+
+-- what the rest of a text comes to after these sums
+abbrev pub left_of : Sums → List ℕ → Option (Result Interval ParseError)
+left_of s text = left s.in_time (Ok (sums_of s)) text

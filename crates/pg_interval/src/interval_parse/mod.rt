@@ -7,6 +7,7 @@ ghost use Rattle.pg_interval.specs.declared.pg_interval.Interval.{Interval};
 
 mod front;
 mod iso_8601;
+mod iso_front;
 mod number;
 pub mod parse_error;
 mod parts;
