@@ -6,7 +6,8 @@ use Rattle.std.specs.List.{list_any, list_all, slice_split}
 use Rattle.std.specs.Int.Signed.{mag}
 use Rattle.std.specs.Str.Parse.{digits_value}
 use Rattle.std.proofs.lemmas.Int.{ints}
-use Rattle.std.proofs.Math.ListN.{length-append}
+use Rattle.std.proofs.lemmas.List.Folds.{list_any-append}
+use Rattle.std.proofs.Math.Bool.{or-true}
 use Rattle.pg_interval.specs.Cell.{IsInterval}
 use Rattle.pg_interval.specs.Texts.{◌>>=◌, is_whitespace, is_digit, is_sign, is_point, is_colon, is_minus, is_empty, are_digits, begins, without_sign, tokens}
 use Rattle.pg_interval.specs.Decimals.{Decimal, TimeUnit, Year, Month, Day, Hour, Minute, Second, number_of, with_sign, worth, whole_part, rounded}
@@ -26,7 +27,7 @@ use Rattle.pg_interval.proofs.ReadSums.{total_more}
 use Rattle.pg_interval.proofs.ReadWhole.{short_text}
 use Rattle.pg_interval.proofs.TimeTexts.{rounded_six}
 use Rattle.pg_interval.proofs.NormalFacts.{same_interval}
-use Rattle.pg_interval.proofs.SqlReads.{Sign, none, minus_sign, plus_sign, sign_text, is_minus_sign, sign_before, digits_field, digits_number, sign_bare, digits_bare, append_bare, filled_after, filled_before, fields_read}
+use Rattle.pg_interval.proofs.SqlReads.{Sign, none, minus_sign, plus_sign, sign_text, is_minus_sign, sign_before, digits_field, digits_number, sign_bare, digits_bare, append_bare, filled_after, fields_read, not_zero_text}
 
 -- ---- a sign in front
 
@@ -295,3 +296,56 @@ three_read text r1 second r2 third m d u f space g other t short =
     short_text SqlStandard text short
     ∙ ap (of_shape SqlStandard) read
     ∙ ap judged total
+
+-- ---- days and a time, and a time alone
+
+time_colon_by : (s : Sign) (hs xs : List ℕ) → list_any is_colon (sign_text s ++ (hs ++ 58 ∷ xs)) ≡ true
+time_colon_by s hs xs =
+    list_any-append is_colon (sign_text s) (hs ++ 58 ∷ xs)
+    ∙ ap (λ b. list_any is_colon (sign_text s) || b) (list_any-append is_colon hs (58 ∷ xs) ∙ or-true (list_any is_colon hs))
+    ∙ or-true (list_any is_colon (sign_text s))
+
+pub time_colon : (text bare r1 r2 : List ℕ) (h : ℕ) → bare ≡ without_sign text → IsNumberFront h bare r1 → r1 ≡ 58 ∷ r2 → list_any is_colon text ≡ true
+time_colon text bare r1 r2 h e f colon =
+    let split = signed_front text f.digits (58 ∷ r2) f.are (sym e ∙ f.parts ∙ ap (λ t. f.digits ++ t) colon) in
+    ap (list_any is_colon) split.parts ∙ time_colon_by split.sign f.digits r2
+
+-- what pairs come to is the sum where the text is these pairs
+sum_read : (text : List ℕ) (ps : List Pair) (i : Interval) → length text ≤ 4096 → sql_pairs text ≡ Some ps → total_of int_out_of_range ps ≡ Ok i → reading SqlStandard text ≡ interval_of_sums i
+sum_read text ps i short read total = short_text SqlStandard text short ∙ ap (of_shape SqlStandard) read ∙ ap judged total
+
+pub alone_read : (text : List ℕ) (u : ℤ) → IsAmount (sql_time_pairs (begins is_minus text)) (only_time u) text → list_any is_colon text ≡ true → length text ≤ 4096 → reading SqlStandard text ≡ interval_of_sums (only_time u)
+unfolding sql_pairs
+alone_read text u t colon short =
+    sum_read text t.all (only_time u) short
+    (ap pairs_of_sql_tokens (tokens_whole text t.filled t.bare)
+    ∙ ap (λ b. if b then Some [] else (if list_any is_colon text then sql_time_pairs (begins is_minus text) text else year_month_pairs text)) (not_zero_text is_colon text refl colon)
+    ∙ ap (λ b. if b then sql_time_pairs (begins is_minus text) text else year_month_pairs text) colon
+    ∙ t.read)
+    t.total
+
+front_begins : (q : ℕ → Bool) (xs ys : List ℕ) → is_empty xs ≡ false → begins q (xs ++ ys) ≡ begins q xs
+front_begins q [] ys h = cc
+front_begins q (x ∷ xs) ys h = refl
+
+choice : (b : Bool) (x y z : List ℕ) → begins is_minus y ≡ begins is_minus z → begins is_minus (if b then x else y) ≡ begins is_minus (if b then x else z)
+choice true x y z h = refl
+choice false x y z h = h
+
+two_sum : (d u : ℤ) → sum_of (only_days d) (only_time u) ≡ record { months = pos 0; days = d; microseconds = u }
+two_sum d u = same_interval _ _ (omega (arith, ints)) (omega (arith, ints)) (omega (arith, ints))
+
+pub two_read : (text r1 second : List ℕ) (d u : ℤ) → IsAmountFront day_pairs (only_days d) text r1 → r1 ≡ 32 ∷ second → IsAmount (sql_time_pairs (begins is_minus (if begins is_sign second then second else text))) (only_time u) second → length text ≤ 4096 → reading SqlStandard text ≡ interval_of_sums (record { months = pos 0; days = d; microseconds = u })
+unfolding sql_pairs
+two_read text r1 second d u f space t short =
+    let a = f.token in
+    let x = f.amount in
+    let whole : text ≡ a ++ 32 ∷ second = f.parts ∙ ap (λ r. a ++ r) space in
+    let minus : begins is_minus (if begins is_sign second then second else a) ≡ begins is_minus (if begins is_sign second then second else text) = choice (begins is_sign second) second a text (sym (ap (begins is_minus) f.parts ∙ front_begins is_minus a r1 x.filled)) in
+    sum_read text (x.all ++ t.all) _ short
+    (ap pairs_of_sql_tokens
+    (ap tokens whole ∙ tokens_append a second ∙ ap (λ ts. ts ++ tokens second) (tokens_whole a x.filled x.bare) ∙ ap (λ ts. a ∷ ts) (tokens_whole second t.filled t.bare))
+    ∙ ap (λ o. o >>= λ day. sql_time_pairs (begins is_minus (if begins is_sign second then second else a)) second >>= λ time. Some (day ++ time)) x.read
+    ∙ ap (λ m. sql_time_pairs m second >>= λ time. Some (x.all ++ time)) minus
+    ∙ ap (λ o. o >>= λ time. Some (x.all ++ time)) t.read)
+    (total_more int_out_of_range x.all t.all ∙ ap (λ r. joined r (total_of int_out_of_range t.all)) x.total ∙ ap (plus (only_days d)) t.total ∙ ap Ok (two_sum d u))

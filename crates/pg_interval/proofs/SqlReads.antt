@@ -268,7 +268,7 @@ day_filled : (s : Sign) (n : IntervalNorm) → IsSized n → is_empty (sign_text
 day_filled s n size = filled_after (sign_text s) (digits_of n.days) (filled_digits (digits_of n.days) (digits_decimal (unsigned_abs n.days) (abs_small n.days (wider n.days size.days))))
 
 -- a text with such a byte isn't `0`
-not_zero_text : (q : ℕ → Bool) (text : List ℕ) → q 48 ≡ false → list_any q text ≡ true → bytes_eq text (codes "0") ≡ false
+pub not_zero_text : (q : ℕ → Bool) (text : List ℕ) → q 48 ≡ false → list_any q text ≡ true → bytes_eq text (codes "0") ≡ false
 not_zero_text q text h k = test_false (bytes_eq text (codes "0")) (λ t. let same : text ≡ codes "0" = (bytes_eq-Decides text (codes "0")).0 t in true_is_not (sym k ∙ ap (list_any q) same ∙ (rw h refl)))
 
 -- ---- signs of the date

@@ -1,7 +1,8 @@
-// A first try at reading the style `sql_standard`: the form of three parts, as it is printed. It answers for the texts
-// that it knows, and leaves all others to the whole reader.
-ghost use Rattle.std.specs.Prelude.{◌≡◌, ◌≤◌, ◌<◌, ◌^◌, Bool, length, IfSome, Ok};
-ghost use Rattle.pg_interval.specs.Texts.{begins, is_minus};
+// A first try at reading the style `sql_standard`: the printed forms that have a time. It answers for the texts that it
+// knows, and leaves all others to the whole reader.
+ghost use Rattle.std.specs.Prelude.{◌≡◌, ◌≤◌, ◌<◌, ◌^◌, Bool, true, length, IfSome, Ok};
+ghost use Rattle.std.specs.List.{list_any};
+ghost use Rattle.pg_interval.specs.Texts.{begins, is_colon, is_minus};
 ghost use Rattle.pg_interval.specs.Decimals.{with_sign};
 ghost use Rattle.pg_interval.specs.Reading.{SqlStandard, reading};
 ghost use Rattle.pg_interval.specs.SqlText.{day_pairs, sql_time_pairs, year_month_pairs};
@@ -9,6 +10,7 @@ ghost use Rattle.pg_interval.specs.FrontReader.{IsAmount, IsAmountFront, IsSecon
 
 use super::front::{interval_within, number_front, signed, two_digits_front};
 use super::number::{after_byte, sign_of, without_sign};
+use super::sql::sign_of_two;
 use crate::pg_interval::Interval;
 
 /// The months that years and months in front of the text come to, without their sign, and what stands behind them.
@@ -74,6 +76,7 @@ fn seconds(text: &[u8]) -> Option<u64>
 fn time(text: &[u8]) -> Option<u64>
     ensures amount { IfSome result (λ size. (minus : Bool) →
         IsAmount (sql_time_pairs minus) (only_time (with_sign minus size)) text.now) }
+    ensures colon { IfSome result (λ _size. list_any is_colon text.now ≡ true) }
     ensures small { IfSome result (λ size. size < 2 ^ 63) }
 {
     let Some((hours, behind)) = number_front(without_sign(text)) else {
@@ -119,4 +122,38 @@ pub(super) fn read_three(text: &[u8]) -> Option<Interval>
         signed(sign_of(second, false), days),
         signed(sign_of(third, false), microseconds),
     )
+}
+
+/// The interval of days and a time, which has the sign before the days where it has none. `None` comes where the text
+/// isn't written so, or may be refused.
+#[inline(always)]
+fn read_two(text: &[u8]) -> Option<Interval>
+    requires { length text.now ≤ 4096 }
+    ensures { IfSome result (λ i. reading SqlStandard text.now ≡ Ok i) }
+{
+    let Some((days, behind)) = days_front(text) else {
+        return None;
+    };
+    let Some(second) = after_byte(b' ', behind) else {
+        return None;
+    };
+    let Some(microseconds) = time(second) else {
+        return None;
+    };
+    interval_within(
+        0,
+        signed(sign_of(text, false), days),
+        signed(sign_of_two(text, second), microseconds),
+    )
+}
+
+/// The interval of a time, or of days and a time. `None` comes where the text isn't written so, or may be refused.
+pub(super) fn read_fewer(text: &[u8]) -> Option<Interval>
+    requires { length text.now ≤ 4096 }
+    ensures { IfSome result (λ i. reading SqlStandard text.now ≡ Ok i) }
+{
+    let Some(microseconds) = time(text) else {
+        return read_two(text);
+    };
+    interval_within(0, 0, signed(sign_of(text, false), microseconds))
 }
