@@ -23,7 +23,8 @@ use Rattle.pg_interval.proofs.TimeTexts.{rounded_six}
 use Rattle.pg_interval.proofs.ReadSums.{tallied_fits}
 use Rattle.pg_interval.proofs.ReadItems.{item_first, letter_no_mark}
 use Rattle.pg_interval.proofs.IsoReads.{item_number, digits_written}
-use Rattle.pg_interval.proofs.FrontFields.{fits_small, wider, same_byte}
+use Rattle.pg_interval.proofs.FrontSigns.{same_byte}
+use Rattle.pg_interval.proofs.FrontFields.{fits_small, wider}
 
 -- ---- what an item is worth
 

@@ -4,6 +4,7 @@ pub mod DigitTexts
 mod FrontFields
 mod FrontItems
 mod FrontReads
+mod FrontSigns
 pub mod IsoReads
 pub mod NormalFacts
 pub mod NormalFormLemmas

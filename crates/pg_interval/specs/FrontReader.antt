@@ -1,16 +1,21 @@
 -- What the first try of a reader finds in front of a text.
-use Rattle.std.specs.Prelude.{◌≡◌, ℕ, ◌*◌, ◌^◌, ◌<◌, Bool, true, false, if◌then◌else◌, List, [], ◌∷◌, ◌++◌, length, ℤ, pos, Option, Some, Result, Ok}
-use Rattle.std.specs.List.{list_any, slice_split}
+use Rattle.std.specs.Prelude.{◌≡◌, ℕ, ◌*◌, ◌^◌, ◌<◌, Bool, true, false, not, if◌then◌else◌, List, [], ◌∷◌, ◌++◌, length, ℤ, pos, Option, Some, Result, Ok}
+use Rattle.std.specs.List.{list_all, list_any, slice_split}
 use Rattle.std.specs.Str.Parse.{digits_value}
-use Rattle.pg_interval.specs.Texts.{is_whitespace, is_colon, is_point, is_minus, is_empty, are_digits}
-use Rattle.pg_interval.specs.Decimals.{TimeUnit, Year, Month, Day, Hour, Minute, Second, with_sign}
+use Rattle.pg_interval.specs.Texts.{is_whitespace, is_letter, is_colon, is_point, is_minus, is_empty, are_digits, begins}
+use Rattle.pg_interval.specs.Decimals.{Decimal, decimal_of, TimeUnit, Year, Month, Day, Hour, Minute, Second, with_sign}
 use Rattle.pg_interval.specs.Pairs.{Pair, total_of}
 use Rattle.pg_interval.specs.SqlText.{second_pairs}
 use Rattle.pg_interval.specs.FieldReader.{int_out_of_range}
+use Rattle.pg_interval.specs.PostgresText.{is_number_byte}
+use Rattle.pg_interval.specs.Reader.{number_held}
 use Rattle.pg_interval.specs.ItemReader.{left}
 use Rattle.pg_interval.specs.declared.pg_interval.Interval.{Interval}
 use Rattle.pg_interval.specs.declared.interval_parse.iso_front.Sums.{Sums}
 use Rattle.pg_interval.specs.declared.interval_parse.parse_error.ParseError.{ParseError}
+
+abbrev pub is_solid : ℕ → Bool
+is_solid c = not (is_whitespace c)
 
 -- digits in front of a text, the number that they make, and what stands behind them
 pub record IsNumberFront (n : ℕ) (text rest : List ℕ) : Type 0 where
@@ -19,6 +24,23 @@ pub record IsNumberFront (n : ℕ) (text rest : List ℕ) : Type 0 where
   pub value : digits_value 10 digits ≡ n
   pub small : n < 2 ^ 31
   pub parts : text ≡ digits ++ rest
+
+-- a decimal in front of a text, as it is held with its sign turned if `turn` says so, and what stands behind it
+pub record IsDecimalFront (turn : Bool) (d : Decimal) (text rest : List ℕ) : Type 0 where
+  pub number : List ℕ
+  pub bytes : list_all is_number_byte number ≡ true
+  pub filled : 0 < length number
+  pub read : Ok d ≡ number_held turn (decimal_of number)
+  pub parts : text ≡ number ++ rest
+
+-- such a decimal and a word in front of a text, with one space between them, and what stands behind the word
+pub record IsPairFront (turn : Bool) (d : Decimal) (text word rest : List ℕ) : Type 0 where
+  pub behind : List ℕ
+  pub decimal : IsDecimalFront turn d text behind
+  pub parts : behind ≡ 32 ∷ (word ++ rest)
+  pub letters : list_all is_letter word ≡ true
+  pub filled : 0 < length word
+  pub stop : begins is_solid rest ≡ false
 
 abbrev pub only_months : ℤ → Interval
 only_months z = record { months = z; days = pos 0; microseconds = pos 0 }

@@ -5,9 +5,12 @@ ghost use Rattle.std.specs.Str.Parse.{digits_value};
 ghost use Rattle.pg_interval.specs.Texts.{is_digit};
 ghost use Rattle.pg_interval.specs.Decimals.{with_sign};
 ghost use Rattle.pg_interval.specs.Pairs.{interval_of_sums};
-ghost use Rattle.pg_interval.specs.FrontReader.{IsNumberFront};
+ghost use Rattle.pg_interval.specs.Reader.{decimal_from};
+ghost use Rattle.pg_interval.specs.FrontReader.{IsDecimalFront, IsNumberFront, IsPairFront};
 
-use super::texts::is_digit;
+use super::number::{after_byte, sign_of, without_sign};
+use super::parts::Number;
+use super::texts::{Kind, cut, is_digit, is_whitespace};
 use crate::pg_interval::Interval;
 
 /// The number that digits in front of the text make, and how many they are. Behind a number from 2 ^ 28 on no digit
@@ -54,6 +57,71 @@ pub(super) fn two_digits_front(text: &[u8]) -> Option<(u64, &[u8])>
         10 * u64::from(text[0] - b'0') + u64::from(text[1] - b'0'),
         rest,
     ))
+}
+
+/// The decimal in front of the text, its sign turned if `turn` says so, and what stands behind it: a number below 2 ^ 31
+/// with at most six digits behind the point. `None` comes where there is none.
+#[inline(always)]
+fn decimal_front(text: &[u8], turn: bool) -> Option<(Number, &[u8])>
+    ensures { IfSome result (λ front. IsDecimalFront turn (decimal_from front.0) text.now front.1.now) }
+{
+    let negative = sign_of(text, turn);
+    let Some((whole, behind)) = number_front(without_sign(text)) else {
+        return None;
+    };
+    let Some(digits) = after_byte(b'.', behind) else {
+        return Some((whole_number(negative, whole), behind));
+    };
+    let Some((fraction, rest)) = number_front(digits) else {
+        return None;
+    };
+    let places = digits.len() - rest.len();
+    if places > 6 {
+        return None;
+    }
+    Some((
+        Number {
+            negative,
+            whole,
+            fraction,
+            places: places as u32,
+        },
+        rest,
+    ))
+}
+
+/// The whole number of this size, negative if `negative` says so.
+#[inline(always)]
+fn whole_number(negative: bool, whole: u64) -> Number
+    ensures { decimal_from result ≡ record { negative = negative; whole = whole; fraction = 0; places = 0 } }
+{
+    Number {
+        negative,
+        whole,
+        fraction: 0,
+        places: 0,
+    }
+}
+
+/// The decimal in front of the text, the word behind it with one space between them, and what stands behind the word.
+#[inline(always)]
+pub(super) fn pair_front(text: &[u8], turn: bool) -> Option<(Number, &[u8], &[u8])>
+    ensures { IfSome result (λ front. IsPairFront turn (decimal_from front.0) text.now front.1.now front.2.now) }
+{
+    let Some((number, behind)) = decimal_front(text, turn) else {
+        return None;
+    };
+    let Some(behind) = after_byte(b' ', behind) else {
+        return None;
+    };
+    let (word, rest) = cut(Kind::Letter, behind);
+    if word.is_empty() {
+        return None;
+    }
+    if !rest.is_empty() && !is_whitespace(rest[0]) {
+        return None;
+    }
+    Some((number, word, rest))
 }
 
 /// The number of this size, negative if `minus` says so.
