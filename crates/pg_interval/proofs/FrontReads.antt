@@ -1,5 +1,5 @@
 -- What the first try of a reader finds in front of a text.
-use Rattle.std.proofs.Common.{◌≡◌, ℕ, ◌+◌, ◌-◌, ◌*◌, ◌^◌, ◌<◌, ◌≤◌, min, Bool, true, false, not, ◌&&◌, ◌||◌, List, [], ◌∷◌, ◌++◌, length, get_or, take, ap, ◌∙◌, sym, refl, arith, Option, None, Some, Result, Ok}
+use Rattle.std.proofs.Common.{◌≡◌, ℕ, ◌+◌, ◌-◌, ◌*◌, ◌%◌, ◌^◌, ◌<◌, ◌≤◌, min, Bool, true, false, not, ◌&&◌, ◌||◌, List, [], ◌∷◌, ◌++◌, length, get_or, take, ap, ◌∙◌, sym, refl, arith, Option, None, Some, Result, Ok}
 use mathlib.Core.List.{append_assoc}
 use Rattle.std.specs.Prelude.{IfSome, if◌then◌else◌}
 use Rattle.std.specs.List.{list_all, list_any}
@@ -7,7 +7,7 @@ use Rattle.std.specs.Str.Parse.{digits_value}
 use Rattle.std.proofs.lemmas.Int.Digits.{digits_value_more}
 use Rattle.std.proofs.lemmas.List.{take_more}
 use Rattle.std.proofs.lemmas.List.Folds.{list_all-append}
-use Rattle.std.proofs.Math.ListN.{length-append}
+use Rattle.std.proofs.Math.ListN.{length-append, length-take}
 use Rattle.pg_interval.specs.Texts.{is_whitespace, is_digit, is_letter, is_sign, is_point, is_colon, is_minus, are_digits, begins, without_sign}
 use Rattle.pg_interval.specs.Decimals.{Decimal, number_of, decimal_of}
 use Rattle.pg_interval.specs.Pairs.{interval_of_sums}
@@ -19,7 +19,7 @@ use Rattle.pg_interval.specs.declared.pg_interval.Interval.{Interval}
 use Rattle.pg_interval.specs.declared.interval_parse.parse_error.DecimalError.{DecimalError}
 use Rattle.pg_interval.specs.declared.interval_parse.parse_error.ParseError.{ParseError}
 use Rattle.pg_interval.proofs.DigitTexts.{and_left, and_right, all_digits}
-use Rattle.pg_interval.proofs.ReadNumbers.{digit_is, decimal_is, good_read}
+use Rattle.pg_interval.proofs.ReadNumbers.{digit_is, digits_below, decimal_is, good_read}
 use Rattle.pg_interval.proofs.ReadTokens.{spaced_left, word_held}
 use Rattle.pg_interval.proofs.SqlReads.{Sign, none, minus_sign, plus_sign, sign_text, sign_before}
 use Rattle.pg_interval.proofs.FrontSigns.{signed_front}
@@ -35,21 +35,26 @@ all_more p xs i lt all one =
     ∙ list_all-append p (take i xs) (get_or xs i 0 ∷ [])
     ∙ both (list_all p (take i xs)) (p (get_or xs i 0) && true) all (both (p (get_or xs i 0)) true one refl)
 
--- one digit more
+-- one digit more, in the arithmetic of words
 pub record IsStep (xs : List ℕ) (i n : ℕ) : Type 0 where
-  pub value : n ≡ digits_value 10 (take i xs)
+  pub value : i ≤ 18 → n ≡ digits_value 10 (take i xs)
   pub digits : list_all is_digit (take i xs) ≡ true
-  pub small : n < 2684354560
 
-pub digit_more : (xs : List ℕ) (i value digit : ℕ) → i < length xs → value ≡ digits_value 10 (take i xs) → list_all is_digit (take i xs) ≡ true → value < 268435456 → is_digit (get_or xs i 0) ≡ true → digit ≡ get_or xs i 0 - 48 → IsStep xs (i + 1) (10 * value + digit)
-digit_more xs i value digit lt v all small one d =
+in_word : (v d : ℕ) → v < 10 ^ 18 → d < 10 → (v * 10 % 18446744073709551616 + d) % 18446744073709551616 ≡ v * 10 + d
+in_word v d h k = omega arith
+
+pub digit_more : (xs : List ℕ) (i value digit : ℕ) → i < length xs → (i ≤ 18 → value ≡ digits_value 10 (take i xs)) → list_all is_digit (take i xs) ≡ true → is_digit (get_or xs i 0) ≡ true → digit ≡ get_or xs i 0 - 48 → IsStep xs (i + 1) ((value * 10 % 18446744073709551616 + digit) % 18446744073709551616)
+digit_more xs i value digit lt v all one d =
     let at = digit_is (get_or xs i 0) one in
     let more = digits_value_more 10 xs i lt in
     let below : get_or xs i 0 - 48 < 10 = grind arith in
     record {
-      value = omega (arith, at, more);
+      value = λ few.
+          let now : value ≡ digits_value 10 (take i xs) = v (omega arith) in
+          let short : length (take i xs) ≤ 18 = omega (arith, length-take i xs) in
+          let small : value < 10 ^ 18 = let b = digits_below (take i xs) all short in omega arith in
+          in_word value digit small (omega arith) ∙ omega (arith, at, more);
       digits = all_more is_digit xs i lt all one;
-      small = omega arith;
     }
 
 -- ---- the interval of sums

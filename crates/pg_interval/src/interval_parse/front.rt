@@ -13,20 +13,19 @@ use super::parts::Number;
 use super::texts::{Kind, cut, is_digit, is_whitespace};
 use crate::pg_interval::Interval;
 
-/// The number that digits in front of the text make, and how many they are. Behind a number from 2 ^ 28 on no digit
-/// more is taken.
+/// The number that digits in front of the text make, and how many they are. Past 18 digits it is any number.
 #[inline(always)]
 fn digits_front(text: &[u8]) -> (u64, usize)
-    ensures value { result.0 ≡ digits_value 10 (take result.1 text.now) }
+    ensures value { result.1 ≤ 18 → result.0 ≡ digits_value 10 (take result.1 text.now) }
     ensures digits { list_all is_digit (take result.1 text.now) ≡ true }
     ensures within { result.1 ≤ length text.now }
 {
     let mut value = 0u64;
     for (place, byte) in text.iter().enumerate() {
-        if value >= 1 << 28 || !is_digit(*byte) {
+        if !is_digit(*byte) {
             return (value, place);
         }
-        value = 10 * value + u64::from(*byte - b'0');
+        value = value.wrapping_mul(10).wrapping_add(u64::from(*byte - b'0'));
     }
     (value, text.len())
 }
@@ -37,7 +36,7 @@ pub(super) fn number_front(text: &[u8]) -> Option<(u64, &[u8])>
     ensures { IfSome result (λ front. IsNumberFront front.0 text.now front.1.now) }
 {
     let (value, end) = digits_front(text);
-    if end == 0 || value >= 1 << 31 {
+    if end == 0 || end > 18 || value >= 1 << 31 {
         return None;
     }
     let (_digits, rest) = text.split_at(end);

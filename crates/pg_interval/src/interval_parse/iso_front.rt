@@ -144,11 +144,11 @@ impl Sums {
 fn without_minus(text: &[u8]) -> &[u8]
     ensures { result.now ≡ without_minus text.now }
 {
-    if !text.is_empty() && text[0] == b'-' {
-        &text[1..]
-    } else {
-        text
+    if text.is_empty() {
+        return text;
     }
+    let (_minus, rest) = text.split_at(usize::from(text[0] == b'-'));
+    rest
 }
 
 /// The number of the six digits between a point and `S` in front of the text, and what stands behind the `S`.
