@@ -60,7 +60,7 @@ more_items {unit} {u} {ps} number l rest d bare ends written named read others =
   pairs = rw (written, named, others.pairs) (ap (λ p. Some (p ∷ ps)) read);
 }
 
-digits_written : (ds : List ℕ) → list_all is_digit ds ≡ true → list_all (λ d. is_digit d || is_point d) ds ≡ true
+pub digits_written : (ds : List ℕ) → list_all is_digit ds ≡ true → list_all (λ d. is_digit d || is_point d) ds ≡ true
 digits_written [] h = refl
 digits_written (d ∷ ds) h = rw (and_left (is_digit d) (list_all is_digit ds) h, digits_written ds (and_right (is_digit d) (list_all is_digit ds) h)) refl
 
@@ -68,7 +68,7 @@ item_first_digit : (d : ℕ) (cs : List ℕ) → is_digit d ≡ true → list_al
 item_first_digit d cs h k = ap (λ b. ((is_minus d || b) || is_point d) && list_all (λ e. is_digit e || is_point e) cs) h ∙ ap (λ b. (b || is_point d) && list_all (λ e. is_digit e || is_point e) cs) (or-true (is_minus d)) ∙ k
 
 -- digits, and maybe a point and digits, are the number of an item
-item_number : (minus : Bool) (ds fs : List ℕ) → are_digits ds ≡ true → list_all (λ d. is_digit d || is_point d) (ds ++ fs) ≡ true → is_item_number (minus_if minus ++ (ds ++ fs)) ≡ true
+pub item_number : (minus : Bool) (ds fs : List ℕ) → are_digits ds ≡ true → list_all (λ d. is_digit d || is_point d) (ds ++ fs) ≡ true → is_item_number (minus_if minus ++ (ds ++ fs)) ≡ true
 item_number true ds fs h k = k
 item_number false [] fs h k = cc
 item_number false (d ∷ ds) fs h k = item_first_digit d (ds ++ fs) (and_left (is_digit d) (list_all is_digit ds) (all_digits (d ∷ ds) h)) (and_right (is_digit d || is_point d) _ k)

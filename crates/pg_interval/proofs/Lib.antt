@@ -2,6 +2,10 @@ pub mod AsciiTexts
 pub mod CellLemmas
 pub mod DecimalsLemmas
 pub mod DigitTexts
+mod FrontFields
+mod FrontItems
+mod FrontReads
+mod FrontSigns
 pub mod IsoReads
 pub mod NormalFacts
 pub mod NormalFormLemmas

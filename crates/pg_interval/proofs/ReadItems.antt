@@ -47,7 +47,7 @@ no_marks : (xs : List ℕ) → list_all is_unmarked xs ≡ true → list_any is_
 no_marks [] h = refl
 no_marks (c ∷ cs) h = rw (no_mark c (and_left (is_unmarked c) (list_all is_unmarked cs) h)) (no_marks cs (and_right (is_unmarked c) (list_all is_unmarked cs) h))
 
-letter_no_mark : (c : ℕ) → is_designator c ≡ true → is_time_mark c ≡ false
+pub letter_no_mark : (c : ℕ) → is_designator c ≡ true → is_time_mark c ≡ false
 letter_no_mark c h = grind arith
 
 stop_letter : (c : ℕ) → is_unmarked c ≡ false → is_time_mark c ≡ false → is_designator c ≡ true

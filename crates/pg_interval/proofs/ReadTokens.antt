@@ -12,7 +12,7 @@ use Rattle.pg_interval.specs.Decimals.{Decimal, TimeUnit, Year, Month, Day, Hour
 use Rattle.pg_interval.specs.Pairs.{Pair, pair, decimal_pair, checked}
 use Rattle.pg_interval.specs.PostgresText.{Token, Number, Word, Joined, Time, Other, token_of, time_of, time_pairs, or_other, token_split, token_of_parts, pairs_of_tokens, is_number_byte, unless_zero, those_not_zero, seconds_of, trimmed_start, trimmed_end, unit_of_word, unit_of_verbose_word}
 use Rattle.pg_interval.specs.Reader.{capped_decimal, turned_if, number_held}
-use Rattle.pg_interval.specs.WordReader.{State, Times, has, left, pair_left, time_left, taken, taken_one, taken_unless_zero, taken_times, times_of, times_of_parts, held_times, turned_by, unit_in, out_of_range, with_unit}
+use Rattle.pg_interval.specs.WordReader.{State, Times, has, left, pair_left, time_left, taken, taken_one, taken_unless_zero, taken_times, times_of, times_of_parts, held_times, turned_by, unit_in, out_of_range, with_unit, worded_left}
 use Rattle.pg_interval.specs.declared.pg_interval.Interval.{Interval}
 use Rattle.pg_interval.specs.declared.interval_parse.parse_error.DecimalError.{DecimalError}
 use Rattle.pg_interval.specs.declared.interval_parse.parse_error.ParseError.{ParseError}
@@ -412,6 +412,14 @@ held_err false e = refl
 pub held_taken : (s : State) (u : TimeUnit) (turn : Bool) (n : Result Decimal DecimalError) → taken_one s u (checked (number_held turn n)) ≡ taken_one s u (turned_by turn (checked n))
 held_taken s u turn (Ok d) = sym (one_capped s u (turned_if turn d)) ∙ ap (taken_one s u) (sym (turned_ok turn d))
 held_taken s u turn (Err e) = ap (taken_one s u) (held_err turn (ParseFloatErr e))
+
+-- a number that is read as it is held
+pub word_held : (verbose turn : Bool) (s : State) (n : Result Decimal DecimalError) (number word rest : List ℕ) → n ≡ number_held turn (decimal_of number) → worded_left verbose turn s n word rest ≡ pair_left verbose turn s number word rest
+word_held verbose turn s n number word rest e = by (unit_in verbose word)
+  where
+    by : (o : Option TimeUnit) → ((o >>= λ u. taken_one s u (checked n)) >>= λ t. left verbose turn t rest) ≡ ((o >>= λ u. taken_one s u (turned_by turn (checked (decimal_of number)))) >>= λ t. left verbose turn t rest)
+    by None = refl
+    by (Some u) = ap (λ o. o >>= λ t. left verbose turn t rest) (ap (λ m. taken_one s u (checked m)) e ∙ held_taken s u turn (decimal_of number))
 
 -- the first token of a text that doesn't begin with whitespace
 pub first_filled : (text token rest : List ℕ) → text ≡ token ++ rest → 0 < length text → begins is_whitespace text ≡ false → begins (λ c. not (is_whitespace c)) rest ≡ false → 0 < length token

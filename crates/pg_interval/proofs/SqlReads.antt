@@ -50,7 +50,7 @@ test_false false h = refl
 true_is_not : true ≡ false → ⊥
 true_is_not h = cc
 
-digits_field : (ds : List ℕ) → are_digits ds ≡ true → is_field ds ≡ true
+pub digits_field : (ds : List ℕ) → are_digits ds ≡ true → is_field ds ≡ true
 digits_field [] h = refl
 digits_field (d ∷ ds) h = ap not (digit_no_sign d (and_left (is_digit d) (list_all is_digit ds) (all_digits (d ∷ ds) h)))
 
@@ -59,23 +59,23 @@ digits_number minus u [] h = cc
 digits_number minus u (d ∷ ds) h = rw (all_digits (d ∷ ds) h) refl
 
 -- a sign that is printed: none, `-` or `+`
-data Sign : Type 0 where
+pub data Sign : Type 0 where
   none : Sign
   minus_sign : Sign
   plus_sign : Sign
 
-sign_text : Sign → List ℕ
+unfoldable pub sign_text : Sign → List ℕ
 sign_text none = []
 sign_text minus_sign = 45 ∷ []
 sign_text plus_sign = 43 ∷ []
 
-is_minus_sign : Sign → Bool
+unfoldable pub is_minus_sign : Sign → Bool
 is_minus_sign none = false
 is_minus_sign minus_sign = true
 is_minus_sign plus_sign = false
 
 -- what begins with digits has the sign before it, and is the text without it
-sign_before : (s : Sign) (ds xs : List ℕ) → are_digits ds ≡ true → (begins is_minus (sign_text s ++ (ds ++ xs)) ≡ is_minus_sign s) × (without_sign (sign_text s ++ (ds ++ xs)) ≡ ds ++ xs)
+pub sign_before : (s : Sign) (ds xs : List ℕ) → are_digits ds ≡ true → (begins is_minus (sign_text s ++ (ds ++ xs)) ≡ is_minus_sign s) × (without_sign (sign_text s ++ (ds ++ xs)) ≡ ds ++ xs)
 unfolding sign_text is_minus_sign
 sign_before none [] xs h = cc
 sign_before none (d ∷ ds) xs h =
@@ -84,35 +84,35 @@ sign_before none (d ∷ ds) xs h =
 sign_before minus_sign ds xs h = (refl, refl)
 sign_before plus_sign ds xs h = (refl, refl)
 
-has_sign : Sign → Bool
+unfoldable pub has_sign : Sign → Bool
 has_sign none = false
 has_sign minus_sign = true
 has_sign plus_sign = true
 
-begins_sign : (s : Sign) (ds xs : List ℕ) → are_digits ds ≡ true → begins is_sign (sign_text s ++ (ds ++ xs)) ≡ has_sign s
+pub begins_sign : (s : Sign) (ds xs : List ℕ) → are_digits ds ≡ true → begins is_sign (sign_text s ++ (ds ++ xs)) ≡ has_sign s
 unfolding sign_text has_sign
 begins_sign none [] xs h = cc
 begins_sign none (d ∷ ds) xs h = digit_no_sign d (and_left (is_digit d) (list_all is_digit ds) (all_digits (d ∷ ds) h))
 begins_sign minus_sign ds xs h = refl
 begins_sign plus_sign ds xs h = refl
 
-sign_bare : (q : ℕ → Bool) (s : Sign) (xs : List ℕ) → q 45 ≡ false → q 43 ≡ false → list_any q xs ≡ false → list_any q (sign_text s ++ xs) ≡ false
+pub sign_bare : (q : ℕ → Bool) (s : Sign) (xs : List ℕ) → q 45 ≡ false → q 43 ≡ false → list_any q xs ≡ false → list_any q (sign_text s ++ xs) ≡ false
 unfolding sign_text
 sign_bare q none xs h k e = e
 sign_bare q minus_sign xs h k e = rw h e
 sign_bare q plus_sign xs h k e = rw k e
 
-digits_bare : (q : ℕ → Bool) (apart : (c : ℕ) → is_digit c ≡ true → q c ≡ false) (ds : List ℕ) → are_digits ds ≡ true → list_any q ds ≡ false
+pub digits_bare : (q : ℕ → Bool) (apart : (c : ℕ) → is_digit c ≡ true → q c ≡ false) (ds : List ℕ) → are_digits ds ≡ true → list_any q ds ≡ false
 digits_bare q apart ds h = none_of_digits q apart ds (all_digits ds h)
 
-append_bare : (q : ℕ → Bool) (xs ys : List ℕ) → list_any q xs ≡ false → list_any q ys ≡ false → list_any q (xs ++ ys) ≡ false
+pub append_bare : (q : ℕ → Bool) (xs ys : List ℕ) → list_any q xs ≡ false → list_any q ys ≡ false → list_any q (xs ++ ys) ≡ false
 append_bare q xs ys h k = list_any-append q xs ys ∙ (rw (h, k) refl)
 
-filled_after : (xs ys : List ℕ) → is_empty ys ≡ false → is_empty (xs ++ ys) ≡ false
+pub filled_after : (xs ys : List ℕ) → is_empty ys ≡ false → is_empty (xs ++ ys) ≡ false
 filled_after [] ys h = h
 filled_after (x ∷ xs) ys h = refl
 
-filled_before : (xs ys : List ℕ) → is_empty xs ≡ false → is_empty (xs ++ ys) ≡ false
+pub filled_before : (xs ys : List ℕ) → is_empty xs ≡ false → is_empty (xs ++ ys) ≡ false
 filled_before [] ys h = cc
 filled_before (x ∷ xs) ys h = refl
 
@@ -135,7 +135,7 @@ date_list minus n = pair Year (whole_number minus (unsigned_abs n.years)) ∷ pa
 number_of_decimal : (minus : Bool) (u : TimeUnit) (k : ℕ) → k < 2 ^ 64 → field_pair minus u (decimal k) ≡ pair u (whole_number minus k)
 number_of_decimal minus u k small = digits_number minus u (decimal k) (digits_decimal k small) ∙ ap (λ w. pair u (whole_number minus w)) (value_decimal k small)
 
-fields_read : (minus : Bool) (y m : List ℕ) → are_digits y ≡ true → are_digits m ≡ true → fields minus (y ++ 45 ∷ m) ≡ Some (field_pair minus Year y ∷ field_pair minus Month m ∷ [])
+pub fields_read : (minus : Bool) (y m : List ℕ) → are_digits y ≡ true → are_digits m ≡ true → fields minus (y ++ 45 ∷ m) ≡ Some (field_pair minus Year y ∷ field_pair minus Month m ∷ [])
 fields_read minus y m hy hm =
     let bare : list_any is_minus y ≡ false = digits_bare is_minus digit_no_minus y hy in
     let some : list_any is_minus (y ++ 45 ∷ m) ≡ true = list_any-append is_minus y (45 ∷ m) ∙ or-true (list_any is_minus y) in
@@ -268,7 +268,7 @@ day_filled : (s : Sign) (n : IntervalNorm) → IsSized n → is_empty (sign_text
 day_filled s n size = filled_after (sign_text s) (digits_of n.days) (filled_digits (digits_of n.days) (digits_decimal (unsigned_abs n.days) (abs_small n.days (wider n.days size.days))))
 
 -- a text with such a byte isn't `0`
-not_zero_text : (q : ℕ → Bool) (text : List ℕ) → q 48 ≡ false → list_any q text ≡ true → bytes_eq text (codes "0") ≡ false
+pub not_zero_text : (q : ℕ → Bool) (text : List ℕ) → q 48 ≡ false → list_any q text ≡ true → bytes_eq text (codes "0") ≡ false
 not_zero_text q text h k = test_false (bytes_eq text (codes "0")) (λ t. let same : text ≡ codes "0" = (bytes_eq-Decides text (codes "0")).0 t in true_is_not (sym k ∙ ap (list_any q) same ∙ (rw h refl)))
 
 -- ---- signs of the date

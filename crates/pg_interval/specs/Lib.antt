@@ -17,3 +17,4 @@ pub mod WordReader
 pub mod ItemReader
 pub mod FieldReader
 pub mod Widths
+pub mod FrontReader

@@ -11,6 +11,7 @@ use Rattle.pg_interval.specs.declared.pg_interval.Interval.{Interval}
 use Rattle.pg_interval.specs.declared.interval_parse.parts.Clock.{Clock}
 use Rattle.pg_interval.specs.declared.interval_parse.parts.Seen.{Seen}
 use Rattle.pg_interval.specs.declared.interval_parse.parts.Words.{Words}
+use Rattle.pg_interval.specs.declared.interval_parse.parse_error.DecimalError.{DecimalError}
 use Rattle.pg_interval.specs.declared.interval_parse.parse_error.DecimalError.TheVariants.{OutOfRange}
 use Rattle.pg_interval.specs.declared.interval_parse.parse_error.Reason.TheVariants.{Shape}
 use Rattle.pg_interval.specs.declared.interval_parse.parse_error.ParseError.{ParseError}
@@ -74,6 +75,10 @@ unit_in verbose w = if verbose then unit_of_verbose_word w else unit_of_word w
 abbrev pub taken_pair : Bool → Bool → State → List ℕ → List ℕ → Option State
 taken_pair verbose turn s number word = unit_in verbose word >>= λ u. taken_one s u (turned_by turn (checked (decimal_of number)))
 
+-- a number that was read, with the word of its unit
+abbrev pub taken_word : Bool → State → Result Decimal DecimalError → List ℕ → Option State
+taken_word verbose s n word = unit_in verbose word >>= λ u. taken_one s u (checked n)
+
 -- what the tokens of the rest of a text come to, after this state
 unfoldable pub left : Bool → Bool → State → List ℕ → Option (Result Interval ParseError)
 left verbose turn s text = pairs_of_tokens (unit_in verbose) (map token_of (tokens text)) >>= λ ps. taken turn s ps >>= λ t. Some t.sum
@@ -120,6 +125,9 @@ times_of text = times_of_parts (begins is_minus text) (slice_split is_colon (wit
 -- what a number and its word in front of the rest come to, and what a time in front of it comes to
 abbrev pub pair_left : Bool → Bool → State → List ℕ → List ℕ → List ℕ → Option (Result Interval ParseError)
 pair_left verbose turn s number word rest = taken_pair verbose turn s number word >>= λ t. left verbose turn t rest
+
+abbrev pub worded_left : Bool → Bool → State → Result Decimal DecimalError → List ℕ → List ℕ → Option (Result Interval ParseError)
+worded_left verbose turn s n word rest = taken_word verbose s n word >>= λ t. left verbose turn t rest
 
 abbrev pub time_left : Bool → Bool → State → List ℕ → List ℕ → Option (Result Interval ParseError)
 time_left verbose turn s token rest = option_map (held_times turn) (times_of token) >>= λ t. taken_times s t >>= λ u. left verbose turn u rest

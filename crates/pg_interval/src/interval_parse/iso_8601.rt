@@ -8,6 +8,7 @@ ghost use Rattle.pg_interval.specs.Reader.{so_far, time_unit};
 ghost use Rattle.pg_interval.specs.Reading.{Iso8601, of_shape, reading};
 ghost use Rattle.pg_interval.specs.WordReader.{answered, rest_of};
 
+use super::iso_front::read_short;
 use super::number::{after_byte, decimal};
 use super::parse_error::{ParseError, Reason};
 use super::parts::{Items, Totals, Unit};
@@ -17,7 +18,7 @@ use crate::pg_interval::Interval;
 
 /// The unit that the letter names, before the `T` or after it.
 #[inline(always)]
-fn unit_at(in_time: bool, letter: u8) -> Option<Unit>
+pub(super) fn unit_at(in_time: bool, letter: u8) -> Option<Unit>
     ensures { option_map time_unit result ≡ unit_at in_time letter }
 {
     if letter == b'Y' {
@@ -140,6 +141,9 @@ impl Interval {
         let text = text.as_bytes();
         if text.len() > LONGEST_TEXT {
             return Err(ParseError::InvalidInterval(Reason::TooLong));
+        }
+        if let Some(interval) = read_short(text) {
+            return Ok(interval);
         }
         interval_of(read_iso(text))
     }

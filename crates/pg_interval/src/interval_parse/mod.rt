@@ -5,12 +5,15 @@ ghost use Rattle.pg_interval.specs.Printed.{printed};
 ghost use Rattle.pg_interval.specs.Reading.{Iso8601, Postgres, PostgresVerbose, SqlStandard, reading};
 ghost use Rattle.pg_interval.specs.declared.pg_interval.Interval.{Interval};
 
+mod front;
 mod iso_8601;
+mod iso_front;
 mod number;
 pub mod parse_error;
 mod parts;
 mod postgres;
 mod sql;
+mod sql_front;
 mod texts;
 mod totals;
 

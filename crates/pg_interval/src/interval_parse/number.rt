@@ -36,11 +36,11 @@ pub(super) fn without_sign(text: &[u8]) -> &[u8]
     ensures rest { result.now ≡ without_sign text.now }
     ensures long { length result.now ≤ length text.now }
 {
-    if !text.is_empty() && is_sign(text[0]) {
-        &text[1..]
-    } else {
-        text
+    if text.is_empty() {
+        return text;
     }
+    let (_sign, rest) = text.split_at(usize::from(is_sign(text[0])));
+    rest
 }
 
 /// The decimal that the text is, its sign turned if `turn` says so: a sign that may be missing, digits, and one point

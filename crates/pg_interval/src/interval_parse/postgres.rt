@@ -6,8 +6,9 @@ ghost use Rattle.pg_interval.specs.Pairs.{checked};
 ghost use Rattle.pg_interval.specs.PostgresText.{verbose_pairs};
 ghost use Rattle.pg_interval.specs.Reader.{decimal_from, number_read, so_far, time_unit};
 ghost use Rattle.pg_interval.specs.Reading.{Postgres, PostgresVerbose, of_shape, reading};
-ghost use Rattle.pg_interval.specs.WordReader.{answered, front_left, has, held_times, left, pair_left, time_left, within_left, rest_of, start, state, taken_one, taken_pair, taken_times, taken_unless_zero, times_from, times_of, unit_in, with_unit, none_seen};
+ghost use Rattle.pg_interval.specs.WordReader.{answered, front_left, has, held_times, left, pair_left, time_left, within_left, rest_of, start, state, taken_one, taken_word, taken_times, taken_unless_zero, times_from, times_of, unit_in, with_unit, none_seen, worded_left};
 
+use super::front::pair_front;
 use super::number::{after_byte, decimal, fraction_after, number_of, sign_of, without_sign};
 use super::parse_error::{DecimalError, ParseError, Reason};
 use super::parts::{Clock, Number, Seen, Totals, Unit, Words};
@@ -104,20 +105,48 @@ impl Words {
 
     /// Takes the number with the unit that the word names. `false` comes where it names none, or one that has a number.
     #[inline(always)]
-    fn take_pair(&mut self, number: &[u8], word: &[u8], verbose: bool, turn: bool) -> bool
+    fn take_pair(
+        &mut self,
+        number: Result<Number, DecimalError>,
+        word: &[u8],
+        verbose: bool,
+    ) -> bool
         requires { self.old.totals.count < 16384 }
         ensures taken { (if result then Some (state self.new) else None)
-            ≡ taken_pair verbose turn (state self.old) number.now word.now }
+            ≡ taken_word verbose (state self.old) (number_read number) word.now }
         ensures count { self.new.totals.count ≤ self.old.totals.count + 1 }
     {
         let Some(unit) = unit_of(word, verbose) else {
             return false;
         };
-        self.take(unit, decimal(number, turn))
+        self.take(unit, number)
     }
 
     /// Takes a number and its word, and returns the next token and what follows it. `None` comes where no unit that is
     /// still free is named.
+    #[inline(always)]
+    fn pass_word<'a>(
+        &mut self,
+        number: Result<Number, DecimalError>,
+        word: &[u8],
+        rest: &'a [u8],
+        verbose: bool,
+    ) -> Option<&'a [u8]>
+        requires { self.old.totals.count < 16384 }
+        ensures left { (turn : Bool) → front_left verbose turn (state self.new) (rest_of result)
+            ≡ worded_left verbose turn (state self.old) (number_read number) word.now rest.now }
+        ensures long { IfSome result (λ next. length next.now ≤ length rest.now) }
+        ensures solid { IfSome result (λ next. begins is_whitespace next.now ≡ false) }
+        ensures count { self.new.totals.count ≤ self.old.totals.count + 1 }
+    {
+        if !self.take_pair(number, word, verbose) {
+            return None;
+        }
+        Some(trim_start(rest))
+    }
+
+    /// Takes a number as it is written and its word, and returns the next token and what follows it. `None` comes where
+    /// no unit that is still free is named.
     #[inline(always)]
     fn pass_pair<'a>(
         &mut self,
@@ -134,10 +163,7 @@ impl Words {
         ensures solid { IfSome result (λ next. begins is_whitespace next.now ≡ false) }
         ensures count { self.new.totals.count ≤ self.old.totals.count + 1 }
     {
-        if !self.take_pair(number, word, verbose, turn) {
-            return None;
-        }
-        Some(trim_start(rest))
+        self.pass_word(decimal(number, turn), word, rest, verbose)
     }
 
     /// Takes a time, and returns the next token and what follows it. `None` comes where the token is no time, or a
@@ -185,6 +211,24 @@ impl Words {
         }
         let (next, rest) = cut(Kind::Solid, trim_start(rest));
         self.pass_pair(number, next, rest, verbose, turn)
+    }
+
+    /// Takes what `take_front` takes: at once where it is a small number, a space and a word.
+    #[inline(always)]
+    fn take_next<'a>(&mut self, text: &'a [u8], verbose: bool, turn: bool) -> Option<&'a [u8]>
+        requires room { self.old.totals.count + 3 ≤ 16384 }
+        requires filled { 0 < length text.now }
+        requires solid { begins is_whitespace text.now ≡ false }
+        ensures left { front_left verbose turn (state self.new) (rest_of result)
+            ≡ left verbose turn (state self.old) text.now }
+        ensures long { IfSome result (λ next. length next.now < length text.now) }
+        ensures solid { IfSome result (λ next. begins is_whitespace next.now ≡ false) }
+        ensures count { self.new.totals.count ≤ self.old.totals.count + 3 }
+    {
+        let Some((number, word, rest)) = pair_front(text, turn) else {
+            return self.take_front(text, verbose, turn);
+        };
+        self.pass_word(Ok(number), word, rest, verbose)
     }
 
     /// Takes the numbers of the time that aren't zero. `false` comes where a unit has one.
@@ -244,7 +288,7 @@ fn read_words(text: &[u8], verbose: bool, turn: bool) -> Option<Totals>
     let mut words = Words::new();
     let mut rest = trim_start(text);
     while !rest.is_empty() {
-        let Some(next) = words.take_front(rest, verbose, turn) else {
+        let Some(next) = words.take_next(rest, verbose, turn) else {
             return None;
         };
         rest = next;

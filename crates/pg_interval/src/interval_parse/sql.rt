@@ -13,6 +13,7 @@ use super::number::{after_byte, number_of, sign_of, without_sign};
 use super::parse_error::{IntError, ParseError, Reason};
 use super::parts::{Number, Totals, Unit};
 use super::postgres::{interval_of, is};
+use super::sql_front::{read_fewer, read_three};
 use super::texts::{Kind, LONGEST_TEXT, cut, is_sign, run_len, trim_start};
 use crate::pg_interval::Interval;
 
@@ -235,7 +236,7 @@ impl Totals {
 
 /// Is the sign of the time a minus? It is the sign before the days where the time has none.
 #[inline(always)]
-fn sign_of_two(first: &[u8], second: &[u8]) -> bool
+pub(super) fn sign_of_two(first: &[u8], second: &[u8]) -> bool
     ensures { result ≡ begins is_minus (if begins is_sign second.now then second.now else first.now) }
 {
     if begins_with_sign(second) {
@@ -291,6 +292,12 @@ impl Interval {
         let text = text.as_bytes();
         if text.len() > LONGEST_TEXT {
             return Err(ParseError::InvalidInterval(Reason::TooLong));
+        }
+        if let Some(interval) = read_three(text) {
+            return Ok(interval);
+        }
+        if let Some(interval) = read_fewer(text) {
+            return Ok(interval);
         }
         interval_of(read_sql(text))
     }

@@ -55,7 +55,7 @@ pub(super) fn is_letter(byte: u8) -> bool
 pub(super) fn is_sign(byte: u8) -> bool
     ensures { result ≡ is_sign byte }
 {
-    byte == b'+' || byte == b'-'
+    (byte == b'+') | (byte == b'-')
 }
 
 /// Is it the space, or one of the bytes 9 to 13?

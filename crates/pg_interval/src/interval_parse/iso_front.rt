@@ -1,0 +1,208 @@
+// A first try at reading the style `iso_8601`: items whose numbers lie below 2 ^ 31, and six digits behind a point. It
+// answers for the texts that it knows, and leaves all others to the whole reader.
+ghost use Rattle.std.specs.Prelude.{◌≡◌, ◌≤◌, ◌<◌, ◌^◌, ◌∷◌, true, false, length, IfSome, Some, Ok};
+ghost use Rattle.pg_interval.specs.Pairs.{nothing, sum_of};
+ghost use Rattle.pg_interval.specs.Reader.{time_unit};
+ghost use Rattle.pg_interval.specs.ItemReader.{left};
+ghost use Rattle.pg_interval.specs.Reading.{Iso8601, reading};
+ghost use Rattle.pg_interval.specs.FrontReader.{IsFraction, IsNumberFront, amount, left_of, only_days, only_months, only_time, sums_of, without_minus};
+
+use super::front::{interval_within, number_front, signed};
+use super::iso_8601::unit_at;
+use super::number::{after_byte, sign_of};
+use super::parts::Unit;
+use crate::pg_interval::Interval;
+
+/// What the items so far come to, and whether the `T` stood among them.
+#[derive(Clone, Copy)]
+pub(super) struct Sums {
+    in_time: bool,
+    months: i64,
+    days: i64,
+    microseconds: i64,
+}
+
+impl Sums {
+    /// Adds months. `false` comes where the sum leaves its type.
+    #[inline(always)]
+    fn add_months(&mut self, more: i64) -> bool
+        ensures sums { result ≡ true → sums_of self.new ≡ sum_of (sums_of self.old) (only_months more) }
+        ensures in_time { self.new.in_time ≡ self.old.in_time }
+    {
+        let Some(sum) = self.months.checked_add(more) else {
+            return false;
+        };
+        self.months = sum;
+        true
+    }
+
+    /// Adds days. `false` comes where the sum leaves its type.
+    #[inline(always)]
+    fn add_days(&mut self, more: i64) -> bool
+        ensures sums { result ≡ true → sums_of self.new ≡ sum_of (sums_of self.old) (only_days more) }
+        ensures in_time { self.new.in_time ≡ self.old.in_time }
+    {
+        let Some(sum) = self.days.checked_add(more) else {
+            return false;
+        };
+        self.days = sum;
+        true
+    }
+
+    /// Adds microseconds. `false` comes where the sum leaves its type.
+    #[inline(always)]
+    fn add_time(&mut self, more: i64) -> bool
+        ensures sums { result ≡ true → sums_of self.new ≡ sum_of (sums_of self.old) (only_time more) }
+        ensures in_time { self.new.in_time ≡ self.old.in_time }
+    {
+        let Some(sum) = self.microseconds.checked_add(more) else {
+            return false;
+        };
+        self.microseconds = sum;
+        true
+    }
+
+    /// Adds a whole number of this unit, negative if `minus` says so. `false` comes where a sum leaves its type.
+    #[inline(always)]
+    fn add(&mut self, unit: Unit, minus: bool, size: u64) -> bool
+        requires { size < 2 ^ 31 }
+        ensures sums { result ≡ true →
+            sums_of self.new ≡ sum_of (sums_of self.old) (amount (time_unit unit) minus size) }
+        ensures in_time { self.new.in_time ≡ self.old.in_time }
+    {
+        match unit {
+            Unit::Year => self.add_months(signed(minus, 12 * size)),
+            Unit::Month => self.add_months(signed(minus, size)),
+            Unit::Day => self.add_days(signed(minus, size)),
+            Unit::Hour => self.add_time(signed(minus, 3_600_000_000 * size)),
+            Unit::Minute => self.add_time(signed(minus, 60_000_000 * size)),
+            Unit::Second => self.add_time(signed(minus, 1_000_000 * size)),
+        }
+    }
+
+    /// Takes the `T` before this rest, and returns the rest. `None` comes where it is the second.
+    #[inline(always)]
+    fn take_mark<'a>(&mut self, rest: &'a [u8]) -> Option<&'a [u8]>
+        ensures left { IfSome result (λ next. left_of self.old (84 ∷ rest.now) ≡ left_of self.new next.now) }
+        ensures long { IfSome result (λ next. length next.now ≤ length rest.now) }
+    {
+        if self.in_time {
+            return None;
+        }
+        self.in_time = true;
+        Some(rest)
+    }
+
+    /// Takes the item in front of the text, and returns the rest. `None` comes where it isn't written so.
+    #[inline(always)]
+    fn take_item<'a>(&mut self, text: &'a [u8]) -> Option<&'a [u8]>
+        ensures left { IfSome result (λ next. left_of self.old text.now ≡ left_of self.new next.now) }
+        ensures long { IfSome result (λ next. length next.now < length text.now) }
+    {
+        let minus = sign_of(text, false);
+        let Some((whole, behind)) = number_front(without_minus(text)) else {
+            return None;
+        };
+        if behind.is_empty() {
+            return None;
+        }
+        let letter = behind[0];
+        if letter == b'.' {
+            let Some((fraction, rest)) = fraction_front(behind) else {
+                return None;
+            };
+            if !self.in_time || !self.add_time(signed(minus, 1_000_000 * whole + fraction)) {
+                return None;
+            }
+            return Some(rest);
+        }
+        let (_letter, rest) = behind.split_at(1);
+        let Some(unit) = unit_at(self.in_time, letter) else {
+            return None;
+        };
+        if !self.add(unit, minus, whole) {
+            return None;
+        }
+        Some(rest)
+    }
+
+    /// Takes the `T` or the item in front of the text, and returns the rest. `None` comes where they aren't written so.
+    #[inline(always)]
+    fn take_front<'a>(&mut self, text: &'a [u8]) -> Option<&'a [u8]>
+        ensures left { IfSome result (λ next. left_of self.old text.now ≡ left_of self.new next.now) }
+        ensures long { IfSome result (λ next. length next.now < length text.now) }
+    {
+        if let Some(rest) = after_byte(b'T', text) {
+            return self.take_mark(rest);
+        }
+        self.take_item(text)
+    }
+}
+
+/// The text without the minus that it may begin with.
+#[inline(always)]
+fn without_minus(text: &[u8]) -> &[u8]
+    ensures { result.now ≡ without_minus text.now }
+{
+    if text.is_empty() {
+        return text;
+    }
+    let (_minus, rest) = text.split_at(usize::from(text[0] == b'-'));
+    rest
+}
+
+/// The number of the six digits between a point and `S` in front of the text, and what stands behind the `S`.
+#[inline(always)]
+fn fraction_front(text: &[u8]) -> Option<(u64, &[u8])>
+    ensures { IfSome result (λ front. IsFraction front.0 text.now front.1.now) }
+{
+    let Some(digits) = after_byte(b'.', text) else {
+        return None;
+    };
+    let Some((fraction, behind)) = number_front(digits) else {
+        return None;
+    };
+    if digits.len() != behind.len() + 6 {
+        return None;
+    }
+    let Some(rest) = after_byte(b'S', behind) else {
+        return None;
+    };
+    Some((fraction, rest))
+}
+
+/// What the text behind its `P` comes to. `None` comes where it isn't written so.
+#[inline(always)]
+fn read_items(text: &[u8]) -> Option<Sums>
+    ensures { IfSome result (λ sums. left false (Ok nothing) text.now ≡ Some (Ok (sums_of sums))) }
+{
+    let mut sums = Sums {
+        in_time: false,
+        months: 0,
+        days: 0,
+        microseconds: 0,
+    };
+    let mut rest = text;
+    while !rest.is_empty() {
+        let Some(next) = sums.take_front(rest) else {
+            return None;
+        };
+        rest = next;
+    }
+    Some(sums)
+}
+
+/// The interval of a `P` and items. `None` comes where the text isn't written so, or may be refused.
+pub(super) fn read_short(text: &[u8]) -> Option<Interval>
+    requires { length text.now ≤ 4096 }
+    ensures { IfSome result (λ i. reading Iso8601 text.now ≡ Ok i) }
+{
+    if text.len() < 2 || text[0] != b'P' {
+        return None;
+    }
+    let (_mark, rest) = text.split_at(1);
+    let Some(sums) = read_items(rest) else {
+        return None;
+    };
+    interval_within(sums.months, sums.days, sums.microseconds)
+}
