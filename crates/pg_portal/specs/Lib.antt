@@ -3,6 +3,7 @@ pub mod Texts
 pub mod Errors
 pub mod Clients
 pub mod Rows
+pub mod Copying
 pub mod Formats
 pub mod Fields
 pub mod Tags
@@ -10,6 +11,7 @@ pub mod Encoding
 pub mod Describing
 pub mod Page
 pub mod Told
+pub mod Responses
 pub mod Noop
 pub mod Fetching
 pub mod Statements

@@ -19,6 +19,7 @@ pub use laws::{two_fetches_are_one, what_is_put_is_got};
 pub use mem_store::MemPortalStore;
 pub use names::Named;
 pub use portal::{FetchResult, Format, Portal, PortalExecutionState, is_reached};
+pub use results::copy::{CopyResponse, CopySource, ListCopy, finish_copy_binary};
 pub use results::describe::{DescribePortalResponse, DescribeResponse, DescribeStatementResponse};
 pub use results::encoder::DataRowEncoder;
 pub use results::field_info::FieldInfo;
