@@ -6,6 +6,7 @@ pub mod Rows
 pub mod Copying
 pub mod Formats
 pub mod Fields
+pub mod SameFields
 pub mod Tags
 pub mod Encoding
 pub mod Describing
@@ -14,4 +15,5 @@ pub mod Told
 pub mod Responses
 pub mod Noop
 pub mod Fetching
+pub mod Parameters
 pub mod Statements

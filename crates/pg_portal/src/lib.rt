@@ -7,6 +7,7 @@ mod error;
 mod laws;
 mod mem_store;
 mod names;
+mod parameters;
 mod portal;
 mod results;
 mod rows;
