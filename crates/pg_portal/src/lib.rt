@@ -16,7 +16,7 @@ mod store;
 
 pub use client::{ClientInfo, Metadata, PgWireConnectionState};
 pub use error::PgWireError;
-pub use laws::{two_fetches_are_one, what_is_put_is_got};
+pub use laws::{equal_columns_are_one, two_fetches_are_one, what_is_put_is_got};
 pub use mem_store::MemPortalStore;
 pub use names::Named;
 pub use portal::{FetchResult, Format, Portal, PortalExecutionState, is_reached};
