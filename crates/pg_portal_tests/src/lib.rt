@@ -4,6 +4,8 @@
 #[cfg(test)]
 mod copy_tests;
 #[cfg(test)]
+mod encoder_tests;
+#[cfg(test)]
 mod field_tests;
 #[cfg(test)]
 mod fixtures;
@@ -11,3 +13,5 @@ mod fixtures;
 mod parameter_tests;
 #[cfg(test)]
 mod portal_tests;
+#[cfg(test)]
+mod store_tests;
