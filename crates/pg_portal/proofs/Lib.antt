@@ -3,3 +3,4 @@ pub mod StoreMaps
 pub mod Paging
 pub mod Fetches
 pub mod TwoFetches
+pub mod SameColumns

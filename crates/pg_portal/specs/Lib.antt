@@ -3,13 +3,17 @@ pub mod Texts
 pub mod Errors
 pub mod Clients
 pub mod Rows
+pub mod Copying
 pub mod Formats
 pub mod Fields
+pub mod SameFields
 pub mod Tags
 pub mod Encoding
 pub mod Describing
 pub mod Page
 pub mod Told
+pub mod Responses
 pub mod Noop
 pub mod Fetching
+pub mod Parameters
 pub mod Statements

@@ -57,80 +57,106 @@ impl PgWireError {
         ensures untold { self ≡ PgWireError.NoMemory → IsErr result }
     {
         match self {
-            PgWireError::StatementNotFound(name) => {
-                told(
-                    alloc,
-                    "26000",
-                    "prepared statement \"",
-                    name.as_str(),
-                    "\" does not exist",
-                )
-            }
-            PgWireError::PortalNotFound(name) => {
-                told(
-                    alloc,
-                    "34000",
-                    "portal \"",
-                    name.as_str(),
-                    "\" does not exist",
-                )
-            }
-            PgWireError::InvalidTargetType(byte) => {
-                let mut digits = Buffer::new();
-                told(
-                    alloc,
-                    "08P01",
-                    "invalid target type: ",
-                    digits.format(byte),
-                    "",
-                )
-            }
-            PgWireError::QueryCanceled => {
-                told(
-                    alloc,
-                    "57014",
-                    "canceling statement due to user request",
-                    "",
-                    "",
-                )
-            }
+            PgWireError::StatementNotFound(name) => statement_not_found(alloc, name.as_str()),
+            PgWireError::PortalNotFound(name) => portal_not_found(alloc, name.as_str()),
+            PgWireError::InvalidTargetType(byte) => invalid_target_type(alloc, byte),
+            PgWireError::QueryCanceled => query_canceled(alloc),
             PgWireError::UserError(info) => Ok(info),
             PgWireError::NotReadyForQuery => told(alloc, "08P01", "not ready for query", "", ""),
-            PgWireError::InvalidOptionValue(value) => {
-                told(
-                    alloc,
-                    "22023",
-                    "invalid option value \"",
-                    value.as_str(),
-                    "\"",
-                )
-            }
+            PgWireError::InvalidOptionValue(value) => invalid_option_value(alloc, value.as_str()),
             PgWireError::PortalNotStarted => told(alloc, "XX000", "portal is not started", "", ""),
-            PgWireError::InvalidRustTypeForParameter(name) => {
-                told(
-                    alloc,
-                    "XX000",
-                    "type ",
-                    name.as_str(),
-                    " is not accepted for the parameter",
-                )
-            }
-            PgWireError::ParameterIndexOutOfBound(index) => {
-                let mut digits = Buffer::new();
-                told(
-                    alloc,
-                    "XX000",
-                    "parameter index ",
-                    digits.format(index),
-                    " is out of bounds",
-                )
-            }
+            PgWireError::InvalidRustTypeForParameter(name) => invalid_rust_type(
+                alloc,
+                name.as_str(),
+            ),
+            PgWireError::ParameterIndexOutOfBound(index) => index_out_of_bound(alloc, index),
             PgWireError::FailedToParseParameter(_cause) => {
                 told(alloc, "XX000", "failed to parse parameter", "", "")
             }
             PgWireError::NoMemory => Err(AllocError),
         }
     }
+}
+
+/// What is told where no statement stands under a name.
+fn statement_not_found(alloc: Global, name: &str) -> Result<ErrorInfo, AllocError>
+    ensures { IfOk result (λ info. info ≡ info_of (PgWireError.StatementNotFound name.now)) }
+{
+    told(
+        alloc,
+        "26000",
+        "prepared statement \"",
+        name,
+        "\" does not exist",
+    )
+}
+
+/// What is told where no portal stands under a name.
+fn portal_not_found(alloc: Global, name: &str) -> Result<ErrorInfo, AllocError>
+    ensures { IfOk result (λ info. info ≡ info_of (PgWireError.PortalNotFound name.now)) }
+{
+    told(alloc, "34000", "portal \"", name, "\" does not exist")
+}
+
+/// What is told of a byte that names nothing to describe.
+fn invalid_target_type(alloc: Global, byte: u8) -> Result<ErrorInfo, AllocError>
+    ensures { IfOk result (λ info. info ≡ info_of (PgWireError.InvalidTargetType byte)) }
+{
+    let mut digits = Buffer::new();
+    told(
+        alloc,
+        "08P01",
+        "invalid target type: ",
+        digits.format(byte),
+        "",
+    )
+}
+
+/// What is told of a canceled query.
+fn query_canceled(alloc: Global) -> Result<ErrorInfo, AllocError>
+    ensures { IfOk result (λ info. info ≡ info_of PgWireError.QueryCanceled) }
+{
+    told(
+        alloc,
+        "57014",
+        "canceling statement due to user request",
+        "",
+        "",
+    )
+}
+
+/// What is told of an option's text that is none of its values.
+fn invalid_option_value(alloc: Global, value: &str) -> Result<ErrorInfo, AllocError>
+    ensures { IfOk result (λ info. info ≡ info_of (PgWireError.InvalidOptionValue value.now)) }
+{
+    told(alloc, "22023", "invalid option value \"", value, "\"")
+}
+
+/// What is told of a type, by its name, that isn't read as the value that was asked for.
+fn invalid_rust_type(alloc: Global, name: &str) -> Result<ErrorInfo, AllocError>
+    ensures { IfOk result (λ info. info ≡ info_of (PgWireError.InvalidRustTypeForParameter name.now)) }
+{
+    told(
+        alloc,
+        "XX000",
+        "type ",
+        name,
+        " is not accepted for the parameter",
+    )
+}
+
+/// What is told of an index that has no parameter.
+fn index_out_of_bound(alloc: Global, index: usize) -> Result<ErrorInfo, AllocError>
+    ensures { IfOk result (λ info. info ≡ info_of (PgWireError.ParameterIndexOutOfBound index)) }
+{
+    let mut digits = Buffer::new();
+    told(
+        alloc,
+        "XX000",
+        "parameter index ",
+        digits.format(index),
+        " is out of bounds",
+    )
 }
 
 /// An error of severity ERROR: its message is a text between two others.

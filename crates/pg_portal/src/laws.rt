@@ -1,9 +1,11 @@
-//! Laws of pages and of stores. Each function takes nothing and does nothing: its contract is the law.
+//! Laws of pages, stores and columns. Each function takes nothing and does nothing: its contract is the law.
 
-ghost use Rattle.std.specs.Prelude.{◌≡◌, ◌≢◌, ℕ, ◌+◌, ◌≤◌, pos, List, Some, IsOk};
+ghost use Rattle.std.specs.Prelude.{◌≡◌, ◌≢◌, ◌↔◌, ℕ, ◌+◌, ◌≤◌, pos, List, Some, IsOk, true};
 ghost use Rattle.std.specs.FinMap as fin;
 ghost use Rattle.pg_portal.specs.Fetching.{fetched, AreOneFetch};
+ghost use Rattle.pg_portal.specs.Fields.{Field};
 ghost use Rattle.pg_portal.specs.Names.{NameMap};
+ghost use Rattle.pg_portal.specs.SameFields.{is_same_field};
 ghost use Rattle.pg_portal.specs.Told.{Stage};
 
 /// Two fetches of positive limits, one after another and without a row's error, give the rows that one fetch of
@@ -22,4 +24,9 @@ pub fn what_is_put_is_got<T>()
         → fin.get (fin.insert names name entry) name ≡ Some entry }
     ensures others { (names : NameMap T) (name other : List ℕ) (entry : T) → other ≢ name
         → fin.get (fin.insert names name entry) other ≡ fin.get names other }
+{}
+
+/// `==` of two columns is true exactly where all their parts are the same.
+pub fn equal_columns_are_one()
+    ensures { (a b : Field) → (is_same_field a b ≡ true) ↔ (a ≡ b) }
 {}

@@ -3,6 +3,7 @@
 ghost use Rattle.std.specs.Prelude.{◌≡◌, IfOk};
 ghost use Rattle.std.specs.Arc.{arc_value};
 ghost use Rattle.pg_portal.specs.Fields.{plain_field, description_of, described_field};
+ghost use Rattle.pg_portal.specs.SameFields.{is_same_column, is_same_options, is_same_type};
 
 use pg_messages::{FieldDescription, PgStr};
 use pg_text::{FieldFormat, FormatOptions, PgType};
@@ -196,4 +197,54 @@ impl FieldInfo {
             type_modifier: self.type_modifier,
         })
     }
+}
+
+impl PartialEq for FieldInfo {
+    ghost use Rattle.std.specs.Cmp.{partial_equiv_from_equiv};
+    ghost use Rattle.pg_portal.specs.SameFields.{is_same_field, same_field_equiv};
+
+    ghost eq = { is_same_field };
+
+    ghost laws = { partial_equiv_from_equiv same_field_equiv };
+
+    /// Whether all parts are equal; the options are compared by value.
+    fn eq(&self, other: &FieldInfo) -> bool {
+        is_same_column(self, other)
+            && is_same_type(self, other)
+            && is_same_options(&self.format_options, &other.format_options)
+    }
+}
+
+impl Eq for FieldInfo {
+    ghost use Rattle.pg_portal.specs.SameFields.{same_field_equiv};
+
+    ghost laws = { same_field_equiv };
+}
+
+/// Whether the names and the places in a table are equal.
+fn is_same_column(a: &FieldInfo, b: &FieldInfo) -> bool
+    ensures { result ≡ is_same_column a.now b.now }
+{
+    a.name == b.name && a.table_id == b.table_id && a.column_id == b.column_id
+}
+
+/// Whether the types, with their sizes and modifiers, and the formats are equal.
+fn is_same_type(a: &FieldInfo, b: &FieldInfo) -> bool
+    ensures { result ≡ is_same_type a.now b.now }
+{
+    a.datatype.oid() == b.datatype.oid()
+        && a.format.value() == b.format.value()
+        && a.type_size == b.type_size
+        && a.type_modifier == b.type_modifier
+}
+
+/// Whether options are equal.
+fn is_same_options(a: &FormatOptions, b: &FormatOptions) -> bool
+    ensures { result ≡ is_same_options a.now b.now }
+{
+    a.date_style == b.date_style
+        && a.interval_style == b.interval_style
+        && a.bytea_output == b.bytea_output
+        && a.time_zone == b.time_zone
+        && a.extra_float_digits == b.extra_float_digits
 }

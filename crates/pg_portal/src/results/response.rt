@@ -5,6 +5,7 @@ ghost use Rattle.std.specs.Arc.{arc_value};
 ghost use Rattle.std.specs.Borrow.{Lends, sem};
 ghost use Rattle.pg_portal.specs.contracts.results.response.QueryResponse.{the_row};
 
+use crate::results::copy::CopyResponse;
 use crate::results::field_info::FieldInfo;
 use crate::results::tag::Tag;
 use crate::rows::RowSource;
@@ -76,7 +77,7 @@ impl<R: RowSource> QueryResponse<R> {
 
 /// What a query answers.
 #[derive(Drop)]
-pub enum Response<R> {
+pub enum Response<R, C> {
     /// The query was empty.
     EmptyQuery,
     /// Rows.
@@ -89,4 +90,10 @@ pub enum Response<R> {
     TransactionEnd(Tag),
     /// The query was refused.
     Error(ErrorInfo),
+    /// The client may send data.
+    CopyIn(CopyResponse<C>),
+    /// Data of the server follows.
+    CopyOut(CopyResponse<C>),
+    /// Data of both sides follows.
+    CopyBoth(CopyResponse<C>),
 }
