@@ -1,4 +1,4 @@
-ghost use Rattle.std.specs.Prelude.{◌≡◌, ◌≤◌, ◌++◌, length, IfOk, OnOk, OnErr, string_bytes};
+ghost use Rattle.std.specs.Prelude.{◌≡◌, ◌≤◌, ◌++◌, length, OnOk, OnErr};
 ghost use Rattle.std.specs.Str.{IsUtf8};
 ghost use Rattle.pg_interval.specs.Printed.{printed};
 ghost use Rattle.pg_interval.specs.Reading.{reading, StandsForOnly};
@@ -9,7 +9,7 @@ ghost use Rattle.pg_text.specs.Words.{or_invalid, interval_style_of, printed_sty
 use crate::error::CellError;
 use crate::format::words::{is_name, trimmed};
 use bytes::BytesMut;
-use pg_interval::{Interval, ParseError};
+use pg_interval::{Interval, IntervalText, ParseError};
 use std::alloc::{AllocError, Global};
 
 pub const INTERVAL_STYLE_POSTGRES: &str = "postgres";
@@ -73,35 +73,36 @@ impl IntervalStyle {
         }
     }
 
-    /// Appends the text of an interval in this style. After an error nothing is appended.
-    #[tactic(auto, using(crate::proofs::Texts::length_stands))]
+    /// Appends the text of an interval in this style. It is made on the stack and appended at once; memory is taken
+    /// only where the buffer grows. After an error nothing is appended.
     pub fn print(self, interval: &Interval, out: &mut BytesMut) -> Result<(), AllocError>
         ensures printed { OnOk result (out.new.items
             ≡ out.old.items ++ printed (printed_style self) interval.now) }
         // the text stands for this interval and for no other
         ensures stands { OnOk result (StandsForOnly (printed_style self)
             (printed (printed_style self) interval.now) interval.now) }
-        ensures short { OnOk result (length (printed (printed_style self) interval.now) ≤ 4096) }
+        ensures short { OnOk result (length (printed (printed_style self) interval.now) ≤ 96) }
         ensures utf8 { OnOk result (IsUtf8 (printed (printed_style self) interval.now)) }
         ensures err { OnErr result (out.new.items ≡ out.old.items) }
     {
-        let text = self.text(*out.allocator(), interval)?;
-        out.extend_from_slice(text.as_str().as_bytes())?;
-        Ok(())
+        let text = self.text(interval);
+        out.extend_from_slice(text.as_bytes())
     }
 
-    /// The text of an interval in this style.
-    fn text(self, alloc: Global, interval: &Interval) -> Result<String, AllocError>
-        ensures printed { IfOk result (λ text. string_bytes text
-            ≡ printed (printed_style self) interval.now) }
-        ensures stands { IfOk result (λ text. StandsForOnly (printed_style self)
-            (string_bytes text) interval.now) }
+    /// The text of an interval in this style, on the stack.
+    #[inline]
+    pub fn text(self, interval: &Interval) -> IntervalText
+        ensures printed { result ≡ printed (printed_style self) interval.now }
+        // the text stands for this interval and for no other
+        ensures stands { StandsForOnly (printed_style self) result interval.now }
+        ensures short { length result ≤ 96 }
+        ensures utf8 { IsUtf8 result }
     {
         match self {
-            IntervalStyle::Postgres => interval.to_postgres(alloc),
-            IntervalStyle::ISO8601 => interval.to_iso_8601(alloc),
-            IntervalStyle::SQLStandard => interval.to_sql(alloc),
-            IntervalStyle::PostgresVerbose => interval.to_postgres_verbose(alloc),
+            IntervalStyle::Postgres => interval.postgres_text(),
+            IntervalStyle::ISO8601 => interval.iso_8601_text(),
+            IntervalStyle::SQLStandard => interval.sql_text(),
+            IntervalStyle::PostgresVerbose => interval.postgres_verbose_text(),
         }
     }
 
