@@ -1,6 +1,6 @@
 //! The replies of a server, and the writing of each.
 
-ghost use Rattle.std.specs.Prelude.{◌≡◌, ◌≤◌, ◌-◌, ◌^◌, ◌++◌, length, min};
+ghost use Rattle.std.specs.Prelude.{◌≡◌, ◌≤◌, ◌+◌, ◌-◌, ◌^◌, ◌++◌, length, min};
 ghost use Rattle.pg_messages.specs.Replies.{IsEncodable, reply_type, reply_body, is_one_byte};
 
 use crate::copy::{
@@ -115,7 +115,8 @@ pub fn is_one_byte(item: &PgWireBackendMessage) -> bool
 pub fn put_body(item: &PgWireBackendMessage, dst: &mut BytesMut)
     requires fits { IsEncodable item.now }
     requires room { length (reply_body item.now) ≤ dst.old.spare }
-    ensures { dst.new.items ≡ dst.old.items ++ reply_body item.now }
+    ensures items { dst.new.items ≡ dst.old.items ++ reply_body item.now }
+    ensures spare { dst.new.spare + length (reply_body item.now) ≡ dst.old.spare }
 {
     match item {
         PgWireBackendMessage::AuthenticationOk(_) => dst.extend_reserved(&[0, 0, 0, 0]),

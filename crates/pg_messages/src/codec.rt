@@ -114,7 +114,8 @@ impl PgWireMessageServerCodec {
 
     /// Appends the bytes of a reply: Byte1 type, Int32 length, which counts itself and not the type byte,
     /// and the body (protocol, "Message Formats"). The room is made at once, so want of memory is the
-    /// only error, and after it the bytes are as they were.
+    /// only error, and after it the bytes are as they were. The buffer's whole room, its bytes and what
+    /// it has spare, never falls.
     #[inline]
     pub fn encode(
         &mut self,
@@ -124,6 +125,8 @@ impl PgWireMessageServerCodec {
         requires { IsEncodable item.now }
         ensures ok { OnOk result (dst.new.items ≡ dst.old.items ++ reply_bytes item.now) }
         ensures err { OnErr result (dst.new.items ≡ dst.old.items) }
+        ensures room { length dst.old.items + dst.old.spare
+            ≤ length dst.new.items + dst.new.spare }
         ensures context { self.new ≡ self.old }
     {
         match item {
@@ -141,6 +144,8 @@ fn put_row(row: &DataRow, dst: &mut BytesMut) -> Result<(), AllocError>
     ensures ok { OnOk result
         (dst.new.items ≡ dst.old.items ++ reply_bytes (server.DataRow row.now)) }
     ensures err { OnErr result (dst.new.items ≡ dst.old.items) }
+    ensures room { length dst.old.items + dst.old.spare
+        ≤ length dst.new.items + dst.new.spare }
 {
     let cells = row.payload.as_slice();
     let head = row_head(row);
@@ -168,6 +173,8 @@ fn put_copied(copied: &CopyData, dst: &mut BytesMut) -> Result<(), AllocError>
     ensures ok { OnOk result
         (dst.new.items ≡ dst.old.items ++ reply_bytes (server.CopyData copied.now)) }
     ensures err { OnErr result (dst.new.items ≡ dst.old.items) }
+    ensures room { length dst.old.items + dst.old.spare
+        ≤ length dst.new.items + dst.new.spare }
 {
     let bytes = copied.payload.as_slice();
     let [a, b, c, d] = (bytes.len() as u32 + 4).to_be_bytes();
@@ -181,6 +188,8 @@ fn put_reply(item: &PgWireBackendMessage, dst: &mut BytesMut) -> Result<(), Allo
     requires { IsEncodable item.now }
     ensures ok { OnOk result (dst.new.items ≡ dst.old.items ++ reply_bytes item.now) }
     ensures err { OnErr result (dst.new.items ≡ dst.old.items) }
+    ensures room { length dst.old.items + dst.old.spare
+        ≤ length dst.new.items + dst.new.spare }
 {
     if is_one_byte(item) {
         dst.reserve(1)?;

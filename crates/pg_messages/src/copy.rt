@@ -1,6 +1,6 @@
 //! COPY: data of either side, how it ends, and the replies that begin it.
 
-ghost use Rattle.std.specs.Prelude.{◌≡◌, ◌≤◌, ◌++◌, length};
+ghost use Rattle.std.specs.Prelude.{◌≡◌, ◌≤◌, ◌+◌, ◌++◌, length};
 ghost use Rattle.pg_messages.specs.Replies.{copy_columns};
 
 use crate::codec::FrameError;
@@ -81,8 +81,10 @@ impl Field for CopyFail {
 /// Appends what begins a COPY.
 pub fn put_columns(format: i8, columns: i16, column_formats: &[i16], dst: &mut BytesMut)
     requires { length (copy_columns format columns column_formats.now) ≤ dst.old.spare }
-    ensures { dst.new.items
+    ensures items { dst.new.items
         ≡ dst.old.items ++ copy_columns format columns column_formats.now }
+    ensures spare { dst.new.spare + length (copy_columns format columns column_formats.now)
+        ≡ dst.old.spare }
 {
     format.put(dst);
     columns.put(dst);

@@ -110,8 +110,10 @@ pub fn put_list<T: Put>(values: &[T], dst: &mut BytesMut)
     requires count { length values.now < 2 ^ 15 }
     requires room { length (count16 (length values.now) ++ flat_map T.bytes_of values.now)
         ≤ dst.old.spare }
-    ensures { dst.new.items
+    ensures items { dst.new.items
         ≡ dst.old.items ++ (count16 (length values.now) ++ flat_map T.bytes_of values.now) }
+    ensures spare { dst.new.spare
+        + length (count16 (length values.now) ++ flat_map T.bytes_of values.now) ≡ dst.old.spare }
 {
     dst.extend_reserved(&(values.len() as u16).to_be_bytes());
     put_all(values, dst);

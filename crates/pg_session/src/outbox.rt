@@ -1,4 +1,4 @@
-ghost use Rattle.std.specs.Prelude.{◌≡◌, ◌≤◌, ◌++◌, [], length, IfOk, OnOk, OnErr};
+ghost use Rattle.std.specs.Prelude.{◌≡◌, ◌++◌, [], length, IfOk, OnOk, OnErr};
 ghost use Rattle.pg_messages.specs.Replies.{IsEncodable, reply_bytes};
 
 use bytes::BytesMut;
@@ -13,23 +13,18 @@ pub struct Outbox {
 }
 
 impl Model for Outbox {
-    ghost use Rattle.std.specs.Prelude.{ℕ, List};
+    ghost use Rattle.std.specs.Prelude.{ℕ, List, ◌≤◌, ◌+◌, length};
 
     ghost Value = { List ℕ };
 
     ghost view = { λ o. o.bytes.items };
+
+    // The bytes and the room behind them, in all.
+    ghost invariant = { λ o. 65536 ≤ length o.bytes.items + o.bytes.spare };
 }
 
 /// As many bytes are sent at once, where there are so many.
 pub(crate) const CHUNK: usize = 65536;
-
-/// An empty buffer with room for 65,536 bytes.
-fn buffer_of_a_chunk(alloc: Global) -> Result<BytesMut, AllocError>
-    ensures empty { IfOk result (λ buffer. buffer.items ≡ []) }
-    ensures room { IfOk result (λ buffer. 65536 ≤ buffer.spare) }
-{
-    BytesMut::with_capacity(alloc, CHUNK)
-}
 
 impl Outbox {
     /// An empty outbox with room for 65,536 bytes.
@@ -37,7 +32,7 @@ impl Outbox {
         ensures { IfOk result (λ outbox. outbox ≡ []) }
     {
         Ok(Outbox {
-            bytes: buffer_of_a_chunk(alloc)?,
+            bytes: BytesMut::with_capacity(alloc, CHUNK)?,
         })
     }
 
