@@ -27,5 +27,5 @@ pub use results::field_info::FieldInfo;
 pub use results::response::{QueryResponse, Response};
 pub use results::tag::Tag;
 pub use rows::{ListRows, RowSource};
-pub use stmt::{NoopQueryParser, QueryParser, StoredStatement};
+pub use stmt::{NoopQueryParser, QueryParser, StoredStatement, is_blank};
 pub use store::{Entry, PortalStore};

@@ -1,0 +1,5 @@
+pub mod Rows
+pub mod ToldErrors
+pub mod Starting
+pub mod ToldRows
+pub mod StartupTurns

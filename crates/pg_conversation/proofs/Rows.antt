@@ -1,0 +1,68 @@
+-- Rows that call nothing, and rows that are the same.
+use Rattle.std.proofs.Common.{◌≡◌, ℕ, List, [], ◌∷◌, ◌++◌, Bool, refl, sym, ap, subst, ◌∙◌, append-nil, ⊎_elim, inl, inr}
+use Rattle.pg_portal.specs.declared.error.PgWireError.{PgWireError}
+use Rattle.pg_handlers.specs.declared.desk.DeskCall.{DeskCall}
+use Rattle.pg_handlers.specs.declared.ends.SessionError.{SessionError}
+use Rattle.pg_handlers.specs.declared.ends.SessionError.TheVariants as session
+use Rattle.pg_messages.specs.declared.simplequery.Query.{Query}
+use Rattle.pg_messages.specs.declared.extendedquery.Execute.{Execute}
+use Rattle.pg_messages.specs.declared.startup.Terminate.{Terminate}
+use Rattle.pg_messages.specs.declared.frontend.PgWireFrontendMessage.{PgWireFrontendMessage}
+use Rattle.pg_messages.specs.declared.frontend.PgWireFrontendMessage.TheVariants as client
+use Rattle.pg_handlers.specs.declared.ends.EndKind.TheVariants as end
+use Rattle.pg_handlers.specs.Answer.{answers_of}
+use Rattle.pg_handlers.specs.Handlers.{Handlers}
+use Rattle.pg_handlers.specs.Table.{ready_row, statement_row}
+use Rattle.pg_handlers.specs.State.{State}
+use Rattle.pg_handlers.specs.Effect.{Effect, Outcome, Row, Called, IsEffect, IsRefusedEffect, IsRow, IsCutRow, IsRefusedRow, Over, silent, over}
+
+pub silent_row : {S : Type 0} (e : Effect S) {out new_out : List ℕ} (calls : List DeskCall) {o : Outcome S} → IsEffect e out new_out o
+    → IsRow (λ answers. silent e) out new_out calls calls o
+silent_row e calls x = record { made = []; own = refl; called = sym (append-nil calls); effect = x }
+
+pub silent_cut : {S : Type 0} (e : Effect S) (calls : List DeskCall) → IsCutRow (λ answers. silent e) calls calls
+silent_cut e calls = record { made = []; front = ([], refl); grown = sym (append-nil calls) }
+
+pub silent_refused : {S : Type 0} (e : Effect S) {out new_out : List ℕ} (calls : List DeskCall) {s : State S} {error : PgWireError}
+    → IsRefusedEffect e out new_out s error → IsRefusedRow (λ answers. silent e) out new_out calls calls s (session.Wire error)
+silent_refused e calls x = ⊎_elim (λ none. inl (none, silent_cut e calls)) (λ told. inr (silent_row e calls told)) x
+
+-- ---- the same row
+
+pub same_row : {S : Type 0} {row other : Row S} {out new_out : List ℕ} {calls new_calls : List DeskCall} {o : Outcome S}
+    → ((answers : List Bool) → row answers ≡ other answers) → IsRow other out new_out calls new_calls o → IsRow row out new_out calls new_calls o
+same_row {out = out} {new_out = new_out} {o = o} same x = record {
+  made = x.made;
+  own = ap (λ c. c.calls) (same (answers_of x.made)) ∙ x.own;
+  called = x.called;
+  effect = subst (λ c. IsEffect c.effect out new_out o) (sym (same (answers_of x.made))) x.effect;
+}
+
+pub same_cut : {S : Type 0} {row other : Row S} {calls new_calls : List DeskCall}
+    → ((answers : List Bool) → row answers ≡ other answers) → IsCutRow other calls new_calls → IsCutRow row calls new_calls
+same_cut same x = record {
+  made = x.made;
+  front = (x.front.0, ap (λ c. c.calls) (same (answers_of x.made)) ∙ x.front.1);
+  grown = x.grown;
+}
+
+pub same_refused : {S : Type 0} (row other : Row S) (out new_out : List ℕ) (calls new_calls : List DeskCall) (s : State S) (error : SessionError)
+    → ((answers : List Bool) → row answers ≡ other answers) → IsRefusedRow other out new_out calls new_calls s error → IsRefusedRow row out new_out calls new_calls s error
+same_refused row other out new_out calls new_calls s (session.Wire e) same x = ⊎_elim (λ none. inl (none.0, same_cut same none.1)) (λ told. inr (same_row same told)) x
+same_refused row other out new_out calls new_calls s session.TurnLimit same x = same_row same x
+
+-- ---- rows of a session that is ready
+
+pub plain_row : {S : Type 0} (h : Handlers S) (answers : List Bool) (s : State S) (m : PgWireFrontendMessage)
+    → ((q : Query) → m ≡ client.Query q → ⊥) → ((e : Execute) → m ≡ client.Execute e → ⊥) → ready_row h answers s m ≡ silent (statement_row h.extended s m)
+plain_row h answers s (client.Query m) p q = absurd (p m refl)
+plain_row h answers s (client.Execute m) p q = absurd (q m refl)
+plain_row h answers s _ p q = refl
+
+pub ended_row : {S : Type 0} (h : Handlers S) (s : State S) (m : PgWireFrontendMessage) (t : Terminate) (out : List ℕ) (calls : List DeskCall) → m ≡ client.Terminate t
+    → IsRow (λ answers. ready_row h answers s m) out out calls calls (Over end.Terminate)
+ended_row {S} h s m t out calls is =
+    let ended : Outcome S = Over end.Terminate in
+    let row : IsRow {S = S} (λ answers. silent (over end.Terminate)) out out calls calls ended =
+    silent_row (over end.Terminate) calls (record { replied = sym (append-nil out); came = refl }) in
+    subst (λ n. IsRow (λ answers. ready_row h answers s n) out out calls calls ended) (sym is) row

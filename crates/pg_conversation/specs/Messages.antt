@@ -1,0 +1,36 @@
+-- What a message and an error come to.
+use Rattle.std.specs.Prelude.{ℕ, Bool, true, false, List, Option, Some, None, Result, Ok, Err}
+use Rattle.pg_messages.specs.declared.frontend.PgWireFrontendMessage.{PgWireFrontendMessage}
+use Rattle.pg_messages.specs.Frames.{IsFrame}
+use Rattle.pg_portal.specs.declared.error.PgWireError.{PgWireError}
+use Rattle.pg_handlers.specs.declared.ends.EndKind.{EndKind}
+use Rattle.pg_handlers.specs.declared.ends.SessionError.{SessionError}
+use Rattle.pg_handlers.specs.declared.ends.SessionError.TheVariants as session
+use Rattle.pg_handlers.specs.Answer.{Next, Goes, Ends}
+use Rattle.pg_handlers.specs.Effect.{Outcome, Done, Over, Scope, UntilSync, AnswersReady}
+use Rattle.pg_handlers.specs.State.{State}
+use Rattle.pg_handlers.specs.Table.{awaits}
+
+-- the message is one that a good frame carries in the phase of a state
+abbrev pub IsGivenIn : {S : Type 0} → State S → PgWireFrontendMessage → Type 0
+IsGivenIn s m = (frame : List ℕ) × IsFrame (awaits s) frame m
+
+-- the outcome of a message that ended the conversation, or left a state
+abbrev pub outcome_of : {S : Type 0} → Option EndKind → State S → Outcome S
+outcome_of None s = Done s
+outcome_of (Some kind) s = Over kind
+
+-- what an error ends, where it waits for Sync or doesn't
+abbrev pub scope_for : Bool → Scope
+scope_for true = UntilSync
+scope_for false = AnswersReady
+
+-- the state where there is no end
+abbrev pub next_of : {T : Type 0} → Option EndKind → T → Next T
+next_of None s = Goes s
+next_of (Some kind) s = Ends kind
+
+-- the same answer, with an error of a message as one of a session
+abbrev pub told : Result (Option EndKind) PgWireError → Result (Option EndKind) SessionError
+told (Ok end) = Ok end
+told (Err error) = Err (session.Wire error)

@@ -1,0 +1,70 @@
+-- Bind of a statement: too few codes are refused, and a portal that is bound is good.
+use Rattle.std.proofs.Common.{◌≡◌, ℕ, ℤ, nat_le, List, [], ◌∷◌, ◌⊎◌, inl, inr, None, Result, Ok, Err, length, sym, ap, subst, arith, append-nil, if◌then◌else◌}
+use Rattle.std.proofs.lemmas.Bool.{le-leb, lt-ltb}
+use Rattle.pg_messages.specs.declared.extendedquery.Bind.{Bind}
+use Rattle.pg_portal.specs.declared.error.PgWireError.{PgWireError}
+use Rattle.pg_portal.specs.declared.error.PgWireError.TheVariants as wire
+use Rattle.pg_portal.specs.declared.stmt.StoredStatement.{StoredStatement}
+use Rattle.pg_text.specs.declared.field_format.FieldFormat.{FieldFormat}
+use Rattle.pg_text.specs.declared.field_format.FieldFormat.TheVariants as field
+use Rattle.pg_text.specs.Formats.{format_of_code}
+use Rattle.pg_portal.specs.Formats.{format_of, unified}
+use Rattle.pg_portal.specs.Fields.{Field}
+use Rattle.pg_portal.specs.Statements.{bound_by}
+use Rattle.pg_portal.specs.Told.{ParserTold, TablePortal, Unstarted}
+use Rattle.pg_handlers.specs.Effect.{Effect, IsEffect, IsRefusedEffect, Failed}
+use Rattle.pg_handlers.specs.ExtendedRows.{bound_statement, bound_with_columns, bound_portal, HasEnough, IsTooFew}
+use Rattle.pg_handlers.specs.Good.{IsGoodStatement, IsGoodPortal, HasCodes, HasGoodTag}
+use Rattle.pg_handlers.specs.State.{State}
+
+one_format : (f : FieldFormat) (columns : Result (List Field) PgWireError) → HasCodes (unified f) columns
+one_format field.Text columns = tt
+one_format field.Binary columns = tt
+
+pub enough_codes : (codes : List ℤ) (columns : Result (List Field) PgWireError) → HasEnough (length codes) columns
+    → HasCodes (format_of codes) columns
+enough_codes [] columns h = tt
+enough_codes (code ∷ []) columns h = one_format (format_of_code code) columns
+enough_codes (code ∷ second ∷ codes) (Ok fields) h = h (omega arith)
+enough_codes (code ∷ second ∷ codes) (Err e) h = tt
+
+-- a portal that was bound to a statement of which enough codes were found
+pub bound_is_good : {S : Type 0} (parser : ParserTold S) (m : Bind) (statement there : StoredStatement S) (n : ℕ) (p : TablePortal S)
+    → there ≡ statement
+    → n ≡ length m.result_column_format_codes → p.bound ≡ bound_by m statement → p.stage ≡ Unstarted → IsGoodStatement parser statement
+    → HasEnough n (parser.columns there.statement None) → IsGoodPortal parser p
+bound_is_good parser m statement there n p i j b u good enough =
+    let first : HasEnough (length m.result_column_format_codes) (parser.columns there.statement None) =
+    subst (λ k. HasEnough k (parser.columns there.statement None)) j enough in
+    let told = subst (λ (x : StoredStatement _). HasEnough (length m.result_column_format_codes)
+    (parser.columns x.statement None)) i first in
+    record {
+      statement = subst (λ x. IsGoodStatement parser x.statement) (sym b) good;
+      codes = subst (λ x. HasCodes x.result_column_format (parser.columns x.statement.statement None)) (sym b)
+          (enough_codes m.result_column_format_codes (parser.columns statement.statement None) told);
+      tag = subst HasGoodTag (sym u) tt;
+    }
+
+with_columns : {S : Type 0} (s : State S) (m : Bind) (statement : StoredStatement S) (columns : Result (List Field) PgWireError)
+    (e : PgWireError) (out : List ℕ) (other : Effect S)
+    → IsTooFew (length m.result_column_format_codes) columns e
+    → IsEffect (if nat_le 2 (length m.result_column_format_codes) then bound_with_columns s m statement columns else other) out out
+    (Failed s e)
+with_columns s m statement (Err told) e out other h = rw (le-leb 2 (length m.result_column_format_codes) h.0)
+    (record { replied = sym (append-nil out); came = ap (λ e. Failed s e) (sym h.1) })
+with_columns s m statement (Ok columns) e out other h = rw (le-leb 2 (length m.result_column_format_codes) h.0)
+    (rw (lt-ltb (length m.result_column_format_codes) (length columns) h.1)
+    (record { replied = sym (append-nil out); came = ap (λ e. Failed s e) (sym h.2) }))
+
+-- too few codes are refused by the row
+pub few_refused : {S : Type 0} (parser : ParserTold S) (s : State S) (m : Bind) (statement there : StoredStatement S) (n : ℕ)
+    (e : PgWireError) (out : List ℕ)
+    → there ≡ statement → n ≡ length m.result_column_format_codes → (e ≡ wire.NoMemory) ⊎ IsTooFew n (parser.columns there.statement None) e
+    → IsRefusedEffect (bound_statement parser s m statement) out out s e
+few_refused parser s m statement there n e out i j (inl none) = inl none
+few_refused parser s m statement there n e out i j (inr few) =
+    let first : IsTooFew (length m.result_column_format_codes) (parser.columns there.statement None) e =
+    subst (λ k. IsTooFew k (parser.columns there.statement None) e) j few in
+    let told = subst (λ (x : StoredStatement _). IsTooFew (length m.result_column_format_codes)
+    (parser.columns x.statement None) e) i first in
+    inr (with_columns s m statement (parser.columns statement.statement None) e out (bound_portal s m statement) told)

@@ -1,0 +1,142 @@
+-- Rows that run a query: one start, its questions, and what it answers.
+use Rattle.std.proofs.Common.{arith, ◌≡◌, ℕ, ◌+◌, ◌⊎◌, inl, inr, Bool, true, false, List, [], ◌∷◌, ◌++◌, Result, Ok, Err, length, drop, refl, ap, sym, subst, ◌∙◌, append_assoc}
+use Rattle.std.proofs.lemmas.List.{append-nil, length-append}
+use Rattle.std.proofs.Math.Seq.{drop-append_seam}
+use Rattle.pg_messages.specs.Replies.{replies_bytes}
+use Rattle.pg_messages.specs.declared.simplequery.Query.{Query}
+use Rattle.pg_portal.specs.declared.error.PgWireError.{PgWireError}
+use Rattle.pg_portal.specs.declared.error.PgWireError.TheVariants as wire
+use Rattle.pg_portal.specs.Responses.{ToldResponse}
+use Rattle.pg_portal.specs.Texts.{is_blank}
+use Rattle.pg_handlers.specs.declared.desk.DeskCall.{DeskCall}
+use Rattle.pg_handlers.specs.declared.desk.DeskCall.TheVariants as desk
+use Rattle.pg_handlers.specs.declared.ends.SessionError.{SessionError}
+use Rattle.pg_handlers.specs.declared.ends.SessionError.TheVariants as session
+use Rattle.pg_handlers.specs.declared.ends.Turns.{Turns}
+use Rattle.pg_handlers.specs.Answer.{answers_of}
+use Rattle.pg_handlers.specs.Effect.{Effect, Called, Row, Outcome, Failed, Done, Stopped, IsEffect, IsRow, IsCutRow, IsRefusedRow, IsRefusedEffect, silent, stopped, refuses}
+use Rattle.pg_handlers.specs.Questions.{Verdict, Passed, Canceled, Unanswered, Questioned, started, questioned, questions, questions_since, IsAsked, IsVerdict, HasSpent}
+use Rattle.pg_handlers.specs.Handlers.{SimpleTold}
+use Rattle.pg_handlers.specs.SimpleRows.{on_query, query_polled, answered_all}
+use Rattle.pg_handlers.specs.State.{State}
+
+-- a row that starts a query which owes so many polls, and whose effect is told by the verdict
+abbrev pub run_row : {S : Type 0} → ℕ → (Verdict → Effect S) → Row S
+run_row owes effect answers =
+    let asked = started owes answers in
+    record { calls = asked.calls; effect = effect asked.verdict }
+
+-- ---- rows that are the same
+
+pub row_as : {S : Type 0} (row other : Row S) {out new_out : List ℕ} {calls new_calls : List DeskCall} {outcome : Outcome S}
+    → ((answers : List Bool) → row answers ≡ other answers) → IsRow other out new_out calls new_calls outcome → IsRow row out new_out calls new_calls outcome
+row_as row other {out} {new_out} {calls} {new_calls} {outcome} same x = record {
+  made = x.made;
+  own = ap (λ c. c.calls) (same (answers_of x.made)) ∙ x.own;
+  called = x.called;
+  effect = subst (λ c. IsEffect c.effect out new_out outcome) (sym (same (answers_of x.made))) x.effect;
+}
+
+pub cut_as : {S : Type 0} (row other : Row S) {calls new_calls : List DeskCall}
+    → ((answers : List Bool) → row answers ≡ other answers) → IsCutRow other calls new_calls → IsCutRow row calls new_calls
+cut_as row other same x = record {
+  made = x.made;
+  front = (x.front.0, ap (λ c. c.calls) (same (answers_of x.made)) ∙ x.front.1);
+  grown = x.grown;
+}
+
+pub refused_as : {S : Type 0} (row other : Row S) (out new_out : List ℕ) (calls new_calls : List DeskCall) (s : State S) (e : SessionError)
+    → ((answers : List Bool) → row answers ≡ other answers) → IsRefusedRow other out new_out calls new_calls s e → IsRefusedRow row out new_out calls new_calls s e
+refused_as row other out new_out calls new_calls s (session.Wire e) same (inl x) = inl (x.0, cut_as row other same x.1)
+refused_as row other out new_out calls new_calls s (session.Wire e) same (inr x) = inr (row_as row other same x)
+refused_as row other out new_out calls new_calls s session.TurnLimit same x = row_as row other same x
+
+-- ---- rows that call nothing
+
+pub cut_at_none : {S : Type 0} (row : Row S) (calls : List DeskCall) → IsCutRow row calls calls
+cut_at_none row calls = record { made = []; front = ((row []).calls, refl); grown = sym (append-nil calls) }
+
+pub silent_row : {S : Type 0} (row : Row S) (effect : Effect S) {out new_out : List ℕ} (calls : List DeskCall) {outcome : Outcome S}
+    → ((answers : List Bool) → row answers ≡ silent effect) → IsEffect effect out new_out outcome → IsRow row out new_out calls calls outcome
+silent_row row effect calls same x = row_as row (λ answers. silent effect) same (record { made = []; own = refl; called = sym (append-nil calls); effect = x })
+
+pub silent_refused : {S : Type 0} (row : Row S) (effect : Effect S) {out new_out : List ℕ} (calls : List DeskCall) {s : State S} (e : PgWireError)
+    → ((answers : List Bool) → row answers ≡ silent effect) → IsRefusedEffect effect out new_out s e → IsRefusedRow row out new_out calls calls s (session.Wire e)
+silent_refused row effect calls e same (inl none) = inl (none, cut_at_none row calls)
+silent_refused row effect calls e same (inr x) = inr (silent_row row effect calls same x)
+
+-- ---- rows that run a query
+
+module _ {S : Type 0} (owes : ℕ) (effect : Verdict → Effect S) (calls started_calls : List DeskCall) (starts : started_calls ≡ calls ++ desk.Start ∷ []) where
+  -- the query was started, and nothing else was called
+  pub cut_started : IsCutRow (run_row owes effect) calls started_calls
+  cut_started = record { made = desk.Start ∷ []; front = ((questioned owes []).calls, refl); grown = starts }
+
+  module _ (new_calls : List DeskCall) (verdict : Verdict) (asked : IsAsked owes started_calls new_calls verdict) where
+    called_so : new_calls ≡ calls ++ desk.Start ∷ asked.made
+    called_so = asked.grown ∙ ap (λ l. l ++ asked.made) starts ∙ append_assoc calls (desk.Start ∷ []) asked.made
+
+    run_is : run_row owes effect (answers_of (desk.Start ∷ asked.made)) ≡ record { calls = desk.Start ∷ asked.made; effect = effect verdict }
+    run_is = ap (λ (q : Questioned). let c : Called S = record { calls = desk.Start ∷ q.calls; effect = effect q.verdict } in c) asked.asked
+
+    pub run_was : {out new_out : List ℕ} {outcome : Outcome S} → IsEffect (effect verdict) out new_out outcome
+        → IsRow (run_row owes effect) out new_out calls new_calls outcome
+    run_was {out} {new_out} {outcome} x = record {
+      made = desk.Start ∷ asked.made;
+      own = ap (λ c. c.calls) run_is;
+      called = called_so;
+      effect = subst (λ c. IsEffect c.effect out new_out outcome) (sym run_is) x;
+    }
+
+    pub run_cut : IsCutRow (run_row owes effect) calls new_calls
+    run_cut = record {
+      made = desk.Start ∷ asked.made;
+      front = ([], ap (λ c. c.calls) run_is ∙ sym (append-nil (desk.Start ∷ asked.made)));
+      grown = called_so;
+    }
+
+    pub run_refused : {out new_out : List ℕ} (s : State S) (e : PgWireError) → IsRefusedEffect (effect verdict) out new_out s e
+        → IsRefusedRow (run_row owes effect) out new_out calls new_calls s (session.Wire e)
+    run_refused s e (inl none) = inl (none, run_cut)
+    run_refused s e (inr x) = inr (run_was x)
+
+  -- the query was canceled, or a turn was wanting, or memory
+  pub wait_refused : {A : Type 0} (out : List ℕ) (outcome : A) (new_calls : List DeskCall) (verdict : Verdict) (s : State S)
+      → effect Unanswered ≡ stopped → effect Canceled ≡ refuses s wire.QueryCanceled
+      → IsAsked owes started_calls new_calls verdict → (e : SessionError) → IsVerdict outcome verdict (Err e)
+      → IsRefusedRow (run_row owes effect) out out calls new_calls s e
+  wait_refused out outcome new_calls verdict s stops cancels asked session.TurnLimit v =
+      run_was new_calls verdict asked (rw (v, stops) (record { replied = sym (append-nil out); came = refl }))
+  wait_refused out outcome new_calls verdict s stops cancels asked (session.Wire e) (inl v) =
+      inr (run_was new_calls verdict asked (rw (v.1, cancels, v.0) (record { replied = sym (append-nil out); came = refl })))
+  wait_refused out outcome new_calls verdict s stops cancels asked (session.Wire e) (inr none) = inl (none, run_cut new_calls verdict asked)
+
+-- the questions since the start are those since before it
+pub asked_since : (owes : ℕ) (calls started_calls : List DeskCall) → started_calls ≡ calls ++ desk.Start ∷ [] → (new_calls : List DeskCall) (verdict : Verdict)
+    → IsAsked owes started_calls new_calls verdict → questions_since started_calls new_calls ≡ questions_since calls new_calls
+asked_since owes calls started_calls starts new_calls verdict asked =
+    ap (λ l. questions (drop (length started_calls) l)) asked.grown ∙ ap questions (drop-append_seam started_calls asked.made)
+    ∙ sym (ap (λ l. questions (drop (length calls) l)) (asked.grown ∙ ap (λ l. l ++ asked.made) starts ∙ append_assoc calls (desk.Start ∷ []) asked.made)
+    ∙ ap questions (drop-append_seam calls (desk.Start ∷ asked.made)))
+
+pub spent_ok : (old new : Turns) (m n : ℕ) → m ≡ n → new ≡ record { spent = old.spent + m; limit = old.limit } → new ≡ record { spent = old.spent + n; limit = old.limit }
+spent_ok old new m n same h = h ∙ ap (λ (k : ℕ). let t : Turns = record { spent = old.spent + k; limit = old.limit } in t) same
+
+-- turns were spent on so many questions
+pub spent_as : (old new : Turns) (m n : ℕ) (e : SessionError) → m ≡ n → HasSpent {A = Bool} old new m (Err e) → HasSpent {A = Bool} old new n (Err e)
+spent_as old new m n e same h = subst (λ (k : ℕ). HasSpent {A = Bool} old new k (Err e)) same h
+
+-- ---- Query
+
+-- a query that isn't blank is run
+pub runs_query : {S : Type 0} (h : SimpleTold) (s : State S) (m : Query) → is_blank m.query ≡ false
+    → (answers : List Bool) → on_query h answers s m ≡ run_row (h s.info m.query).owes (λ verdict. query_polled s verdict (h s.info m.query).outcome) answers
+runs_query h s m e answers = rw e refl
+
+pub query_failed : {S : Type 0} (s : State S) (out : List ℕ) (verdict : Verdict) (outcome : Result (List ToldResponse) PgWireError) (e : PgWireError) → verdict ≡ Passed → outcome ≡ Err e
+    → IsRefusedEffect (query_polled s verdict outcome) out out s e
+query_failed s out verdict outcome e p q = inr (rw (p, q) (record { replied = sym (append-nil out); came = refl }))
+
+pub query_passed : {S : Type 0} (s : State S) (verdict : Verdict) (outcome : Result (List ToldResponse) PgWireError) (responses : List ToldResponse) → verdict ≡ Passed → outcome ≡ Ok responses
+    → query_polled s verdict outcome ≡ answered_all s responses
+query_passed s verdict outcome responses p q = rw (p, q) refl

@@ -1,0 +1,115 @@
+-- A state stays good: what is put is good, and an empty entry, a removal and a change of info that keeps the metadata change no value.
+use Rattle.std.proofs.Common.{◌≡◌, ℕ, Bool, true, false, cond, if◌then◌else◌, List, Option, Some, None, sym, ap, subst, ◌∙◌}
+use Rattle.std.specs.Cmp.Lexicographic.{slice_cmp, nat_list_cmp_total}
+use Rattle.std.specs.Ordering.{nat_cmp, eq_by_cmp}
+use Rattle.std.specs.FinMap as fin
+use Rattle.pg_portal.specs.Names.{NameMap}
+use Rattle.pg_portal.specs.declared.client.ClientInfo.{ClientInfo}
+use Rattle.pg_portal.specs.declared.stmt.StoredStatement.{StoredStatement}
+use Rattle.pg_portal.specs.declared.store.Entry.{Entry}
+use Rattle.pg_portal.specs.declared.store.Entry.TheVariants as entry
+use Rattle.pg_portal.specs.Clients.{HasShortMetadata}
+use Rattle.std.specs.Option.{option_map}
+use Rattle.pg_portal.specs.Told.{ParserTold, TablePortal, entry_map, value_under, value_of}
+use Rattle.pg_handlers.specs.Good.{IsGoodStatement, IsGoodPortal, IsGoodState}
+use Rattle.pg_handlers.specs.State.{State, with_statement, with_portal, without_statement, without_portal}
+
+-- each value of a map has the property
+abbrev pub Each : {X : Type 0} → (X → Type 0) → NameMap (Entry X) → Type 0
+Each {X} P m = (q : List ℕ) (x : X) → value_under (fin.get m q) ≡ Some x → P x
+
+pub each_after_insert : {X : Type 0} (P : X → Type 0) (m : NameMap (Entry X)) (k : List ℕ) (v : Entry X)
+    → ((x : X) → value_of v ≡ Some x → P x) → Each P m
+    → Each P (fin.insert m k v)
+each_after_insert {X} P m k v pv each q x e = by_case (eq_by_cmp (slice_cmp nat_cmp) q k)
+    (ap value_under (sym (fin.get-insert nat_list_cmp_total m k v q)) ∙ e)
+  where
+    by_case : (b : Bool) → value_under (cond b (Some v) (fin.get m q)) ≡ Some x → P x
+    by_case true h = pv x h
+    by_case false h = each q x h
+
+pub each_after_remove : {X : Type 0} (P : X → Type 0) (m : NameMap (Entry X)) (k : List ℕ) → Each P m → Each P (fin.remove m k)
+each_after_remove {X} P m k each q x e = by_case (eq_by_cmp (slice_cmp nat_cmp) q k)
+    (ap value_under (sym (fin.get-remove nat_list_cmp_total m k q)) ∙ e)
+  where
+    by_case : (b : Bool) → value_under (cond b None (fin.get m q)) ≡ Some x → P x
+    by_case true h = cc
+    by_case false h = each q x h
+
+-- nothing is the value of an empty entry
+pub none_empty : {X : Type 0} (P : X → Type 0) (x : X) → value_of {T = X} entry.Empty ≡ Some x → P x
+none_empty P x e = cc
+
+pub one_value : {X : Type 0} (P : X → Type 0) (v : X) → P v → (x : X) → value_of (entry.Value v) ≡ Some x → P x
+one_value P v p x e = let same : v ≡ x = cc in subst P same p
+
+-- a state that has the same statements, portals and metadata as a good one, by the parts of the good one
+pub good_parts : {S : Type 0} (parser : ParserTold S) (s : State S) (info : ClientInfo) (statements : NameMap (Entry (StoredStatement S)))
+    (portals : NameMap (Entry (TablePortal S)))
+    → info.metadata ≡ s.info.metadata → statements ≡ s.statements → portals ≡ s.portals → IsGoodState parser s
+    → IsGoodState parser (record { info = info; statements = statements; portals = portals })
+good_parts parser s info statements portals i j k good = record {
+  statements = subst (Each (IsGoodStatement parser)) (sym j) good.statements;
+  portals = subst (Each (IsGoodPortal parser)) (sym k) good.portals;
+  metadata = subst (λ m. HasShortMetadata (record info { metadata = m })) (sym i) good.metadata;
+}
+
+pub good_with_statement : {S : Type 0} (parser : ParserTold S) (s : State S) (name : List ℕ) (e : Entry (StoredStatement S))
+    → ((x : StoredStatement S) → value_of e ≡ Some x → IsGoodStatement parser x) → IsGoodState parser s
+    → IsGoodState parser (with_statement s name e)
+good_with_statement parser s name e p good = record {
+  statements = each_after_insert (IsGoodStatement parser) s.statements name e p good.statements;
+  portals = good.portals;
+  metadata = good.metadata;
+}
+
+pub good_with_portal : {S : Type 0} (parser : ParserTold S) (s : State S) (name : List ℕ) (e : Entry (TablePortal S))
+    → ((x : TablePortal S) → value_of e ≡ Some x → IsGoodPortal parser x) → IsGoodState parser s → IsGoodState parser (with_portal s name e)
+good_with_portal parser s name e p good = record {
+  statements = good.statements;
+  portals = each_after_insert (IsGoodPortal parser) s.portals name e p good.portals;
+  metadata = good.metadata;
+}
+
+pub good_with_empty_portal : {S : Type 0} (parser : ParserTold S) (s : State S) (name : List ℕ) → IsGoodState parser s
+    → IsGoodState parser (with_portal s name entry.Empty)
+good_with_empty_portal parser s name good = good_with_portal parser s name entry.Empty (none_empty (IsGoodPortal parser)) good
+
+pub good_without_statement : {S : Type 0} (parser : ParserTold S) (s : State S) (name : List ℕ) → IsGoodState parser s
+    → IsGoodState parser (without_statement s name)
+good_without_statement parser s name good = record {
+  statements = each_after_remove (IsGoodStatement parser) s.statements name good.statements;
+  portals = good.portals;
+  metadata = good.metadata;
+}
+
+pub good_without_portal : {S : Type 0} (parser : ParserTold S) (s : State S) (name : List ℕ) → IsGoodState parser s
+    → IsGoodState parser (without_portal s name)
+good_without_portal parser s name good = record {
+  statements = good.statements;
+  portals = each_after_remove (IsGoodPortal parser) s.portals name good.portals;
+  metadata = good.metadata;
+}
+
+each_where : {X : Type 0} (P : X → Type 0) (m : NameMap (Entry X)) (k : List ℕ) (b : Bool) → Each P m
+    → Each P (if b then fin.remove m k else m)
+each_where P m k true each = each_after_remove P m k each
+each_where P m k false each = each
+
+-- what Close leaves, whichever byte it names
+pub good_closed : {S : Type 0} (parser : ParserTold S) (s : State S) (name : List ℕ) (is_statement is_portal : Bool)
+    (statements : NameMap (Entry (StoredStatement S))) (portals : NameMap (Entry (TablePortal S)))
+    → statements ≡ (if is_statement then fin.remove s.statements name else s.statements)
+    → portals ≡ (if is_portal then fin.remove s.portals name else s.portals)
+    → IsGoodState parser s → IsGoodState parser (record { info = s.info; statements = statements; portals = portals })
+good_closed parser s name is_statement is_portal statements portals j k good = record {
+  statements = subst (Each (IsGoodStatement parser)) (sym j)
+      (each_where (IsGoodStatement parser) s.statements name is_statement good.statements);
+  portals = subst (Each (IsGoodPortal parser)) (sym k) (each_where (IsGoodPortal parser) s.portals name is_portal good.portals);
+  metadata = good.metadata;
+}
+
+-- what a store found under a name is what it tells
+pub found_value : {X Y : Type 0} (f : X → Y) (found : Option (Entry X)) (e : Entry X) (x : X) (told : Option (Entry Y))
+    → option_map (entry_map f) found ≡ told → found ≡ Some e → e ≡ entry.Value x → value_under told ≡ Some (f x)
+found_value f found e x told h i j = ap value_under (sym h) ∙ ap (λ o. value_under (option_map (entry_map f) o)) (i ∙ ap Some j)

@@ -1,0 +1,269 @@
+-- What an Execute makes of the table, where the store lends the portal of its name.
+use Rattle.std.proofs.Common.{◌≡◌, ℕ, ℤ, ◌⊎◌, inl, inr, Bool, true, false, List, [], ◌∷◌, ◌++◌, Option, Some, None, Result, Ok, Err, refl, ap, sym, subst, ◌∙◌}
+use Rattle.std.specs.FinMap as fin
+use Rattle.std.proofs.lemmas.List.{append-nil}
+use Rattle.pg_messages.specs.declared.data.DataRow.{DataRow}
+use Rattle.pg_messages.specs.declared.extendedquery.Execute.{Execute}
+use Rattle.pg_messages.specs.Replies.{replies_bytes}
+use Rattle.pg_portal.specs.declared.error.PgWireError.{PgWireError}
+use Rattle.pg_portal.specs.declared.client.ClientInfo.{ClientInfo}
+use Rattle.pg_portal.specs.declared.stmt.StoredStatement.{StoredStatement}
+use Rattle.pg_portal.specs.declared.store.Entry.{Entry}
+use Rattle.pg_portal.specs.declared.store.Entry.TheVariants as entry
+use Rattle.pg_portal.specs.Names.{NameMap}
+use Rattle.pg_portal.specs.Page.{ItemPage, PageEnd, AtLimit, AtEnd, AtError, item_page}
+use Rattle.pg_portal.specs.Responses as response
+use Rattle.pg_portal.specs.Responses.{ToldResponse}
+use Rattle.pg_portal.specs.Told.{BoundPortal, ParserTold, TablePortal, Stage, Unstarted, Started, Ended, ToldRows, value_under, value_of}
+use Rattle.pg_portal.proofs.NameMaps.{insert-same}
+use Rattle.pg_handlers.specs.declared.desk.DeskCall.{DeskCall}
+use Rattle.pg_handlers.specs.declared.desk.DeskCall.TheVariants as desk
+use Rattle.pg_handlers.specs.declared.ends.SessionError.{SessionError}
+use Rattle.pg_handlers.specs.declared.ends.SessionError.TheVariants as session
+use Rattle.pg_handlers.specs.Effect.{Effect, Called, Row, Outcome, Failed, Done, Stopped, IsEffect, IsRow, IsCutRow, IsRefusedRow, IsRefusedEffect, silent, stopped, refuses}
+use Rattle.pg_handlers.specs.ExecuteRow.{at_stage, stage_after, page_effect, fetched, fetched_nothing, executed_portal, executed_entry, executed_without_rows, executed_nothing, execute_polled, on_execute}
+use Rattle.pg_handlers.specs.Executing.{OnlyLosesUnnamed, is_unstarted, IsPageOf, IsPortalRun, page_result, response_page, portal_run}
+use Rattle.pg_handlers.specs.Handlers.{ExtendedTold}
+use Rattle.pg_handlers.specs.Questions.{Verdict, Passed, Canceled, Unanswered, IsAsked}
+use Rattle.pg_handlers.specs.Good.{IsGoodState, IsGoodPortal, HasGoodTag}
+use Rattle.pg_handlers.specs.State.{State, with_portal, without_portal}
+use Rattle.pg_handlers.proofs.Executes.{run_row, row_as, cut_as, refused_as, silent_row, silent_refused, cut_started, run_was, run_refused}
+use Rattle.pg_handlers.proofs.GoodStores.{good_parts, good_with_portal, good_without_portal, one_value}
+
+-- ---- the portal under a name
+
+at_value : {T : Type 0} (o : Option (Entry T)) (p : T) → value_under o ≡ Some p → o ≡ Some (entry.Value p)
+at_value None p e = cc
+at_value (Some entry.Empty) p e = cc
+at_value (Some (entry.Value x)) p e = let same : x ≡ p = cc in ap (λ y. Some (entry.Value y)) same
+
+executed_at : {S : Type 0} (h : ExtendedTold S) (answers : List Bool) (s : State S) (m : Execute) (p : TablePortal S) (o : Option (Entry (TablePortal S)))
+    → o ≡ Some (entry.Value p) → executed_entry h answers s m o ≡ executed_portal h answers s m p p.stage
+executed_at h answers s m p o e = rw e refl
+
+module _ {S : Type 0} (h : ExtendedTold S) (s : State S) (m : Execute) (p : TablePortal S) (found : value_under (fin.get s.portals m.name) ≡ Some p) where
+  pub executes_portal : (answers : List Bool) → on_execute h answers s m ≡ executed_portal h answers s m p p.stage
+  executes_portal answers = executed_at h answers s m p (fin.get s.portals m.name) (at_value (fin.get s.portals m.name) p found)
+
+  -- a portal that isn't started runs its query
+  pub runs_portal : p.stage ≡ Unstarted → (answers : List Bool)
+      → on_execute h answers s m ≡ run_row (h.query s.info p.bound m.max_rows).owes (λ verdict. execute_polled s m p verdict (h.query s.info p.bound m.max_rows).outcome) answers
+  runs_portal e answers = executes_portal answers ∙ ap (executed_portal h answers s m p) e
+
+  -- what is written back is what stood there, where the portal has come as far as before
+  pub written_same : (s' : State S) (stage : Stage) → s' ≡ with_portal s m.name (entry.Value (at_stage p stage)) → stage ≡ p.stage → s' ≡ s
+  written_same s' stage e same =
+      e ∙ ap (λ (stage : Stage). with_portal s m.name (entry.Value (at_stage p stage))) same
+      ∙ ap (λ portals. let t : State S = record { info = s.info; statements = s.statements; portals = portals } in t)
+      (insert-same s.portals m.name (entry.Value p) (at_value (fin.get s.portals m.name) p found))
+
+-- ---- a page
+
+module _ {S : Type 0} (s : State S) (m : Execute) (p : TablePortal S) (out new_out : List ℕ) (stage : Stage) (s' : State S)
+    (written : s' ≡ with_portal s m.name (entry.Value (at_stage p stage))) where
+  written_at : (other : Stage) → stage ≡ other → with_portal s m.name (entry.Value (at_stage p other)) ≡ s'
+  written_at other e = ap (λ (stage : Stage). with_portal s m.name (entry.Value (at_stage p stage))) (sym e) ∙ sym written
+
+  page_ok : (r : ToldRows) (rows : List DataRow) (ending : PageEnd DataRow) → IsPageOf {A = Unit {0}} (response_page r (record { rows = rows; ending = ending })) stage out new_out (Ok tt)
+      → IsEffect (page_effect (with_portal s m.name (entry.Value (at_stage p (stage_after r ending)))) r.command_tag rows ending) out new_out (Done s')
+  page_ok r rows (AtLimit items) x = record { replied = x.2; came = ap Done (written_at (stage_after r (AtLimit items)) x.1) }
+  page_ok r rows AtEnd x = record { replied = x.2; came = ap Done (written_at Ended x.1) }
+  page_ok r rows (AtError e items) x = cc
+
+  failed_as : (t : State S) (d e : PgWireError) → t ≡ s' → d ≡ e → Failed t d ≡ Failed s' e
+  failed_as t d e i j = rw (i, j) refl
+
+  page_refused : (r : ToldRows) (rows : List DataRow) (ending : PageEnd DataRow) (e : PgWireError)
+      → IsPageOf {A = Unit {0}} (response_page r (record { rows = rows; ending = ending })) stage out new_out (Err e)
+      → IsRefusedEffect (page_effect (with_portal s m.name (entry.Value (at_stage p (stage_after r ending)))) r.command_tag rows ending) out new_out s' e
+  page_refused r rows ending e (inl none) = inl none
+  page_refused r rows (AtLimit items) e (inr x) = cc
+  page_refused r rows AtEnd e (inr x) = cc
+  page_refused r rows (AtError d items) e (inr x) = inr (record {
+    replied = x.2;
+    came = failed_as (with_portal s m.name (entry.Value (at_stage p (stage_after r (AtError d items))))) d e (written_at (stage_after r (AtError d items)) x.1) (let same : d ≡ e = cc in same);
+  })
+
+  module _ (found : value_under (fin.get s.portals m.name) ≡ Some p) where
+    same_if : stage ≡ p.stage → s' ≡ s
+    same_if e = ((written ∙ ap (λ (stage : Stage). with_portal s m.name (entry.Value (at_stage p stage))) e)
+        ∙ ap (λ portals. let t : State S = record { info = s.info; statements = s.statements; portals = portals } in t)
+        (insert-same s.portals m.name (entry.Value p) (at_value (fin.get s.portals m.name) p found)))
+
+    -- a page of a started portal
+    pub started_ok : (h : ExtendedTold S) (calls : List DeskCall) (old : Stage) → p.stage ≡ old → is_unstarted old ≡ false
+        → IsPageOf {A = Unit {0}} (page_result m.max_rows old) stage out new_out (Ok tt)
+        → IsRow (λ answers. on_execute h answers s m) out new_out calls calls (Done s')
+    started_ok h calls Unstarted is started x = cc
+    started_ok h calls (Started r) is started x =
+        silent_row (λ answers. on_execute h answers s m) (fetched s m p r) calls
+        (λ answers. executes_portal h s m p found answers ∙ ap (executed_portal h answers s m p) is)
+        (page_ok r (item_page m.max_rows r.items).rows (item_page m.max_rows r.items).ending x)
+    started_ok h calls Ended is started x =
+        silent_row (λ answers. on_execute h answers s m) (fetched_nothing s) calls
+        (λ answers. executes_portal h s m p found answers ∙ ap (executed_portal h answers s m p) is)
+        (record { replied = x.2; came = ap Done (sym (same_if (x.1 ∙ sym is))) })
+
+    pub started_refused : (h : ExtendedTold S) (calls : List DeskCall) (old : Stage) (e : PgWireError) → p.stage ≡ old → is_unstarted old ≡ false
+        → IsPageOf {A = Unit {0}} (page_result m.max_rows old) stage out new_out (Err e)
+        → IsRefusedRow (λ answers. on_execute h answers s m) out new_out calls calls s' (session.Wire e)
+    started_refused h calls Unstarted e is started x = cc
+    started_refused h calls (Started r) e is started x =
+        silent_refused (λ answers. on_execute h answers s m) (fetched s m p r) calls e
+        (λ answers. executes_portal h s m p found answers ∙ ap (executed_portal h answers s m p) is)
+        (page_refused r (item_page m.max_rows r.items).rows (item_page m.max_rows r.items).ending e x)
+    started_refused h calls Ended e is started (inl none) =
+        silent_refused (λ answers. on_execute h answers s m) (fetched_nothing s) calls e
+        (λ answers. executes_portal h s m p found answers ∙ ap (executed_portal h answers s m p) is) (inl none)
+    started_refused h calls Ended e is started (inr x) = cc
+
+    -- ---- a query of a portal
+
+    module _ {A : Type 0} (told : A → ToldResponse) (fresh : p.stage ≡ Unstarted) where
+      unchanged : stage ≡ Unstarted → s ≡ s'
+      unchanged e = sym (same_if (e ∙ sym fresh))
+
+      -- rows were sent
+      pub run_paged : (verdict : Verdict) (outcome : Result ToldResponse PgWireError) → IsPortalRun told (portal_run m.max_rows Unstarted verdict outcome) Unstarted stage out new_out (Ok None)
+          → IsEffect (execute_polled s m p verdict outcome) out new_out (Done s')
+      run_paged Unanswered outcome x = absurd x
+      run_paged Canceled outcome x = cc
+      run_paged Passed (Err e) x = cc
+      run_paged Passed (Ok (response.Query r)) x = page_ok r (item_page m.max_rows r.items).rows (item_page m.max_rows r.items).ending x
+      run_paged Passed (Ok _) x = absurd x
+
+      -- a response without rows was handed on
+      pub run_handed_on : (verdict : Verdict) (outcome : Result ToldResponse PgWireError) (answered : A)
+          → IsPortalRun told (portal_run m.max_rows Unstarted verdict outcome) Unstarted stage out new_out (Ok (Some answered))
+          → (execute_polled s m p verdict outcome ≡ executed_without_rows s (told answered)) × (s' ≡ s) × (new_out ≡ out)
+      run_handed_on Unanswered outcome answered x = absurd x
+      run_handed_on Canceled outcome answered x = absurd x
+      run_handed_on Passed (Err e) answered x = absurd x
+      run_handed_on Passed (Ok (response.Query r)) answered x = absurd x
+      run_handed_on Passed (Ok r) answered x = (ap (executed_without_rows s) (sym x.0), same_if (x.1 ∙ sym fresh), x.2)
+
+      -- the query was refused
+      pub run_wire : (verdict : Verdict) (outcome : Result ToldResponse PgWireError) (e : PgWireError)
+          → IsPortalRun told (portal_run m.max_rows Unstarted verdict outcome) Unstarted stage out new_out (Err (session.Wire e))
+          → IsRefusedEffect (execute_polled s m p verdict outcome) out new_out s' e
+      run_wire Unanswered outcome e x = inl x
+      run_wire Canceled outcome e (inl none) = inl none
+      run_wire Canceled outcome e (inr x) = inr (record { replied = x.2; came = failed_as s _ e (unchanged x.1) (let same = x.0 in cc) })
+      run_wire Passed (Err d) e (inl none) = inl none
+      run_wire Passed (Err d) e (inr x) = inr (record { replied = x.2; came = failed_as s d e (unchanged x.1) (let same : d ≡ e = cc in same) })
+      run_wire Passed (Ok (response.Query r)) e x = page_refused r (item_page m.max_rows r.items).rows (item_page m.max_rows r.items).ending e x
+      run_wire Passed (Ok _) e x = inl x
+
+      pub run_waits : (verdict : Verdict) (outcome : Result ToldResponse PgWireError)
+          → IsPortalRun told (portal_run m.max_rows Unstarted verdict outcome) Unstarted stage out new_out (Err session.TurnLimit)
+          → IsEffect (execute_polled s m p verdict outcome) out new_out Stopped
+      run_waits Unanswered outcome x = record { replied = x.1 ∙ sym (append-nil out); came = refl }
+      run_waits Canceled outcome x = absurd x
+      run_waits Passed (Err d) x = absurd x
+      run_waits Passed (Ok (response.Query r)) x = absurd x
+      run_waits Passed (Ok _) x = absurd x
+
+-- a state of the same parts
+pub parts_same : {S : Type 0} (s : State S) (statements : NameMap (Entry (StoredStatement S))) (portals : NameMap (Entry (TablePortal S))) → portals ≡ s.portals → statements ≡ s.statements
+    → (let t : State S = record { info = s.info; statements = statements; portals = portals } in t) ≡ s
+parts_same s statements portals e f = rw (e, f) refl
+
+-- where there is no portal to run
+pub no_portal : {S : Type 0} (h : ExtendedTold S) (answers : List Bool) (s : State S) (m : Execute) (o : Option (Entry (TablePortal S))) → value_under o ≡ None
+    → executed_entry h answers s m o ≡ silent (executed_nothing s m.name o)
+no_portal h answers s m None e = refl
+no_portal h answers s m (Some entry.Empty) e = refl
+no_portal h answers s m (Some (entry.Value p)) e = cc
+
+-- ---- what is written back
+
+pub unstarted_is : (stage : Stage) → is_unstarted stage ≡ true → stage ≡ Unstarted
+unstarted_is Unstarted e = refl
+unstarted_is (Started r) e = cc
+unstarted_is Ended e = cc
+
+-- the state where a portal was written back
+pub written_state : {S : Type 0} (s : State S) (statements : NameMap (Entry (StoredStatement S))) (portals : NameMap (Entry (TablePortal S))) (name shown : List ℕ) (p w : TablePortal S)
+    → shown ≡ name → portals ≡ fin.insert s.portals shown (entry.Value w) → statements ≡ s.statements → w.bound ≡ p.bound
+    → (let t : State S = record { info = s.info; statements = statements; portals = portals } in t) ≡ with_portal s name (entry.Value (at_stage p w.stage))
+written_state {S} s statements portals name shown p w e f g b =
+    rw (g, f, e) (ap (λ (bound : BoundPortal S). with_portal s name (entry.Value (record { bound = bound; stage = w.stage }))) b)
+
+module _ {S : Type 0} (parser : ParserTold S) (s : State S) (good : IsGoodState parser s) where
+  pub good_written : (name : List ℕ) (p : TablePortal S) (stage : Stage) (s' : State S) → value_under (fin.get s.portals name) ≡ Some p
+      → s' ≡ with_portal s name (entry.Value (at_stage p stage)) → HasGoodTag stage → IsGoodState parser s'
+  good_written name p stage s' found written tag =
+      let before = good.portals name p found in
+      subst (IsGoodState parser) (sym written)
+      (good_with_portal parser s name (entry.Value (at_stage p stage)) (one_value (IsGoodPortal parser) (at_stage p stage) (record { statement = before.statement; codes = before.codes; tag = tag })) good)
+
+  pub good_same : (s' : State S) → s' ≡ s → IsGoodState parser s'
+  good_same s' e = subst (IsGoodState parser) (sym e) good
+
+  pub good_responded : (s' : State S) → s' ≡ s → (info : ClientInfo) (statements : NameMap (Entry (StoredStatement S))) (portals : NameMap (Entry (TablePortal S)))
+      → info.metadata ≡ s'.info.metadata → statements ≡ s'.statements → OnlyLosesUnnamed s'.portals portals
+      → IsGoodState parser (record { info = info; statements = statements; portals = portals })
+  good_responded s' e info statements portals i j (inl k) = good_parts parser s' info statements portals i j k (good_same s' e)
+  good_responded s' e info statements portals i j (inr k) = good_parts parser (without_portal s' []) info statements portals i j k (good_without_portal parser s' [] (good_same s' e))
+
+-- ---- a portal that isn't started, as a row
+
+-- the run of a portal's query at its own stage and outcome
+pub run_as : {A : Type 0} (told : A → ToldResponse) (given limit : ℤ) (old stage : Stage) (verdict : Verdict) (shown outcome : Result ToldResponse PgWireError) (out new_out : List ℕ)
+    (result : Result (Option A) SessionError) → given ≡ limit → old ≡ Unstarted → shown ≡ outcome → IsPortalRun told (portal_run given old verdict shown) old stage out new_out result
+    → IsPortalRun told (portal_run limit Unstarted verdict outcome) Unstarted stage out new_out result
+run_as told given limit old stage verdict shown outcome out new_out result d e f x =
+    subst (λ (o : Result ToldResponse PgWireError). IsPortalRun told (portal_run limit Unstarted verdict o) Unstarted stage out new_out result) f
+    (subst (λ (st : Stage). IsPortalRun told (portal_run limit st verdict shown) st stage out new_out result) e
+    (subst (λ (l : ℤ). IsPortalRun told (portal_run l old verdict shown) old stage out new_out result) d x))
+
+module _ {S A : Type 0} (told : A → ToldResponse) (h : ExtendedTold S) (s : State S) (m : Execute) (p : TablePortal S) (found : value_under (fin.get s.portals m.name) ≡ Some p)
+    (fresh : p.stage ≡ Unstarted) (calls begun : List DeskCall) (starts : begun ≡ calls ++ desk.Start ∷ []) where
+  abbrev effect_by : Verdict → Effect S
+  effect_by verdict = execute_polled s m p verdict (h.query s.info p.bound m.max_rows).outcome
+
+  -- memory was wanting before the first poll
+  pub refused_begun : IsCutRow (λ answers. on_execute h answers s m) calls begun
+  refused_begun = cut_as (λ answers. on_execute h answers s m) (run_row (h.query s.info p.bound m.max_rows).owes effect_by) (runs_portal h s m p found fresh)
+      (cut_started (h.query s.info p.bound m.max_rows).owes effect_by calls begun starts)
+
+  module _ (done : List DeskCall) (verdict : Verdict) (asked : IsAsked (h.query s.info p.bound m.max_rows).owes begun done verdict) where
+    pub row_ran : (out new_out : List ℕ) (outcome : Outcome S) → IsEffect (effect_by verdict) out new_out outcome
+        → IsRow (λ answers. on_execute h answers s m) out new_out calls done outcome
+    row_ran out new_out outcome x = row_as (λ answers. on_execute h answers s m) (run_row (h.query s.info p.bound m.max_rows).owes effect_by) (runs_portal h s m p found fresh)
+        (run_was (h.query s.info p.bound m.max_rows).owes effect_by calls begun starts done verdict asked x)
+
+    pub row_refused : (out new_out : List ℕ) (s' : State S) (e : PgWireError) → IsRefusedEffect (effect_by verdict) out new_out s' e
+        → IsRefusedRow (λ answers. on_execute h answers s m) out new_out calls done s' (session.Wire e)
+    row_refused out new_out s' e x = refused_as (λ answers. on_execute h answers s m) (run_row (h.query s.info p.bound m.max_rows).owes effect_by) out new_out calls done s' (session.Wire e)
+        (runs_portal h s m p found fresh) (run_refused (h.query s.info p.bound m.max_rows).owes effect_by calls begun starts done verdict asked s' e x)
+
+    module _ (out new_out : List ℕ) (stage : Stage) (s' : State S) (written : s' ≡ with_portal s m.name (entry.Value (at_stage p stage))) where
+      pub portal_refused : (e : SessionError) → IsPortalRun told (portal_run m.max_rows Unstarted verdict (h.query s.info p.bound m.max_rows).outcome) Unstarted stage out new_out (Err e)
+          → IsRefusedRow (λ answers. on_execute h answers s m) out new_out calls done s' e
+      portal_refused (session.Wire e) x = row_refused out new_out s' e (run_wire s m p out new_out stage s' written found told fresh verdict (h.query s.info p.bound m.max_rows).outcome e x)
+      portal_refused session.TurnLimit x = row_ran out new_out Stopped (run_waits s m p out new_out stage s' written found told fresh verdict (h.query s.info p.bound m.max_rows).outcome x)
+
+      pub portal_paged : IsPortalRun told (portal_run m.max_rows Unstarted verdict (h.query s.info p.bound m.max_rows).outcome) Unstarted stage out new_out (Ok None)
+          → IsRow (λ answers. on_execute h answers s m) out new_out calls done (Done s')
+      portal_paged x = row_ran out new_out (Done s') (run_paged s m p out new_out stage s' written found told fresh verdict (h.query s.info p.bound m.max_rows).outcome x)
+
+      module _ (answered : A) (x : IsPortalRun told (portal_run m.max_rows Unstarted verdict (h.query s.info p.bound m.max_rows).outcome) Unstarted stage out new_out (Ok (Some answered))) where
+        handed : (effect_by verdict ≡ executed_without_rows s (told answered)) × (s' ≡ s) × (new_out ≡ out)
+        handed = run_handed_on s m p out new_out stage s' written found told fresh verdict (h.query s.info p.bound m.max_rows).outcome answered x
+
+        pub handed_same : s' ≡ s
+        handed_same = handed.1
+
+        effect_is : effect_by verdict ≡ executed_without_rows s' (told answered)
+        effect_is = handed.0 ∙ ap (λ (s : State S). executed_without_rows s (told answered)) (sym handed.1)
+
+        pub handed_ok : (last : List ℕ) (t : State S) → IsEffect (executed_without_rows s' (told answered)) new_out last (Done t)
+            → IsRow (λ answers. on_execute h answers s m) out last calls done (Done t)
+        handed_ok last t y = row_ran out last (Done t)
+            (subst (λ o. IsEffect (effect_by verdict) o last (Done t)) handed.2 (subst (λ effect. IsEffect effect new_out last (Done t)) (sym effect_is) y))
+
+        pub handed_refused : (last : List ℕ) (t : State S) (e : PgWireError) → IsRefusedEffect (executed_without_rows s' (told answered)) new_out last t e
+            → IsRefusedRow (λ answers. on_execute h answers s m) out last calls done t (session.Wire e)
+        handed_refused last t e y = row_refused out last t e
+            (subst (λ o. IsRefusedEffect (effect_by verdict) o last t e) handed.2 (subst (λ effect. IsRefusedEffect effect new_out last t e) (sym effect_is) y))

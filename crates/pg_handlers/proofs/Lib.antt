@@ -1,0 +1,16 @@
+pub mod Answers
+pub mod Asking
+pub mod Awaiting
+pub mod Binds
+pub mod Copied
+pub mod Describing
+pub mod Encodable
+pub mod ErrorTexts
+pub mod Executes
+pub mod GoodStores
+pub mod Lends
+pub mod Parsing
+pub mod Rows
+pub mod Scripts
+pub mod Sent
+pub mod Steady

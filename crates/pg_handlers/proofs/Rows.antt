@@ -1,0 +1,67 @@
+-- Rows of the conversation table that were carried out or refused, and the errors that they tell.
+use Rattle.std.proofs.Common.{arith, rules, ◌≡◌, ◌≢◌, ℕ, zero, suc, ◌+◌, ◌≤◌, ◌⊎◌, inl, inr, Bool, true, false, List, [], ◌∷◌, ◌++◌, Result, Ok, Err, length, drop, codes, IsTrue, refl, ap, sym, subst, ◌∙◌, append_assoc}
+use Rattle.std.proofs.lemmas.List.{append-nil, length-append}
+use Rattle.std.proofs.Math.Seq.{drop-append_seam, drop-length}
+use Rattle.pg_messages.specs.Replies.{HasNoZero, replies_bytes}
+use Rattle.pg_portal.specs.declared.error.PgWireError.{PgWireError}
+use Rattle.pg_portal.specs.declared.error.PgWireError.TheVariants as wire
+use Rattle.pg_portal.specs.declared.client.PgWireConnectionState.{PgWireConnectionState}
+use Rattle.pg_portal.specs.declared.client.PgWireConnectionState.TheVariants as phase
+use Rattle.pg_portal.specs.Errors.{error}
+use Rattle.pg_portal.specs.Rows.{IsTellable, IsAnswerable}
+use Rattle.pg_handlers.proofs.Encodable.{by_test}
+use Rattle.pg_handlers.specs.declared.desk.DeskCall.{DeskCall}
+use Rattle.pg_handlers.specs.declared.ends.SessionError.{SessionError}
+use Rattle.pg_handlers.specs.declared.ends.SessionError.TheVariants as session
+use Rattle.pg_handlers.specs.declared.ends.Turns.{Turns}
+use Rattle.pg_handlers.specs.Answer.{answers_of}
+use Rattle.pg_handlers.specs.Effect.{Effect, Called, Row, Outcome, Failed, Done, IsEffect, IsRow, IsCutRow, IsRefusedRow, when_ready, ready_or_refused, silent, refuses}
+use Rattle.pg_handlers.specs.Questions.{questions_since, questions}
+use Rattle.pg_handlers.specs.State.{State}
+
+-- ---- errors that can be told
+
+pub not_ready_told : IsAnswerable wire.NotReadyForQuery
+not_ready_told = inr (record {
+  is_told = λ e. cc;
+  encodable = record { body = omega arith; counts = tt; texts = (by_test (codes "ERROR") refl, (by_test (codes "08P01") refl, (by_test (codes "not ready for query") refl, tt))) };
+})
+
+pub canceled_told : IsAnswerable wire.QueryCanceled
+canceled_told = inr (record {
+  is_told = λ e. cc;
+  encodable = record { body = omega arith; counts = tt; texts = (by_test (codes "ERROR") refl, (by_test (codes "57014") refl, (by_test (codes "canceling statement due to user request") refl, tt))) };
+})
+
+pub not_started_told : IsAnswerable wire.PortalNotStarted
+not_started_told = inr (record {
+  is_told = λ e. cc;
+  encodable = record { body = omega arith; counts = tt; texts = (by_test (codes "ERROR") refl, (by_test (codes "XX000") refl, (by_test (codes "portal is not started") refl, tt))) };
+})
+
+-- ---- no turn is spent
+
+pub none_since : (calls : List DeskCall) → questions_since calls calls ≡ 0
+none_since calls = ap questions (drop-length calls)
+
+pub no_turn : (turns : Turns) (calls : List DeskCall) → turns ≡ record { spent = turns.spent + questions_since calls calls; limit = turns.limit }
+no_turn turns calls = ap (λ (n : ℕ). let now : Turns = record { spent = n; limit = turns.limit } in now) (let e = none_since calls in let same : turns.spent ≡ turns.spent + questions_since calls calls = omega arith in same)
+
+-- ---- a row where the client awaits no query
+
+not_ready : {S : Type 0} (s : State S) (c : Called S) (now : PgWireConnectionState) → now ≢ phase.ReadyForQuery
+    → ready_or_refused s c now ≡ silent (refuses s wire.NotReadyForQuery)
+not_ready s c phase.AwaitingStartup ne = refl
+not_ready s c phase.ReadyForQuery ne = absurd (ne refl)
+not_ready s c phase.AwaitingSync ne = refl
+not_ready s c (phase.CopyInProgress extended) ne = refl
+
+pub refused_unready : {S : Type 0} (s : State S) (row : Row S) (out : List ℕ) (calls : List DeskCall) → s.info.state ≢ phase.ReadyForQuery
+    → IsRow (λ answers. when_ready s (row answers)) out out calls calls (Failed s wire.NotReadyForQuery)
+refused_unready s row out calls ne = record {
+  made = [];
+  own = ap (λ c. c.calls) (not_ready s (row []) s.info.state ne);
+  called = sym (append-nil calls);
+  effect = subst (λ c. IsEffect c.effect out out (Failed s wire.NotReadyForQuery)) (sym (not_ready s (row []) s.info.state ne))
+      (record { replied = sym (append-nil out); came = refl });
+}

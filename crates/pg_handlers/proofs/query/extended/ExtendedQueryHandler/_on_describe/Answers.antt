@@ -1,0 +1,47 @@
+use Rattle.std.proofs.Common.{◌≡◌, ◌∙◌, ap, sym, subst, Bor, Some, Global, inr, arith}
+use Rattle.std.specs.Arc.{arc_value}
+use Rattle.std.specs.FinMap as fin
+use Rattle.std.specs.declared.sync.Arc.{Arc}
+use Rattle.pg_portal.specs.declared.portal.Portal.{Portal}
+use Rattle.pg_portal.specs.declared.store.Entry.TheVariants as entry
+use Rattle.pg_portal.specs.declared.stmt.StoredStatement.{StoredStatement}
+use Rattle.pg_portal.specs.Told.{value_under, portal_of}
+use Rattle.pg_handlers.specs.Good.{IsGoodStatement}
+use Rattle.pg_handlers.specs.State.{state_of}
+use Rattle.pg_handlers.proofs.Describing.{found_empty, empty_described}
+use Rattle.pg_handlers.proofs.ErrorTexts.{tellable_target}
+use Rattle.pg_handlers.proofs.GoodStores.{found_value}
+use Rattle.pg_handlers.proofs.query.extended.ExtendedQueryHandler._on_describe.Goals as goal
+
+pub do_describe_statement-requires-clause-good : goal.do_describe_statement-requires-clause-good
+do_describe_statement-requires-clause-good g c =
+    let parser = (g.Self.ExtendedQueryHandler.told c.args.self.now).parser in
+    let statement = arc_value c.in-Some-Value.statement.now in
+    let found : value_under (fin.get (g.St.PortalStore.statements c.args.client.now.store) c.as_str.result.now) ≡ Some statement =
+    found_value (λ (s : Bor (Arc (StoredStatement g.row.Self-Statement.Denot) Global)). arc_value s.now) c.get_statement.result
+    c.in-Some-Value.field-0 c.in-Some-Value.statement _
+    c.get_statement.ensures c.in-Some-Value.is c.in-Some-Value.field-0-is in
+    subst (IsGoodStatement parser) (sym c.deref.ensures) (c.requires.good.statements c.as_str.result.now statement found)
+
+pub returns-in-Some-Empty-clause-ok : goal.returns-in-Some-Empty-clause-ok
+returns-in-Some-Empty-clause-ok g c =
+    let s = state_of g.St.PortalStore.statements g.St.PortalStore.portals c.args.client.now in
+    let h = c.in-83.is in let k = c.no_data-told.ensures in let e = c.in_ok-send_describe_response-in-Some-Empty.ensures in
+    let found : fin.get s.statements c.args.message.name ≡ Some entry.Empty = ap (fin.get s.statements) (sym c.as_str.ensures) ∙
+    found_empty (λ (s : Bor (Arc (StoredStatement g.row.Self-Statement.Denot) Global)). arc_value s.now) c.get_statement.result
+    c.in-Some-Empty.field-0 _
+    c.get_statement.ensures c.in-Some-Empty.is c.in-Some-Empty.field-0-is in
+    empty_described (g.Self.ExtendedQueryHandler.told c.args.self.now) s c.args.message c.args.client.now.outbox
+    c.send_describe_response-in-Some-Empty.new.outbox _ h found k e
+
+pub do_describe_portal-requires-clause-good : goal.do_describe_portal-requires-clause-good
+do_describe_portal-requires-clause-good g c =
+    let found : value_under (fin.get (g.St.PortalStore.portals c.args.client.now.store) c.as_str-in-80.result.now)
+    ≡ Some (portal_of g.Self.Rows.RowSource.items c.in-Some-Value-get_portal.portal.now) =
+    found_value (λ (p : Bor (Portal g.row.Self-Statement.Denot g.row.Self-Rows.Denot)). portal_of g.Self.Rows.RowSource.items p.now)
+    c.get_portal.result c.in-Some-Value-get_portal.field-0 c.in-Some-Value-get_portal.portal _
+    c.get_portal.ensures c.in-Some-Value-get_portal.is c.in-Some-Value-get_portal.field-0-is in
+    c.requires.good.portals c.as_str-in-80.result.now _ found
+
+pub returns-clause-answerable : goal.returns-clause-answerable
+returns-clause-answerable g c = inr (tellable_target c.args.message.target_type (omega arith))

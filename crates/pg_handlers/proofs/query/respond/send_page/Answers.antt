@@ -1,0 +1,5 @@
+use Rattle.pg_handlers.proofs.Encodable.{select_is_tag}
+use Rattle.pg_handlers.proofs.query.respond.send_page.Goals as goal
+
+pub send_done-requires : goal.send_done-requires
+send_done-requires g c = select_is_tag

@@ -1,0 +1,78 @@
+use Rattle.std.proofs.Common.{rules, inr, refl}
+use Rattle.std.proofs.lemmas.Int.{to_z-of_z}
+use Rattle.pg_portal.specs.Told.{told_rows}
+use Rattle.pg_portal.proofs.Fetches.{told_later}
+use Rattle.pg_portal.proofs.Paging.{test_is}
+use Rattle.pg_handlers.proofs.Sent.{paging_goes_on, sent_suspended, replied_suspended, sent_complete, replied_complete, met_error}
+use Rattle.pg_handlers.proofs.query.send.send_partial_query_response.Goals as goal
+
+pub returns-in-None-clause-page : goal.returns-in-None-clause-page
+returns-in-None-clause-page g c =
+    let l = c.loop-alloc.invariant in
+    let fits = c.ranges.max_rows in
+    let paged = simp to_z-of_z at l.paged in
+    let old = told_rows g.R.RowSource.items c.args.results.now in
+    sent_complete c.args.max_rows old _ _ _ c.loop-alloc.rows paged
+    (test_is c.args.max_rows _ _ _ _ fits c.is_reached.ensures refl c.loop-alloc-test.true)
+    (let taken = c.in_ok-next.ensures.next in search rules) _
+
+pub returns-in-None-clause-replied : goal.returns-in-None-clause-replied
+returns-in-None-clause-replied g c =
+    let l = c.loop-alloc.invariant in
+    let fits = c.ranges.max_rows in
+    let paged = simp to_z-of_z at l.paged in
+    let old = told_rows g.R.RowSource.items c.args.results.now in
+    replied_complete c.args.max_rows old _ _ _ c.loop-alloc.rows paged
+    (test_is c.args.max_rows _ _ _ _ fits c.is_reached.ensures refl c.loop-alloc-test.true)
+    (let taken = c.in_ok-next.ensures.next in search rules) _ _
+    (let said = c.in_ok-send_done-in-None.ensures.ok in let read = c.as_str.ensures in search rules)
+
+pub returns-in-Some-Err-clause-refused : goal.returns-in-Some-Err-clause-refused
+returns-in-Some-Err-clause-refused g c =
+    let l = c.loop-alloc.invariant in
+    let fits = c.ranges.max_rows in
+    let paged = simp to_z-of_z at l.paged in
+    let old = told_rows g.R.RowSource.items c.args.results.now in
+    inr (met_error c.args.max_rows old _ _ _ c.loop-alloc.rows paged
+    (test_is c.args.max_rows _ _ _ _ fits c.is_reached.ensures refl c.loop-alloc-test.true) c.in-Some-Err.error
+    (g.R.RowSource.items c.next.new.self)
+    (let taken = c.in_ok-next.ensures.next in search rules) _
+    (told_later g.R.RowSource.items c.args.results.now (record {
+      command_tag = c.loop-alloc.results.command_tag;
+      row_schema = c.loop-alloc.results.row_schema;
+      data_rows = c.next.new.self;
+    }) l.same_tag l.same_schema))
+
+pub returns-clause-page : goal.returns-clause-page
+returns-clause-page g c =
+    let l = c.loop-alloc.invariant in
+    let fits = c.ranges.max_rows in
+    let paged = simp to_z-of_z at l.paged in
+    let old = told_rows g.R.RowSource.items c.args.results.now in
+    sent_suspended c.args.max_rows old _ _ _ c.loop-alloc.rows paged
+    (test_is c.args.max_rows _ _ _ _ fits c.is_reached.ensures refl c.loop-alloc-test.false)
+    _ (told_later g.R.RowSource.items c.args.results.now c.loop-alloc.results l.same_tag l.same_schema)
+
+pub returns-clause-replied : goal.returns-clause-replied
+returns-clause-replied g c =
+    let l = c.loop-alloc.invariant in
+    let fits = c.ranges.max_rows in
+    let paged = simp to_z-of_z at l.paged in
+    let old = told_rows g.R.RowSource.items c.args.results.now in
+    replied_suspended c.args.max_rows old _ _ _ c.loop-alloc.rows paged
+    (test_is c.args.max_rows _ _ _ _ fits c.is_reached.ensures refl c.loop-alloc-test.false)
+    _ _ c.in_ok-push.ensures.ok
+
+pub loop-alloc-preserved : goal.loop-alloc-preserved
+loop-alloc-preserved g c =
+    let l = c.loop-alloc.invariant in
+    let fits = c.ranges.max_rows in
+    record {
+      paged = rw (to_z-of_z _ c.args.max_rows) (let paged = simp to_z-of_z at l.paged in
+          paging_goes_on c.args.max_rows _ _ _ _ c.loop-alloc.rows paged c.in-Some-Ok.row (g.R.RowSource.items c.next.new.self) _ _
+          (let taken = c.in_ok-next.ensures.next in search rules)
+          (test_is c.args.max_rows _ _ _ _ fits c.is_reached.ensures refl c.loop-alloc-test.true) c.in_ok-rows-in-Some-Ok.ensures.pushed
+          c.in_ok-rows-in-Some-Ok.ensures.counted c.in_ok-rows-in-Some-Ok.ensures.fewer);
+      same_tag = l.same_tag;
+      same_schema = l.same_schema;
+    }

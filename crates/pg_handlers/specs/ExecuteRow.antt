@@ -1,0 +1,119 @@
+-- Execute (protocol: Message Flow, Extended Query).
+use Rattle.std.specs.Prelude.{ℕ, ℤ, Bool, true, List, [], ◌∷◌, ◌++◌, Option, Some, None, Result, Ok, Err, if◌then◌else◌, length, codes}
+use Rattle.std.specs.FinMap as fin
+use Rattle.pg_messages.specs.declared.extendedquery.Execute.{Execute}
+use Rattle.pg_messages.specs.declared.data.DataRow.{DataRow}
+use Rattle.pg_messages.specs.declared.backend.PgWireBackendMessage.TheVariants as server
+use Rattle.pg_portal.specs.declared.error.PgWireError.{PgWireError}
+use Rattle.pg_portal.specs.declared.error.PgWireError.TheVariants as wire
+use Rattle.pg_portal.specs.declared.client.PgWireConnectionState.TheVariants as phase
+use Rattle.pg_portal.specs.declared.store.Entry.{Entry}
+use Rattle.pg_portal.specs.declared.store.Entry.TheVariants as entry
+use Rattle.pg_portal.specs.Fetching.{with_items}
+use Rattle.pg_portal.specs.Page.{ItemPage, PageEnd, AtLimit, AtEnd, AtError, item_page}
+use Rattle.pg_portal.specs.Told.{TablePortal, Stage, Unstarted, Started, Ended, ToldRows}
+use Rattle.pg_portal.specs.Responses as response
+use Rattle.pg_portal.specs.Responses.{ToldResponse}
+use Rattle.pg_handlers.specs.Replies.{Replies, done_with, row_replies}
+use Rattle.pg_handlers.specs.Questions.{Verdict, Passed, Canceled, Unanswered, started}
+use Rattle.pg_handlers.specs.Handlers.{ExtendedTold, ToldQuery}
+use Rattle.pg_handlers.specs.State.{State, in_phase, with_status, with_portal, without_unnamed_portal}
+use Rattle.pg_handlers.specs.ResponseRows.{Sent, responded}
+use Rattle.pg_handlers.specs.Effect.{Effect, Called, says, refuses, stopped, silent, Failed}
+
+-- ---- a started portal
+
+-- how far a portal has come behind a page; an error is consumed, and the rows before it are dropped
+abbrev pub stage_after : ToldRows → PageEnd DataRow → Stage
+stage_after r (AtLimit items) = Started (with_items r items)
+stage_after r AtEnd = Ended
+stage_after r (AtError e items) = Started (with_items r items)
+
+abbrev pub at_stage : {S : Type 0} → TablePortal S → Stage → TablePortal S
+at_stage p stage = record { bound = p.bound; stage = stage }
+
+-- the number that a page's tag tells: that of its rows
+abbrev pub told_number : List DataRow → ℕ
+told_number rows = length rows
+
+-- what a page replies: its rows, and that the portal is suspended or the tag; nothing where an error is met
+abbrev pub page_replies : List ℕ → List DataRow → PageEnd DataRow → Replies
+page_replies tag rows (AtLimit items) = row_replies rows ++ server.PortalSuspended (record {}) ∷ []
+page_replies tag rows AtEnd = row_replies rows ++ done_with tag (told_number rows) ∷ []
+page_replies tag rows (AtError e items) = []
+
+-- A page at its limit leaves the portal suspended, one at the end is told by the tag, and one at an error is answered by the error alone.
+abbrev pub page_effect : {S : Type 0} → State S → List ℕ → List DataRow → PageEnd DataRow → Effect S
+page_effect s tag rows (AtLimit items) = says (page_replies tag rows (AtLimit items)) s
+page_effect s tag rows AtEnd = says (page_replies tag rows AtEnd) s
+page_effect s tag rows (AtError e items) = refuses s e
+
+-- a page of the response, and the portal behind it under its name
+abbrev pub fetched : {S : Type 0} → State S → Execute → TablePortal S → ToldRows → Effect S
+fetched s m p r =
+    let page = item_page m.max_rows r.items in
+    page_effect (with_portal s m.name (entry.Value (at_stage p (stage_after r page.ending)))) r.command_tag page.rows page.ending
+
+-- a page of a finished portal has no row
+abbrev pub fetched_nothing : {S : Type 0} → State S → Effect S
+fetched_nothing s = says (done_with (codes "SELECT") (told_number []) ∷ []) s
+
+-- ---- a portal that isn't started
+
+-- the state behind what was sent: its status, and the phase of a COPY where one has begun
+abbrev pub state_behind : {S : Type 0} → State S → Sent → State S
+state_behind s sent = with_status (if sent.copying then in_phase s (phase.CopyInProgress true) else s) sent.status
+
+-- what was sent, and its error where one cut it short
+abbrev pub sent_in_execute : {S : Type 0} → State S → Sent → Option PgWireError → Effect S
+sent_in_execute s sent None = says sent.replies (state_behind s sent)
+sent_in_execute s sent (Some e) = record { replies = sent.replies; outcome = Failed s e }
+
+abbrev pub executed_other : {S : Type 0} → State S → ToldResponse → Effect S
+executed_other s r =
+    let sent = responded s.info.status r in
+    sent_in_execute s sent sent.refusal
+
+-- A response without rows leaves the portal as it is. An error is one of the message, and the end of a transaction takes the unnamed
+-- portal away.
+abbrev pub executed_without_rows : {S : Type 0} → State S → ToldResponse → Effect S
+executed_without_rows s (response.Error info) = refuses s (wire.UserError info)
+executed_without_rows s (response.TransactionEnd tag) = executed_other (without_unnamed_portal s) (response.TransactionEnd tag)
+executed_without_rows s r = executed_other s r
+
+-- A response with rows starts the portal.
+abbrev pub executed : {S : Type 0} → State S → Execute → TablePortal S → ToldResponse → Effect S
+executed s m p (response.Query r) = fetched s m p r
+executed s m p r = executed_without_rows s r
+
+abbrev pub execute_polled : {S : Type 0} → State S → Execute → TablePortal S → Verdict → Result ToldResponse PgWireError → Effect S
+execute_polled s m p Unanswered outcome = stopped
+execute_polled s m p Canceled outcome = refuses s wire.QueryCanceled
+execute_polled s m p Passed (Ok r) = executed s m p r
+execute_polled s m p Passed (Err e) = refuses s e
+
+-- one start, the questions of the polls that it owes, and then its response
+abbrev pub execute_run : {S : Type 0} → List Bool → State S → Execute → TablePortal S → ToldQuery ToldResponse → Called S
+execute_run answers s m p query =
+    let asked = started query.owes answers in
+    record { calls = asked.calls; effect = execute_polled s m p asked.verdict query.outcome }
+
+-- ---- each portal
+
+abbrev pub executed_portal : {S : Type 0} → ExtendedTold S → List Bool → State S → Execute → TablePortal S → Stage → Called S
+executed_portal h answers s m p Unstarted = execute_run answers s m p (h.query s.info p.bound m.max_rows)
+executed_portal h answers s m p (Started r) = silent (fetched s m p r)
+executed_portal h answers s m p Ended = silent (fetched_nothing s)
+
+-- where there is no portal to run: none of this name, or an empty one
+abbrev pub executed_nothing : {S : Type 0} → State S → List ℕ → Option (Entry (TablePortal S)) → Effect S
+executed_nothing s name None = refuses s (wire.PortalNotFound name)
+executed_nothing s name (Some e) = says (server.EmptyQueryResponse (record {}) ∷ []) s
+
+abbrev pub executed_entry : {S : Type 0} → ExtendedTold S → List Bool → State S → Execute → Option (Entry (TablePortal S)) → Called S
+executed_entry h answers s m None = silent (executed_nothing s m.name None)
+executed_entry h answers s m (Some entry.Empty) = silent (executed_nothing s m.name (Some entry.Empty))
+executed_entry h answers s m (Some (entry.Value p)) = executed_portal h answers s m p p.stage
+
+abbrev pub on_execute : {S : Type 0} → ExtendedTold S → List Bool → State S → Execute → Called S
+on_execute h answers s m = executed_entry h answers s m (fin.get s.portals m.name)

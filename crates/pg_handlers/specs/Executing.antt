@@ -1,0 +1,98 @@
+-- What an Execute makes of a portal while it is lent.
+use Rattle.std.specs.Prelude.{ℕ, ℤ, Bool, true, false, List, [], ◌∷◌, ◌++◌, Option, Some, None, Result, Ok, Err, ◌≡◌, ◌⊎◌, codes}
+use Rattle.std.specs.FinMap as fin
+use Rattle.pg_messages.specs.declared.data.DataRow.{DataRow}
+use Rattle.pg_messages.specs.Replies.{replies_bytes}
+use Rattle.pg_portal.specs.declared.error.PgWireError.{PgWireError}
+use Rattle.pg_portal.specs.declared.error.PgWireError.TheVariants as wire
+use Rattle.pg_portal.specs.declared.store.Entry.{Entry}
+use Rattle.pg_portal.specs.Names.{NameMap}
+use Rattle.pg_portal.specs.Page.{ItemPage, PageEnd, AtLimit, AtEnd, AtError, item_page}
+use Rattle.pg_portal.specs.Told.{Stage, Unstarted, Started, Ended, ToldRows, TablePortal}
+use Rattle.pg_portal.specs.Responses as response
+use Rattle.pg_portal.specs.Responses.{ToldResponse}
+use Rattle.pg_handlers.specs.declared.ends.SessionError.{SessionError}
+use Rattle.pg_handlers.specs.declared.ends.SessionError.TheVariants as session
+use Rattle.pg_handlers.specs.Replies.{Replies, done_with}
+use Rattle.pg_handlers.specs.Questions.{Verdict, Passed, Canceled, Unanswered}
+use Rattle.pg_handlers.specs.ExecuteRow.{stage_after, page_replies, told_number}
+
+abbrev pub is_unstarted : Stage → Bool
+is_unstarted Unstarted = true
+is_unstarted (Started r) = false
+is_unstarted Ended = false
+
+-- whether a response has rows, and so starts its portal
+abbrev pub has_rows : ToldResponse → Bool
+has_rows (response.Query r) = true
+has_rows _ = false
+
+-- what a page replies, how far the portal has come then, and the error that it met
+pub record StagePage : Type 0 where
+  pub replies : Replies
+  pub stage : Stage
+  pub refusal : Option PgWireError
+
+abbrev pub error_at : PageEnd DataRow → Option PgWireError
+error_at (AtLimit items) = None
+error_at AtEnd = None
+error_at (AtError e items) = Some e
+
+abbrev pub response_page : ToldRows → ItemPage DataRow → StagePage
+response_page r page = record {
+  replies = page_replies r.command_tag page.rows page.ending;
+  stage = stage_after r page.ending;
+  refusal = error_at page.ending;
+}
+
+-- nothing is replied, and the portal stays
+abbrev pub refused_page : Stage → PgWireError → StagePage
+refused_page stage e = record { replies = []; stage = stage; refusal = Some e }
+
+-- the page of a portal that has come so far
+abbrev pub page_result : ℤ → Stage → StagePage
+page_result limit (Started r) = response_page r (item_page limit r.items)
+page_result limit Ended = record { replies = done_with (codes "SELECT") (told_number []) ∷ []; stage = Ended; refusal = None }
+page_result limit Unstarted = refused_page Unstarted wire.PortalNotStarted
+
+-- the page was sent, or met its error; or memory is wanting
+abbrev pub IsPageOf : {A : Type 0} → StagePage → Stage → List ℕ → List ℕ → Result A PgWireError → Type 0
+IsPageOf page stage out new_out (Ok x) = (page.refusal ≡ None) × (stage ≡ page.stage) × (new_out ≡ out ++ replies_bytes page.replies)
+IsPageOf page stage out new_out (Err e) = (e ≡ wire.NoMemory)
+    ⊎ ((page.refusal ≡ Some e) × (stage ≡ page.stage) × (new_out ≡ out ++ replies_bytes page.replies))
+
+-- what a query of a portal comes to: a page, a response without rows, or a question that wants a turn
+pub data PortalRun : Type 0 where
+  Paged : StagePage → PortalRun
+  Responded : ToldResponse → PortalRun
+  Waits : PortalRun
+
+abbrev pub run_of_response : ℤ → ToldResponse → PortalRun
+run_of_response limit (response.Query r) = Paged (page_result limit (Started r))
+run_of_response limit r = Responded r
+
+-- the query of a portal at a stage, by the verdict of its questions and its outcome
+abbrev pub portal_run : ℤ → Stage → Verdict → Result ToldResponse PgWireError → PortalRun
+portal_run limit stage Unanswered outcome = Waits
+portal_run limit stage Canceled outcome = Paged (refused_page stage wire.QueryCanceled)
+portal_run limit stage Passed (Err e) = Paged (refused_page stage e)
+portal_run limit stage Passed (Ok r) = run_of_response limit r
+
+-- It came to this, where None says that a page was sent; a response without rows, and a question that wants a turn, leave the portal as
+-- it is; or memory is wanting.
+abbrev pub IsPortalRun : {A : Type 0} → (A → ToldResponse) → PortalRun → Stage → Stage → List ℕ → List ℕ → Result (Option A) SessionError → Type 0
+IsPortalRun told (Paged page) stage new_stage out new_out (Ok None) = IsPageOf {A = Unit {0}} page new_stage out new_out (Ok tt)
+IsPortalRun told (Paged page) stage new_stage out new_out (Ok (Some r)) = ⊥
+IsPortalRun told (Paged page) stage new_stage out new_out (Err (session.Wire e)) = IsPageOf {A = Unit {0}} page new_stage out new_out (Err e)
+IsPortalRun told (Paged page) stage new_stage out new_out (Err session.TurnLimit) = ⊥
+IsPortalRun told (Responded r) stage new_stage out new_out (Ok None) = ⊥
+IsPortalRun told (Responded r) stage new_stage out new_out (Ok (Some answered)) = (told answered ≡ r) × (new_stage ≡ stage) × (new_out ≡ out)
+IsPortalRun told (Responded r) stage new_stage out new_out (Err (session.Wire e)) = e ≡ wire.NoMemory
+IsPortalRun told (Responded r) stage new_stage out new_out (Err session.TurnLimit) = ⊥
+IsPortalRun told Waits stage new_stage out new_out (Ok x) = ⊥
+IsPortalRun told Waits stage new_stage out new_out (Err (session.Wire e)) = e ≡ wire.NoMemory
+IsPortalRun told Waits stage new_stage out new_out (Err session.TurnLimit) = (new_stage ≡ stage) × (new_out ≡ out)
+
+-- the portals are as they were, or the unnamed one went
+abbrev pub OnlyLosesUnnamed : {S : Type 0} → NameMap (Entry (TablePortal S)) → NameMap (Entry (TablePortal S)) → Type 0
+OnlyLosesUnnamed old new = (new ≡ old) ⊎ (new ≡ fin.remove old [])

@@ -1,0 +1,63 @@
+-- The registry calls of a query: one start, and a question behind each poll that found it unready.
+use Rattle.std.specs.Prelude.{ℕ, zero, suc, Bool, true, false, List, [], ◌∷◌, ◌++◌, ◌+◌, ◌≡◌, ◌≤◌, ◌⊎◌, Result, Ok, Err, length, drop}
+use Rattle.pg_portal.specs.declared.error.PgWireError.{PgWireError}
+use Rattle.pg_portal.specs.declared.error.PgWireError.TheVariants as wire
+use Rattle.pg_handlers.specs.declared.ends.SessionError.{SessionError}
+use Rattle.pg_handlers.specs.declared.ends.SessionError.TheVariants as session
+use Rattle.pg_handlers.specs.declared.ends.Turns.{Turns}
+use Rattle.pg_handlers.specs.declared.desk.DeskCall.{DeskCall}
+use Rattle.pg_handlers.specs.declared.desk.DeskCall.TheVariants as desk
+use Rattle.pg_handlers.specs.Answer.{answers_of}
+
+-- each question was answered no; one was answered yes, and is the last; an answer was missing
+pub data Verdict : Type 0 where
+  Passed : Verdict
+  Canceled : Verdict
+  Unanswered : Verdict
+
+pub record Questioned : Type 0 where
+  pub calls : List DeskCall
+  pub verdict : Verdict
+
+abbrev pub after_call : DeskCall → Questioned → Questioned
+after_call call q = record { calls = call ∷ q.calls; verdict = q.verdict }
+
+-- the questions of so many unready polls, under the answers to come
+abbrev pub questioned : ℕ → List Bool → Questioned
+questioned zero answers = record { calls = []; verdict = Passed }
+questioned (suc owed) [] = record { calls = []; verdict = Unanswered }
+questioned (suc owed) (true ∷ answers) = record { calls = desk.Ask true ∷ []; verdict = Canceled }
+questioned (suc owed) (false ∷ answers) = after_call (desk.Ask false) (questioned owed answers)
+
+abbrev pub started : ℕ → List Bool → Questioned
+started owed answers = after_call desk.Start (questioned owed answers)
+
+-- how many questions are among calls
+abbrev pub questions : List DeskCall → ℕ
+questions [] = 0
+questions (desk.Start ∷ calls) = questions calls
+questions (desk.Ask told ∷ calls) = questions calls + 1
+questions (desk.Cancel pid key told ∷ calls) = questions calls
+
+-- The questions of so many unready polls were asked, under the very answers that they were given, and came to this verdict.
+pub record IsAsked (owes : ℕ) (calls new_calls : List DeskCall) (verdict : Verdict) : Type 0 where
+  pub made : List DeskCall
+  pub grown : new_calls ≡ calls ++ made
+  pub asked : questioned owes (answers_of made) ≡ record { calls = made; verdict = verdict }
+
+-- what a query that was asked for comes to, by its verdict
+abbrev pub IsVerdict : {A : Type 0} → A → Verdict → Result A SessionError → Type 0
+IsVerdict outcome verdict (Ok out) = (verdict ≡ Passed) × (out ≡ outcome)
+IsVerdict outcome verdict (Err session.TurnLimit) = verdict ≡ Unanswered
+IsVerdict outcome verdict (Err (session.Wire e)) = ((e ≡ wire.QueryCanceled) × (verdict ≡ Canceled)) ⊎ (e ≡ wire.NoMemory)
+
+-- the questions among the calls that were made since
+abbrev pub questions_since : List DeskCall → List DeskCall → ℕ
+questions_since calls new_calls = questions (drop (length calls) new_calls)
+
+-- Turns were spent on questions, and on nothing else; where memory was wanting, one more may be spent. None is left where one more was met.
+abbrev pub HasSpent : {A : Type 0} → Turns → Turns → ℕ → Result A SessionError → Type 0
+HasSpent old new asked (Ok out) = new ≡ record { spent = old.spent + asked; limit = old.limit }
+HasSpent old new asked (Err session.TurnLimit) = (new ≡ record { spent = old.spent + asked; limit = old.limit }) × (old.limit ≤ new.spent)
+HasSpent old new asked (Err (session.Wire e)) = (new ≡ record { spent = old.spent + asked; limit = old.limit })
+    ⊎ ((e ≡ wire.NoMemory) × (new ≡ record { spent = old.spent + asked + 1; limit = old.limit }))

@@ -1,0 +1,109 @@
+//! COPY from the client (protocol: Message Flow, COPY Operations).
+
+ghost use Rattle.std.specs.Prelude.{◌≡◌, ◌⊎◌, ◌++◌, codes, IfOk, IfErr, OnOk};
+ghost use Rattle.pg_messages.specs.declared.frontend.PgWireFrontendMessage.TheVariants as frontend;
+ghost use Rattle.pg_portal.specs.Clients.{HasShortMetadata};
+ghost use Rattle.pg_portal.specs.Rows.{IsAnswerable};
+ghost use Rattle.pg_portal.specs.declared.error.PgWireError.TheVariants as wire;
+ghost use Rattle.pg_handlers.specs.CopyRows.{copy_step};
+ghost use Rattle.pg_handlers.specs.Effect.{IsEffect, IsRefusedEffect, Done};
+ghost use Rattle.pg_handlers.specs.Errors.{copy_given_up};
+ghost use Rattle.pg_handlers.specs.Good.{IsGiven};
+ghost use Rattle.pg_handlers.specs.Handlers.{CopyTold};
+ghost use Rattle.pg_handlers.specs.State.{state_of};
+
+use crate::client::Client;
+use pg_messages::{CopyData, CopyDone, CopyFail, ErrorInfo, PgStr};
+use pg_portal::{PgWireError, PortalStore};
+use std::alloc::{AllocError, Global};
+
+/// What a server does with the data of a COPY from the client. Its calls may append replies, and change nothing else of
+/// the client. An error ends the COPY.
+pub trait CopyHandler {
+    // what it tells
+    ghost told: { Self → CopyTold };
+
+    /// Takes data.
+    fn on_copy_data<St: PortalStore>(
+        &self,
+        alloc: Global,
+        client: &mut Client<St>,
+        copy_data: CopyData,
+    ) -> Result<(), PgWireError>
+        requires given { IsGiven (frontend.CopyData copy_data) }
+        requires short_metadata { HasShortMetadata client.old.info }
+        ensures ok { OnOk result (IsEffect
+            (copy_step (state_of St.statements St.portals client.old)
+            ((told self.now).on_data client.old.info copy_data.payload))
+            client.old.outbox client.new.outbox (Done (state_of St.statements St.portals client.new))) }
+        ensures refused { IfErr result (IsRefusedEffect
+            (copy_step (state_of St.statements St.portals client.old)
+            ((told self.now).on_data client.old.info copy_data.payload))
+            client.old.outbox client.new.outbox (state_of St.statements St.portals client.new)) }
+        ensures answerable { IfErr result IsAnswerable }
+        ensures info { client.new.info ≡ client.old.info }
+        ensures statements { St.statements client.new.store ≡ St.statements client.old.store }
+        ensures portals { St.portals client.new.store ≡ St.portals client.old.store };
+
+    /// Takes the end of the data.
+    fn on_copy_done<St: PortalStore>(
+        &self,
+        alloc: Global,
+        client: &mut Client<St>,
+        done: CopyDone,
+    ) -> Result<(), PgWireError>
+        requires given { IsGiven (frontend.CopyDone done) }
+        requires short_metadata { HasShortMetadata client.old.info }
+        ensures ok { OnOk result (IsEffect
+            (copy_step (state_of St.statements St.portals client.old)
+            ((told self.now).on_done client.old.info))
+            client.old.outbox client.new.outbox (Done (state_of St.statements St.portals client.new))) }
+        ensures refused { IfErr result (IsRefusedEffect
+            (copy_step (state_of St.statements St.portals client.old)
+            ((told self.now).on_done client.old.info))
+            client.old.outbox client.new.outbox (state_of St.statements St.portals client.new)) }
+        ensures answerable { IfErr result IsAnswerable }
+        ensures info { client.new.info ≡ client.old.info }
+        ensures statements { St.statements client.new.store ≡ St.statements client.old.store }
+        ensures portals { St.portals client.new.store ≡ St.portals client.old.store };
+
+    /// The error with which a COPY that the client gives up ends. An impl tells it in `on_fail`, or `NoMemory`.
+    fn on_copy_fail<St: PortalStore>(
+        &self,
+        alloc: Global,
+        client: &mut Client<St>,
+        fail: CopyFail,
+    ) -> PgWireError
+        requires given { IsGiven (frontend.CopyFail fail) }
+        requires short_metadata { HasShortMetadata client.old.info }
+        ensures error { (result ≡ (told self.now).on_fail client.old.info fail.message)
+            ⊎ (result ≡ wire.NoMemory) }
+        ensures answerable { IsAnswerable result }
+        ensures same { client.new ≡ client.old };
+}
+
+/// The error XX000 `COPY IN mode terminated by the user: ` and the client's text, or `NoMemory`: what a COPY handler
+/// answers to CopyFail that has nothing of its own to say.
+pub fn copy_given_up(alloc: Global, fail: CopyFail) -> PgWireError
+    requires { IsGiven (frontend.CopyFail fail) }
+    ensures error { (result ≡ wire.UserError (copy_given_up fail.message)) ⊎ (result ≡ wire.NoMemory) }
+    ensures answerable { IsAnswerable result }
+{
+    match given_up(alloc, fail.message.as_str()) {
+        Ok(info) => PgWireError::UserError(info),
+        Err(_) => PgWireError::NoMemory,
+    }
+}
+
+/// What a client is told of a COPY that it gave up.
+fn given_up(alloc: Global, text: &str) -> Result<ErrorInfo, AllocError>
+    ensures { IfOk result (λ info. info ≡ copy_given_up text.now) }
+{
+    let mut message = String::from_str(alloc, "COPY IN mode terminated by the user: ")?;
+    message.push_str(text)?;
+    Ok(ErrorInfo::new(
+        PgStr::copy_of(alloc, "ERROR")?,
+        PgStr::copy_of(alloc, "XX000")?,
+        PgStr::copy_of(alloc, message.as_str())?,
+    ))
+}

@@ -1,0 +1,182 @@
+ghost use Rattle.std.specs.Prelude.{◌≡◌, ℕ, ℤ, List, ◌++◌, [], ◌∷◌, drop, IfOk, OnOk, OnErr};
+ghost use Rattle.pg_handlers.specs.declared.desk.DeskCall.{DeskCall};
+ghost use Rattle.pg_handlers.specs.Script.{first_or_no, registration_of, origin_of, IsScripted};
+
+use pg_messages::PgList;
+use std::alloc::{AllocError, Global};
+use std::marker::Model;
+
+/// A call of the cancel registry, with its answer.
+#[derive(Clone, Copy, Debug, PartialEq, Eq)]
+pub enum DeskCall {
+    /// A query was started.
+    Start,
+    /// Whether the running query was canceled.
+    Ask(bool),
+    /// The pid and key whose query was to be canceled, and whether there is such a registration.
+    Cancel(i32, [u8; 4], bool),
+}
+
+/// What a session sees of the cancel registry: its own registration.
+pub trait CancelDesk {
+    // the pid and the key of the registration
+    ghost registration: { Self → ℤ × List ℕ };
+
+    // the calls so far, with their answers
+    ghost calls: { Self → List DeskCall };
+
+    // what a desk was made over, as numbers: no call changes it, so that a caller who lent something to the
+    // desk knows it again
+    ghost origin: { Self → List ℕ };
+
+    /// The pid and the key that the client is told.
+    fn identity(&self) -> (i32, [u8; 4])
+        ensures { result ≡ registration self.now };
+
+    /// Notes that a query starts. After an error nothing has changed.
+    fn start(&mut self) -> Result<(), AllocError>
+        ensures ok { OnOk result (calls self.new ≡ calls self.old ++ DeskCall.Start ∷ []) }
+        ensures err { OnErr result (calls self.new ≡ calls self.old) }
+        ensures same { registration self.new ≡ registration self.old }
+        ensures origin { origin self.new ≡ origin self.old };
+
+    /// Whether the running query was canceled. After an error nothing has changed.
+    fn ask(&mut self) -> Result<bool, AllocError>
+        ensures ok { IfOk result (λ yes. calls self.new ≡ calls self.old ++ DeskCall.Ask yes ∷ []) }
+        ensures err { OnErr result (calls self.new ≡ calls self.old) }
+        ensures same { registration self.new ≡ registration self.old }
+        ensures origin { origin self.new ≡ origin self.old };
+
+    /// Cancels the query of the registration with this pid and key, and tells whether there is one.
+    /// After an error nothing has changed.
+    fn cancel(&mut self, pid: i32, key: [u8; 4]) -> Result<bool, AllocError>
+        ensures ok { IfOk result
+            (λ yes. calls self.new ≡ calls self.old ++ DeskCall.Cancel pid key yes ∷ []) }
+        ensures err { OnErr result (calls self.new ≡ calls self.old) }
+        ensures same { registration self.new ≡ registration self.old }
+        ensures origin { origin self.new ≡ origin self.old };
+}
+
+/// A desk that answers from a list, in its order, and no past its end.
+#[derive(Drop)]
+pub struct ScriptDesk {
+    pid: i32,
+    key: [u8; 4],
+    answers: PgList<bool>,
+    taken: usize,
+    calls: Vec<DeskCall>,
+}
+
+impl Model for ScriptDesk {
+    ghost use Rattle.std.specs.Prelude.{drop};
+    ghost use Rattle.pg_handlers.specs.Script.{Script, IsScripted};
+
+    ghost Value = { Script };
+
+    ghost view = { λ d. record { pid = d.pid; key = d.key; script = d.answers; answers = drop d.taken d.answers; calls = d.calls.items } };
+
+    ghost invariant = { λ d. IsScripted d.answers (drop d.taken d.answers) d.calls.items };
+}
+
+impl ScriptDesk {
+    /// A desk of this registration, with these answers to come.
+    pub fn new(alloc: Global, pid: i32, key: [u8; 4], answers: PgList<bool>) -> ScriptDesk
+        ensures pid { result.pid ≡ pid }
+        ensures key { result.key ≡ key }
+        ensures script { result.script ≡ answers }
+        ensures answers { result.answers ≡ answers }
+        ensures calls { result.calls ≡ [] }
+    {
+        ScriptDesk {
+            pid,
+            key,
+            answers,
+            taken: 0,
+            calls: Vec::new(alloc),
+        }
+    }
+
+    /// The calls so far, with their answers, which are those of the list.
+    pub fn calls(&self) -> &[DeskCall]
+        ensures calls { result.now ≡ self.now.calls }
+        ensures scripted { IsScripted self.now.script self.now.answers self.now.calls }
+    {
+        self.calls.as_slice()
+    }
+
+    /// The next answer, or no past the end of the list.
+    fn next_answer(&self) -> bool
+        ensures { result ≡ first_or_no self.now.answers }
+    {
+        self.answers
+            .as_slice()
+            .get(self.taken)
+            .copied()
+            .unwrap_or(false)
+    }
+}
+
+/// Where the answers go on behind the next one, if there is one.
+fn behind_next(answers: &[bool], taken: usize) -> usize
+    ensures { drop result answers.now ≡ drop 1 (drop taken answers.now) }
+{
+    if taken < answers.len() {
+        taken + 1
+    } else {
+        taken
+    }
+}
+
+impl CancelDesk for ScriptDesk {
+    ghost registration = { registration_of };
+
+    ghost calls = { λ d. d.calls };
+
+    ghost origin = { λ d. origin_of d.script };
+
+    fn identity(&self) -> (i32, [u8; 4]) {
+        (self.pid, self.key)
+    }
+
+    fn start(&mut self) -> Result<(), AllocError>
+        ensures answers { self.new.answers ≡ self.old.answers }
+        ensures ok { OnOk result (self.new.calls ≡ self.old.calls ++ DeskCall.Start ∷ []) }
+        ensures err { OnErr result (self.new.calls ≡ self.old.calls) }
+        ensures same { registration_of self.new ≡ registration_of self.old }
+        ensures origin { origin_of self.new.script ≡ origin_of self.old.script }
+    {
+        self.calls.push(DeskCall::Start)?;
+        Ok(())
+    }
+
+    fn ask(&mut self) -> Result<bool, AllocError>
+        ensures answer { IfOk result (λ yes. yes ≡ first_or_no self.old.answers) }
+        ensures used_up { OnOk result (self.new.answers ≡ drop 1 self.old.answers) }
+        ensures kept { OnErr result (self.new.answers ≡ self.old.answers) }
+        ensures ok { IfOk result (λ yes. self.new.calls ≡ self.old.calls ++ DeskCall.Ask yes ∷ []) }
+        ensures err { OnErr result (self.new.calls ≡ self.old.calls) }
+        ensures same { registration_of self.new ≡ registration_of self.old }
+        ensures origin { origin_of self.new.script ≡ origin_of self.old.script }
+    {
+        let yes = self.next_answer();
+        self.calls.push(DeskCall::Ask(yes))?;
+        self.taken = behind_next(self.answers.as_slice(), self.taken);
+        Ok(yes)
+    }
+
+    fn cancel(&mut self, pid: i32, key: [u8; 4]) -> Result<bool, AllocError>
+        ensures answer { IfOk result (λ yes. yes ≡ first_or_no self.old.answers) }
+        ensures used_up { OnOk result (self.new.answers ≡ drop 1 self.old.answers) }
+        ensures kept { OnErr result (self.new.answers ≡ self.old.answers) }
+        ensures ok { IfOk result
+            (λ yes. self.new.calls ≡ self.old.calls ++ DeskCall.Cancel pid key yes ∷ []) }
+        ensures err { OnErr result (self.new.calls ≡ self.old.calls) }
+        ensures same { registration_of self.new ≡ registration_of self.old }
+        ensures origin { origin_of self.new.script ≡ origin_of self.old.script }
+    {
+        let yes = self.next_answer();
+        self.calls.push(DeskCall::Cancel(pid, key, yes))?;
+        self.taken = behind_next(self.answers.as_slice(), self.taken);
+        Ok(yes)
+    }
+}

@@ -1,0 +1,30 @@
+//! What the messages of a client are answered: the handlers of extended and simple queries and of COPY, their rules as
+//! default bodies, and the replies that they send.
+#![tactic(auto)]
+
+mod client;
+mod copy;
+mod desk;
+mod ends;
+mod handlers;
+mod laws;
+mod noop;
+mod outbox;
+mod query;
+
+pub use client::Client;
+pub use copy::{CopyHandler, copy_given_up};
+pub use desk::{CancelDesk, DeskCall, ScriptDesk};
+pub use ends::{EndKind, SessionError, Turns};
+pub use handlers::PgWireServerHandlers;
+pub use laws::whole_table_is_lawful;
+pub use noop::{NoRows, NoopExtendedQuery, NoopHandler, NoopSimpleQuery};
+pub use outbox::{CHUNK, Outbox};
+pub use query::extended::ExtendedQueryHandler;
+pub use query::send::{
+    send_copy_both_response, send_copy_in_response, send_copy_out_response, send_describe_response,
+    send_execution_response, send_partial_query_response, send_query_response,
+    send_ready_for_query,
+};
+pub use query::simple::SimpleQueryHandler;
+pub use query::{QueryState, Turn};

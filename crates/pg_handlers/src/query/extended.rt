@@ -1,0 +1,395 @@
+//! The extended query (protocol: Message Flow, Extended Query).
+
+ghost use Rattle.std.specs.Prelude.{◌≡◌, ◌≤◌, List, false, Some, None, IfOk, IfErr, OnOk, OnErr, Bool};
+ghost use Rattle.std.specs.Arc.{arc_value};
+ghost use Rattle.std.specs.FinMap as fin;
+ghost use Rattle.pg_messages.specs.Replies.{IsEncodable};
+ghost use Rattle.pg_handlers.specs.Replies.{row_description};
+ghost use Rattle.pg_messages.specs.declared.frontend.PgWireFrontendMessage.TheVariants as frontend;
+ghost use Rattle.pg_portal.specs.Clients.{HasShortMetadata};
+ghost use Rattle.pg_portal.specs.Rows.{IsAnswerable};
+ghost use Rattle.pg_portal.specs.Told.{IsOutcome, bound_of, portal_of, stage_of};
+ghost use Rattle.pg_portal.specs.declared.error.PgWireError.{PgWireError};
+ghost use Rattle.pg_handlers.specs.Handlers.{ExtendedTold, told_one, told_query};
+ghost use Rattle.pg_handlers.specs.State.{state_of};
+ghost use Rattle.pg_handlers.specs.Effect.{IsEffect, IsRefusedEffect, IsRow, IsRefusedRow, Done, says, when_ready};
+ghost use Rattle.pg_handlers.specs.ExtendedRows.{on_parse, on_bind, on_describe, on_close, on_sync};
+ghost use Rattle.pg_handlers.specs.ExecuteRow.{on_execute};
+ghost use Rattle.pg_handlers.specs.Good.{IsGiven, IsSendableOutcome, IsSendableDescription, IsGoodStatement, IsGoodPortal, IsGoodState};
+ghost use Rattle.pg_handlers.specs.Questions.{HasSpent, questions_since};
+ghost use Rattle.pg_handlers.specs.Sending.{IsAnswerableError};
+
+use crate::client::Client;
+use crate::desk::CancelDesk;
+use crate::ends::{SessionError, Turns};
+use crate::query::QueryState;
+use crate::query::respond::{is_unstarted, respond, send_page};
+use crate::query::run::run_portal;
+use crate::query::send::{send_describe_response, send_ready_for_query};
+use crate::query::statements::{
+    bind_empty, bind_statement, close, execute_no_portal, missing_portal, missing_statement,
+    store_statement,
+};
+use pg_messages::{
+    Bind, Close, CloseComplete, Describe, Execute, Flush, Parse, ParseComplete, PgSync,
+    PgWireBackendMessage, TARGET_TYPE_BYTE_PORTAL, TARGET_TYPE_BYTE_STATEMENT,
+};
+use pg_portal::{
+    ClientInfo, CopySource, DescribePortalResponse, DescribeResponse, DescribeStatementResponse,
+    Entry, PgWireConnectionState, PgWireError, Portal, PortalStore, QueryParser, Response,
+    RowSource, StoredStatement,
+};
+use std::alloc::{AllocError, Global};
+use std::sync::Arc;
+
+/// What a server does for extended queries. What it tells of its queries and descriptions is its own; the `on_` calls
+/// have the protocol's rules as their bodies, and append their replies to the client's outbox.
+///
+/// An `on_` call has the condition that its message is one that a good frame carries, and that the client's store is
+/// good, and it leaves the store good. Its error is an error of the message, which is told to the client by whoever
+/// called it; what stands then is what the message has replied and changed before its error. After `NoMemory` the
+/// session is given up.
+pub trait ExtendedQueryHandler {
+    /// What a statement means.
+    type Statement: Drop;
+
+    /// What makes statements of queries.
+    type QueryParser: QueryParser<Statement = Self::Statement> + Drop;
+
+    /// Where the rows of a query come from.
+    type Rows: RowSource;
+
+    /// Where the data of a COPY come from.
+    type CopyRows: CopySource;
+
+    /// A query that was begun.
+    type Query: QueryState<Out = Result<Response<Self::Rows, Self::CopyRows>, PgWireError>>;
+
+    // what it tells
+    ghost told: { Self → ExtendedTold Self.Statement };
+
+    /// What makes statements of queries.
+    fn query_parser(&self, alloc: Global) -> Result<Arc<Self::QueryParser>, AllocError>
+        ensures { IfOk result (λ parser.
+            Self.QueryParser.told (arc_value parser) ≡ (told self.now).parser) };
+
+    /// The parameters' types and the columns of a statement. They can be sent as replies.
+    fn do_describe_statement(
+        &self,
+        alloc: Global,
+        client: &ClientInfo,
+        target: &StoredStatement<Self::Statement>,
+    ) -> Result<DescribeStatementResponse, PgWireError>
+        requires short_metadata { HasShortMetadata client.now }
+        requires good { IsGoodStatement (told self.now).parser target.now }
+        ensures outcome { IsOutcome ((told self.now).describe_statement client.now target.now) result }
+        ensures sendable { IfOk result IsSendableDescription }
+        ensures answerable { IfErr result IsAnswerable };
+
+    /// The columns of a portal. They can be sent as a reply.
+    fn do_describe_portal(
+        &self,
+        alloc: Global,
+        client: &ClientInfo,
+        target: &Portal<Self::Statement, Self::Rows>,
+    ) -> Result<DescribePortalResponse, PgWireError>
+        requires short_metadata { HasShortMetadata client.now }
+        requires good { IsGoodPortal (told self.now).parser (portal_of Self.Rows.items target.now) }
+        ensures outcome { IsOutcome
+            ((told self.now).describe_portal client.now (bound_of target.now)) result }
+        ensures sendable { IfOk result (λ d. IsEncodable (row_description d.fields)) }
+        ensures answerable { IfErr result IsAnswerable };
+
+    /// Begins the query of a portal that isn't started. What it gives can be sent as replies.
+    fn do_query(
+        &self,
+        alloc: Global,
+        client: &ClientInfo,
+        portal: &Portal<Self::Statement, Self::Rows>,
+        max_rows: i32,
+    ) -> Result<Self::Query, AllocError>
+        requires short_metadata { HasShortMetadata client.now }
+        requires good { IsGoodPortal (told self.now).parser (portal_of Self.Rows.items portal.now) }
+        ensures unspent { IfOk result (λ query. (Self.Query.told query).is_spent ≡ false) }
+        ensures told { IfOk result (λ query.
+            told_query (told_one Self.Rows.items Self.CopyRows.items) (Self.Query.told query)
+            ≡ (told self.now).query client.now (bound_of portal.now) max_rows) }
+        ensures sendable { IfOk result (λ query. IsSendableOutcome
+            ((told self.now).query client.now (bound_of portal.now) max_rows).outcome) };
+
+    /// Parse: stores the statement that the parser makes of the query, an empty one for None or a blank query, and
+    /// appends ParseComplete. The errors are the parser's; after them the store is as it was.
+    fn on_parse<St: PortalStore<Statement = Self::Statement, Rows = Self::Rows>>(
+        &self,
+        alloc: Global,
+        client: &mut Client<St>,
+        message: Parse,
+    ) -> Result<(), PgWireError>
+        requires given { IsGiven (frontend.Parse message) }
+        requires good { IsGoodState (told self.now).parser (state_of St.statements St.portals client.old) }
+        ensures ok { OnOk result (IsEffect
+            (on_parse (told self.now) (state_of St.statements St.portals client.old) message)
+            client.old.outbox client.new.outbox (Done (state_of St.statements St.portals client.new))) }
+        ensures refused { IfErr result (IsRefusedEffect
+            (on_parse (told self.now) (state_of St.statements St.portals client.old) message)
+            client.old.outbox client.new.outbox (state_of St.statements St.portals client.new)) }
+        ensures answerable { IfErr result IsAnswerable }
+        ensures good { IsGoodState (told self.now).parser (state_of St.statements St.portals client.new) }
+    {
+        let parser = self.query_parser(alloc)?;
+        let found = StoredStatement::parse(alloc, &client.info, &message, &*parser)?;
+        store_statement(alloc, &mut client.store, message.name.as_str(), found)?;
+        client
+            .outbox
+            .push(&PgWireBackendMessage::ParseComplete(ParseComplete {}))?;
+        Ok(())
+    }
+
+    /// Bind: stores a portal of the statement, and appends BindComplete. StatementNotFound comes exactly where no
+    /// statement has this name; 08P01 where an empty statement is given parameters, or where there are two result codes
+    /// or more and fewer than the columns. After these errors and the parser's the store is as it was.
+    fn on_bind<St: PortalStore<Statement = Self::Statement, Rows = Self::Rows>>(
+        &self,
+        alloc: Global,
+        client: &mut Client<St>,
+        message: Bind,
+    ) -> Result<(), PgWireError>
+        requires given { IsGiven (frontend.Bind message) }
+        requires good { IsGoodState (told self.now).parser (state_of St.statements St.portals client.old) }
+        ensures ok { OnOk result (IsEffect
+            (on_bind (told self.now) (state_of St.statements St.portals client.old) message)
+            client.old.outbox client.new.outbox (Done (state_of St.statements St.portals client.new))) }
+        ensures refused { IfErr result (IsRefusedEffect
+            (on_bind (told self.now) (state_of St.statements St.portals client.old) message)
+            client.old.outbox client.new.outbox (state_of St.statements St.portals client.new)) }
+        ensures answerable { IfErr result IsAnswerable }
+        ensures good { IsGoodState (told self.now).parser (state_of St.statements St.portals client.new) }
+    {
+        let parser = self.query_parser(alloc)?;
+        match client.store.get_statement(message.statement_name.as_str()) {
+            Some(Entry::Value(statement)) => {
+                let statement = statement.clone()?;
+                bind_statement(alloc, client, &*parser, message, statement)
+            }
+            Some(Entry::Empty) => bind_empty(alloc, client, message),
+            None => Err(missing_statement(message.statement_name)),
+        }
+    }
+
+    /// Execute: the row of the table where the client awaits a query, and NotReadyForQuery where it doesn't.
+    fn on_execute<St: PortalStore<Statement = Self::Statement, Rows = Self::Rows>, D: CancelDesk>(
+        &self,
+        alloc: Global,
+        client: &mut Client<St>,
+        desk: &mut D,
+        turns: &mut Turns,
+        message: Execute,
+    ) -> Result<(), SessionError>
+        requires given { IsGiven (frontend.Execute message) }
+        requires good { IsGoodState (told self.now).parser (state_of St.statements St.portals client.old) }
+        ensures ok { OnOk result (IsRow
+            (λ answers. when_ready (state_of St.statements St.portals client.old)
+            (on_execute (told self.now) answers (state_of St.statements St.portals client.old) message))
+            client.old.outbox client.new.outbox (D.calls desk.old) (D.calls desk.new)
+            (Done (state_of St.statements St.portals client.new))) }
+        ensures refused { IfErr result (IsRefusedRow
+            (λ answers. when_ready (state_of St.statements St.portals client.old)
+            (on_execute (told self.now) answers (state_of St.statements St.portals client.old) message))
+            client.old.outbox client.new.outbox (D.calls desk.old) (D.calls desk.new)
+            (state_of St.statements St.portals client.new)) }
+        ensures answerable { IfErr result IsAnswerableError }
+        ensures good { IsGoodState (told self.now).parser (state_of St.statements St.portals client.new) }
+        ensures turns { HasSpent turns.old turns.new
+            (questions_since (D.calls desk.old) (D.calls desk.new)) result }
+        ensures bounded { turns.old.spent ≤ turns.old.limit → turns.new.spent ≤ turns.new.limit }
+        ensures same { D.registration desk.new ≡ D.registration desk.old }
+        ensures origin { D.origin desk.new ≡ D.origin desk.old }
+    {
+        match client.info.state {
+            PgWireConnectionState::ReadyForQuery => {
+                self._on_execute(alloc, client, desk, turns, message)
+            }
+            _ => Err(SessionError::Wire(PgWireError::NotReadyForQuery)),
+        }
+    }
+
+    /// Execute, whatever the client awaits. PortalNotFound comes exactly where no portal has this name. An empty portal
+    /// gives EmptyQueryResponse. A portal that isn't started calls the desk's `start` and is then polled: each poll that
+    /// finds it unready spends a turn and is followed by one question; yes is QueryCanceled, and no turn left is
+    /// TurnLimit, and both leave it unstarted. Rows start it; every other response leaves it as it is. A started portal
+    /// gives its next page: DataRows, then PortalSuspended or CommandComplete.
+    fn _on_execute<St: PortalStore<Statement = Self::Statement, Rows = Self::Rows>, D: CancelDesk>(
+        &self,
+        alloc: Global,
+        client: &mut Client<St>,
+        desk: &mut D,
+        turns: &mut Turns,
+        message: Execute,
+    ) -> Result<(), SessionError>
+        requires given { IsGiven (frontend.Execute message) }
+        requires good { IsGoodState (told self.now).parser (state_of St.statements St.portals client.old) }
+        ensures ok { OnOk result (IsRow
+            (λ answers. on_execute (told self.now) answers (state_of St.statements St.portals client.old) message)
+            client.old.outbox client.new.outbox (D.calls desk.old) (D.calls desk.new)
+            (Done (state_of St.statements St.portals client.new))) }
+        ensures refused { IfErr result (IsRefusedRow
+            (λ answers. on_execute (told self.now) answers (state_of St.statements St.portals client.old) message)
+            client.old.outbox client.new.outbox (D.calls desk.old) (D.calls desk.new)
+            (state_of St.statements St.portals client.new)) }
+        ensures answerable { IfErr result IsAnswerableError }
+        ensures good { IsGoodState (told self.now).parser (state_of St.statements St.portals client.new) }
+        ensures turns { HasSpent turns.old turns.new
+            (questions_since (D.calls desk.old) (D.calls desk.new)) result }
+        ensures bounded { turns.old.spent ≤ turns.old.limit → turns.new.spent ≤ turns.new.limit }
+        ensures same { D.registration desk.new ≡ D.registration desk.old }
+        ensures origin { D.origin desk.new ≡ D.origin desk.old }
+    {
+        let Some(portal) = client.store.portal_mut(message.name.as_str()) else {
+            return Ok(execute_no_portal(client, message.name)?);
+        };
+        if !is_unstarted(&portal.state) {
+            return Ok(send_page(alloc, &mut client.outbox, portal, message.max_rows)?);
+        }
+        desk.start()?;
+        let mut query = self.do_query(alloc, &client.info, portal, message.max_rows)?;
+        let outbox = &mut client.outbox;
+        let limit = message.max_rows;
+        match run_portal(alloc, outbox, portal, &mut query, desk, turns, limit)? {
+            Some(response) => Ok(respond(alloc, client, response)?),
+            None => Ok(()),
+        }
+    }
+
+    /// Describe of a statement (`S`) or a portal (`P`): what describes it. StatementNotFound and PortalNotFound come
+    /// exactly where none has this name, InvalidTargetType for any other byte.
+    fn on_describe<St: PortalStore<Statement = Self::Statement, Rows = Self::Rows>>(
+        &self,
+        alloc: Global,
+        client: &mut Client<St>,
+        message: Describe,
+    ) -> Result<(), PgWireError>
+        requires given { IsGiven (frontend.Describe message) }
+        requires good { IsGoodState (told self.now).parser (state_of St.statements St.portals client.old) }
+        ensures ok { OnOk result (IsEffect
+            (on_describe (told self.now) (state_of St.statements St.portals client.old) message)
+            client.old.outbox client.new.outbox (Done (state_of St.statements St.portals client.new))) }
+        ensures refused { IfErr result (IsRefusedEffect
+            (on_describe (told self.now) (state_of St.statements St.portals client.old) message)
+            client.old.outbox client.new.outbox (state_of St.statements St.portals client.new)) }
+        ensures answerable { IfErr result IsAnswerable }
+        ensures good { IsGoodState (told self.now).parser (state_of St.statements St.portals client.new) }
+    {
+        self._on_describe(alloc, client, message)
+    }
+
+    /// Describe, as `on_describe`.
+    fn _on_describe<St: PortalStore<Statement = Self::Statement, Rows = Self::Rows>>(
+        &self,
+        alloc: Global,
+        client: &mut Client<St>,
+        message: Describe,
+    ) -> Result<(), PgWireError>
+        requires given { IsGiven (frontend.Describe message) }
+        requires good { IsGoodState (told self.now).parser (state_of St.statements St.portals client.old) }
+        ensures ok { OnOk result (IsEffect
+            (on_describe (told self.now) (state_of St.statements St.portals client.old) message)
+            client.old.outbox client.new.outbox (Done (state_of St.statements St.portals client.new))) }
+        ensures refused { IfErr result (IsRefusedEffect
+            (on_describe (told self.now) (state_of St.statements St.portals client.old) message)
+            client.old.outbox client.new.outbox (state_of St.statements St.portals client.new)) }
+        ensures answerable { IfErr result IsAnswerable }
+        ensures good { IsGoodState (told self.now).parser (state_of St.statements St.portals client.new) }
+    {
+        match message.target_type {
+            TARGET_TYPE_BYTE_STATEMENT => match client.store.get_statement(message.name.as_str()) {
+                Some(Entry::Value(statement)) => {
+                    let told = self.do_describe_statement(alloc, &client.info, &*statement)?;
+                    Ok(send_describe_response(alloc, &mut client.outbox, &told)?)
+                }
+                Some(Entry::Empty) => {
+                    let told = DescribeStatementResponse::no_data(alloc);
+                    Ok(send_describe_response(alloc, &mut client.outbox, &told)?)
+                }
+                None => Err(missing_statement(message.name)),
+            },
+            TARGET_TYPE_BYTE_PORTAL => match client.store.get_portal(message.name.as_str()) {
+                Some(Entry::Value(portal)) => {
+                    let told = self.do_describe_portal(alloc, &client.info, portal)?;
+                    Ok(send_describe_response(alloc, &mut client.outbox, &told)?)
+                }
+                Some(Entry::Empty) => {
+                    let told = DescribePortalResponse::no_data(alloc);
+                    Ok(send_describe_response(alloc, &mut client.outbox, &told)?)
+                }
+                None => Err(missing_portal(message.name)),
+            },
+            byte => Err(PgWireError::InvalidTargetType(byte)),
+        }
+    }
+
+    /// Flush: nothing. What waits is sent at the end of each `feed`.
+    fn on_flush<St: PortalStore<Statement = Self::Statement, Rows = Self::Rows>>(
+        &self,
+        client: &mut Client<St>,
+        message: Flush,
+    ) -> Result<(), PgWireError>
+        requires given { IsGiven (frontend.Flush message) }
+        requires good { IsGoodState (told self.now).parser (state_of St.statements St.portals client.old) }
+        ensures ok { OnOk result (client.new ≡ client.old) }
+        ensures refused { IfErr result (λ e. e ≡ PgWireError.NoMemory) }
+        ensures good { IsGoodState (told self.now).parser (state_of St.statements St.portals client.new) }
+    {
+        let _ = message;
+        let _ = client;
+        Ok(())
+    }
+
+    /// Sync: the unnamed portal is removed, ReadyForQuery is appended, and the client awaits a query.
+    fn on_sync<St: PortalStore<Statement = Self::Statement, Rows = Self::Rows>>(
+        &self,
+        client: &mut Client<St>,
+        message: PgSync,
+    ) -> Result<(), PgWireError>
+        requires given { IsGiven (frontend.PgSync message) }
+        requires good { IsGoodState (told self.now).parser (state_of St.statements St.portals client.old) }
+        ensures ok { OnOk result (IsEffect
+            (on_sync (state_of St.statements St.portals client.old))
+            client.old.outbox client.new.outbox (Done (state_of St.statements St.portals client.new))) }
+        ensures refused { IfErr result (IsRefusedEffect
+            (on_sync (state_of St.statements St.portals client.old))
+            client.old.outbox client.new.outbox (state_of St.statements St.portals client.new)) }
+        ensures answerable { IfErr result IsAnswerable }
+        ensures good { IsGoodState (told self.now).parser (state_of St.statements St.portals client.new) }
+    {
+        let _ = message;
+        send_ready_for_query(&mut client.outbox, client.info.status)?;
+        client.store.rm_portal("");
+        client.info.state = PgWireConnectionState::ReadyForQuery;
+        Ok(())
+    }
+
+    /// Close: removes the statement (`S`) or the portal (`P`) of this name, where there is one, and appends
+    /// CloseComplete. Portals of a removed statement stay.
+    fn on_close<St: PortalStore<Statement = Self::Statement, Rows = Self::Rows>>(
+        &self,
+        client: &mut Client<St>,
+        message: Close,
+    ) -> Result<(), PgWireError>
+        requires given { IsGiven (frontend.Close message) }
+        requires good { IsGoodState (told self.now).parser (state_of St.statements St.portals client.old) }
+        ensures ok { OnOk result (IsEffect
+            (on_close (state_of St.statements St.portals client.old) message)
+            client.old.outbox client.new.outbox (Done (state_of St.statements St.portals client.new))) }
+        ensures refused { IfErr result (IsRefusedEffect
+            (on_close (state_of St.statements St.portals client.old) message)
+            client.old.outbox client.new.outbox (state_of St.statements St.portals client.new)) }
+        ensures answerable { IfErr result IsAnswerable }
+        ensures good { IsGoodState (told self.now).parser (state_of St.statements St.portals client.new) }
+    {
+        close(&mut client.store, message);
+        client
+            .outbox
+            .push(&PgWireBackendMessage::CloseComplete(CloseComplete {}))?;
+        Ok(())
+    }
+}

@@ -1,0 +1,72 @@
+//! Queries: how they are polled, and what is sent of what they answer.
+
+ghost use Rattle.std.specs.Prelude.{◌≡◌, ◌≤◌, false, IfErr, OnErr, List};
+ghost use Rattle.pg_handlers.specs.Handlers.{QueryTold, IsPolled};
+ghost use Rattle.pg_handlers.specs.Questions.{Verdict, IsAsked, IsVerdict, HasSpent, questions_since};
+
+use crate::desk::CancelDesk;
+use crate::ends::{SessionError, Turns};
+use pg_portal::PgWireError;
+use std::alloc::AllocError;
+
+pub mod extended;
+mod respond;
+mod run;
+pub mod send;
+pub mod simple;
+mod statements;
+
+/// What a poll answers.
+#[derive(Drop)]
+pub enum Turn<T> {
+    /// The query isn't ready yet.
+    Unready,
+    /// What the query gives.
+    Ready(T),
+}
+
+/// A query that was begun, and is asked again and again until it is ready.
+pub trait QueryState: Drop {
+    /// What it gives.
+    type Out: Drop;
+
+    // whether its outcome was given; until then how many polls it owes, and its outcome
+    ghost told: { Self → QueryTold Self.Out };
+
+    /// Unready exactly where a poll is owed, of which there is then one less. Else what the query gives, after which it
+    /// isn't asked again. After an error nothing has changed.
+    fn poll(&mut self) -> Result<Turn<Self::Out>, AllocError>
+        requires { (told self.old).is_spent ≡ false }
+        ensures { IsPolled (told self.old) result (told self.new) };
+}
+
+/// Waits for a query: each poll that finds it unready spends a turn, and the desk is then asked whether the query was
+/// canceled. Where it was, the error is QueryCanceled. TurnLimit comes where no turn is left and one more was met.
+pub(crate) fn wait<Q: QueryState, D: CancelDesk>(
+    query: &mut Q,
+    desk: &mut D,
+    turns: &mut Turns,
+) -> Result<Q::Out, SessionError>
+    requires { (Q.told query.old).is_spent ≡ false }
+    ensures asked { (verdict : Verdict)
+        × IsAsked (Q.told query.old).owes (D.calls desk.old) (D.calls desk.new) verdict
+        × IsVerdict (Q.told query.old).outcome verdict result }
+    ensures turns { HasSpent turns.old turns.new
+        (questions_since (D.calls desk.old) (D.calls desk.new)) result }
+    ensures bounded { turns.old.spent ≤ turns.old.limit → turns.new.spent ≤ turns.new.limit }
+    ensures same { D.registration desk.new ≡ D.registration desk.old }
+    ensures origin { D.origin desk.new ≡ D.origin desk.old }
+{
+    loop {
+        match query.poll()? {
+            Turn::Ready(out) => return Ok(out),
+            Turn::Unready => {}
+        }
+        if !turns.spend() {
+            return Err(SessionError::TurnLimit);
+        }
+        if desk.ask()? {
+            return Err(SessionError::Wire(PgWireError::QueryCanceled));
+        }
+    }
+}

@@ -1,0 +1,250 @@
+//! What responses send, in an Execute and in a Query alike.
+
+ghost use Rattle.std.specs.Prelude.{◌≡◌, ◌⊎◌, ◌++◌, ◌∷◌, [], None, Some, false, List, map, length, IfOk, IfErr, OnOk, OnErr, codes};
+ghost use Rattle.std.specs.List.{AllByRecursion};
+ghost use Rattle.pg_messages.specs.Replies.{replies_bytes, IsEncodable};
+ghost use Rattle.pg_messages.specs.declared.backend.PgWireBackendMessage.TheVariants as server;
+ghost use Rattle.pg_handlers.specs.Replies.{error_reply};
+ghost use Rattle.pg_portal.specs.Fetching.{with_items};
+ghost use Rattle.pg_portal.specs.Page.{item_page, PageEnd, AtLimit, AtEnd, AtError};
+ghost use Rattle.pg_portal.specs.Responses.{told_response, told_responses};
+ghost use Rattle.pg_portal.specs.Rows.{IsAnswerable};
+ghost use Rattle.pg_portal.specs.Told.{Stage, stage_of, bound_of, portal_of, told_rows};
+ghost use Rattle.pg_portal.specs.declared.error.PgWireError.{PgWireError};
+ghost use Rattle.pg_handlers.specs.Effect.{IsEffect, IsRefusedEffect, Done};
+ghost use Rattle.pg_handlers.specs.ExecuteRow.{executed_without_rows, executed_other};
+ghost use Rattle.pg_handlers.specs.Executing.{IsPageOf, OnlyLosesUnnamed, page_result, has_rows, is_unstarted};
+ghost use Rattle.pg_handlers.specs.Good.{IsSendableResponse, HasGoodTag};
+ghost use Rattle.pg_handlers.specs.ResponseRows.{responded};
+ghost use Rattle.pg_handlers.specs.SimpleRows.{responded_all};
+ghost use Rattle.pg_handlers.specs.Sending.{IsAllSent, behind};
+ghost use Rattle.pg_handlers.specs.State.{state_of};
+
+use crate::client::Client;
+use crate::outbox::Outbox;
+use crate::query::send::{
+    send_copy_both_response, send_copy_in_response, send_copy_out_response, send_done,
+    send_execution_response, send_partial_query_response, send_query_response,
+};
+use pg_messages::{
+    EmptyQueryResponse, ErrorInfo, ErrorResponse, PgList, PgWireBackendMessage, TransactionStatus,
+};
+use pg_portal::{
+    CopySource, PgWireConnectionState, PgWireError, Portal, PortalExecutionState, PortalStore,
+    Response, RowSource,
+};
+use std::alloc::{AllocError, Global};
+
+/// What a response left: the transaction status behind it, and whether a COPY of the client has begun.
+#[derive(Clone, Copy)]
+pub(crate) struct Behind {
+    pub status: TransactionStatus,
+    pub copying: bool,
+}
+
+impl Behind {
+    /// No COPY has begun.
+    fn at(status: TransactionStatus) -> Behind
+        ensures { result ≡ record { status = status; copying = false } }
+    {
+        Behind {
+            status,
+            copying: false,
+        }
+    }
+}
+
+/// Appends EmptyQueryResponse.
+pub(crate) fn send_empty_query_response(outbox: &mut Outbox) -> Result<(), AllocError>
+    ensures ok { OnOk result (outbox.new ≡ outbox.old
+        ++ replies_bytes (server.EmptyQueryResponse (record {}) ∷ [])) }
+    ensures err { OnErr result (outbox.new ≡ outbox.old) }
+{
+    outbox.push(&PgWireBackendMessage::EmptyQueryResponse(EmptyQueryResponse {}))
+}
+
+/// Appends ErrorResponse.
+pub(crate) fn send_error(outbox: &mut Outbox, info: ErrorInfo) -> Result<(), AllocError>
+    requires { IsEncodable (error_reply info) }
+    ensures ok { OnOk result (outbox.new ≡ outbox.old ++ replies_bytes (error_reply info ∷ [])) }
+    ensures err { OnErr result (outbox.new ≡ outbox.old) }
+{
+    outbox.push(&PgWireBackendMessage::ErrorResponse(ErrorResponse { info }))
+}
+
+/// Appends what a response sends where the transaction status is this, and answers what it left. An error in the place
+/// of a row or of data is answered; what stands before it stays in the outbox.
+pub(crate) fn send_response<R: RowSource, C: CopySource>(
+    alloc: Global,
+    outbox: &mut Outbox,
+    status: TransactionStatus,
+    response: Response<R, C>,
+) -> Result<Behind, PgWireError>
+    requires { IsSendableResponse (told_response R.items C.items response) }
+    ensures sent { IsAllSent (responded status (told_response R.items C.items response))
+        outbox.old outbox.new result }
+    ensures left { IfOk result (λ left.
+        left ≡ behind (responded status (told_response R.items C.items response))) }
+    ensures answerable { IfErr result IsAnswerable }
+{
+    match response {
+        Response::EmptyQuery => send_empty_query_response(outbox)?,
+        Response::Query(rows) => send_query_response(alloc, outbox, rows, true)?,
+        Response::Execution(tag) => send_execution_response(alloc, outbox, tag)?,
+        Response::TransactionStart(tag) => {
+            send_execution_response(alloc, outbox, tag)?;
+            return Ok(Behind::at(status.to_in_transaction_state()));
+        }
+        Response::TransactionEnd(tag) => {
+            send_execution_response(alloc, outbox, tag)?;
+            return Ok(Behind::at(status.to_idle_state()));
+        }
+        Response::Error(info) => {
+            send_error(outbox, info)?;
+            return Ok(Behind::at(status.to_error_state()));
+        }
+        Response::CopyIn(copy) => {
+            send_copy_in_response(alloc, outbox, &copy)?;
+            return Ok(Behind {
+                status,
+                copying: true,
+            });
+        }
+        Response::CopyOut(copy) => send_copy_out_response(alloc, outbox, copy)?,
+        Response::CopyBoth(copy) => {
+            send_copy_both_response(alloc, outbox, copy)?;
+            return Ok(Behind {
+                status,
+                copying: true,
+            });
+        }
+    }
+    Ok(Behind::at(status))
+}
+
+/// Appends what several responses send, in their order, up to the first error in the place of a row or of data.
+pub(crate) fn send_responses<R: RowSource, C: CopySource>(
+    alloc: Global,
+    outbox: &mut Outbox,
+    status: TransactionStatus,
+    responses: PgList<Response<R, C>>,
+) -> Result<Behind, PgWireError>
+    requires { AllByRecursion IsSendableResponse (told_responses R.items C.items responses) }
+    ensures sent { IsAllSent (responded_all status (told_responses R.items C.items responses))
+        outbox.old outbox.new result }
+    ensures left { IfOk result (λ left.
+        left ≡ behind (responded_all status (told_responses R.items C.items responses))) }
+    ensures answerable { IfErr result IsAnswerable }
+{
+    let mut left = Behind::at(status);
+    for response in responses.into_vec() {
+        let next = send_response(alloc, outbox, left.status, response)?;
+        left = Behind {
+            status: next.status,
+            copying: left.copying || next.copying,
+        };
+    }
+    Ok(left)
+}
+
+/// Whether a portal isn't started.
+pub(crate) fn is_unstarted<R: RowSource>(state: &PortalExecutionState<R>) -> bool
+    ensures { result ≡ is_unstarted (stage_of R.items state.now) }
+{
+    matches!(state, PortalExecutionState::Initial)
+}
+
+/// Appends the next page of a started portal. The error of an item is answered, and the rows before it are taken back.
+pub(crate) fn send_page<S: Drop, R: RowSource>(
+    alloc: Global,
+    outbox: &mut Outbox,
+    portal: &mut Portal<S, R>,
+    max_rows: i32,
+) -> Result<(), PgWireError>
+    requires tag { HasGoodTag (stage_of R.items portal.old.state) }
+    ensures page { IsPageOf (page_result max_rows (stage_of R.items portal.old.state))
+        (stage_of R.items portal.new.state) outbox.old outbox.new result }
+    ensures answerable { IfErr result IsAnswerable }
+    ensures bound { bound_of portal.new ≡ bound_of portal.old }
+    ensures tag { HasGoodTag (stage_of R.items portal.new.state) }
+{
+    match &mut portal.state {
+        PortalExecutionState::Initial => return Err(PgWireError::PortalNotStarted),
+        PortalExecutionState::Finished => {
+            return Ok(send_done(alloc, outbox, "SELECT", 0)?);
+        }
+        PortalExecutionState::Suspended(response) => {
+            let start = outbox.len();
+            match send_partial_query_response(alloc, outbox, response, max_rows) {
+                Ok(true) => return Ok(()),
+                Ok(false) => {}
+                Err(error) => {
+                    outbox.truncate(start);
+                    return Err(error);
+                }
+            }
+        }
+    }
+    portal.state = PortalExecutionState::Finished;
+    Ok(())
+}
+
+/// Answers an Execute with a response without rows.
+pub(crate) fn respond<St: PortalStore, C: CopySource>(
+    alloc: Global,
+    client: &mut Client<St>,
+    response: Response<St::Rows, C>,
+) -> Result<(), PgWireError>
+    requires sendable { IsSendableResponse (told_response St.Rows.items C.items response) }
+    requires without_rows { has_rows (told_response St.Rows.items C.items response) ≡ false }
+    ensures ok { OnOk result (IsEffect
+        (executed_without_rows (state_of St.statements St.portals client.old)
+        (told_response St.Rows.items C.items response)) client.old.outbox client.new.outbox
+        (Done (state_of St.statements St.portals client.new))) }
+    ensures refused { IfErr result (IsRefusedEffect
+        (executed_without_rows (state_of St.statements St.portals client.old)
+        (told_response St.Rows.items C.items response)) client.old.outbox client.new.outbox
+        (state_of St.statements St.portals client.new)) }
+    ensures answerable { IfErr result IsAnswerable }
+    ensures metadata { client.new.info.metadata ≡ client.old.info.metadata }
+    ensures portals { OnlyLosesUnnamed (St.portals client.old.store) (St.portals client.new.store) }
+    ensures statements { St.statements client.new.store ≡ St.statements client.old.store }
+{
+    match response {
+        Response::Error(info) => Err(PgWireError::UserError(info)),
+        Response::TransactionEnd(tag) => {
+            client.store.rm_portal("");
+            send_execution_response(alloc, &mut client.outbox, tag)?;
+            client.info.status = client.info.status.to_idle_state();
+            Ok(())
+        }
+        other => respond_otherwise(alloc, client, other),
+    }
+}
+
+/// Answers an Execute with a response that has no rows, is no error and ends no transaction.
+fn respond_otherwise<St: PortalStore, C: CopySource>(
+    alloc: Global,
+    client: &mut Client<St>,
+    response: Response<St::Rows, C>,
+) -> Result<(), PgWireError>
+    requires sendable { IsSendableResponse (told_response St.Rows.items C.items response) }
+    ensures ok { OnOk result (IsEffect
+        (executed_other (state_of St.statements St.portals client.old)
+        (told_response St.Rows.items C.items response)) client.old.outbox client.new.outbox
+        (Done (state_of St.statements St.portals client.new))) }
+    ensures refused { IfErr result (IsRefusedEffect
+        (executed_other (state_of St.statements St.portals client.old)
+        (told_response St.Rows.items C.items response)) client.old.outbox client.new.outbox
+        (state_of St.statements St.portals client.new)) }
+    ensures answerable { IfErr result IsAnswerable }
+    ensures metadata { client.new.info.metadata ≡ client.old.info.metadata }
+    ensures store { client.new.store ≡ client.old.store }
+{
+    let left = send_response(alloc, &mut client.outbox, client.info.status, response)?;
+    client.info.status = left.status;
+    if left.copying {
+        client.info.state = PgWireConnectionState::CopyInProgress(true);
+    }
+    Ok(())
+}

@@ -1,0 +1,400 @@
+//! Replies to queries, appended to the outbox.
+
+ghost use Rattle.std.specs.Prelude.{◌≡◌, ◌≤◌, ◌+◌, ◌++◌, ◌⊎◌, [], ◌∷◌, Some, None, true, false, length, map, take, Bool, codes, IfOk, IfErr, IfSome, OnOk, OnErr};
+ghost use Rattle.pg_messages.specs.Replies.{IsEncodable, replies_bytes, reply_bytes};
+ghost use Rattle.std.specs.Arc.{arc_value};
+ghost use Rattle.pg_messages.specs.declared.response.TransactionStatus.{TransactionStatus};
+ghost use Rattle.pg_text.specs.Types.{oid_of};
+ghost use Rattle.pg_messages.specs.declared.backend.PgWireBackendMessage.TheVariants as server;
+ghost use Rattle.pg_portal.specs.Fields.{description_of};
+ghost use Rattle.pg_portal.specs.Responses.{told_copy};
+ghost use Rattle.pg_portal.specs.Copying.{IsNextCopy, IsSendableCopy};
+ghost use Rattle.pg_portal.specs.Rows.{IsAnswerable};
+ghost use Rattle.pg_portal.specs.Page.{item_page, before_error};
+ghost use Rattle.pg_portal.specs.Tags.{tag_text};
+ghost use Rattle.pg_portal.specs.Told.{told_rows};
+ghost use Rattle.pg_portal.specs.declared.error.PgWireError.{PgWireError};
+ghost use Rattle.pg_handlers.specs.Good.{IsTag};
+ghost use Rattle.pg_handlers.specs.Replies.{ready, done, done_with, row_description, parameter_description};
+ghost use Rattle.pg_handlers.specs.ExtendedRows.{description};
+ghost use Rattle.pg_handlers.specs.ExecuteRow.{page_replies};
+ghost use Rattle.pg_handlers.specs.ResponseRows.{sent_rows_behind, rows_front, sent_copy, copy_in_reply, copy_out_reply, copy_both_reply, copy_items, copy_count, copy_replies, copy_end, not_empty};
+ghost use Rattle.pg_handlers.specs.Sending.{IsSentPage, IsMetError, IsSentData, IsRefusedData, IsAllSent};
+
+use crate::outbox::Outbox;
+use pg_messages::{
+    CommandComplete, CopyBothResponse, CopyData, CopyDone, CopyInResponse, CopyOutResponse,
+    DataRow, FieldDescription, NoData, ParameterDescription, PgList, PgStr, PgWireBackendMessage,
+    PortalSuspended, ReadyForQuery, RowDescription, TransactionStatus,
+};
+use pg_portal::{
+    CopyResponse, CopySource, DescribeResponse, FieldInfo, PgWireError, QueryResponse, RowSource,
+    Tag, finish_copy_binary, is_reached,
+};
+use pg_text::PgType;
+use std::alloc::{AllocError, Global};
+
+/// Appends ReadyForQuery with a transaction status. After an error the outbox is as it was.
+pub fn send_ready_for_query(
+    outbox: &mut Outbox,
+    transaction_status: TransactionStatus,
+) -> Result<(), AllocError>
+    ensures ok { OnOk result
+        (outbox.new ≡ outbox.old ++ replies_bytes (ready transaction_status ∷ [])) }
+    ensures err { OnErr result (outbox.new ≡ outbox.old) }
+{
+    outbox.push(&PgWireBackendMessage::ReadyForQuery(ReadyForQuery {
+        status: transaction_status,
+    }))
+}
+
+/// Appends CommandComplete with the tag's text. After an error the outbox is as it was.
+pub fn send_execution_response(
+    alloc: Global,
+    outbox: &mut Outbox,
+    tag: Tag,
+) -> Result<(), AllocError>
+    requires { IsEncodable (done (tag_text tag)) }
+    ensures ok { OnOk result
+        (outbox.new ≡ outbox.old ++ replies_bytes (done (tag_text tag) ∷ [])) }
+    ensures err { OnErr result (outbox.new ≡ outbox.old) }
+{
+    let complete = tag.into_command_complete(alloc)?;
+    outbox.push(&PgWireBackendMessage::CommandComplete(complete))
+}
+
+/// Appends CommandComplete of a command with so many rows.
+pub(crate) fn send_done(
+    alloc: Global,
+    outbox: &mut Outbox,
+    command: &str,
+    rows: usize,
+) -> Result<(), AllocError>
+    requires { IsTag command.now }
+    ensures ok { OnOk result
+        (outbox.new ≡ outbox.old ++ replies_bytes (done_with command.now rows ∷ [])) }
+    ensures err { OnErr result (outbox.new ≡ outbox.old) }
+{
+    let tag = Tag::new(alloc, command)?.with_rows(rows);
+    send_execution_response(alloc, outbox, tag)
+}
+
+/// The descriptions of columns.
+fn descriptions(alloc: Global, fields: &[FieldInfo]) -> Result<PgList<FieldDescription>, AllocError>
+    ensures { IfOk result (λ told. told ≡ map description_of fields.now) }
+{
+    let mut told = PgList::new(alloc);
+    for field in fields {
+        told.push(field.to_description(alloc)?)?;
+    }
+    Ok(told)
+}
+
+/// Appends RowDescription.
+fn send_row_description(
+    alloc: Global,
+    outbox: &mut Outbox,
+    fields: &[FieldInfo],
+) -> Result<(), AllocError>
+    requires { IsEncodable (row_description fields.now) }
+    ensures ok { OnOk result
+        (outbox.new ≡ outbox.old ++ replies_bytes (row_description fields.now ∷ [])) }
+    ensures err { OnErr result (outbox.new ≡ outbox.old) }
+{
+    let fields = descriptions(alloc, fields)?;
+    outbox.push(&PgWireBackendMessage::RowDescription(RowDescription { fields }))
+}
+
+/// The numbers of types.
+fn oids(alloc: Global, types: &[PgType]) -> Result<PgList<u32>, AllocError>
+    ensures { IfOk result (λ told. told ≡ map oid_of types.now) }
+{
+    let mut told = PgList::new(alloc);
+    for ty in types {
+        told.push(ty.oid())?;
+    }
+    Ok(told)
+}
+
+/// Appends ParameterDescription.
+fn send_parameter_description(
+    alloc: Global,
+    outbox: &mut Outbox,
+    types: &[PgType],
+) -> Result<(), AllocError>
+    requires { IsEncodable (parameter_description types.now) }
+    ensures ok { OnOk result
+        (outbox.new ≡ outbox.old ++ replies_bytes (parameter_description types.now ∷ [])) }
+    ensures err { OnErr result (outbox.new ≡ outbox.old) }
+{
+    let types = oids(alloc, types)?;
+    outbox.push(&PgWireBackendMessage::ParameterDescription(ParameterDescription { types }))
+}
+
+/// Appends what describes a statement or a portal: of a statement ParameterDescription, and then RowDescription, or
+/// NoData where there is nothing to describe.
+pub fn send_describe_response<DR: DescribeResponse>(
+    alloc: Global,
+    outbox: &mut Outbox,
+    describe_response: &DR,
+) -> Result<(), AllocError>
+    requires parameters { IfSome (DR.told describe_response.now).parameters
+        (λ types. IsEncodable (parameter_description types)) }
+    requires fields { IsEncodable (row_description (DR.told describe_response.now).fields) }
+    ensures { OnOk result (outbox.new
+        ≡ outbox.old ++ replies_bytes (description (DR.told describe_response.now))) }
+{
+    if let Some(types) = describe_response.parameters() {
+        send_parameter_description(alloc, outbox, types)?;
+    }
+    if describe_response.is_no_data() {
+        return outbox.push(&PgWireBackendMessage::NoData(NoData {}));
+    }
+    send_row_description(alloc, outbox, describe_response.fields())
+}
+
+/// Appends a row, and counts it.
+#[inline(always)]
+fn push_row(outbox: &mut Outbox, row: DataRow, rows: usize) -> Result<usize, AllocError>
+    requires encodable { IsEncodable (server.DataRow row) }
+    requires fewer { rows ≤ length outbox.old }
+    ensures pushed { OnOk result
+        (outbox.new ≡ outbox.old ++ reply_bytes (server.DataRow row)) }
+    ensures err { OnErr result (outbox.new ≡ outbox.old) }
+    ensures counted { IfOk result (λ count. count ≡ rows + 1) }
+    ensures fewer { IfOk result (λ count. count ≤ length outbox.new) }
+{
+    outbox.push(&PgWireBackendMessage::DataRow(row))?;
+    let _waiting = outbox.len();
+    Ok(rows + 1)
+}
+
+/// Appends a page of rows: at most so many DataRows, and below 1 all of them; then PortalSuspended where the limit was
+/// reached, which is answered by true, or else CommandComplete with the tag and the number of these rows. The error of
+/// an item is answered and the item consumed; the rows before it stay in the outbox.
+pub fn send_partial_query_response<R: RowSource>(
+    alloc: Global,
+    outbox: &mut Outbox,
+    results: &mut QueryResponse<R>,
+    max_rows: i32,
+) -> Result<bool, PgWireError>
+    requires { IsTag results.old.command_tag }
+    ensures page { IfOk result (λ suspended. IsSentPage (told_rows R.items results.old)
+        (item_page max_rows (R.items results.old.data_rows)).ending
+        suspended (told_rows R.items results.new)) }
+    ensures replied { OnOk result (outbox.new ≡ outbox.old ++ replies_bytes
+        (page_replies results.old.command_tag
+        (item_page max_rows (R.items results.old.data_rows)).rows
+        (item_page max_rows (R.items results.old.data_rows)).ending)) }
+    ensures refused { IfErr result (λ e. (e ≡ PgWireError.NoMemory)
+        ⊎ IsMetError (told_rows R.items results.old)
+        (item_page max_rows (R.items results.old.data_rows)).ending
+        e (told_rows R.items results.new) outbox.old outbox.new) }
+    ensures answerable { IfErr result IsAnswerable }
+    ensures tag { results.new.command_tag ≡ results.old.command_tag }
+    ensures fields { arc_value results.new.row_schema ≡ arc_value results.old.row_schema }
+    ensures begins { length outbox.old ≤ length outbox.new }
+    ensures kept { take (length outbox.old) outbox.new ≡ outbox.old }
+{
+    let mut rows = 0;
+    while !is_reached(max_rows, rows) {
+        match results.data_rows.next()? {
+            None => {
+                send_done(alloc, outbox, results.command_tag.as_str(), rows)?;
+                return Ok(false);
+            }
+            Some(Err(error)) => return Err(error),
+            Some(Ok(row)) => rows = push_row(outbox, row, rows)?,
+        }
+    }
+    outbox.push(&PgWireBackendMessage::PortalSuspended(PortalSuspended {}))?;
+    Ok(true)
+}
+
+/// Appends all rows of a query: RowDescription where it is wanted, a DataRow for each row, CommandComplete with the tag
+/// and their number. The error of an item is answered, and the rows before it stay in the outbox.
+pub fn send_query_response<R: RowSource>(
+    alloc: Global,
+    outbox: &mut Outbox,
+    results: QueryResponse<R>,
+    send_describe: bool,
+) -> Result<(), PgWireError>
+    requires fields { IsEncodable (row_description (arc_value results.row_schema)) }
+    requires tag { IsTag results.command_tag }
+    ensures sent { (now : TransactionStatus) → IsAllSent
+        (sent_rows_behind (rows_front send_describe (told_rows R.items results)) now
+        (told_rows R.items results)) outbox.old outbox.new result }
+    ensures answerable { IfErr result IsAnswerable }
+{
+    let mut results = results;
+    if send_describe {
+        send_row_description(alloc, outbox, results.row_schema.as_slice())?;
+    }
+    send_partial_query_response(alloc, outbox, &mut results, 0)?;
+    Ok(())
+}
+
+/// The next data of a COPY, and the trailer of binary data behind them. After an error all are still to come.
+fn next_data<C: CopySource>(
+    alloc: Global,
+    resp: &mut CopyResponse<C>,
+) -> Result<Option<Result<CopyData, PgWireError>>, AllocError>
+    ensures next { IsNextCopy (copy_items (told_copy C.items resp.old)) result
+        (copy_items (told_copy C.items resp.new)) }
+    ensures sendable { IfOk result (λ found. IfSome found IsSendableCopy) }
+    ensures format { resp.new.format ≡ resp.old.format }
+    ensures columns { resp.new.columns ≡ resp.old.columns }
+{
+    let next = resp.data_stream.next()?;
+    if next.is_none() && resp.trailer_left {
+        let trailer = finish_copy_binary(alloc)?;
+        resp.trailer_left = false;
+        return Ok(Some(Ok(trailer)));
+    }
+    Ok(next)
+}
+
+/// Appends data of a COPY and counts them: empty data are skipped, and the trailer isn't counted.
+fn push_data(outbox: &mut Outbox, copied: CopyData, count: usize) -> Result<usize, AllocError>
+    requires encodable { IsEncodable (server.CopyData copied) }
+    requires fewer { count ≤ length outbox.old }
+    ensures pushed { OnOk result
+        (outbox.new ≡ outbox.old ++ replies_bytes (copy_replies (not_empty (copied ∷ [])))) }
+    ensures counted { IfOk result (λ all. all ≡ count + copy_count (not_empty (copied ∷ []))) }
+    ensures fewer { IfOk result (λ all. all ≤ length outbox.new) }
+{
+    let bytes = copied.payload.as_slice();
+    if bytes.is_empty() {
+        return Ok(count);
+    }
+    let is_trailer = bytes == [255, 255].as_slice();
+    outbox.push(&PgWireBackendMessage::CopyData(copied))?;
+    let _waiting = outbox.len();
+    if is_trailer {
+        return Ok(count);
+    }
+    Ok(count + 1)
+}
+
+/// Appends the data of a COPY, and answers how many count.
+fn send_copy_data<C: CopySource>(
+    alloc: Global,
+    outbox: &mut Outbox,
+    resp: &mut CopyResponse<C>,
+) -> Result<usize, PgWireError>
+    ensures sent { IfOk result
+        (IsSentData (copy_items (told_copy C.items resp.old)) outbox.old outbox.new) }
+    ensures refused { IfErr result (λ e. (e ≡ PgWireError.NoMemory)
+        ⊎ IsRefusedData (copy_items (told_copy C.items resp.old)) outbox.old outbox.new e) }
+    ensures answerable { IfErr result IsAnswerable }
+{
+    let mut count = 0;
+    loop {
+        match next_data(alloc, resp)? {
+            None => return Ok(count),
+            Some(Err(error)) => return Err(error),
+            Some(Ok(copied)) => count = push_data(outbox, copied, count)?,
+        }
+    }
+}
+
+/// Appends the end of a COPY: CopyDone, and CommandComplete with the number of data.
+fn send_copy_end(alloc: Global, outbox: &mut Outbox, count: usize) -> Result<(), AllocError>
+    ensures { OnOk result (outbox.new ≡ outbox.old ++ replies_bytes (copy_end count)) }
+{
+    outbox.push(&PgWireBackendMessage::CopyDone(CopyDone {}))?;
+    send_done(alloc, outbox, "COPY", count)
+}
+
+/// Appends CopyInResponse. After an error the outbox is as it was.
+pub fn send_copy_in_response<C: CopySource>(
+    alloc: Global,
+    outbox: &mut Outbox,
+    resp: &CopyResponse<C>,
+) -> Result<(), AllocError>
+    requires { resp.now.columns ≤ 32767 }
+    ensures ok { OnOk result (outbox.new
+        ≡ outbox.old ++ replies_bytes (copy_in_reply (told_copy C.items resp.now) ∷ [])) }
+    ensures err { OnErr result (outbox.new ≡ outbox.old) }
+{
+    let head = CopyInResponse {
+        format: resp.format,
+        columns: resp.columns as i16,
+        column_formats: resp.column_formats(alloc)?,
+    };
+    outbox.push(&PgWireBackendMessage::CopyInResponse(head))
+}
+
+/// Appends CopyOutResponse.
+fn send_copy_out_head<C: CopySource>(
+    alloc: Global,
+    outbox: &mut Outbox,
+    resp: &CopyResponse<C>,
+) -> Result<(), AllocError>
+    requires { resp.now.columns ≤ 32767 }
+    ensures { OnOk result (outbox.new
+        ≡ outbox.old ++ replies_bytes (copy_out_reply (told_copy C.items resp.now) ∷ [])) }
+{
+    let head = CopyOutResponse {
+        format: resp.format,
+        columns: resp.columns as i16,
+        column_formats: resp.column_formats(alloc)?,
+    };
+    outbox.push(&PgWireBackendMessage::CopyOutResponse(head))
+}
+
+/// Appends CopyBothResponse.
+fn send_copy_both_head<C: CopySource>(
+    alloc: Global,
+    outbox: &mut Outbox,
+    resp: &CopyResponse<C>,
+) -> Result<(), AllocError>
+    requires { resp.now.columns ≤ 32767 }
+    ensures { OnOk result (outbox.new
+        ≡ outbox.old ++ replies_bytes (copy_both_reply (told_copy C.items resp.now) ∷ [])) }
+{
+    let head = CopyBothResponse {
+        format: resp.format,
+        columns: resp.columns as i16,
+        column_formats: resp.column_formats(alloc)?,
+    };
+    outbox.push(&PgWireBackendMessage::CopyBothResponse(head))
+}
+
+/// Appends a COPY to the client: CopyOutResponse, CopyData for each data that isn't empty, CopyDone, and CommandComplete
+/// `COPY n` for n data without the trailer. The error of an item is answered, and what stands before it stays in the
+/// outbox.
+pub fn send_copy_out_response<C: CopySource>(
+    alloc: Global,
+    outbox: &mut Outbox,
+    resp: CopyResponse<C>,
+) -> Result<(), PgWireError>
+    requires { resp.columns ≤ 32767 }
+    ensures sent { (now : TransactionStatus) → IsAllSent (sent_copy now false
+        (copy_out_reply (told_copy C.items resp)) (told_copy C.items resp)) outbox.old outbox.new result }
+    ensures answerable { IfErr result IsAnswerable }
+{
+    let mut resp = resp;
+    send_copy_out_head(alloc, outbox, &resp)?;
+    let count = send_copy_data(alloc, outbox, &mut resp)?;
+    send_copy_end(alloc, outbox, count)?;
+    Ok(())
+}
+
+/// Appends a COPY both ways: CopyBothResponse, and then as `send_copy_out_response`.
+pub fn send_copy_both_response<C: CopySource>(
+    alloc: Global,
+    outbox: &mut Outbox,
+    resp: CopyResponse<C>,
+) -> Result<(), PgWireError>
+    requires { resp.columns ≤ 32767 }
+    ensures sent { (now : TransactionStatus) → IsAllSent (sent_copy now true
+        (copy_both_reply (told_copy C.items resp)) (told_copy C.items resp)) outbox.old outbox.new result }
+    ensures answerable { IfErr result IsAnswerable }
+{
+    let mut resp = resp;
+    send_copy_both_head(alloc, outbox, &resp)?;
+    let count = send_copy_data(alloc, outbox, &mut resp)?;
+    send_copy_end(alloc, outbox, count)?;
+    Ok(())
+}

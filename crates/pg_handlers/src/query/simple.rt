@@ -1,0 +1,167 @@
+//! The simple query (protocol: Message Flow, Simple Query).
+
+ghost use Rattle.std.specs.Prelude.{◌≡◌, ◌≤◌, false, IfOk, IfErr, OnOk};
+ghost use Rattle.pg_messages.specs.declared.frontend.PgWireFrontendMessage.TheVariants as frontend;
+ghost use Rattle.pg_portal.specs.Clients.{HasShortMetadata};
+ghost use Rattle.std.specs.List.{AllByRecursion};
+ghost use Rattle.pg_portal.specs.Responses.{told_responses};
+ghost use Rattle.pg_portal.specs.Rows.{IsAnswerable};
+ghost use Rattle.pg_portal.specs.Texts.{IsShortText};
+ghost use Rattle.pg_handlers.specs.Handlers.{SimpleTold, told_all, told_query};
+ghost use Rattle.pg_handlers.specs.State.{state_of};
+ghost use Rattle.pg_handlers.specs.Effect.{IsEffect, IsRefusedEffect, IsRow, IsRefusedRow, Done, when_ready};
+ghost use Rattle.pg_handlers.specs.SimpleRows.{on_query, answered_all};
+ghost use Rattle.pg_handlers.specs.Good.{IsGiven, AreSendable, IsSendableResponse};
+ghost use Rattle.pg_handlers.specs.Questions.{HasSpent, questions_since};
+ghost use Rattle.pg_handlers.specs.Sending.{IsAnswerableError};
+
+use crate::client::Client;
+use crate::desk::CancelDesk;
+use crate::ends::{SessionError, Turns};
+use crate::query::respond::{send_empty_query_response, send_responses};
+use crate::query::send::send_ready_for_query;
+use crate::query::{QueryState, wait};
+use pg_messages::{PgList, Query};
+use pg_portal::{
+    ClientInfo, CopySource, PgWireConnectionState, PgWireError, PortalStore, Response, RowSource,
+    is_blank,
+};
+use std::alloc::{AllocError, Global};
+
+/// What a server does for simple queries. What it tells of its queries is its own; the `on_` calls have the protocol's
+/// rules as their bodies.
+pub trait SimpleQueryHandler {
+    /// Where the rows of a query come from.
+    type Rows: RowSource;
+
+    /// Where the data of a COPY come from.
+    type CopyRows: CopySource;
+
+    /// A query that was begun.
+    type Query: QueryState<Out = Result<PgList<Response<Self::Rows, Self::CopyRows>>, PgWireError>>;
+
+    // what it tells of a query of a client
+    ghost told: { Self → SimpleTold };
+
+    /// Begins a query that isn't blank. What it gives can be sent as replies.
+    fn do_query(
+        &self,
+        alloc: Global,
+        client: &ClientInfo,
+        query: &str,
+    ) -> Result<Self::Query, AllocError>
+        requires short_metadata { HasShortMetadata client.now }
+        requires short_query { IsShortText query.now }
+        ensures unspent { IfOk result (λ state. (Self.Query.told state).is_spent ≡ false) }
+        ensures told { IfOk result (λ state.
+            told_query (told_all Self.Rows.items Self.CopyRows.items) (Self.Query.told state)
+            ≡ told self.now client.now query.now) }
+        ensures sendable { IfOk result (λ state. AreSendable (told self.now client.now query.now).outcome) };
+
+    /// Query: the row of the table where the client awaits a query, and NotReadyForQuery where it doesn't.
+    fn on_query<St: PortalStore, D: CancelDesk>(
+        &self,
+        alloc: Global,
+        client: &mut Client<St>,
+        desk: &mut D,
+        turns: &mut Turns,
+        query: Query,
+    ) -> Result<(), SessionError>
+        requires given { IsGiven (frontend.Query query) }
+        requires short_metadata { HasShortMetadata client.old.info }
+        ensures ok { OnOk result (IsRow
+            (λ answers. when_ready (state_of St.statements St.portals client.old)
+            (on_query (told self.now) answers (state_of St.statements St.portals client.old) query))
+            client.old.outbox client.new.outbox (D.calls desk.old) (D.calls desk.new)
+            (Done (state_of St.statements St.portals client.new))) }
+        ensures refused { IfErr result (IsRefusedRow
+            (λ answers. when_ready (state_of St.statements St.portals client.old)
+            (on_query (told self.now) answers (state_of St.statements St.portals client.old) query))
+            client.old.outbox client.new.outbox (D.calls desk.old) (D.calls desk.new)
+            (state_of St.statements St.portals client.new)) }
+        ensures answerable { IfErr result IsAnswerableError }
+        ensures store { client.new.store ≡ client.old.store }
+        ensures metadata { client.new.info.metadata ≡ client.old.info.metadata }
+        ensures turns { HasSpent turns.old turns.new
+            (questions_since (D.calls desk.old) (D.calls desk.new)) result }
+        ensures bounded { turns.old.spent ≤ turns.old.limit → turns.new.spent ≤ turns.new.limit }
+        ensures same { D.registration desk.new ≡ D.registration desk.old }
+        ensures origin { D.origin desk.new ≡ D.origin desk.old }
+    {
+        match client.info.state {
+            PgWireConnectionState::ReadyForQuery => {
+                self._on_query(alloc, client, desk, turns, query)
+            }
+            _ => Err(SessionError::Wire(PgWireError::NotReadyForQuery)),
+        }
+    }
+
+    /// Query, whatever the client awaits. A blank text gives EmptyQueryResponse and ReadyForQuery, and asks nothing.
+    /// Any other calls the desk's `start` and is then polled: each poll that finds it unready spends a turn and is
+    /// followed by one question; yes is QueryCanceled, and no turn left is TurnLimit. Then come its responses in their
+    /// order, and ReadyForQuery with the status that they left, unless a COPY has begun.
+    fn _on_query<St: PortalStore, D: CancelDesk>(
+        &self,
+        alloc: Global,
+        client: &mut Client<St>,
+        desk: &mut D,
+        turns: &mut Turns,
+        query: Query,
+    ) -> Result<(), SessionError>
+        requires given { IsGiven (frontend.Query query) }
+        requires short_metadata { HasShortMetadata client.old.info }
+        ensures ok { OnOk result (IsRow
+            (λ answers. on_query (told self.now) answers (state_of St.statements St.portals client.old) query)
+            client.old.outbox client.new.outbox (D.calls desk.old) (D.calls desk.new)
+            (Done (state_of St.statements St.portals client.new))) }
+        ensures refused { IfErr result (IsRefusedRow
+            (λ answers. on_query (told self.now) answers (state_of St.statements St.portals client.old) query)
+            client.old.outbox client.new.outbox (D.calls desk.old) (D.calls desk.new)
+            (state_of St.statements St.portals client.new)) }
+        ensures answerable { IfErr result IsAnswerableError }
+        ensures store { client.new.store ≡ client.old.store }
+        ensures metadata { client.new.info.metadata ≡ client.old.info.metadata }
+        ensures turns { HasSpent turns.old turns.new
+            (questions_since (D.calls desk.old) (D.calls desk.new)) result }
+        ensures bounded { turns.old.spent ≤ turns.old.limit → turns.new.spent ≤ turns.new.limit }
+        ensures same { D.registration desk.new ≡ D.registration desk.old }
+        ensures origin { D.origin desk.new ≡ D.origin desk.old }
+    {
+        if is_blank(query.query.as_str()) {
+            send_empty_query_response(&mut client.outbox)?;
+            send_ready_for_query(&mut client.outbox, client.info.status)?;
+            return Ok(());
+        }
+        desk.start()?;
+        let mut state = self.do_query(alloc, &client.info, query.query.as_str())?;
+        let responses = wait(&mut state, desk, turns)??;
+        Ok(answer_query(alloc, client, responses)?)
+    }
+}
+
+/// Answers a Query with its responses.
+fn answer_query<St: PortalStore, R: RowSource, C: CopySource>(
+    alloc: Global,
+    client: &mut Client<St>,
+    responses: PgList<Response<R, C>>,
+) -> Result<(), PgWireError>
+    requires { AllByRecursion IsSendableResponse (told_responses R.items C.items responses) }
+    ensures ok { OnOk result (IsEffect
+        (answered_all (state_of St.statements St.portals client.old) (told_responses R.items C.items responses))
+        client.old.outbox client.new.outbox (Done (state_of St.statements St.portals client.new))) }
+    ensures refused { IfErr result (IsRefusedEffect
+        (answered_all (state_of St.statements St.portals client.old) (told_responses R.items C.items responses))
+        client.old.outbox client.new.outbox (state_of St.statements St.portals client.new)) }
+    ensures answerable { IfErr result IsAnswerable }
+    ensures store { client.new.store ≡ client.old.store }
+    ensures metadata { client.new.info.metadata ≡ client.old.info.metadata }
+{
+    let left = send_responses(alloc, &mut client.outbox, client.info.status, responses)?;
+    if left.copying {
+        client.info.state = PgWireConnectionState::CopyInProgress(false);
+        return Ok(());
+    }
+    send_ready_for_query(&mut client.outbox, left.status)?;
+    client.info.status = left.status;
+    Ok(())
+}

@@ -1,0 +1,242 @@
+//! What Parse, Bind and Close do to the store.
+
+ghost use Rattle.std.specs.Prelude.{◌≡◌, ◌≤◌, ◌⊎◌, ◌++◌, ◌==◌, length, Some, None, Option, IsTrue, IfOk, IfErr, IfSome, OnOk, OnErr, codes, string_bytes, if◌then◌else◌};
+ghost use Rattle.pg_messages.specs.Replies.{replies_bytes};
+ghost use Rattle.pg_portal.specs.Errors.{error as error_info};
+ghost use Rattle.pg_portal.specs.Told.{ParserTold, value_under};
+ghost use Rattle.pg_handlers.specs.Errors.{values_for_empty, too_few_codes};
+ghost use Rattle.std.specs.Arc.{arc_value};
+ghost use Rattle.std.specs.FinMap as fin;
+ghost use Rattle.pg_messages.specs.declared.frontend.PgWireFrontendMessage.TheVariants as frontend;
+ghost use Rattle.pg_portal.specs.Rows.{IsAnswerable};
+ghost use Rattle.pg_portal.specs.Texts.{IsShortText};
+ghost use Rattle.pg_portal.specs.declared.error.PgWireError.{PgWireError};
+ghost use Rattle.pg_portal.specs.declared.error.PgWireError.TheVariants as wire;
+ghost use Rattle.pg_portal.specs.declared.store.Entry.TheVariants as entry;
+ghost use Rattle.pg_handlers.specs.Effect.{IsEffect, IsRefusedEffect, Done};
+ghost use Rattle.pg_handlers.specs.ExtendedRows.{bind_complete, bound_empty, bound_statement, entry_of, HasEnough, IsTooFew};
+ghost use Rattle.pg_handlers.specs.ExecuteRow.{executed_nothing};
+ghost use Rattle.pg_handlers.specs.Good.{IsGiven, IsGoodStatement, IsGoodState};
+ghost use Rattle.pg_handlers.specs.State.{state_of};
+
+use crate::client::Client;
+use crate::query::respond::send_empty_query_response;
+use pg_messages::{
+    Bind, BindComplete, Close, ErrorInfo, PgStr, PgWireBackendMessage, TARGET_TYPE_BYTE_PORTAL,
+    TARGET_TYPE_BYTE_STATEMENT,
+};
+use pg_portal::{Entry, PgWireError, Portal, PortalStore, QueryParser, StoredStatement};
+use std::alloc::{AllocError, Global};
+use std::sync::Arc;
+
+/// No statement has this name.
+pub(crate) fn missing_statement(name: PgStr) -> PgWireError
+    requires { IsShortText name }
+    ensures error { result ≡ wire.StatementNotFound name }
+    ensures answerable { IsAnswerable result }
+{
+    PgWireError::StatementNotFound(name)
+}
+
+/// No portal has this name.
+pub(crate) fn missing_portal(name: PgStr) -> PgWireError
+    requires { IsShortText name }
+    ensures error { result ≡ wire.PortalNotFound name }
+    ensures answerable { IsAnswerable result }
+{
+    PgWireError::PortalNotFound(name)
+}
+
+/// Stores what a parser found under a name: a statement of this name, or an empty one.
+pub(crate) fn store_statement<St: PortalStore>(
+    alloc: Global,
+    store: &mut St,
+    name: &str,
+    found: Option<StoredStatement<St::Statement>>,
+) -> Result<(), AllocError>
+    requires { IfSome found (λ statement. statement.id ≡ name.now) }
+    ensures ok { OnOk result (St.statements store.new
+        ≡ fin.insert (St.statements store.old) name.now (entry_of found)) }
+    ensures err { OnErr result (St.statements store.new ≡ St.statements store.old) }
+    ensures portals { St.portals store.new ≡ St.portals store.old }
+{
+    match found {
+        Some(statement) => {
+            let statement = Arc::new(alloc, statement)?;
+            store.put_statement(alloc, statement)
+        }
+        None => store.put_empty_statement(alloc, name),
+    }
+}
+
+/// The error of severity ERROR and code 08P01 with this text.
+fn protocol_violation(alloc: Global, text: String) -> Result<PgWireError, AllocError>
+    ensures { IfOk result (λ error. error ≡ wire.UserError (error_info (codes "08P01") (string_bytes text))) }
+{
+    Ok(PgWireError::UserError(ErrorInfo::new(
+        PgStr::copy_of(alloc, "ERROR")?,
+        PgStr::copy_of(alloc, "08P01")?,
+        PgStr::copy_of(alloc, text.as_str())?,
+    )))
+}
+
+/// Parameters were given for an empty statement.
+fn values_for_empty(alloc: Global, count: usize, name: &str) -> Result<PgWireError, AllocError>
+    requires name { IsShortText name.now }
+    ensures error { IfOk result (λ error. error ≡ wire.UserError (values_for_empty count name.now)) }
+    ensures answerable { IfOk result IsAnswerable }
+{
+    let text = format!(in alloc;
+        "bind message supplies {count} parameters, but prepared statement \"{name}\" requires 0"
+    )?;
+    protocol_violation(alloc, text)
+}
+
+/// There are fewer result codes than columns.
+fn too_few_codes(alloc: Global, count: usize, columns: usize) -> Result<PgWireError, AllocError>
+    ensures error { IfOk result (λ error. error ≡ wire.UserError (too_few_codes count columns)) }
+    ensures answerable { IfOk result IsAnswerable }
+{
+    let text = format!(in alloc;
+        "bind message has {count} result formats but query has {columns} columns"
+    )?;
+    protocol_violation(alloc, text)
+}
+
+/// Bind of an empty statement: an empty portal, where there are no parameters.
+pub(crate) fn bind_empty<St: PortalStore>(
+    alloc: Global,
+    client: &mut Client<St>,
+    message: Bind,
+) -> Result<(), PgWireError>
+    requires given { IsGiven (frontend.Bind message) }
+    ensures ok { OnOk result (IsEffect
+        (bound_empty (state_of St.statements St.portals client.old) message)
+        client.old.outbox client.new.outbox (Done (state_of St.statements St.portals client.new))) }
+    ensures refused { IfErr result (IsRefusedEffect
+        (bound_empty (state_of St.statements St.portals client.old) message)
+        client.old.outbox client.new.outbox (state_of St.statements St.portals client.new)) }
+    ensures answerable { IfErr result IsAnswerable }
+    ensures good { (parser : ParserTold St.Statement)
+        → IsGoodState parser (state_of St.statements St.portals client.old)
+        → IsGoodState parser (state_of St.statements St.portals client.new) }
+{
+    let count = message.parameters.len();
+    if count > 0 {
+        return Err(values_for_empty(alloc, count, message.statement_name.as_str())?);
+    }
+    client
+        .store
+        .put_empty_portal(alloc, message.portal_name.as_str())?;
+    push_bind_complete(client)?;
+    Ok(())
+}
+
+/// Whether a Bind has enough result codes: none, one, or one for each column.
+fn check_codes<Q: QueryParser>(
+    alloc: Global,
+    parser: &Q,
+    statement: &StoredStatement<Q::Statement>,
+    codes: usize,
+) -> Result<(), PgWireError>
+    requires { IsTrue ((Q.told parser.now).gives statement.now.statement) }
+    ensures ok { OnOk result (HasEnough codes ((Q.told parser.now).columns statement.now.statement None)) }
+    ensures refused { IfErr result (λ e. (e ≡ wire.NoMemory)
+        ⊎ IsTooFew codes ((Q.told parser.now).columns statement.now.statement None) e) }
+    ensures answerable { IfErr result IsAnswerable }
+{
+    if codes < 2 {
+        return Ok(());
+    }
+    let columns = parser
+        .get_result_schema(alloc, &statement.statement, None)?
+        .len();
+    if codes < columns {
+        return Err(too_few_codes(alloc, codes, columns)?);
+    }
+    Ok(())
+}
+
+/// Bind of a statement: a portal of it, unstarted.
+pub(crate) fn bind_statement<St: PortalStore, Q: QueryParser<Statement = St::Statement>>(
+    alloc: Global,
+    client: &mut Client<St>,
+    parser: &Q,
+    message: Bind,
+    statement: Arc<StoredStatement<St::Statement>>,
+) -> Result<(), PgWireError>
+    requires given { IsGiven (frontend.Bind message) }
+    requires good { IsGoodStatement (Q.told parser.now) (arc_value statement) }
+    ensures ok { OnOk result (IsEffect
+        (bound_statement (Q.told parser.now) (state_of St.statements St.portals client.old) message
+        (arc_value statement))
+        client.old.outbox client.new.outbox (Done (state_of St.statements St.portals client.new))) }
+    ensures refused { IfErr result (IsRefusedEffect
+        (bound_statement (Q.told parser.now) (state_of St.statements St.portals client.old) message
+        (arc_value statement))
+        client.old.outbox client.new.outbox (state_of St.statements St.portals client.new)) }
+    ensures answerable { IfErr result IsAnswerable }
+    ensures good { IsGoodState (Q.told parser.now) (state_of St.statements St.portals client.old)
+        → IsGoodState (Q.told parser.now) (state_of St.statements St.portals client.new) }
+{
+    check_codes(
+        alloc,
+        parser,
+        &*statement,
+        message.result_column_format_codes.len(),
+    )?;
+    let portal = Portal::try_new(alloc, &message, statement)?;
+    client.store.put_portal(alloc, portal)?;
+    push_bind_complete(client)?;
+    Ok(())
+}
+
+/// Appends BindComplete.
+fn push_bind_complete<St>(client: &mut Client<St>) -> Result<(), AllocError>
+    ensures ok { OnOk result (client.new.outbox ≡ client.old.outbox ++ replies_bytes bind_complete) }
+    ensures info { client.new.info ≡ client.old.info }
+    ensures store { client.new.store ≡ client.old.store }
+{
+    client
+        .outbox
+        .push(&PgWireBackendMessage::BindComplete(BindComplete {}))
+}
+
+/// Execute where no portal has this name, or an empty one.
+pub(crate) fn execute_no_portal<St: PortalStore>(
+    client: &mut Client<St>,
+    name: PgStr,
+) -> Result<(), PgWireError>
+    requires short { IsShortText name }
+    requires none { value_under (fin.get (St.portals client.old.store) name) ≡ None }
+    ensures ok { OnOk result (IsEffect
+        (executed_nothing (state_of St.statements St.portals client.old) name
+        (fin.get (St.portals client.old.store) name))
+        client.old.outbox client.new.outbox (Done (state_of St.statements St.portals client.new))) }
+    ensures refused { IfErr result (IsRefusedEffect
+        (executed_nothing (state_of St.statements St.portals client.old) name
+        (fin.get (St.portals client.old.store) name))
+        client.old.outbox client.new.outbox (state_of St.statements St.portals client.new)) }
+    ensures answerable { IfErr result IsAnswerable }
+    ensures same { state_of St.statements St.portals client.new ≡ state_of St.statements St.portals client.old }
+{
+    if client.store.get_portal(name.as_str()).is_none() {
+        return Err(missing_portal(name));
+    }
+    send_empty_query_response(&mut client.outbox)?;
+    Ok(())
+}
+
+/// Close: removes the statement or the portal of this name.
+pub(crate) fn close<St: PortalStore>(store: &mut St, message: Close)
+    ensures statements { St.statements store.new ≡ (if message.target_type == 83
+        then fin.remove (St.statements store.old) message.name else St.statements store.old) }
+    ensures portals { St.portals store.new ≡ (if message.target_type == 80
+        then fin.remove (St.portals store.old) message.name else St.portals store.old) }
+{
+    match message.target_type {
+        TARGET_TYPE_BYTE_STATEMENT => store.rm_statement(message.name.as_str()),
+        TARGET_TYPE_BYTE_PORTAL => store.rm_portal(message.name.as_str()),
+        _ => {}
+    }
+}

@@ -1,0 +1,16 @@
+pub mod Runs
+pub mod Names
+pub mod Agreement
+pub mod Columns
+pub mod StatementsAgree
+pub mod ItemsAgree
+pub mod ExecutesAgree
+pub mod WholeIsCore
+pub mod Styles
+pub mod Examples
+pub mod CoreExamples
+pub mod ShortTexts
+pub mod Sendable
+pub mod Meanings
+pub mod CoreConversations
+pub mod GoodColumns

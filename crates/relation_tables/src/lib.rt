@@ -1,0 +1,32 @@
+//! Relations of intervals: what queries of them mean, what their handlers tell, and the core conversation table.
+#![tactic(auto)]
+
+mod laws;
+
+pub use laws::whole_is_core;
+use pg_interval::Interval;
+use pg_messages::{PgList, PgStr};
+
+/// Rows of intervals under a name.
+#[derive(Drop)]
+pub struct Relation {
+    /// What a query calls it.
+    pub name: PgStr,
+    /// How many polls a query of it finds not ready.
+    pub unready: u32,
+    /// The names of the columns.
+    pub columns: PgList<PgStr>,
+    /// The rows, each with an interval for each column.
+    pub rows: PgList<PgList<Interval>>,
+}
+
+/// What a query means: a relation is told by its place among the relations.
+#[derive(Clone, Copy, Debug, PartialEq, Eq)]
+pub enum RelationStatement {
+    /// BEGIN.
+    Begin,
+    /// COMMIT.
+    Commit,
+    /// All rows of the relation at a place.
+    Relation(u32),
+}
