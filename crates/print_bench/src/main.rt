@@ -1,6 +1,6 @@
-// Prints intervals drawn from a seed in each of the four styles, small ones and then ones of any size, and tells how many
-// bytes that gave.
-// Words: COUNT, and `times` to tell the nanoseconds of a print as well, into a text of its own and then on the stack.
+// Prints intervals drawn from a seed in each of the four styles, small ones and then ones of any size, each into a text
+// with memory of its own and then on the stack, and tells how many bytes that gave.
+// Words: COUNT, and `times` to tell the nanoseconds of a print as well.
 #![tactic(auto)]
 
 mod draw;
@@ -39,15 +39,19 @@ fn main(rt: HostRuntime) -> io::Result<()> {
         let intervals = drawn(rt.alloc(), count, small)?;
         for style in STYLES {
             let start = Instant::now(&rt)?;
-            let bytes = printed_bytes(rt.alloc(), style, intervals.as_slice())?;
+            let bytes = kept_bytes(rt.alloc(), style, intervals.as_slice())?;
             let kept = start.elapsed(&rt)?.as_nanos();
-            println!(rt; "{}, {} {bytes}", size_name(small), name_of(style))?;
+            let start = Instant::now(&rt)?;
+            let stack = stack_bytes(style, intervals.as_slice());
+            let stacked = start.elapsed(&rt)?.as_nanos();
+            println!(rt;
+                "{}, {}: {bytes}, {stack}",
+                size_name(small),
+                name_of(style)
+            )?;
             if timed {
-                let start = Instant::now(&rt)?;
-                let same = stack_bytes(style, intervals.as_slice()) == bytes;
-                let stacked = start.elapsed(&rt)?.as_nanos();
                 let each = u128::from(count);
-                println!(rt; "  {} ns, {} ns, {same}", kept / each, stacked / each)?;
+                println!(rt; "  {} ns, {} ns", kept / each, stacked / each)?;
             }
         }
     }
@@ -84,7 +88,7 @@ fn drawn(alloc: Global, count: u32, small: bool) -> Result<Vec<Interval>, AllocE
 }
 
 /// The bytes of all texts, each in memory of its own.
-fn printed_bytes(alloc: Global, style: Style, intervals: &[Interval]) -> Result<u64, AllocError> {
+fn kept_bytes(alloc: Global, style: Style, intervals: &[Interval]) -> Result<u64, AllocError> {
     let mut bytes = 0u64;
     for interval in intervals {
         let text = text_of(alloc, style, interval)?;

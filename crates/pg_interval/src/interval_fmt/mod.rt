@@ -135,7 +135,8 @@ impl IntervalNorm {
         requires { IsNormal self }
         ensures printed { IfOk result (λ text. string_bytes text ≡ postgres_text self) }
     {
-        self.postgres_text().to_string(alloc)
+        let text = self.postgres_text();
+        text.to_string(alloc)
     }
 
     /// The text in the style `postgres_verbose`: `@` and the parts that aren't zero. Where the first is negative,
@@ -144,7 +145,8 @@ impl IntervalNorm {
         requires { IsNormal self }
         ensures printed { IfOk result (λ text. string_bytes text ≡ verbose_text self) }
     {
-        self.postgres_verbose_text().to_string(alloc)
+        let text = self.postgres_verbose_text();
+        text.to_string(alloc)
     }
 
     /// The text in the style `iso_8601`: `PT0S` for zero, else `P` and each number that isn't zero with its own minus
@@ -153,7 +155,8 @@ impl IntervalNorm {
         requires { IsNormal self }
         ensures printed { IfOk result (λ text. string_bytes text ≡ iso_text self) }
     {
-        self.iso_8601_text().to_string(alloc)
+        let text = self.iso_8601_text();
+        text.to_string(alloc)
     }
 
     /// The text in the style `sql_standard`: `0` for zero, years and months alone, days and time alone where no two
@@ -162,7 +165,8 @@ impl IntervalNorm {
         requires { IsNormal self }
         ensures printed { IfOk result (λ text. string_bytes text ≡ sql_text self) }
     {
-        self.sql_text().to_string(alloc)
+        let text = self.sql_text();
+        text.to_string(alloc)
     }
 
     /// The text in the style `postgres`, on the stack.
