@@ -1,5 +1,5 @@
 // Prints intervals drawn from a seed in each of the four styles, small ones and then ones of any size, each into a text
-// with memory of its own and then on the stack, and tells how many bytes that gave.
+// with memory of its own and then on the stack, appended to a buffer, and tells how many bytes that gave.
 // Words: COUNT, and `times` to tell the nanoseconds of a print as well.
 #![tactic(auto)]
 
@@ -27,6 +27,9 @@ const STYLES: [Style; 4] = [
     Style::SqlStandard,
 ];
 
+/// Room for a text.
+const ROW: usize = 96;
+
 fn main(rt: HostRuntime) -> io::Result<()> {
     let mut words = env::args(&rt)?;
     let _program = words.next();
@@ -42,16 +45,12 @@ fn main(rt: HostRuntime) -> io::Result<()> {
             let bytes = kept_bytes(rt.alloc(), style, intervals.as_slice())?;
             let kept = start.elapsed(&rt)?.as_nanos();
             let start = Instant::now(&rt)?;
-            let stack = stack_bytes(style, intervals.as_slice());
-            let stacked = start.elapsed(&rt)?.as_nanos();
-            println!(rt;
-                "{}, {}: {bytes}, {stack}",
-                size_name(small),
-                name_of(style)
-            )?;
+            let same = cell_bytes(rt.alloc(), style, intervals.as_slice())?;
+            let appended = start.elapsed(&rt)?.as_nanos();
+            println!(rt; "{}, {}: {bytes}, {same}", size_name(small), name_of(style))?;
             if timed {
                 let each = u128::from(count);
-                println!(rt; "  {} ns, {} ns", kept / each, stacked / each)?;
+                println!(rt; "  {} ns, {} ns", kept / each, appended / each)?;
             }
         }
     }
@@ -107,13 +106,16 @@ fn text_of(alloc: Global, style: Style, interval: &Interval) -> Result<String, A
     }
 }
 
-/// The bytes of all texts, each on the stack.
-fn stack_bytes(style: Style, intervals: &[Interval]) -> u64 {
+/// The bytes of all texts, each on the stack and from there behind the others in a buffer, as into a row's cell.
+fn cell_bytes(alloc: Global, style: Style, intervals: &[Interval]) -> Result<u64, AllocError> {
+    let mut row = Vec::with_capacity(alloc, ROW)?;
     let mut bytes = 0u64;
     for interval in intervals {
-        bytes = bytes.wrapping_add(stack_text(style, interval).as_bytes().len() as u64);
+        row.clear();
+        row.extend_from_slice(stack_text(style, interval).as_bytes())?;
+        bytes = bytes.wrapping_add(row.len() as u64);
     }
-    bytes
+    Ok(bytes)
 }
 
 /// The interval's text, on the stack.
