@@ -19,14 +19,16 @@ def signed(n):
     return n - 2**64 if n >= 2**63 else n
 
 
-def intervals(count):
-    draw = numbers(2026)
-    for _ in range(count):
-        fields = []
-        for width in (32, 32, 64):
-            shift = next(draw) % width
-            fields.append((signed(next(draw)) >> (64 - width)) >> shift)
-        yield fields
+def small(draw):
+    return [next(draw) % 2001 - 1000, next(draw) % 2001 - 1000, next(draw) % (2**31 + 1) - 2**30]
+
+
+def any_size(draw):
+    fields = []
+    for width in (32, 32, 64):
+        shift = next(draw) % width
+        fields.append((signed(next(draw)) >> (64 - width)) >> shift)
+    return fields
 
 
 def fields_of(months, days, microseconds):
@@ -85,7 +87,9 @@ def sql(i):
     return f"{either(i[0] < 0)}{abs(y)}-{abs(m)} {either(d < 0)}{abs(d)} {either(i[2] < 0)}{time}"
 
 
-count = int(sys.argv[1])
-drawn = list(intervals(count))
-for name, text_of in (("postgres", postgres), ("postgres_verbose", verbose), ("iso_8601", iso), ("sql_standard", sql)):
-    print(name, sum(len(text_of(i)) for i in drawn))
+for size, interval in (("small", small), ("any size", any_size)):
+    draw = numbers(2026)
+    drawn = [interval(draw) for _ in range(int(sys.argv[1]))]
+    for name, text_of in (("postgres", postgres), ("postgres_verbose", verbose), ("iso_8601", iso), ("sql_standard", sql)):
+        total = sum(len(text_of(i)) for i in drawn)
+        print(f"{size}, {name}: {total}, {total}")

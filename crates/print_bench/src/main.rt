@@ -1,6 +1,6 @@
-// Prints intervals drawn from a seed in each of the four styles, small ones and then ones of any size, and tells how many
-// bytes that gave.
-// Words: COUNT, and `times` to tell the nanoseconds of a print as well, into a text of its own and then on the stack.
+// Prints intervals drawn from a seed in each of the four styles, small ones and then ones of any size, each into a text
+// with memory of its own and then on the stack, appended to a buffer, and tells how many bytes that gave.
+// Words: COUNT, and `times` to tell the nanoseconds of a print as well.
 #![tactic(auto)]
 
 mod draw;
@@ -27,6 +27,9 @@ const STYLES: [Style; 4] = [
     Style::SqlStandard,
 ];
 
+/// Room for a text.
+const ROW: usize = 96;
+
 fn main(rt: HostRuntime) -> io::Result<()> {
     let mut words = env::args(&rt)?;
     let _program = words.next();
@@ -39,15 +42,15 @@ fn main(rt: HostRuntime) -> io::Result<()> {
         let intervals = drawn(rt.alloc(), count, small)?;
         for style in STYLES {
             let start = Instant::now(&rt)?;
-            let bytes = printed_bytes(rt.alloc(), style, intervals.as_slice())?;
+            let bytes = kept_bytes(rt.alloc(), style, intervals.as_slice())?;
             let kept = start.elapsed(&rt)?.as_nanos();
-            println!(rt; "{}, {} {bytes}", size_name(small), name_of(style))?;
+            let start = Instant::now(&rt)?;
+            let same = cell_bytes(rt.alloc(), style, intervals.as_slice())?;
+            let appended = start.elapsed(&rt)?.as_nanos();
+            println!(rt; "{}, {}: {bytes}, {same}", size_name(small), name_of(style))?;
             if timed {
-                let start = Instant::now(&rt)?;
-                let same = stack_bytes(style, intervals.as_slice()) == bytes;
-                let stacked = start.elapsed(&rt)?.as_nanos();
                 let each = u128::from(count);
-                println!(rt; "  {} ns, {} ns, {same}", kept / each, stacked / each)?;
+                println!(rt; "  {} ns, {} ns", kept / each, appended / each)?;
             }
         }
     }
@@ -84,7 +87,7 @@ fn drawn(alloc: Global, count: u32, small: bool) -> Result<Vec<Interval>, AllocE
 }
 
 /// The bytes of all texts, each in memory of its own.
-fn printed_bytes(alloc: Global, style: Style, intervals: &[Interval]) -> Result<u64, AllocError> {
+fn kept_bytes(alloc: Global, style: Style, intervals: &[Interval]) -> Result<u64, AllocError> {
     let mut bytes = 0u64;
     for interval in intervals {
         let text = text_of(alloc, style, interval)?;
@@ -103,13 +106,16 @@ fn text_of(alloc: Global, style: Style, interval: &Interval) -> Result<String, A
     }
 }
 
-/// The bytes of all texts, each on the stack.
-fn stack_bytes(style: Style, intervals: &[Interval]) -> u64 {
+/// The bytes of all texts, each on the stack and from there behind the others in a buffer, as into a row's cell.
+fn cell_bytes(alloc: Global, style: Style, intervals: &[Interval]) -> Result<u64, AllocError> {
+    let mut row = Vec::with_capacity(alloc, ROW)?;
     let mut bytes = 0u64;
     for interval in intervals {
-        bytes = bytes.wrapping_add(stack_text(style, interval).as_bytes().len() as u64);
+        row.clear();
+        row.extend_from_slice(stack_text(style, interval).as_bytes())?;
+        bytes = bytes.wrapping_add(row.len() as u64);
     }
-    bytes
+    Ok(bytes)
 }
 
 /// The interval's text, on the stack.

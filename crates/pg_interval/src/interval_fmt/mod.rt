@@ -84,7 +84,7 @@ impl Interval {
         ensures stands { IfOk result (λ text. StandsForOnly Postgres (string_bytes text) self.now) }
         ensures distinct { IfOk result (λ text. IsPrintedOnlyFor Postgres (string_bytes text) self.now) }
     {
-        self.postgres_text().to_string(alloc)
+        self.in_normal_form().into_postgres(alloc)
     }
 
     /// The text in the style `postgres_verbose`, as `@ 1 year 2 mons 3 days 4 hours 5 mins 6.7 secs`.
@@ -94,7 +94,7 @@ impl Interval {
         ensures stands { IfOk result (λ text. StandsForOnly PostgresVerbose (string_bytes text) self.now) }
         ensures distinct { IfOk result (λ text. IsPrintedOnlyFor PostgresVerbose (string_bytes text) self.now) }
     {
-        self.postgres_verbose_text().to_string(alloc)
+        self.in_normal_form().into_postgres_verbose(alloc)
     }
 
     /// The text in the style `iso_8601`, as `P1Y2M3DT4H5M6.700000S`.
@@ -104,7 +104,7 @@ impl Interval {
         ensures stands { IfOk result (λ text. StandsForOnly Iso8601 (string_bytes text) self.now) }
         ensures distinct { IfOk result (λ text. IsPrintedOnlyFor Iso8601 (string_bytes text) self.now) }
     {
-        self.iso_8601_text().to_string(alloc)
+        self.in_normal_form().into_iso_8601(alloc)
     }
 
     /// The text in the style `sql_standard`, as `+1-2 +3 +4:05:06.700000`.
@@ -114,7 +114,7 @@ impl Interval {
         ensures stands { IfOk result (λ text. StandsForOnly SqlStandard (string_bytes text) self.now) }
         ensures distinct { IfOk result (λ text. IsPrintedOnlyFor SqlStandard (string_bytes text) self.now) }
     {
-        self.sql_text().to_string(alloc)
+        self.in_normal_form().into_sql(alloc)
     }
 
     /// The interval's normal form.
@@ -131,38 +131,46 @@ impl Interval {
 impl IntervalNorm {
     /// The text in the style `postgres`: the years, months and days that aren't zero, each with its own minus, and
     /// the time, unless it is zero. Zero prints `00:00:00`.
+    #[inline(always)]
     pub fn into_postgres(self, alloc: Global) -> Result<String, AllocError>
         requires { IsNormal self }
         ensures printed { IfOk result (λ text. string_bytes text ≡ postgres_text self) }
     {
-        self.postgres_text().to_string(alloc)
+        let text = self.postgres_text();
+        text.to_string(alloc)
     }
 
     /// The text in the style `postgres_verbose`: `@` and the parts that aren't zero. Where the first is negative,
     /// each number is negated and the text ends with `ago`. Zero prints `@ 0`.
+    #[inline(always)]
     pub fn into_postgres_verbose(self, alloc: Global) -> Result<String, AllocError>
         requires { IsNormal self }
         ensures printed { IfOk result (λ text. string_bytes text ≡ verbose_text self) }
     {
-        self.postgres_verbose_text().to_string(alloc)
+        let text = self.postgres_verbose_text();
+        text.to_string(alloc)
     }
 
     /// The text in the style `iso_8601`: `PT0S` for zero, else `P` and each number that isn't zero with its own minus
     /// and its letter, the time's behind a `T`.
+    #[inline(always)]
     pub fn into_iso_8601(self, alloc: Global) -> Result<String, AllocError>
         requires { IsNormal self }
         ensures printed { IfOk result (λ text. string_bytes text ≡ iso_text self) }
     {
-        self.iso_8601_text().to_string(alloc)
+        let text = self.iso_8601_text();
+        text.to_string(alloc)
     }
 
     /// The text in the style `sql_standard`: `0` for zero, years and months alone, days and time alone where no two
     /// have opposite signs, and else all three, each with its sign.
+    #[inline(always)]
     pub fn into_sql(self, alloc: Global) -> Result<String, AllocError>
         requires { IsNormal self }
         ensures printed { IfOk result (λ text. string_bytes text ≡ sql_text self) }
     {
-        self.sql_text().to_string(alloc)
+        let text = self.sql_text();
+        text.to_string(alloc)
     }
 
     /// The text in the style `postgres`, on the stack.
