@@ -1,22 +1,21 @@
 -- What the first try at a text of items finds there.
-use Rattle.std.proofs.Common.{◌≡◌, ℕ, ◌+◌, ◌*◌, ◌^◌, ◌/◌, ◌<◌, ◌≤◌, Bool, true, false, not, ◌&&◌, ◌||◌, List, [], ◌∷◌, ◌++◌, length, ap, ◌∙◌, sym, refl, arith, lit≤, Some, None, Ok, Option, Result, ℤ, pos, ◌+ℤ◌, ◌*ℤ◌}
+use Rattle.std.proofs.Common.{◌≡◌, ℕ, ◌+◌, ◌*◌, ◌^◌, ◌<◌, ◌≤◌, Bool, true, false, not, ◌||◌, List, [], ◌∷◌, ◌++◌, length, ap, ◌∙◌, sym, refl, arith, Some, None, Ok, pos, ◌+ℤ◌, ◌*ℤ◌}
 use mathlib.Core.List.{append_assoc, append-nil}
 use Rattle.std.specs.Prelude.{if◌then◌else◌, ◌==◌}
 use Rattle.std.specs.List.{list_all}
 use Rattle.std.specs.Str.Parse.{digits_value}
 use Rattle.std.proofs.lemmas.Int.{ints}
 use Rattle.std.proofs.lemmas.List.Folds.{list_all-append}
-use Rattle.pg_interval.specs.Texts.{◌>>=◌, is_digit, is_point, is_minus, are_digits, begins}
-use Rattle.pg_interval.specs.Decimals.{Decimal, TimeUnit, Year, Month, Day, Hour, Minute, Second, number_of, decimal_of, with_sign, worth, whole_part}
+use Rattle.pg_interval.specs.Texts.{◌>>=◌, is_digit, is_point, is_minus, begins}
+use Rattle.pg_interval.specs.Decimals.{Decimal, TimeUnit, Year, Month, Day, Hour, Minute, Second, decimal_of, with_sign, worth, whole_part}
 use Rattle.pg_interval.specs.Pairs.{checked, sum_of, fits_field}
-use Rattle.pg_interval.specs.IsoText.{is_designator, is_item_number, date_unit, time_unit}
-use Rattle.pg_interval.specs.ItemReader.{is_time_mark, is_unmarked, unit_at, left, item_left}
+use Rattle.pg_interval.specs.IsoText.{is_designator, is_item_number}
+use Rattle.pg_interval.specs.ItemReader.{is_time_mark, is_unmarked, unit_at, left}
 use Rattle.pg_interval.specs.Printed.{minus_if}
-use Rattle.pg_interval.specs.Reader.{joined, tallied}
+use Rattle.pg_interval.specs.Reader.{tallied}
 use Rattle.pg_interval.specs.WordReader.{out_of_range}
 use Rattle.pg_interval.specs.FrontReader.{IsNumberFront, IsFraction, amount, only_time, only_months, without_minus}
 use Rattle.pg_interval.specs.declared.pg_interval.Interval.{Interval}
-use Rattle.pg_interval.specs.declared.interval_parse.parse_error.ParseError.{ParseError}
 use Rattle.pg_interval.proofs.DigitTexts.{and_left, and_right, all_digits, decimal_whole, decimal_point}
 use Rattle.pg_interval.proofs.PartTexts.{whole_number, unit_worth, worth_whole}
 use Rattle.pg_interval.proofs.TimeTexts.{rounded_six}
@@ -89,14 +88,19 @@ minus_split : (text xs : List ℕ) → without_minus text ≡ xs → text ≡ mi
 minus_split [] xs h = h
 minus_split (c ∷ cs) xs h = minus_split_by c cs xs (is_minus c) refl h
 
-date_letter_by : (a b c d e : Bool) (u : TimeUnit) → Some u ≡ (if a then Some Year else (if b then Some Month else (if c then Some Day else (if d then Some Hour else None)))) → (a || b || c || d || e) ≡ true
+date_letter_by : (a b c d e : Bool) (u : TimeUnit)
+    → Some u ≡ (if a then Some Year else (if b then Some Month else (if c then Some Day else (if d then Some Hour else None))))
+    → (a || b || c || d || e) ≡ true
 date_letter_by true b c d e u h = refl
 date_letter_by false true c d e u h = refl
 date_letter_by false false true d e u h = refl
 date_letter_by false false false true e u h = refl
 date_letter_by false false false false e u h = cc
 
-time_letter_by : (a b c d e : Bool) (u : TimeUnit) → Some u ≡ (if a then Some Year else (if b then Some Minute else (if c then Some Day else (if d then Some Hour else (if e then Some Second else None))))) → (a || b || c || d || e) ≡ true
+time_letter_by : (a b c d e : Bool) (u : TimeUnit)
+    → Some u ≡ (if a then Some Year
+    else (if b then Some Minute else (if c then Some Day else (if d then Some Hour else (if e then Some Second else None)))))
+    → (a || b || c || d || e) ≡ true
 time_letter_by true b c d e u h = refl
 time_letter_by false true c d e u h = refl
 time_letter_by false false true d e u h = refl
@@ -116,38 +120,52 @@ digit_unmarked c h = grind arith
 
 digits_unmarked : (ds : List ℕ) → list_all is_digit ds ≡ true → list_all is_unmarked ds ≡ true
 digits_unmarked [] h = refl
-digits_unmarked (d ∷ ds) h = rw (digit_unmarked d (and_left (is_digit d) (list_all is_digit ds) h), digits_unmarked ds (and_right (is_digit d) (list_all is_digit ds) h)) refl
+digits_unmarked (d ∷ ds) h = rw (
+  digit_unmarked d (and_left (is_digit d) (list_all is_digit ds) h),
+  digits_unmarked ds
+      (and_right (is_digit d) (list_all is_digit ds) h),
+) refl
 
 signed_unmarked : (b : Bool) (xs : List ℕ) → list_all is_unmarked xs ≡ true → list_all is_unmarked (minus_if b ++ xs) ≡ true
 signed_unmarked true xs h = h
 signed_unmarked false xs h = h
 
 -- an item of this number, which is good and fits
-item_worth : (in_time : Bool) (i : Interval) (number : List ℕ) (l : ℕ) (rest : List ℕ) (u : TimeUnit) (d : Decimal) → list_all is_unmarked number ≡ true → is_item_number number ≡ true → Some u ≡ unit_at in_time l → decimal_of number ≡ Ok d → fits_field u (whole_part d) ≡ true → left in_time (Ok i) (number ++ l ∷ rest) ≡ left in_time (Ok (sum_of i (worth u d))) rest
+item_worth : (in_time : Bool) (i : Interval) (number : List ℕ) (l : ℕ) (rest : List ℕ) (u : TimeUnit) (d : Decimal)
+    → list_all is_unmarked number ≡ true → is_item_number number ≡ true → Some u ≡ unit_at in_time l → decimal_of number ≡ Ok d
+    → fits_field u (whole_part d) ≡ true → left in_time (Ok i) (number ++ l ∷ rest) ≡ left in_time (Ok (sum_of i (worth u d))) rest
 item_worth in_time i number l rest u d plain good named read fits =
     let letter = named_letter in_time l u named in
     item_first in_time (Ok i) number l rest plain (letter_stops l letter) (letter_no_mark l letter)
-    ∙ ap (λ x. if x then (unit_at in_time l >>= λ u. left in_time (tallied out_of_range u (checked (decimal_of number)) (Ok i)) rest) else None) good
+    ∙ ap (λ x. if x then (unit_at in_time l >>= λ u. left in_time (tallied out_of_range u (checked (decimal_of number)) (Ok i))
+    rest) else None) good
     ∙ ap (λ o. o >>= λ u. left in_time (tallied out_of_range u (checked (decimal_of number)) (Ok i)) rest) (sym named)
     ∙ ap (λ n. left in_time (tallied out_of_range u (checked n) (Ok i)) rest) read
     ∙ ap (λ r. left in_time r rest) (tallied_fits out_of_range u d (Ok i) fits)
 
-pub item_read : (in_time : Bool) (i j : Interval) (text bare behind rest : List ℕ) (n l : ℕ) (u : TimeUnit) → bare ≡ without_minus text → IsNumberFront n bare behind → behind ≡ l ∷ rest → Some u ≡ unit_at in_time l → j ≡ sum_of i (amount u (begins is_minus text) n) → left in_time (Ok i) text ≡ left in_time (Ok j) rest
+pub item_read : (in_time : Bool) (i j : Interval) (text bare behind rest : List ℕ) (n l : ℕ) (u : TimeUnit)
+    → bare ≡ without_minus text → IsNumberFront n bare behind → behind ≡ l ∷ rest → Some u ≡ unit_at in_time l
+    → j ≡ sum_of i (amount u (begins is_minus text) n) → left in_time (Ok i) text ≡ left in_time (Ok j) rest
 item_read in_time i j text bare behind rest n l u e f at named sum =
     let b = begins is_minus text in
     let ds = f.digits in
     let number = minus_if b ++ ds in
-    let whole : text ≡ number ++ l ∷ rest = minus_split text (ds ++ behind) (sym e ∙ f.parts) ∙ ap (λ t. minus_if b ++ (ds ++ t)) at ∙ sym (append_assoc (minus_if b) ds (l ∷ rest)) in
+    let whole : text ≡ number ++ l ∷ rest = minus_split text (ds ++ behind) (sym e ∙ f.parts) ∙ ap (λ t. minus_if b ++ (ds ++ t)) at
+    ∙ sym (append_assoc (minus_if b) ds (l ∷ rest)) in
     let all = all_digits ds f.are in
-    let good : is_item_number number ≡ true = ap (λ t. is_item_number (minus_if b ++ t)) (sym (append-nil ds)) ∙ item_number b ds [] f.are (ap (list_all (λ d. is_digit d || is_point d)) (append-nil ds) ∙ digits_written ds all) in
+    let good : is_item_number number ≡ true = ap (λ t. is_item_number (minus_if b ++ t)) (sym (append-nil ds))
+    ∙ item_number b ds [] f.are (ap (list_all (λ d. is_digit d || is_point d)) (append-nil ds) ∙ digits_written ds all) in
     let read : decimal_of number ≡ Ok (whole_number b n) = decimal_whole b ds f.are ∙ ap (λ v. Ok (whole_number b v)) f.value in
     ap (left in_time (Ok i)) whole
-    ∙ item_worth in_time i number l rest u (whole_number b n) (signed_unmarked b ds (digits_unmarked ds all)) good named read (whole_fits u b n f.small)
+    ∙ item_worth in_time i number l rest u (whole_number b n) (signed_unmarked b ds (digits_unmarked ds all)) good named read
+    (whole_fits u b n f.small)
     ∙ ap (λ w. left in_time (Ok (sum_of i w)) rest) (amount_is u b n)
     ∙ ap (λ s. left in_time (Ok s) rest) (sym sum)
 
 -- seconds with six digits behind the point
-pub second_read : (i j : Interval) (text bare behind rest : List ℕ) (n f : ℕ) → bare ≡ without_minus text → IsNumberFront n bare behind → IsFraction f behind rest → j ≡ sum_of i (only_time (with_sign (begins is_minus text) (1000000 * n + f))) → left true (Ok i) text ≡ left true (Ok j) rest
+pub second_read : (i j : Interval) (text bare behind rest : List ℕ) (n f : ℕ) → bare ≡ without_minus text
+    → IsNumberFront n bare behind → IsFraction f behind rest
+    → j ≡ sum_of i (only_time (with_sign (begins is_minus text) (1000000 * n + f))) → left true (Ok i) text ≡ left true (Ok j) rest
 unfolding with_six
 second_read i j text bare behind rest n f e w g sum =
     let b = begins is_minus text in
@@ -155,12 +173,15 @@ second_read i j text bare behind rest n f e w g sum =
     let fs = g.digits in
     let number = minus_if b ++ (ds ++ 46 ∷ fs) in
     let tail : ds ++ behind ≡ (ds ++ 46 ∷ fs) ++ 83 ∷ rest = ap (λ t. ds ++ t) g.parts ∙ sym (append_assoc ds (46 ∷ fs) (83 ∷ rest)) in
-    let whole : text ≡ number ++ 83 ∷ rest = minus_split text (ds ++ behind) (sym e ∙ w.parts) ∙ ap (λ t. minus_if b ++ t) tail ∙ sym (append_assoc (minus_if b) (ds ++ 46 ∷ fs) (83 ∷ rest)) in
+    let whole : text ≡ number ++ 83 ∷ rest = minus_split text (ds ++ behind) (sym e ∙ w.parts) ∙ ap (λ t. minus_if b ++ t) tail
+    ∙ sym (append_assoc (minus_if b) (ds ++ 46 ∷ fs) (83 ∷ rest)) in
     let all = all_digits ds w.are in
     let rest_all = all_digits fs g.are in
     let digit : ℕ → Bool = λ d. is_digit d || is_point d in
-    let written : list_all digit (ds ++ 46 ∷ fs) ≡ true = list_all-append digit ds (46 ∷ fs) ∙ (rw (digits_written ds all, digits_written fs rest_all) refl) in
-    let plain : list_all is_unmarked (ds ++ 46 ∷ fs) ≡ true = list_all-append is_unmarked ds (46 ∷ fs) ∙ (rw (digits_unmarked ds all, digits_unmarked fs rest_all) refl) in
+    let written : list_all digit (ds ++ 46 ∷ fs) ≡ true = list_all-append digit ds (46 ∷ fs)
+    ∙ (rw (digits_written ds all, digits_written fs rest_all) refl) in
+    let plain : list_all is_unmarked (ds ++ 46 ∷ fs) ≡ true = list_all-append is_unmarked ds (46 ∷ fs)
+    ∙ (rw (digits_unmarked ds all, digits_unmarked fs rest_all) refl) in
     let few : length fs ≤ 18 = let six : length fs ≡ 6 = g.six in omega arith in
     let read : decimal_of number ≡ Ok (with_six b n f) =
     decimal_point b ds fs w.are rest_all few
@@ -168,6 +189,7 @@ second_read i j text bare behind rest n f e w g sum =
     ∙ ap (λ v. Ok (record { negative = b; whole = n; fraction = v; places = length fs })) g.value
     ∙ ap (λ p. Ok (record { negative = b; whole = n; fraction = f; places = p })) g.six in
     ap (left true (Ok i)) whole
-    ∙ item_worth true i number 83 rest Second (with_six b n f) (signed_unmarked b (ds ++ 46 ∷ fs) plain) (item_number b ds (46 ∷ fs) w.are written) refl read (six_fits b n f w.small)
+    ∙ item_worth true i number 83 rest Second (with_six b n f) (signed_unmarked b (ds ++ 46 ∷ fs) plain)
+    (item_number b ds (46 ∷ fs) w.are written) refl read (six_fits b n f w.small)
     ∙ ap (λ w. left true (Ok (sum_of i w)) rest) (six_worth b n f)
     ∙ ap (λ s. left true (Ok s) rest) (sym sum)

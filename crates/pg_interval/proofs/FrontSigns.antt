@@ -9,7 +9,8 @@ use Rattle.pg_interval.proofs.SqlReads.{Sign, none, minus_sign, plus_sign, sign_
 pub same_byte : (c d : ℕ) → (c == d) ≡ true → c ≡ d
 same_byte c d h = grind arith
 
-sign_split_by : (c : ℕ) (cs xs : List ℕ) (a b : Bool) → (c == 43) ≡ a → (c == 45) ≡ b → (if a || b then cs else c ∷ cs) ≡ xs → (s : Sign) × (c ∷ cs ≡ sign_text s ++ xs)
+sign_split_by : (c : ℕ) (cs xs : List ℕ) (a b : Bool) → (c == 43) ≡ a → (c == 45) ≡ b → (if a || b then cs else c ∷ cs) ≡ xs
+    → (s : Sign) × (c ∷ cs ≡ sign_text s ++ xs)
 unfolding sign_text
 sign_split_by c cs xs true b e f h = (plus_sign, ap (λ x. x ∷ cs) (same_byte c 43 e) ∙ ap (λ t. 43 ∷ t) h)
 sign_split_by c cs xs false true e f h = (minus_sign, ap (λ x. x ∷ cs) (same_byte c 45 f) ∙ ap (λ t. 45 ∷ t) h)

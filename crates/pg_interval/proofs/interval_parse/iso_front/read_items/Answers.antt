@@ -9,5 +9,6 @@ pub returns : goal.returns
 returns c =
     let s = c.loop-rest.sums in
     c.loop-rest.invariant
-    ∙ ap (left_of s) (nothing_of c.loop-rest.rest.now (len_zero c.loop-rest.rest.now c.is_empty.result c.is_empty.ensures c.loop-rest-test.false))
+    ∙ ap (left_of s) (nothing_of c.loop-rest.rest.now
+    (len_zero c.loop-rest.rest.now c.is_empty.result c.is_empty.ensures c.loop-rest-test.false))
     ∙ left_end s.in_time (Ok (sums_of s))

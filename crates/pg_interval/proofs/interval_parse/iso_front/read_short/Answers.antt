@@ -18,6 +18,7 @@ returns c =
     let d : s.days ≡ to_z w64 (of_z w64 s.days) = sym (to_z-of_z {w = w64} {z = s.days} (search rules)) in
     let u : s.microseconds ≡ to_z w64 (of_z w64 s.microseconds) = sym (to_z-of_z {w = w64} {z = s.microseconds} (search rules)) in
     read_within (reading Iso8601 text) c.interval_within.result (sums_of s) _
-    (short_text Iso8601 text c.requires ∙ iso_whole_of text rest (omega arith) (grind arith) c.split_at.ensures.back ∙ ap answered c.in-Some.ensures)
+    (short_text Iso8601 text c.requires ∙ iso_whole_of text rest (omega arith) (grind arith) c.split_at.ensures.back
+    ∙ ap answered c.in-Some.ensures)
     (same_interval _ _ m d u)
     c.interval_within.ensures

@@ -15,7 +15,8 @@ returns c =
     let time = c.in-Some.microseconds in
     let minus = begins is_minus text in
     let u = with_sign minus time in
-    let eu : u ≡ to_z w64 (of_z w64 c.signed.result) = sym (to_z-of_z {w = w64} {z = c.signed.result} (search rules) ∙ c.signed.ensures ∙ ap (λ b. with_sign b time) c.sign_of.ensures) in
+    let eu : u ≡ to_z w64 (of_z w64 c.signed.result) = sym (to_z-of_z {w = w64} {z = c.signed.result} (search rules)
+    ∙ c.signed.ensures ∙ ap (λ b. with_sign b time) c.sign_of.ensures) in
     read_within (reading SqlStandard text) c.interval_within.result (only_time u) _
     (alone_read text u (c.in-Some.ensures.amount minus) c.in-Some.ensures.colon c.requires)
     (same_interval _ _ refl refl eu)

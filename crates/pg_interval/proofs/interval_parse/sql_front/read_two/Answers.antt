@@ -18,9 +18,12 @@ returns c =
     let minus = begins is_minus (if begins is_sign second then second else text) in
     let d = with_sign (begins is_minus text) days in
     let u = with_sign minus time in
-    let ed : d ≡ to_z w64 (of_z w64 c.signed.result) = sym (to_z-of_z {w = w64} {z = c.signed.result} (search rules) ∙ c.signed.ensures ∙ ap (λ b. with_sign b days) c.sign_of.ensures) in
-    let eu : u ≡ to_z w64 (of_z w64 c.signed-2.result) = sym (to_z-of_z {w = w64} {z = c.signed-2.result} (search rules) ∙ c.signed-2.ensures ∙ ap (λ b. with_sign b time) c.sign_of_two.ensures) in
+    let ed : d ≡ to_z w64 (of_z w64 c.signed.result) = sym (to_z-of_z {w = w64} {z = c.signed.result} (search rules)
+    ∙ c.signed.ensures ∙ ap (λ b. with_sign b days) c.sign_of.ensures) in
+    let eu : u ≡ to_z w64 (of_z w64 c.signed-2.result) = sym (to_z-of_z {w = w64} {z = c.signed-2.result} (search rules)
+    ∙ c.signed-2.ensures ∙ ap (λ b. with_sign b time) c.sign_of_two.ensures) in
     read_within (reading SqlStandard text) c.interval_within.result (record { months = pos 0; days = d; microseconds = u }) _
-    (two_read text c.in-Some.behind.now second d u c.in-Some.ensures.amount c.in-Some-after_byte.ensures (c.in-Some-time.ensures.amount minus) c.requires)
+    (two_read text c.in-Some.behind.now second d u c.in-Some.ensures.amount c.in-Some-after_byte.ensures
+    (c.in-Some-time.ensures.amount minus) c.requires)
     (same_interval _ _ refl ed eu)
     c.interval_within.ensures
