@@ -1,5 +1,5 @@
 -- Rows that call nothing, and rows that are the same.
-use Rattle.std.proofs.Common.{◌≡◌, ℕ, List, [], ◌∷◌, ◌++◌, Bool, refl, sym, ap, subst, ◌∙◌, append-nil, ⊎_elim, inl, inr}
+use Rattle.std.proofs.Common.{◌≡◌, ℕ, List, [], Bool, refl, sym, ap, subst, ◌∙◌, append-nil, ⊎_elim, inl, inr}
 use Rattle.pg_portal.specs.declared.error.PgWireError.{PgWireError}
 use Rattle.pg_handlers.specs.declared.desk.DeskCall.{DeskCall}
 use Rattle.pg_handlers.specs.declared.ends.SessionError.{SessionError}
@@ -14,7 +14,7 @@ use Rattle.pg_handlers.specs.Answer.{answers_of}
 use Rattle.pg_handlers.specs.Handlers.{Handlers}
 use Rattle.pg_handlers.specs.Table.{ready_row, statement_row}
 use Rattle.pg_handlers.specs.State.{State}
-use Rattle.pg_handlers.specs.Effect.{Effect, Outcome, Row, Called, IsEffect, IsRefusedEffect, IsRow, IsCutRow, IsRefusedRow, Over, silent, over}
+use Rattle.pg_handlers.specs.Effect.{Effect, Outcome, Row, IsEffect, IsRefusedEffect, IsRow, IsCutRow, IsRefusedRow, Over, silent, over}
 
 pub silent_row : {S : Type 0} (e : Effect S) {out new_out : List ℕ} (calls : List DeskCall) {o : Outcome S} → IsEffect e out new_out o
     → IsRow (λ answers. silent e) out new_out calls calls o

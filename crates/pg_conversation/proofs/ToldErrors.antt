@@ -1,5 +1,5 @@
 -- What a client is told of an error after which the server is ready.
-use Rattle.std.proofs.Common.{◌≡◌, ℕ, Bool, true, false, cond, List, [], ◌∷◌, ◌++◌, IsTrue, codes, refl, sym, ap, subst, ◌∙◌, append_assoc, append-nil, ⊎_elim}
+use Rattle.std.proofs.Common.{◌≡◌, ℕ, Bool, true, false, List, [], ◌∷◌, ◌++◌, IsTrue, codes, refl, ap, subst, ◌∙◌, append_assoc}
 use Rattle.std.specs.Prelude.{◌↔◌, bytes_eq}
 use Rattle.std.proofs.lemmas.Slice.Eq.{bytes_eq-Decides}
 use Rattle.pg_messages.specs.declared.response.ErrorInfo.{ErrorInfo}

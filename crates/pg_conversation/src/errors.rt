@@ -36,9 +36,7 @@ pub fn tell_error<St: PortalStore>(
 {
     let info = error.into_info(alloc)?;
     let is_fatal = info.is_fatal();
-    client
-        .outbox
-        .push(&PgWireBackendMessage::ErrorResponse(ErrorResponse { info }))?;
+    client.outbox.push(&PgWireBackendMessage::ErrorResponse(ErrorResponse { info }))?;
     if is_fatal {
         return Ok(Some(EndKind::Fatal));
     }

@@ -68,9 +68,7 @@ pub fn on_message<
         PgWireConnectionState::ReadyForQuery => {
             on_ready(alloc, handlers, client, desk, turns, message)
         }
-        PgWireConnectionState::AwaitingSync => {
-            told(on_awaiting_sync(handlers, client, message))
-        }
+        PgWireConnectionState::AwaitingSync => { told(on_awaiting_sync(handlers, client, message)) }
         PgWireConnectionState::CopyInProgress(is_extended) => {
             told(on_copy(alloc, handlers, client, is_extended, message))
         }
@@ -174,9 +172,15 @@ fn on_statement<
     ensures good { IsGoodState (H.Extended.told (H.extended handlers.now)).parser (state_of St.statements St.portals client.new) }
 {
     match message {
-        PgWireFrontendMessage::Parse(m) => handlers.extended_query_handler().on_parse(alloc, client, m),
-        PgWireFrontendMessage::Bind(m) => handlers.extended_query_handler().on_bind(alloc, client, m),
-        PgWireFrontendMessage::Describe(m) => handlers.extended_query_handler().on_describe(alloc, client, m),
+        PgWireFrontendMessage::Parse(m) => handlers
+            .extended_query_handler()
+            .on_parse(alloc, client, m),
+        PgWireFrontendMessage::Bind(m) => handlers
+            .extended_query_handler()
+            .on_bind(alloc, client, m),
+        PgWireFrontendMessage::Describe(m) => handlers
+            .extended_query_handler()
+            .on_describe(alloc, client, m),
         PgWireFrontendMessage::Close(m) => handlers.extended_query_handler().on_close(client, m),
         PgWireFrontendMessage::Flush(m) => handlers.extended_query_handler().on_flush(client, m),
         PgWireFrontendMessage::PgSync(m) => handlers.extended_query_handler().on_sync(client, m),
@@ -272,10 +276,7 @@ fn on_copy<
 }
 
 /// The COPY is done: in a Query ReadyForQuery with the status that was kept, in an extended query nothing is said.
-fn end_copy<St: PortalStore>(
-    client: &mut Client<St>,
-    is_extended: bool,
-) -> Result<(), PgWireError>
+fn end_copy<St: PortalStore>(client: &mut Client<St>, is_extended: bool) -> Result<(), PgWireError>
     ensures ok { OnOk result (IsEffect
         (copied is_extended (state_of St.statements St.portals client.old))
         client.old.outbox client.new.outbox (Done (state_of St.statements St.portals client.new))) }

@@ -85,7 +85,8 @@ pub answering_ends : (status : TransactionStatus) (all : List ToldResponse) (out
     → ((responded_all status all).refusal ≡ None) × (new ≡ out ++ replies_bytes (responded_all status all).replies) × (left ≡ behind (responded_all status all))
 answering_ends status all out left others new h none =
     let still : responded_all status all ≡ behind_these h.replies left.copying (responded_all left.status []) =
-    h.still ∙ ap (λ l. behind_these h.replies left.copying (responded_all left.status l)) none in
-    (ap (λ s. s.refusal) still,
-    h.replied ∙ ap (λ l. out ++ replies_bytes l) (sym (append-nil h.replies) ∙ sym (ap (λ s. s.replies) still)),
-    ap (λ c. let b : Behind = record { status = left.status; copying = c } in b) (sym (or_false left.copying)) ∙ sym (ap behind still))
+    h.still ∙ ap (λ l. behind_these h.replies left.copying (responded_all left.status l)) none in (
+      ap (λ s. s.refusal) still,
+      h.replied ∙ ap (λ l. out ++ replies_bytes l) (sym (append-nil h.replies) ∙ sym (ap (λ s. s.replies) still)),
+      ap (λ c. let b : Behind = record { status = left.status; copying = c } in b) (sym (or_false left.copying)) ∙ sym (ap behind still),
+    )

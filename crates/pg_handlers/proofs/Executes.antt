@@ -1,8 +1,7 @@
 -- Rows that run a query: one start, its questions, and what it answers.
-use Rattle.std.proofs.Common.{arith, ◌≡◌, ℕ, ◌+◌, ◌⊎◌, inl, inr, Bool, true, false, List, [], ◌∷◌, ◌++◌, Result, Ok, Err, length, drop, refl, ap, sym, subst, ◌∙◌, append_assoc}
-use Rattle.std.proofs.lemmas.List.{append-nil, length-append}
+use Rattle.std.proofs.Common.{◌≡◌, ℕ, ◌+◌, inl, inr, Bool, false, List, [], ◌∷◌, ◌++◌, Result, Ok, Err, length, drop, refl, ap, sym, subst, ◌∙◌, append_assoc}
+use Rattle.std.proofs.lemmas.List.{append-nil}
 use Rattle.std.proofs.Math.Seq.{drop-append_seam}
-use Rattle.pg_messages.specs.Replies.{replies_bytes}
 use Rattle.pg_messages.specs.declared.simplequery.Query.{Query}
 use Rattle.pg_portal.specs.declared.error.PgWireError.{PgWireError}
 use Rattle.pg_portal.specs.declared.error.PgWireError.TheVariants as wire
@@ -14,7 +13,7 @@ use Rattle.pg_handlers.specs.declared.ends.SessionError.{SessionError}
 use Rattle.pg_handlers.specs.declared.ends.SessionError.TheVariants as session
 use Rattle.pg_handlers.specs.declared.ends.Turns.{Turns}
 use Rattle.pg_handlers.specs.Answer.{answers_of}
-use Rattle.pg_handlers.specs.Effect.{Effect, Called, Row, Outcome, Failed, Done, Stopped, IsEffect, IsRow, IsCutRow, IsRefusedRow, IsRefusedEffect, silent, stopped, refuses}
+use Rattle.pg_handlers.specs.Effect.{Effect, Called, Row, Outcome, IsEffect, IsRow, IsCutRow, IsRefusedRow, IsRefusedEffect, silent, stopped, refuses}
 use Rattle.pg_handlers.specs.Questions.{Verdict, Passed, Canceled, Unanswered, Questioned, started, questioned, questions, questions_since, IsAsked, IsVerdict, HasSpent}
 use Rattle.pg_handlers.specs.Handlers.{SimpleTold}
 use Rattle.pg_handlers.specs.SimpleRows.{on_query, query_polled, answered_all}

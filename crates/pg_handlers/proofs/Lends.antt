@@ -1,26 +1,25 @@
 -- What an Execute makes of the table, where the store lends the portal of its name.
-use Rattle.std.proofs.Common.{◌≡◌, ℕ, ℤ, ◌⊎◌, inl, inr, Bool, true, false, List, [], ◌∷◌, ◌++◌, Option, Some, None, Result, Ok, Err, refl, ap, sym, subst, ◌∙◌}
+use Rattle.std.proofs.Common.{◌≡◌, ℕ, ℤ, inl, inr, Bool, true, false, List, [], ◌∷◌, ◌++◌, Option, Some, None, Result, Ok, Err, refl, ap, sym, subst, ◌∙◌}
 use Rattle.std.specs.FinMap as fin
 use Rattle.std.proofs.lemmas.List.{append-nil}
 use Rattle.pg_messages.specs.declared.data.DataRow.{DataRow}
 use Rattle.pg_messages.specs.declared.extendedquery.Execute.{Execute}
-use Rattle.pg_messages.specs.Replies.{replies_bytes}
 use Rattle.pg_portal.specs.declared.error.PgWireError.{PgWireError}
 use Rattle.pg_portal.specs.declared.client.ClientInfo.{ClientInfo}
 use Rattle.pg_portal.specs.declared.stmt.StoredStatement.{StoredStatement}
 use Rattle.pg_portal.specs.declared.store.Entry.{Entry}
 use Rattle.pg_portal.specs.declared.store.Entry.TheVariants as entry
 use Rattle.pg_portal.specs.Names.{NameMap}
-use Rattle.pg_portal.specs.Page.{ItemPage, PageEnd, AtLimit, AtEnd, AtError, item_page}
+use Rattle.pg_portal.specs.Page.{PageEnd, AtLimit, AtEnd, AtError, item_page}
 use Rattle.pg_portal.specs.Responses as response
 use Rattle.pg_portal.specs.Responses.{ToldResponse}
-use Rattle.pg_portal.specs.Told.{BoundPortal, ParserTold, TablePortal, Stage, Unstarted, Started, Ended, ToldRows, value_under, value_of}
+use Rattle.pg_portal.specs.Told.{BoundPortal, ParserTold, TablePortal, Stage, Unstarted, Started, Ended, ToldRows, value_under}
 use Rattle.pg_portal.proofs.NameMaps.{insert-same}
 use Rattle.pg_handlers.specs.declared.desk.DeskCall.{DeskCall}
 use Rattle.pg_handlers.specs.declared.desk.DeskCall.TheVariants as desk
 use Rattle.pg_handlers.specs.declared.ends.SessionError.{SessionError}
 use Rattle.pg_handlers.specs.declared.ends.SessionError.TheVariants as session
-use Rattle.pg_handlers.specs.Effect.{Effect, Called, Row, Outcome, Failed, Done, Stopped, IsEffect, IsRow, IsCutRow, IsRefusedRow, IsRefusedEffect, silent, stopped, refuses}
+use Rattle.pg_handlers.specs.Effect.{Effect, Outcome, Failed, Done, Stopped, IsEffect, IsRow, IsCutRow, IsRefusedRow, IsRefusedEffect, silent}
 use Rattle.pg_handlers.specs.ExecuteRow.{at_stage, stage_after, page_effect, fetched, fetched_nothing, executed_portal, executed_entry, executed_without_rows, executed_nothing, execute_polled, on_execute}
 use Rattle.pg_handlers.specs.Executing.{OnlyLosesUnnamed, is_unstarted, IsPageOf, IsPortalRun, page_result, response_page, portal_run}
 use Rattle.pg_handlers.specs.Handlers.{ExtendedTold}

@@ -1,21 +1,15 @@
 -- Rows of the conversation table that were carried out or refused, and the errors that they tell.
-use Rattle.std.proofs.Common.{arith, rules, ◌≡◌, ◌≢◌, ℕ, zero, suc, ◌+◌, ◌≤◌, ◌⊎◌, inl, inr, Bool, true, false, List, [], ◌∷◌, ◌++◌, Result, Ok, Err, length, drop, codes, IsTrue, refl, ap, sym, subst, ◌∙◌, append_assoc}
-use Rattle.std.proofs.lemmas.List.{append-nil, length-append}
-use Rattle.std.proofs.Math.Seq.{drop-append_seam, drop-length}
-use Rattle.pg_messages.specs.Replies.{HasNoZero, replies_bytes}
-use Rattle.pg_portal.specs.declared.error.PgWireError.{PgWireError}
+use Rattle.std.proofs.Common.{arith, ◌≡◌, ◌≢◌, ℕ, ◌+◌, inr, List, [], codes, refl, ap, sym, subst}
+use Rattle.std.proofs.lemmas.List.{append-nil}
+use Rattle.std.proofs.Math.Seq.{drop-length}
 use Rattle.pg_portal.specs.declared.error.PgWireError.TheVariants as wire
 use Rattle.pg_portal.specs.declared.client.PgWireConnectionState.{PgWireConnectionState}
 use Rattle.pg_portal.specs.declared.client.PgWireConnectionState.TheVariants as phase
-use Rattle.pg_portal.specs.Errors.{error}
-use Rattle.pg_portal.specs.Rows.{IsTellable, IsAnswerable}
+use Rattle.pg_portal.specs.Rows.{IsAnswerable}
 use Rattle.pg_handlers.proofs.Encodable.{by_test}
 use Rattle.pg_handlers.specs.declared.desk.DeskCall.{DeskCall}
-use Rattle.pg_handlers.specs.declared.ends.SessionError.{SessionError}
-use Rattle.pg_handlers.specs.declared.ends.SessionError.TheVariants as session
 use Rattle.pg_handlers.specs.declared.ends.Turns.{Turns}
-use Rattle.pg_handlers.specs.Answer.{answers_of}
-use Rattle.pg_handlers.specs.Effect.{Effect, Called, Row, Outcome, Failed, Done, IsEffect, IsRow, IsCutRow, IsRefusedRow, when_ready, ready_or_refused, silent, refuses}
+use Rattle.pg_handlers.specs.Effect.{Called, Row, Failed, IsEffect, IsRow, when_ready, ready_or_refused, silent, refuses}
 use Rattle.pg_handlers.specs.Questions.{questions_since, questions}
 use Rattle.pg_handlers.specs.State.{State}
 

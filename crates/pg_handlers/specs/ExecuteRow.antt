@@ -1,5 +1,5 @@
 -- Execute (protocol: Message Flow, Extended Query).
-use Rattle.std.specs.Prelude.{ℕ, ℤ, Bool, true, List, [], ◌∷◌, ◌++◌, Option, Some, None, Result, Ok, Err, if◌then◌else◌, length, codes}
+use Rattle.std.specs.Prelude.{ℕ, Bool, true, List, [], ◌∷◌, ◌++◌, Option, Some, None, Result, Ok, Err, if◌then◌else◌, length, codes}
 use Rattle.std.specs.FinMap as fin
 use Rattle.pg_messages.specs.declared.extendedquery.Execute.{Execute}
 use Rattle.pg_messages.specs.declared.data.DataRow.{DataRow}
@@ -10,7 +10,7 @@ use Rattle.pg_portal.specs.declared.client.PgWireConnectionState.TheVariants as 
 use Rattle.pg_portal.specs.declared.store.Entry.{Entry}
 use Rattle.pg_portal.specs.declared.store.Entry.TheVariants as entry
 use Rattle.pg_portal.specs.Fetching.{with_items}
-use Rattle.pg_portal.specs.Page.{ItemPage, PageEnd, AtLimit, AtEnd, AtError, item_page}
+use Rattle.pg_portal.specs.Page.{PageEnd, AtLimit, AtEnd, AtError, item_page}
 use Rattle.pg_portal.specs.Told.{TablePortal, Stage, Unstarted, Started, Ended, ToldRows}
 use Rattle.pg_portal.specs.Responses as response
 use Rattle.pg_portal.specs.Responses.{ToldResponse}

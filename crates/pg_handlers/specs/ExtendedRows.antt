@@ -1,5 +1,5 @@
 -- Statements and portals: Parse, Bind, Describe, Close, Sync (protocol: Message Flow, Extended Query).
-use Rattle.std.specs.Prelude.{ℕ, Bool, List, [], ◌∷◌, ◌==◌, ◌&&◌, ◌≡◌, ◌≤◌, ◌<◌, IsOkAnd, Option, Some, None, Result, Ok, Err, nat_le, nat_lt, if◌then◌else◌, length}
+use Rattle.std.specs.Prelude.{ℕ, List, [], ◌∷◌, ◌==◌, ◌≡◌, ◌≤◌, ◌<◌, IsOkAnd, Option, Some, None, Result, Ok, Err, nat_le, nat_lt, if◌then◌else◌, length}
 use Rattle.std.specs.FinMap as fin
 use Rattle.pg_messages.specs.declared.extendedquery.Parse.{Parse}
 use Rattle.pg_messages.specs.declared.extendedquery.Bind.{Bind}

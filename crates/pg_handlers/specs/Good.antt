@@ -1,8 +1,7 @@
 -- What stands in a good store, and what can be sent of what handlers tell.
-use Rattle.std.specs.Prelude.{ℕ, false, List, Option, Some, None, Result, Ok, Err, ◌≡◌, ◌≢◌, ◌≤◌, ◌<◌, ◌^◌, IsTrue, length, map}
+use Rattle.std.specs.Prelude.{ℕ, false, List, Some, None, Result, Ok, Err, ◌≡◌, ◌≤◌, ◌<◌, ◌^◌, IsTrue, length}
 use Rattle.std.specs.List.{AllByRecursion}
 use Rattle.std.specs.FinMap as fin
-use Rattle.pg_messages.specs.declared.backend.PgWireBackendMessage.TheVariants as server
 use Rattle.pg_messages.specs.declared.frontend.PgWireFrontendMessage.{PgWireFrontendMessage}
 use Rattle.pg_messages.specs.Frames.{IsFrame}
 use Rattle.pg_messages.specs.Replies.{IsEncodable}
@@ -11,7 +10,6 @@ use Rattle.pg_portal.specs.declared.portal.Format.{Format}
 use Rattle.pg_portal.specs.declared.portal.Format.TheVariants as format
 use Rattle.pg_portal.specs.declared.stmt.StoredStatement.{StoredStatement}
 use Rattle.pg_portal.specs.declared.results.describe.DescribeStatementResponse.{DescribeStatementResponse}
-use Rattle.pg_portal.specs.declared.results.describe.DescribePortalResponse.{DescribePortalResponse}
 use Rattle.pg_portal.specs.Clients.{HasShortMetadata}
 use Rattle.pg_portal.specs.Fields.{Field}
 use Rattle.pg_portal.specs.Responses as response

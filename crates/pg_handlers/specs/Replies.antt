@@ -1,5 +1,5 @@
 -- The forms of the server's replies (protocol: Message Formats).
-use Rattle.std.specs.Prelude.{ℕ, ℤ, List, [], ◌∷◌, ◌++◌, map, codes, decimal}
+use Rattle.std.specs.Prelude.{ℕ, ℤ, List, [], ◌∷◌, ◌++◌, map, codes}
 use Rattle.pg_messages.specs.declared.response.TransactionStatus.{TransactionStatus}
 use Rattle.pg_messages.specs.declared.response.TransactionStatus.TheVariants as status
 use Rattle.pg_messages.specs.declared.response.ErrorInfo.{ErrorInfo}

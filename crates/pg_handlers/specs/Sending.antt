@@ -1,8 +1,7 @@
 -- What calls that send made of the outbox.
-use Rattle.std.specs.Prelude.{ℕ, ℤ, Bool, true, false, List, [], ◌∷◌, ◌++◌, Option, Some, None, Result, Ok, Err, ◌≡◌, ◌⊎◌, length}
+use Rattle.std.specs.Prelude.{ℕ, Bool, true, false, List, ◌++◌, Some, None, Result, Ok, Err, ◌≡◌, ◌⊎◌}
 use Rattle.pg_messages.specs.declared.copy.CopyData.{CopyData}
 use Rattle.pg_messages.specs.declared.data.DataRow.{DataRow}
-use Rattle.pg_messages.specs.declared.response.TransactionStatus.{TransactionStatus}
 use Rattle.pg_messages.specs.Replies.{replies_bytes}
 use Rattle.pg_portal.specs.declared.error.PgWireError.{PgWireError}
 use Rattle.pg_portal.specs.declared.error.PgWireError.TheVariants as wire
@@ -13,7 +12,7 @@ use Rattle.pg_portal.specs.Told.{ToldRows}
 use Rattle.pg_handlers.specs.declared.query.respond.Behind.{Behind}
 use Rattle.pg_handlers.specs.declared.ends.SessionError.{SessionError}
 use Rattle.pg_handlers.specs.declared.ends.SessionError.TheVariants as session
-use Rattle.pg_handlers.specs.Replies.{Replies, row_replies}
+use Rattle.pg_handlers.specs.Replies.{row_replies}
 use Rattle.pg_handlers.specs.ResponseRows.{Sent, copy_replies, copy_count, not_empty}
 
 -- A page was sent, which ended so: whether it was suspended, and what is left of the response.

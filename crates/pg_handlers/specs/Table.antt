@@ -5,7 +5,7 @@ use Rattle.pg_messages.specs.declared.frontend.PgWireFrontendMessage.TheVariants
 use Rattle.pg_portal.specs.declared.client.PgWireConnectionState.{PgWireConnectionState}
 use Rattle.pg_portal.specs.declared.client.PgWireConnectionState.TheVariants as phase
 use Rattle.pg_handlers.specs.declared.ends.EndKind.TheVariants as end
-use Rattle.pg_handlers.specs.Answer.{Answer, Table}
+use Rattle.pg_handlers.specs.Answer.{Table}
 use Rattle.pg_handlers.specs.Handlers.{Handlers, ExtendedTold}
 use Rattle.pg_handlers.specs.State.{State}
 use Rattle.pg_handlers.specs.Effect.{Effect, Called, Scope, UntilSync, AnswersReady, says, over, silent, settle}

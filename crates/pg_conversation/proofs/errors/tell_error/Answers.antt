@@ -1,11 +1,5 @@
-use Rattle.std.proofs.Common.{rules, ◌≡◌, ◌++◌, ◌⊎◌, [], Some, None, true, false, IfOk, OnOk, ℕ, ◌+◌, ◌-◌, ◌*◌, ◌<◌, ◌≤◌, length, ◌/◌, ◌%◌, Bool, nat_eq, nat_lt, List, ◌∷◌, slice_index_or, slice_set, bit_and, bit_or, Fits, w8, w32, w64, Bor, MutBor}
-use Rattle.pg_messages.specs.Replies.{replies_bytes}
 use Rattle.pg_portal.specs.Errors.{info_of}
-use Rattle.pg_portal.specs.Rows.{IsTellable}
-use Rattle.pg_handlers.specs.Effect.{failed}
 use Rattle.pg_handlers.specs.State.{state_of}
-use Rattle.pg_handlers.specs.declared.ends.EndKind.TheVariants.{Fatal}
-use Rattle.pg_conversation.specs.Messages.{scope_for, next_of}
 use Rattle.pg_conversation.proofs.ToldErrors.{told_ready}
 use Rattle.pg_conversation.proofs.errors.tell_error.Goals as goal
 

@@ -1,23 +1,10 @@
-use Rattle.std.proofs.Common.{refl, ap, inl, inr, ◌≡◌, ◌≢◌, ◌≤◌, Some, IfOk, IfErr, OnOk, ℕ, ◌+◌, ◌-◌, ◌*◌, ◌<◌, length, ◌/◌, ◌%◌, Bool, true, false, nat_eq, nat_lt, List, [], ◌∷◌, ◌++◌, slice_index_or, slice_set, bit_and, bit_or, Fits, w8, w32, w64, Bor, MutBor}
-use Rattle.pg_portal.specs.Rows.{IsAnswerable}
-use Rattle.pg_portal.specs.declared.error.PgWireError.{PgWireError}
-use Rattle.pg_portal.specs.declared.client.PgWireConnectionState.TheVariants as phase
-use Rattle.pg_handlers.specs.CopyRows.{copy_row, copied}
-use Rattle.pg_handlers.specs.Effect.{IsRow, IsRefusedRow, IsEffect, IsRefusedEffect, Done}
-use Rattle.pg_handlers.specs.Good.{IsGiven, IsGoodState}
+use Rattle.pg_handlers.specs.CopyRows.{copy_row}
 use Rattle.pg_handlers.specs.Handlers.{handlers_of}
-use Rattle.pg_handlers.specs.Questions.{HasSpent, questions_since}
-use Rattle.pg_handlers.specs.Sending.{IsAnswerableError}
 use Rattle.pg_handlers.specs.State.{state_of}
-use Rattle.pg_handlers.specs.Table.{message_row, ready_row, statement_row, IsPlain, awaiting_sync_row}
-use Rattle.pg_handlers.specs.declared.ends.EndKind.TheVariants.{InputEnd}
-use Rattle.pg_conversation.specs.Messages.{IsGivenIn, outcome_of, told}
-use Rattle.pg_handlers.proofs.Rows.{no_turn}
+use Rattle.pg_handlers.specs.Table.{awaiting_sync_row}
 use Rattle.pg_handlers.proofs.GoodStores.{Each}
 use Rattle.pg_handlers.specs.Good.{IsGoodStatement, IsGoodPortal}
-use Rattle.std.proofs.Common.{subst, sym, Ok, Err, Result, Option}
-use Rattle.pg_handlers.specs.declared.ends.EndKind.{EndKind}
-use Rattle.pg_handlers.specs.declared.ends.SessionError.{SessionError}
+use Rattle.std.proofs.Common.{subst, sym}
 use Rattle.pg_conversation.proofs.StartupTurns.{startup_turns}
 use Rattle.pg_conversation.proofs.ToldRows.{told_ok, told_refused, sync_row, copy_phase_row}
 use Rattle.pg_conversation.proofs.messages.on_message.Goals as goal
@@ -32,7 +19,7 @@ returns-in-AwaitingStartup-clause-good g c =
     }
 
 pub returns-in-AwaitingStartup-clause-turns : goal.returns-in-AwaitingStartup-clause-turns
-returns-in-AwaitingStartup-clause-turns g c = 
+returns-in-AwaitingStartup-clause-turns g c =
     startup_turns (state_of g.St.PortalStore.statements g.St.PortalStore.portals c.args.client.now) (state_of g.St.PortalStore.statements g.St.PortalStore.portals c.on_startup_phase.new.client) c.args.message c.args.turns.now
     c.args.client.now.outbox c.on_startup_phase.new.client.outbox (g.D.CancelDesk.calls c.args.desk.now) (g.D.CancelDesk.calls c.on_startup_phase.new.desk)
     c.on_startup_phase.result c.on_startup_phase.ensures.ok c.on_startup_phase.ensures.refused c.on_startup_phase.ensures.unlimited

@@ -1,17 +1,7 @@
-use Rattle.std.proofs.Common.{ap, refl, inl, inr, ◌≡◌, ◌≢◌, ◌≤◌, Some, IfOk, IfErr, OnOk, ℕ, ◌+◌, ◌-◌, ◌*◌, ◌<◌, length, ◌/◌, ◌%◌, Bool, true, false, nat_eq, nat_lt, List, [], ◌∷◌, ◌++◌, slice_index_or, slice_set, bit_and, bit_or, Fits, w8, w32, w64, Bor, MutBor}
-use Rattle.pg_portal.specs.Rows.{IsAnswerable}
-use Rattle.pg_portal.specs.declared.error.PgWireError.{PgWireError}
-use Rattle.pg_portal.specs.declared.client.PgWireConnectionState.TheVariants as phase
-use Rattle.pg_handlers.specs.CopyRows.{copy_row, copied}
-use Rattle.pg_handlers.specs.Effect.{IsRow, IsRefusedRow, IsEffect, IsRefusedEffect, Done}
-use Rattle.pg_handlers.specs.Good.{IsGiven, IsGoodState}
+use Rattle.std.proofs.Common.{ap, refl, inl}
 use Rattle.pg_handlers.specs.Handlers.{handlers_of}
-use Rattle.pg_handlers.specs.Questions.{HasSpent, questions_since}
-use Rattle.pg_handlers.specs.Sending.{IsAnswerableError}
 use Rattle.pg_handlers.specs.State.{state_of}
-use Rattle.pg_handlers.specs.Table.{message_row, ready_row, statement_row, IsPlain, awaiting_sync_row}
-use Rattle.pg_handlers.specs.declared.ends.EndKind.TheVariants.{InputEnd}
-use Rattle.pg_conversation.specs.Messages.{IsGivenIn, outcome_of}
+use Rattle.pg_handlers.specs.Table.{statement_row}
 use Rattle.pg_handlers.specs.declared.ends.SessionError.TheVariants as session
 use Rattle.pg_handlers.proofs.GoodStores.{good_parts}
 use Rattle.pg_handlers.proofs.Rows.{no_turn}

@@ -1,4 +1,4 @@
-use Rattle.std.proofs.Common.{rules, ◌≡◌, ◌∷◌, ◌||◌, [], Ok, Err, true, inl, inr, refl, sym, ap, subst, ◌∙◌, append_assoc, ◌++◌}
+use Rattle.std.proofs.Common.{◌≡◌, ◌∷◌, [], inl, inr, sym, ap, subst, ◌∙◌, append_assoc, ◌++◌}
 use Rattle.std.specs.List.{AllByRecursion}
 use Rattle.std.specs.Vec.Iter.{into_iter_items}
 use Rattle.std.proofs.lemmas.List.{nil_from_length}
@@ -32,7 +32,7 @@ loop-response-preserved-then-left g c =
     let taken = c.in-Some.ensures.steps.0 in
     let each = subst (λ l. AllByRecursion IsSendableResponse (told_responses R C l)) taken c.loop-response.invariant.each in
     let before = subst (λ l. IsAnswered c.args.status (told_responses R C c.args.responses) c.args.outbox.now c.loop-response.left (told_responses R C l) c.loop-response.outbox) taken
-        c.loop-response.invariant.sent in
+    c.loop-response.invariant.sent in
     record {
       all = c.loop-response.invariant.all ∙ ap (λ l. c.loop-response.yielded ++ l) taken ∙ sym (append_assoc c.loop-response.yielded (c.in-Some.response ∷ []) (into_iter_items c.next.new.self));
       each = each.1;
@@ -47,7 +47,7 @@ loop-response-preserved g c =
     let taken = c.in-Some.ensures.steps.0 in
     let each = subst (λ l. AllByRecursion IsSendableResponse (told_responses R C l)) taken c.loop-response.invariant.each in
     let before = subst (λ l. IsAnswered c.args.status (told_responses R C c.args.responses) c.args.outbox.now c.loop-response.left (told_responses R C l) c.loop-response.outbox) taken
-        c.loop-response.invariant.sent in
+    c.loop-response.invariant.sent in
     record {
       all = c.loop-response.invariant.all ∙ ap (λ l. c.loop-response.yielded ++ l) taken ∙ sym (append_assoc c.loop-response.yielded (c.in-Some.response ∷ []) (into_iter_items c.next.new.self));
       each = each.1;
@@ -61,7 +61,7 @@ returns-in_err-next-clause-sent g c =
     let R = g.R.RowSource.items in let C = g.C.CopySource.items in
     let p = err_from_is_err_and c.from_residual.result c.from_residual.ensures.1 in
     let before = subst (λ l. IsAnswered c.args.status (told_responses R C c.args.responses) c.args.outbox.now c.loop-response.left (told_responses R C l) c.loop-response.outbox) c.in-Some.ensures.steps.0
-        c.loop-response.invariant.sent in
+    c.loop-response.invariant.sent in
     rw (p.1, p.2) (elim c.in_err-next.ensures.sent [
       | inl none ↦ inl none
       | inr met ↦ inr (answering_refused c.args.status (told_responses R C c.args.responses) c.args.outbox.now c.loop-response.left (told_response R C c.in-Some.response)

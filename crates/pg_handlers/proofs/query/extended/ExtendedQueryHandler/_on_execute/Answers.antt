@@ -1,19 +1,18 @@
-use Rattle.std.proofs.Common.{rules, ◌≡◌, ℤ, to_z, of_z, w32, ◌∷◌, ◌++◌, [], ℕ, Bool, Option, Some, None, Ok, Err, true, false, inl, inr, refl, ap, sym, subst, ◌∙◌}
+use Rattle.std.proofs.Common.{rules, ◌≡◌, ℤ, to_z, of_z, w32, ℕ, Bool, Some, None, Ok, Err, true, inl, refl, ap, sym, subst, ◌∙◌}
 use Rattle.std.specs.FinMap as fin
 use Rattle.std.proofs.lemmas.Int.{to_z-of_z}
 use Rattle.std.proofs.lemmas.Result.{err_from_is_err_and}
 use Rattle.pg_portal.specs.Responses.{told_response}
-use Rattle.pg_portal.specs.Told.{portal_of, stage_of, bound_of, value_under, Unstarted}
+use Rattle.pg_portal.specs.Told.{portal_of, value_under, Unstarted}
 use Rattle.pg_portal.proofs.NameMaps.{at_some}
-use Rattle.pg_handlers.specs.declared.ends.SessionError.TheVariants as session
-use Rattle.pg_handlers.specs.ExecuteRow.{on_execute, executed_nothing, executed_entry}
-use Rattle.pg_handlers.specs.Executing.{is_unstarted, IsPageOf, page_result, IsPortalRun, portal_run}
+use Rattle.pg_handlers.specs.ExecuteRow.{on_execute, executed_nothing}
+use Rattle.pg_handlers.specs.Executing.{IsPageOf, page_result, IsPortalRun, portal_run}
 use Rattle.pg_handlers.specs.Handlers.{told_one}
 use Rattle.pg_handlers.specs.Questions.{IsAsked, questions_since}
 use Rattle.pg_handlers.specs.Effect.{IsEffect, IsRefusedEffect, Done}
 use Rattle.pg_handlers.specs.State.{State, state_of}
 use Rattle.pg_handlers.proofs.Executes.{silent_row, silent_refused, cut_at_none, asked_since, spent_as}
-use Rattle.pg_handlers.proofs.Lends.{parts_same, no_portal, started_ok, started_refused, written_same, unstarted_is, written_state, good_written, good_same, good_responded, run_as, refused_begun, portal_refused, portal_paged, handed_same, handed_ok, handed_refused}
+use Rattle.pg_handlers.proofs.Lends.{parts_same, no_portal, started_ok, started_refused, unstarted_is, written_state, good_written, good_responded, run_as, refused_begun, portal_refused, portal_paged, handed_same, handed_ok, handed_refused}
 use Rattle.pg_handlers.proofs.query.extended.ExtendedQueryHandler._on_execute.Goals as goal
 
 pub returns-in_err-execute_no_portal-clause-refused : goal.returns-in_err-execute_no_portal-clause-refused
@@ -25,7 +24,7 @@ returns-in_err-execute_no_portal-clause-refused g c =
     let store = c.portal_mut.follows.lender-at-none in let holds = c.portal_mut.follows.holds-at-none in let new_s = state_of g.St.PortalStore.statements g.St.PortalStore.portals c.execute_no_portal.new.client in
     let same = parts_same s (g.St.PortalStore.statements store) (g.St.PortalStore.portals store) holds.0 holds.1 in
     let here = subst (λ (t : State g.row.Self-Statement.Denot). IsRefusedEffect (executed_nothing t m.name (fin.get t.portals m.name)) c.args.client.now.outbox c.execute_no_portal.new.client.outbox new_s
-        c.in_err-execute_no_portal.field-0.0) same c.in_err-execute_no_portal.ensures.refused in
+    c.in_err-execute_no_portal.field-0.0) same c.in_err-execute_no_portal.ensures.refused in
     rw (u.1, u.2) (silent_refused (λ answers. on_execute h answers s m) (executed_nothing s m.name (fin.get s.portals m.name)) (g.D.CancelDesk.calls c.args.desk.now) c.in_err-execute_no_portal.field-0.0
     (λ answers. no_portal h answers s m (fin.get s.portals m.name) none) here)
 
@@ -130,8 +129,11 @@ returns-in_err-query-clause-refused g c =
     let p = portal_of g.Self.Rows.RowSource.items c.in-Some.portal.now in
     let found : value_under (fin.get s.portals c.args.message.name) ≡ Some p = ap (λ n. value_under (fin.get s.portals n)) (sym c.as_str.ensures) ∙ sym c.in-Some.ensures.value in
     let fresh : p.stage ≡ Unstarted = unstarted_is p.stage (sym c.is_unstarted.ensures ∙ c.if-not-is_unstarted.false) in
-    rw (q.1, q.2) (inl (refl, refused_begun (told_response g.Self.Rows.RowSource.items g.Self.CopyRows.CopySource.items) (g.Self.ExtendedQueryHandler.told c.args.self.now) s c.args.message p found fresh
-    (g.D.CancelDesk.calls c.args.desk.now) (g.D.CancelDesk.calls c.start.new.self) c.in_ok-start.ensures.ok))
+    rw (q.1, q.2) (inl (
+      refl,
+      refused_begun (told_response g.Self.Rows.RowSource.items g.Self.CopyRows.CopySource.items) (g.Self.ExtendedQueryHandler.told c.args.self.now) s c.args.message p found fresh
+          (g.D.CancelDesk.calls c.args.desk.now) (g.D.CancelDesk.calls c.start.new.self) c.in_ok-start.ensures.ok,
+    ))
 
 pub returns-in_err-query-clause-good : goal.returns-in_err-query-clause-good
 returns-in_err-query-clause-good g c =

@@ -1,18 +1,17 @@
-use Rattle.std.proofs.Common.{◌≡◌, ◌++◌, ◌∷◌, [], ◌+◌, ℕ, Ok, Err, false, true, inl, inr, refl, ap, sym, subst, ◌∙◌}
-use Rattle.std.proofs.lemmas.List.{append-nil}
+use Rattle.std.proofs.Common.{◌≡◌, ◌∷◌, [], ℕ, false, true, inl, refl, ap, sym, subst, ◌∙◌}
 use Rattle.std.proofs.lemmas.Result.{err_from_is_err_and}
 use Rattle.pg_messages.specs.declared.backend.PgWireBackendMessage.TheVariants as server
 use Rattle.pg_portal.specs.Texts.{is_blank}
 use Rattle.pg_portal.specs.Responses.{told_responses}
 use Rattle.pg_handlers.specs.declared.ends.SessionError.TheVariants as session
-use Rattle.pg_handlers.specs.Effect.{Effect, IsEffect, IsRefusedEffect, Done, Row, silent, says}
-use Rattle.pg_handlers.specs.Handlers.{told_all, told_query}
-use Rattle.pg_handlers.specs.Questions.{Verdict, IsAsked, questions_since}
+use Rattle.pg_handlers.specs.Effect.{IsEffect, IsRefusedEffect, Done, says}
+use Rattle.pg_handlers.specs.Handlers.{told_all}
+use Rattle.pg_handlers.specs.Questions.{IsAsked, questions_since}
 use Rattle.pg_handlers.specs.Replies.{ready}
 use Rattle.pg_handlers.specs.SimpleRows.{on_query, query_polled}
 use Rattle.pg_handlers.specs.State.{state_of}
 use Rattle.pg_handlers.proofs.Sent.{sent_behind}
-use Rattle.pg_handlers.proofs.Executes.{run_row, row_as, cut_as, refused_as, cut_at_none, silent_row, silent_refused, cut_started, run_was, run_cut, run_refused, asked_since, wait_refused, spent_as, spent_ok, runs_query, query_passed, query_failed}
+use Rattle.pg_handlers.proofs.Executes.{run_row, row_as, cut_as, refused_as, cut_at_none, silent_row, cut_started, run_was, run_refused, asked_since, wait_refused, spent_as, spent_ok, runs_query, query_passed, query_failed}
 use Rattle.pg_handlers.proofs.query.simple.SimpleQueryHandler._on_query.Goals as goal
 
 pub returns-in_err-send_empty_query_response-clause-refused : goal.returns-in_err-send_empty_query_response-clause-refused
@@ -52,8 +51,11 @@ returns-in_err-state-clause-refused g c =
     let s = state_of g.St.PortalStore.statements g.St.PortalStore.portals c.args.client.now in
     let h = g.Self.SimpleQueryHandler.told c.args.self.now in let q = h s.info c.args.query.query in
     let blank : is_blank c.args.query.query ≡ false = ap is_blank (sym c.as_str.ensures) ∙ sym c.is_blank.ensures ∙ c.if-is_blank.false in
-    rw (p.1, p.2) (inl (refl, cut_as (λ answers. on_query h answers s c.args.query) (run_row q.owes (λ verdict. query_polled s verdict q.outcome)) (runs_query h s c.args.query blank)
-    (cut_started q.owes (λ verdict. query_polled s verdict q.outcome) (g.D.CancelDesk.calls c.args.desk.now) (g.D.CancelDesk.calls c.start.new.self) c.in_ok-start.ensures.ok)))
+    rw (p.1, p.2) (inl (
+      refl,
+      cut_as (λ answers. on_query h answers s c.args.query) (run_row q.owes (λ verdict. query_polled s verdict q.outcome)) (runs_query h s c.args.query blank)
+          (cut_started q.owes (λ verdict. query_polled s verdict q.outcome) (g.D.CancelDesk.calls c.args.desk.now) (g.D.CancelDesk.calls c.start.new.self) c.in_ok-start.ensures.ok),
+    ))
 
 pub returns-in_err-wait-clause-refused : goal.returns-in_err-wait-clause-refused
 returns-in_err-wait-clause-refused g c =
