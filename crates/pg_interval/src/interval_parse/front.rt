@@ -62,7 +62,8 @@ pub(super) fn two_digits_front(text: &[u8]) -> Option<(u64, &[u8])>
 /// with at most six digits behind the point. `None` comes where there is none.
 #[inline(always)]
 fn decimal_front(text: &[u8], turn: bool) -> Option<(Number, &[u8])>
-    ensures { IfSome result (λ front. IsDecimalFront turn (decimal_from front.0) text.now front.1.now) }
+    ensures { IfSome result
+        (λ front. IsDecimalFront turn (decimal_from front.0) text.now front.1.now) }
 {
     let negative = sign_of(text, turn);
     let Some((whole, behind)) = number_front(without_sign(text)) else {
@@ -92,7 +93,8 @@ fn decimal_front(text: &[u8], turn: bool) -> Option<(Number, &[u8])>
 /// The whole number of this size, negative if `negative` says so.
 #[inline(always)]
 fn whole_number(negative: bool, whole: u64) -> Number
-    ensures { decimal_from result ≡ record { negative = negative; whole = whole; fraction = 0; places = 0 } }
+    ensures { decimal_from result
+        ≡ record { negative = negative; whole = whole; fraction = 0; places = 0 } }
 {
     Number {
         negative,
@@ -105,7 +107,8 @@ fn whole_number(negative: bool, whole: u64) -> Number
 /// The decimal in front of the text, the word behind it with one space between them, and what stands behind the word.
 #[inline(always)]
 pub(super) fn pair_front(text: &[u8], turn: bool) -> Option<(Number, &[u8], &[u8])>
-    ensures { IfSome result (λ front. IsPairFront turn (decimal_from front.0) text.now front.1.now front.2.now) }
+    ensures { IfSome result
+        (λ front. IsPairFront turn (decimal_from front.0) text.now front.1.now front.2.now) }
 {
     let Some((number, behind)) = decimal_front(text, turn) else {
         return None;
@@ -137,7 +140,8 @@ pub(super) fn signed(minus: bool, size: u64) -> i64
 #[inline(always)]
 pub(super) fn interval_within(months: i64, days: i64, microseconds: i64) -> Option<Interval>
     ensures { IfSome result (λ i.
-        interval_of_sums (record { months = months; days = days; microseconds = microseconds }) ≡ Ok i) }
+        interval_of_sums (record { months = months; days = days; microseconds = microseconds })
+        ≡ Ok i) }
 {
     let Ok(months) = i32::try_from(months) else {
         return None;

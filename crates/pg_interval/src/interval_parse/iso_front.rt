@@ -26,7 +26,8 @@ impl Sums {
     /// Adds months. `false` comes where the sum leaves its type.
     #[inline(always)]
     fn add_months(&mut self, more: i64) -> bool
-        ensures sums { result ≡ true → sums_of self.new ≡ sum_of (sums_of self.old) (only_months more) }
+        ensures sums { result ≡ true →
+            sums_of self.new ≡ sum_of (sums_of self.old) (only_months more) }
         ensures in_time { self.new.in_time ≡ self.old.in_time }
     {
         let Some(sum) = self.months.checked_add(more) else {
@@ -39,7 +40,8 @@ impl Sums {
     /// Adds days. `false` comes where the sum leaves its type.
     #[inline(always)]
     fn add_days(&mut self, more: i64) -> bool
-        ensures sums { result ≡ true → sums_of self.new ≡ sum_of (sums_of self.old) (only_days more) }
+        ensures sums { result ≡ true →
+            sums_of self.new ≡ sum_of (sums_of self.old) (only_days more) }
         ensures in_time { self.new.in_time ≡ self.old.in_time }
     {
         let Some(sum) = self.days.checked_add(more) else {
@@ -52,7 +54,8 @@ impl Sums {
     /// Adds microseconds. `false` comes where the sum leaves its type.
     #[inline(always)]
     fn add_time(&mut self, more: i64) -> bool
-        ensures sums { result ≡ true → sums_of self.new ≡ sum_of (sums_of self.old) (only_time more) }
+        ensures sums { result ≡ true →
+            sums_of self.new ≡ sum_of (sums_of self.old) (only_time more) }
         ensures in_time { self.new.in_time ≡ self.old.in_time }
     {
         let Some(sum) = self.microseconds.checked_add(more) else {
@@ -83,7 +86,8 @@ impl Sums {
     /// Takes the `T` before this rest, and returns the rest. `None` comes where it is the second.
     #[inline(always)]
     fn take_mark<'a>(&mut self, rest: &'a [u8]) -> Option<&'a [u8]>
-        ensures left { IfSome result (λ next. left_of self.old (84 ∷ rest.now) ≡ left_of self.new next.now) }
+        ensures left { IfSome result
+            (λ next. left_of self.old (84 ∷ rest.now) ≡ left_of self.new next.now) }
         ensures long { IfSome result (λ next. length next.now ≤ length rest.now) }
     {
         if self.in_time {
@@ -96,7 +100,8 @@ impl Sums {
     /// Takes the item in front of the text, and returns the rest. `None` comes where it isn't written so.
     #[inline(always)]
     fn take_item<'a>(&mut self, text: &'a [u8]) -> Option<&'a [u8]>
-        ensures left { IfSome result (λ next. left_of self.old text.now ≡ left_of self.new next.now) }
+        ensures left { IfSome result
+            (λ next. left_of self.old text.now ≡ left_of self.new next.now) }
         ensures long { IfSome result (λ next. length next.now < length text.now) }
     {
         let minus = sign_of(text, false);
@@ -129,7 +134,8 @@ impl Sums {
     /// Takes the `T` or the item in front of the text, and returns the rest. `None` comes where they aren't written so.
     #[inline(always)]
     fn take_front<'a>(&mut self, text: &'a [u8]) -> Option<&'a [u8]>
-        ensures left { IfSome result (λ next. left_of self.old text.now ≡ left_of self.new next.now) }
+        ensures left { IfSome result
+            (λ next. left_of self.old text.now ≡ left_of self.new next.now) }
         ensures long { IfSome result (λ next. length next.now < length text.now) }
     {
         if let Some(rest) = after_byte(b'T', text) {

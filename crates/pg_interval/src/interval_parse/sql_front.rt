@@ -17,7 +17,8 @@ use crate::pg_interval::Interval;
 #[inline(always)]
 fn months_front(text: &[u8]) -> Option<(u64, &[u8])>
     ensures amount { let minus = begins is_minus text.now in IfSome result
-        (λ front. IsAmountFront year_month_pairs (only_months (with_sign minus front.0)) text.now front.1.now) }
+        (λ front. IsAmountFront year_month_pairs (only_months (with_sign minus front.0))
+        text.now front.1.now) }
     ensures small { IfSome result (λ front. front.0 < 2 ^ 35) }
 {
     let Some((years, behind)) = number_front(without_sign(text)) else {
@@ -36,7 +37,8 @@ fn months_front(text: &[u8]) -> Option<(u64, &[u8])>
 #[inline(always)]
 fn days_front(text: &[u8]) -> Option<(u64, &[u8])>
     ensures amount { let minus = begins is_minus text.now in IfSome result
-        (λ front. IsAmountFront day_pairs (only_days (with_sign minus front.0)) text.now front.1.now) }
+        (λ front. IsAmountFront day_pairs (only_days (with_sign minus front.0))
+        text.now front.1.now) }
     ensures small { IfSome result (λ front. front.0 < 2 ^ 31) }
 {
     let Some((days, rest)) = number_front(without_sign(text)) else {
