@@ -1,5 +1,13 @@
+pub mod Answering
+pub mod BadFrames
+pub mod Flowing
+pub mod GoodStates
+pub mod Pieces
+pub mod ReplyBytes
 pub mod Rows
-pub mod ToldErrors
+pub mod Spending
 pub mod Starting
-pub mod ToldRows
 pub mod StartupTurns
+pub mod Stepping
+pub mod ToldErrors
+pub mod ToldRows

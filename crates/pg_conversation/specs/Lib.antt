@@ -1,1 +1,5 @@
 pub mod Messages
+pub mod Run
+pub mod Session
+pub mod Steps
+pub mod Streams

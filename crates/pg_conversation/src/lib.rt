@@ -1,9 +1,25 @@
-//! The conversation with one client, message by message: what each is answered in each phase, and what follows an error.
+//! The conversation with one client: what each message is answered in each phase, what follows an error, and the session
+//! that takes the client's bytes piece by piece.
 #![tactic(auto)]
 
+mod ends;
 mod errors;
 mod messages;
+mod server;
+mod session;
 mod startup;
+mod streams;
 
+pub use ends::{Progress, ServeError};
 pub use errors::tell_error;
 pub use messages::on_message;
+pub use pg_handlers::{
+    CancelDesk, Client, CopyHandler, DeskCall, EndKind, ExtendedQueryHandler, Outbox,
+    PgWireServerHandlers, QueryState, ScriptDesk, SessionError, SimpleQueryHandler, Turn, Turns,
+    send_copy_both_response, send_copy_in_response, send_copy_out_response, send_describe_response,
+    send_execution_response, send_partial_query_response, send_query_response,
+    send_ready_for_query,
+};
+pub use server::{process_error, process_message};
+pub use session::Session;
+pub use streams::{Sink, SinkError, Source, SourceFailed};

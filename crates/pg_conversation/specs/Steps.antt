@@ -1,0 +1,97 @@
+-- What messages do to a session: the outbox and the registry's calls grow by their answer, and the state is the next one.
+use Rattle.std.specs.Prelude.{ℕ, Bool, List, ◌++◌, ◌≡◌, ◌≢◌, Option, Some, None}
+use Rattle.pg_messages.specs.declared.frontend.PgWireFrontendMessage.{PgWireFrontendMessage}
+use Rattle.pg_messages.specs.declared.backend.PgWireBackendMessage.{PgWireBackendMessage}
+use Rattle.pg_messages.specs.Frames.{IsUnfinished, DividesInto}
+use Rattle.pg_messages.specs.Replies.{replies_bytes}
+use Rattle.pg_handlers.specs.declared.desk.DeskCall.{DeskCall}
+use Rattle.pg_handlers.specs.declared.ends.EndKind.TheVariants as end
+use Rattle.pg_conversation.specs.declared.ends.Progress.{Progress}
+use Rattle.pg_conversation.specs.declared.ends.Progress.TheVariants as progress
+use Rattle.pg_handlers.specs.Answer.{Answer, Table, Next, Goes, Stops, answers_of, conversation}
+use Rattle.pg_handlers.specs.Answer.{BeginsWith}
+use Rattle.pg_conversation.specs.Streams.{GrowsBy, GrowsByFront}
+use Rattle.pg_conversation.specs.Run.{Rules, IsFed, EndsWith}
+
+-- ---- one message
+
+-- The bytes that wait to be sent have grown by those of the replies.
+pub record AppendsReplies (out new_out : List ℕ) (replies : List PgWireBackendMessage) : Type 0 where
+  pub bytes : new_out ≡ out ++ replies_bytes replies
+
+-- The answer was carried out: the bytes that wait and the calls have grown by it, and this comes next.
+pub record IsCarriedOut {T : Type 0} (a : Answer T) (out new_out : List ℕ) (calls new_calls : List DeskCall) (next : Next T) : Type 0 where
+  pub replied : AppendsReplies out new_out a.replies
+  pub called : new_calls ≡ calls ++ a.calls
+  pub goes_on : a.next ≡ next
+
+-- A message was answered by the table, under the very answers that its calls tell.
+pub record IsAnswered {T : Type 0} (table : Table T) (s : T) (m : PgWireFrontendMessage) (out new_out : List ℕ) (calls new_calls : List DeskCall) (next : Next T) : Type 0 where
+  pub made : List DeskCall
+  pub own : (table (answers_of made) s m).calls ≡ made
+  pub carried : IsCarriedOut (table (answers_of made) s m) out new_out calls new_calls next
+
+-- The answer to a message was cut off: the calls that were made are a front of those of the answer.
+pub record IsCutAnswer {T : Type 0} (table : Table T) (s : T) (m : PgWireFrontendMessage) (calls new_calls : List DeskCall) : Type 0 where
+  pub made : List DeskCall
+  pub front : BeginsWith (table (answers_of made) s m).calls made
+  pub grown : new_calls ≡ calls ++ made
+
+-- The answer to a message stops: all calls were made, and the next one wants an answer that isn't there.
+pub record IsStoppedAnswer {T : Type 0} (table : Table T) (s : T) (m : PgWireFrontendMessage) (calls new_calls : List DeskCall) : Type 0 where
+  pub made : List DeskCall
+  pub own : (table (answers_of made) s m).calls ≡ made
+  pub stops : (table (answers_of made) s m).next ≡ Stops
+  pub grown : new_calls ≡ calls ++ made
+
+-- ---- a text
+
+-- Bytes went through an outbox to a sink: some were sent, and the others wait behind them.
+pub record Flows (written new_written : Option (List ℕ)) (out new_out bytes : List ℕ) : Type 0 where
+  pub sent : List ℕ
+  pub grown : GrowsBy written new_written sent
+  pub same : sent ++ new_out ≡ out ++ bytes
+
+-- A text was served as far as it goes: its frames were answered, which stay its frames whatever bytes follow; the bytes went through the
+-- outbox, and the calls were made.
+pub record IsServed {T : Type 0} (rules : Rules T) (s : T) (text rest : List ℕ) (next : Next T) (written new_written : Option (List ℕ)) (out new_out : List ℕ) (calls new_calls : List DeskCall) : Type 0 where
+  pub bytes : List ℕ
+  pub called : List DeskCall
+  pub fed : (more : List ℕ) → IsFed rules s (text ++ more) (rest ++ more) bytes called next
+  pub flows : Flows written new_written out new_out bytes
+  pub grown : new_calls ≡ calls ++ called
+
+-- The serving of a text was cut off: the bytes that were written and the calls that were made are a front of the answer to its frames,
+-- under the very answers that the calls tell.
+pub record IsCutOff {T : Type 0} (rules : Rules T) (s : T) (text : List ℕ) (written new_written : Option (List ℕ)) (out : List ℕ) (calls new_calls : List DeskCall) : Type 0 where
+  pub messages : List PgWireFrontendMessage
+  pub rest : List ℕ
+  pub made : List DeskCall
+  pub given : Answer T
+  pub division : DividesInto (rules.awaits s) text messages rest
+  pub answered : conversation rules.table (answers_of made) s messages ≡ given
+  pub cut : GrowsByFront written new_written (out ++ replies_bytes given.replies)
+  pub front : BeginsWith given.calls made
+  pub grown : new_calls ≡ calls ++ made
+
+-- The serving of a text stops at a question for which no turn is left: the calls that were made are all calls of the answer to its frames
+-- under the very answers that they tell, which stops there, and the bytes that were written are a front of its replies.
+pub record IsStopped {T : Type 0} (rules : Rules T) (s : T) (text : List ℕ) (written new_written : Option (List ℕ)) (out : List ℕ) (calls new_calls : List DeskCall) : Type 0 where
+  pub messages : List PgWireFrontendMessage
+  pub rest : List ℕ
+  pub made : List DeskCall
+  pub replies : List PgWireBackendMessage
+  pub division : DividesInto (rules.awaits s) text messages rest
+  pub answered : conversation rules.table (answers_of made) s messages ≡ record { replies = replies; calls = made; next = Stops }
+  pub cut : GrowsByFront written new_written (out ++ replies_bytes replies)
+  pub grown : new_calls ≡ calls ++ made
+
+-- Where the conversation stands after a piece: it goes on and no whole frame is left, or it has ended, whatever bytes may follow.
+abbrev pub Stands : {T : Type 0} → (T → Bool) → Next T → T → List ℕ → Progress → Type 0
+Stands awaits next s rest progress.More = (next ≡ Goes s) × IsUnfinished (awaits s) rest
+Stands awaits next s rest (progress.Ended kind) = (kind ≢ end.InputEnd) × ((more : List ℕ) → EndsWith awaits next (rest ++ more) kind)
+
+-- the same after a step: where it is no progress to report, a message was answered and the conversation goes on
+abbrev pub StandsAfterStep : {T : Type 0} → (T → Bool) → Next T → T → List ℕ → Option Progress → Type 0
+StandsAfterStep awaits next s rest None = next ≡ Goes s
+StandsAfterStep awaits next s rest (Some told) = Stands awaits next s rest told

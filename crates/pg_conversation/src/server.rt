@@ -1,0 +1,100 @@
+//! Messages and errors, one by one.
+
+ghost use Rattle.std.specs.Prelude.{◌≡◌, ◌≢◌, ◌≤◌, ◌++◌, ◌⊎◌, [], Some, None, true, false, IfOk, IfErr, OnOk};
+ghost use Rattle.pg_messages.specs.Replies.{replies_bytes};
+ghost use Rattle.pg_portal.specs.Errors.{info_of};
+ghost use Rattle.pg_portal.specs.Rows.{IsTellable};
+ghost use Rattle.pg_handlers.specs.Effect.{IsRow, IsRefusedRow, failed};
+ghost use Rattle.pg_handlers.specs.Errors.{is_fatal};
+ghost use Rattle.pg_handlers.specs.Handlers.{handlers_of};
+ghost use Rattle.pg_handlers.specs.Questions.{HasSpent, questions_since};
+ghost use Rattle.pg_handlers.specs.Sending.{IsAnswerableError};
+ghost use Rattle.pg_handlers.specs.Table.{message_row, awaits};
+ghost use Rattle.pg_handlers.specs.declared.ends.EndKind.TheVariants.{InputEnd, Fatal};
+ghost use Rattle.pg_conversation.specs.Messages.{IsGivenIn, outcome_of, scope_for, next_of};
+ghost use Rattle.pg_conversation.specs.Session.{stays_open, goes_on};
+
+use crate::session::Session;
+use pg_handlers::{
+    CancelDesk, EndKind, ExtendedQueryHandler, PgWireServerHandlers, SessionError, Turns,
+};
+use pg_messages::PgWireFrontendMessage;
+use pg_portal::{PgWireError, PortalStore};
+use std::alloc::{AllocError, Global};
+
+/// Answers a message, but for what follows an error. Its replies wait in the session's outbox, and are sent by the next
+/// `feed` before its own. Some(end) says that the conversation has ended. An error of the message leaves the session
+/// open, without its ErrorResponse and all that follows it: `process_error` does that. TurnLimit comes where a query
+/// wants a turn and none is left. An end, want of memory and TurnLimit close the session.
+pub fn process_message<
+    H: PgWireServerHandlers,
+    St: PortalStore<
+        Statement = <H::Extended as ExtendedQueryHandler>::Statement,
+        Rows = <H::Extended as ExtendedQueryHandler>::Rows,
+    >,
+    D: CancelDesk,
+>(
+    alloc: Global,
+    session: &mut Session<H, St>,
+    desk: &mut D,
+    turns: &mut Turns,
+    message: PgWireFrontendMessage,
+) -> Result<Option<EndKind>, SessionError>
+    requires open { session.old.is_open ≡ true }
+    requires given { IsGivenIn session.old.state message }
+    ensures ok { IfOk result (λ end. IsRow
+        (λ answers. message_row
+        (handlers_of (H.Extended.told (H.extended session.old.handlers)) (H.Simple.told (H.simple session.old.handlers)) (H.Copying.told (H.copying session.old.handlers)))
+        answers session.old.state message)
+        session.old.unsent session.new.unsent (D.calls desk.old) (D.calls desk.new)
+        (outcome_of end session.new.state)) }
+    ensures refused { IfErr result (IsRefusedRow
+        (λ answers. message_row
+        (handlers_of (H.Extended.told (H.extended session.old.handlers)) (H.Simple.told (H.simple session.old.handlers)) (H.Copying.told (H.copying session.old.handlers)))
+        answers session.old.state message)
+        session.old.unsent session.new.unsent (D.calls desk.old) (D.calls desk.new)
+        session.new.state) }
+    ensures answerable { IfErr result IsAnswerableError }
+    ensures ends { IfOk result (λ end. end ≢ Some InputEnd) }
+    ensures open { session.new.is_open ≡ stays_open result }
+    ensures handlers { session.new.handlers ≡ session.old.handlers }
+    ensures rest { session.new.rest ≡ session.old.rest }
+    ensures turns { HasSpent turns.old turns.new
+        (questions_since (D.calls desk.old) (D.calls desk.new)) result }
+    ensures bounded { turns.old.spent ≤ turns.old.limit → turns.new.spent ≤ turns.new.limit }
+    ensures same { D.registration desk.new ≡ D.registration desk.old }
+    ensures origin { D.origin desk.new ≡ D.origin desk.old }
+{
+    session.answer(alloc, desk, turns, message)
+}
+
+/// Tells the client an error of a message, and does what follows it: ErrorResponse, and where the error's severity is
+/// FATAL the end; else the transaction status of an error, and the wait for Sync where that is wanted (after an extended
+/// message or in a COPY of one), or ReadyForQuery.
+pub fn process_error<
+    H: PgWireServerHandlers,
+    St: PortalStore<
+        Statement = <H::Extended as ExtendedQueryHandler>::Statement,
+        Rows = <H::Extended as ExtendedQueryHandler>::Rows,
+    >,
+>(
+    alloc: Global,
+    session: &mut Session<H, St>,
+    error: PgWireError,
+    wait_for_sync: bool,
+) -> Result<Option<EndKind>, AllocError>
+    requires open { session.old.is_open ≡ true }
+    requires tellable { IsTellable error }
+    requires begun { (awaits session.old.state ≡ false) ⊎ (is_fatal (info_of error) ≡ true) }
+    ensures replied { OnOk result (session.new.unsent ≡ session.old.unsent ++ replies_bytes
+        (failed (scope_for wait_for_sync) [] [] session.old.state (info_of error)).replies) }
+    ensures next { IfOk result (λ end.
+        (failed (scope_for wait_for_sync) [] [] session.old.state (info_of error)).next
+        ≡ next_of end session.new.state) }
+    ensures ends { IfOk result (λ end. (end ≡ None) ⊎ (end ≡ Some Fatal)) }
+    ensures open { session.new.is_open ≡ goes_on result }
+    ensures handlers { session.new.handlers ≡ session.old.handlers }
+    ensures rest { session.new.rest ≡ session.old.rest }
+{
+    session.tell(alloc, error, wait_for_sync)
+}
