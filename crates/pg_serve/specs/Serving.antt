@@ -1,0 +1,87 @@
+-- What the server owes its client: what is written and called by how a conversation ended, and why it ended so.
+use Rattle.std.specs.Prelude.{ℕ, List, ◌++◌, ◌+◌, ◌≤◌, ◌<◌, ◌^◌, ◌≡◌, ◌⊎◌, Option, Some, Result, Ok, Err, IfSome}
+use Rattle.pg_messages.specs.declared.frontend.PgWireFrontendMessage.{PgWireFrontendMessage}
+use Rattle.pg_messages.specs.declared.backend.PgWireBackendMessage.{PgWireBackendMessage}
+use Rattle.pg_messages.specs.Frames.{DividesInto}
+use Rattle.pg_messages.specs.Replies.{replies_bytes}
+use Rattle.pg_handlers.specs.declared.desk.DeskCall.{DeskCall}
+use Rattle.pg_handlers.specs.declared.ends.EndKind.{EndKind}
+use Rattle.pg_handlers.specs.declared.ends.EndKind.TheVariants.{InputEnd}
+use Rattle.pg_handlers.specs.Answer.{BeginsWith, Stops, answers_of, conversation}
+use Rattle.pg_conversation.specs.declared.ends.ServeError.{ServeError}
+use Rattle.pg_conversation.specs.declared.ends.ServeError.TheVariants.{ReadFault, WriteFault, TurnLimit, NoMemory}
+use Rattle.pg_conversation.specs.Run.{Rules, IsRun, IsCutRun}
+use Rattle.pg_conversation.specs.Streams.{GrowsBy, HasRisen}
+
+-- What was written has grown by the reply bytes of a run over the client's bytes, with these registry calls and this end.
+-- The client's bytes are those that the source had to give, where it tells them.
+abbrev pub IsServedRun : {T : Type 0} → Rules T → T → Option (List ℕ) → Option (List ℕ) → Option (List ℕ) → List DeskCall → EndKind → Type 0
+IsServedRun rules first left old new calls kind = (text : List ℕ) × IfSome left (λ bytes. text ≡ bytes)
+    × ((replies : List ℕ) × GrowsBy old new replies × IsRun rules first text replies calls kind)
+
+-- These bytes were taken from those that a source had to give.
+abbrev pub TakesFrom : Option (List ℕ) → Option (List ℕ) → List ℕ → Type 0
+TakesFrom left new_left taken = IfSome left (λ text. (rest : List ℕ) × (text ≡ taken ++ rest) × (new_left ≡ Some rest))
+
+-- What was written has grown by the whole answer to the taken bytes, which end where one more read was needed.
+abbrev pub IsRunOfTaken : {T : Type 0} → Rules T → T → Option (List ℕ) → Option (List ℕ) → Option (List ℕ) → Option (List ℕ) → List DeskCall → Type 0
+IsRunOfTaken rules first left new_left old new calls = (taken : List ℕ) × TakesFrom left new_left taken
+    × ((replies : List ℕ) × GrowsBy old new replies × IsRun rules first taken replies calls InputEnd)
+
+-- What was written has grown by a front of the answer to the taken bytes, and the calls are a front of the answer's.
+abbrev pub IsCutRunOfTaken : {T : Type 0} → Rules T → T → Option (List ℕ) → Option (List ℕ) → Option (List ℕ) → Option (List ℕ) → List DeskCall → Type 0
+IsCutRunOfTaken rules first left new_left old new calls = (taken : List ℕ) × TakesFrom left new_left taken
+    × ((front : List ℕ) × GrowsBy old new front × IsCutRun rules first taken front calls)
+
+-- A run that stops at a question for want of an answer: these are all its calls, and these bytes a front of its replies.
+pub record IsStoppedRun {T : Type 0} (rules : Rules T) (s : T) (text bytes : List ℕ) (calls : List DeskCall) : Type 0 where
+  pub messages : List PgWireFrontendMessage
+  pub rest : List ℕ
+  pub replies : List PgWireBackendMessage
+  pub division : DividesInto (rules.awaits s) text messages rest
+  pub answered : conversation rules.table (answers_of calls) s messages ≡ record { replies = replies; calls = calls; next = Stops }
+  pub replied : BeginsWith (replies_bytes replies) bytes
+
+-- What was written has grown by a front of the answer to the taken bytes, which stops at a question, where one more turn was needed.
+abbrev pub IsStoppedRunOfTaken : {T : Type 0} → Rules T → T → Option (List ℕ) → Option (List ℕ) → Option (List ℕ) → Option (List ℕ) → List DeskCall → Type 0
+IsStoppedRunOfTaken rules first left new_left old new calls = (taken : List ℕ) × TakesFrom left new_left taken
+    × ((front : List ℕ) × GrowsBy old new front × IsStoppedRun rules first taken front calls)
+
+-- What was written and called by the answer: the run over all client bytes where it is an end; the run over the taken bytes where one more
+-- read was needed; for want of a turn that run, or one that stops at a question; a front where a write failed or memory ran out.
+abbrev pub WentSo : {T : Type 0} → Rules T → T → Result EndKind ServeError → Option (List ℕ) → Option (List ℕ) → Option (List ℕ) → Option (List ℕ)
+    → List DeskCall → Type 0
+WentSo rules first (Ok kind) left new_left old new calls = IsServedRun rules first left old new calls kind
+WentSo rules first (Err ReadFault) left new_left old new calls = IsRunOfTaken rules first left new_left old new calls
+WentSo rules first (Err TurnLimit) left new_left old new calls = IsRunOfTaken rules first left new_left old new calls
+    ⊎ IsStoppedRunOfTaken rules first left new_left old new calls
+WentSo rules first (Err WriteFault) left new_left old new calls = IsCutRunOfTaken rules first left new_left old new calls
+WentSo rules first (Err NoMemory) left new_left old new calls = IsCutRunOfTaken rules first left new_left old new calls
+
+-- where the counts of a source and of a sink stood at the start of a conversation, and where they stand after it
+pub record Counts : Type 0 where
+  pub reads : ℕ
+  pub read_faults : ℕ
+  pub write_faults : ℕ
+
+-- the counts of a source and of a sink, by what their traits tell
+abbrev pub counts_of : {S K : Type 0} → (S → ℕ) → (S → ℕ) → (K → ℕ) → S → K → Counts
+counts_of reads read_faults write_faults source sink = record {
+  reads = reads source;
+  read_faults = read_faults source;
+  write_faults = write_faults sink;
+}
+
+-- the turn that reads the end of the input
+abbrev pub end_turn : EndKind → ℕ
+end_turn InputEnd = 1
+end_turn _ = 0
+
+-- Why a conversation came to an end or was given up: within the turns; a fault only where its count has risen; the turns only where as many
+-- reads gave a byte and as many questions were asked, and one more was needed. The turns speak of reads whose count doesn't come to its end.
+abbrev pub HasCause : Result EndKind ServeError → ℕ → ℕ → Counts → Counts → Type 0
+HasCause (Ok kind) turns asked old new = old.reads + turns < 2 ^ 64 → new.reads + asked + end_turn kind ≤ old.reads + turns
+HasCause (Err ReadFault) turns asked old new = HasRisen old.read_faults new.read_faults
+HasCause (Err WriteFault) turns asked old new = HasRisen old.write_faults new.write_faults
+HasCause (Err TurnLimit) turns asked old new = old.reads + turns < 2 ^ 64 → new.reads + asked ≡ old.reads + turns
+HasCause (Err NoMemory) turns asked old new = Unit {0}

@@ -1,0 +1,139 @@
+//! The engine: it reads the client's bytes, feeds a session with them, and counts turns.
+
+ghost use Rattle.std.specs.Prelude.{◌≡◌, ◌++◌, ◌≤◌, ◌<◌, List, [], length, take, true};
+ghost use Rattle.std.specs.Arc.{arc_value};
+ghost use Rattle.std.specs.FinMap as fin;
+ghost use Rattle.pg_messages.specs.Frames.{IsUnfinished};
+ghost use Rattle.pg_handlers.specs.declared.desk.DeskCall.{DeskCall};
+ghost use Rattle.pg_handlers.specs.Answer.{Goes};
+ghost use Rattle.pg_handlers.specs.Handlers.{handlers_of};
+ghost use Rattle.pg_handlers.specs.Questions.{questions_since};
+ghost use Rattle.pg_handlers.specs.State.{first_state};
+ghost use Rattle.pg_conversation.specs.Session.{whole_rules};
+ghost use Rattle.pg_serve.specs.Serving.{WentSo, HasCause, counts_of};
+
+use pg_portal::PortalStore;
+use pg_conversation::{
+    CancelDesk, EndKind, ExtendedQueryHandler, PgWireServerHandlers, Progress, ServeError, Session,
+    Sink, Source, Turns,
+};
+use std::alloc::Global;
+use std::sync::Arc;
+
+/// How many bytes a read asks for.
+const READ_LEN: usize = 8192;
+
+/// Serves a client: takes its bytes from the source, and writes the answer to the sink, until the conversation ends.
+/// A read that gives at least one byte or the end costs one turn, and so does each poll that finds a query unready.
+///
+/// ReadFault comes where a read failed, WriteFault where a write failed, TurnLimit where all turns were spent and
+/// one more was needed, NoMemory where memory ran out.
+pub fn serve_connection<
+    H: PgWireServerHandlers,
+    St: PortalStore<
+        Statement = <H::Extended as ExtendedQueryHandler>::Statement,
+        Rows = <H::Extended as ExtendedQueryHandler>::Rows,
+    >,
+    D: CancelDesk,
+    S: Source,
+    K: Sink,
+>(
+    alloc: Global,
+    handlers: Arc<H>,
+    store: St,
+    desk: &mut D,
+    source: &mut S,
+    sink: &mut K,
+    turn_limit: u64,
+) -> Result<EndKind, ServeError>
+    requires statements { St.statements store ≡ fin.empty }
+    requires portals { St.portals store ≡ fin.empty }
+
+    // The bytes written and the new calls are the conversation table's answer to the client's bytes, however cut.
+    ensures went { (calls : List DeskCall) × (D.calls desk.new ≡ D.calls desk.old ++ calls)
+        × WentSo (whole_rules (handlers_of (H.Extended.told (H.extended (arc_value handlers))) (H.Simple.told (H.simple (arc_value handlers))) (H.Copying.told (H.copying (arc_value handlers)))))
+        (first_state (D.registration desk.old).0 (D.registration desk.old).1)
+        result (S.left source.old) (S.left source.new) (K.written sink.old) (K.written sink.new) calls }
+    ensures cause { HasCause result turn_limit (questions_since (D.calls desk.old) (D.calls desk.new))
+        (counts_of S.reads S.faults K.faults source.old sink.old)
+        (counts_of S.reads S.faults K.faults source.new sink.new) }
+    ensures same { D.registration desk.new ≡ D.registration desk.old }
+    ensures origin { D.origin desk.new ≡ D.origin desk.old }
+{
+    let (pid, key) = desk.identity();
+    let mut session = Session::new(alloc, handlers, store, pid, key)?;
+    let mut turns = Turns {
+        spent: 0,
+        limit: turn_limit,
+    };
+    let mut buffer = [0u8; READ_LEN];
+    serve_session(
+        alloc,
+        &mut session,
+        desk,
+        source,
+        sink,
+        &mut turns,
+        &mut buffer,
+    )
+}
+
+/// Feeds a session with what the source gives, until the conversation ends.
+fn serve_session<
+    H: PgWireServerHandlers,
+    St: PortalStore<
+        Statement = <H::Extended as ExtendedQueryHandler>::Statement,
+        Rows = <H::Extended as ExtendedQueryHandler>::Rows,
+    >,
+    D: CancelDesk,
+    S: Source,
+    K: Sink,
+>(
+    alloc: Global,
+    session: &mut Session<H, St>,
+    desk: &mut D,
+    source: &mut S,
+    sink: &mut K,
+    turns: &mut Turns,
+    buffer: &mut [u8],
+) -> Result<EndKind, ServeError>
+    requires open { session.old.is_open ≡ true }
+    requires rest { session.old.rest ≡ [] }
+    requires unsent { session.old.unsent ≡ [] }
+    requires fresh { turns.old.spent ≡ 0 }
+    requires room { 0 < length buffer.old }
+    ensures went { (calls : List DeskCall) × (D.calls desk.new ≡ D.calls desk.old ++ calls)
+        × WentSo (whole_rules (handlers_of (H.Extended.told (H.extended session.old.handlers)) (H.Simple.told (H.simple session.old.handlers)) (H.Copying.told (H.copying session.old.handlers))))
+        session.old.state
+        result (S.left source.old) (S.left source.new) (K.written sink.old) (K.written sink.new) calls }
+    ensures cause { HasCause result turns.old.limit (questions_since (D.calls desk.old) (D.calls desk.new))
+        (counts_of S.reads S.faults K.faults source.old sink.old)
+        (counts_of S.reads S.faults K.faults source.new sink.new) }
+    ensures same { D.registration desk.new ≡ D.registration desk.old }
+    ensures origin { D.origin desk.new ≡ D.origin desk.old }
+{
+    'turns: loop {
+        if !turns.spend() {
+            return Err(ServeError::TurnLimit);
+        }
+        let Ok(n) = source.receive(buffer) else {
+            return Err(ServeError::ReadFault);
+        };
+        if n == 0 {
+            return Ok(EndKind::InputEnd);
+        }
+        match session.feed(alloc, desk, front_of(buffer, n), sink, turns) {
+            Ok(Progress::More) => {}
+            Ok(Progress::Ended(kind)) => return Ok(kind),
+            Err(error) => return Err(error),
+        }
+    }
+}
+
+/// The first bytes of a buffer.
+fn front_of(buffer: &[u8], n: usize) -> &[u8]
+    requires { n ≤ length buffer.now }
+    ensures { result.now ≡ take n buffer.now }
+{
+    &buffer[..n]
+}
