@@ -40,7 +40,8 @@ with_more replies calls more next = record { replies = replies ++ more; calls = 
 
 -- What follows an outcome says this, and then the conversation stands here.
 abbrev Follows : {S : Type 0} → Scope → Outcome S → Replies → Next (State S) → Type 0
-Follows scope outcome more next = (replies : Replies) (calls : List DeskCall) → settled scope replies calls outcome ≡ with_more replies calls more next
+Follows scope outcome more next = (replies : Replies) (calls : List DeskCall)
+    → settled scope replies calls outcome ≡ with_more replies calls more next
 
 nothing_follows : {S : Type 0} (replies : Replies) (calls : List DeskCall) (next : Next (State S))
     → (let a : Answer (State S) = record { replies = replies; calls = calls; next = next } in a) ≡ with_more replies calls [] next
@@ -56,7 +57,8 @@ answer_of replies calls next = record { replies = replies; calls = calls; next =
 
 either_follows : {S : Type 0} (b : Bool) (replies : Replies) (calls : List DeskCall) (x y : Replies) (n m : Next (State S))
     → (if b then answer_of (replies ++ x) calls n else answer_of (replies ++ y) calls m)
-    ≡ with_more replies calls (if b then answer_of ([] ++ x) [] n else answer_of ([] ++ y) [] m).replies (if b then answer_of ([] ++ x) [] n else answer_of ([] ++ y) [] m).next
+    ≡ with_more replies calls (if b then answer_of ([] ++ x) [] n else answer_of ([] ++ y) [] m).replies (if b then answer_of
+    ([] ++ x) [] n else answer_of ([] ++ y) [] m).next
 either_follows true replies calls x y n m = refl
 either_follows false replies calls x y n m = refl
 
@@ -65,11 +67,13 @@ error_follows : {S : Type 0} (scope : Scope) (t : State S) (e : PgWireError) →
 error_follows scope t e replies calls = either_follows (is_fatal (info_of e)) replies calls
     (error_reply (info_of e) ∷ []) (error_reply (info_of e) ∷ (after_error scope t).0) (Ends end.Fatal) (Goes (after_error scope t).1)
 
-failed_calls : {S : Type 0} (b : Bool) (x y : Replies) (calls : List DeskCall) (n m : Next (State S)) → (if b then answer_of x calls n else answer_of y calls m).calls ≡ calls
+failed_calls : {S : Type 0} (b : Bool) (x y : Replies) (calls : List DeskCall) (n m : Next (State S))
+    → (if b then answer_of x calls n else answer_of y calls m).calls ≡ calls
 failed_calls true x y calls n m = refl
 failed_calls false x y calls n m = refl
 
-settled_calls : {S : Type 0} (scope : Scope) (replies : Replies) (calls : List DeskCall) (outcome : Outcome S) → (settled scope replies calls outcome).calls ≡ calls
+settled_calls : {S : Type 0} (scope : Scope) (replies : Replies) (calls : List DeskCall) (outcome : Outcome S)
+    → (settled scope replies calls outcome).calls ≡ calls
 settled_calls scope replies calls (Done t) = refl
 settled_calls scope replies calls (Failed t e) = failed_calls (is_fatal (info_of e)) (replies ++ error_reply (info_of e) ∷ [])
     (replies ++ error_reply (info_of e) ∷ (after_error scope t).0) calls (Ends end.Fatal) (Goes (after_error scope t).1)
@@ -80,8 +84,10 @@ settled_calls scope replies calls Stopped = refl
 
 module _ {S : Type 0} (h : Handlers S) (s : State S) (m : PgWireFrontendMessage) (calls new_calls : List DeskCall) where
   -- a row, and what follows its outcome
-  row_followed : (out mid new : List ℕ) (outcome : Outcome S) (more : Replies) (next : Next (State S)) → IsRow (λ answers. message_row h answers s m) out mid calls new_calls outcome
-      → new ≡ mid ++ replies_bytes more → Follows (scope_in s.info.state m) outcome more next → IsAnswered (whole_table h) s m out new calls new_calls next
+  row_followed : (out mid new : List ℕ) (outcome : Outcome S) (more : Replies) (next : Next (State S))
+      → IsRow (λ answers. message_row h answers s m) out mid calls new_calls outcome
+      → new ≡ mid ++ replies_bytes more → Follows (scope_in s.info.state m) outcome more next
+      → IsAnswered (whole_table h) s m out new calls new_calls next
   row_followed out mid new outcome more next x e follows =
       let c = message_row h (answers_of x.made) s m in
       let whole : whole_table h (answers_of x.made) s m ≡ with_more c.effect.replies c.calls more next =
@@ -92,8 +98,10 @@ module _ {S : Type 0} (h : Handlers S) (s : State S) (m : PgWireFrontendMessage)
         own = own;
         carried = record {
           replied = record {
-            bytes = e ∙ ap (λ l. l ++ replies_bytes more) x.effect.replied ∙ append_assoc out (replies_bytes c.effect.replies) (replies_bytes more)
-                ∙ ap (λ l. out ++ l) (sym (replies_bytes-append c.effect.replies more)) ∙ ap (λ a. out ++ replies_bytes a.replies) (sym whole);
+            bytes = e ∙ ap (λ l. l ++ replies_bytes more) x.effect.replied
+                ∙ append_assoc out (replies_bytes c.effect.replies) (replies_bytes more)
+                ∙ ap (λ l. out ++ l) (sym (replies_bytes-append c.effect.replies more))
+                ∙ ap (λ a. out ++ replies_bytes a.replies) (sym whole);
           };
           called = x.called ∙ ap (λ l. calls ++ l) (sym own);
           goes_on = ap (λ a. a.next) whole;
@@ -101,14 +109,17 @@ module _ {S : Type 0} (h : Handlers S) (s : State S) (m : PgWireFrontendMessage)
       }
 
   -- a message that met no error
-  pub answered_by_row : (out new : List ℕ) (e : Option EndKind) (t : State S) → IsRow (λ answers. message_row h answers s m) out new calls new_calls (outcome_of e t)
+  pub answered_by_row : (out new : List ℕ) (e : Option EndKind) (t : State S)
+      → IsRow (λ answers. message_row h answers s m) out new calls new_calls (outcome_of e t)
       → IsAnswered (whole_table h) s m out new calls new_calls (next_of e t)
-  answered_by_row out new e t x = row_followed out new new (outcome_of e t) [] (next_of e t) x (sym (append-nil new)) (end_follows (scope_in s.info.state m) e t)
+  answered_by_row out new e t x = row_followed out new new (outcome_of e t) [] (next_of e t) x (sym (append-nil new)) (end_follows
+      (scope_in s.info.state m) e t)
 
   -- a message that met an error, which was told
   pub answered_by_error : (out mid new : List ℕ) (t : State S) (e : PgWireError) (scope : Scope) (next : Next (State S))
       → IsRow (λ answers. message_row h answers s m) out mid calls new_calls (Failed t e)
-      → scope ≡ scope_in s.info.state m → new ≡ mid ++ replies_bytes (failed scope [] [] t (info_of e)).replies → (failed scope [] [] t (info_of e)).next ≡ next
+      → scope ≡ scope_in s.info.state m → new ≡ mid ++ replies_bytes (failed scope [] [] t (info_of e)).replies
+      → (failed scope [] [] t (info_of e)).next ≡ next
       → IsAnswered (whole_table h) s m out new calls new_calls next
   answered_by_error out mid new t e scope next x same replied goes_on =
       row_followed out mid new (Failed t e) (failed scope [] [] t (info_of e)).replies next x replied
@@ -125,7 +136,8 @@ module _ {S : Type 0} (h : Handlers S) (s : State S) (m : PgWireFrontendMessage)
       }
 
   -- What follows the row's error was cut off.
-  pub cut_behind_row : (out mid : List ℕ) (outcome : Outcome S) → IsRow (λ answers. message_row h answers s m) out mid calls new_calls outcome
+  pub cut_behind_row : (out mid : List ℕ) (outcome : Outcome S)
+      → IsRow (λ answers. message_row h answers s m) out mid calls new_calls outcome
       → IsCutAnswer (whole_table h) s m calls new_calls
   cut_behind_row out mid outcome x = cut_row (record { made = x.made; front = ([], x.own ∙ sym (append-nil x.made)); grown = x.called })
 
@@ -141,7 +153,8 @@ module _ {S : Type 0} (h : Handlers S) (s : State S) (m : PgWireFrontendMessage)
       }
 
   -- memory is wanting
-  pub cut_refused : (out mid : List ℕ) (t : State S) (e : PgWireError) → IsRefusedRow (λ answers. message_row h answers s m) out mid calls new_calls t (session.Wire e)
+  pub cut_refused : (out mid : List ℕ) (t : State S) (e : PgWireError)
+      → IsRefusedRow (λ answers. message_row h answers s m) out mid calls new_calls t (session.Wire e)
       → IsCutAnswer (whole_table h) s m calls new_calls
   cut_refused out mid t e (inl x) = cut_row x.1
   cut_refused out mid t e (inr x) = cut_behind_row out mid (Failed t e) x

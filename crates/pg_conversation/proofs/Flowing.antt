@@ -26,7 +26,8 @@ pub Flows-then : {w v u : Option (List ℕ)} {o p q a b : List ℕ} → Flows w 
 Flows-then {w} {v} {u} {o} {p} {q} {a} {b} x y = record {
   sent = x.sent ++ y.sent;
   grown = GrowsBy-then w v u x.sent y.sent x.grown y.grown;
-  same = append_assoc x.sent y.sent q ∙ ap (λ l. x.sent ++ l) y.same ∙ sym (append_assoc x.sent p b) ∙ ap (λ l. l ++ b) x.same ∙ append_assoc o a b;
+  same = append_assoc x.sent y.sent q ∙ ap (λ l. x.sent ++ l) y.same ∙ sym (append_assoc x.sent p b) ∙ ap (λ l. l ++ b) x.same
+      ∙ append_assoc o a b;
 }
 
 -- bytes that wait
@@ -42,7 +43,8 @@ front_of_more : (a b f : List ℕ) → BeginsWith a f → BeginsWith (a ++ b) f
 front_of_more a b f h = (h.0 ++ b, ap (λ l. l ++ b) h.1 ∙ append_assoc f h.0 b)
 
 -- bytes flowed, and the sending of those that waited was cut off
-pub cut_after : {w v : Option (List ℕ)} {o p a : List ℕ} (u : Option (List ℕ)) → Flows w v o p a → GrowsByFront v u p → GrowsByFront w u (o ++ a)
+pub cut_after : {w v : Option (List ℕ)} {o p a : List ℕ} (u : Option (List ℕ)) → Flows w v o p a → GrowsByFront v u p
+    → GrowsByFront w u (o ++ a)
 cut_after {w} {v} {o} {p} {a} u x g = subst (λ l. GrowsByFront w u l) x.same (GrowsByFront-then w v u x.sent p x.grown g)
 
 -- nothing was sent

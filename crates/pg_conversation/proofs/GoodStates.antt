@@ -25,12 +25,21 @@ nil_of [] e = refl
 nil_of (x ∷ xs) e = absurd (omega arith)
 
 no_entries : {X : Type 0} → (let m : fin.FinMap (slice_cmp nat_cmp) X = fin.empty in fin.entries m) ≡ []
-no_entries {X} = let m : fin.FinMap (slice_cmp nat_cmp) X = fin.empty in nil_of (fin.entries m) (sym (fin.len-entries m) ∙ fin.len-empty (slice_cmp nat_cmp) X)
+no_entries {X} = let m : fin.FinMap (slice_cmp nat_cmp) X = fin.empty in nil_of (fin.entries m) (sym (fin.len-entries m)
+    ∙ fin.len-empty (slice_cmp nat_cmp) X)
 
 good_first : {S : Type 0} (parser : ParserTold S) (pid : ℤ) (key : List ℕ) → IsGoodState parser (first_state pid key)
-good_first parser pid key = record { statements = λ q x e. none_at q x e; portals = λ q x e. none_at q x e; metadata = subst (AllByRecursion (λ e. IsShortText e.0 × IsShortText e.1)) (sym no_entries) tt }
+good_first parser pid key = record {
+  statements = λ q x e. none_at q x e;
+  portals = λ q x e. none_at q x e;
+  metadata = subst
+      (AllByRecursion (λ e. IsShortText e.0 × IsShortText e.1)) (sym no_entries) tt;
+}
 
 -- a session that begins, by the parts of its state
-pub good_new : {S : Type 0} (parser : ParserTold S) (info : ClientInfo) (statements : NameMap (Entry (StoredStatement S))) (portals : NameMap (Entry (TablePortal S)))
-    → info.metadata ≡ fin.empty → statements ≡ fin.empty → portals ≡ fin.empty → IsGoodState parser (record { info = info; statements = statements; portals = portals })
-good_new parser info statements portals i j k = good_parts parser (first_state info.pid info.secret_key) info statements portals i j k (good_first parser info.pid info.secret_key)
+pub good_new : {S : Type 0} (parser : ParserTold S) (info : ClientInfo) (statements : NameMap (Entry (StoredStatement S)))
+    (portals : NameMap (Entry (TablePortal S)))
+    → info.metadata ≡ fin.empty → statements ≡ fin.empty → portals ≡ fin.empty
+    → IsGoodState parser (record { info = info; statements = statements; portals = portals })
+good_new parser info statements portals i j k = good_parts parser (first_state info.pid info.secret_key) info statements portals i j k
+    (good_first parser info.pid info.secret_key)

@@ -52,7 +52,8 @@ in_vain_twice turns a b n e = ap (λ (k : ℕ). let now : Turns = record { spent
     (let same : turns.spent + a + b + 1 ≡ turns.spent + n + 1 = omega arith in same)
 
 -- Turns were spent, and then more by a call.
-fed_behind : {A : Type 0} (turns new : Turns) (a b n : ℕ) (result : Result A ServeError) → n ≡ a + b → HasFed (spent_more turns a) new b result → HasFed turns new n result
+fed_behind : {A : Type 0} (turns new : Turns) (a b n : ℕ) (result : Result A ServeError) → n ≡ a + b
+    → HasFed (spent_more turns a) new b result → HasFed turns new n result
 fed_behind turns new a b n (Ok x) e h = h ∙ spent_twice turns a b n e
 fed_behind turns new a b n (Err serve.ReadFault) e h = h ∙ spent_twice turns a b n e
 fed_behind turns new a b n (Err serve.WriteFault) e h = h ∙ spent_twice turns a b n e
@@ -61,7 +62,8 @@ fed_behind turns new a b n (Err serve.NoMemory) e (inl h) = inl (h ∙ spent_twi
 fed_behind turns new a b n (Err serve.NoMemory) e (inr h) = inr (h ∙ in_vain_twice turns a b n e)
 
 pub fed_then : {A : Type 0} (turns now new : Turns) (k l m a b : List DeskCall) (result : Result A ServeError) → l ≡ k ++ a → m ≡ l ++ b
-    → now ≡ spent_more turns (questions_since k l) → HasFed now new (questions_since l m) result → HasFed turns new (questions_since k m) result
+    → now ≡ spent_more turns (questions_since k l) → HasFed now new (questions_since l m) result
+    → HasFed turns new (questions_since k m) result
 fed_then turns now new k l m a b result p q e h =
     fed_behind turns new (questions_since k l) (questions_since l m) (questions_since k m) result (since_then k l m a b p q)
     (subst (λ t. HasFed t new (questions_since l m) result) e h)
@@ -76,23 +78,27 @@ fed_where_told turns new n e ne (inl h) = h
 fed_where_told turns new n e ne (inr h) = absurd (ne h.0)
 
 -- memory is wanting
-pub fed_no_memory : (turns new : Turns) (n : ℕ) (e : PgWireError) → TookTurns turns new n e → (new ≡ spent_more turns n) ⊎ (new ≡ spent_in_vain turns n)
+pub fed_no_memory : (turns new : Turns) (n : ℕ) (e : PgWireError) → TookTurns turns new n e
+    → (new ≡ spent_more turns n) ⊎ (new ≡ spent_in_vain turns n)
 fed_no_memory turns new n e (inl h) = inl h
 fed_no_memory turns new n e (inr h) = inr h.1
 
 -- an error takes what it takes, whatever the call would have told
-err_alike : (A B : Type 0) (turns new : Turns) (n : ℕ) (e : ServeError) → HasFed {A = A} turns new n (Err e) → HasFed {A = B} turns new n (Err e)
+err_alike : (A B : Type 0) (turns new : Turns) (n : ℕ) (e : ServeError) → HasFed {A = A} turns new n (Err e)
+    → HasFed {A = B} turns new n (Err e)
 err_alike A B turns new n serve.ReadFault h = h
 err_alike A B turns new n serve.WriteFault h = h
 err_alike A B turns new n serve.TurnLimit h = h
 err_alike A B turns new n serve.NoMemory h = h
 
-pub fed_err : (A B : Type 0) (turns new : Turns) (n : ℕ) (r : Result B ServeError) (e : ServeError) → IsErrAnd r (λ k. k ≡ e) → HasFed {A = A} turns new n (Err e) → HasFed turns new n r
+pub fed_err : (A B : Type 0) (turns new : Turns) (n : ℕ) (r : Result B ServeError) (e : ServeError) → IsErrAnd r (λ k. k ≡ e)
+    → HasFed {A = A} turns new n (Err e) → HasFed turns new n r
 fed_err A B turns new n (Ok x) e is h = absurd is
 fed_err A B turns new n (Err k) e is h = err_alike A B turns new n k (subst (λ q. HasFed {A = A} turns new n (Err q)) (sym is) h)
 
 -- an error that isn't want of turns, where no turn was taken but for what was asked
-pub fed_unless_limit : {B : Type 0} (turns new : Turns) (n : ℕ) (r : Result B ServeError) → new ≡ spent_more turns n → (r ≡ Err serve.TurnLimit → ⊥) → HasFed turns new n r
+pub fed_unless_limit : {B : Type 0} (turns new : Turns) (n : ℕ) (r : Result B ServeError) → new ≡ spent_more turns n
+    → (r ≡ Err serve.TurnLimit → ⊥) → HasFed turns new n r
 fed_unless_limit turns new n (Ok x) h ne = h
 fed_unless_limit turns new n (Err serve.ReadFault) h ne = h
 fed_unless_limit turns new n (Err serve.WriteFault) h ne = h

@@ -31,13 +31,19 @@ pub err_told : {T E : Type 0} (r : Result T E) (e k : E) → IsErrAnd r (λ x. x
 err_told r e k is told = sym (subst (λ q. IsErrAnd q (λ x. x ≡ e)) told is)
 
 -- where the conversation stands by the end that a message told
-pub stands_by : {T : Type 0} (awaits : T → Bool) (e : Option EndKind) (s : T) (rest : List ℕ) (step : Option Progress) → step ≡ option_map (λ kind. progress.Ended kind) e → e ≢ Some end.InputEnd
+pub stands_by : {T : Type 0} (awaits : T → Bool) (e : Option EndKind) (s : T) (rest : List ℕ) (step : Option Progress)
+    → step ≡ option_map (λ kind. progress.Ended kind) e → e ≢ Some end.InputEnd
     → StandsAfterStep awaits (next_of e s) s rest step
 stands_by awaits None s rest step h told = subst (λ p. StandsAfterStep awaits (Goes s) s rest p) (sym h) refl
-stands_by awaits (Some kind) s rest step h told = subst (λ p. StandsAfterStep awaits (Ends kind) s rest p) (sym h) (λ e. told (ap Some e), λ more. refl)
+stands_by awaits (Some kind) s rest step h told = subst (λ p. StandsAfterStep awaits (Ends kind) s rest p) (sym h) (
+  λ e. told
+      (ap Some e),
+  λ more. refl,
+)
 
 -- a session in which a message told no end is open
-pub going_is_open : (e : Option EndKind) (step : Option Progress) (b : Bool) → step ≡ option_map (λ kind. progress.Ended kind) e → b ≡ goes_on {E = ServeError} (Ok e)
+pub going_is_open : (e : Option EndKind) (step : Option Progress) (b : Bool) → step ≡ option_map (λ kind. progress.Ended kind) e
+    → b ≡ goes_on {E = ServeError} (Ok e)
     → is_going step ≡ true → b ≡ true
 going_is_open None step b h k going = k
 going_is_open (Some kind) step b h k going = absurd (let not : false ≡ true = ap is_going (sym h) ∙ going in cc)
@@ -61,7 +67,8 @@ module _ {T : Type 0} (rules : Rules T) where
   }
 
   pub serves_one : (s : T) (text frame rest : List ℕ) (m : PgWireFrontendMessage) → text ≡ frame ++ rest → IsFrame (rules.awaits s) frame m
-      → {out new_out : List ℕ} {calls new_calls : List DeskCall} {next : Next T} (w : Option (List ℕ)) → IsAnswered rules.table s m out new_out calls new_calls next
+      → {out new_out : List ℕ} {calls new_calls : List DeskCall} {next : Next T} (w : Option (List ℕ))
+      → IsAnswered rules.table s m out new_out calls new_calls next
       → IsServed rules s text rest next w w out new_out calls new_calls
   serves_one s text frame rest m e f {out} {new_out} {calls} {new_calls} {next} w x =
       let given = rules.table (answers_of x.made) s m in
@@ -75,7 +82,8 @@ module _ {T : Type 0} (rules : Rules T) where
       }
 
   -- and then more flows
-  pub serves_flow : {s : T} {text rest : List ℕ} {next : Next T} {w v : Option (List ℕ)} {o p : List ℕ} {calls new_calls : List DeskCall} (u : Option (List ℕ)) (q : List ℕ)
+  pub serves_flow : {s : T} {text rest : List ℕ} {next : Next T} {w v : Option (List ℕ)} {o p : List ℕ} {calls new_calls : List DeskCall}
+      (u : Option (List ℕ)) (q : List ℕ)
       → IsServed rules s text rest next w v o p calls new_calls → Flows v u p q [] → IsServed rules s text rest next w u o q calls new_calls
   serves_flow {w = w} {o = o} u q x y = record {
     bytes = x.bytes;
@@ -85,7 +93,8 @@ module _ {T : Type 0} (rules : Rules T) where
     grown = x.grown;
   }
 
-  pub cut_none : (s : T) (text : List ℕ) (w : Option (List ℕ)) (o : List ℕ) (calls : List DeskCall) → IsCutOff rules s text w w o calls calls
+  pub cut_none : (s : T) (text : List ℕ) (w : Option (List ℕ)) (o : List ℕ) (calls : List DeskCall)
+      → IsCutOff rules s text w w o calls calls
   cut_none s text w o calls = record {
     messages = [];
     rest = text;
@@ -100,7 +109,8 @@ module _ {T : Type 0} (rules : Rules T) where
 
   -- a message whose answer was cut off
   pub cut_one : (s : T) (text frame rest : List ℕ) (m : PgWireFrontendMessage) → text ≡ frame ++ rest → IsFrame (rules.awaits s) frame m
-      → (w : Option (List ℕ)) (o : List ℕ) (calls new_calls : List DeskCall) → IsCutAnswer rules.table s m calls new_calls → IsCutOff rules s text w w o calls new_calls
+      → (w : Option (List ℕ)) (o : List ℕ) (calls new_calls : List DeskCall) → IsCutAnswer rules.table s m calls new_calls
+      → IsCutOff rules s text w w o calls new_calls
   cut_one s text frame rest m e f w o calls new_calls x =
       let given = rules.table (answers_of x.made) s m in
       record {
@@ -127,13 +137,15 @@ module _ {T : Type 0} (rules : Rules T) where
         made = x.made;
         replies = given.replies;
         division = (frame, rest, e, f, refl);
-        answered = conversation-one rules.table (answers_of x.made) s m ∙ (λ i. record { replies = given.replies; calls = x.own i; next = x.stops i });
+        answered = conversation-one rules.table (answers_of x.made) s m
+            ∙ (λ i. record { replies = given.replies; calls = x.own i; next = x.stops i });
         cut = cut_at_once w (o ++ replies_bytes given.replies);
         grown = x.grown;
       }
 
   -- what stops is cut off
-  pub cut_stopped : {s : T} {text : List ℕ} {w v : Option (List ℕ)} {o : List ℕ} {k l : List DeskCall} → IsStopped rules s text w v o k l → IsCutOff rules s text w v o k l
+  pub cut_stopped : {s : T} {text : List ℕ} {w v : Option (List ℕ)} {o : List ℕ} {k l : List DeskCall} → IsStopped rules s text w v o k l
+      → IsCutOff rules s text w v o k l
   cut_stopped x = record {
     messages = x.messages;
     rest = x.rest;
@@ -147,7 +159,8 @@ module _ {T : Type 0} (rules : Rules T) where
   }
 
   -- what was served and waits is sent, and the sending is cut off
-  pub cut_served : {s : T} {text rest : List ℕ} {next : Next T} {w v : Option (List ℕ)} {o p : List ℕ} {calls new_calls : List DeskCall} (u : Option (List ℕ))
+  pub cut_served : {s : T} {text rest : List ℕ} {next : Next T} {w v : Option (List ℕ)} {o p : List ℕ} {calls new_calls : List DeskCall}
+      (u : Option (List ℕ))
       → IsServed rules s text rest next w v o p calls new_calls → GrowsByFront v u p → IsCutOff rules s text w u o calls new_calls
   cut_served {s = s} {text = text} {rest = rest} {next = next} {w = w} {o = o} u x g =
       let fed = x.fed [] in
@@ -172,16 +185,19 @@ module _ {T : Type 0} (rules : Rules T) where
       → o ≡ p → IsServed rules s text rest next w v o q k l → IsServed rules s text rest next w v p q k l
   serves_from {s} {text} {rest} {next} {w} {v} {o} {p} {q} {k} {l} e x = subst (λ n. IsServed rules s text rest next w v n q k l) e x
 
-  pub cut_from : {s : T} {text : List ℕ} {w v : Option (List ℕ)} {o p : List ℕ} {k l : List DeskCall} → o ≡ p → IsCutOff rules s text w v o k l → IsCutOff rules s text w v p k l
+  pub cut_from : {s : T} {text : List ℕ} {w v : Option (List ℕ)} {o p : List ℕ} {k l : List DeskCall} → o ≡ p
+      → IsCutOff rules s text w v o k l → IsCutOff rules s text w v p k l
   cut_from {s} {text} {w} {v} {o} {p} {k} {l} e x = subst (λ n. IsCutOff rules s text w v n k l) e x
 
-  pub stop_from : {s : T} {text : List ℕ} {w v : Option (List ℕ)} {o p : List ℕ} {k l : List DeskCall} → o ≡ p → IsStopped rules s text w v o k l → IsStopped rules s text w v p k l
+  pub stop_from : {s : T} {text : List ℕ} {w v : Option (List ℕ)} {o p : List ℕ} {k l : List DeskCall} → o ≡ p
+      → IsStopped rules s text w v o k l → IsStopped rules s text w v p k l
   stop_from {s} {text} {w} {v} {o} {p} {k} {l} e x = subst (λ n. IsStopped rules s text w v n k l) e x
 
 module _ {T : Type 0} (rules : Rules T) (lawful : IsLawful rules.table rules.awaits) where
   -- what was served, and then more
   pub serves_then : {s t : T} {text mid rest : List ℕ} {next : Next T} {w v u : Option (List ℕ)} {o p q : List ℕ} {k l m : List DeskCall}
-      → IsServed rules s text mid (Goes t) w v o p k l → IsServed rules t mid rest next v u p q l m → IsServed rules s text rest next w u o q k m
+      → IsServed rules s text mid (Goes t) w v o p k l → IsServed rules t mid rest next v u p q l m
+      → IsServed rules s text rest next w u o q k m
   serves_then {k = k} x y = record {
     bytes = x.bytes ++ y.bytes;
     called = x.called ++ y.called;
@@ -203,7 +219,8 @@ module _ {T : Type 0} (rules : Rules T) (lawful : IsLawful rules.table rules.awa
         rest = y.rest;
         made = x.called ++ y.made;
         given = joined first y.given;
-        division = subst (λ l. DividesInto (rules.awaits s) l (fed.messages ++ y.messages) y.rest) (append-nil text) (divides-then rules lawful y.rest fed y.messages followed);
+        division = subst (λ l. DividesInto (rules.awaits s) l (fed.messages ++ y.messages) y.rest) (append-nil text)
+            (divides-then rules lawful y.rest fed y.messages followed);
         answered = one_piece rules lawful fed.messages y.messages s t first y.made fed.answered refl ∙ ap (λ a. joined first a) y.answered;
         cut = subst (λ b. GrowsByFront w u b)
             (sym (append_assoc x.flows.sent p behind) ∙ ap (λ b. b ++ behind) x.flows.same ∙ append_assoc o x.bytes behind
@@ -226,7 +243,8 @@ module _ {T : Type 0} (rules : Rules T) (lawful : IsLawful rules.table rules.awa
         rest = y.rest;
         made = x.called ++ y.made;
         replies = fed.replies ++ y.replies;
-        division = subst (λ l. DividesInto (rules.awaits s) l (fed.messages ++ y.messages) y.rest) (append-nil text) (divides-then rules lawful y.rest fed y.messages followed);
+        division = subst (λ l. DividesInto (rules.awaits s) l (fed.messages ++ y.messages) y.rest) (append-nil text)
+            (divides-then rules lawful y.rest fed y.messages followed);
         answered = one_piece rules lawful fed.messages y.messages s t first y.made fed.answered refl ∙ ap (λ a. joined first a) y.answered;
         cut = subst (λ b. GrowsByFront w u b)
             (sym (append_assoc x.flows.sent p behind) ∙ ap (λ b. b ++ behind) x.flows.same ∙ append_assoc o x.bytes behind

@@ -26,7 +26,8 @@ pub record IsCarriedOut {T : Type 0} (a : Answer T) (out new_out : List ℕ) (ca
   pub goes_on : a.next ≡ next
 
 -- A message was answered by the table, under the very answers that its calls tell.
-pub record IsAnswered {T : Type 0} (table : Table T) (s : T) (m : PgWireFrontendMessage) (out new_out : List ℕ) (calls new_calls : List DeskCall) (next : Next T) : Type 0 where
+pub record IsAnswered {T : Type 0} (table : Table T) (s : T) (m : PgWireFrontendMessage) (out new_out : List ℕ)
+    (calls new_calls : List DeskCall) (next : Next T) : Type 0 where
   pub made : List DeskCall
   pub own : (table (answers_of made) s m).calls ≡ made
   pub carried : IsCarriedOut (table (answers_of made) s m) out new_out calls new_calls next
@@ -38,7 +39,8 @@ pub record IsCutAnswer {T : Type 0} (table : Table T) (s : T) (m : PgWireFronten
   pub grown : new_calls ≡ calls ++ made
 
 -- The answer to a message stops: all calls were made, and the next one wants an answer that isn't there.
-pub record IsStoppedAnswer {T : Type 0} (table : Table T) (s : T) (m : PgWireFrontendMessage) (calls new_calls : List DeskCall) : Type 0 where
+pub record IsStoppedAnswer {T : Type 0} (table : Table T) (s : T) (m : PgWireFrontendMessage)
+    (calls new_calls : List DeskCall) : Type 0 where
   pub made : List DeskCall
   pub own : (table (answers_of made) s m).calls ≡ made
   pub stops : (table (answers_of made) s m).next ≡ Stops
@@ -54,7 +56,8 @@ pub record Flows (written new_written : Option (List ℕ)) (out new_out bytes : 
 
 -- A text was served as far as it goes: its frames were answered, which stay its frames whatever bytes follow; the bytes went through the
 -- outbox, and the calls were made.
-pub record IsServed {T : Type 0} (rules : Rules T) (s : T) (text rest : List ℕ) (next : Next T) (written new_written : Option (List ℕ)) (out new_out : List ℕ) (calls new_calls : List DeskCall) : Type 0 where
+pub record IsServed {T : Type 0} (rules : Rules T) (s : T) (text rest : List ℕ) (next : Next T) (written new_written : Option (List ℕ))
+    (out new_out : List ℕ) (calls new_calls : List DeskCall) : Type 0 where
   pub bytes : List ℕ
   pub called : List DeskCall
   pub fed : (more : List ℕ) → IsFed rules s (text ++ more) (rest ++ more) bytes called next
@@ -63,7 +66,8 @@ pub record IsServed {T : Type 0} (rules : Rules T) (s : T) (text rest : List ℕ
 
 -- The serving of a text was cut off: the bytes that were written and the calls that were made are a front of the answer to its frames,
 -- under the very answers that the calls tell.
-pub record IsCutOff {T : Type 0} (rules : Rules T) (s : T) (text : List ℕ) (written new_written : Option (List ℕ)) (out : List ℕ) (calls new_calls : List DeskCall) : Type 0 where
+pub record IsCutOff {T : Type 0} (rules : Rules T) (s : T) (text : List ℕ) (written new_written : Option (List ℕ)) (out : List ℕ)
+    (calls new_calls : List DeskCall) : Type 0 where
   pub messages : List PgWireFrontendMessage
   pub rest : List ℕ
   pub made : List DeskCall
@@ -76,7 +80,8 @@ pub record IsCutOff {T : Type 0} (rules : Rules T) (s : T) (text : List ℕ) (wr
 
 -- The serving of a text stops at a question for which no turn is left: the calls that were made are all calls of the answer to its frames
 -- under the very answers that they tell, which stops there, and the bytes that were written are a front of its replies.
-pub record IsStopped {T : Type 0} (rules : Rules T) (s : T) (text : List ℕ) (written new_written : Option (List ℕ)) (out : List ℕ) (calls new_calls : List DeskCall) : Type 0 where
+pub record IsStopped {T : Type 0} (rules : Rules T) (s : T) (text : List ℕ) (written new_written : Option (List ℕ)) (out : List ℕ)
+    (calls new_calls : List DeskCall) : Type 0 where
   pub messages : List PgWireFrontendMessage
   pub rest : List ℕ
   pub made : List DeskCall

@@ -1,9 +1,9 @@
 -- A conversation that was served piece by piece is a run over the bytes that were taken.
-use Rattle.std.proofs.Common.{◌≡◌, ◌≢◌, ℕ, ⊎_elim, cond, ◌+◌, ◌≤◌, ◌<◌, ◌^◌, min, arith, Bool, List, [], ◌∷◌, ◌++◌, Option, Some, None, Result, Ok, Err, IfSome, take, drop, refl, sym, ap, subst, ◌∙◌, append-nil, append_assoc}
+use Rattle.std.proofs.Common.{◌≡◌, ◌≢◌, ℕ, ⊎_elim, cond, ◌+◌, ◌≤◌, ◌<◌, ◌^◌, min, arith, Bool, List, [], ◌∷◌, ◌++◌, Option, Some, None, Err, IfSome, take, drop, refl, sym, ap, subst, ◌∙◌, append-nil, append_assoc}
 use Rattle.std.specs.Prelude.{◌==◌, if◌then◌else◌}
 use Rattle.std.proofs.lemmas.List.{take-append-drop}
 use Rattle.std.proofs.lemmas.Bool.Decides.{eqb_tells}
-use Rattle.pg_messages.specs.Frames.{DividesInto, IsUnfinished}
+use Rattle.pg_messages.specs.Frames.{IsUnfinished}
 use Rattle.pg_messages.specs.Replies.{replies_bytes}
 use Rattle.pg_handlers.specs.declared.desk.DeskCall.{DeskCall}
 use Rattle.pg_handlers.specs.declared.ends.EndKind.{EndKind}
@@ -19,7 +19,7 @@ use Rattle.pg_conversation.proofs.Pieces.{IsFed-none}
 use Rattle.std.proofs.Common.{true, inl, inr, IsTrue, false, length, ◌⊎◌}
 use Rattle.pg_conversation.specs.Session.{HasFed}
 use Rattle.pg_conversation.specs.declared.ends.Progress.{Progress}
-use Rattle.pg_conversation.specs.Streams.{HasRisen, greatest_count}
+use Rattle.pg_conversation.specs.Streams.{HasRisen}
 use Rattle.pg_serve.specs.Serving.{Counts, HasCause, end_turn}
 use Rattle.pg_conversation.specs.Run.{Rules, IsRun, IsCutRun, IsFed, EndsWith}
 use Rattle.pg_conversation.specs.Streams.{GrowsBy, GrowsByFront, GivesFront}

@@ -9,7 +9,10 @@ use Rattle.pg_serve.proofs.engine.serve_connection.Goals as goal
 
 pub returns-in_err-session-clause-went : goal.returns-in_err-session-clause-went
 returns-in_err-session-clause-went g c =
-    let p = err_from_is_err_and c.from_residual.result c.from_residual.ensures.1 in
-    ([], sym (append-nil (g.D.CancelDesk.calls c.args.desk.now)), rw p.1 (none_went (whole_rules (handlers_of (g.H.Extended.ExtendedQueryHandler.told (g.H.PgWireServerHandlers.extended (arc_value c.args.handlers))) (g.H.Simple.SimpleQueryHandler.told (g.H.PgWireServerHandlers.simple (arc_value c.args.handlers))) (g.H.Copying.CopyHandler.told (g.H.PgWireServerHandlers.copying (arc_value c.args.handlers)))))
-    (first_state (g.D.CancelDesk.registration c.args.desk.now).0 (g.D.CancelDesk.registration c.args.desk.now).1)
-    (g.S.Source.left c.args.source.now) (g.K.Sink.written c.args.sink.now) p.0 p.2))
+    let p = err_from_is_err_and c.from_residual.result c.from_residual.ensures.1 in (
+      [],
+      sym (append-nil (g.D.CancelDesk.calls c.args.desk.now)),
+      rw p.1 (none_went (whole_rules (handlers_of (g.H.Extended.ExtendedQueryHandler.told (g.H.PgWireServerHandlers.extended (arc_value c.args.handlers))) (g.H.Simple.SimpleQueryHandler.told (g.H.PgWireServerHandlers.simple (arc_value c.args.handlers))) (g.H.Copying.CopyHandler.told (g.H.PgWireServerHandlers.copying (arc_value c.args.handlers)))))
+          (first_state (g.D.CancelDesk.registration c.args.desk.now).0 (g.D.CancelDesk.registration c.args.desk.now).1)
+          (g.S.Source.left c.args.source.now) (g.K.Sink.written c.args.sink.now) p.0 p.2),
+    )

@@ -1,13 +1,12 @@
-use Rattle.std.proofs.Common.{◌≡◌, ◌≢◌, ◌≤◌, ◌<◌, ◌+◌, ◌++◌, ◌^◌, ◌∙◌, refl, sym, ap, subst, arith, Ok, Err, [], ℕ, inl}
+use Rattle.std.proofs.Common.{◌≡◌, ◌<◌, ◌+◌, ◌++◌, ◌∙◌, refl, sym, ap, subst, arith, Ok, Err, [], inl}
 use Rattle.std.proofs.lemmas.List.{append_cancel_left}
 use Rattle.pg_handlers.specs.Handlers.{handlers_of}
 use Rattle.pg_handlers.specs.Questions.{questions_since}
 use Rattle.pg_handlers.specs.Table.{awaits}
 use Rattle.pg_conversation.specs.Session.{whole_rules, HasFed, is_more}
-use Rattle.pg_conversation.specs.Steps.{Stands, IsServed}
-use Rattle.pg_conversation.specs.declared.ends.ServeError.TheVariants as fault
+use Rattle.pg_conversation.specs.Steps.{Stands}
 use Rattle.pg_conversation.specs.declared.ends.Progress.{Progress}
-use Rattle.pg_serve.specs.Serving.{TakesFrom, IsStoppedRunOfTaken, end_turn, counts_of}
+use Rattle.pg_serve.specs.Serving.{TakesFrom, IsStoppedRunOfTaken, counts_of}
 use Rattle.pg_serve.proofs.Serving.{run_of_taken, served_run, ended_run, takes_more, takes_none, served_none, short_none, none_asked, cut_run_of_taken, stopped_run_of_taken, went_by_error, caused_by, serves_in, cut_in, stopped_in, waits_in, goes_to, counted_more, questions_over, risen_since, all_spent, no_end_turn}
 use Rattle.pg_serve.proofs.engine.serve_session.Goals as goal
 
@@ -84,8 +83,7 @@ returns-in-Err-clause-went g c =
     let before = serves_in (λ h. whole_rules (handlers_of (g.H.Extended.ExtendedQueryHandler.told (g.H.PgWireServerHandlers.extended h)) (g.H.Simple.SimpleQueryHandler.told (g.H.PgWireServerHandlers.simple h)) (g.H.Copying.CopyHandler.told (g.H.PgWireServerHandlers.copying h)))) (sym i.handlers) (waits_in (whole_rules (handlers_of (g.H.Extended.ExtendedQueryHandler.told (g.H.PgWireServerHandlers.extended c.args.session.now.handlers)) (g.H.Simple.SimpleQueryHandler.told (g.H.PgWireServerHandlers.simple c.args.session.now.handlers)) (g.H.Copying.CopyHandler.told (g.H.PgWireServerHandlers.copying c.args.session.now.handlers)))) (sym i.unsent) i.served) in
     let cut = cut_in (λ h. whole_rules (handlers_of (g.H.Extended.ExtendedQueryHandler.told (g.H.PgWireServerHandlers.extended h)) (g.H.Simple.SimpleQueryHandler.told (g.H.PgWireServerHandlers.simple h)) (g.H.Copying.CopyHandler.told (g.H.PgWireServerHandlers.copying h)))) i.handlers (c.in-Err.ensures.continues_cut c.args.session.now.state i.taken (g.K.Sink.written c.args.sink.now) [] (g.D.CancelDesk.calls c.args.desk.now) before) in
     let takes = subst (λ p. TakesFrom (g.S.Source.left c.args.source.now) (g.S.Source.left c.receive.new.self) (i.taken ++ p)) (sym c.front_of.ensures)
-    (takes_more (g.S.Source.left c.args.source.now) (g.S.Source.left c.turns.source) (g.S.Source.left c.receive.new.self) i.taken c.in-Ok.n c.receive.new.into i.takes c.in-Ok.ensures.bytes) in
-    (
+    (takes_more (g.S.Source.left c.args.source.now) (g.S.Source.left c.turns.source) (g.S.Source.left c.receive.new.self) i.taken c.in-Ok.n c.receive.new.into i.takes c.in-Ok.ensures.bytes) in (
       cut.made,
       cut.grown,
       went_by_error (whole_rules (handlers_of (g.H.Extended.ExtendedQueryHandler.told (g.H.PgWireServerHandlers.extended c.args.session.now.handlers)) (g.H.Simple.SimpleQueryHandler.told (g.H.PgWireServerHandlers.simple c.args.session.now.handlers)) (g.H.Copying.CopyHandler.told (g.H.PgWireServerHandlers.copying c.args.session.now.handlers)))) c.args.session.now.state c.in-Err.error (g.S.Source.left c.args.source.now) (g.S.Source.left c.receive.new.self) _ _ _ (λ q. c.in-Err.ensures.cause.no_read_fault (ap Err q))

@@ -1,4 +1,4 @@
-use Rattle.std.proofs.Common.{◌≡◌, ◌≤◌, ◌<◌, ◌+◌, ◌-◌, ◌^◌, List, ℕ, [], true, length}
+use Rattle.std.proofs.Common.{◌≡◌, ◌≤◌, ◌<◌, ◌+◌, ◌-◌, ◌^◌, List, ℕ, [], true}
 use Rattle.pg_messages.specs.Frames.{IsUnfinished}
 use Rattle.pg_handlers.specs.Answer.{Goes}
 use Rattle.pg_handlers.specs.Handlers.{handlers_of}

@@ -12,13 +12,15 @@ pub returns-clause-continues : goal.returns-clause-continues
 returns-clause-continues g c = λ s text written out calls before.
     let x = c.args.self.now.handlers in
     let h = handlers_of (g.H.Extended.ExtendedQueryHandler.told (g.H.PgWireServerHandlers.extended x))
-    (g.H.Simple.SimpleQueryHandler.told (g.H.PgWireServerHandlers.simple x)) (g.H.Copying.CopyHandler.told (g.H.PgWireServerHandlers.copying x)) in
+    (g.H.Simple.SimpleQueryHandler.told (g.H.PgWireServerHandlers.simple x)) (g.H.Copying.CopyHandler.told
+    (g.H.PgWireServerHandlers.copying x)) in
     let law = whole_lawful h in
     let old = c.args.self.now in let view_is = sym c.self.view_is in
     IfOk-weaker c.take-outcome.result _ _ (λ told fact. (
       fact.0,
       serves_then (whole_rules h) law (serves_more (whole_rules h) law c.args.piece.now before)
-          (subst (λ v. IsServed (whole_rules h) old.state (old.rest ++ c.args.piece.now) v.rest fact.0 (g.K.Sink.written c.args.sink.now) (g.K.Sink.written c.take-outcome.new.sink)
+          (subst (λ v. IsServed (whole_rules h) old.state (old.rest ++ c.args.piece.now) v.rest fact.0 (g.K.Sink.written c.args.sink.now)
+          (g.K.Sink.written c.take-outcome.new.sink)
           old.unsent [] (g.D.CancelDesk.calls c.args.desk.now) (g.D.CancelDesk.calls c.take-outcome.new.desk)) view_is fact.1),
       subst (λ v. Stands awaits fact.0 v.state v.rest told) view_is fact.2,
     ))
@@ -28,15 +30,18 @@ pub returns-clause-continues_cut : goal.returns-clause-continues_cut
 returns-clause-continues_cut g c = λ s text written out calls before.
     let x = c.args.self.now.handlers in
     let h = handlers_of (g.H.Extended.ExtendedQueryHandler.told (g.H.PgWireServerHandlers.extended x))
-    (g.H.Simple.SimpleQueryHandler.told (g.H.PgWireServerHandlers.simple x)) (g.H.Copying.CopyHandler.told (g.H.PgWireServerHandlers.copying x)) in
+    (g.H.Simple.SimpleQueryHandler.told (g.H.PgWireServerHandlers.simple x)) (g.H.Copying.CopyHandler.told
+    (g.H.PgWireServerHandlers.copying x)) in
     let law = whole_lawful h in
-    on_err_weaker c.take-outcome.result (λ fact. cut_then (whole_rules h) law (serves_more (whole_rules h) law c.args.piece.now before) fact)
+    on_err_weaker c.take-outcome.result (λ fact. cut_then (whole_rules h) law (serves_more
+    (whole_rules h) law c.args.piece.now before) fact)
     c.take-outcome.ensures.cut_off
 
 pub returns-clause-continues_stopped : goal.returns-clause-continues_stopped
 returns-clause-continues_stopped g c = λ s text written out calls before limit.
     let x = c.args.self.now.handlers in
     let h = handlers_of (g.H.Extended.ExtendedQueryHandler.told (g.H.PgWireServerHandlers.extended x))
-    (g.H.Simple.SimpleQueryHandler.told (g.H.PgWireServerHandlers.simple x)) (g.H.Copying.CopyHandler.told (g.H.PgWireServerHandlers.copying x)) in
+    (g.H.Simple.SimpleQueryHandler.told (g.H.PgWireServerHandlers.simple x)) (g.H.Copying.CopyHandler.told
+    (g.H.PgWireServerHandlers.copying x)) in
     let law = whole_lawful h in
     stop_then (whole_rules h) law (serves_more (whole_rules h) law c.args.piece.now before) (c.take-outcome.ensures.stopped limit)

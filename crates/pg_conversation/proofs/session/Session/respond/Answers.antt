@@ -14,7 +14,8 @@ pub returns-in-Err-TurnLimit-clause-err : goal.returns-in-Err-TurnLimit-clause-e
 returns-in-Err-TurnLimit-clause-err g c =
     let session = c.args.self.now in
     let h = handlers_of (g.H.Extended.ExtendedQueryHandler.told (g.H.PgWireServerHandlers.extended session.handlers))
-    (g.H.Simple.SimpleQueryHandler.told (g.H.PgWireServerHandlers.simple session.handlers)) (g.H.Copying.CopyHandler.told (g.H.PgWireServerHandlers.copying session.handlers)) in
+    (g.H.Simple.SimpleQueryHandler.told (g.H.PgWireServerHandlers.simple session.handlers)) (g.H.Copying.CopyHandler.told
+    (g.H.PgWireServerHandlers.copying session.handlers)) in
     let refused = rw c.in-Err-TurnLimit.field-0-is at c.in-Err-TurnLimit.ensures.refused in
     cut_behind_row h session.state c.args.message (g.D.CancelDesk.calls c.args.desk.now) (g.D.CancelDesk.calls c.answer.new.desk)
     session.unsent c.answer.new.self.unsent Stopped refused
@@ -23,7 +24,8 @@ pub returns-in-NoMemory-clause-err : goal.returns-in-NoMemory-clause-err
 returns-in-NoMemory-clause-err g c =
     let session = c.args.self.now in
     let h = handlers_of (g.H.Extended.ExtendedQueryHandler.told (g.H.PgWireServerHandlers.extended session.handlers))
-    (g.H.Simple.SimpleQueryHandler.told (g.H.PgWireServerHandlers.simple session.handlers)) (g.H.Copying.CopyHandler.told (g.H.PgWireServerHandlers.copying session.handlers)) in
+    (g.H.Simple.SimpleQueryHandler.told (g.H.PgWireServerHandlers.simple session.handlers)) (g.H.Copying.CopyHandler.told
+    (g.H.PgWireServerHandlers.copying session.handlers)) in
     let refused = rw c.in-Err-Wire.field-0-is at c.in-Err-Wire.ensures.refused in
     cut_refused h session.state c.args.message (g.D.CancelDesk.calls c.args.desk.now) (g.D.CancelDesk.calls c.answer.new.desk)
     session.unsent c.answer.new.self.unsent c.answer.new.self.state c.in-Err-Wire.error refused
@@ -32,14 +34,17 @@ pub returns-in-Ok-tell : goal.returns-in-Ok-tell
 returns-in-Ok-tell g c =
     let session = c.args.self.now in
     let h = handlers_of (g.H.Extended.ExtendedQueryHandler.told (g.H.PgWireServerHandlers.extended session.handlers))
-    (g.H.Simple.SimpleQueryHandler.told (g.H.PgWireServerHandlers.simple session.handlers)) (g.H.Copying.CopyHandler.told (g.H.PgWireServerHandlers.copying session.handlers)) in
+    (g.H.Simple.SimpleQueryHandler.told (g.H.PgWireServerHandlers.simple session.handlers)) (g.H.Copying.CopyHandler.told
+    (g.H.PgWireServerHandlers.copying session.handlers)) in
     let calls = g.D.CancelDesk.calls c.args.desk.now in let new_calls = g.D.CancelDesk.calls c.answer.new.desk in
     let mid = c.answer.new.self in
     let refused = rw c.in-Err-Wire.field-0-is at c.in-Err-Wire.ensures.refused in
     let turns = rw c.in-Err-Wire.field-0-is at c.in-Err-Wire.ensures.turns in
-    let row = row_where_told h session.state c.args.message calls new_calls session.unsent mid.unsent mid.state c.in-Err-Wire.error c.in_default.not-NoMemory refused in
+    let row = row_where_told h session.state c.args.message calls new_calls session.unsent mid.unsent mid.state c.in-Err-Wire.error
+    c.in_default.not-NoMemory refused in
     record {
-      answer = answered_by_error h session.state c.args.message calls new_calls session.unsent mid.unsent c.tell.new.self.unsent mid.state c.in-Err-Wire.error
+      answer = answered_by_error h session.state c.args.message calls new_calls session.unsent mid.unsent c.tell.new.self.unsent mid.state
+          c.in-Err-Wire.error
           (scope_for c.waits_for_sync-wait_for_sync.result) (next_of c.in-Ok-tell.end c.tell.new.self.state) row
           (c.waits_for_sync-wait_for_sync.ensures ∙ ap (λ v. scope_in v.state.info.state c.args.message) c.self.view_is)
           c.in-Ok-tell.ensures.replied c.in-Ok-tell.ensures.next;
@@ -50,7 +55,8 @@ returns-in-Ok-tell g c =
       «open» = c.in-Ok-tell.ensures.«open» ∙ goes_on_alike AllocError ServeError c.in-Ok-tell.end;
       handlers = c.in-Ok-tell.ensures.handlers ∙ c.answer.ensures.handlers;
       rest = c.in-Ok-tell.ensures.rest ∙ c.answer.ensures.rest;
-      turns = fed_where_told c.args.turns.now c.answer.new.turns (questions_since calls new_calls) c.in-Err-Wire.error c.in_default.not-NoMemory turns;
+      turns = fed_where_told c.args.turns.now c.answer.new.turns
+          (questions_since calls new_calls) c.in-Err-Wire.error c.in_default.not-NoMemory turns;
       bounded = c.answer.ensures.bounded;
       same = c.answer.ensures.same;
       origin = c.answer.ensures.origin;
@@ -60,13 +66,15 @@ pub returns-in-Err : goal.returns-in-Err
 returns-in-Err g c =
     let session = c.args.self.now in
     let h = handlers_of (g.H.Extended.ExtendedQueryHandler.told (g.H.PgWireServerHandlers.extended session.handlers))
-    (g.H.Simple.SimpleQueryHandler.told (g.H.PgWireServerHandlers.simple session.handlers)) (g.H.Copying.CopyHandler.told (g.H.PgWireServerHandlers.copying session.handlers)) in
+    (g.H.Simple.SimpleQueryHandler.told (g.H.PgWireServerHandlers.simple session.handlers)) (g.H.Copying.CopyHandler.told
+    (g.H.PgWireServerHandlers.copying session.handlers)) in
     let calls = g.D.CancelDesk.calls c.args.desk.now in let new_calls = g.D.CancelDesk.calls c.answer.new.desk in
     let refused = rw c.in-Err-Wire.field-0-is at c.in-Err-Wire.ensures.refused in
     let turns = rw c.in-Err-Wire.field-0-is at c.in-Err-Wire.ensures.turns in
     record {
       answer = tt;
-      err = cut_refused h session.state c.args.message calls new_calls session.unsent c.answer.new.self.unsent c.answer.new.self.state c.in-Err-Wire.error refused;
+      err = cut_refused h session.state c.args.message calls new_calls session.unsent c.answer.new.self.unsent c.answer.new.self.state
+          c.in-Err-Wire.error refused;
       stopped = search rules;
       only = inl refl;
       ends = tt;

@@ -10,9 +10,12 @@ use Rattle.pg_conversation.proofs.session.Session.run.Given as goal
 -- what was served so far, and what a step asks of the session
 abbrev pub invariant-messages : goal.invariant-messages
 invariant-messages g l = record {
-  served : IsServed (whole_rules (handlers_of (g.H.Extended.ExtendedQueryHandler.told (g.H.PgWireServerHandlers.extended l.fn.self.handlers))
-      (g.H.Simple.SimpleQueryHandler.told (g.H.PgWireServerHandlers.simple l.fn.self.handlers)) (g.H.Copying.CopyHandler.told (g.H.PgWireServerHandlers.copying l.fn.self.handlers))))
-      l.fn.self.state l.fn.self.rest l.self.rest (Goes l.self.state) (g.K.Sink.written l.fn.sink) (g.K.Sink.written l.sink) l.fn.self.unsent l.self.unsent
+  served : IsServed (whole_rules (handlers_of (g.H.Extended.ExtendedQueryHandler.told
+      (g.H.PgWireServerHandlers.extended l.fn.self.handlers))
+      (g.H.Simple.SimpleQueryHandler.told (g.H.PgWireServerHandlers.simple l.fn.self.handlers)) (g.H.Copying.CopyHandler.told
+      (g.H.PgWireServerHandlers.copying l.fn.self.handlers))))
+      l.fn.self.state l.fn.self.rest l.self.rest (Goes l.self.state) (g.K.Sink.written l.fn.sink)
+      (g.K.Sink.written l.sink) l.fn.self.unsent l.self.unsent
       (g.D.CancelDesk.calls l.fn.desk) (g.D.CancelDesk.calls l.desk);
   opened : l.self.is_open ≡ true;
   handlers : l.self.handlers ≡ l.fn.self.handlers;

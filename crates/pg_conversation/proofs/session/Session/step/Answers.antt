@@ -17,8 +17,10 @@ use Rattle.pg_conversation.proofs.session.Session.step.Goals as goal
 pub returns-in-Ok-None-clause-served : goal.returns-in-Ok-None-clause-served
 returns-in-Ok-None-clause-served g c =
     let at = λ (x : g.row.H.Denot). whole_rules (handlers_of (g.H.Extended.ExtendedQueryHandler.told (g.H.PgWireServerHandlers.extended x))
-    (g.H.Simple.SimpleQueryHandler.told (g.H.PgWireServerHandlers.simple x)) (g.H.Copying.CopyHandler.told (g.H.PgWireServerHandlers.copying x))) in
-    let x = arc_value c.self.inside.handlers in let s = state_of g.St.PortalStore.statements g.St.PortalStore.portals c.self.inside.client in
+    (g.H.Simple.SimpleQueryHandler.told (g.H.PgWireServerHandlers.simple x)) (g.H.Copying.CopyHandler.told
+    (g.H.PgWireServerHandlers.copying x))) in
+    let x = arc_value c.self.inside.handlers in let s = state_of g.St.PortalStore.statements g.St.PortalStore.portals c.self.inside.client
+    in
     let text = c.self.inside.rest.items in let rest = c.decode.new.src.items in let out = c.self.inside.client.outbox in
     let written = g.K.Sink.written c.args.sink.now in let calls = g.D.CancelDesk.calls c.args.desk.now in
     let kept : rest ≡ text = rw c.in-Ok-None.field-0-is at c.in-Ok-None.ensures.kept in
@@ -26,14 +28,20 @@ returns-in-Ok-None-clause-served g c =
       Goes s,
       subst (λ v. IsServed (at v.handlers) v.state v.rest rest (Goes s) written written v.unsent out calls calls) c.self.view_is
           (serves_none (at x) s text rest written out calls kept),
-      (refl, subst (λ t. IsUnfinished (awaits s) t) (sym kept) (subst (λ b. IsUnfinished b text) c.awaits_startup-self-inside.ensures short)),
+      (
+        refl,
+        subst (λ t. IsUnfinished (awaits s) t) (sym kept) (subst
+            (λ b. IsUnfinished b text) c.awaits_startup-self-inside.ensures short),
+      ),
     )
 
 pub returns-in-Err-Bad-clause-served : goal.returns-in-Err-Bad-clause-served
 returns-in-Err-Bad-clause-served g c =
     let at = λ (x : g.row.H.Denot). whole_rules (handlers_of (g.H.Extended.ExtendedQueryHandler.told (g.H.PgWireServerHandlers.extended x))
-    (g.H.Simple.SimpleQueryHandler.told (g.H.PgWireServerHandlers.simple x)) (g.H.Copying.CopyHandler.told (g.H.PgWireServerHandlers.copying x))) in
-    let x = arc_value c.self.inside.handlers in let s = state_of g.St.PortalStore.statements g.St.PortalStore.portals c.self.inside.client in
+    (g.H.Simple.SimpleQueryHandler.told (g.H.PgWireServerHandlers.simple x)) (g.H.Copying.CopyHandler.told
+    (g.H.PgWireServerHandlers.copying x))) in
+    let x = arc_value c.self.inside.handlers in let s = state_of g.St.PortalStore.statements g.St.PortalStore.portals c.self.inside.client
+    in
     let text = c.self.inside.rest.items in let rest = c.decode.new.src.items in let out = c.self.inside.client.outbox in
     let written = g.K.Sink.written c.args.sink.now in let calls = g.D.CancelDesk.calls c.args.desk.now in
     let kept : rest ≡ text = c.in-Err-Bad.ensures.err in
@@ -43,7 +51,8 @@ returns-in-Err-Bad-clause-served g c =
           (serves_none (at x) s text rest written out calls kept),
       (
         bad_is_no_end_of_input,
-        λ more. bad_more (awaits s) rest more (subst (λ t. IsBad (awaits s) t) (sym kept) (subst (λ b. IsBad b text) c.awaits_startup-self-inside.ensures bad)),
+        λ more. bad_more (awaits s) rest more (subst (λ t. IsBad (awaits s) t) (sym kept) (subst
+            (λ b. IsBad b text) c.awaits_startup-self-inside.ensures bad)),
       ),
     )
 
@@ -51,14 +60,18 @@ pub returns-in-Err-NoMemory-clause-cut_off : goal.returns-in-Err-NoMemory-clause
 returns-in-Err-NoMemory-clause-cut_off g c =
     let x = c.args.self.now.handlers in
     cut_none (whole_rules (handlers_of (g.H.Extended.ExtendedQueryHandler.told (g.H.PgWireServerHandlers.extended x))
-    (g.H.Simple.SimpleQueryHandler.told (g.H.PgWireServerHandlers.simple x)) (g.H.Copying.CopyHandler.told (g.H.PgWireServerHandlers.copying x))))
-    c.args.self.now.state c.args.self.now.rest (g.K.Sink.written c.args.sink.now) c.args.self.now.unsent (g.D.CancelDesk.calls c.args.desk.now)
+    (g.H.Simple.SimpleQueryHandler.told (g.H.PgWireServerHandlers.simple x)) (g.H.Copying.CopyHandler.told
+    (g.H.PgWireServerHandlers.copying x))))
+    c.args.self.now.state c.args.self.now.rest (g.K.Sink.written c.args.sink.now) c.args.self.now.unsent
+    (g.D.CancelDesk.calls c.args.desk.now)
 
 pub returns-in_err-end-clause-cut_off : goal.returns-in_err-end-clause-cut_off
 returns-in_err-end-clause-cut_off g c =
     let at = λ (x : g.row.H.Denot). whole_rules (handlers_of (g.H.Extended.ExtendedQueryHandler.told (g.H.PgWireServerHandlers.extended x))
-    (g.H.Simple.SimpleQueryHandler.told (g.H.PgWireServerHandlers.simple x)) (g.H.Copying.CopyHandler.told (g.H.PgWireServerHandlers.copying x))) in
-    let x = arc_value c.self.inside.handlers in let s = state_of g.St.PortalStore.statements g.St.PortalStore.portals c.self.inside.client in
+    (g.H.Simple.SimpleQueryHandler.told (g.H.PgWireServerHandlers.simple x)) (g.H.Copying.CopyHandler.told
+    (g.H.PgWireServerHandlers.copying x))) in
+    let x = arc_value c.self.inside.handlers in let s = state_of g.St.PortalStore.statements g.St.PortalStore.portals c.self.inside.client
+    in
     let text = c.self.inside.rest.items in let rest = c.decode.new.src.items in let out = c.self.inside.client.outbox in
     let written = g.K.Sink.written c.args.sink.now in let calls = g.D.CancelDesk.calls c.args.desk.now in
     let new_calls = g.D.CancelDesk.calls c.respond.new.desk in
@@ -71,8 +84,10 @@ returns-in_err-end-clause-cut_off g c =
 pub returns-in_err-end-clause-stopped : goal.returns-in_err-end-clause-stopped
 returns-in_err-end-clause-stopped g c =
     let at = λ (x : g.row.H.Denot). whole_rules (handlers_of (g.H.Extended.ExtendedQueryHandler.told (g.H.PgWireServerHandlers.extended x))
-    (g.H.Simple.SimpleQueryHandler.told (g.H.PgWireServerHandlers.simple x)) (g.H.Copying.CopyHandler.told (g.H.PgWireServerHandlers.copying x))) in
-    let x = arc_value c.self.inside.handlers in let s = state_of g.St.PortalStore.statements g.St.PortalStore.portals c.self.inside.client in
+    (g.H.Simple.SimpleQueryHandler.told (g.H.PgWireServerHandlers.simple x)) (g.H.Copying.CopyHandler.told
+    (g.H.PgWireServerHandlers.copying x))) in
+    let x = arc_value c.self.inside.handlers in let s = state_of g.St.PortalStore.statements g.St.PortalStore.portals c.self.inside.client
+    in
     let text = c.self.inside.rest.items in let rest = c.decode.new.src.items in let out = c.self.inside.client.outbox in
     let written = g.K.Sink.written c.args.sink.now in let calls = g.D.CancelDesk.calls c.args.desk.now in
     let new_calls = g.D.CancelDesk.calls c.respond.new.desk in
@@ -85,8 +100,10 @@ returns-in_err-end-clause-stopped g c =
 pub returns-in_err-flush_if_full-clause-cut_off : goal.returns-in_err-flush_if_full-clause-cut_off
 returns-in_err-flush_if_full-clause-cut_off g c =
     let at = λ (x : g.row.H.Denot). whole_rules (handlers_of (g.H.Extended.ExtendedQueryHandler.told (g.H.PgWireServerHandlers.extended x))
-    (g.H.Simple.SimpleQueryHandler.told (g.H.PgWireServerHandlers.simple x)) (g.H.Copying.CopyHandler.told (g.H.PgWireServerHandlers.copying x))) in
-    let x = arc_value c.self.inside.handlers in let s = state_of g.St.PortalStore.statements g.St.PortalStore.portals c.self.inside.client in
+    (g.H.Simple.SimpleQueryHandler.told (g.H.PgWireServerHandlers.simple x)) (g.H.Copying.CopyHandler.told
+    (g.H.PgWireServerHandlers.copying x))) in
+    let x = arc_value c.self.inside.handlers in let s = state_of g.St.PortalStore.statements g.St.PortalStore.portals c.self.inside.client
+    in
     let text = c.self.inside.rest.items in let rest = c.decode.new.src.items in let out = c.self.inside.client.outbox in
     let written = g.K.Sink.written c.args.sink.now in let calls = g.D.CancelDesk.calls c.args.desk.now in
     let new_calls = g.D.CancelDesk.calls c.respond.new.desk in
@@ -103,8 +120,10 @@ returns-in_err-flush_if_full-clause-cut_off g c =
 pub returns-clause-served : goal.returns-clause-served
 returns-clause-served g c =
     let at = λ (x : g.row.H.Denot). whole_rules (handlers_of (g.H.Extended.ExtendedQueryHandler.told (g.H.PgWireServerHandlers.extended x))
-    (g.H.Simple.SimpleQueryHandler.told (g.H.PgWireServerHandlers.simple x)) (g.H.Copying.CopyHandler.told (g.H.PgWireServerHandlers.copying x))) in
-    let x = arc_value c.self.inside.handlers in let s = state_of g.St.PortalStore.statements g.St.PortalStore.portals c.self.inside.client in
+    (g.H.Simple.SimpleQueryHandler.told (g.H.PgWireServerHandlers.simple x)) (g.H.Copying.CopyHandler.told
+    (g.H.PgWireServerHandlers.copying x))) in
+    let x = arc_value c.self.inside.handlers in let s = state_of g.St.PortalStore.statements g.St.PortalStore.portals c.self.inside.client
+    in
     let text = c.self.inside.rest.items in let rest = c.decode.new.src.items in let out = c.self.inside.client.outbox in
     let written = g.K.Sink.written c.args.sink.now in let calls = g.D.CancelDesk.calls c.args.desk.now in
     let new_calls = g.D.CancelDesk.calls c.respond.new.desk in
@@ -118,14 +137,17 @@ returns-clause-served g c =
     let kept : c.self-2.inside.rest.items ≡ rest = ap (λ v. v.rest) c.self-2.view_is ∙ c.in_ok-end.ensures.rest in
     let flow = subst (λ o. Flows written after o left []) waits c.in_ok-flush_if_full.ensures.ok in (
       next,
-      subst (λ v. IsServed (at v.handlers) v.state v.rest c.self-2.inside.rest.items next written after v.unsent left calls new_calls) c.self.view_is
-          (subst (λ r. IsServed (at x) s text r next written after out left calls new_calls) (sym kept) (serves_flow (at x) after left served flow)),
+      subst (λ v. IsServed (at v.handlers) v.state v.rest c.self-2.inside.rest.items next written after v.unsent left calls new_calls)
+          c.self.view_is
+          (subst (λ r. IsServed (at x) s text r next written after out left calls new_calls) (sym kept) (serves_flow
+          (at x) after left served flow)),
       subst (λ t. StandsAfterStep awaits next t c.self-2.inside.rest.items c.ended_by.result) (sym (ap (λ v. v.state) c.self-2.view_is))
           (stands_by awaits e n.state c.self-2.inside.rest.items c.ended_by.result c.ended_by.ensures c.in_ok-end.ensures.ends),
     )
 
 pub returns-clause-open : goal.returns-clause-open
-returns-clause-open g c = going_is_open c.in_ok-end.end c.ended_by.result c.self-2.inside.opened c.ended_by.ensures (ap (λ v. v.is_open) c.self-2.view_is ∙ c.in_ok-end.ensures.«open»)
+returns-clause-open g c = going_is_open c.in_ok-end.end c.ended_by.result c.self-2.inside.opened c.ended_by.ensures (ap
+    (λ v. v.is_open) c.self-2.view_is ∙ c.in_ok-end.ensures.«open»)
 
 pub returns-in-Ok-None-clause-open : goal.returns-in-Ok-None-clause-open
 returns-in-Ok-None-clause-open g c = λ _. ap (λ v. v.is_open) c.self.view_is ∙ c.requires

@@ -1,0 +1,6 @@
+//! A server of relations: their handlers under the engine.
+#![tactic(auto)]
+
+mod serve;
+
+pub use serve::serve_relations_on;

@@ -1,0 +1,52 @@
+//! A client of relations is served.
+
+ghost use Rattle.std.specs.Prelude.{◌≡◌, ◌++◌, List};
+ghost use Rattle.pg_conversation.specs.Session.{whole_rules};
+ghost use Rattle.pg_handlers.specs.Questions.{questions_since};
+ghost use Rattle.pg_handlers.specs.State.{first_state};
+ghost use Rattle.pg_handlers.specs.declared.desk.DeskCall.{DeskCall};
+ghost use Rattle.pg_serve.specs.Serving.{WentSo, HasCause, counts_of};
+ghost use Rattle.relation_tables.specs.RelationHandler.{relation_handlers};
+
+use pg_conversation::{CancelDesk, EndKind, ServeError, Sink, Source};
+use pg_handlers::NoopHandler;
+use pg_portal::MemPortalStore;
+use pg_serve::serve_connection;
+use relation_handlers::{RelationHandler, RelationTable};
+use std::alloc::Global;
+use std::sync::Arc;
+
+/// Serves a client over relations: takes its bytes from the source, and writes the answer to the sink, until the
+/// conversation ends. Simple and extended queries are answered, `COPY name TO STDOUT` too; COPY from the client is
+/// refused. A read that gives at least one byte or the end costs one turn, and so does each poll that finds a query
+/// unready.
+///
+/// ReadFault comes where a read failed, WriteFault where a write failed, TurnLimit where all turns were spent and
+/// one more was needed, NoMemory where memory ran out.
+pub fn serve_relations_on<D: CancelDesk, S: Source, K: Sink>(
+    alloc: Global,
+    desk: &mut D,
+    relations: &RelationTable,
+    source: &mut S,
+    sink: &mut K,
+    turn_limit: u64,
+) -> Result<EndKind, ServeError>
+
+    // The bytes written and the new calls are the whole table's answer to the client's bytes, however cut.
+    ensures went { (calls : List DeskCall) × (D.calls desk.new ≡ D.calls desk.old ++ calls)
+        × WentSo (whole_rules (relation_handlers relations.now))
+        (first_state (D.registration desk.old).0 (D.registration desk.old).1)
+        result (S.left source.old) (S.left source.new) (K.written sink.old) (K.written sink.new) calls }
+    ensures cause { HasCause result turn_limit (questions_since (D.calls desk.old) (D.calls desk.new))
+        (counts_of S.reads S.faults K.faults source.old sink.old)
+        (counts_of S.reads S.faults K.faults source.new sink.new) }
+    ensures same { D.registration desk.new ≡ D.registration desk.old }
+    ensures origin { D.origin desk.new ≡ D.origin desk.old }
+{
+    let copying = NoopHandler;
+    let Ok(handlers) = Arc::new(alloc, RelationHandler { relations, copying }) else {
+        return Err(ServeError::NoMemory);
+    };
+    let store = MemPortalStore::new(alloc);
+    serve_connection(alloc, handlers, store, desk, source, sink, turn_limit)
+}
