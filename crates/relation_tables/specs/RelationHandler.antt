@@ -26,8 +26,8 @@ use Rattle.pg_portal.specs.Responses.{ToldResponse}
 use Rattle.pg_portal.specs.Rows.{RowItem}
 use Rattle.pg_portal.specs.Tags.{tag_of}
 use Rattle.pg_portal.specs.Told.{ParserTold, BoundPortal}
-use Rattle.pg_handlers.specs.Errors.{copy_given_up, not_implemented}
-use Rattle.pg_handlers.specs.Handlers.{ExtendedTold, SimpleTold, CopyTold, CopyStep, Handlers, ToldQuery}
+use Rattle.pg_handlers.specs.Handlers.{ExtendedTold, SimpleTold, Handlers, ToldQuery}
+use Rattle.pg_handlers.specs.Noop.{noop_copy}
 use Rattle.relation_tables.specs.declared.Relation.{Relation}
 use Rattle.relation_tables.specs.declared.RelationStatement.{RelationStatement}
 use Rattle.relation_tables.specs.declared.RelationStatement.TheVariants as statement
@@ -207,17 +207,7 @@ simple_of relations client text (Some means) =
 abbrev pub told_simple : List Relation → SimpleTold
 told_simple relations client query = simple_of relations client (trimmed query) (meaning relations query)
 
--- ---- COPY from the client: none
-
-abbrev pub no_copy_step : CopyStep
-no_copy_step = record { replies = []; refusal = Some (wire.UserError not_implemented) }
-
-abbrev pub no_copy : CopyTold
-no_copy = record {
-  on_data = λ client bytes. no_copy_step;
-  on_done = λ client. no_copy_step;
-  on_fail = λ client message. wire.UserError (copy_given_up message);
-}
+-- ---- all: COPY from the client is refused
 
 abbrev pub relation_handlers : List Relation → Handlers RelationStatement
-relation_handlers relations = record { extended = told_extended relations; simple = told_simple relations; copying = no_copy }
+relation_handlers relations = record { extended = told_extended relations; simple = told_simple relations; copying = noop_copy }

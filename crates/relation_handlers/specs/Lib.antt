@@ -1,0 +1,4 @@
+pub mod Tables
+pub mod Queries
+pub mod Values
+pub mod Words

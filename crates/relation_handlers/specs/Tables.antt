@@ -1,0 +1,65 @@
+-- Relations, and the rules of a table of them.
+use Rattle.std.specs.Prelude.{ℕ, Bool, true, List, [], ◌∷◌, ◌++◌, Option, Some, None, ◌≡◌, ◌==◌, ◌&&◌, ◌||◌, not, nat_le, is_some, if◌then◌else◌, length, codes}
+use Rattle.std.specs.List.{list_all}
+use Rattle.std.specs.Str.{str_eq_ignore_ascii_case}
+use Rattle.relation_tables.specs.declared.Relation.{Relation}
+use Rattle.relation_tables.specs.Relations.{place_of, are_even}
+use Rattle.relation_handlers.specs.declared.table.TableError.{TableError}
+use Rattle.relation_handlers.specs.declared.table.TableError.TheVariants.{BadName, BadColumn, RaggedRow, NoMemory}
+
+-- what a name may not hold: whitespace, which is the bytes 09 to 0D and 20, a semicolon, a zero byte
+abbrev pub is_foreign_to_names : ℕ → Bool
+is_foreign_to_names byte = (nat_le 9 byte && nat_le byte 13) || (byte == 32) || (byte == 59) || (byte == 0)
+
+-- BEGIN or COMMIT, in any ASCII case
+abbrev pub is_transaction_word : List ℕ → Bool
+is_transaction_word text = str_eq_ignore_ascii_case text (codes "BEGIN") || str_eq_ignore_ascii_case text (codes "COMMIT")
+
+-- A name that a query can say: 1 to 63 bytes, none of them whitespace, a semicolon or zero, and neither BEGIN nor COMMIT in any ASCII case.
+abbrev pub is_name : List ℕ → Bool
+is_name text = nat_le 1 (length text) && nat_le (length text) 63 && list_all (λ byte. not (is_foreign_to_names byte)) text && not
+    (is_transaction_word text)
+
+-- a column's name: at most 63 bytes, none of them zero
+abbrev pub is_column_name : List ℕ → Bool
+is_column_name text = nat_le (length text) 63 && list_all (λ byte. not (byte == 0)) text
+
+-- good columns: at most 1,600
+abbrev pub are_columns : List (List ℕ) → Bool
+are_columns columns = nat_le (length columns) 1600 && list_all is_column_name columns
+
+-- what a relation at a place is refused for, its name before its columns before its rows; its name may be that of an earlier one
+abbrev pub refusal_at : ℕ → Bool → Relation → Option TableError
+refusal_at place is_taken r =
+    if is_taken || not (is_name r.name) then Some (BadName place)
+    else if not (are_columns r.columns) then Some (BadColumn place)
+    else if not (are_even (length r.columns) r.rows) then Some (RaggedRow place)
+    else None
+
+-- a relation that can be served: good columns and even rows
+pub record IsSound (r : Relation) : Type 0 where
+  pub columns : are_columns r.columns ≡ true
+  pub rows : are_even (length r.columns) r.rows ≡ true
+
+-- the first refusal of two, if there is one
+abbrev pub or_else : Option TableError → Option TableError → Option TableError
+or_else None later = later
+or_else (Some e) later = Some e
+
+-- Refusal of relations that stand after earlier ones: that of the first which breaks a rule.
+abbrev pub refusal_after : List Relation → List Relation → Option TableError
+refusal_after earlier [] = None
+refusal_after earlier (r ∷ relations) = or_else (refusal_at (length earlier) (is_some (place_of earlier r.name)) r)
+    (refusal_after (earlier ++ r ∷ []) relations)
+
+abbrev pub refusal : List Relation → Option TableError
+refusal relations = refusal_after [] relations
+
+-- valid table: nothing is refused
+abbrev pub IsValid : List Relation → Type 0
+IsValid relations = refusal relations ≡ None
+
+-- why a table was refused: its refusal, or want of memory
+abbrev pub IsCause : List Relation → TableError → Type 0
+IsCause relations NoMemory = Unit {0}
+IsCause relations e = refusal relations ≡ Some e

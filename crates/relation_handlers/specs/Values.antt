@@ -1,0 +1,37 @@
+-- What becomes of values that are appended one after another.
+use Rattle.std.specs.Prelude.{ℕ, zero, suc, List, [], ◌∷◌, ◌++◌, Result, Ok, Err, ◌≡◌, ◌⊎◌}
+use Rattle.std.specs.List.{concat, join_with_byte}
+use Rattle.pg_portal.specs.declared.error.PgWireError.{PgWireError}
+use Rattle.pg_portal.specs.declared.error.PgWireError.TheVariants as wire
+
+-- the bytes were appended
+abbrev pub IsPushed : Result (List ℕ) PgWireError → List ℕ → List ℕ → Type 0
+IsPushed (Ok bytes) old new = new ≡ old ++ bytes
+IsPushed (Err e) old new = ⊥
+
+-- the error that is told, or want of memory
+abbrev pub IsRefusedBy : {A : Type 0} → Result A PgWireError → PgWireError → Type 0
+IsRefusedBy (Ok x) e = e ≡ wire.NoMemory
+IsRefusedBy (Err told) e = (e ≡ told) ⊎ (e ≡ wire.NoMemory)
+
+-- the values one after another
+abbrev pub joined : Result (List (List ℕ)) PgWireError → Result (List ℕ) PgWireError
+joined (Ok values) = Ok (concat values)
+joined (Err e) = Err e
+
+-- ---- lines
+
+-- a tab before each text but the first
+abbrev pub tab : ℕ → List ℕ
+tab zero = []
+tab (suc n) = 9 ∷ []
+
+-- the text at an index of a line, behind its tab
+abbrev pub tabbed : ℕ → Result (List ℕ) PgWireError → Result (List ℕ) PgWireError
+tabbed index (Ok text) = Ok (tab index ++ text)
+tabbed index (Err e) = Err e
+
+-- the texts, split by tabs
+abbrev pub tab_joined : Result (List (List ℕ)) PgWireError → Result (List ℕ) PgWireError
+tab_joined (Ok texts) = Ok (join_with_byte 9 texts)
+tab_joined (Err e) = Err e

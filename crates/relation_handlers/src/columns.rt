@@ -1,0 +1,88 @@
+//! The columns of relations, and their formats.
+
+ghost use Rattle.std.specs.Prelude.{◌≡◌, IfOk, IsTrue, length, map, zip};
+ghost use Rattle.pg_messages.specs.declared.backend.PgWireBackendMessage.TheVariants as server;
+ghost use Rattle.pg_messages.specs.Replies.{IsEncodable};
+ghost use Rattle.pg_handlers.specs.Replies.{row_description};
+ghost use Rattle.relation_tables.specs.Relations.{column};
+ghost use Rattle.relation_tables.specs.RelationHandler.{column_format, column_formats, fields_of, is_statement_of};
+
+use crate::table::RelationTable;
+use pg_messages::{PgList, PgStr};
+use pg_portal::{FieldInfo, Format};
+use pg_text::{FieldFormat, PgType};
+use relation_tables::RelationStatement;
+use std::alloc::{AllocError, Global};
+
+/// The columns of a statement's rows in these formats, which can be sent as a reply. BEGIN and COMMIT have none.
+pub(crate) fn fields_of(
+    alloc: Global,
+    relations: &RelationTable,
+    means: RelationStatement,
+    formats: &Format,
+) -> Result<PgList<FieldInfo>, AllocError>
+    requires { IsTrue (is_statement_of relations.now means) }
+    ensures fields { IfOk result (λ fields. fields ≡ fields_of relations.now means formats.now) }
+    ensures encodable { IfOk result (λ fields. IsEncodable (row_description fields)) }
+{
+    match means {
+        RelationStatement::Begin => Ok(PgList::new(alloc)),
+        RelationStatement::Commit => Ok(PgList::new(alloc)),
+        RelationStatement::Relation(place) => {
+            let names = relations.at(place).columns.as_slice();
+            let formats = column_formats(alloc, formats, names)?;
+            columns(alloc, formats.as_slice(), names)
+        }
+    }
+}
+
+/// The formats of columns, one for each.
+pub(crate) fn column_formats(
+    alloc: Global,
+    formats: &Format,
+    names: &[PgStr],
+) -> Result<PgList<FieldFormat>, AllocError>
+    ensures formats { IfOk result (λ all. all ≡ column_formats formats.now names.now) }
+    ensures length { IfOk result (λ all. length all ≡ length names.now) }
+{
+    let mut all = PgList::new(alloc);
+    for (index, _name) in names.iter().enumerate() {
+        all.push(column_format(formats, index))?;
+    }
+    Ok(all)
+}
+
+/// The format of the column at an index.
+fn column_format(formats: &Format, index: usize) -> FieldFormat
+    ensures { result ≡ column_format formats.now index }
+{
+    match formats.format_for(index) {
+        Some(format) => format,
+        None => FieldFormat::Text,
+    }
+}
+
+/// The columns of these names, in as many formats.
+pub(crate) fn columns(
+    alloc: Global,
+    formats: &[FieldFormat],
+    names: &[PgStr],
+) -> Result<PgList<FieldInfo>, AllocError>
+    requires { length formats.now ≡ length names.now }
+    ensures { IfOk result (λ fields. fields ≡ map (λ p. column p.0 p.1) (zip formats.now names.now)) }
+{
+    let mut fields = PgList::new(alloc);
+    for (index, name) in names.iter().enumerate() {
+        fields.push(column(alloc, name.as_str(), formats[index])?)?;
+    }
+    Ok(fields)
+}
+
+/// A column of intervals.
+fn column(alloc: Global, name: &str, format: FieldFormat) -> Result<FieldInfo, AllocError>
+    ensures { IfOk result (λ field. field ≡ column format name.now) }
+{
+    let name = PgStr::copy_of(alloc, name)?;
+    let field = FieldInfo::new(alloc, name, None, None, PgType::Interval, format)?;
+    Ok(field.with_type_size(16))
+}

@@ -1,0 +1,160 @@
+//! The handlers of a server of relations.
+
+ghost use Rattle.std.specs.Prelude.{◌≡◌, ◌≤◌, false, IfOk, length};
+ghost use Rattle.pg_messages.specs.Replies.{IsEncodable};
+ghost use Rattle.pg_handlers.specs.Replies.{parameter_description};
+ghost use Rattle.relation_tables.specs.RelationHandler.{given_types};
+
+use crate::answer::{answer, polls_of};
+use crate::columns::fields_of;
+use crate::copy::RelationCopy;
+use crate::meaning::meaning;
+use crate::parser::RelationParser;
+use crate::query::RelationQuery;
+use crate::rows::RelationRows;
+use crate::simple::{SimpleQuery, other_query, statement_query};
+use crate::table::RelationTable;
+use crate::words::trimmed;
+use pg_handlers::{ExtendedQueryHandler, NoopHandler, PgWireServerHandlers, SimpleQueryHandler};
+use pg_messages::PgList;
+use pg_portal::{
+    ClientInfo, DescribePortalResponse, DescribeStatementResponse, Format, PgWireError, Portal,
+    Response, StoredStatement,
+};
+use pg_text::PgType;
+use relation_tables::RelationStatement;
+use std::alloc::{AllocError, Global};
+use std::sync::Arc;
+
+/// It serves relations: extended queries of them, and simple queries of them, which may be `COPY name TO STDOUT`. COPY
+/// from the client is left to another handler.
+#[derive(Drop)]
+pub struct RelationHandler<'r> {
+    /// The relations.
+    pub relations: &'r RelationTable,
+    /// The handler of COPY.
+    pub copying: NoopHandler,
+}
+
+impl<'r> ExtendedQueryHandler for RelationHandler<'r> {
+    ghost use Rattle.relation_tables.specs.RelationHandler.{told_extended};
+
+    type Statement = RelationStatement;
+
+    type QueryParser = RelationParser<'r>;
+
+    type Rows = RelationRows<'r>;
+
+    type CopyRows = RelationCopy<'r>;
+
+    type Query = RelationQuery<Response<RelationRows<'r>, RelationCopy<'r>>>;
+
+    ghost told = { λ handler. told_extended handler.relations.now };
+
+    fn query_parser(&self, alloc: Global) -> Result<Arc<RelationParser<'r>>, AllocError> {
+        let relations = self.relations;
+        Ok(Arc::new(alloc, RelationParser { relations })?)
+    }
+
+    /// Parameters have the types that they were given, and `unknown` without one.
+    fn do_describe_statement(
+        &self,
+        alloc: Global,
+        _client: &ClientInfo,
+        target: &StoredStatement<RelationStatement>,
+    ) -> Result<DescribeStatementResponse, PgWireError> {
+        let parameters = given_types(alloc, target.parameter_types.as_slice())?;
+        let formats = Format::UnifiedText;
+        let fields = fields_of(alloc, self.relations, target.statement, &formats)?;
+        Ok(DescribeStatementResponse::new(parameters, fields))
+    }
+
+    fn do_describe_portal(
+        &self,
+        alloc: Global,
+        _client: &ClientInfo,
+        target: &Portal<RelationStatement, RelationRows<'r>>,
+    ) -> Result<DescribePortalResponse, PgWireError> {
+        let means = target.statement.statement;
+        let fields = fields_of(alloc, self.relations, means, &target.result_column_format)?;
+        Ok(DescribePortalResponse::new(fields))
+    }
+
+    fn do_query(
+        &self,
+        alloc: Global,
+        client: &ClientInfo,
+        portal: &Portal<RelationStatement, RelationRows<'r>>,
+        _max_rows: i32,
+    ) -> Result<RelationQuery<Response<RelationRows<'r>, RelationCopy<'r>>>, AllocError> {
+        let means = portal.statement.statement;
+        let formats = &portal.result_column_format;
+        let response = answer(alloc, self.relations, client, formats, means)?;
+        Ok(RelationQuery::new(polls_of(self.relations, means), Ok(response)))
+    }
+}
+
+impl<'r> SimpleQueryHandler for RelationHandler<'r> {
+    ghost use Rattle.relation_tables.specs.RelationHandler.{told_simple};
+
+    type Rows = RelationRows<'r>;
+
+    type CopyRows = RelationCopy<'r>;
+
+    type Query = SimpleQuery<'r>;
+
+    ghost told = { λ handler. told_simple handler.relations.now };
+
+    /// A statement, whose rows are text, or `COPY name TO STDOUT`.
+    fn do_query(
+        &self,
+        alloc: Global,
+        client: &ClientInfo,
+        query: &str,
+    ) -> Result<SimpleQuery<'r>, AllocError> {
+        match meaning(self.relations, query) {
+            Some(means) => statement_query(alloc, self.relations, client, means),
+            None => other_query(alloc, self.relations, client, trimmed(query)),
+        }
+    }
+}
+
+impl<'r> PgWireServerHandlers for RelationHandler<'r> {
+    type Simple = RelationHandler<'r>;
+
+    type Extended = RelationHandler<'r>;
+
+    type Copying = NoopHandler;
+
+    ghost simple = { λ handler. handler };
+
+    ghost extended = { λ handler. handler };
+
+    ghost copying = { λ handler. handler.copying };
+
+    fn simple_query_handler(&self) -> &RelationHandler<'r> {
+        self
+    }
+
+    fn extended_query_handler(&self) -> &RelationHandler<'r> {
+        self
+    }
+
+    fn copy_handler(&self) -> &NoopHandler {
+        &self.copying
+    }
+}
+
+/// The types of parameters as they were given, and `unknown` where they weren't. As many as an Int16 counts can be sent
+/// as a reply.
+fn given_types(alloc: Global, types: &[Option<PgType>]) -> Result<PgList<PgType>, AllocError>
+    requires { length types.now ≤ 32767 }
+    ensures types { IfOk result (λ all. all ≡ given_types types.now) }
+    ensures encodable { IfOk result (λ all. IsEncodable (parameter_description all)) }
+{
+    let mut all = PgList::new(alloc);
+    for given in types {
+        all.push(given.unwrap_or(PgType::Unknown))?;
+    }
+    Ok(all)
+}

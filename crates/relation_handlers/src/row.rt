@@ -1,0 +1,146 @@
+//! Rows of relations as the protocol sends them (protocol: Message Formats, DataRow).
+
+ghost use Rattle.std.specs.Prelude.{◌≡◌, ◌≤◌, ◌+◌, ◌++◌, Ok, IfOk, IfErr, OnOk, length, map, zip};
+ghost use Rattle.pg_interval.specs.Printed.{printed};
+ghost use Rattle.pg_text.specs.Words.{printed_style};
+ghost use Rattle.pg_messages.specs.declared.backend.PgWireBackendMessage.TheVariants as server;
+ghost use Rattle.pg_messages.specs.Replies.{IsEncodable};
+ghost use Rattle.pg_portal.specs.Rows.{IsAnswerable, IsSendable};
+ghost use Rattle.pg_portal.specs.Told.{IsOutcome};
+ghost use Rattle.relation_tables.specs.Relations.{binary_value, text_value};
+ghost use Rattle.relation_tables.specs.RelationHandler.{all_or_error, value, row_item};
+ghost use Rattle.relation_handlers.specs.Values.{IsPushed, IsRefusedBy, joined};
+
+use crate::style::SessionStyle;
+use bytes::BytesMut;
+use pg_interval::Interval;
+use pg_messages::{DataRow, PgBytes};
+use pg_portal::PgWireError;
+use pg_text::{FieldFormat, IntervalStyle};
+use std::alloc::{AllocError, Global};
+
+/// A row in these formats, one for each column, or `InvalidOptionValue` in its place where a column is text and the
+/// session's style isn't one. It can be sent as a reply.
+pub(crate) fn row_item(
+    alloc: Global,
+    style: &SessionStyle,
+    formats: &[FieldFormat],
+    row: &[Interval],
+) -> Result<Result<DataRow, PgWireError>, AllocError>
+    requires same { length formats.now ≡ length row.now }
+    requires narrow { length row.now ≤ 1600 }
+    ensures item { IfOk result (λ item. item ≡ row_item style.now formats.now row.now) }
+    ensures sendable { IfOk result IsSendable }
+{
+    match row_of(alloc, style, formats, row) {
+        Ok(row) => Ok(Ok(row)),
+        Err(PgWireError::NoMemory) => Err(AllocError),
+        Err(error) => Ok(Err(error)),
+    }
+}
+
+/// A row in these formats.
+fn row_of(
+    alloc: Global,
+    style: &SessionStyle,
+    formats: &[FieldFormat],
+    row: &[Interval],
+) -> Result<DataRow, PgWireError>
+    requires same { length formats.now ≡ length row.now }
+    requires narrow { length row.now ≤ 1600 }
+    ensures outcome { IsOutcome (row_item style.now formats.now row.now) result }
+    ensures encodable { IfOk result (λ row. IsEncodable (server.DataRow row)) }
+    ensures answerable { IfErr result IsAnswerable }
+{
+    let payload = values(alloc, style, formats, row)?;
+    Ok(DataRow {
+        payload: PgBytes::from_vec(payload),
+        field_count: row.len() as i16,
+    })
+}
+
+/// The values of a row, one after another. There is room for those of a binary row from the start.
+fn values(
+    alloc: Global,
+    style: &SessionStyle,
+    formats: &[FieldFormat],
+    row: &[Interval],
+) -> Result<Vec<u8>, PgWireError>
+    requires same { length formats.now ≡ length row.now }
+    requires narrow { length row.now ≤ 1600 }
+    ensures values { IfOk result (λ payload. Ok payload.items
+        ≡ joined (all_or_error (map (λ p. value style.now p.0 p.1) (zip formats.now row.now)))) }
+    ensures short { IfOk result (λ payload. length payload.items ≤ 6560000) }
+    ensures refused { IfErr result (IsRefusedBy
+        (joined (all_or_error (map (λ p. value style.now p.0 p.1) (zip formats.now row.now))))) }
+    ensures answerable { IfErr result IsAnswerable }
+{
+    let mut payload = Vec::with_capacity(alloc, 20 * row.len())?;
+    for (index, interval) in row.iter().enumerate() {
+        push_value(alloc, &mut payload, style, formats[index], interval)?;
+    }
+    Ok(payload)
+}
+
+/// Appends an interval as a value of a row.
+fn push_value(
+    alloc: Global,
+    payload: &mut Vec<u8>,
+    style: &SessionStyle,
+    format: FieldFormat,
+    interval: &Interval,
+) -> Result<(), PgWireError>
+    ensures pushed { OnOk result (IsPushed (value style.now format interval.now)
+        payload.old.items payload.new.items) }
+    ensures short { OnOk result (length payload.new.items ≤ length payload.old.items + 4100) }
+    ensures refused { IfErr result (IsRefusedBy (value style.now format interval.now)) }
+    ensures answerable { IfErr result IsAnswerable }
+{
+    match format {
+        FieldFormat::Binary => Ok(push_binary(payload, interval)?),
+        FieldFormat::Text => {
+            let style = style.get(alloc)?;
+            Ok(push_text(alloc, payload, style, interval)?)
+        }
+    }
+}
+
+/// Appends a binary value: Int32 16, and the sixteen bytes of the interval.
+fn push_binary(payload: &mut Vec<u8>, interval: &Interval) -> Result<(), AllocError>
+    ensures pushed { OnOk result (payload.new.items ≡ payload.old.items ++ binary_value interval.now) }
+    ensures short { OnOk result (length payload.new.items ≤ length payload.old.items + 20) }
+{
+    payload.extend_from_slice(&[0, 0, 0, 16])?;
+    payload.extend_from_slice(&interval.to_cell())
+}
+
+/// Appends a text value: Int32 length, and the text of the interval.
+fn push_text(
+    alloc: Global,
+    payload: &mut Vec<u8>,
+    style: IntervalStyle,
+    interval: &Interval,
+) -> Result<(), AllocError>
+    ensures pushed { OnOk result (payload.new.items
+        ≡ payload.old.items ++ text_value (printed (printed_style style) interval.now)) }
+    ensures short { OnOk result (length payload.new.items ≤ length payload.old.items + 4100) }
+{
+    let text = text_of(alloc, style, interval)?;
+    let len = text.len() as u32;
+    payload.extend_from_slice(&len.to_be_bytes())?;
+    payload.extend_from_slice(text.as_slice())
+}
+
+/// The text of an interval in a style.
+pub(crate) fn text_of(
+    alloc: Global,
+    style: IntervalStyle,
+    interval: &Interval,
+) -> Result<BytesMut, AllocError>
+    ensures text { IfOk result (λ text. text.items ≡ printed (printed_style style) interval.now) }
+    ensures short { IfOk result (λ text. length text.items ≤ 4096) }
+{
+    let mut text = BytesMut::new(alloc);
+    style.print(interval, &mut text)?;
+    Ok(text)
+}

@@ -1,0 +1,198 @@
+ghost use Rattle.std.specs.Prelude.{◌≡◌, ℕ, List, [], ◌^◌, ◌<◌, ◌++◌, ◌||◌, ◌==◌, not, Option, Some, None, length, IfOk, IfErr, OnOk};
+ghost use Rattle.std.specs.FinMap as map;
+ghost use Rattle.std.specs.List.{list_all};
+ghost use Rattle.relation_tables.specs.Relations.{are_even, place_of, relation_at};
+ghost use Rattle.relation_handlers.specs.Tables.{is_transaction_word, is_foreign_to_names, is_name, is_column_name, are_columns, refusal_at, refusal, IsSound, IsValid, IsCause};
+
+use pg_interval::Interval;
+use pg_messages::{PgList, PgStr};
+use pg_portal::Named;
+use relation_tables::Relation;
+use std::alloc::{AllocError, Global};
+use std::marker::Model;
+
+/// Why relations are no table, with the place of the first that breaks a rule.
+#[derive(Clone, Copy, Debug, PartialEq, Eq)]
+pub enum TableError {
+    /// The name is empty, over 63 bytes, holds whitespace, `;` or a zero byte, is `BEGIN` or `COMMIT` in any ASCII
+    /// case, or is that of an earlier relation.
+    BadName(u32),
+    /// There are over 1,600 columns, or a column's name is over 63 bytes or holds a zero byte.
+    BadColumn(u32),
+    /// A row has more or fewer intervals than there are columns.
+    RaggedRow(u32),
+    /// Memory ran out.
+    NoMemory,
+}
+
+impl From<AllocError> for TableError {
+    ghost use Rattle.std.specs.Prelude.{◌≡◌};
+    ghost use Rattle.relation_handlers.specs.declared.table.TableError.TheVariants.{NoMemory};
+
+    ghost from_gives = { λ _ e. e ≡ NoMemory };
+
+    fn from(_e: AllocError) -> TableError {
+        TableError::NoMemory
+    }
+}
+
+/// Relations that keep the rules, found by their names.
+#[derive(Drop)]
+pub struct RelationTable {
+    relations: PgList<Relation>,
+    places: Named<u32>,
+}
+
+impl Model for RelationTable {
+    ghost use Rattle.std.specs.Prelude.{List, ℕ, ◌≡◌};
+    ghost use Rattle.std.specs.FinMap as map;
+    ghost use Rattle.relation_tables.specs.declared.Relation.{Relation};
+
+    ghost Value = { List Relation };
+
+    ghost use Rattle.relation_tables.specs.Relations.{place_of};
+    ghost use Rattle.relation_handlers.specs.Tables.{IsValid};
+
+    ghost view = { λ t. t.relations };
+
+    ghost invariant = { λ t. IsValid t.relations
+        × ((name : List ℕ) → map.get t.places name ≡ place_of t.relations name) };
+}
+
+impl RelationTable {
+    /// The table of these relations, of which each keeps the rules that `TableError` tells.
+    /// The relations are judged in their order, and of one the name before the columns before the rows.
+    pub fn try_new(alloc: Global, relations: PgList<Relation>) -> Result<RelationTable, TableError>
+        requires { length relations < 2 ^ 32 }
+        ensures ok { IfOk result (λ table. table ≡ relations) }
+        ensures valid { OnOk result (IsValid relations) }
+        ensures refused { IfErr result (λ error. IsCause relations error) }
+    {
+        let places = places_of(alloc, relations.as_slice())?;
+        Ok(RelationTable { relations, places })
+    }
+
+    /// The place of the relation of exactly this name, or None exactly where there is none.
+    pub fn find(&self, name: &str) -> Option<u32>
+        ensures { result ≡ place_of self.now name.now }
+    {
+        self.places.get(name).copied()
+    }
+
+    /// The relation at a place.
+    pub(crate) fn at(&self, place: u32) -> &Relation
+        requires { place < length self.now }
+        ensures relation { result.now ≡ relation_at self.now place }
+        ensures sound { IsSound result.now }
+    {
+        &self.relations.as_slice()[place as usize]
+    }
+
+    /// The relations, in their order.
+    pub fn relations(&self) -> &[Relation]
+        ensures relations { result.now ≡ self.now }
+        ensures valid { IsValid self.now }
+    {
+        self.relations.as_slice()
+    }
+}
+
+/// Where each name stands among relations that keep the rules.
+fn places_of(alloc: Global, relations: &[Relation]) -> Result<Named<u32>, TableError>
+    requires { length relations.now < 2 ^ 32 }
+    ensures places { IfOk result (λ places. (name : List ℕ) → map.get places name
+        ≡ place_of relations.now name) }
+    ensures valid { OnOk result (IsValid relations.now) }
+    ensures refused { IfErr result (λ error. IsCause relations.now error) }
+{
+    let mut places = Named::new(alloc);
+    let mut place: u32 = 0;
+    for relation in relations {
+        let is_taken = places.get(relation.name.as_str()).is_some();
+        if let Some(error) = judge(place, is_taken, relation) {
+            return Err(error);
+        }
+        places.put(PgStr::copy_of(alloc, relation.name.as_str())?, place)?;
+        place += 1;
+    }
+    Ok(places)
+}
+
+/// What the relation at this place is refused for, if for anything.
+fn judge(place: u32, is_taken: bool, relation: &Relation) -> Option<TableError>
+    ensures { result ≡ refusal_at place is_taken relation.now }
+{
+    if is_taken || !is_good_name(relation.name.as_str()) {
+        Some(TableError::BadName(place))
+    } else if !has_good_columns(relation.columns.as_slice()) {
+        Some(TableError::BadColumn(place))
+    } else if !has_even_rows(relation.columns.len(), relation.rows.as_slice()) {
+        Some(TableError::RaggedRow(place))
+    } else {
+        None
+    }
+}
+
+/// Whether a query can say this name.
+fn is_good_name(name: &str) -> bool
+    ensures { result ≡ is_name name.now }
+{
+    let len = name.len();
+    len >= 1 && len <= 63 && has_no_foreign(name.as_bytes()) && !says_transaction(name)
+}
+
+/// Whether a name may hold each of these bytes.
+fn has_no_foreign(bytes: &[u8]) -> bool
+    ensures { result ≡ list_all (λ byte. not (is_foreign_to_names byte)) bytes.now }
+{
+    bytes.iter().all(|byte| !is_foreign(*byte))
+}
+
+/// Whether a name may not hold this byte: whitespace, a semicolon or zero.
+fn is_foreign(byte: u8) -> bool
+    ensures { result ≡ is_foreign_to_names byte }
+{
+    (byte >= 9 && byte <= 13) || byte == b' ' || byte == b';' || byte == 0
+}
+
+/// Whether a text is BEGIN or COMMIT, in any ASCII case.
+fn says_transaction(text: &str) -> bool
+    ensures { result ≡ is_transaction_word text.now }
+{
+    text.eq_ignore_ascii_case("BEGIN") || text.eq_ignore_ascii_case("COMMIT")
+}
+
+/// Whether there are at most 1,600 columns, each of a good name.
+fn has_good_columns(columns: &[PgStr]) -> bool
+    ensures { result ≡ are_columns columns.now }
+{
+    columns.len() <= 1600 && are_good_columns(columns)
+}
+
+/// Whether each column's name is good.
+fn are_good_columns(columns: &[PgStr]) -> bool
+    ensures { result ≡ list_all is_column_name columns.now }
+{
+    columns.iter().all(|column| is_good_column(column.as_str()))
+}
+
+/// Whether a column's name has at most 63 bytes, none of them zero.
+fn is_good_column(name: &str) -> bool
+    ensures { result ≡ is_column_name name.now }
+{
+    name.len() <= 63 && has_no_zero(name.as_bytes())
+}
+
+/// Whether no byte is zero.
+fn has_no_zero(bytes: &[u8]) -> bool
+    ensures { result ≡ list_all (λ byte. not (byte == 0)) bytes.now }
+{
+    bytes.iter().all(|byte| *byte != 0)
+}
+
+/// Whether each row is as wide as the columns.
+fn has_even_rows(width: usize, rows: &[PgList<Interval>]) -> bool
+    ensures { result ≡ are_even width rows.now }
+{
+    rows.iter().all(|row| row.len() == width)
+}
