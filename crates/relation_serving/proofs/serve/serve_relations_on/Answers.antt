@@ -1,5 +1,4 @@
 use Rattle.std.proofs.Common.{◌≡◌, ◌++◌, List, [], sym, ap, subst, append-nil, refl}
-use Rattle.std.specs.Arc.{arc_value}
 use Rattle.pg_handlers.specs.State.{first_state}
 use Rattle.pg_handlers.specs.declared.desk.DeskCall.{DeskCall}
 use Rattle.pg_conversation.specs.Session.{whole_rules}
@@ -10,9 +9,13 @@ use Rattle.pg_serve.proofs.Serving.{none_went}
 use Rattle.relation_serving.proofs.serve.serve_relations_on.Goals as goal
 
 pub returns-in_default-clause-went : goal.returns-in_default-clause-went
-returns-in_default-clause-went g c = ([], sym (append-nil (g.D.CancelDesk.calls c.args.desk.now)), none_went (whole_rules (relation_handlers c.args.relations.now))
-    (first_state (g.D.CancelDesk.registration c.args.desk.now).0 (g.D.CancelDesk.registration c.args.desk.now).1)
-    (g.S.Source.left c.args.source.now) (g.K.Sink.written c.args.sink.now) fault.NoMemory refl)
+returns-in_default-clause-went g c = (
+  [],
+  sym (append-nil (g.D.CancelDesk.calls c.args.desk.now)),
+  none_went (whole_rules (relation_handlers c.args.relations.now))
+      (first_state (g.D.CancelDesk.registration c.args.desk.now).0 (g.D.CancelDesk.registration c.args.desk.now).1)
+      (g.S.Source.left c.args.source.now) (g.K.Sink.written c.args.sink.now) fault.NoMemory refl,
+)
 
 pub returns-clause-went : goal.returns-clause-went
 returns-clause-went g c =
