@@ -9,7 +9,6 @@ ghost use Rattle.pg_portal.specs.Told.{IsOutcome};
 ghost use Rattle.relation_tables.specs.RelationHandler.{all_or_error, text_of, line_item};
 ghost use Rattle.relation_handlers.specs.Values.{IsPushed, IsRefusedBy, tab, tabbed, tab_joined};
 
-use crate::row::text_of;
 use crate::style::SessionStyle;
 use pg_interval::Interval;
 use pg_messages::{CopyData, PgBytes};
@@ -80,8 +79,7 @@ fn push_cell(
 {
     let style = style.get(alloc)?;
     push_tab(payload, index)?;
-    let text = text_of(alloc, style, interval)?;
-    payload.extend_from_slice(text.as_slice())?;
+    payload.extend_from_slice(style.text(interval).as_bytes())?;
     Ok(())
 }
 

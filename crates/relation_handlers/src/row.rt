@@ -12,7 +12,6 @@ ghost use Rattle.relation_tables.specs.RelationHandler.{all_or_error, value, row
 ghost use Rattle.relation_handlers.specs.Values.{IsPushed, IsRefusedBy, joined};
 
 use crate::style::SessionStyle;
-use bytes::BytesMut;
 use pg_interval::Interval;
 use pg_messages::{DataRow, PgBytes};
 use pg_portal::PgWireError;
@@ -100,7 +99,7 @@ fn push_value(
         FieldFormat::Binary => Ok(push_binary(payload, interval)?),
         FieldFormat::Text => {
             let style = style.get(alloc)?;
-            Ok(push_text(alloc, payload, style, interval)?)
+            Ok(push_text(payload, style, interval)?)
         }
     }
 }
@@ -116,7 +115,6 @@ fn push_binary(payload: &mut Vec<u8>, interval: &Interval) -> Result<(), AllocEr
 
 /// Appends a text value: Int32 length, and the text of the interval.
 fn push_text(
-    alloc: Global,
     payload: &mut Vec<u8>,
     style: IntervalStyle,
     interval: &Interval,
@@ -125,22 +123,8 @@ fn push_text(
         ≡ payload.old.items ++ text_value (printed (printed_style style) interval.now)) }
     ensures short { OnOk result (length payload.new.items ≤ length payload.old.items + 4100) }
 {
-    let text = text_of(alloc, style, interval)?;
-    let len = text.len() as u32;
+    let text = style.text(interval);
+    let len = text.as_bytes().len() as u32;
     payload.extend_from_slice(&len.to_be_bytes())?;
-    payload.extend_from_slice(text.as_slice())
-}
-
-/// The text of an interval in a style.
-pub(crate) fn text_of(
-    alloc: Global,
-    style: IntervalStyle,
-    interval: &Interval,
-) -> Result<BytesMut, AllocError>
-    ensures text { IfOk result (λ text. text.items ≡ printed (printed_style style) interval.now) }
-    ensures short { IfOk result (λ text. length text.items ≤ 4096) }
-{
-    let mut text = BytesMut::new(alloc);
-    style.print(interval, &mut text)?;
-    Ok(text)
+    payload.extend_from_slice(text.as_bytes())
 }
