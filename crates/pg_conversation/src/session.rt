@@ -19,9 +19,9 @@ ghost use Rattle.pg_conversation.specs.Steps.{IsAnswered, IsCutAnswer, IsStopped
 ghost use Rattle.pg_conversation.specs.declared.ends.ServeError.TheVariants as serve;
 
 use crate::ends::ServeError;
-use bytes::BytesMut;
 use crate::errors::tell_error;
 use crate::messages::on_message;
+use bytes::BytesMut;
 use pg_handlers::{
     CancelDesk, Client, EndKind, ExtendedQueryHandler, Outbox, PgWireServerHandlers, SessionError,
     Turns,
