@@ -8,22 +8,22 @@ use Rattle.pg_messages.specs.Replies.{replies_bytes}
 use Rattle.pg_handlers.specs.declared.desk.DeskCall.{DeskCall}
 use Rattle.pg_handlers.specs.declared.ends.EndKind.{EndKind}
 use Rattle.pg_handlers.specs.declared.ends.EndKind.TheVariants as end
-use Rattle.pg_conversation.specs.declared.ends.ServeError.{ServeError}
-use Rattle.pg_conversation.specs.declared.ends.ServeError.TheVariants as fault
+use Rattle.pg_session.specs.declared.ends.ServeError.{ServeError}
+use Rattle.pg_session.specs.declared.ends.ServeError.TheVariants as fault
 use Rattle.pg_handlers.specs.Answer.{BeginsWith, Next, Goes}
 use Rattle.pg_handlers.specs.declared.desk.DeskCall.TheVariants as desk
 use Rattle.pg_handlers.specs.declared.ends.Turns.{Turns}
 use Rattle.pg_handlers.specs.Questions.{questions, questions_since}
 use Rattle.std.proofs.Math.Seq.{drop-append_seam}
-use Rattle.pg_conversation.proofs.Pieces.{IsFed-none}
+use Rattle.pg_session.proofs.Pieces.{IsFed-none}
 use Rattle.std.proofs.Common.{true, inl, inr, IsTrue, false, length, ◌⊎◌}
-use Rattle.pg_conversation.specs.Session.{HasFed}
-use Rattle.pg_conversation.specs.declared.ends.Progress.{Progress}
-use Rattle.pg_conversation.specs.Streams.{HasRisen}
+use Rattle.pg_session.specs.Session.{HasFed}
+use Rattle.pg_session.specs.declared.ends.Progress.{Progress}
+use Rattle.pg_session.specs.Streams.{HasRisen}
 use Rattle.pg_serve.specs.Serving.{Counts, HasCause, end_turn}
-use Rattle.pg_conversation.specs.Run.{Rules, IsRun, IsCutRun, IsFed, EndsWith}
-use Rattle.pg_conversation.specs.Streams.{GrowsBy, GrowsByFront, GivesFront}
-use Rattle.pg_conversation.specs.Steps as steps
+use Rattle.pg_session.specs.Run.{Rules, IsRun, IsCutRun, IsFed, EndsWith}
+use Rattle.pg_session.specs.Streams.{GrowsBy, GrowsByFront, GivesFront}
+use Rattle.pg_session.specs.Steps as steps
 use Rattle.pg_serve.specs.Serving.{TakesFrom, IsServedRun, IsRunOfTaken, IsCutRunOfTaken, IsStoppedRun, IsStoppedRunOfTaken, WentSo}
 
 -- what was served is a run over a text that begins with it

@@ -1,10 +1,10 @@
 ghost use Rattle.std.specs.Prelude.{◌≡◌, None, ◌≤◌, ◌<◌, length, IfOk, OnErr, OnOk, IsErrOf, IsTrue};
 ghost use Rattle.std.specs.Io.KnownBytes.{ReadConsumes, Appends};
 ghost use Rattle.std.specs.Result.{is_err};
-ghost use Rattle.pg_conversation.specs.Streams.{HasRisen, reads_after};
+ghost use Rattle.pg_session.specs.Streams.{HasRisen, reads_after};
 ghost use Rattle.pg_serve.specs.Memory.{counted};
 
-use pg_conversation::{Sink, SinkError, Source, SourceFailed};
+use pg_session::{Sink, SinkError, Source, SourceFailed};
 use std::io::{Read, Write};
 
 /// A source over a reader, which is read once for each call. A count stands still at the greatest `u64`.

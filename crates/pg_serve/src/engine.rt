@@ -9,10 +9,10 @@ ghost use Rattle.pg_handlers.specs.Answer.{Goes};
 ghost use Rattle.pg_handlers.specs.Handlers.{handlers_of};
 ghost use Rattle.pg_handlers.specs.Questions.{questions_since};
 ghost use Rattle.pg_handlers.specs.State.{first_state};
-ghost use Rattle.pg_conversation.specs.Session.{whole_rules};
+ghost use Rattle.pg_session.specs.Session.{whole_rules};
 ghost use Rattle.pg_serve.specs.Serving.{WentSo, HasCause, counts_of};
 
-use pg_conversation::{
+use pg_session::{
     CancelDesk, EndKind, ExtendedQueryHandler, PgWireServerHandlers, Progress, ServeError, Session,
     Sink, Source, Turns,
 };

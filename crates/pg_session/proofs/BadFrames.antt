@@ -39,6 +39,7 @@ bad_more b r m (h, inr whole) =
       inr (
         good_less b r m h whole.0,
         omega arith,
-        λ message f. whole.2 message (subst (λ l. IsFrame b l message) (ap (λ n. take n (r ++ m)) t ∙ take-append-le (told_len b r) r m whole.1) f),
+        λ message f. whole.2 message (subst (λ l. IsFrame b l message) (ap (λ n. take n (r ++ m)) t
+            ∙ take-append-le (told_len b r) r m whole.1) f),
       ),
     )

@@ -1,7 +1,8 @@
 -- Bytes that went through an outbox, and then more.
 use Rattle.std.proofs.Common.{◌≡◌, ℕ, List, [], ◌++◌, Option, Some, None, refl, sym, ap, subst, ◌∙◌, append_assoc, append-nil}
-use Rattle.pg_session.specs.Streams.{GrowsBy, GrowsByFront, BeginsWith}
-use Rattle.pg_session.specs.Steps.{Flows, GrowsByFrontOf}
+use Rattle.pg_handlers.specs.Answer.{BeginsWith}
+use Rattle.pg_session.specs.Streams.{GrowsBy, GrowsByFront}
+use Rattle.pg_session.specs.Steps.{Flows}
 
 pub GrowsBy-none : (w : Option (List ℕ)) → GrowsBy w w []
 GrowsBy-none None = tt
@@ -25,7 +26,8 @@ pub Flows-then : {w v u : Option (List ℕ)} {o p q a b : List ℕ} → Flows w 
 Flows-then {w} {v} {u} {o} {p} {q} {a} {b} x y = record {
   sent = x.sent ++ y.sent;
   grown = GrowsBy-then w v u x.sent y.sent x.grown y.grown;
-  same = append_assoc x.sent y.sent q ∙ ap (λ l. x.sent ++ l) y.same ∙ sym (append_assoc x.sent p b) ∙ ap (λ l. l ++ b) x.same ∙ append_assoc o a b;
+  same = append_assoc x.sent y.sent q ∙ ap (λ l. x.sent ++ l) y.same ∙ sym (append_assoc x.sent p b) ∙ ap (λ l. l ++ b) x.same
+      ∙ append_assoc o a b;
 }
 
 -- bytes that wait
@@ -41,23 +43,11 @@ front_of_more : (a b f : List ℕ) → BeginsWith a f → BeginsWith (a ++ b) f
 front_of_more a b f h = (h.0 ++ b, ap (λ l. l ++ b) h.1 ∙ append_assoc f h.0 b)
 
 -- bytes flowed, and the sending of those that waited was cut off
-pub cut_after : {w v : Option (List ℕ)} {o p a : List ℕ} (u : Option (List ℕ)) → Flows w v o p a → GrowsByFront v u p → GrowsByFront w u (o ++ a)
+pub cut_after : {w v : Option (List ℕ)} {o p a : List ℕ} (u : Option (List ℕ)) → Flows w v o p a → GrowsByFront v u p
+    → GrowsByFront w u (o ++ a)
 cut_after {w} {v} {o} {p} {a} u x g = subst (λ l. GrowsByFront w u l) x.same (GrowsByFront-then w v u x.sent p x.grown g)
 
 -- nothing was sent
 pub cut_at_once : (w : Option (List ℕ)) (bytes : List ℕ) → GrowsByFront w w bytes
 cut_at_once None bytes = tt
 cut_at_once (Some x) bytes = ([], (bytes, refl), ap Some (sym (append-nil x)))
-
-pub GrowsByFrontOf-none : {A : Type 0} (others old : List A) → GrowsByFrontOf others old old
-GrowsByFrontOf-none others old = record { front = []; begins = (others, refl); grown = sym (append-nil old) }
-
-pub GrowsByFrontOf-all : {A : Type 0} (others old new : List A) → new ≡ old ++ others → GrowsByFrontOf others old new
-GrowsByFrontOf-all others old new e = record { front = others; begins = ([], sym (append-nil others)); grown = e }
-
-pub GrowsByFrontOf-then : {A : Type 0} {others mid new : List A} (first old : List A) → mid ≡ old ++ first → GrowsByFrontOf others mid new → GrowsByFrontOf (first ++ others) old new
-GrowsByFrontOf-then first old e g = record {
-  front = first ++ g.front;
-  begins = (g.begins.0, ap (λ l. first ++ l) g.begins.1 ∙ sym (append_assoc first g.front g.begins.0));
-  grown = g.grown ∙ ap (λ l. l ++ g.front) e ∙ append_assoc old first g.front;
-}

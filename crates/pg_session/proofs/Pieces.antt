@@ -4,24 +4,12 @@ use Rattle.std.proofs.Math.Seq.{drop-append_seam, drop-length}
 use Rattle.pg_messages.specs.declared.frontend.PgWireFrontendMessage.{PgWireFrontendMessage}
 use Rattle.pg_messages.specs.Frames.{DividesInto, IsFrame, awaits_startup_after, awaits_startup_after_all}
 use Rattle.pg_messages.specs.Replies.{replies_bytes}
-use Rattle.pg_session.specs.declared.desk.DeskCall.{DeskCall}
-use Rattle.pg_session.specs.declared.desk.DeskCall.TheVariants as desk
-use Rattle.pg_session.specs.Answer.{Answer, Table, Next, Goes, Ends, Stops, answers_of, left_by, conversation, continued, joined}
+use Rattle.pg_handlers.specs.declared.desk.DeskCall.{DeskCall}
+use Rattle.pg_handlers.specs.declared.desk.DeskCall.TheVariants as desk
+use Rattle.pg_handlers.specs.Answer.{Answer, Table, Next, Goes, Ends, Stops, answers_of, left_by, conversation, continued, joined}
+use Rattle.pg_handlers.specs.Lawful.{IsMade, IsLawful}
 use Rattle.pg_session.specs.Run.{Rules, IsFed}
 use Rattle.pg_session.proofs.ReplyBytes.{replies_bytes-append}
-
--- it didn't stop for want of an answer
-abbrev pub IsMade : {T : Type 0} → Next T → Type 0
-IsMade (Goes s) = Unit {0}
-IsMade (Ends kind) = Unit {0}
-IsMade Stops = ⊥
-
--- A table takes the registry's answers from the front: more of them change nothing, and its calls tell those that it took. The startup packet
--- is awaited until it came.
-pub record Lawful {T : Type 0} (rules : Rules T) : Type 0 where
-  pub same : (answers more : List Bool) (s : T) (m : PgWireFrontendMessage) → IsMade (rules.table answers s m).next → rules.table (answers ++ more) s m ≡ rules.table answers s m
-  pub taken : (answers : List Bool) (s : T) (m : PgWireFrontendMessage) → answers ≡ answers_of (rules.table answers s m).calls ++ left_by (rules.table answers s m).calls answers
-  pub follows : (answers : List Bool) (s t : T) (m : PgWireFrontendMessage) → (rules.table answers s m).next ≡ Goes t → rules.awaits t ≡ awaits_startup_after m (rules.awaits s)
 
 drop-further : {A : Type 0} (n k : ℕ) (xs : List A) → drop (n + k) xs ≡ drop k (drop n xs)
 drop-further zero k xs = ap (λ n. drop n xs) (let e : 0 + k ≡ k = omega arith in e)
@@ -48,11 +36,14 @@ goes Stops = ⊥
 
 left_of_both : (a b : List DeskCall) (answers : List Bool) → left_by (a ++ b) answers ≡ left_by b (left_by a answers)
 left_of_both a b answers =
-    ap (λ xs. drop (length xs) answers) (answers_of-append a b) ∙ ap (λ n. drop n answers) (length-append (answers_of a) (answers_of b)) ∙ drop-further (length (answers_of a)) (length (answers_of b)) answers
+    ap (λ xs. drop (length xs) answers) (answers_of-append a b) ∙ ap (λ n. drop n answers) (length-append (answers_of a) (answers_of b))
+    ∙ drop-further (length (answers_of a)) (length (answers_of b)) answers
 
-left_with_more : (calls : List DeskCall) (answers more : List Bool) → answers ≡ answers_of calls ++ left_by calls answers → left_by calls (answers ++ more) ≡ left_by calls answers ++ more
+left_with_more : (calls : List DeskCall) (answers more : List Bool) → answers ≡ answers_of calls ++ left_by calls answers
+    → left_by calls (answers ++ more) ≡ left_by calls answers ++ more
 left_with_more calls answers more e =
-    ap (λ xs. left_by calls (xs ++ more)) e ∙ ap (λ xs. left_by calls xs) (append_assoc (answers_of calls) (left_by calls answers) more) ∙ drop-append_seam (answers_of calls) (left_by calls answers ++ more)
+    ap (λ xs. left_by calls (xs ++ more)) e ∙ ap (λ xs. left_by calls xs) (append_assoc (answers_of calls) (left_by calls answers) more)
+    ∙ drop-append_seam (answers_of calls) (left_by calls answers ++ more)
 
 joined_thrice : {T : Type 0} (a b c : Answer T) → joined a (joined b c) ≡ joined (joined a b) c
 joined_thrice a b c =
@@ -60,42 +51,54 @@ joined_thrice a b c =
     let calls = sym (append_assoc a.calls b.calls c.calls) in
     λ i. record { replies = replies i; calls = calls i; next = c.next }
 
-one_of : {T : Type 0} (given : Answer T) (n : Next T) → given.next ≡ n → continued given n (λ t. record { replies = []; calls = []; next = Goes t }) ≡ given
+one_of : {T : Type 0} (given : Answer T) (n : Next T) → given.next ≡ n
+    → continued given n (λ t. record { replies = []; calls = []; next = Goes t }) ≡ given
 one_of given (Goes t) e = λ i. record { replies = append-nil given.replies i; calls = append-nil given.calls i; next = sym e i }
 one_of given (Ends kind) e = refl
 one_of given Stops e = refl
 
-pub conversation-one : {T : Type 0} (table : Table T) (answers : List Bool) (s : T) (m : PgWireFrontendMessage) → conversation table answers s (m ∷ []) ≡ table answers s m
+pub conversation-one : {T : Type 0} (table : Table T) (answers : List Bool) (s : T) (m : PgWireFrontendMessage)
+    → conversation table answers s (m ∷ []) ≡ table answers s m
 conversation-one table answers s m = one_of (table answers s m) _ refl
 
-after_append : (ms ns : List PgWireFrontendMessage) (b : Bool) → awaits_startup_after_all (ms ++ ns) b ≡ awaits_startup_after_all ns (awaits_startup_after_all ms b)
+after_append : (ms ns : List PgWireFrontendMessage) (b : Bool)
+    → awaits_startup_after_all (ms ++ ns) b ≡ awaits_startup_after_all ns (awaits_startup_after_all ms b)
 after_append [] ns b = refl
 after_append (m ∷ ms) ns b = after_append ms ns (awaits_startup_after m b)
 
-pub divides-append : (b : Bool) (text mid rest : List ℕ) (ms ns : List PgWireFrontendMessage) → DividesInto b text ms mid → DividesInto (awaits_startup_after_all ms b) mid ns rest → DividesInto b text (ms ++ ns) rest
+pub divides-append : (b : Bool) (text mid rest : List ℕ) (ms ns : List PgWireFrontendMessage) → DividesInto b text ms mid
+    → DividesInto (awaits_startup_after_all ms b) mid ns rest → DividesInto b text (ms ++ ns) rest
 divides-append b text mid rest [] ns d e = subst (λ t. DividesInto b t ns rest) (sym d) e
 divides-append b text mid rest (m ∷ ms) ns d e = (d.0, d.1, d.2, d.3, divides-append (awaits_startup_after m b) d.1 mid rest ms ns d.4 e)
 
-module _ {T : Type 0} (rules : Rules T) (lawful : Lawful rules) where
+module _ {T : Type 0} (rules : Rules T) (lawful : IsLawful rules.table rules.awaits) where
   table : Table T
   table = rules.table
 
-  pub two_pieces : (messages others : List PgWireFrontendMessage) (answers more : List Bool) (s t : T) → (conversation rules.table answers s messages).next ≡ Goes t
+  pub two_pieces : (messages others : List PgWireFrontendMessage) (answers more : List Bool) (s t : T)
+      → (conversation rules.table answers s messages).next ≡ Goes t
       → conversation rules.table (answers ++ more) s (messages ++ others)
-      ≡ joined (conversation rules.table answers s messages) (conversation rules.table (left_by (conversation rules.table answers s messages).calls answers ++ more) t others)
+      ≡ joined (conversation rules.table answers s messages) (conversation rules.table (left_by
+      (conversation rules.table answers s messages).calls answers ++ more) t others)
   two_pieces [] others answers more s t e = ap (λ u. conversation rules.table (answers ++ more) u others) (ap (state_of s) e)
   two_pieces (m ∷ messages) others answers more s t e =
-      by_next (rules.table answers s m).next refl (λ u f. two_pieces messages others (left_by (rules.table answers s m).calls answers) more u t f) e
+      by_next (rules.table answers s m).next refl (λ u f. two_pieces messages others (left_by
+      (rules.table answers s m).calls answers) more u t f) e
     where
       by_next : (n : Next T) → (rules.table answers s m).next ≡ n
           → ((u : T) → (conversation rules.table (left_by (rules.table answers s m).calls answers) u messages).next ≡ Goes t
           → conversation rules.table (left_by (rules.table answers s m).calls answers ++ more) u (messages ++ others)
           ≡ joined (conversation rules.table (left_by (rules.table answers s m).calls answers) u messages)
-          (conversation rules.table (left_by (conversation rules.table (left_by (rules.table answers s m).calls answers) u messages).calls (left_by (rules.table answers s m).calls answers) ++ more) t others))
-          → (continued (rules.table answers s m) n (λ u. conversation rules.table (left_by (rules.table answers s m).calls answers) u messages)).next ≡ Goes t
-          → continued (rules.table (answers ++ more) s m) (rules.table (answers ++ more) s m).next (λ u. conversation rules.table (left_by (rules.table (answers ++ more) s m).calls (answers ++ more)) u (messages ++ others))
-          ≡ joined (continued (rules.table answers s m) n (λ u. conversation rules.table (left_by (rules.table answers s m).calls answers) u messages))
-          (conversation rules.table (left_by (continued (rules.table answers s m) n (λ u. conversation rules.table (left_by (rules.table answers s m).calls answers) u messages)).calls answers ++ more) t others)
+          (conversation rules.table (left_by (conversation rules.table (left_by (rules.table answers s m).calls answers) u messages).calls
+          (left_by (rules.table answers s m).calls answers) ++ more) t others))
+          → (continued (rules.table answers s m) n (λ u. conversation rules.table (left_by
+          (rules.table answers s m).calls answers) u messages)).next ≡ Goes t
+          → continued (rules.table (answers ++ more) s m) (rules.table (answers ++ more) s m).next (λ u. conversation rules.table (left_by
+          (rules.table (answers ++ more) s m).calls (answers ++ more)) u (messages ++ others))
+          ≡ joined (continued (rules.table answers s m) n (λ u. conversation rules.table (left_by
+          (rules.table answers s m).calls answers) u messages))
+          (conversation rules.table (left_by (continued (rules.table answers s m) n (λ u. conversation rules.table (left_by
+          (rules.table answers s m).calls answers) u messages)).calls answers ++ more) t others)
       by_next (Goes u) n ih f =
           let g = rules.table answers s m in
           let left = left_by g.calls answers in
@@ -103,7 +106,8 @@ module _ {T : Type 0} (rules : Rules T) (lawful : Lawful rules) where
           let same : rules.table (answers ++ more) s m ≡ g = lawful.same answers more s m (subst IsMade (sym n) tt) in
           ap (λ x. continued x x.next (λ v. conversation rules.table (left_by x.calls (answers ++ more)) v (messages ++ others))) same
           ∙ ap (λ y. continued g y (λ v. conversation rules.table (left_by g.calls (answers ++ more)) v (messages ++ others))) n
-          ∙ ap (λ xs. joined g (conversation rules.table xs u (messages ++ others))) (left_with_more g.calls answers more (lawful.taken answers s m))
+          ∙ ap (λ xs. joined g (conversation rules.table xs u (messages ++ others))) (left_with_more g.calls answers more
+          (lawful.taken answers s m))
           ∙ ap (λ x. joined g x) (ih u f)
           ∙ joined_thrice g a (conversation rules.table (left_by a.calls left ++ more) t others)
           ∙ ap (λ xs. joined (joined g a) (conversation rules.table (xs ++ more) t others)) (sym (left_of_both g.calls a.calls answers))
@@ -111,7 +115,8 @@ module _ {T : Type 0} (rules : Rules T) (lawful : Lawful rules) where
       by_next Stops n ih f = absurd (subst goes (sym (sym n ∙ f)) tt)
 
   -- The answer to two pieces, under the answers of the calls of both, is the one after the other.
-  pub one_piece : (ms ns : List PgWireFrontendMessage) (s t : T) (a : Answer T) (l : List DeskCall) → conversation rules.table (answers_of a.calls) s ms ≡ a → a.next ≡ Goes t
+  pub one_piece : (ms ns : List PgWireFrontendMessage) (s t : T) (a : Answer T) (l : List DeskCall)
+      → conversation rules.table (answers_of a.calls) s ms ≡ a → a.next ≡ Goes t
       → conversation rules.table (answers_of (a.calls ++ l)) s (ms ++ ns) ≡ joined a (conversation rules.table (answers_of l) t ns)
   one_piece ms ns s t a l first goes_on =
       let mine = answers_of a.calls in
@@ -122,21 +127,26 @@ module _ {T : Type 0} (rules : Rules T) (lawful : Lawful rules) where
       ∙ ap (λ xs. joined a (conversation rules.table (xs ++ answers_of l) t ns)) none_left
 
   conversation_awaits_by : (given : Answer T) (n : Next T) → given.next ≡ n → (t : T) (b : Bool) (others : T → Answer T)
-      → ((u : T) → given.next ≡ Goes u → (others u).next ≡ Goes t → rules.awaits t ≡ b) → (continued given n others).next ≡ Goes t → rules.awaits t ≡ b
+      → ((u : T) → given.next ≡ Goes u → (others u).next ≡ Goes t → rules.awaits t ≡ b) → (continued given n others).next ≡ Goes t
+      → rules.awaits t ≡ b
   conversation_awaits_by given (Goes u) q t b others step h = step u q h
   conversation_awaits_by given (Ends kind) q t b others step h = absurd (subst goes (sym (sym q ∙ h)) tt)
   conversation_awaits_by given Stops q t b others step h = absurd (subst goes (sym (sym q ∙ h)) tt)
 
   -- whether the startup packet is awaited after messages
-  pub conversation_awaits : (answers : List Bool) (s t : T) (ms : List PgWireFrontendMessage) → (conversation rules.table answers s ms).next ≡ Goes t → rules.awaits t ≡ awaits_startup_after_all ms (rules.awaits s)
+  pub conversation_awaits : (answers : List Bool) (s t : T) (ms : List PgWireFrontendMessage)
+      → (conversation rules.table answers s ms).next ≡ Goes t → rules.awaits t ≡ awaits_startup_after_all ms (rules.awaits s)
   conversation_awaits answers s t [] e = ap (λ n. rules.awaits (state_of s n)) (sym e)
   conversation_awaits answers s t (m ∷ ms) e =
-      conversation_awaits_by (rules.table answers s m) (rules.table answers s m).next refl t (awaits_startup_after_all ms (awaits_startup_after m (rules.awaits s)))
+      conversation_awaits_by (rules.table answers s m) (rules.table answers s m).next refl t (awaits_startup_after_all ms
+      (awaits_startup_after m (rules.awaits s)))
       (λ u. conversation rules.table (left_by (rules.table answers s m).calls answers) u ms)
-      (λ u p h. conversation_awaits (left_by (rules.table answers s m).calls answers) u t ms h ∙ ap (awaits_startup_after_all ms) (lawful.follows answers s u m p)) e
+      (λ u p h. conversation_awaits (left_by (rules.table answers s m).calls answers) u t ms h
+      ∙ ap (awaits_startup_after_all ms) (lawful.follows answers s u m p)) e
 
   -- the division of a piece behind another
-  pub divides-then : {s t : T} {text mid : List ℕ} (rest : List ℕ) {b : List ℕ} {k : List DeskCall} (p : IsFed rules s text mid b k (Goes t)) (ns : List PgWireFrontendMessage)
+  pub divides-then : {s t : T} {text mid : List ℕ} (rest : List ℕ) {b : List ℕ} {k : List DeskCall} (p : IsFed rules s text mid b k
+      (Goes t)) (ns : List PgWireFrontendMessage)
       → DividesInto (rules.awaits t) mid ns rest → DividesInto (rules.awaits s) text (p.messages ++ ns) rest
   divides-then {s} {t} {text} {mid} rest {b} {k} p ns d = divides-append (rules.awaits s) text mid rest p.messages ns p.division
       (subst (λ w. DividesInto w mid ns rest) (conversation_awaits (answers_of k) s t p.messages (ap (λ a. a.next) p.answered)) d)
@@ -150,7 +160,8 @@ module _ {T : Type 0} (rules : Rules T) (lawful : Lawful rules) where
     division = divides-then rest p q.messages q.division;
     answered = one_piece p.messages q.messages s t (record { replies = p.replies; calls = k; next = Goes t }) l p.answered refl
         ∙ ap (λ x. joined (record { replies = p.replies; calls = k; next = Goes t }) x) q.answered;
-    replied = ap (λ x. x ++ c) p.replied ∙ ap (λ x. replies_bytes p.replies ++ x) q.replied ∙ sym (replies_bytes-append p.replies q.replies);
+    replied = ap (λ x. x ++ c) p.replied ∙ ap (λ x. replies_bytes p.replies ++ x) q.replied
+        ∙ sym (replies_bytes-append p.replies q.replies);
   }
 
 -- no frame
@@ -158,13 +169,15 @@ pub IsFed-none : {T : Type 0} (rules : Rules T) (s : T) (text : List ℕ) → Is
 IsFed-none rules s text = record { messages = []; replies = []; division = refl; answered = refl; replied = refl }
 
 -- one frame
-pub IsFed-one : {T : Type 0} (rules : Rules T) (s : T) (text frame rest : List ℕ) (m : PgWireFrontendMessage) (made : List DeskCall) → text ≡ frame ++ rest → IsFrame (rules.awaits s) frame m
+pub IsFed-one : {T : Type 0} (rules : Rules T) (s : T) (text frame rest : List ℕ) (m : PgWireFrontendMessage) (made : List DeskCall)
+    → text ≡ frame ++ rest → IsFrame (rules.awaits s) frame m
     → (rules.table (answers_of made) s m).calls ≡ made
     → IsFed rules s text rest (replies_bytes (rules.table (answers_of made) s m).replies) made (rules.table (answers_of made) s m).next
 IsFed-one rules s text frame rest m made e f own = let given = rules.table (answers_of made) s m in record {
   messages = m ∷ [];
   replies = given.replies;
   division = (frame, rest, e, f, refl);
-  answered = conversation-one rules.table (answers_of made) s m ∙ (λ i. record { replies = given.replies; calls = own i; next = given.next });
+  answered = conversation-one rules.table (answers_of made) s m
+      ∙ (λ i. record { replies = given.replies; calls = own i; next = given.next });
   replied = refl;
 }

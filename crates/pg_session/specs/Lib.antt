@@ -1,8 +1,5 @@
-pub mod Streams
-pub mod Queries
-pub mod Answer
-pub mod Script
+pub mod Messages
 pub mod Run
-pub mod Conversation
-pub mod Steps
 pub mod Session
+pub mod Steps
+pub mod Streams

@@ -1,28 +1,61 @@
--- What a clause reads of a session.
-use Rattle.std.specs.Prelude.{ℕ, Bool, List}
-use Rattle.pg_session.specs.declared.server.Host.{Host}
-use Rattle.pg_session.specs.declared.rows.FirstRows.{Ghosts}
-use Rattle.pg_session.specs.declared.session.Session.{Session}
-use Rattle.pg_session.specs.declared.state.SessionState.{SessionState}
-use Rattle.pg_session.specs.Conversation.{Setting}
-use Rattle.pg_session.specs.Steps.{host_setting}
+-- A session as contracts see it, and what it answers by.
+use Rattle.std.specs.Prelude.{ℕ, Bool, true, false, List, Option, Some, None, Result, Ok, Err, ◌≡◌, ◌+◌, ◌≤◌, ◌⊎◌}
+use Rattle.pg_portal.specs.declared.error.PgWireError.TheVariants as wire
+use Rattle.pg_handlers.specs.declared.ends.EndKind.{EndKind}
+use Rattle.pg_handlers.specs.declared.ends.SessionError.{SessionError}
+use Rattle.pg_handlers.specs.declared.ends.SessionError.TheVariants as session
+use Rattle.pg_handlers.specs.declared.ends.Turns.{Turns}
+use Rattle.pg_handlers.specs.Handlers.{Handlers}
+use Rattle.pg_handlers.specs.State.{State}
+use Rattle.pg_handlers.specs.Table.{whole_table, awaits}
+use Rattle.pg_session.specs.declared.ends.Progress.{Progress}
+use Rattle.pg_session.specs.declared.ends.Progress.TheVariants as progress
+use Rattle.pg_session.specs.declared.ends.ServeError.{ServeError}
+use Rattle.pg_session.specs.declared.ends.ServeError.TheVariants as serve
+use Rattle.pg_session.specs.Run.{Rules}
 
--- whether it takes more bytes
-abbrev pub is_open : {H : Type 0} {rows : Ghosts H} → Session H rows → Bool
-is_open session = session.opened
+-- the handlers that it calls, where the conversation stands, the bytes of a frame that isn't whole, the replies that wait, and whether it
+-- takes more
+pub record SessionValue (H S : Type 0) : Type 0 where
+  pub handlers : H
+  pub state : State S
+  pub rest : List ℕ
+  pub unsent : List ℕ
+  pub is_open : Bool
 
--- whom it serves by, under which registration
-abbrev pub host_of : {H : Type 0} {rows : Ghosts H} → Session H rows → Host H
-host_of session = session.host
+-- the conversation by what handlers tell
+abbrev pub whole_rules : {S : Type 0} → Handlers S → Rules (State S)
+whole_rules h = record { table = whole_table h; awaits = awaits }
 
--- what its conversation depends on beside its messages
-abbrev pub setting : {H : Type 0} {rows : Ghosts H} → Session H rows → Setting
-setting {rows = rows} session = host_setting rows.relation_of rows.rows_of session.host
+-- an error that is told leaves a session open; an end, want of memory and want of turns close it
+abbrev pub stays_open : Result (Option EndKind) SessionError → Bool
+stays_open (Ok None) = true
+stays_open (Ok (Some kind)) = false
+stays_open (Err (session.Wire wire.NoMemory)) = false
+stays_open (Err (session.Wire e)) = true
+stays_open (Err session.TurnLimit) = false
 
--- where the conversation stands
-abbrev pub state_of : {H : Type 0} {rows : Ghosts H} → Session H rows → SessionState
-state_of session = session.dialog.state
+-- Turns were spent on questions, and on nothing else; where memory was wanting, one more may be spent. None is left where one more was met.
+abbrev pub HasFed : {A : Type 0} → Turns → Turns → ℕ → Result A ServeError → Type 0
+HasFed old new asked (Err serve.NoMemory) = (new ≡ record { spent = old.spent + asked; limit = old.limit })
+    ⊎ (new ≡ record { spent = old.spent + asked + 1; limit = old.limit })
+HasFed old new asked (Err serve.TurnLimit) = (new ≡ record { spent = old.spent + asked; limit = old.limit }) × (old.limit ≤ new.spent)
+HasFed old new asked result = new ≡ record { spent = old.spent + asked; limit = old.limit }
 
--- the bytes that came and aren't answered yet
-abbrev pub unread : {H : Type 0} {rows : Ghosts H} → Session H rows → List ℕ
-unread session = session.dialog.rest.items
+-- an end, and want of memory, close a session
+abbrev pub goes_on : {E : Type 0} → Result (Option EndKind) E → Bool
+goes_on (Ok None) = true
+goes_on (Ok (Some kind)) = false
+goes_on (Err e) = false
+
+-- the conversation goes on after a step
+abbrev pub is_going : Option Progress → Bool
+is_going None = true
+is_going (Some progress.More) = true
+is_going (Some (progress.Ended kind)) = false
+
+-- the conversation goes on after a piece
+abbrev pub is_more : Result Progress ServeError → Bool
+is_more (Ok progress.More) = true
+is_more (Ok (progress.Ended kind)) = false
+is_more (Err e) = false

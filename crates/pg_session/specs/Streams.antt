@@ -1,5 +1,6 @@
 -- What goes in and out of a conversation: bytes that come, bytes that go, and counts.
 use Rattle.std.specs.Prelude.{ℕ, List, [], ◌++◌, Option, Some, Result, Ok, Err, ◌≡◌, ◌≤◌, ◌<◌, ◌+◌, ◌==◌, ◌⊎◌, IfSome, IsErrOf, if◌then◌else◌, min, take, drop, length}
+use Rattle.pg_handlers.specs.Answer.{BeginsWith}
 use Rattle.pg_session.specs.declared.ends.ServeError.{ServeError}
 use Rattle.pg_session.specs.declared.ends.ServeError.TheVariants.{ReadFault, WriteFault, TurnLimit, NoMemory}
 use Rattle.pg_session.specs.declared.streams.SinkError.{SinkError}
@@ -25,10 +26,6 @@ pub record GivesFront (n : ℕ) (into bytes : List ℕ) (left : Option (List ℕ
   pub rest : left ≡ Some (drop n bytes)
   pub at_end : n ≡ 0 → bytes ≡ []
 
--- the list begins with this front
-abbrev pub BeginsWith : {A : Type 0} → List A → List A → Type 0
-BeginsWith {A} whole front = (others : List A) × (whole ≡ front ++ others)
-
 -- what was written, known or not, has grown by these bytes
 abbrev pub GrowsBy : Option (List ℕ) → Option (List ℕ) → List ℕ → Type 0
 GrowsBy old new bytes = IfSome old (λ before. new ≡ Some (before ++ bytes))
@@ -44,8 +41,14 @@ told_of_sink sink.NoMemory = NoMemory
 
 -- The cause of an error that comes from the sink's side: a write fault only where the sink's count has risen, and no
 -- fault of another side. The count never falls.
-pub record HasSinkCause {T : Type 0} (old new : ℕ) (result : Result T ServeError) : Type 0 where
+pub record HasFlushed {T : Type 0} (old new : ℕ) (result : Result T ServeError) : Type 0 where
   pub write_fault : IsErrOf result WriteFault → HasRisen old new
   pub no_read_fault : ¬ IsErrOf result ReadFault
   pub no_turn_limit : ¬ IsErrOf result TurnLimit
+  pub never_falls : old ≤ new
+
+-- The cause of an error of a session: a write fault only where the sink's count has risen, and no read fault. The count never falls.
+pub record HasSinkCause {T : Type 0} (old new : ℕ) (result : Result T ServeError) : Type 0 where
+  pub write_fault : IsErrOf result WriteFault → HasRisen old new
+  pub no_read_fault : ¬ IsErrOf result ReadFault
   pub never_falls : old ≤ new

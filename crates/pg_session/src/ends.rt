@@ -1,25 +1,12 @@
-ghost use Rattle.std.specs.Prelude.{◌≡◌, ◌+◌, ◌<◌, ◌↔◌, IsTrue};
-ghost use Rattle.std.specs.Bool.{OnTrue, OnFalse};
+//! Why a session is given up, and how it goes on.
+
+ghost use Rattle.std.specs.Prelude.{◌≡◌};
 ghost use Rattle.pg_session.specs.declared.ends.ServeError.TheVariants.{NoMemory};
 ghost use Rattle.pg_session.specs.Streams.{told_of_sink};
 
 use crate::streams::SinkError;
+use pg_handlers::EndKind;
 use std::alloc::AllocError;
-
-/// How a conversation ended.
-#[derive(Clone, Copy, Debug, PartialEq, Eq)]
-pub enum EndKind {
-    /// The client sent Terminate.
-    Terminate,
-    /// The input ended where no whole frame was left.
-    InputEnd,
-    /// The bytes go on with a bad header or frame.
-    BadFrame,
-    /// An error of severity FATAL was told.
-    Fatal,
-    /// The client asked to cancel another session's query, and the registry was called.
-    CancelServed,
-}
 
 /// Why a conversation was given up.
 #[derive(Clone, Copy, Debug, PartialEq, Eq)]
@@ -56,30 +43,8 @@ impl From<SinkError> for ServeError {
 /// Whether a session goes on after a piece of the input.
 #[derive(Clone, Copy, Debug, PartialEq, Eq)]
 pub enum Progress {
+    /// No whole frame is left.
     More,
+    /// The conversation has ended.
     Ended(EndKind),
-}
-
-/// The turns of a session: those that are spent, and how many there are.
-#[derive(Clone, Copy, Debug, PartialEq, Eq)]
-pub struct Turns {
-    pub spent: u64,
-    pub limit: u64,
-}
-
-impl Turns {
-    /// Spends one turn, and answers false exactly where none is left.
-    pub fn spend(&mut self) -> bool
-        ensures left { IsTrue result ↔ (self.old.spent < self.old.limit) }
-        ensures spent { OnTrue result (self.new.spent ≡ self.old.spent + 1) }
-        ensures kept { OnFalse result (self.new.spent ≡ self.old.spent) }
-        ensures limit { self.new.limit ≡ self.old.limit }
-    {
-        if self.spent < self.limit {
-            self.spent += 1;
-            true
-        } else {
-            false
-        }
-    }
 }

@@ -1,26 +1,25 @@
-// The conversation of a server with one client: what each message is answered, and the session that answers it.
+//! The conversation with one client: what each message is answered in each phase, what follows an error, and the session
+//! that takes the client's bytes piece by piece.
 #![tactic(auto)]
 
-mod desk;
-mod dialog;
 mod ends;
-mod extended;
-mod outbox;
-mod query;
-mod rows;
-mod send;
+mod errors;
+mod messages;
 mod server;
 mod session;
 mod startup;
-mod state;
-mod store;
 mod streams;
 
-pub use desk::{CancelDesk, DeskCall, ScriptDesk};
-pub use ends::{EndKind, Progress, ServeError, Turns};
-pub use outbox::Outbox;
-pub use rows::FirstRows;
+pub use ends::{Progress, ServeError};
+pub use errors::tell_error;
+pub use messages::on_message;
+pub use pg_handlers::{
+    CancelDesk, Client, CopyHandler, DeskCall, EndKind, ExtendedQueryHandler, Outbox,
+    PgWireServerHandlers, QueryState, ScriptDesk, SessionError, SimpleQueryHandler, Turn, Turns,
+    send_copy_both_response, send_copy_in_response, send_copy_out_response, send_describe_response,
+    send_execution_response, send_partial_query_response, send_query_response,
+    send_ready_for_query,
+};
+pub use server::{process_error, process_message};
 pub use session::Session;
-pub use state::SessionState;
-pub use store::{PgWireConnectionState, Portal, PortalExecutionState, Statement, Store};
 pub use streams::{Sink, SinkError, Source, SourceFailed};

@@ -1,151 +1,284 @@
-ghost use Rattle.std.specs.Prelude.{◌≡◌, ◌↔◌, true, [], IsTrue};
-ghost use Rattle.pg_session.specs.declared.ends.Progress.TheVariants.{More};
-ghost use Rattle.std.specs.Arc.{arc_value};
-ghost use Rattle.pg_session.specs.Steps.{IsGoodStore};
+//! The session: a conversation with one client, fed with the client's bytes piece by piece.
 
-use crate::desk::CancelDesk;
-use crate::dialog::Dialog;
-use crate::ends::{Progress, ServeError, Turns};
-use crate::outbox::Outbox;
-use crate::rows::FirstRows;
-use crate::server::Host;
-use crate::state::SessionState;
-use crate::store::{PgWireConnectionState, Store};
-use crate::streams::Sink;
+ghost use Rattle.std.specs.Prelude.{◌≡◌, ◌≢◌, ◌≤◌, ◌<◌, ◌++◌, ◌⊎◌, [], true, false, Option, Some, None, IfOk, IfErr, OnOk, OnErr, IsErrOf};
+ghost use Rattle.std.specs.Arc.{arc_value};
+ghost use Rattle.std.specs.FinMap as fin;
+ghost use Rattle.pg_messages.specs.Replies.{replies_bytes};
+ghost use Rattle.pg_portal.specs.Errors.{info_of};
+ghost use Rattle.pg_portal.specs.Rows.{IsTellable};
+ghost use Rattle.pg_handlers.specs.Effect.{IsRow, IsRefusedRow, failed};
+ghost use Rattle.pg_handlers.specs.Handlers.{handlers_of};
+ghost use Rattle.pg_handlers.specs.Questions.{HasSpent, questions_since};
+ghost use Rattle.pg_handlers.specs.Sending.{IsAnswerableError};
+ghost use Rattle.pg_handlers.specs.State.{first_info, first_state};
+ghost use Rattle.pg_handlers.specs.Table.{message_row, whole_table, scope_in};
+ghost use Rattle.pg_handlers.specs.declared.ends.EndKind.TheVariants.{InputEnd, Fatal};
+ghost use Rattle.pg_session.specs.Messages.{IsGivenIn, outcome_of, scope_for, next_of};
+ghost use Rattle.pg_session.specs.Session.{stays_open, goes_on, HasFed};
+ghost use Rattle.pg_session.specs.Steps.{IsAnswered, IsCutAnswer, IsStoppedAnswer};
+ghost use Rattle.pg_session.specs.declared.ends.ServeError.TheVariants as serve;
+
+use crate::ends::ServeError;
+use crate::errors::tell_error;
+use crate::messages::on_message;
 use bytes::BytesMut;
-use pg_messages::{PgWireMessageServerCodec, TransactionStatus};
-use pg_portal::Named;
+use pg_handlers::{
+    CancelDesk, Client, EndKind, ExtendedQueryHandler, Outbox, PgWireServerHandlers, SessionError,
+    Turns,
+};
+use pg_messages::{
+    PgWireFrontendMessage, PgWireMessageServerCodec, ProtocolVersion, TransactionStatus,
+};
+use pg_portal::{ClientInfo, Metadata, PgWireConnectionState, PgWireError, PortalStore};
 use std::alloc::{AllocError, Global};
+use std::marker::Model;
 use std::sync::Arc;
 
 /// The conversation with one client, fed with the client's bytes piece by piece.
 #[derive(Drop)]
-pub struct Session<H: FirstRows> {
-    host: Host<H>,
-    dialog: Dialog,
+pub struct Session<
+    H: PgWireServerHandlers,
+    St: PortalStore<Statement = <H::Extended as ExtendedQueryHandler>::Statement>,
+> {
+    handlers: Arc<H>,
+    client: Client<St>,
+    codec: PgWireMessageServerCodec,
+    rest: BytesMut,
     opened: bool,
-    ghost good: { opened ≡ true → IsGoodStore (H.count (arc_value host.handlers)) dialog.state.store },
-    ghost sent: { opened ≡ true → dialog.outbox ≡ [] },
 }
 
-impl<H: FirstRows + Drop> Session<H> {
-    ghost use Rattle.std.specs.Prelude.{◌++◌, ◌≤◌, ℕ, List, Option, IfOk, OnOk, OnErr, IsErrOf};
-    ghost use Rattle.pg_session.specs.Answer.{Next, Goes};
-    ghost use Rattle.pg_session.specs.Conversation.{awaits, core_rules, first_state};
-    ghost use Rattle.pg_session.specs.Streams.{HasSinkCause};
-    ghost use Rattle.pg_session.specs.Session.{is_open, host_of, setting, state_of, unread};
-    ghost use Rattle.pg_session.specs.declared.state.SessionState.{SessionState};
-    ghost use Rattle.pg_session.specs.declared.desk.DeskCall.{DeskCall};
-    ghost use Rattle.pg_session.specs.Steps.{IsServed, IsCutOff, Stands, setting_of, host_setting};
+impl<
+    H: PgWireServerHandlers,
+    St: PortalStore<Statement = <H::Extended as ExtendedQueryHandler>::Statement>,
+> Model for Session<H, St> {
+    ghost use Rattle.std.specs.Prelude.{◌≡◌, true};
+    ghost use Rattle.std.specs.Coded.{codes};
+    ghost use Rattle.std.specs.FinMap as fin;
+    ghost use Rattle.std.specs.Arc.{arc_value};
+    ghost use Rattle.pg_handlers.specs.Good.{IsGoodState};
+    ghost use Rattle.pg_handlers.specs.State.{state_of};
+    ghost use Rattle.pg_session.specs.Session.{SessionValue};
 
-    /// A session that awaits the startup packet of a client, who is told this pid and key.
+    ghost Value = { SessionValue H H.Extended.Statement };
+
+    ghost coded = { Prim.hlevel (codes, fin.code) };
+
+    ghost view = { λ s. record { handlers = arc_value s.handlers; state = state_of St.statements St.portals s.client; rest = s.rest.items; unsent = s.client.outbox; is_open = s.opened } };
+
+    ghost invariant = { λ s. s.opened ≡ true → IsGoodState (H.Extended.told (H.extended (arc_value s.handlers))).parser (state_of St.statements St.portals s.client) };
+}
+
+/// What is known of a client before its startup packet.
+fn first_info(alloc: Global, pid: i32, key: [u8; 4]) -> ClientInfo
+    ensures { result ≡ first_info pid key }
+{
+    ClientInfo {
+        pid,
+        secret_key: key,
+        protocol: ProtocolVersion::PROTOCOL3_0,
+        metadata: Metadata::new(alloc),
+        status: TransactionStatus::Idle,
+        state: PgWireConnectionState::AwaitingStartup,
+    }
+}
+
+impl<
+    H: PgWireServerHandlers,
+    St: PortalStore<
+        Statement = <H::Extended as ExtendedQueryHandler>::Statement,
+        Rows = <H::Extended as ExtendedQueryHandler>::Rows,
+    >,
+> Session<H, St> {
+    /// A session that awaits the startup packet of a client, who is told this pid and key. Its store is empty.
     pub fn new(
         alloc: Global,
         handlers: Arc<H>,
+        store: St,
         pid: i32,
         key: [u8; 4],
-    ) -> Result<Session<H>, AllocError>
-        ensures open { IfOk result (λ session. is_open session ≡ true) }
-        ensures state { IfOk result (λ session. state_of session ≡ first_state) }
-        ensures rest { IfOk result (λ session. unread session ≡ []) }
-        ensures handlers { IfOk result (λ session. (host_of session).handlers ≡ handlers) }
-
-        // Nothing came, nothing was answered.
-        ensures so_far { IfOk result (λ session. (written : Option (List ℕ)) (calls : List DeskCall) → IsServed
-            (core_rules (setting_of (H.relation_of (arc_value handlers)) (H.rows_of (arc_value handlers)) pid key))
-            first_state [] (unread session) (Goes (state_of session)) written written [] [] calls calls) }
-        ensures pid { IfOk result (λ session. (host_of session).pid ≡ pid) }
-        ensures key { IfOk result (λ session. (host_of session).key ≡ key) }
+    ) -> Result<Session<H, St>, AllocError>
+        requires statements { St.statements store ≡ fin.empty }
+        requires portals { St.portals store ≡ fin.empty }
+        ensures { IfOk result (λ session. session ≡ record {
+          handlers = arc_value handlers;
+          state = first_state pid key;
+          rest = [];
+          unsent = [];
+          is_open = true;
+        }) }
     {
         let outbox = Outbox::new(alloc)?;
-        let store = Store {
-            statements: Named::new(alloc),
-            portals: Named::new(alloc),
-        };
-        let state = SessionState {
-            state: PgWireConnectionState::AwaitingStartup,
-            status: TransactionStatus::Idle,
+        let info = first_info(alloc, pid, key);
+        let client = Client {
+            info,
             store,
+            outbox,
         };
-        let dialog = Dialog {
+        Ok(Session {
+            handlers,
+            client,
             codec: PgWireMessageServerCodec::new(),
             rest: BytesMut::new(alloc),
-            outbox,
-            state,
-        };
-        let host = Host { handlers, pid, key };
-        Ok(Session {
-            host,
-            dialog,
             opened: true,
         })
     }
 
     /// Whether the session takes more bytes: until it ends or fails.
     pub fn is_open(&self) -> bool
-        ensures { result ≡ is_open self.now }
+        ensures { result ≡ self.now.is_open }
     {
         self.opened
     }
+}
 
-    /// Takes a piece of the client's bytes, and writes the whole answer to the messages that it completes.
-    /// Ok(More) says that no whole frame is left, and Ok(Ended(kind)) that the conversation has ended, after
-    /// which the session is closed. So it is after an error: WriteFault where the sink failed, NoMemory where
-    /// memory ran out. No other error comes.
-    pub fn feed<D: CancelDesk, K: Sink>(
-        &mut self,
-        alloc: Global,
-        desk: &mut D,
-        piece: &[u8],
-        sink: &mut K,
-        turns: &mut Turns,
-    ) -> Result<Progress, ServeError>
-        requires { is_open self.old ≡ true }
+mod feed;
 
-        // The frames of the rest and the piece are answered by the conversation table.
-        ensures served { IfOk result (λ told. (next : Next SessionState) × IsServed
-            (core_rules (setting self.old))
-            (state_of self.old) (unread self.old ++ piece.now) (unread self.new) next
-            (K.written sink.old) (K.written sink.new) [] [] (D.calls desk.old) (D.calls desk.new)
-            × Stands awaits next (state_of self.new) (unread self.new) told) }
-        ensures cut_off { OnErr result (IsCutOff
-            (core_rules (setting self.old))
-            (state_of self.old) (unread self.old ++ piece.now)
-            (K.written sink.old) (K.written sink.new) [] (D.calls desk.old) (D.calls desk.new)) }
-
-        // So are those of all that came before, and of this piece.
-        ensures continues { (s : SessionState) (text : List ℕ) (written : Option (List ℕ)) (calls : List DeskCall)
-            → IsServed (core_rules (setting self.old))
-            s text (unread self.old) (Goes (state_of self.old)) written (K.written sink.old) [] [] calls (D.calls desk.old)
-            → IfOk result (λ told. (next : Next SessionState) × IsServed
-            (core_rules (setting self.old))
-            s (text ++ piece.now) (unread self.new) next written (K.written sink.new) [] [] calls (D.calls desk.new)
-            × Stands awaits next (state_of self.new) (unread self.new) told) }
-        ensures continues_cut { (s : SessionState) (text : List ℕ) (written : Option (List ℕ)) (calls : List DeskCall)
-            → IsServed (core_rules (setting self.old))
-            s text (unread self.old) (Goes (state_of self.old)) written (K.written sink.old) [] [] calls (D.calls desk.old)
-            → OnErr result (IsCutOff
-            (core_rules (setting self.old))
-            s (text ++ piece.now) written (K.written sink.new) [] calls (D.calls desk.new)) }
-        ensures open { IsTrue (is_open self.new) ↔ (result ≡ Ok More) }
-        ensures host { host_of self.new ≡ host_of self.old }
-
-        // The cause of each error.
-        ensures cause { HasSinkCause (K.faults sink.old) (K.faults sink.new) result }
-        ensures same { D.registration desk.new ≡ D.registration desk.old }
-        ensures origin { D.origin desk.new ≡ D.origin desk.old }
-        ensures turns { turns.new ≡ turns.old }
-    {
-        let _ = turns;
-        let outcome = self.dialog.take(alloc, &self.host, desk, piece, sink);
-        self.opened = is_more(&outcome);
-        outcome
+/// Whether an error of a message waits for Sync: in an extended message, and in a COPY of one.
+fn waits_for_sync(state: PgWireConnectionState, message: &PgWireFrontendMessage) -> bool
+    ensures { scope_for result ≡ scope_in state message.now }
+{
+    match state {
+        PgWireConnectionState::CopyInProgress(is_extended) => is_extended,
+        PgWireConnectionState::ReadyForQuery => {
+            !matches!(message, PgWireFrontendMessage::Query(_))
+        }
+        _ => true,
     }
 }
 
-/// Whether the session goes on.
-fn is_more(outcome: &Result<Progress, ServeError>) -> bool
-    ensures { IsTrue result ↔ (outcome.now ≡ Ok More) }
+/// Whether a session is open after a message.
+fn stays_open(outcome: &Result<Option<EndKind>, SessionError>) -> bool
+    ensures { result ≡ stays_open outcome.now }
 {
-    matches!(outcome, Ok(Progress::More))
+    match outcome {
+        Ok(end) => end.is_none(),
+        Err(SessionError::Wire(PgWireError::NoMemory)) => false,
+        Err(SessionError::Wire(_)) => true,
+        Err(SessionError::TurnLimit) => false,
+    }
+}
+
+impl<
+    H: PgWireServerHandlers,
+    St: PortalStore<
+        Statement = <H::Extended as ExtendedQueryHandler>::Statement,
+        Rows = <H::Extended as ExtendedQueryHandler>::Rows,
+    >,
+> Session<H, St> {
+    /// Answers a message, but for what follows an error.
+    pub(crate) fn answer<D: CancelDesk>(
+        &mut self,
+        alloc: Global,
+        desk: &mut D,
+        turns: &mut Turns,
+        message: PgWireFrontendMessage,
+    ) -> Result<Option<EndKind>, SessionError>
+        requires open { self.old.is_open ≡ true }
+        requires given { IsGivenIn self.old.state message }
+        ensures ok { IfOk result (λ end. IsRow
+            (λ answers. message_row
+            (handlers_of (H.Extended.told (H.extended self.old.handlers)) (H.Simple.told (H.simple self.old.handlers)) (H.Copying.told (H.copying self.old.handlers)))
+            answers self.old.state message)
+            self.old.unsent self.new.unsent (D.calls desk.old) (D.calls desk.new)
+            (outcome_of end self.new.state)) }
+        ensures refused { IfErr result (IsRefusedRow
+            (λ answers. message_row
+            (handlers_of (H.Extended.told (H.extended self.old.handlers)) (H.Simple.told (H.simple self.old.handlers)) (H.Copying.told (H.copying self.old.handlers)))
+            answers self.old.state message)
+            self.old.unsent self.new.unsent (D.calls desk.old) (D.calls desk.new)
+            self.new.state) }
+        ensures answerable { IfErr result IsAnswerableError }
+        ensures ends { IfOk result (λ end. end ≢ Some InputEnd) }
+        ensures open { self.new.is_open ≡ stays_open result }
+        ensures handlers { self.new.handlers ≡ self.old.handlers }
+        ensures rest { self.new.rest ≡ self.old.rest }
+        ensures turns { HasSpent turns.old turns.new
+            (questions_since (D.calls desk.old) (D.calls desk.new)) result }
+        ensures bounded { turns.old.spent ≤ turns.old.limit → turns.new.spent ≤ turns.new.limit }
+        ensures same { D.registration desk.new ≡ D.registration desk.old }
+        ensures origin { D.origin desk.new ≡ D.origin desk.old }
+    {
+        let outcome = on_message(
+            alloc,
+            &*self.handlers,
+            &mut self.client,
+            desk,
+            turns,
+            message,
+        );
+        self.opened = stays_open(&outcome);
+        outcome
+    }
+
+    /// Tells the client an error, and does what follows it.
+    pub(crate) fn tell(
+        &mut self,
+        alloc: Global,
+        error: PgWireError,
+        wait_for_sync: bool,
+    ) -> Result<Option<EndKind>, AllocError>
+        requires open { self.old.is_open ≡ true }
+        requires tellable { IsTellable error }
+        ensures replied { OnOk result (self.new.unsent ≡ self.old.unsent ++ replies_bytes
+            (failed (scope_for wait_for_sync) [] [] self.old.state (info_of error)).replies) }
+        ensures next { IfOk result (λ end.
+            (failed (scope_for wait_for_sync) [] [] self.old.state (info_of error)).next
+            ≡ next_of end self.new.state) }
+        ensures ends { IfOk result (λ end. (end ≡ None) ⊎ (end ≡ Some Fatal)) }
+        ensures open { self.new.is_open ≡ goes_on result }
+        ensures handlers { self.new.handlers ≡ self.old.handlers }
+        ensures rest { self.new.rest ≡ self.old.rest }
+    {
+        let outcome = tell_error(alloc, &mut self.client, error, wait_for_sync);
+        self.opened = matches!(outcome, Ok(None));
+        outcome
+    }
+
+    /// Answers a message, as the whole table says.
+    fn respond<D: CancelDesk>(
+        &mut self,
+        alloc: Global,
+        desk: &mut D,
+        turns: &mut Turns,
+        message: PgWireFrontendMessage,
+    ) -> Result<Option<EndKind>, ServeError>
+        requires open { self.old.is_open ≡ true }
+        requires given { IsGivenIn self.old.state message }
+        ensures answer { IfOk result (λ end. IsAnswered
+            (whole_table
+            (handlers_of (H.Extended.told (H.extended self.old.handlers)) (H.Simple.told (H.simple self.old.handlers)) (H.Copying.told (H.copying self.old.handlers))))
+            self.old.state message self.old.unsent self.new.unsent (D.calls desk.old) (D.calls desk.new)
+            (next_of end self.new.state)) }
+        ensures err { OnErr result (IsCutAnswer
+            (whole_table
+            (handlers_of (H.Extended.told (H.extended self.old.handlers)) (H.Simple.told (H.simple self.old.handlers)) (H.Copying.told (H.copying self.old.handlers))))
+            self.old.state message (D.calls desk.old) (D.calls desk.new)) }
+        ensures stopped { IsErrOf result serve.TurnLimit → IsStoppedAnswer
+            (whole_table
+            (handlers_of (H.Extended.told (H.extended self.old.handlers)) (H.Simple.told (H.simple self.old.handlers)) (H.Copying.told (H.copying self.old.handlers))))
+            self.old.state message (D.calls desk.old) (D.calls desk.new) }
+        ensures only { IfErr result (λ e. (e ≡ serve.NoMemory) ⊎ (e ≡ serve.TurnLimit)) }
+        ensures ends { IfOk result (λ end. end ≢ Some InputEnd) }
+        ensures open { self.new.is_open ≡ goes_on result }
+        ensures handlers { self.new.handlers ≡ self.old.handlers }
+        ensures rest { self.new.rest ≡ self.old.rest }
+        ensures turns { HasFed turns.old turns.new
+            (questions_since (D.calls desk.old) (D.calls desk.new)) result }
+        ensures bounded { turns.old.spent ≤ turns.old.limit → turns.new.spent ≤ turns.new.limit }
+        ensures same { D.registration desk.new ≡ D.registration desk.old }
+        ensures origin { D.origin desk.new ≡ D.origin desk.old }
+    {
+        let wait_for_sync = waits_for_sync(self.client.info.state, &message);
+        match self.answer(alloc, desk, turns, message) {
+            Ok(end) => Ok(end),
+            Err(SessionError::TurnLimit) => Err(ServeError::TurnLimit),
+            Err(SessionError::Wire(error)) => match error {
+                PgWireError::NoMemory => Err(ServeError::NoMemory),
+                error => match self.tell(alloc, error, wait_for_sync) {
+                    Ok(end) => Ok(end),
+                    Err(_) => Err(ServeError::NoMemory),
+                },
+            },
+        }
+    }
 }

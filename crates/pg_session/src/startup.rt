@@ -1,27 +1,33 @@
 //! The startup phase: requests to encrypt, a request to cancel, and the startup packet.
 
-ghost use Rattle.std.specs.Prelude.{◌≡◌, ◌≢◌, ◌++◌, [], ◌∷◌, ◌≤◌, ◌+◌, ℕ, Bool, Option, Some, length, codes, IfOk, OnOk, OnErr};
-ghost use Rattle.pg_messages.specs.Replies.{HasNoZero};
+ghost use Rattle.std.specs.Prelude.{◌≡◌, ◌≢◌, ◌++◌, [], ◌∷◌, ◌≤◌, ◌+◌, ℕ, List, true, Option, Some, Bool, length, codes, IfOk, IfErr, OnOk, OnErr};
+ghost use Rattle.std.specs.FinMap as fin;
+ghost use Rattle.std.specs.Str.{str_to_ascii_lowercase};
+ghost use Rattle.pg_messages.specs.Frames.{IsFrame};
+ghost use Rattle.pg_messages.specs.Replies.{HasNoZero, replies_bytes};
+ghost use Rattle.pg_messages.specs.declared.frontend.PgWireFrontendMessage.TheVariants as frontend;
 ghost use Rattle.pg_messages.specs.declared.backend.PgWireBackendMessage.TheVariants as server;
-ghost use Rattle.pg_session.specs.declared.desk.DeskCall.{DeskCall};
-ghost use Rattle.pg_session.specs.declared.ends.EndKind.TheVariants.{InputEnd, CancelServed};
-ghost use Rattle.pg_session.specs.Conversation.{startup_row, on_startup, unsupported_version, unsupported_text, no_encryption, parameter, startup_replies};
-ghost use Rattle.pg_session.specs.Steps.{AppendsReplies, IsCarriedOut, IsAnswered, IsGoodStore, next_of, host_setting};
+ghost use Rattle.pg_portal.specs.Clients.{HasShortMetadata};
+ghost use Rattle.pg_portal.specs.Rows.{IsTellable, IsAnswerable};
+ghost use Rattle.pg_portal.specs.declared.error.PgWireError.TheVariants as wire;
+ghost use Rattle.pg_handlers.specs.Effect.{IsRow, IsRefusedRow, IsEffect, IsRefusedEffect, Done};
+ghost use Rattle.pg_handlers.specs.Errors.{unsupported_version, unsupported_text};
+ghost use Rattle.pg_handlers.specs.Replies.{parameter, startup_replies};
+ghost use Rattle.pg_handlers.specs.Sending.{IsAnswerableError};
+ghost use Rattle.pg_handlers.specs.StartupRows.{startup_row, on_startup, no_encryption, with_parameters};
+ghost use Rattle.pg_handlers.specs.State.{state_of};
+ghost use Rattle.pg_handlers.specs.declared.desk.DeskCall.{DeskCall};
+ghost use Rattle.pg_handlers.specs.declared.ends.EndKind.TheVariants.{InputEnd, CancelServed};
+ghost use Rattle.pg_handlers.specs.declared.ends.SessionError.TheVariants as session;
+ghost use Rattle.pg_session.specs.Messages.{outcome_of};
 
-use crate::desk::CancelDesk;
-use crate::ends::EndKind;
-use crate::outbox::Outbox;
-use crate::rows::FirstRows;
-use crate::send::{push, push_fatal, push_ready};
-use crate::server::Host;
-use crate::state::SessionState;
-use crate::store::{PgWireConnectionState, Store};
+use pg_handlers::{CancelDesk, Client, EndKind, Outbox, SessionError, send_ready_for_query};
 use pg_messages::{
-    AuthenticationOk, BackendKeyData, CancelRequest, GssEncResponse, ParameterStatus, PgStr,
-    PgWireBackendMessage, PgWireFrontendMessage, SslNegotiationKind, SslResponse, Startup,
-    TransactionStatus,
+    AuthenticationOk, BackendKeyData, CancelRequest, ErrorInfo, GssEncResponse, ParameterStatus,
+    PgStr, PgWireBackendMessage, PgWireFrontendMessage, ProtocolVersion, SslNegotiationKind,
+    SslResponse, Startup, TransactionStatus,
 };
-use pg_portal::Named;
+use pg_portal::{Metadata, PgWireConnectionState, PgWireError, PortalStore};
 use std::alloc::{AllocError, Global};
 
 /// The code of protocol version 3.0.
@@ -30,76 +36,58 @@ const PROTOCOL_3_0: u32 = 196608;
 /// The code of protocol version 3.2.
 const PROTOCOL_3_2: u32 = 196610;
 
-impl<H: FirstRows> Host<H> {
-    /// A message while the startup packet is awaited.
-    pub fn on_startup_phase<D: CancelDesk>(
-        &self,
-        alloc: Global,
-        state: &mut SessionState,
-        outbox: &mut Outbox,
-        desk: &mut D,
-        message: &PgWireFrontendMessage,
-    ) -> Result<Option<EndKind>, AllocError>
-        ensures answer { IfOk result (λ end. IsAnswered
-            (startup_row (host_setting H.relation_of H.rows_of self.now)) state.old message.now
-            outbox.old outbox.new (D.calls desk.old) (D.calls desk.new) (next_of end state.new)) }
-        ensures ends { IfOk result (λ end. end ≢ Some InputEnd) }
-        ensures good { (count : ℕ) → IsGoodStore count state.old.store
-            → OnOk result (IsGoodStore count state.new.store) }
-        ensures err { OnErr result (D.calls desk.new ≡ D.calls desk.old) }
-        ensures same { D.registration desk.new ≡ D.registration desk.old }
-        ensures origin { D.origin desk.new ≡ D.origin desk.old }
-    {
-        match message {
-            PgWireFrontendMessage::SslNegotiation(kind) => {
-                push_no_encryption(outbox, *kind)?;
-                Ok(None)
-            }
-            PgWireFrontendMessage::CancelRequest(request) => cancel(desk, request),
-            PgWireFrontendMessage::Startup(startup) => {
-                self.on_startup(alloc, state, outbox, startup)
-            }
-            _ => Ok(None),
+/// A message while the startup packet is awaited.
+pub(crate) fn on_startup_phase<St: PortalStore, D: CancelDesk>(
+    alloc: Global,
+    client: &mut Client<St>,
+    desk: &mut D,
+    message: PgWireFrontendMessage,
+) -> Result<Option<EndKind>, SessionError>
+    requires { (frame : List ℕ) × IsFrame true frame message }
+    ensures ok { IfOk result (λ end. IsRow
+        (λ answers. startup_row answers (state_of St.statements St.portals client.old) message)
+        client.old.outbox client.new.outbox (D.calls desk.old) (D.calls desk.new)
+        (outcome_of end (state_of St.statements St.portals client.new))) }
+    ensures refused { IfErr result (IsRefusedRow
+        (λ answers. startup_row answers (state_of St.statements St.portals client.old) message)
+        client.old.outbox client.new.outbox (D.calls desk.old) (D.calls desk.new)
+        (state_of St.statements St.portals client.new)) }
+    ensures answerable { IfErr result IsAnswerableError }
+    ensures unlimited { IfErr result (λ error. error ≢ session.TurnLimit) }
+    ensures ends { IfOk result (λ end. end ≢ Some InputEnd) }
+    ensures store { client.new.store ≡ client.old.store }
+    ensures metadata { HasShortMetadata client.old.info → HasShortMetadata client.new.info }
+    ensures same { D.registration desk.new ≡ D.registration desk.old }
+    ensures origin { D.origin desk.new ≡ D.origin desk.old }
+{
+    match message {
+        PgWireFrontendMessage::SslNegotiation(kind) => {
+            push_no_encryption(&mut client.outbox, kind)?;
+            Ok(None)
         }
-    }
-
-    /// The startup packet: the session is ready where its version is 3.0 or 3.2.
-    fn on_startup(
-        &self,
-        alloc: Global,
-        state: &mut SessionState,
-        outbox: &mut Outbox,
-        message: &Startup,
-    ) -> Result<Option<EndKind>, AllocError>
-        ensures answer { IfOk result (λ end. IsCarriedOut
-            (on_startup (host_setting H.relation_of H.rows_of self.now) message.now)
-            outbox.old outbox.new [] [] (next_of end state.new)) }
-        ensures ends { IfOk result (λ end. end ≢ Some InputEnd) }
-        ensures good { (count : ℕ) → IsGoodStore count state.old.store
-            → OnOk result (IsGoodStore count state.new.store) }
-    {
-        if message.code != PROTOCOL_3_0 && message.code != PROTOCOL_3_2 {
-            push_unsupported(alloc, outbox, message.code)?;
-            return Ok(Some(EndKind::Fatal));
+        PgWireFrontendMessage::CancelRequest(request) => Ok(cancel(desk, request)?),
+        PgWireFrontendMessage::Startup(startup) => {
+            on_startup(alloc, client, startup)?;
+            Ok(None)
         }
-        push_startup(alloc, outbox, self.pid, self.key)?;
-        state.state = PgWireConnectionState::ReadyForQuery;
-        state.status = TransactionStatus::Idle;
-        state.store = Store {
-            statements: Named::new(alloc),
-            portals: Named::new(alloc),
-        };
-        Ok(None)
+        other => {
+            let_go(other);
+            Ok(None)
+        }
     }
 }
+
+/// Lets a message go in one place.
+pub(crate) fn let_go(_message: PgWireFrontendMessage) {}
 
 /// Cancels the query of the session that a client names: one call of the registry, and the end.
 fn cancel<D: CancelDesk>(
     desk: &mut D,
-    request: &CancelRequest,
+    request: CancelRequest,
 ) -> Result<Option<EndKind>, AllocError>
     ensures answer { IfOk result (λ end. (end ≡ Some CancelServed) × ((yes : Bool)
-        × (D.calls desk.new ≡ D.calls desk.old ++ DeskCall.Cancel request.now.pid request.now.secret_key yes ∷ []))) }
+        × (D.calls desk.new ≡ D.calls desk.old
+        ++ DeskCall.Cancel request.pid request.secret_key yes ∷ []))) }
     ensures err { OnErr result (D.calls desk.new ≡ D.calls desk.old) }
     ensures same { D.registration desk.new ≡ D.registration desk.old }
     ensures origin { D.origin desk.new ≡ D.origin desk.old }
@@ -108,16 +96,77 @@ fn cancel<D: CancelDesk>(
     Ok(Some(EndKind::CancelServed))
 }
 
-/// Appends the error of a startup packet of a version other than 3.0 and 3.2.
-pub(crate) fn push_unsupported(
+/// The startup packet: the session is ready where its version is 3.0 or 3.2; every other is 0A000
+/// with FATAL.
+fn on_startup<St: PortalStore>(
     alloc: Global,
-    outbox: &mut Outbox,
-    code: u32,
-) -> Result<(), AllocError>
-    ensures { OnOk result (AppendsReplies outbox.old outbox.new (unsupported_version code ∷ [])) }
+    client: &mut Client<St>,
+    message: Startup,
+) -> Result<(), PgWireError>
+    requires { (frame : List ℕ) × IsFrame true frame (frontend.Startup message) }
+    ensures ok { OnOk result (IsEffect
+        (on_startup (state_of St.statements St.portals client.old) message).effect
+        client.old.outbox client.new.outbox (Done (state_of St.statements St.portals client.new))) }
+    ensures refused { IfErr result (IsRefusedEffect
+        (on_startup (state_of St.statements St.portals client.old) message).effect
+        client.old.outbox client.new.outbox (state_of St.statements St.portals client.new)) }
+    ensures silent { (on_startup (state_of St.statements St.portals client.old) message).calls
+        ≡ [] }
+    ensures answerable { IfErr result IsAnswerable }
+    ensures store { client.new.store ≡ client.old.store }
+    ensures metadata { HasShortMetadata client.old.info → HasShortMetadata client.new.info }
+{
+    let protocol = match message.code {
+        PROTOCOL_3_0 => ProtocolVersion::PROTOCOL3_0,
+        PROTOCOL_3_2 => ProtocolVersion::PROTOCOL3_2,
+        code => return Err(unsupported(alloc, code)?),
+    };
+    let metadata = metadata_of(alloc, message)?;
+    push_startup(
+        alloc,
+        &mut client.outbox,
+        client.info.pid,
+        client.info.secret_key,
+    )?;
+    client.info.protocol = protocol;
+    client.info.metadata = metadata;
+    client.info.status = TransactionStatus::Idle;
+    client.info.state = PgWireConnectionState::ReadyForQuery;
+    Ok(())
+}
+
+/// The startup parameters under their names in lower case; the last of a repeated name wins.
+fn metadata_of(alloc: Global, message: Startup) -> Result<Metadata, AllocError>
+    ensures { IfOk result (λ metadata. metadata ≡ with_parameters fin.empty message.parameters) }
+{
+    let mut metadata = Metadata::new(alloc);
+    for (name, value) in message.parameters.into_vec() {
+        let name = lowered(alloc, name)?;
+        metadata.insert(name, value)?;
+    }
+    Ok(metadata)
+}
+
+/// A name in lower case.
+fn lowered(alloc: Global, name: PgStr) -> Result<PgStr, AllocError>
+    ensures { IfOk result (λ low. low ≡ str_to_ascii_lowercase name) }
+{
+    let mut text = name.into_string();
+    text.make_ascii_lowercase();
+    PgStr::copy_of(alloc, text.as_str())
+}
+
+/// The error of a startup packet of a version other than 3.0 and 3.2.
+fn unsupported(alloc: Global, code: u32) -> Result<PgWireError, AllocError>
+    ensures error { IfOk result (λ error. error ≡ wire.UserError (unsupported_version code)) }
+    ensures tellable { IfOk result IsTellable }
 {
     let text = unsupported_text(alloc, code)?;
-    push_fatal(alloc, outbox, "0A000", text)
+    Ok(PgWireError::UserError(ErrorInfo::new(
+        PgStr::copy_of(alloc, "FATAL")?,
+        PgStr::copy_of(alloc, "0A000")?,
+        text,
+    )))
 }
 
 /// The text on a version: its upper sixteen bits are the major part, and its lower ones the minor.
@@ -133,20 +182,16 @@ fn unsupported_text(alloc: Global, code: u32) -> Result<PgStr, AllocError>
 }
 
 /// Appends the answer to a request for encryption: none.
-pub(crate) fn push_no_encryption(
-    outbox: &mut Outbox,
-    kind: SslNegotiationKind,
-) -> Result<(), AllocError>
-    ensures { OnOk result (AppendsReplies outbox.old outbox.new (no_encryption kind ∷ [])) }
+fn push_no_encryption(outbox: &mut Outbox, kind: SslNegotiationKind) -> Result<(), AllocError>
+    ensures { OnOk result (outbox.new ≡ outbox.old ++ replies_bytes (no_encryption kind ∷ [])) }
 {
     match kind {
         SslNegotiationKind::PostgresSsl => {
-            push(outbox, PgWireBackendMessage::SslResponse(SslResponse {}))
+            outbox.push(&PgWireBackendMessage::SslResponse(SslResponse {}))
         }
-        SslNegotiationKind::PostgresGss => push(
-            outbox,
-            PgWireBackendMessage::GssEncResponse(GssEncResponse {}),
-        ),
+        SslNegotiationKind::PostgresGss => {
+            outbox.push(&PgWireBackendMessage::GssEncResponse(GssEncResponse {}))
+        }
     }
 }
 
@@ -160,43 +205,42 @@ fn push_parameter(
     requires name { HasNoZero name.now }
     requires value { HasNoZero value.now }
     requires short { length name.now + length value.now ≤ 100 }
-    ensures { OnOk result (AppendsReplies outbox.old outbox.new (parameter name.now value.now ∷ [])) }
+    ensures { OnOk result
+        (outbox.new ≡ outbox.old ++ replies_bytes (parameter name.now value.now ∷ [])) }
 {
     let status = ParameterStatus {
         name: PgStr::copy_of(alloc, name)?,
         value: PgStr::copy_of(alloc, value)?,
     };
-    push(outbox, PgWireBackendMessage::ParameterStatus(status))
+    outbox.push(&PgWireBackendMessage::ParameterStatus(status))
 }
 
 /// Appends BackendKeyData.
 fn push_key(outbox: &mut Outbox, pid: i32, key: [u8; 4]) -> Result<(), AllocError>
-    ensures { OnOk result (AppendsReplies outbox.old outbox.new (server.BackendKeyData (record { pid = pid; secret_key = key }) ∷ [])) }
+    ensures { OnOk result (outbox.new ≡ outbox.old
+        ++ replies_bytes (server.BackendKeyData (record { pid = pid; secret_key = key }) ∷ [])) }
 {
-    let data = BackendKeyData {
+    let keys = BackendKeyData {
         pid,
         secret_key: key,
     };
-    push(outbox, PgWireBackendMessage::BackendKeyData(data))
+    outbox.push(&PgWireBackendMessage::BackendKeyData(keys))
 }
 
 /// Appends the replies to a startup packet.
-pub(crate) fn push_startup(
+fn push_startup(
     alloc: Global,
     outbox: &mut Outbox,
     pid: i32,
     key: [u8; 4],
 ) -> Result<(), AllocError>
-    ensures { OnOk result (AppendsReplies outbox.old outbox.new (startup_replies pid key)) }
+    ensures { OnOk result (outbox.new ≡ outbox.old ++ replies_bytes (startup_replies pid key)) }
 {
-    push(
-        outbox,
-        PgWireBackendMessage::AuthenticationOk(AuthenticationOk {}),
-    )?;
+    outbox.push(&PgWireBackendMessage::AuthenticationOk(AuthenticationOk {}))?;
     push_parameter(alloc, outbox, "server_version", "16.0")?;
     push_parameter(alloc, outbox, "server_encoding", "UTF8")?;
     push_parameter(alloc, outbox, "client_encoding", "UTF8")?;
     push_parameter(alloc, outbox, "integer_datetimes", "on")?;
     push_key(outbox, pid, key)?;
-    push_ready(outbox, TransactionStatus::Idle)
+    send_ready_for_query(outbox, TransactionStatus::Idle)
 }

@@ -1,4 +1,2 @@
-pub mod Serving
-pub mod TableLemmas
-pub mod RowLemmas
-pub mod Quiet
+mod CoreServing
+mod Quiet

@@ -1,8 +1,8 @@
 -- A desk without a script answers no.
 use Rattle.std.proofs.Common.{◌≡◌, ℕ, zero, suc, Bool, List, [], ◌∷◌, length, refl, sym, subst}
-use Rattle.pg_session.specs.declared.desk.DeskCall.{DeskCall}
-use Rattle.pg_session.specs.Answer.{answers_of}
-use Rattle.pg_session.specs.Script.{scripted, origin_of, IsScripted}
+use Rattle.pg_handlers.specs.declared.desk.DeskCall.{DeskCall}
+use Rattle.pg_handlers.specs.Answer.{answers_of}
+use Rattle.pg_handlers.specs.Script.{scripted, origin_of, IsScripted}
 use Rattle.relation_server.specs.Program.{AreNo}
 
 no_script : (script : List Bool) → origin_of script ≡ [] → script ≡ []

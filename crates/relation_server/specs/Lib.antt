@@ -1,6 +1,4 @@
-pub mod Tables
-pub mod Memory
-pub mod Rows
-pub mod Words
 pub mod BuiltIn
 pub mod Program
+pub mod Serving
+pub mod Words

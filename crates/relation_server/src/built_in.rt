@@ -1,18 +1,21 @@
 ghost use Rattle.std.specs.Prelude.{◌≡◌, map, IfOk, IfErr};
 ghost use Rattle.relation_server.specs.BuiltIn as rows;
 
-use crate::table::{Relation, RelationTable, TableError};
 use pg_interval::Interval;
 use pg_messages::{PgList, PgStr};
+use relation_handlers::{RelationTable, TableError};
+use relation_tables::Relation;
 use std::alloc::{AllocError, Global};
 
-/// The built-in table: `shifts` with three rows, `wide` with a row of three columns, and `none` without rows.
+/// The built-in table: `shifts` with three rows, `slow`, whose query finds two polls unready, with one row, `wide` with
+/// a row of three columns, and `none` without rows.
 pub fn built_in_table(alloc: Global) -> Result<RelationTable, TableError>
     ensures ok { IfOk result (λ table. table ≡ rows.built_in) }
     ensures err { IfErr result (λ error. error ≡ TableError.NoMemory) }
 {
     let mut relations = PgList::new(alloc);
     relations.push(shifts(alloc)?)?;
+    relations.push(slow(alloc)?)?;
     relations.push(wide(alloc)?)?;
     relations.push(none(alloc)?)?;
     RelationTable::try_new(alloc, relations)
@@ -28,6 +31,19 @@ fn shifts(alloc: Global) -> Result<Relation, AllocError>
     Ok(Relation {
         name: PgStr::copy_of(alloc, "shifts")?,
         unready: 0,
+        columns: names(alloc, &["span"])?,
+        rows,
+    })
+}
+
+fn slow(alloc: Global) -> Result<Relation, AllocError>
+    ensures { IfOk result (λ relation. relation ≡ rows.slow) }
+{
+    let mut rows = PgList::new(alloc);
+    rows.push(row(alloc, &[Interval::new(0, 1, 0)])?)?;
+    Ok(Relation {
+        name: PgStr::copy_of(alloc, "slow")?,
+        unready: 2,
         columns: names(alloc, &["span"])?,
         rows,
     })

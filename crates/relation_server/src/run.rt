@@ -1,8 +1,9 @@
 ghost use Rattle.std.specs.Prelude.{◌≡◌, None, Result, IfSome};
-ghost use Rattle.pg_session.specs.declared.ends.EndKind.{EndKind};
+ghost use Rattle.pg_handlers.specs.declared.ends.EndKind.{EndKind};
 ghost use Rattle.pg_session.specs.declared.ends.ServeError.{ServeError};
+ghost use Rattle.pg_serve.specs.Serving.{counts_of};
 ghost use Rattle.relation_server.specs.BuiltIn.{built_in};
-ghost use Rattle.relation_server.specs.Program.{IsReported, IsOutcome, status_of, line_of, usage, counts_of, turns_of_a_client};
+ghost use Rattle.relation_server.specs.Program.{IsReported, IsOutcome, status_of, line_of, usage, turns_of_a_client};
 ghost use Rattle.relation_server.specs.Words.{registration_of};
 
 use crate::built_in::built_in_table;

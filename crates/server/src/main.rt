@@ -3,8 +3,9 @@
 #![tactic(auto)]
 
 use pg_messages::{PgList, PgStr};
+use pg_serve::{ReaderSource, WriterSink};
 use pg_session::Sink;
-use relation_server::{ReaderSource, WriterSink, run_rows};
+use relation_server::run_rows;
 use std::alloc::AllocError;
 use std::env;
 use std::process::ExitCode;
@@ -12,7 +13,7 @@ use std::process::ExitCode;
 /// What `--help` writes.
 const HELP: &[u8] = b"usage: relation_server PID KEY
 
-Serves its relations (shifts, wide and none) to one client that speaks PostgreSQL's protocol. The client's bytes come
+Serves its relations (shifts, slow, wide and none) to one client that speaks PostgreSQL's protocol. The client's bytes come
 on standard input, and the replies go to standard output.
 
   PID  the process id that the client is told: 1 to 2147483647, in decimal

@@ -4,12 +4,12 @@
 
 ghost use Rattle.std.specs.Prelude.{◌≡◌, IfOk, length};
 
-use pg_conversation::ScriptDesk;
+use pg_session::ScriptDesk;
 use pg_interval::Interval;
 use pg_messages::{PgList, PgStr};
 use pg_serve::{ReaderSource, WriterSink};
 use relation_handlers::RelationTable;
-use relation_serving::serve_relations_on;
+use relation_server::serve_relations_on;
 use relation_tables::Relation;
 use std::alloc::{AllocError, Global};
 use std::process::ExitCode;

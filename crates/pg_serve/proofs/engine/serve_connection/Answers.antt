@@ -3,7 +3,7 @@ use Rattle.std.proofs.lemmas.Result.{err_from_is_err_and}
 use Rattle.std.specs.Arc.{arc_value}
 use Rattle.pg_handlers.specs.Handlers.{handlers_of}
 use Rattle.pg_handlers.specs.State.{first_state}
-use Rattle.pg_conversation.specs.Session.{whole_rules}
+use Rattle.pg_session.specs.Session.{whole_rules}
 use Rattle.pg_serve.proofs.Serving.{none_went}
 use Rattle.pg_serve.proofs.engine.serve_connection.Goals as goal
 

@@ -3,9 +3,9 @@ use Rattle.std.proofs.lemmas.List.{append_cancel_left}
 use Rattle.pg_handlers.specs.Handlers.{handlers_of}
 use Rattle.pg_handlers.specs.Questions.{questions_since}
 use Rattle.pg_handlers.specs.Table.{awaits}
-use Rattle.pg_conversation.specs.Session.{whole_rules, HasFed, is_more}
-use Rattle.pg_conversation.specs.Steps.{Stands}
-use Rattle.pg_conversation.specs.declared.ends.Progress.{Progress}
+use Rattle.pg_session.specs.Session.{whole_rules, HasFed, is_more}
+use Rattle.pg_session.specs.Steps.{Stands}
+use Rattle.pg_session.specs.declared.ends.Progress.{Progress}
 use Rattle.pg_serve.specs.Serving.{TakesFrom, IsStoppedRunOfTaken, counts_of}
 use Rattle.pg_serve.proofs.Serving.{run_of_taken, served_run, ended_run, takes_more, takes_none, served_none, short_none, none_asked, cut_run_of_taken, stopped_run_of_taken, went_by_error, caused_by, serves_in, cut_in, stopped_in, waits_in, goes_to, counted_more, questions_over, risen_since, all_spent, no_end_turn}
 use Rattle.pg_serve.proofs.engine.serve_session.Goals as goal

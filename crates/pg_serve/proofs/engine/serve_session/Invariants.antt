@@ -4,8 +4,8 @@ use Rattle.pg_handlers.specs.Answer.{Goes}
 use Rattle.pg_handlers.specs.Handlers.{handlers_of}
 use Rattle.pg_handlers.specs.Questions.{questions_since}
 use Rattle.pg_handlers.specs.Table.{awaits}
-use Rattle.pg_conversation.specs.Session.{whole_rules}
-use Rattle.pg_conversation.specs.Steps.{IsServed}
+use Rattle.pg_session.specs.Session.{whole_rules}
+use Rattle.pg_session.specs.Steps.{IsServed}
 use Rattle.pg_serve.specs.Serving.{TakesFrom}
 use Rattle.pg_serve.proofs.engine.serve_session.Given as goal
 

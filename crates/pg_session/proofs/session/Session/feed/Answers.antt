@@ -1,21 +1,47 @@
+use Rattle.std.proofs.Common.{◌++◌, [], sym, subst}
 use Rattle.std.proofs.lemmas.Result.{IfOk-weaker, on_err_weaker}
-use Rattle.pg_session.specs.Conversation.{core_rules}
-use Rattle.pg_session.specs.Steps.{host_setting}
-use Rattle.pg_session.proofs.Stepping.{serves_then, serves_more, serves_from, cut_then, cut_from}
-use Rattle.pg_session.proofs.TableLaws.{core_lawful}
+use Rattle.pg_handlers.specs.Handlers.{handlers_of}
+use Rattle.pg_handlers.specs.Table.{awaits}
+use Rattle.pg_session.specs.Session.{whole_rules}
+use Rattle.pg_session.specs.Steps.{IsServed, Stands}
+use Rattle.pg_session.proofs.Answering.{whole_lawful}
+use Rattle.pg_session.proofs.Stepping.{serves_then, serves_more, cut_then, stop_then}
 use Rattle.pg_session.proofs.session.Session.feed.Goals as goal
 
 pub returns-clause-continues : goal.returns-clause-continues
-returns-clause-continues g c = λ s text written calls before.
-    let setting = host_setting g.H.FirstRows.relation_of g.H.FirstRows.rows_of c.args.self.now.host in
-    let rules = core_rules setting in
-    IfOk-weaker c.take-outcome.result _ _ (λ told fact.
-    (fact.0, serves_then rules (core_lawful setting) (serves_more rules (core_lawful setting) c.args.piece.now before) (serves_from rules (c.args.self.now.sent c.requires) fact.1), fact.2))
+returns-clause-continues g c = λ s text written out calls before.
+    let x = c.args.self.now.handlers in
+    let h = handlers_of (g.H.Extended.ExtendedQueryHandler.told (g.H.PgWireServerHandlers.extended x))
+    (g.H.Simple.SimpleQueryHandler.told (g.H.PgWireServerHandlers.simple x)) (g.H.Copying.CopyHandler.told
+    (g.H.PgWireServerHandlers.copying x)) in
+    let law = whole_lawful h in
+    let old = c.args.self.now in let view_is = sym c.self.view_is in
+    IfOk-weaker c.take-outcome.result _ _ (λ told fact. (
+      fact.0,
+      serves_then (whole_rules h) law (serves_more (whole_rules h) law c.args.piece.now before)
+          (subst (λ v. IsServed (whole_rules h) old.state (old.rest ++ c.args.piece.now) v.rest fact.0 (g.K.Sink.written c.args.sink.now)
+          (g.K.Sink.written c.take-outcome.new.sink)
+          old.unsent [] (g.D.CancelDesk.calls c.args.desk.now) (g.D.CancelDesk.calls c.take-outcome.new.desk)) view_is fact.1),
+      subst (λ v. Stands awaits fact.0 v.state v.rest told) view_is fact.2,
+    ))
     c.take-outcome.ensures.served
 
 pub returns-clause-continues_cut : goal.returns-clause-continues_cut
-returns-clause-continues_cut g c = λ s text written calls before.
-    let setting = host_setting g.H.FirstRows.relation_of g.H.FirstRows.rows_of c.args.self.now.host in
-    let rules = core_rules setting in
-    on_err_weaker c.take-outcome.result (λ fact. cut_then rules (core_lawful setting) (serves_more rules (core_lawful setting) c.args.piece.now before) (cut_from rules (c.args.self.now.sent c.requires) fact))
+returns-clause-continues_cut g c = λ s text written out calls before.
+    let x = c.args.self.now.handlers in
+    let h = handlers_of (g.H.Extended.ExtendedQueryHandler.told (g.H.PgWireServerHandlers.extended x))
+    (g.H.Simple.SimpleQueryHandler.told (g.H.PgWireServerHandlers.simple x)) (g.H.Copying.CopyHandler.told
+    (g.H.PgWireServerHandlers.copying x)) in
+    let law = whole_lawful h in
+    on_err_weaker c.take-outcome.result (λ fact. cut_then (whole_rules h) law (serves_more
+    (whole_rules h) law c.args.piece.now before) fact)
     c.take-outcome.ensures.cut_off
+
+pub returns-clause-continues_stopped : goal.returns-clause-continues_stopped
+returns-clause-continues_stopped g c = λ s text written out calls before limit.
+    let x = c.args.self.now.handlers in
+    let h = handlers_of (g.H.Extended.ExtendedQueryHandler.told (g.H.PgWireServerHandlers.extended x))
+    (g.H.Simple.SimpleQueryHandler.told (g.H.PgWireServerHandlers.simple x)) (g.H.Copying.CopyHandler.told
+    (g.H.PgWireServerHandlers.copying x)) in
+    let law = whole_lawful h in
+    stop_then (whole_rules h) law (serves_more (whole_rules h) law c.args.piece.now before) (c.take-outcome.ensures.stopped limit)

@@ -1,5 +1,0 @@
-pub mod Messages
-pub mod Run
-pub mod Session
-pub mod Steps
-pub mod Streams

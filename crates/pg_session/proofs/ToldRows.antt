@@ -1,0 +1,40 @@
+-- Rows of a phase that calls nothing, told with an error of a session.
+use Rattle.std.proofs.Common.{◌≡◌, ℕ, List, Bool, Option, Result, Ok, Err, IfOk, IfErr, refl}
+use Rattle.pg_messages.specs.declared.frontend.PgWireFrontendMessage.{PgWireFrontendMessage}
+use Rattle.pg_portal.specs.declared.client.PgWireConnectionState.TheVariants as phase
+use Rattle.pg_handlers.specs.CopyRows.{copy_row}
+use Rattle.pg_handlers.specs.Handlers.{Handlers}
+use Rattle.pg_handlers.specs.Table.{message_row, awaiting_sync_row}
+use Rattle.pg_portal.specs.declared.error.PgWireError.{PgWireError}
+use Rattle.pg_handlers.specs.declared.desk.DeskCall.{DeskCall}
+use Rattle.pg_handlers.specs.declared.ends.EndKind.{EndKind}
+use Rattle.pg_handlers.specs.declared.ends.SessionError.TheVariants as session
+use Rattle.pg_handlers.specs.Effect.{Effect, Row, IsEffect, IsRefusedEffect, IsRow, IsRefusedRow, silent}
+use Rattle.pg_handlers.specs.State.{State}
+use Rattle.pg_session.specs.Messages.{outcome_of, told}
+use Rattle.pg_session.proofs.Rows.{silent_row, silent_refused, same_row, same_refused}
+
+pub told_ok : {S : Type 0} (row : Row S) (e : Effect S) (out new_out : List ℕ) (calls : List DeskCall) (s : State S) (answer : Result (Option EndKind) PgWireError)
+    → ((answers : List Bool) → row answers ≡ silent e)
+    → IfOk answer (λ end. IsEffect e out new_out (outcome_of end s))
+    → IfOk (told answer) (λ end. IsRow row out new_out calls calls (outcome_of end s))
+told_ok row e out new_out calls s (Ok end) same x = same_row same (silent_row e calls x)
+told_ok row e out new_out calls s (Err error) same x = tt
+
+pub told_refused : {S : Type 0} (row : Row S) (e : Effect S) (out new_out : List ℕ) (calls : List DeskCall) (s : State S) (answer : Result (Option EndKind) PgWireError)
+    → ((answers : List Bool) → row answers ≡ silent e)
+    → IfErr answer (IsRefusedEffect e out new_out s)
+    → IfErr (told answer) (IsRefusedRow row out new_out calls calls s)
+told_refused row e out new_out calls s (Ok end) same x = tt
+told_refused row e out new_out calls s (Err error) same x =
+    same_refused row (λ answers. silent e) out new_out calls calls s (session.Wire error) same (silent_refused e calls x)
+
+-- ---- the row of a phase
+
+pub sync_row : {S : Type 0} (h : Handlers S) (answers : List Bool) (s : State S) (m : PgWireFrontendMessage) → s.info.state ≡ phase.AwaitingSync
+    → message_row h answers s m ≡ silent (awaiting_sync_row s m)
+sync_row h answers s m is = rw is refl
+
+pub copy_phase_row : {S : Type 0} (h : Handlers S) (answers : List Bool) (s : State S) (m : PgWireFrontendMessage) (is_extended : Bool)
+    → s.info.state ≡ phase.CopyInProgress is_extended → message_row h answers s m ≡ silent (copy_row h.copying is_extended s m)
+copy_phase_row h answers s m is_extended is = rw is refl

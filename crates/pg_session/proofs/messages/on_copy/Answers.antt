@@ -1,0 +1,22 @@
+use Rattle.std.proofs.Common.{ap, ◌∙◌}
+use Rattle.pg_handlers.specs.State.{state_of}
+use Rattle.pg_handlers.proofs.GoodStores.{good_parts}
+use Rattle.pg_session.proofs.messages.on_copy.Goals as goal
+
+pub returns-in_err-end_copy-in-CopyDone-clause-good : goal.returns-in_err-end_copy-in-CopyDone-clause-good
+returns-in_err-end_copy-in-CopyDone-clause-good g c =
+    let s = state_of g.St.PortalStore.statements g.St.PortalStore.portals c.args.client.now in
+    let n = state_of g.St.PortalStore.statements g.St.PortalStore.portals c.end_copy.new.client in
+    let first = c.in_ok-on_copy_done-in-CopyDone.ensures in
+    let behind = c.in_err-end_copy-in-CopyDone.ensures in
+    good_parts (g.H.Extended.ExtendedQueryHandler.told (g.H.PgWireServerHandlers.extended c.args.handlers.now)).parser s n.info n.statements n.portals
+    (behind.metadata ∙ ap (λ i. i.metadata) first.info) (ap g.St.PortalStore.statements behind.store ∙ first.statements) (ap g.St.PortalStore.portals behind.store ∙ first.portals) c.requires.good
+
+pub returns-in_ok-end_copy-in-CopyDone-clause-good : goal.returns-in_ok-end_copy-in-CopyDone-clause-good
+returns-in_ok-end_copy-in-CopyDone-clause-good g c =
+    let s = state_of g.St.PortalStore.statements g.St.PortalStore.portals c.args.client.now in
+    let n = state_of g.St.PortalStore.statements g.St.PortalStore.portals c.end_copy.new.client in
+    let first = c.in_ok-on_copy_done-in-CopyDone.ensures in
+    let behind = c.in_ok-end_copy-in-CopyDone.ensures in
+    good_parts (g.H.Extended.ExtendedQueryHandler.told (g.H.PgWireServerHandlers.extended c.args.handlers.now)).parser s n.info n.statements n.portals
+    (behind.metadata ∙ ap (λ i. i.metadata) first.info) (ap g.St.PortalStore.statements behind.store ∙ first.statements) (ap g.St.PortalStore.portals behind.store ∙ first.portals) c.requires.good

@@ -1,0 +1,63 @@
+use Rattle.std.proofs.Common.{ap, refl, inl}
+use Rattle.pg_handlers.specs.Handlers.{handlers_of}
+use Rattle.pg_handlers.specs.State.{state_of}
+use Rattle.pg_handlers.specs.Table.{statement_row}
+use Rattle.pg_handlers.specs.declared.ends.SessionError.TheVariants as session
+use Rattle.pg_handlers.proofs.GoodStores.{good_parts}
+use Rattle.pg_handlers.proofs.Rows.{no_turn}
+use Rattle.pg_session.proofs.Rows.{silent_row, silent_refused, same_row, same_refused, plain_row, ended_row}
+use Rattle.pg_session.proofs.messages.on_ready.Goals as goal
+
+pub returns-in_err-on_query-in-Query-clause-good : goal.returns-in_err-on_query-in-Query-clause-good
+returns-in_err-on_query-in-Query-clause-good g c =
+    let s = state_of g.St.PortalStore.statements g.St.PortalStore.portals c.args.client.now in
+    let n = state_of g.St.PortalStore.statements g.St.PortalStore.portals c.on_query.new.client in
+    good_parts (g.H.Extended.ExtendedQueryHandler.told (g.H.PgWireServerHandlers.extended c.args.handlers.now)).parser s n.info n.statements n.portals
+    c.in_err-on_query-in-Query.ensures.metadata (ap g.St.PortalStore.statements c.in_err-on_query-in-Query.ensures.store) (ap g.St.PortalStore.portals c.in_err-on_query-in-Query.ensures.store) c.requires.good
+
+pub returns-in_ok-on_query-in-Query-clause-good : goal.returns-in_ok-on_query-in-Query-clause-good
+returns-in_ok-on_query-in-Query-clause-good g c =
+    let s = state_of g.St.PortalStore.statements g.St.PortalStore.portals c.args.client.now in
+    let n = state_of g.St.PortalStore.statements g.St.PortalStore.portals c.on_query.new.client in
+    good_parts (g.H.Extended.ExtendedQueryHandler.told (g.H.PgWireServerHandlers.extended c.args.handlers.now)).parser s n.info n.statements n.portals
+    c.in_ok-on_query-in-Query.ensures.metadata (ap g.St.PortalStore.statements c.in_ok-on_query-in-Query.ensures.store) (ap g.St.PortalStore.portals c.in_ok-on_query-in-Query.ensures.store) c.requires.good
+
+pub returns-in-Terminate-clause-ok : goal.returns-in-Terminate-clause-ok
+returns-in-Terminate-clause-ok g c =
+    let h = handlers_of (g.H.Extended.ExtendedQueryHandler.told (g.H.PgWireServerHandlers.extended c.args.handlers.now)) (g.H.Simple.SimpleQueryHandler.told (g.H.PgWireServerHandlers.simple c.args.handlers.now)) (g.H.Copying.CopyHandler.told (g.H.PgWireServerHandlers.copying c.args.handlers.now)) in
+    ended_row h (state_of g.St.PortalStore.statements g.St.PortalStore.portals c.args.client.now) c.args.message c.in-Terminate.field-0 c.args.client.now.outbox (g.D.CancelDesk.calls c.args.desk.now) c.in-Terminate.is
+
+pub returns-in-Ok : goal.returns-in-Ok
+returns-in-Ok g c =
+    let h = handlers_of (g.H.Extended.ExtendedQueryHandler.told (g.H.PgWireServerHandlers.extended c.args.handlers.now)) (g.H.Simple.SimpleQueryHandler.told (g.H.PgWireServerHandlers.simple c.args.handlers.now)) (g.H.Copying.CopyHandler.told (g.H.PgWireServerHandlers.copying c.args.handlers.now)) in
+    let s = (state_of g.St.PortalStore.statements g.St.PortalStore.portals c.args.client.now) in
+    record {
+      ok = same_row (λ answers. plain_row h answers s c.args.message c.in_default.not-Query c.in_default.not-Execute)
+          (silent_row (statement_row h.extended s c.args.message) (g.D.CancelDesk.calls c.args.desk.now) c.in-Ok.ensures.ok);
+      refused = tt;
+      answerable = tt;
+      ends = λ e. cc;
+      good = c.in-Ok.ensures.good;
+      turns = no_turn c.args.turns.now (g.D.CancelDesk.calls c.args.desk.now);
+      bounded = λ p. p;
+      same = refl;
+      origin = refl;
+    }
+
+pub returns-in-Err : goal.returns-in-Err
+returns-in-Err g c =
+    let h = handlers_of (g.H.Extended.ExtendedQueryHandler.told (g.H.PgWireServerHandlers.extended c.args.handlers.now)) (g.H.Simple.SimpleQueryHandler.told (g.H.PgWireServerHandlers.simple c.args.handlers.now)) (g.H.Copying.CopyHandler.told (g.H.PgWireServerHandlers.copying c.args.handlers.now)) in
+    let s = (state_of g.St.PortalStore.statements g.St.PortalStore.portals c.args.client.now) in
+    record {
+      ok = tt;
+      refused = same_refused _ _ c.args.client.now.outbox c.on_statement.new.client.outbox (g.D.CancelDesk.calls c.args.desk.now) (g.D.CancelDesk.calls c.args.desk.now) (state_of g.St.PortalStore.statements g.St.PortalStore.portals c.on_statement.new.client)
+          (session.Wire c.in-Err.error) (λ answers. plain_row h answers s c.args.message c.in_default.not-Query c.in_default.not-Execute)
+          (silent_refused (statement_row h.extended s c.args.message) (g.D.CancelDesk.calls c.args.desk.now) c.in-Err.ensures.refused);
+      answerable = c.in-Err.ensures.answerable;
+      ends = tt;
+      good = c.in-Err.ensures.good;
+      turns = inl (no_turn c.args.turns.now (g.D.CancelDesk.calls c.args.desk.now));
+      bounded = λ p. p;
+      same = refl;
+      origin = refl;
+    }

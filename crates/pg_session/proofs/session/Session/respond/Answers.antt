@@ -1,0 +1,88 @@
+use Rattle.std.proofs.Common.{rules, inl, refl, ap, ◌∙◌}
+use Rattle.std.specs.declared.alloc.AllocError.{AllocError}
+use Rattle.pg_session.specs.declared.ends.ServeError.{ServeError}
+use Rattle.pg_handlers.specs.Handlers.{handlers_of}
+use Rattle.pg_handlers.specs.Questions.{questions_since}
+use Rattle.pg_handlers.specs.Table.{scope_in}
+use Rattle.pg_session.specs.Messages.{scope_for, next_of}
+use Rattle.pg_session.proofs.Spending.{fed_where_told, fed_no_memory}
+use Rattle.pg_handlers.specs.Effect.{Stopped}
+use Rattle.pg_session.proofs.Answering.{cut_behind_row, cut_refused, row_where_told, answered_by_error, none_or_fatal, goes_on_alike}
+use Rattle.pg_session.proofs.session.Session.respond.Goals as goal
+
+pub returns-in-Err-TurnLimit-clause-err : goal.returns-in-Err-TurnLimit-clause-err
+returns-in-Err-TurnLimit-clause-err g c =
+    let session = c.args.self.now in
+    let h = handlers_of (g.H.Extended.ExtendedQueryHandler.told (g.H.PgWireServerHandlers.extended session.handlers))
+    (g.H.Simple.SimpleQueryHandler.told (g.H.PgWireServerHandlers.simple session.handlers)) (g.H.Copying.CopyHandler.told
+    (g.H.PgWireServerHandlers.copying session.handlers)) in
+    let refused = rw c.in-Err-TurnLimit.field-0-is at c.in-Err-TurnLimit.ensures.refused in
+    cut_behind_row h session.state c.args.message (g.D.CancelDesk.calls c.args.desk.now) (g.D.CancelDesk.calls c.answer.new.desk)
+    session.unsent c.answer.new.self.unsent Stopped refused
+
+pub returns-in-NoMemory-clause-err : goal.returns-in-NoMemory-clause-err
+returns-in-NoMemory-clause-err g c =
+    let session = c.args.self.now in
+    let h = handlers_of (g.H.Extended.ExtendedQueryHandler.told (g.H.PgWireServerHandlers.extended session.handlers))
+    (g.H.Simple.SimpleQueryHandler.told (g.H.PgWireServerHandlers.simple session.handlers)) (g.H.Copying.CopyHandler.told
+    (g.H.PgWireServerHandlers.copying session.handlers)) in
+    let refused = rw c.in-Err-Wire.field-0-is at c.in-Err-Wire.ensures.refused in
+    cut_refused h session.state c.args.message (g.D.CancelDesk.calls c.args.desk.now) (g.D.CancelDesk.calls c.answer.new.desk)
+    session.unsent c.answer.new.self.unsent c.answer.new.self.state c.in-Err-Wire.error refused
+
+pub returns-in-Ok-tell : goal.returns-in-Ok-tell
+returns-in-Ok-tell g c =
+    let session = c.args.self.now in
+    let h = handlers_of (g.H.Extended.ExtendedQueryHandler.told (g.H.PgWireServerHandlers.extended session.handlers))
+    (g.H.Simple.SimpleQueryHandler.told (g.H.PgWireServerHandlers.simple session.handlers)) (g.H.Copying.CopyHandler.told
+    (g.H.PgWireServerHandlers.copying session.handlers)) in
+    let calls = g.D.CancelDesk.calls c.args.desk.now in let new_calls = g.D.CancelDesk.calls c.answer.new.desk in
+    let mid = c.answer.new.self in
+    let refused = rw c.in-Err-Wire.field-0-is at c.in-Err-Wire.ensures.refused in
+    let turns = rw c.in-Err-Wire.field-0-is at c.in-Err-Wire.ensures.turns in
+    let row = row_where_told h session.state c.args.message calls new_calls session.unsent mid.unsent mid.state c.in-Err-Wire.error
+    c.in_default.not-NoMemory refused in
+    record {
+      answer = answered_by_error h session.state c.args.message calls new_calls session.unsent mid.unsent c.tell.new.self.unsent mid.state
+          c.in-Err-Wire.error
+          (scope_for c.waits_for_sync-wait_for_sync.result) (next_of c.in-Ok-tell.end c.tell.new.self.state) row
+          (c.waits_for_sync-wait_for_sync.ensures ∙ ap (λ v. scope_in v.state.info.state c.args.message) c.self.view_is)
+          c.in-Ok-tell.ensures.replied c.in-Ok-tell.ensures.next;
+      err = tt;
+      stopped = search rules;
+      only = tt;
+      ends = none_or_fatal c.in-Ok-tell.end c.in-Ok-tell.ensures.ends;
+      «open» = c.in-Ok-tell.ensures.«open» ∙ goes_on_alike AllocError ServeError c.in-Ok-tell.end;
+      handlers = c.in-Ok-tell.ensures.handlers ∙ c.answer.ensures.handlers;
+      rest = c.in-Ok-tell.ensures.rest ∙ c.answer.ensures.rest;
+      turns = fed_where_told c.args.turns.now c.answer.new.turns
+          (questions_since calls new_calls) c.in-Err-Wire.error c.in_default.not-NoMemory turns;
+      bounded = c.answer.ensures.bounded;
+      same = c.answer.ensures.same;
+      origin = c.answer.ensures.origin;
+    }
+
+pub returns-in-Err : goal.returns-in-Err
+returns-in-Err g c =
+    let session = c.args.self.now in
+    let h = handlers_of (g.H.Extended.ExtendedQueryHandler.told (g.H.PgWireServerHandlers.extended session.handlers))
+    (g.H.Simple.SimpleQueryHandler.told (g.H.PgWireServerHandlers.simple session.handlers)) (g.H.Copying.CopyHandler.told
+    (g.H.PgWireServerHandlers.copying session.handlers)) in
+    let calls = g.D.CancelDesk.calls c.args.desk.now in let new_calls = g.D.CancelDesk.calls c.answer.new.desk in
+    let refused = rw c.in-Err-Wire.field-0-is at c.in-Err-Wire.ensures.refused in
+    let turns = rw c.in-Err-Wire.field-0-is at c.in-Err-Wire.ensures.turns in
+    record {
+      answer = tt;
+      err = cut_refused h session.state c.args.message calls new_calls session.unsent c.answer.new.self.unsent c.answer.new.self.state
+          c.in-Err-Wire.error refused;
+      stopped = search rules;
+      only = inl refl;
+      ends = tt;
+      «open» = c.in-Err.ensures.«open»;
+      handlers = c.in-Err.ensures.handlers ∙ c.answer.ensures.handlers;
+      rest = c.in-Err.ensures.rest ∙ c.answer.ensures.rest;
+      turns = fed_no_memory c.args.turns.now c.answer.new.turns (questions_since calls new_calls) c.in-Err-Wire.error turns;
+      bounded = c.answer.ensures.bounded;
+      same = c.answer.ensures.same;
+      origin = c.answer.ensures.origin;
+    }

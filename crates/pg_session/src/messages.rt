@@ -1,0 +1,292 @@
+//! What each message of a client is answered, by the phase of the conversation.
+
+ghost use Rattle.std.specs.Prelude.{◌≡◌, ◌≢◌, ◌≤◌, Some, IfOk, IfErr, OnOk};
+ghost use Rattle.pg_portal.specs.Rows.{IsAnswerable};
+ghost use Rattle.pg_portal.specs.declared.error.PgWireError.{PgWireError};
+ghost use Rattle.pg_portal.specs.declared.client.PgWireConnectionState.TheVariants as phase;
+ghost use Rattle.pg_handlers.specs.CopyRows.{copy_row, copied};
+ghost use Rattle.pg_handlers.specs.Effect.{IsRow, IsRefusedRow, IsEffect, IsRefusedEffect, Done};
+ghost use Rattle.pg_handlers.specs.Good.{IsGiven, IsGoodState};
+ghost use Rattle.pg_handlers.specs.Handlers.{handlers_of};
+ghost use Rattle.pg_handlers.specs.Questions.{HasSpent, questions_since};
+ghost use Rattle.pg_handlers.specs.Sending.{IsAnswerableError};
+ghost use Rattle.pg_handlers.specs.State.{state_of};
+ghost use Rattle.pg_handlers.specs.Table.{message_row, ready_row, statement_row, IsPlain, awaiting_sync_row};
+ghost use Rattle.pg_handlers.specs.declared.ends.EndKind.TheVariants.{InputEnd};
+ghost use Rattle.pg_session.specs.Messages.{IsGivenIn, outcome_of, told};
+
+use crate::startup::{let_go, on_startup_phase};
+use pg_handlers::{
+    CancelDesk, Client, CopyHandler, EndKind, ExtendedQueryHandler, PgWireServerHandlers,
+    SessionError, SimpleQueryHandler, Turns, send_ready_for_query,
+};
+use pg_messages::PgWireFrontendMessage;
+use pg_portal::{PgWireConnectionState, PgWireError, PortalStore};
+use std::alloc::Global;
+
+/// Answers a message.
+pub fn on_message<
+    H: PgWireServerHandlers,
+    St: PortalStore<
+        Statement = <H::Extended as ExtendedQueryHandler>::Statement,
+        Rows = <H::Extended as ExtendedQueryHandler>::Rows,
+    >,
+    D: CancelDesk,
+>(
+    alloc: Global,
+    handlers: &H,
+    client: &mut Client<St>,
+    desk: &mut D,
+    turns: &mut Turns,
+    message: PgWireFrontendMessage,
+) -> Result<Option<EndKind>, SessionError>
+    requires given { IsGivenIn (state_of St.statements St.portals client.old) message }
+    requires good { IsGoodState (H.Extended.told (H.extended handlers.now)).parser (state_of St.statements St.portals client.old) }
+    ensures ok { IfOk result (λ end. IsRow
+        (λ answers. message_row
+        (handlers_of (H.Extended.told (H.extended handlers.now)) (H.Simple.told (H.simple handlers.now)) (H.Copying.told (H.copying handlers.now)))
+        answers (state_of St.statements St.portals client.old) message)
+        client.old.outbox client.new.outbox (D.calls desk.old) (D.calls desk.new)
+        (outcome_of end (state_of St.statements St.portals client.new))) }
+    ensures refused { IfErr result (IsRefusedRow
+        (λ answers. message_row
+        (handlers_of (H.Extended.told (H.extended handlers.now)) (H.Simple.told (H.simple handlers.now)) (H.Copying.told (H.copying handlers.now)))
+        answers (state_of St.statements St.portals client.old) message)
+        client.old.outbox client.new.outbox (D.calls desk.old) (D.calls desk.new)
+        (state_of St.statements St.portals client.new)) }
+    ensures answerable { IfErr result IsAnswerableError }
+    ensures ends { IfOk result (λ end. end ≢ Some InputEnd) }
+    ensures good { IsGoodState (H.Extended.told (H.extended handlers.now)).parser (state_of St.statements St.portals client.new) }
+    ensures turns { HasSpent turns.old turns.new
+        (questions_since (D.calls desk.old) (D.calls desk.new)) result }
+    ensures bounded { turns.old.spent ≤ turns.old.limit → turns.new.spent ≤ turns.new.limit }
+    ensures same { D.registration desk.new ≡ D.registration desk.old }
+    ensures origin { D.origin desk.new ≡ D.origin desk.old }
+{
+    match client.info.state {
+        PgWireConnectionState::AwaitingStartup => on_startup_phase(alloc, client, desk, message),
+        PgWireConnectionState::ReadyForQuery => {
+            on_ready(alloc, handlers, client, desk, turns, message)
+        }
+        PgWireConnectionState::AwaitingSync => { told(on_awaiting_sync(handlers, client, message)) }
+        PgWireConnectionState::CopyInProgress(is_extended) => {
+            told(on_copy(alloc, handlers, client, is_extended, message))
+        }
+    }
+}
+
+/// The same answer, with an error of a message as one of a session.
+fn told(answer: Result<Option<EndKind>, PgWireError>) -> Result<Option<EndKind>, SessionError>
+    ensures { result ≡ told answer }
+{
+    match answer {
+        Ok(end) => Ok(end),
+        Err(error) => Err(SessionError::Wire(error)),
+    }
+}
+
+/// A message of a session that is ready.
+fn on_ready<
+    H: PgWireServerHandlers,
+    St: PortalStore<
+        Statement = <H::Extended as ExtendedQueryHandler>::Statement,
+        Rows = <H::Extended as ExtendedQueryHandler>::Rows,
+    >,
+    D: CancelDesk,
+>(
+    alloc: Global,
+    handlers: &H,
+    client: &mut Client<St>,
+    desk: &mut D,
+    turns: &mut Turns,
+    message: PgWireFrontendMessage,
+) -> Result<Option<EndKind>, SessionError>
+    requires given { IsGiven message }
+    requires ready { client.old.info.state ≡ phase.ReadyForQuery }
+    requires good { IsGoodState (H.Extended.told (H.extended handlers.now)).parser (state_of St.statements St.portals client.old) }
+    ensures ok { IfOk result (λ end. IsRow
+        (λ answers. ready_row
+        (handlers_of (H.Extended.told (H.extended handlers.now)) (H.Simple.told (H.simple handlers.now)) (H.Copying.told (H.copying handlers.now)))
+        answers (state_of St.statements St.portals client.old) message)
+        client.old.outbox client.new.outbox (D.calls desk.old) (D.calls desk.new)
+        (outcome_of end (state_of St.statements St.portals client.new))) }
+    ensures refused { IfErr result (IsRefusedRow
+        (λ answers. ready_row
+        (handlers_of (H.Extended.told (H.extended handlers.now)) (H.Simple.told (H.simple handlers.now)) (H.Copying.told (H.copying handlers.now)))
+        answers (state_of St.statements St.portals client.old) message)
+        client.old.outbox client.new.outbox (D.calls desk.old) (D.calls desk.new)
+        (state_of St.statements St.portals client.new)) }
+    ensures answerable { IfErr result IsAnswerableError }
+    ensures ends { IfOk result (λ end. end ≢ Some InputEnd) }
+    ensures good { IsGoodState (H.Extended.told (H.extended handlers.now)).parser (state_of St.statements St.portals client.new) }
+    ensures turns { HasSpent turns.old turns.new
+        (questions_since (D.calls desk.old) (D.calls desk.new)) result }
+    ensures bounded { turns.old.spent ≤ turns.old.limit → turns.new.spent ≤ turns.new.limit }
+    ensures same { D.registration desk.new ≡ D.registration desk.old }
+    ensures origin { D.origin desk.new ≡ D.origin desk.old }
+{
+    match message {
+        PgWireFrontendMessage::Query(m) => {
+            handlers
+                .simple_query_handler()
+                .on_query(alloc, client, desk, turns, m)?;
+            Ok(None)
+        }
+        PgWireFrontendMessage::Execute(m) => {
+            handlers
+                .extended_query_handler()
+                .on_execute(alloc, client, desk, turns, m)?;
+            Ok(None)
+        }
+        PgWireFrontendMessage::Terminate(_) => Ok(Some(EndKind::Terminate)),
+        other => match on_statement(alloc, handlers, client, other) {
+            Ok(()) => Ok(None),
+            Err(error) => Err(SessionError::Wire(error)),
+        },
+    }
+}
+
+/// A message of a session that is ready, which calls nothing and doesn't end the conversation.
+fn on_statement<
+    H: PgWireServerHandlers,
+    St: PortalStore<
+        Statement = <H::Extended as ExtendedQueryHandler>::Statement,
+        Rows = <H::Extended as ExtendedQueryHandler>::Rows,
+    >,
+>(
+    alloc: Global,
+    handlers: &H,
+    client: &mut Client<St>,
+    message: PgWireFrontendMessage,
+) -> Result<(), PgWireError>
+    requires given { IsGiven message }
+    requires plain { IsPlain message }
+    requires good { IsGoodState (H.Extended.told (H.extended handlers.now)).parser (state_of St.statements St.portals client.old) }
+    ensures ok { OnOk result (IsEffect
+        (statement_row (H.Extended.told (H.extended handlers.now)) (state_of St.statements St.portals client.old) message)
+        client.old.outbox client.new.outbox (Done (state_of St.statements St.portals client.new))) }
+    ensures refused { IfErr result (IsRefusedEffect
+        (statement_row (H.Extended.told (H.extended handlers.now)) (state_of St.statements St.portals client.old) message)
+        client.old.outbox client.new.outbox (state_of St.statements St.portals client.new)) }
+    ensures answerable { IfErr result IsAnswerable }
+    ensures good { IsGoodState (H.Extended.told (H.extended handlers.now)).parser (state_of St.statements St.portals client.new) }
+{
+    match message {
+        PgWireFrontendMessage::Parse(m) => handlers
+            .extended_query_handler()
+            .on_parse(alloc, client, m),
+        PgWireFrontendMessage::Bind(m) => handlers
+            .extended_query_handler()
+            .on_bind(alloc, client, m),
+        PgWireFrontendMessage::Describe(m) => handlers
+            .extended_query_handler()
+            .on_describe(alloc, client, m),
+        PgWireFrontendMessage::Close(m) => handlers.extended_query_handler().on_close(client, m),
+        PgWireFrontendMessage::Flush(m) => handlers.extended_query_handler().on_flush(client, m),
+        PgWireFrontendMessage::PgSync(m) => handlers.extended_query_handler().on_sync(client, m),
+        other => {
+            let_go(other);
+            Ok(())
+        }
+    }
+}
+
+/// A message after an error: all but Sync and Terminate is dropped.
+fn on_awaiting_sync<
+    H: PgWireServerHandlers,
+    St: PortalStore<
+        Statement = <H::Extended as ExtendedQueryHandler>::Statement,
+        Rows = <H::Extended as ExtendedQueryHandler>::Rows,
+    >,
+>(
+    handlers: &H,
+    client: &mut Client<St>,
+    message: PgWireFrontendMessage,
+) -> Result<Option<EndKind>, PgWireError>
+    requires given { IsGiven message }
+    requires good { IsGoodState (H.Extended.told (H.extended handlers.now)).parser (state_of St.statements St.portals client.old) }
+    ensures ok { IfOk result (λ end. IsEffect
+        (awaiting_sync_row (state_of St.statements St.portals client.old) message)
+        client.old.outbox client.new.outbox (outcome_of end (state_of St.statements St.portals client.new))) }
+    ensures refused { IfErr result (IsRefusedEffect
+        (awaiting_sync_row (state_of St.statements St.portals client.old) message)
+        client.old.outbox client.new.outbox (state_of St.statements St.portals client.new)) }
+    ensures answerable { IfErr result IsAnswerable }
+    ensures ends { IfOk result (λ end. end ≢ Some InputEnd) }
+    ensures good { IsGoodState (H.Extended.told (H.extended handlers.now)).parser (state_of St.statements St.portals client.new) }
+{
+    match message {
+        PgWireFrontendMessage::Terminate(_) => Ok(Some(EndKind::Terminate)),
+        PgWireFrontendMessage::PgSync(m) => {
+            handlers.extended_query_handler().on_sync(client, m)?;
+            Ok(None)
+        }
+        other => {
+            let_go(other);
+            Ok(None)
+        }
+    }
+}
+
+/// A message of a COPY from the client: all but those of the COPY and Terminate are dropped.
+fn on_copy<
+    H: PgWireServerHandlers,
+    St: PortalStore<
+        Statement = <H::Extended as ExtendedQueryHandler>::Statement,
+        Rows = <H::Extended as ExtendedQueryHandler>::Rows,
+    >,
+>(
+    alloc: Global,
+    handlers: &H,
+    client: &mut Client<St>,
+    is_extended: bool,
+    message: PgWireFrontendMessage,
+) -> Result<Option<EndKind>, PgWireError>
+    requires given { IsGiven message }
+    requires good { IsGoodState (H.Extended.told (H.extended handlers.now)).parser (state_of St.statements St.portals client.old) }
+    ensures ok { IfOk result (λ end. IsEffect
+        (copy_row (H.Copying.told (H.copying handlers.now)) is_extended (state_of St.statements St.portals client.old) message)
+        client.old.outbox client.new.outbox (outcome_of end (state_of St.statements St.portals client.new))) }
+    ensures refused { IfErr result (IsRefusedEffect
+        (copy_row (H.Copying.told (H.copying handlers.now)) is_extended (state_of St.statements St.portals client.old) message)
+        client.old.outbox client.new.outbox (state_of St.statements St.portals client.new)) }
+    ensures answerable { IfErr result IsAnswerable }
+    ensures ends { IfOk result (λ end. end ≢ Some InputEnd) }
+    ensures good { IsGoodState (H.Extended.told (H.extended handlers.now)).parser (state_of St.statements St.portals client.new) }
+{
+    match message {
+        PgWireFrontendMessage::Terminate(_) => Ok(Some(EndKind::Terminate)),
+        PgWireFrontendMessage::CopyData(m) => {
+            handlers.copy_handler().on_copy_data(alloc, client, m)?;
+            Ok(None)
+        }
+        PgWireFrontendMessage::CopyDone(m) => {
+            handlers.copy_handler().on_copy_done(alloc, client, m)?;
+            end_copy(client, is_extended)?;
+            Ok(None)
+        }
+        PgWireFrontendMessage::CopyFail(m) => {
+            Err(handlers.copy_handler().on_copy_fail(alloc, client, m))
+        }
+        other => {
+            let_go(other);
+            Ok(None)
+        }
+    }
+}
+
+/// The COPY is done: in a Query ReadyForQuery with the status that was kept, in an extended query nothing is said.
+fn end_copy<St: PortalStore>(client: &mut Client<St>, is_extended: bool) -> Result<(), PgWireError>
+    ensures ok { OnOk result (IsEffect
+        (copied is_extended (state_of St.statements St.portals client.old))
+        client.old.outbox client.new.outbox (Done (state_of St.statements St.portals client.new))) }
+    ensures refused { IfErr result (λ e. e ≡ PgWireError.NoMemory) }
+    ensures store { client.new.store ≡ client.old.store }
+    ensures metadata { client.new.info.metadata ≡ client.old.info.metadata }
+{
+    if !is_extended {
+        send_ready_for_query(&mut client.outbox, client.info.status)?;
+    }
+    client.info.state = PgWireConnectionState::ReadyForQuery;
+    Ok(())
+}

@@ -1,0 +1,292 @@
+//! What the session makes of the client's bytes.
+
+ghost use Rattle.std.specs.Prelude.{◌≡◌, ◌≤◌, ◌<◌, ◌++◌, [], true, ℕ, List, Option, Some, None, length, IfOk, IfNone, OnOk, OnErr, Ok, IsErrOf};
+ghost use Rattle.std.specs.Option.{option_map};
+ghost use Rattle.pg_handlers.specs.Answer.{Next, Goes};
+ghost use Rattle.pg_handlers.specs.Handlers.{handlers_of};
+ghost use Rattle.pg_handlers.specs.Questions.{questions_since};
+ghost use Rattle.pg_handlers.specs.State.{State};
+ghost use Rattle.pg_handlers.specs.Table.{awaits, is_startup_phase};
+ghost use Rattle.pg_handlers.specs.declared.desk.DeskCall.{DeskCall};
+ghost use Rattle.pg_session.specs.Session.{whole_rules, HasFed, is_going, is_more};
+ghost use Rattle.pg_session.specs.Steps.{IsServed, IsCutOff, IsStopped, Flows, Stands, StandsAfterStep};
+ghost use Rattle.pg_session.specs.Streams.{GrowsBy, GrowsByFront, HasSinkCause, HasFlushed};
+ghost use Rattle.pg_session.specs.declared.ends.Progress.TheVariants.{More};
+ghost use Rattle.pg_session.specs.declared.ends.ServeError.TheVariants as serve;
+
+use crate::ends::{Progress, ServeError};
+use crate::session::Session;
+use crate::streams::Sink;
+use pg_handlers::{
+    CHUNK, CancelDesk, EndKind, ExtendedQueryHandler, Outbox, PgWireServerHandlers, Turns,
+};
+use pg_messages::FrameError;
+use pg_portal::{PgWireConnectionState, PortalStore};
+use std::alloc::Global;
+
+/// Sends what waits in the outbox.
+fn flush<K: Sink>(outbox: &mut Outbox, sink: &mut K) -> Result<(), ServeError>
+    ensures empty { OnOk result (outbox.new ≡ []) }
+    ensures ok { OnOk result (GrowsBy (K.written sink.old) (K.written sink.new) outbox.old) }
+    ensures err { OnErr result (GrowsByFront (K.written sink.old) (K.written sink.new) outbox.old) }
+    ensures cause { HasFlushed (K.faults sink.old) (K.faults sink.new) result }
+{
+    if outbox.len() == 0 {
+        return Ok(());
+    }
+    sink.send(outbox.as_slice())?;
+    outbox.clear();
+    Ok(())
+}
+
+/// Sends what waits in the outbox where it is a chunk or more.
+fn flush_if_full<K: Sink>(outbox: &mut Outbox, sink: &mut K) -> Result<(), ServeError>
+    ensures ok { OnOk result (Flows (K.written sink.old) (K.written sink.new) outbox.old outbox.new []) }
+    ensures err { OnErr result (GrowsByFront (K.written sink.old) (K.written sink.new) outbox.old) }
+    ensures cause { HasFlushed (K.faults sink.old) (K.faults sink.new) result }
+{
+    if outbox.len() < CHUNK {
+        return Ok(());
+    }
+    flush(outbox, sink)
+}
+
+/// Whether the startup packet is still awaited.
+fn awaits_startup(state: PgWireConnectionState) -> bool
+    ensures { result ≡ is_startup_phase state }
+{
+    matches!(state, PgWireConnectionState::AwaitingStartup)
+}
+
+/// The progress that an end tells, if there is one.
+fn ended_by(end: Option<EndKind>) -> Option<Progress>
+    ensures { result ≡ option_map (λ kind. Progress.Ended kind) end }
+{
+    end.map(Progress::Ended)
+}
+
+/// Whether the session goes on.
+fn is_more(outcome: &Result<Progress, ServeError>) -> bool
+    ensures { result ≡ is_more outcome.now }
+{
+    matches!(outcome, Ok(Progress::More))
+}
+
+impl<
+    H: PgWireServerHandlers,
+    St: PortalStore<
+        Statement = <H::Extended as ExtendedQueryHandler>::Statement,
+        Rows = <H::Extended as ExtendedQueryHandler>::Rows,
+    >,
+> Session<H, St> {
+    /// Takes the next message off the bytes and answers it. None says that the conversation goes on with the next one.
+    fn step<D: CancelDesk, K: Sink>(
+        &mut self,
+        alloc: Global,
+        desk: &mut D,
+        sink: &mut K,
+        turns: &mut Turns,
+    ) -> Result<Option<Progress>, ServeError>
+        requires { self.old.is_open ≡ true }
+        ensures served { IfOk result (λ step. (next : Next (State H.Extended.Statement)) × IsServed
+            (whole_rules
+            (handlers_of (H.Extended.told (H.extended self.old.handlers)) (H.Simple.told (H.simple self.old.handlers)) (H.Copying.told (H.copying self.old.handlers))))
+            self.old.state self.old.rest self.new.rest next (K.written sink.old) (K.written sink.new)
+            self.old.unsent self.new.unsent (D.calls desk.old) (D.calls desk.new)
+            × StandsAfterStep awaits next self.new.state self.new.rest step) }
+        ensures cut_off { OnErr result (IsCutOff
+            (whole_rules
+            (handlers_of (H.Extended.told (H.extended self.old.handlers)) (H.Simple.told (H.simple self.old.handlers)) (H.Copying.told (H.copying self.old.handlers))))
+            self.old.state self.old.rest (K.written sink.old) (K.written sink.new) self.old.unsent
+            (D.calls desk.old) (D.calls desk.new)) }
+        ensures stopped { IsErrOf result serve.TurnLimit → IsStopped
+            (whole_rules
+            (handlers_of (H.Extended.told (H.extended self.old.handlers)) (H.Simple.told (H.simple self.old.handlers)) (H.Copying.told (H.copying self.old.handlers))))
+            self.old.state self.old.rest (K.written sink.old) (K.written sink.new) self.old.unsent
+            (D.calls desk.old) (D.calls desk.new) }
+        ensures open { IfOk result (λ step. is_going step ≡ true → self.new.is_open ≡ true) }
+        ensures handlers { self.new.handlers ≡ self.old.handlers }
+        ensures shorter { IfOk result (λ step. IfNone step (length self.new.rest < length self.old.rest)) }
+        ensures cause { HasSinkCause (K.faults sink.old) (K.faults sink.new) result }
+        ensures turns { HasFed turns.old turns.new
+            (questions_since (D.calls desk.old) (D.calls desk.new)) result }
+        ensures bounded { turns.old.spent ≤ turns.old.limit → turns.new.spent ≤ turns.new.limit }
+        ensures same { D.registration desk.new ≡ D.registration desk.old }
+        ensures origin { D.origin desk.new ≡ D.origin desk.old }
+    {
+        self.codec.context.awaiting_startup = awaits_startup(self.client.info.state);
+        let message = match self.codec.decode(alloc, &mut self.rest) {
+            Ok(Some(message)) => message,
+            Ok(None) => return Ok(Some(Progress::More)),
+            Err(FrameError::Bad) => return Ok(Some(Progress::Ended(EndKind::BadFrame))),
+            Err(FrameError::NoMemory) => return Err(ServeError::NoMemory),
+        };
+        let end = self.respond(alloc, desk, turns, message)?;
+        flush_if_full(&mut self.client.outbox, sink)?;
+        Ok(ended_by(end))
+    }
+
+    /// Answers the whole frames of the bytes, and sends all that is answered.
+    fn run<D: CancelDesk, K: Sink>(
+        &mut self,
+        alloc: Global,
+        desk: &mut D,
+        sink: &mut K,
+        turns: &mut Turns,
+    ) -> Result<Progress, ServeError>
+        requires { self.old.is_open ≡ true }
+        ensures served { IfOk result (λ told. (next : Next (State H.Extended.Statement)) × IsServed
+            (whole_rules
+            (handlers_of (H.Extended.told (H.extended self.old.handlers)) (H.Simple.told (H.simple self.old.handlers)) (H.Copying.told (H.copying self.old.handlers))))
+            self.old.state self.old.rest self.new.rest next (K.written sink.old) (K.written sink.new)
+            self.old.unsent [] (D.calls desk.old) (D.calls desk.new)
+            × Stands awaits next self.new.state self.new.rest told) }
+        ensures cut_off { OnErr result (IsCutOff
+            (whole_rules
+            (handlers_of (H.Extended.told (H.extended self.old.handlers)) (H.Simple.told (H.simple self.old.handlers)) (H.Copying.told (H.copying self.old.handlers))))
+            self.old.state self.old.rest (K.written sink.old) (K.written sink.new) self.old.unsent
+            (D.calls desk.old) (D.calls desk.new)) }
+        ensures stopped { IsErrOf result serve.TurnLimit → IsStopped
+            (whole_rules
+            (handlers_of (H.Extended.told (H.extended self.old.handlers)) (H.Simple.told (H.simple self.old.handlers)) (H.Copying.told (H.copying self.old.handlers))))
+            self.old.state self.old.rest (K.written sink.old) (K.written sink.new) self.old.unsent
+            (D.calls desk.old) (D.calls desk.new) }
+        ensures sent { OnOk result (self.new.unsent ≡ []) }
+        ensures open { result ≡ Ok More → self.new.is_open ≡ true }
+        ensures handlers { self.new.handlers ≡ self.old.handlers }
+        ensures cause { HasSinkCause (K.faults sink.old) (K.faults sink.new) result }
+        ensures turns { HasFed turns.old turns.new
+            (questions_since (D.calls desk.old) (D.calls desk.new)) result }
+        ensures bounded { turns.old.spent ≤ turns.old.limit → turns.new.spent ≤ turns.new.limit }
+        ensures same { D.registration desk.new ≡ D.registration desk.old }
+        ensures origin { D.origin desk.new ≡ D.origin desk.old }
+    {
+        'messages: loop {
+            match self.step(alloc, desk, sink, turns)? {
+                None => {}
+                Some(told) => {
+                    flush(&mut self.client.outbox, sink)?;
+                    return Ok(told);
+                }
+            }
+        }
+    }
+
+    /// Takes a piece of bytes, answers the whole frames, and sends all that is answered.
+    fn take<D: CancelDesk, K: Sink>(
+        &mut self,
+        alloc: Global,
+        desk: &mut D,
+        piece: &[u8],
+        sink: &mut K,
+        turns: &mut Turns,
+    ) -> Result<Progress, ServeError>
+        requires { self.old.is_open ≡ true }
+        ensures served { IfOk result (λ told. (next : Next (State H.Extended.Statement)) × IsServed
+            (whole_rules
+            (handlers_of (H.Extended.told (H.extended self.old.handlers)) (H.Simple.told (H.simple self.old.handlers)) (H.Copying.told (H.copying self.old.handlers))))
+            self.old.state (self.old.rest ++ piece.now) self.new.rest next (K.written sink.old) (K.written sink.new)
+            self.old.unsent [] (D.calls desk.old) (D.calls desk.new)
+            × Stands awaits next self.new.state self.new.rest told) }
+        ensures cut_off { OnErr result (IsCutOff
+            (whole_rules
+            (handlers_of (H.Extended.told (H.extended self.old.handlers)) (H.Simple.told (H.simple self.old.handlers)) (H.Copying.told (H.copying self.old.handlers))))
+            self.old.state (self.old.rest ++ piece.now) (K.written sink.old) (K.written sink.new) self.old.unsent
+            (D.calls desk.old) (D.calls desk.new)) }
+        ensures stopped { IsErrOf result serve.TurnLimit → IsStopped
+            (whole_rules
+            (handlers_of (H.Extended.told (H.extended self.old.handlers)) (H.Simple.told (H.simple self.old.handlers)) (H.Copying.told (H.copying self.old.handlers))))
+            self.old.state (self.old.rest ++ piece.now) (K.written sink.old) (K.written sink.new) self.old.unsent
+            (D.calls desk.old) (D.calls desk.new) }
+        ensures sent { OnOk result (self.new.unsent ≡ []) }
+        ensures open { result ≡ Ok More → self.new.is_open ≡ true }
+        ensures handlers { self.new.handlers ≡ self.old.handlers }
+        ensures cause { HasSinkCause (K.faults sink.old) (K.faults sink.new) result }
+        ensures turns { HasFed turns.old turns.new
+            (questions_since (D.calls desk.old) (D.calls desk.new)) result }
+        ensures bounded { turns.old.spent ≤ turns.old.limit → turns.new.spent ≤ turns.new.limit }
+        ensures same { D.registration desk.new ≡ D.registration desk.old }
+        ensures origin { D.origin desk.new ≡ D.origin desk.old }
+    {
+        self.rest.extend_from_slice(piece)?;
+        self.run(alloc, desk, sink, turns)
+    }
+
+    /// Takes a piece of the client's bytes, sends what waits, and writes the whole answer to the messages that the piece
+    /// completes. Ok(More) says that no whole frame is left, and Ok(Ended(kind)) that the conversation has ended, after
+    /// which the session is closed. So it is after an error: WriteFault where the sink failed, TurnLimit where a query
+    /// wanted a turn and none was left, NoMemory where memory ran out. ReadFault never comes.
+    pub fn feed<D: CancelDesk, K: Sink>(
+        &mut self,
+        alloc: Global,
+        desk: &mut D,
+        piece: &[u8],
+        sink: &mut K,
+        turns: &mut Turns,
+    ) -> Result<Progress, ServeError>
+        requires { self.old.is_open ≡ true }
+
+        // The frames of the rest and the piece are answered by the conversation table.
+        ensures served { IfOk result (λ told. (next : Next (State H.Extended.Statement)) × IsServed
+            (whole_rules
+            (handlers_of (H.Extended.told (H.extended self.old.handlers)) (H.Simple.told (H.simple self.old.handlers)) (H.Copying.told (H.copying self.old.handlers))))
+            self.old.state (self.old.rest ++ piece.now) self.new.rest next (K.written sink.old) (K.written sink.new)
+            self.old.unsent [] (D.calls desk.old) (D.calls desk.new)
+            × Stands awaits next self.new.state self.new.rest told) }
+        ensures cut_off { OnErr result (IsCutOff
+            (whole_rules
+            (handlers_of (H.Extended.told (H.extended self.old.handlers)) (H.Simple.told (H.simple self.old.handlers)) (H.Copying.told (H.copying self.old.handlers))))
+            self.old.state (self.old.rest ++ piece.now) (K.written sink.old) (K.written sink.new) self.old.unsent
+            (D.calls desk.old) (D.calls desk.new)) }
+        ensures stopped { IsErrOf result serve.TurnLimit → IsStopped
+            (whole_rules
+            (handlers_of (H.Extended.told (H.extended self.old.handlers)) (H.Simple.told (H.simple self.old.handlers)) (H.Copying.told (H.copying self.old.handlers))))
+            self.old.state (self.old.rest ++ piece.now) (K.written sink.old) (K.written sink.new) self.old.unsent
+            (D.calls desk.old) (D.calls desk.new) }
+
+        // So are those of all that came before, and of this piece.
+        ensures continues { (s : State H.Extended.Statement) (text : List ℕ) (written : Option (List ℕ)) (out : List ℕ) (calls : List DeskCall)
+            → IsServed
+            (whole_rules
+            (handlers_of (H.Extended.told (H.extended self.old.handlers)) (H.Simple.told (H.simple self.old.handlers)) (H.Copying.told (H.copying self.old.handlers))))
+            s text self.old.rest (Goes self.old.state) written (K.written sink.old) out self.old.unsent calls (D.calls desk.old)
+            → IfOk result (λ told. (next : Next (State H.Extended.Statement)) × IsServed
+            (whole_rules
+            (handlers_of (H.Extended.told (H.extended self.old.handlers)) (H.Simple.told (H.simple self.old.handlers)) (H.Copying.told (H.copying self.old.handlers))))
+            s (text ++ piece.now) self.new.rest next written (K.written sink.new) out [] calls (D.calls desk.new)
+            × Stands awaits next self.new.state self.new.rest told) }
+        ensures continues_cut { (s : State H.Extended.Statement) (text : List ℕ) (written : Option (List ℕ)) (out : List ℕ) (calls : List DeskCall)
+            → IsServed
+            (whole_rules
+            (handlers_of (H.Extended.told (H.extended self.old.handlers)) (H.Simple.told (H.simple self.old.handlers)) (H.Copying.told (H.copying self.old.handlers))))
+            s text self.old.rest (Goes self.old.state) written (K.written sink.old) out self.old.unsent calls (D.calls desk.old)
+            → OnErr result (IsCutOff
+            (whole_rules
+            (handlers_of (H.Extended.told (H.extended self.old.handlers)) (H.Simple.told (H.simple self.old.handlers)) (H.Copying.told (H.copying self.old.handlers))))
+            s (text ++ piece.now) written (K.written sink.new) out calls (D.calls desk.new)) }
+        ensures continues_stopped { (s : State H.Extended.Statement) (text : List ℕ) (written : Option (List ℕ)) (out : List ℕ) (calls : List DeskCall)
+            → IsServed
+            (whole_rules
+            (handlers_of (H.Extended.told (H.extended self.old.handlers)) (H.Simple.told (H.simple self.old.handlers)) (H.Copying.told (H.copying self.old.handlers))))
+            s text self.old.rest (Goes self.old.state) written (K.written sink.old) out self.old.unsent calls (D.calls desk.old)
+            → IsErrOf result serve.TurnLimit → IsStopped
+            (whole_rules
+            (handlers_of (H.Extended.told (H.extended self.old.handlers)) (H.Simple.told (H.simple self.old.handlers)) (H.Copying.told (H.copying self.old.handlers))))
+            s (text ++ piece.now) written (K.written sink.new) out calls (D.calls desk.new) }
+        ensures sent { OnOk result (self.new.unsent ≡ []) }
+        ensures open { self.new.is_open ≡ is_more result }
+        ensures handlers { self.new.handlers ≡ self.old.handlers }
+
+        // The cause of each error.
+        ensures cause { HasSinkCause (K.faults sink.old) (K.faults sink.new) result }
+        ensures turns { HasFed turns.old turns.new
+            (questions_since (D.calls desk.old) (D.calls desk.new)) result }
+        ensures bounded { turns.old.spent ≤ turns.old.limit → turns.new.spent ≤ turns.new.limit }
+        ensures same { D.registration desk.new ≡ D.registration desk.old }
+        ensures origin { D.origin desk.new ≡ D.origin desk.old }
+    {
+        let outcome = self.take(alloc, desk, piece, sink, turns);
+        self.opened = self.opened && is_more(&outcome);
+        outcome
+    }
+}
