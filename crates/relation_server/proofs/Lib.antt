@@ -1,2 +1,3 @@
 mod CoreServing
+mod Questions
 mod Quiet
