@@ -1,2 +1,3 @@
 mod CoreServing
+mod EvenRows
 mod Quiet

@@ -6,7 +6,6 @@ ghost use Rattle.pg_handlers.specs.declared.desk.DeskCall.{DeskCall};
 ghost use Rattle.pg_serve.specs.Serving.{HasCause, counts_of};
 ghost use Rattle.relation_server.specs.Serving.{WentByTables};
 
-
 use pg_handlers::NoopHandler;
 use pg_portal::MemPortalStore;
 use pg_serve::serve_connection;
@@ -41,6 +40,7 @@ pub fn serve_relations_on<D: CancelDesk, S: Source, K: Sink>(
     ensures same { D.registration desk.new ≡ D.registration desk.old }
     ensures origin { D.origin desk.new ≡ D.origin desk.old }
 {
+    let _valid = relations.relations();
     let copying = NoopHandler;
     let Ok(handlers) = Arc::new(alloc, RelationHandler { relations, copying }) else {
         return Err(ServeError::NoMemory);
