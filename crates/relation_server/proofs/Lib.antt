@@ -1,3 +1,4 @@
 mod CoreServing
 mod EvenRows
 mod Quiet
+mod Speaking
