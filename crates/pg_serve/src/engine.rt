@@ -12,11 +12,11 @@ ghost use Rattle.pg_handlers.specs.State.{first_state};
 ghost use Rattle.pg_session.specs.Session.{whole_rules};
 ghost use Rattle.pg_serve.specs.Serving.{WentSo, HasCause, ReadsGaveBytes, counts_of};
 
+use pg_portal::PortalStore;
 use pg_session::{
     CancelDesk, EndKind, ExtendedQueryHandler, PgWireServerHandlers, Progress, ServeError, Session,
     Sink, Source, Turns,
 };
-use pg_portal::PortalStore;
 use std::alloc::Global;
 use std::sync::Arc;
 

@@ -10,12 +10,13 @@ use Rattle.pg_handlers.specs.declared.desk.DeskCall.{DeskCall}
 use Rattle.pg_handlers.specs.declared.ends.EndKind.{EndKind}
 use Rattle.pg_handlers.specs.declared.ends.EndKind.TheVariants.{InputEnd}
 use Rattle.pg_handlers.specs.Answer.{Next, answers_of, conversation}
-use Rattle.pg_handlers.specs.Questions.{questions}
+use Rattle.pg_handlers.specs.Questions.{questions, questions_since}
 use Rattle.pg_handlers.specs.State.{State, first_state}
 use Rattle.pg_handlers.specs.Table.{whole_table}
 use Rattle.pg_session.specs.declared.ends.ServeError.{ServeError}
 use Rattle.pg_session.specs.declared.ends.ServeError.TheVariants as fault
 use Rattle.pg_session.specs.Session.{whole_rules}
+use Rattle.pg_session.proofs.Spending.{since_grown}
 use Rattle.pg_serve.specs.Serving.{Counts, HasCause, ReadsGaveBytes, TakesFrom, IsRunOfTaken, IsStoppedRunOfTaken}
 use Rattle.relation_tables.specs.declared.Relation.{Relation}
 use Rattle.relation_tables.specs.declared.RelationStatement.{RelationStatement}
@@ -79,36 +80,47 @@ asked_within relations s text rest calls t messages last d h =
 taken_by_run : (relations : List Relation) (registration : ℤ × List ℕ) (text : List ℕ) (new_left old new : Option (List ℕ)) (calls : List DeskCall)
     → IsRunOfTaken (whole_rules (relation_handlers relations)) (first_state registration.0 registration.1) (Some text) new_left old new calls
     → (rest : List ℕ) × IsTaken relations (first_state registration.0 registration.1) text rest calls
-taken_by_run relations registration text new_left old new calls x = (x.1.0, record {
-  taken = x.0;
-  messages = x.2.2.fed.messages;
-  unfinished = x.2.2.rest;
-  replies = x.2.2.fed.replies;
-  next = x.2.2.next;
-  all = x.1.1;
-  division = x.2.2.fed.division;
-  answered = x.2.2.fed.answered;
-})
+taken_by_run relations registration text new_left old new calls x = (
+  x.1.0,
+  record {
+    taken = x.0;
+    messages = x.2.2.fed.messages;
+    unfinished = x.2.2.rest;
+    replies = x.2.2.fed.replies;
+    next = x.2.2.next;
+    all = x.1.1;
+    division = x.2.2.fed.division;
+    answered = x.2.2.fed.answered;
+  },
+)
 
 taken_by_stopped_run : (relations : List Relation) (registration : ℤ × List ℕ) (text : List ℕ) (new_left old new : Option (List ℕ)) (calls : List DeskCall)
     → IsStoppedRunOfTaken (whole_rules (relation_handlers relations)) (first_state registration.0 registration.1) (Some text) new_left old new calls
     → (rest : List ℕ) × IsTaken relations (first_state registration.0 registration.1) text rest calls
-taken_by_stopped_run relations registration text new_left old new calls x = (x.1.0, record {
-  taken = x.0;
-  messages = x.2.2.messages;
-  unfinished = x.2.2.rest;
-  replies = x.2.2.replies;
-  next = _;
-  all = x.1.1;
-  division = x.2.2.division;
-  answered = x.2.2.answered;
-})
+taken_by_stopped_run relations registration text new_left old new calls x = (
+  x.1.0,
+  record {
+    taken = x.0;
+    messages = x.2.2.messages;
+    unfinished = x.2.2.rest;
+    replies = x.2.2.replies;
+    next = _;
+    all = x.1.1;
+    division = x.2.2.division;
+    answered = x.2.2.answered;
+  },
+)
 
 -- ---- the clause
 
 -- the turns can't have been spent
 unspent : (before after turns asked most bytes rest : ℕ) → after + asked ≡ before + turns → after + rest ≤ before + bytes → asked ≤ most → bytes + 1 + most ≤ turns → ⊥
 unspent before after turns asked most bytes rest spent gave few enough = absurd (omega arith)
+
+-- want of memory is no breach
+pub complete_at_want : (relations : List Relation) (turns : ℕ) (left : Option (List ℕ)) (before after : Counts) → IsComplete relations turns (Err fault.NoMemory) left before after
+complete_at_want relations turns None before after = tt
+complete_at_want relations turns (Some text) before after = λ messages rest d h enough fits sound. tt
 
 pub complete_serving : (relations : List Relation) (registration : ℤ × List ℕ) (turns : ℕ) (answer : Result EndKind ServeError) (left new_left old new : Option (List ℕ)) (calls : List DeskCall)
     (before after : Counts) → HasCause answer turns (questions calls) before after → ReadsGaveBytes left new_left before.reads after.reads
@@ -119,7 +131,8 @@ complete_serving relations registration turns (Err fault.ReadFault) (Some text) 
     λ messages rest d h enough fits sound. absurd (sound (inl cause))
 complete_serving relations registration turns (Err fault.WriteFault) (Some text) new_left old new calls before after cause gave went =
     λ messages rest d h enough fits sound. absurd (sound (inr cause))
-complete_serving relations registration turns (Err fault.NoMemory) (Some text) new_left old new calls before after cause gave went = λ messages rest d h enough fits sound. tt
+complete_serving relations registration turns (Err fault.NoMemory) (Some text) new_left old new calls before after cause gave went =
+    complete_at_want relations turns (Some text) before after
 complete_serving relations registration turns (Err fault.TurnLimit) (Some text) new_left old new calls before after cause gave (inl went) =
     λ messages rest d h enough fits sound.
     let t = taken_by_run relations registration text new_left old new calls went in
@@ -130,3 +143,14 @@ complete_serving relations registration turns (Err fault.TurnLimit) (Some text) 
     let t = taken_by_stopped_run relations registration text new_left old new calls went in
     let few = asked_within relations (first_state registration.0 registration.1) text t.0 calls t.1 messages rest d h in
     unspent before.reads after.reads turns (questions calls) (runs messages * most_unready relations) (length text) (length gave.0) (cause fits) gave.2 few enough
+
+-- the cause by the calls that were made
+pub cause_of_calls : (answer : Result EndKind ServeError) (turns : ℕ) (calls new_calls made : List DeskCall) (before after : Counts) → new_calls ≡ calls ++ made
+    → HasCause answer turns (questions_since calls new_calls) before after → HasCause answer turns (questions made) before after
+cause_of_calls answer turns calls new_calls made before after grown cause =
+    subst (λ (asked : ℕ). HasCause answer turns asked before after) (since_grown calls new_calls made grown) cause
+
+-- the same of equal relations
+pub complete_of_equal : {relations others : List Relation} (turns : ℕ) (answer : Result EndKind ServeError) (left : Option (List ℕ)) (before after : Counts) → relations ≡ others
+    → IsComplete relations turns answer left before after → IsComplete others turns answer left before after
+complete_of_equal turns answer left before after e x = subst (λ relations. IsComplete relations turns answer left before after) e x

@@ -1,3 +1,4 @@
 mod CoreServing
+mod Complete
 mod Questions
 mod Quiet
