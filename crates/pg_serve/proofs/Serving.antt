@@ -24,7 +24,7 @@ use Rattle.pg_serve.specs.Serving.{Counts, HasCause, end_turn}
 use Rattle.pg_session.specs.Run.{Rules, IsRun, IsCutRun, IsFed, EndsWith}
 use Rattle.pg_session.specs.Streams.{GrowsBy, GrowsByFront, GivesFront}
 use Rattle.pg_session.specs.Steps as steps
-use Rattle.pg_serve.specs.Serving.{TakesFrom, IsServedRun, IsRunOfTaken, IsCutRunOfTaken, IsStoppedRun, IsStoppedRunOfTaken, WentSo}
+use Rattle.pg_serve.specs.Serving.{TakesFrom, ReadsGaveBytes, IsServedRun, IsRunOfTaken, IsCutRunOfTaken, IsStoppedRun, IsStoppedRunOfTaken, WentSo}
 
 -- what was served is a run over a text that begins with it
 is_run : {T : Type 0} (rules : Rules T) (first : T) {taken rest : List ℕ} {next : Next T} {w v : Option (List ℕ)} {k l : List DeskCall} (x : steps.IsServed rules first taken rest next w v [] [] k l)
@@ -214,6 +214,32 @@ pub counted_more : (n r new_r first asked spent limit : ℕ) → new_r ≡ (if n
     → new_r + asked ≡ first + (spent + 1)
 counted_more n r new_r first asked spent limit e p q h f =
     ⊎_elim (λ t. absurd (p t.1)) (λ t. let m : new_r ≡ min (r + 1) 18446744073709551615 = e ∙ ap (λ b. cond b r (min (r + 1) 18446744073709551615)) t.0 in omega arith) (eqb_tells n 0)
+
+-- no read was counted yet
+pub gave_none : (left : Option (List ℕ)) (reads : ℕ) → ReadsGaveBytes left left reads reads
+gave_none None reads = tt
+gave_none (Some text) reads = (text, refl, omega arith)
+
+-- a read that gives bytes counts once, and one that gives none doesn't
+counted_within : (n r new_r : ℕ) → new_r ≡ (if n == 0 then r else min (r + 1) 18446744073709551615) → new_r ≤ r + n
+counted_within n r new_r e =
+    ⊎_elim (λ t. let m : new_r ≡ r = e ∙ ap (λ b. cond b r (min (r + 1) 18446744073709551615)) (is_true t.0) in omega arith)
+    (λ t. let m : new_r ≡ min (r + 1) 18446744073709551615 = e ∙ ap (λ b. cond b r (min (r + 1) 18446744073709551615)) t.0 in let p = t.1 in omega arith) (eqb_tells n 0)
+
+-- one more read gave bytes, or the end
+pub gave_more : (left mid new_left : Option (List ℕ)) (first r new_r n : ℕ) (into : List ℕ) → ReadsGaveBytes left mid first r → IfSome mid (λ bytes. GivesFront n into bytes new_left)
+    → new_r ≡ (if n == 0 then r else min (r + 1) 18446744073709551615) → ReadsGaveBytes left new_left first new_r
+gave_more None mid new_left first r new_r n into t g e = tt
+gave_more (Some text) mid new_left first r new_r n into t g e =
+    let given : GivesFront n into t.0 new_left = subst (λ o. IfSome o (λ bytes. GivesFront n into bytes new_left)) t.1 g in
+    let counted = counted_within n r new_r e in
+    let within = given.within in
+    let before = t.2 in
+    let shorter = length-drop n t.0 in (drop n t.0, given.rest, omega (arith, counted, within, before, shorter))
+
+-- one more read failed
+pub gave_unread : (left mid new_left : Option (List ℕ)) (first r new_r : ℕ) → ReadsGaveBytes left mid first r → new_left ≡ mid → new_r ≡ r → ReadsGaveBytes left new_left first new_r
+gave_unread left mid new_left first r new_r t p q = rw (p, q) t
 
 -- questions of an append
 questions_append : (a b : List DeskCall) → questions (a ++ b) ≡ questions a + questions b

@@ -1,5 +1,5 @@
 -- What the server owes its client: what is written and called by how a conversation ended, and why it ended so.
-use Rattle.std.specs.Prelude.{ℕ, List, ◌++◌, ◌+◌, ◌≤◌, ◌<◌, ◌^◌, ◌≡◌, ◌⊎◌, Option, Some, Result, Ok, Err, IfSome}
+use Rattle.std.specs.Prelude.{ℕ, List, ◌++◌, ◌+◌, ◌≤◌, ◌<◌, ◌^◌, ◌≡◌, ◌⊎◌, Option, Some, Result, Ok, Err, IfSome, length}
 use Rattle.pg_messages.specs.declared.frontend.PgWireFrontendMessage.{PgWireFrontendMessage}
 use Rattle.pg_messages.specs.declared.backend.PgWireBackendMessage.{PgWireBackendMessage}
 use Rattle.pg_messages.specs.Frames.{DividesInto}
@@ -71,6 +71,12 @@ counts_of reads read_faults write_faults source sink = record {
   read_faults = read_faults source;
   write_faults = write_faults sink;
 }
+
+-- Each read that was counted gave a byte at least: where the source tells its bytes, it tells those that are left, and these with the reads
+-- that were counted since are no more than the bytes that there were.
+abbrev pub ReadsGaveBytes : Option (List ℕ) → Option (List ℕ) → ℕ → ℕ → Type 0
+ReadsGaveBytes left new_left reads new_reads = IfSome left (λ text. (rest : List ℕ) × (new_left ≡ Some rest)
+    × (new_reads + length rest ≤ reads + length text))
 
 -- the turn that reads the end of the input
 abbrev pub end_turn : EndKind → ℕ

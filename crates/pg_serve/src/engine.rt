@@ -10,13 +10,13 @@ ghost use Rattle.pg_handlers.specs.Handlers.{handlers_of};
 ghost use Rattle.pg_handlers.specs.Questions.{questions_since};
 ghost use Rattle.pg_handlers.specs.State.{first_state};
 ghost use Rattle.pg_session.specs.Session.{whole_rules};
-ghost use Rattle.pg_serve.specs.Serving.{WentSo, HasCause, counts_of};
+ghost use Rattle.pg_serve.specs.Serving.{WentSo, HasCause, ReadsGaveBytes, counts_of};
 
+use pg_portal::PortalStore;
 use pg_session::{
     CancelDesk, EndKind, ExtendedQueryHandler, PgWireServerHandlers, Progress, ServeError, Session,
     Sink, Source, Turns,
 };
-use pg_portal::PortalStore;
 use std::alloc::Global;
 use std::sync::Arc;
 
@@ -57,6 +57,7 @@ pub fn serve_connection<
     ensures cause { HasCause result turn_limit (questions_since (D.calls desk.old) (D.calls desk.new))
         (counts_of S.reads S.faults K.faults source.old sink.old)
         (counts_of S.reads S.faults K.faults source.new sink.new) }
+    ensures reads { ReadsGaveBytes (S.left source.old) (S.left source.new) (S.reads source.old) (S.reads source.new) }
     ensures same { D.registration desk.new ≡ D.registration desk.old }
     ensures origin { D.origin desk.new ≡ D.origin desk.old }
 {
@@ -109,6 +110,7 @@ fn serve_session<
     ensures cause { HasCause result turns.old.limit (questions_since (D.calls desk.old) (D.calls desk.new))
         (counts_of S.reads S.faults K.faults source.old sink.old)
         (counts_of S.reads S.faults K.faults source.new sink.new) }
+    ensures reads { ReadsGaveBytes (S.left source.old) (S.left source.new) (S.reads source.old) (S.reads source.new) }
     ensures same { D.registration desk.new ≡ D.registration desk.old }
     ensures origin { D.origin desk.new ≡ D.origin desk.old }
 {

@@ -3,8 +3,8 @@ ghost use Rattle.std.specs.Result.{is_err};
 ghost use Rattle.pg_session.specs.Streams.{GivesFront, GrowsBy, GrowsByFront, HasRisen, reads_after};
 ghost use Rattle.pg_serve.specs.Memory.{received, is_told_to_fail, most_of, IsNextCall, told_to_fail, TakesAsTold, raised, counted, is_fault};
 
-use pg_session::{Sink, SinkError, Source, SourceFailed};
 use pg_messages::{PgBytes, PgList};
+use pg_session::{Sink, SinkError, Source, SourceFailed};
 use std::alloc::Global;
 use std::marker::Model;
 

@@ -1,4 +1,6 @@
+mod Complete
 mod CoreServing
 mod EvenRows
+mod Questions
 mod Quiet
 mod Speaking

@@ -1,4 +1,5 @@
 pub mod BuiltIn
+pub mod Completeness
 pub mod Program
 pub mod Serving
 pub mod Words

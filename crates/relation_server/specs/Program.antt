@@ -11,6 +11,7 @@ use Rattle.pg_session.specs.declared.ends.ServeError.TheVariants.{ReadFault, Wri
 use Rattle.pg_session.specs.Streams.{GrowsBy, GrowsByFront, HasRisen}
 use Rattle.pg_serve.specs.Serving.{Counts, HasCause}
 use Rattle.relation_tables.specs.declared.Relation.{Relation}
+use Rattle.relation_server.specs.Completeness.{IsComplete}
 use Rattle.relation_server.specs.Serving.{WentByTables}
 
 -- how many turns a client of the program has
@@ -60,11 +61,12 @@ IsReported status text ended old new faults new_faults =
 abbrev pub AreNo : List Bool → Type 0
 AreNo answers = AllByRecursion (λ yes. yes ≡ false) answers
 
--- A conversation under this registration, whose queries nobody cancels, went so: what was written and called, and why it came to an end or
--- was given up.
+-- A conversation under this registration, whose queries nobody cancels, went so: what was written and called, why it came to an end or was
+-- given up, and that turns enough bring it to an end.
 pub record IsOutcome (registration : ℤ × List ℕ) (relations : List Relation) (turns : ℕ) (answer : Result EndKind ServeError)
     (left new_left old new : Option (List ℕ)) (before after : Counts) : Type 0 where
   pub calls : List DeskCall
   pub quiet : AreNo (answers_of calls)
   pub went : WentByTables relations registration answer left new_left old new calls
   pub cause : HasCause answer turns (questions calls) before after
+  pub complete : IsComplete relations turns answer left before after

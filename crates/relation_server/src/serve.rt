@@ -4,6 +4,7 @@ ghost use Rattle.std.specs.Prelude.{◌≡◌, ◌++◌, List};
 ghost use Rattle.pg_handlers.specs.Questions.{questions_since};
 ghost use Rattle.pg_handlers.specs.declared.desk.DeskCall.{DeskCall};
 ghost use Rattle.pg_serve.specs.Serving.{HasCause, counts_of};
+ghost use Rattle.relation_server.specs.Completeness.{IsComplete};
 ghost use Rattle.relation_server.specs.Serving.{WentByTables};
 
 use pg_handlers::NoopHandler;
@@ -35,6 +36,11 @@ pub fn serve_relations_on<D: CancelDesk, S: Source, K: Sink>(
         × WentByTables relations.now (D.registration desk.old) result (S.left source.old) (S.left source.new)
         (K.written sink.old) (K.written sink.new) calls }
     ensures cause { HasCause result turn_limit (questions_since (D.calls desk.old) (D.calls desk.new))
+        (counts_of S.reads S.faults K.faults source.old sink.old)
+        (counts_of S.reads S.faults K.faults source.new sink.new) }
+
+    // With turns enough, and where no read and no write fails, any bytes are served to their end.
+    ensures complete { IsComplete relations.now turn_limit result (S.left source.old)
         (counts_of S.reads S.faults K.faults source.old sink.old)
         (counts_of S.reads S.faults K.faults source.new sink.new) }
     ensures same { D.registration desk.new ≡ D.registration desk.old }

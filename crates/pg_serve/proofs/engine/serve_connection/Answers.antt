@@ -4,7 +4,7 @@ use Rattle.std.specs.Arc.{arc_value}
 use Rattle.pg_handlers.specs.Handlers.{handlers_of}
 use Rattle.pg_handlers.specs.State.{first_state}
 use Rattle.pg_session.specs.Session.{whole_rules}
-use Rattle.pg_serve.proofs.Serving.{none_went}
+use Rattle.pg_serve.proofs.Serving.{none_went, gave_none}
 use Rattle.pg_serve.proofs.engine.serve_connection.Goals as goal
 
 pub returns-in_err-session-clause-went : goal.returns-in_err-session-clause-went
@@ -16,3 +16,6 @@ returns-in_err-session-clause-went g c =
           (first_state (g.D.CancelDesk.registration c.args.desk.now).0 (g.D.CancelDesk.registration c.args.desk.now).1)
           (g.S.Source.left c.args.source.now) (g.K.Sink.written c.args.sink.now) p.0 p.2),
     )
+
+pub returns-in_err-session-clause-reads : goal.returns-in_err-session-clause-reads
+returns-in_err-session-clause-reads g c = gave_none (g.S.Source.left c.args.source.now) (g.S.Source.reads c.args.source.now)

@@ -7,7 +7,7 @@ use Rattle.pg_session.specs.Session.{whole_rules, HasFed, is_more}
 use Rattle.pg_session.specs.Steps.{Stands}
 use Rattle.pg_session.specs.declared.ends.Progress.{Progress}
 use Rattle.pg_serve.specs.Serving.{TakesFrom, IsStoppedRunOfTaken, counts_of}
-use Rattle.pg_serve.proofs.Serving.{run_of_taken, served_run, ended_run, takes_more, takes_none, served_none, short_none, none_asked, cut_run_of_taken, stopped_run_of_taken, went_by_error, caused_by, serves_in, cut_in, stopped_in, waits_in, goes_to, counted_more, questions_over, risen_since, all_spent, no_end_turn}
+use Rattle.pg_serve.proofs.Serving.{run_of_taken, served_run, ended_run, takes_more, takes_none, served_none, short_none, none_asked, cut_run_of_taken, stopped_run_of_taken, went_by_error, caused_by, serves_in, cut_in, stopped_in, waits_in, goes_to, counted_more, questions_over, gave_none, gave_more, gave_unread, risen_since, all_spent, no_end_turn}
 use Rattle.pg_serve.proofs.engine.serve_session.Goals as goal
 
 pub returns-then-not-spend-clause-went : goal.returns-then-not-spend-clause-went
@@ -59,6 +59,7 @@ turns-preserved g c =
       counted = λ fits.
           let more = counted_more c.in-Ok.n (g.S.Source.reads c.turns.source) (g.S.Source.reads c.receive.new.self) (g.S.Source.reads c.args.source.now) (questions_since (g.D.CancelDesk.calls c.args.desk.now) (g.D.CancelDesk.calls c.turns.desk)) c.turns.turns.spent c.args.turns.now.limit c.in-Ok.ensures.counts c.if-n-eq0.false (i.counted fits) below_limit fits in
           omega (arith, more, over, spent_is);
+      gave = gave_more (g.S.Source.left c.args.source.now) (g.S.Source.left c.turns.source) (g.S.Source.left c.receive.new.self) (g.S.Source.reads c.args.source.now) (g.S.Source.reads c.turns.source) (g.S.Source.reads c.receive.new.self) c.in-Ok.n c.receive.new.into i.gave c.in-Ok.ensures.bytes c.in-Ok.ensures.counts;
       spent = c.in-Ok-More.ensures.bounded (let s = c.if-not-spend.ensures.spent in let l = c.if-not-spend.ensures.limit in omega (arith, s, l, below));
       read_faults = omega arith;
       write_faults = omega arith;
@@ -133,6 +134,29 @@ returns-in-Ok-Ended-clause-cause g c = λ fits.
     let within = c.in-Ok-Ended.ensures.bounded (omega (arith, once, kept_limit, below)) in
     omega (arith, more, over, none, spent_is, limit_is, within, once, kept_limit, same_limit)
 
+pub returns-then-n-eq0-clause-reads : goal.returns-then-n-eq0-clause-reads
+returns-then-n-eq0-clause-reads g c =
+    gave_more (g.S.Source.left c.args.source.now) (g.S.Source.left c.turns.source) (g.S.Source.left c.receive.new.self) (g.S.Source.reads c.args.source.now) (g.S.Source.reads c.turns.source) (g.S.Source.reads c.receive.new.self) c.in-Ok.n c.receive.new.into
+    c.turns.invariant.gave c.in-Ok.ensures.bytes c.in-Ok.ensures.counts
+
+pub returns-in-Ok-Ended-clause-reads : goal.returns-in-Ok-Ended-clause-reads
+returns-in-Ok-Ended-clause-reads g c =
+    gave_more (g.S.Source.left c.args.source.now) (g.S.Source.left c.turns.source) (g.S.Source.left c.receive.new.self) (g.S.Source.reads c.args.source.now) (g.S.Source.reads c.turns.source) (g.S.Source.reads c.receive.new.self) c.in-Ok.n c.receive.new.into
+    c.turns.invariant.gave c.in-Ok.ensures.bytes c.in-Ok.ensures.counts
+
+pub returns-in-Err-clause-reads : goal.returns-in-Err-clause-reads
+returns-in-Err-clause-reads g c =
+    gave_more (g.S.Source.left c.args.source.now) (g.S.Source.left c.turns.source) (g.S.Source.left c.receive.new.self) (g.S.Source.reads c.args.source.now) (g.S.Source.reads c.turns.source) (g.S.Source.reads c.receive.new.self) c.in-Ok.n c.receive.new.into
+    c.turns.invariant.gave c.in-Ok.ensures.bytes c.in-Ok.ensures.counts
+
+pub returns-in_default-clause-reads : goal.returns-in_default-clause-reads
+returns-in_default-clause-reads g c =
+    gave_unread (g.S.Source.left c.args.source.now) (g.S.Source.left c.turns.source) (g.S.Source.left c.receive.new.self) (g.S.Source.reads c.args.source.now) (g.S.Source.reads c.turns.source) (g.S.Source.reads c.receive.new.self)
+    c.turns.invariant.gave c.in_default.ensures.untouched c.in_default.ensures.counts
+
+pub returns-then-not-spend-clause-reads : goal.returns-then-not-spend-clause-reads
+returns-then-not-spend-clause-reads g c = c.turns.invariant.gave
+
 pub turns-init : goal.turns-init
 turns-init g c = record {
   taken = [];
@@ -144,6 +168,7 @@ turns-init g c = record {
   handlers = refl;
   limit = refl;
   counted = λ fits. let none = none_asked (g.D.CancelDesk.calls c.args.desk.now) in let fresh = c.requires.fresh in omega (arith, none, fresh);
+  gave = gave_none (g.S.Source.left c.args.source.now) (g.S.Source.reads c.args.source.now);
   spent = let fresh = c.requires.fresh in omega (arith, fresh);
   read_faults = omega arith;
   write_faults = omega arith;

@@ -6,7 +6,7 @@ use Rattle.pg_handlers.specs.Questions.{questions_since}
 use Rattle.pg_handlers.specs.Table.{awaits}
 use Rattle.pg_session.specs.Session.{whole_rules}
 use Rattle.pg_session.specs.Steps.{IsServed}
-use Rattle.pg_serve.specs.Serving.{TakesFrom}
+use Rattle.pg_serve.specs.Serving.{TakesFrom, ReadsGaveBytes}
 use Rattle.pg_serve.proofs.engine.serve_session.Given as goal
 
 -- what was taken and served so far, and the turns and counts so far
@@ -22,6 +22,7 @@ invariant-turns g l = record {
   handlers : l.session.handlers ≡ l.fn.session.handlers;
   limit : l.turns.limit ≡ l.fn.turns.limit;
   counted : g.S.Source.reads l.fn.source + l.fn.turns.limit < 2 ^ 64 → g.S.Source.reads l.source + questions_since (g.D.CancelDesk.calls l.fn.desk) (g.D.CancelDesk.calls l.desk) ≡ g.S.Source.reads l.fn.source + l.turns.spent;
+  gave : ReadsGaveBytes (g.S.Source.left l.fn.source) (g.S.Source.left l.source) (g.S.Source.reads l.fn.source) (g.S.Source.reads l.source);
   spent : l.turns.spent ≤ l.turns.limit;
   read_faults : g.S.Source.faults l.fn.source ≤ g.S.Source.faults l.source;
   write_faults : g.K.Sink.faults l.fn.sink ≤ g.K.Sink.faults l.sink;

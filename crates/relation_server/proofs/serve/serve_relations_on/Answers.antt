@@ -4,10 +4,11 @@ use Rattle.pg_handlers.specs.declared.desk.DeskCall.{DeskCall}
 use Rattle.pg_session.specs.Session.{whole_rules}
 use Rattle.pg_session.specs.declared.ends.ServeError.TheVariants as fault
 use Rattle.relation_tables.specs.RelationHandler.{relation_handlers}
-use Rattle.pg_serve.specs.Serving.{WentSo}
+use Rattle.pg_serve.specs.Serving.{WentSo, counts_of}
 use Rattle.pg_serve.proofs.Serving.{none_went}
 use Rattle.relation_server.proofs.CoreServing.{went_by_tables}
 use Rattle.relation_server.proofs.EvenRows.{even}
+use Rattle.relation_server.proofs.Complete.{complete_serving, complete_at_want, cause_of_calls}
 use Rattle.relation_server.proofs.serve.serve_relations_on.Goals as goal
 
 pub returns-in_default-clause-went : goal.returns-in_default-clause-went
@@ -36,3 +37,26 @@ returns-clause-went g c =
           (g.K.Sink.written c.args.sink.now) (g.K.Sink.written c.serve_connection.new.sink) went.0)
           (ap (λ h. h.relations.now) c.in-Ok.ensures.ok) went.2),
     )
+
+pub returns-in_default-clause-complete : goal.returns-in_default-clause-complete
+returns-in_default-clause-complete g c =
+    complete_at_want c.args.relations.now c.args.turn_limit (g.S.Source.left c.args.source.now)
+    (counts_of g.S.Source.reads g.S.Source.faults g.K.Sink.faults c.args.source.now c.args.sink.now)
+    (counts_of g.S.Source.reads g.S.Source.faults g.K.Sink.faults c.args.source.now c.args.sink.now)
+
+pub returns-clause-complete : goal.returns-clause-complete
+returns-clause-complete g c =
+    let went = c.serve_connection.ensures.went in
+    let before = counts_of g.S.Source.reads g.S.Source.faults g.K.Sink.faults c.args.source.now c.args.sink.now in
+    let after = counts_of g.S.Source.reads g.S.Source.faults g.K.Sink.faults c.serve_connection.new.source c.serve_connection.new.sink in
+    complete_serving c.args.relations.now (g.D.CancelDesk.registration c.args.desk.now) c.args.turn_limit c.serve_connection.result
+    (g.S.Source.left c.args.source.now) (g.S.Source.left c.serve_connection.new.source) (g.K.Sink.written c.args.sink.now)
+    (g.K.Sink.written c.serve_connection.new.sink) went.0 before after
+    (cause_of_calls c.serve_connection.result c.args.turn_limit (g.D.CancelDesk.calls c.args.desk.now) (g.D.CancelDesk.calls c.serve_connection.new.desk) went.0
+    before after went.1 c.serve_connection.ensures.cause)
+    c.serve_connection.ensures.reads
+    (subst (λ relations. WentSo (whole_rules (relation_handlers relations))
+    (first_state (g.D.CancelDesk.registration c.args.desk.now).0 (g.D.CancelDesk.registration c.args.desk.now).1)
+    c.serve_connection.result (g.S.Source.left c.args.source.now) (g.S.Source.left c.serve_connection.new.source)
+    (g.K.Sink.written c.args.sink.now) (g.K.Sink.written c.serve_connection.new.sink) went.0)
+    (ap (λ h. h.relations.now) c.in-Ok.ensures.ok) went.2)
