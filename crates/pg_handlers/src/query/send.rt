@@ -11,7 +11,7 @@ ghost use Rattle.pg_portal.specs.Responses.{told_copy};
 ghost use Rattle.pg_portal.specs.Copying.{IsNextCopy, IsSendableCopy};
 ghost use Rattle.pg_portal.specs.Rows.{IsAnswerable};
 ghost use Rattle.pg_portal.specs.Page.{item_page, before_error};
-ghost use Rattle.pg_portal.specs.Tags.{tag_text};
+ghost use Rattle.pg_portal.specs.Tags.{spaced, tag_text};
 ghost use Rattle.pg_portal.specs.Told.{told_rows};
 ghost use Rattle.pg_portal.specs.declared.error.PgWireError.{PgWireError};
 ghost use Rattle.pg_handlers.specs.Good.{IsTag};
@@ -22,6 +22,7 @@ ghost use Rattle.pg_handlers.specs.ResponseRows.{sent_rows_behind, rows_front, s
 ghost use Rattle.pg_handlers.specs.Sending.{IsSentPage, IsMetError, IsSentData, IsRefusedData, IsAllSent};
 
 use crate::outbox::Outbox;
+use itoa::Buffer;
 use pg_messages::{
     CommandComplete, CopyBothResponse, CopyData, CopyDone, CopyInResponse, CopyOutResponse,
     DataRow, FieldDescription, NoData, ParameterDescription, PgList, PgStr, PgWireBackendMessage,
@@ -75,8 +76,20 @@ pub(crate) fn send_done(
         (outbox.new ≡ outbox.old ++ replies_bytes (done_with command.now rows ∷ [])) }
     ensures err { OnErr result (outbox.new ≡ outbox.old) }
 {
-    let tag = Tag::new(alloc, command)?.with_rows(rows);
-    send_execution_response(alloc, outbox, tag)
+    let tag = tag_with_rows(alloc, command, rows)?;
+    outbox.push(&PgWireBackendMessage::CommandComplete(CommandComplete { tag }))
+}
+
+/// The text of a command's tag with so many rows. Its room is made at once.
+fn tag_with_rows(alloc: Global, command: &str, rows: usize) -> Result<PgStr, AllocError>
+    ensures { IfOk result (λ tag. tag ≡ command.now ++ spaced rows) }
+{
+    let mut digits = Buffer::new();
+    let mut text = String::with_capacity(alloc, command.len().saturating_add(21))?;
+    text.push_str(command)?;
+    text.push_str(" ")?;
+    text.push_str(digits.format(rows as u64))?;
+    PgStr::copy_of(alloc, text.as_str())
 }
 
 /// The descriptions of columns.
