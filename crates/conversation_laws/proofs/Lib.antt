@@ -1,0 +1,6 @@
+pub mod Discards
+pub mod Parts
+pub mod Names
+pub mod Keeping
+pub mod Taking
+pub mod Joining

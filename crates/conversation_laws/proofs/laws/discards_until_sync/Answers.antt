@@ -1,0 +1,17 @@
+use Rattle.conversation_laws.proofs.Discards.{error_awaits_sync, one_dropped, all_dropped, answered_after_error, no_longer}
+use Rattle.conversation_laws.proofs.laws.discards_until_sync.Goals as goal
+
+pub returns-clause-error : goal.returns-clause-error
+returns-clause-error g c = error_awaits_sync
+
+pub returns-clause-each : goal.returns-clause-each
+returns-clause-each g c = one_dropped
+
+pub returns-clause-all : goal.returns-clause-all
+returns-clause-all g c = all_dropped
+
+pub returns-clause-sync : goal.returns-clause-sync
+returns-clause-sync g c = answered_after_error
+
+pub returns-clause-no_longer : goal.returns-clause-no_longer
+returns-clause-no_longer g c = no_longer
