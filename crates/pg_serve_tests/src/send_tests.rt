@@ -1,7 +1,9 @@
 //! Replies that are sent one by one.
 
-ghost use Rattle.std.specs.Prelude.{IfOk};
-ghost use Rattle.pg_handlers.specs.Good.{IsTag};
+ghost use Rattle.std.specs.Prelude.{◌≡◌, [], codes, IfOk};
+ghost use Rattle.std.specs.Arc.{arc_value};
+ghost use Rattle.pg_portal.specs.Told.{stage_of};
+ghost use Rattle.pg_handlers.specs.Good.{HasGoodTag};
 
 use crate::fixtures::{push_data, push_row};
 use pg_messages::{ParseComplete, PgList, PgStr, PgWireBackendMessage, TransactionStatus};
@@ -19,8 +21,11 @@ use std::alloc::{AllocError, Global};
 use std::sync::Arc;
 use std::test::Fail;
 
-/// Two rows without a column, under a tag.
-fn rows(alloc: Global) -> Result<QueryResponse<ListRows>, AllocError> {
+/// Two rows without a column.
+fn rows(alloc: Global) -> Result<QueryResponse<ListRows>, AllocError>
+    ensures tag { IfOk result (λ response. response.command_tag ≡ codes "SELECT") }
+    ensures columns { IfOk result (λ response. arc_value response.row_schema ≡ []) }
+{
     let mut items = PgList::new(alloc);
     push_row(alloc, &mut items)?;
     push_row(alloc, &mut items)?;
@@ -29,7 +34,9 @@ fn rows(alloc: Global) -> Result<QueryResponse<ListRows>, AllocError> {
 }
 
 /// A portal of rows that were begun under the tag FETCH.
-fn cursor(alloc: Global) -> Result<Portal<PgStr, ListRows>, AllocError> {
+fn cursor(alloc: Global) -> Result<Portal<PgStr, ListRows>, AllocError>
+    ensures { IfOk result (λ portal. HasGoodTag (stage_of (λ rows. rows) portal.state)) }
+{
     let mut response = rows(alloc)?;
     response.set_command_tag(alloc, "FETCH")?;
     let query = PgStr::copy_of(alloc, "pair")?;

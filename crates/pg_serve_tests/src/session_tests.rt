@@ -1,15 +1,20 @@
 //! A session that is given messages and errors one by one.
 
-ghost use Rattle.std.specs.Prelude.{◌≡◌, IfOk};
+ghost use Rattle.std.specs.Prelude.{◌≡◌, true, IfOk};
+ghost use Rattle.std.specs.FinMap as fin;
+ghost use Rattle.pg_portal.specs.Errors.{info_of};
 ghost use Rattle.pg_portal.specs.Rows.{IsTellable};
 ghost use Rattle.pg_handlers.specs.Errors.{is_fatal};
+ghost use Rattle.pg_handlers.specs.Good.{IsGoodState};
+ghost use Rattle.pg_handlers.specs.State.{state_of};
+ghost use Rattle.sample_handlers.specs.Told.{told_parser};
 
 use crate::fixtures::{KEY, STARTED, STARTUP, desk, message};
 use pg_messages::{
     ErrorInfo, PgList, PgStr, PgWireFrontendMessage, ProtocolVersion, TransactionStatus,
 };
 use pg_portal::{
-    ClientInfo, ListRows, MemPortalStore, Metadata, PgWireConnectionState, PgWireError,
+    ClientInfo, ListRows, MemPortalStore, Metadata, PgWireConnectionState, PgWireError, PortalStore,
 };
 use pg_serve::MemorySink;
 use pg_session::{
@@ -44,25 +49,39 @@ fn replies_wait_for_the_next_feed(rt: HostRuntime) -> Result<(), Fail> {
     Ok(())
 }
 
+/// An error that ends a session.
+fn fatal(alloc: Global) -> Result<PgWireError, AllocError>
+    ensures tellable { IfOk result IsTellable }
+    ensures fatal { IfOk result (λ error. is_fatal (info_of error) ≡ true) }
+{
+    Ok(PgWireError::UserError(ErrorInfo::new(
+        PgStr::copy_of(alloc, "FATAL")?,
+        PgStr::copy_of(alloc, "53300")?,
+        PgStr::copy_of(alloc, "too many clients")?,
+    )))
+}
+
 #[test]
 fn a_fatal_error_closes_the_session(rt: HostRuntime) -> Result<(), Fail> {
     let alloc = rt.alloc();
     let handlers = Arc::new(alloc, SampleHandler)?;
     let store: Store = MemPortalStore::new(alloc);
     let mut session = Session::new(alloc, handlers, store, 7, KEY)?;
-    let info = ErrorInfo::new(
-        PgStr::copy_of(alloc, "FATAL")?,
-        PgStr::copy_of(alloc, "53300")?,
-        PgStr::copy_of(alloc, "too many clients")?,
-    );
-    let end = process_error(alloc, &mut session, PgWireError::UserError(info), false)?;
+    let end = process_error(alloc, &mut session, fatal(alloc)?, false)?;
     assert_eq!(rt; end, Some(EndKind::Fatal));
     assert!(rt; !session.is_open());
     Ok(())
 }
 
-/// A client that awaits Sync.
-fn awaiting_sync(alloc: Global) -> Result<Client<Store>, AllocError> {
+/// A client of an empty store that awaits Sync.
+fn awaiting_sync<St: PortalStore<Statement = SampleStatement>>(
+    alloc: Global,
+    store: St,
+) -> Result<Client<St>, AllocError>
+    requires statements { St.statements store ≡ fin.empty }
+    requires portals { St.portals store ≡ fin.empty }
+    ensures { IfOk result (λ client. IsGoodState told_parser (state_of St.statements St.portals client)) }
+{
     let info = ClientInfo {
         pid: 7,
         secret_key: KEY,
@@ -73,7 +92,7 @@ fn awaiting_sync(alloc: Global) -> Result<Client<Store>, AllocError> {
     };
     Ok(Client {
         info,
-        store: MemPortalStore::new(alloc),
+        store,
         outbox: Outbox::new(alloc)?,
     })
 }
@@ -81,7 +100,8 @@ fn awaiting_sync(alloc: Global) -> Result<Client<Store>, AllocError> {
 #[test]
 fn nothing_is_executed_before_sync(rt: HostRuntime) -> Result<(), Fail> {
     let alloc = rt.alloc();
-    let mut client = awaiting_sync(alloc)?;
+    let store: Store = MemPortalStore::new(alloc);
+    let mut client = awaiting_sync(alloc, store)?;
     let mut desk = desk(alloc);
     let mut turns = Turns { spent: 0, limit: 9 };
     let PgWireFrontendMessage::Execute(execute) = message(alloc, false, b"E\0\0\0\x09\0\0\0\0\0")?

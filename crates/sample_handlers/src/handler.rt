@@ -1,6 +1,7 @@
 //! The handlers of sample queries.
 
 ghost use Rattle.std.specs.Prelude.{◌≡◌, false, None, IfOk};
+ghost use Rattle.pg_handlers.specs.Good.{AreSendable};
 ghost use Rattle.pg_handlers.specs.Handlers.{told_all, told_query};
 ghost use Rattle.sample_handlers.specs.Queries.{is_given, query_told};
 ghost use Rattle.sample_handlers.specs.Told.{alone_or_not_known, data_left, listed};
@@ -8,7 +9,7 @@ ghost use Rattle.sample_handlers.specs.Told.{alone_or_not_known, data_left, list
 use crate::answer::{Answer, polls_of, response, responses};
 use crate::columns::columns_of;
 use crate::copy::SampleCopy;
-use crate::errors::error;
+use crate::errors::not_known;
 use crate::meaning::{SampleStatement, meaning_of};
 use crate::parser::SampleParser;
 use crate::query::SampleQuery;
@@ -115,7 +116,7 @@ impl SimpleQueryHandler for SampleHandler {
         } else {
             match meaning_of(text) {
                 Some(statement) => listed(alloc, polls_of(statement), &[statement]),
-                None => not_known(alloc),
+                None => refused(alloc),
             }
         }
     }
@@ -131,19 +132,20 @@ fn listed(
     ensures told { IfOk result (λ query.
         told_query (told_all (λ rows. rows) (λ c. data_left c.left)) (query_told query.polls query.outcome)
         ≡ listed polls statements.now) }
+    ensures sendable { IfOk result (λ query. AreSendable (listed polls statements.now).outcome) }
 {
     Ok(SampleQuery::new(polls, Ok(responses(alloc, statements)?)))
 }
 
 /// The query that is refused.
-fn not_known(alloc: Global) -> Result<SampleQuery<PgList<Answer>>, AllocError>
+fn refused(alloc: Global) -> Result<SampleQuery<PgList<Answer>>, AllocError>
     ensures unspent { IfOk result (λ query. is_given query.outcome ≡ false) }
     ensures told { IfOk result (λ query.
         told_query (told_all (λ rows. rows) (λ c. data_left c.left)) (query_told query.polls query.outcome)
         ≡ alone_or_not_known None) }
+    ensures sendable { IfOk result (λ query. AreSendable (alone_or_not_known None).outcome) }
 {
-    let info = error(alloc, "42601", "not known")?;
-    Ok(SampleQuery::new(0, Err(PgWireError::UserError(info))))
+    Ok(SampleQuery::new(0, Err(not_known(alloc)?)))
 }
 
 impl CopyHandler for SampleHandler {

@@ -1,10 +1,9 @@
 //! The parser of sample queries.
 
 ghost use Rattle.std.specs.Prelude.{◌≡◌, IfOk};
-ghost use Rattle.pg_portal.specs.Errors.{error as error_info};
 
 use crate::columns::columns_of;
-use crate::errors::error;
+use crate::errors::not_known;
 use crate::meaning::{SampleStatement, meaning};
 use pg_messages::PgList;
 use pg_portal::{ClientInfo, FieldInfo, Format, PgWireError, QueryParser};
@@ -31,7 +30,7 @@ impl QueryParser for SampleParser {
     ) -> Result<Option<SampleStatement>, PgWireError> {
         match meaning(sql) {
             Some(statement) => Ok(Some(statement)),
-            None => Err(PgWireError::UserError(error(alloc, "42601", "not known")?)),
+            None => Err(not_known(alloc)?),
         }
     }
 

@@ -1,13 +1,15 @@
 //! Sample rows.
 
-ghost use Rattle.std.specs.Prelude.{◌≡◌, pos, IfOk};
+ghost use Rattle.std.specs.Prelude.{◌≡◌, ◌≤◌, pos, IfOk, length};
 ghost use Rattle.std.specs.List.{AllByRecursion};
+ghost use Rattle.pg_messages.specs.Replies.{IsEncodable};
+ghost use Rattle.pg_messages.specs.declared.backend.PgWireBackendMessage.TheVariants as server;
 ghost use Rattle.pg_portal.specs.Rows.{IsSendable};
 ghost use Rattle.sample_handlers.specs.Told.{first_row, second_row, pair_items, broken_items};
 
-use crate::errors::error;
+use crate::errors::division_by_zero;
 use pg_messages::{DataRow, PgBytes, PgList};
-use pg_portal::{ListRows, PgWireError};
+use pg_portal::ListRows;
 use pg_text::FieldFormat;
 use std::alloc::{AllocError, Global};
 
@@ -24,7 +26,8 @@ const NULL_ROW: [u8; 9] = [0, 0, 0, 1, b'b', 255, 255, 255, 255];
 
 /// The row of `a` and one day.
 fn first_row(alloc: Global, format: FieldFormat) -> Result<DataRow, AllocError>
-    ensures { IfOk result (λ row. row ≡ first_row format) }
+    ensures row { IfOk result (λ row. row ≡ first_row format) }
+    ensures encodable { IfOk result (λ row. IsEncodable (server.DataRow row)) }
 {
     match format {
         FieldFormat::Text => row(alloc, &TEXT_ROW),
@@ -34,7 +37,9 @@ fn first_row(alloc: Global, format: FieldFormat) -> Result<DataRow, AllocError>
 
 /// A row of two cells.
 fn row(alloc: Global, payload: &[u8]) -> Result<DataRow, AllocError>
-    ensures { IfOk result (λ row. row ≡ record { payload = payload.now; field_count = pos 2 }) }
+    requires { length payload.now ≤ 100 }
+    ensures row { IfOk result (λ row. row ≡ record { payload = payload.now; field_count = pos 2 }) }
+    ensures encodable { IfOk result (λ row. IsEncodable (server.DataRow row)) }
 {
     Ok(DataRow {
         payload: PgBytes::copy_of(alloc, payload)?,
@@ -58,8 +63,7 @@ pub(crate) fn broken_rows(alloc: Global, format: FieldFormat) -> Result<ListRows
 {
     let mut items = PgList::new(alloc);
     items.push(Ok(first_row(alloc, format)?))?;
-    let info = error(alloc, "22012", "division by zero")?;
-    items.push(Err(PgWireError::UserError(info)))?;
+    items.push(Err(division_by_zero(alloc)?))?;
     items.push(Ok(row(alloc, &NULL_ROW)?))?;
     Ok(ListRows::new(items))
 }
