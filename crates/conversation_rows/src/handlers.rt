@@ -9,6 +9,7 @@ use pg_portal::MemPortalStore;
 use pg_serve::{MemorySource, serve_connection};
 use pg_session::{EndKind, PgWireServerHandlers, ScriptDesk, ServeError};
 use relation_server::serve_relations_on;
+use sample_handlers::SampleHandler;
 use std::alloc::{AllocError, Global};
 use std::sync::Arc;
 
@@ -27,6 +28,7 @@ pub fn serve_told<'t>(
             Ok(serve_relations_on(alloc, desk, &table, source, sink, turns))
         }
         Some("noop") => Ok(serve_noop(alloc, desk, source, sink, turns)?),
+        Some("sample") => Ok(serve_sample(alloc, desk, source, sink, turns)?),
         Some(other) => Err(Fault::Line(other)),
     }
 }
@@ -73,6 +75,27 @@ fn serve_noop(
 ) -> Result<Result<EndKind, ServeError>, AllocError> {
     let handler = NoopHandler;
     let handlers = Arc::new(alloc, NoopHandlers { handler })?;
+    let store = MemPortalStore::new(alloc);
+    Ok(serve_connection(
+        alloc,
+        handlers,
+        store,
+        desk,
+        source,
+        sink,
+        turns,
+    ))
+}
+
+/// Serves a client by the handler of sample queries.
+fn serve_sample(
+    alloc: Global,
+    desk: &mut ScriptDesk,
+    source: &mut MemorySource,
+    sink: &mut CountingSink,
+    turns: u64,
+) -> Result<Result<EndKind, ServeError>, AllocError> {
+    let handlers = Arc::new(alloc, SampleHandler)?;
     let store = MemPortalStore::new(alloc);
     Ok(serve_connection(
         alloc,
