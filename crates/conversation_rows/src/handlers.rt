@@ -1,0 +1,109 @@
+//! A client is served by the handlers that a row names.
+
+use crate::counting::CountingSink;
+use crate::fault::Fault;
+use crate::relations::table_of;
+use crate::row::told;
+use pg_handlers::NoopHandler;
+use pg_portal::MemPortalStore;
+use pg_serve::{MemorySource, serve_connection};
+use pg_session::{EndKind, PgWireServerHandlers, ScriptDesk, ServeError};
+use relation_server::serve_relations_on;
+use sample_handlers::SampleHandler;
+use std::alloc::{AllocError, Global};
+use std::sync::Arc;
+
+/// Serves a client over the relations that the lines tell, or by the handlers that they name.
+pub fn serve_told<'t>(
+    alloc: Global,
+    lines: &[&'t str],
+    desk: &mut ScriptDesk,
+    source: &mut MemorySource,
+    sink: &mut CountingSink,
+    turns: u64,
+) -> Result<Result<EndKind, ServeError>, Fault<'t>> {
+    match told(lines, "handlers") {
+        None => {
+            let table = table_of(alloc, lines)?;
+            Ok(serve_relations_on(alloc, desk, &table, source, sink, turns))
+        }
+        Some("noop") => Ok(serve_noop(alloc, desk, source, sink, turns)?),
+        Some("sample") => Ok(serve_sample(alloc, desk, source, sink, turns)?),
+        Some(other) => Err(Fault::Line(other)),
+    }
+}
+
+/// The handler that implements nothing, of every kind.
+#[derive(Drop)]
+struct NoopHandlers {
+    handler: NoopHandler,
+}
+
+impl PgWireServerHandlers for NoopHandlers {
+    type Simple = NoopHandler;
+
+    type Extended = NoopHandler;
+
+    type Copying = NoopHandler;
+
+    ghost simple = { λ handlers. handlers.handler };
+
+    ghost extended = { λ handlers. handlers.handler };
+
+    ghost copying = { λ handlers. handlers.handler };
+
+    fn simple_query_handler(&self) -> &NoopHandler {
+        &self.handler
+    }
+
+    fn extended_query_handler(&self) -> &NoopHandler {
+        &self.handler
+    }
+
+    fn copy_handler(&self) -> &NoopHandler {
+        &self.handler
+    }
+}
+
+/// Serves a client by the handler that implements nothing.
+fn serve_noop(
+    alloc: Global,
+    desk: &mut ScriptDesk,
+    source: &mut MemorySource,
+    sink: &mut CountingSink,
+    turns: u64,
+) -> Result<Result<EndKind, ServeError>, AllocError> {
+    let handler = NoopHandler;
+    let handlers = Arc::new(alloc, NoopHandlers { handler })?;
+    let store = MemPortalStore::new(alloc);
+    Ok(serve_connection(
+        alloc,
+        handlers,
+        store,
+        desk,
+        source,
+        sink,
+        turns,
+    ))
+}
+
+/// Serves a client by the handler of sample queries.
+fn serve_sample(
+    alloc: Global,
+    desk: &mut ScriptDesk,
+    source: &mut MemorySource,
+    sink: &mut CountingSink,
+    turns: u64,
+) -> Result<Result<EndKind, ServeError>, AllocError> {
+    let handlers = Arc::new(alloc, SampleHandler)?;
+    let store = MemPortalStore::new(alloc);
+    Ok(serve_connection(
+        alloc,
+        handlers,
+        store,
+        desk,
+        source,
+        sink,
+        turns,
+    ))
+}
