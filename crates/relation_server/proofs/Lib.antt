@@ -1,2 +1,6 @@
-mod CoreServing
+mod CellsKept
+mod CellsPaged
+mod CellsShown
+mod CellsWhole
+mod EvenRows
 mod Quiet

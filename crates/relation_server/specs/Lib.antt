@@ -1,4 +1,5 @@
 pub mod BuiltIn
+pub mod Cells
 pub mod Program
 pub mod Serving
 pub mod Words

@@ -1,11 +1,16 @@
 //! A client of relations is served.
 
-ghost use Rattle.std.specs.Prelude.{◌≡◌, ◌++◌, List};
+ghost use Rattle.std.specs.Prelude.{◌≡◌, ◌++◌, Bool, List};
+ghost use Rattle.pg_messages.specs.declared.frontend.PgWireFrontendMessage.{PgWireFrontendMessage};
+ghost use Rattle.pg_handlers.specs.Answer.{conversation};
 ghost use Rattle.pg_handlers.specs.Questions.{questions_since};
+ghost use Rattle.pg_handlers.specs.State.{first_state};
+ghost use Rattle.pg_handlers.specs.Table.{whole_table};
 ghost use Rattle.pg_handlers.specs.declared.desk.DeskCall.{DeskCall};
 ghost use Rattle.pg_serve.specs.Serving.{HasCause, counts_of};
+ghost use Rattle.relation_tables.specs.RelationHandler.{relation_handlers};
+ghost use Rattle.relation_server.specs.Cells.{HoldIntervals, ShowStored};
 ghost use Rattle.relation_server.specs.Serving.{WentByTables};
-
 
 use pg_handlers::NoopHandler;
 use pg_portal::MemPortalStore;
@@ -38,9 +43,15 @@ pub fn serve_relations_on<D: CancelDesk, S: Source, K: Sink>(
     ensures cause { HasCause result turn_limit (questions_since (D.calls desk.old) (D.calls desk.new))
         (counts_of S.reads S.faults K.faults source.old sink.old)
         (counts_of S.reads S.faults K.faults source.new sink.new) }
+    // Each cell of the replies that the table gives, to whatever messages, stands for a stored interval: in a format
+    // that a Bind chose, and in the session's style.
+    ensures cells { HoldIntervals relations.now → (answers : List Bool) (messages : List PgWireFrontendMessage)
+        → ShowStored relations.now messages (conversation (whole_table (relation_handlers relations.now)) answers
+        (first_state (D.registration desk.old).0 (D.registration desk.old).1) messages).replies }
     ensures same { D.registration desk.new ≡ D.registration desk.old }
     ensures origin { D.origin desk.new ≡ D.origin desk.old }
 {
+    let _valid = relations.relations();
     let copying = NoopHandler;
     let Ok(handlers) = Arc::new(alloc, RelationHandler { relations, copying }) else {
         return Err(ServeError::NoMemory);

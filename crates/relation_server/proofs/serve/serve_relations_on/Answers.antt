@@ -6,6 +6,8 @@ use Rattle.pg_session.specs.declared.ends.ServeError.TheVariants as fault
 use Rattle.relation_tables.specs.RelationHandler.{relation_handlers}
 use Rattle.pg_serve.specs.Serving.{WentSo}
 use Rattle.pg_serve.proofs.Serving.{none_went}
+use Rattle.relation_server.proofs.CellsWhole.{stored_shown}
+use Rattle.relation_server.proofs.EvenRows.{even}
 use Rattle.relation_server.proofs.serve.serve_relations_on.Goals as goal
 
 pub returns-in_default-clause-went : goal.returns-in_default-clause-went
@@ -23,3 +25,11 @@ returns-clause-went g c =
     × WentSo (whole_rules (relation_handlers relations)) (first_state (g.D.CancelDesk.registration c.args.desk.now).0 (g.D.CancelDesk.registration c.args.desk.now).1)
     c.serve_connection.result (g.S.Source.left c.args.source.now) (g.S.Source.left c.serve_connection.new.source) (g.K.Sink.written c.args.sink.now) (g.K.Sink.written c.serve_connection.new.sink) x)
     (ap (λ h. h.relations.now) c.in-Ok.ensures.ok) c.serve_connection.ensures.went
+
+pub returns-in_default-clause-cells : goal.returns-in_default-clause-cells
+returns-in_default-clause-cells g c = λ within. stored_shown c.args.relations.now within (even c.args.relations.now c.relations-valid.ensures.valid)
+    (g.D.CancelDesk.registration c.args.desk.now).0 (g.D.CancelDesk.registration c.args.desk.now).1
+
+pub returns-clause-cells : goal.returns-clause-cells
+returns-clause-cells g c = λ within. stored_shown c.args.relations.now within (even c.args.relations.now c.relations-valid.ensures.valid)
+    (g.D.CancelDesk.registration c.args.desk.now).0 (g.D.CancelDesk.registration c.args.desk.now).1
