@@ -1,6 +1,6 @@
 -- A conversation over relations shows stored rows: each row of the whole table does, and keeps that started portals have items that do.
-use Rattle.std.proofs.Common.{◌≡◌, ◌∙◌, ◌==◌, ℕ, ℤ, Bool, true, false, if◌then◌else◌, List, [], ◌∷◌, ◌++◌, Option, Some, None, Result, Ok, Err, nat_le, nat_lt, length, refl, ap, sym, subst, inl, inr}
-use Rattle.std.specs.List.{AllByRecursion, Contains}
+use Rattle.std.proofs.Common.{◌≡◌, ◌∙◌, ◌==◌, ℕ, Bool, true, false, if◌then◌else◌, List, [], ◌∷◌, ◌++◌, Option, Some, None, Result, Ok, Err, nat_le, nat_lt, length, map, refl, ap, sym, subst}
+use Rattle.std.specs.List.{AllByRecursion}
 use Rattle.std.specs.FinMap as fin
 use Rattle.pg_messages.specs.declared.data.DataRow.{DataRow}
 use Rattle.pg_messages.specs.declared.copy.CopyData.{CopyData}
@@ -13,7 +13,6 @@ use Rattle.pg_messages.specs.declared.extendedquery.Close.{Close}
 use Rattle.pg_messages.specs.declared.extendedquery.Execute.{Execute}
 use Rattle.pg_messages.specs.declared.frontend.PgWireFrontendMessage.{PgWireFrontendMessage}
 use Rattle.pg_messages.specs.declared.frontend.PgWireFrontendMessage.TheVariants as client
-use Rattle.pg_messages.specs.declared.backend.PgWireBackendMessage.{PgWireBackendMessage}
 use Rattle.pg_messages.specs.declared.backend.PgWireBackendMessage.TheVariants as server
 use Rattle.pg_messages.specs.Frames.{awaits_startup_after}
 use Rattle.pg_text.specs.declared.format.interval_style.IntervalStyle.{IntervalStyle}
@@ -41,20 +40,19 @@ use Rattle.pg_portal.specs.Statements.{prepared}
 use Rattle.pg_portal.specs.Texts.{is_blank}
 use Rattle.pg_portal.specs.Told.{TablePortal, Stage, Unstarted, Started, Ended, ToldRows, value_under}
 use Rattle.pg_handlers.specs.declared.desk.DeskCall.{DeskCall}
-use Rattle.pg_handlers.specs.declared.ends.EndKind.{EndKind}
 use Rattle.pg_handlers.specs.declared.ends.EndKind.TheVariants as end
 use Rattle.pg_handlers.specs.Answer.{Answer, Next, Goes, Ends, Stops, continued, conversation, left_by}
-use Rattle.pg_handlers.specs.CopyRows.{copied, copy_row}
+use Rattle.pg_handlers.specs.CopyRows.{copy_row}
 use Rattle.pg_handlers.specs.Effect.{Effect, Called, Scope, UntilSync, AnswersReady, Outcome, Done, Failed, Over, Stopped, says, refuses, silent, after_error, settle, settled}
-use Rattle.pg_handlers.specs.Errors.{is_fatal, unsupported_version, too_few_codes, values_for_empty}
+use Rattle.pg_handlers.specs.Errors.{is_fatal, too_few_codes, values_for_empty}
 use Rattle.pg_handlers.specs.ExecuteRow.{at_stage, stage_after, page_effect, fetched, sent_in_execute, executed, execute_polled, executed_portal, executed_entry}
 use Rattle.pg_handlers.specs.ExtendedRows.{bind_complete, parsed, portal_bound, bound_portal, bound_with_columns, bound, described, described_statement, described_portal, statement_description, portal_description, on_describe, on_close}
-use Rattle.pg_handlers.specs.Handlers.{Handlers, ToldQuery}
+use Rattle.pg_handlers.specs.Handlers.{Handlers}
 use Rattle.pg_handlers.specs.Questions.{Verdict, Passed, Canceled, Unanswered, questioned}
 use Rattle.pg_handlers.specs.Replies.{Replies, error_reply, ready, row_replies, done_with, row_description}
 use Rattle.pg_handlers.specs.ResponseRows.{Sent, responded}
 use Rattle.pg_handlers.specs.SimpleRows.{answered, responded_all, query_polled, query_run}
-use Rattle.pg_handlers.specs.State.{State, first_state, in_phase, with_status, with_portal, without_statement, without_portal, without_unnamed_portal}
+use Rattle.pg_handlers.specs.State.{State, in_phase, with_status, with_portal, without_statement, without_portal, without_unnamed_portal}
 use Rattle.pg_handlers.specs.Table.{statement_row, ready_row, awaiting_sync_row, row, scope_in, whole_table, is_startup_phase, awaits}
 use Rattle.pg_handlers.proofs.Awaiting.{row_keeps}
 use Rattle.pg_handlers.proofs.GoodStores.{Each, each_after_insert, each_after_remove, none_empty, one_value}
@@ -63,10 +61,10 @@ use Rattle.relation_tables.specs.declared.RelationStatement.{RelationStatement}
 use Rattle.relation_tables.specs.declared.RelationStatement.TheVariants as statement
 use Rattle.relation_tables.specs.Queries.{trimmed, words, copied_name}
 use Rattle.relation_tables.specs.Relations.{relation_at, HaveEvenRows, place_of, meaning}
-use Rattle.relation_tables.specs.RelationHandler.{style_text, or_refused, session_style, row_item, line_item, column_formats, query_of, told_simple, simple_of, copy_of, copy_or_unknown, relation_handlers}
-use Rattle.relation_server.specs.Cells.{HoldIntervals, style_of, IsChosen, ShowsStoredRow, ShowsStoredLine, ShowsReply, ShowStored}
+use Rattle.relation_tables.specs.RelationHandler.{style_text, or_refused, row_item, line_item, column_formats, query_of, simple_of, copy_of, copy_or_unknown, relation_handlers}
+use Rattle.relation_server.specs.Cells.{HoldIntervals, ShowsStoredRow, ShowsStoredLine}
 use Rattle.relation_server.proofs.CellsPaged.{ItemsAre, EndIs, page_is, all_append, ReplyIs, Are, row_replies_are, either_is, ResponseIs, responded_are, all_responded_are}
-use Rattle.relation_server.proofs.CellsShown.{each_of, rows_show, lines_show}
+use Rattle.relation_server.proofs.CellsShown.{rows_show, lines_show}
 
 abbrev pub Talk : Type 0
 Talk = State RelationStatement
@@ -180,9 +178,11 @@ module _ (relations : List Relation) (within : HoldIntervals relations) (even : 
   copy_is : (info : ClientInfo) → interval_style_of (style_text info) ≡ style → (name : List ℕ) (place : Option ℕ)
       → ResultsAre (copy_of relations info name place).outcome
   copy_is info e name None = tt
-  copy_is info e name (Some place) =
-      (subst (λ x. ItemsAre IsLine (map (line_item (or_refused (style_text info) x)) (relation_at relations place).rows)) (sym e)
-      (lines_show relations within even (style_text info) style IsFormat place), tt)
+  copy_is info e name (Some place) = (
+    subst (λ x. ItemsAre IsLine (map (line_item (or_refused (style_text info) x)) (relation_at relations place).rows)) (sym e)
+        (lines_show relations within even (style_text info) style IsFormat place),
+    tt,
+  )
 
   copied_is : (info : ClientInfo) → interval_style_of (style_text info) ≡ style → (text : List ℕ) (name : Option (List ℕ))
       → ResultsAre (copy_or_unknown relations info text name).outcome
@@ -240,7 +240,7 @@ module _ (relations : List Relation) (within : HoldIntervals relations) (even : 
     columns_reply_is d = either_is IsRow IsLine (is_no_data d) (server.NoData (record {})) (row_description d.fields) tt tt
 
     statement_description_is : (d : DescribeStatementResponse) → Shown (statement_description d)
-    statement_description_is d = (tt, columns_reply_is (record { parameters = Some d.parameters; fields = d.fields }), tt)
+    statement_description_is d = (tt, (columns_reply_is (record { parameters = Some d.parameters; fields = d.fields }), tt))
 
     portal_description_is : (d : DescribePortalResponse) → Shown (portal_description d)
     portal_description_is d = (columns_reply_is (record { parameters = None; fields = d.fields }), tt)
@@ -272,9 +272,12 @@ module _ (relations : List Relation) (within : HoldIntervals relations) (even : 
         (either_effect (m.target_type == 80) by_portal refused (portal_told_is m.name (fin.get s.portals m.name)) (tt, g))
 
     close_is : (m : Close) → EffectIs (on_close s m)
-    close_is m = ((tt, tt), either_good (m.target_type == 83) (without_statement s m.name)
-        (if m.target_type == 80 then without_portal s m.name else s) g
-        (either_good (m.target_type == 80) (without_portal s m.name) s (without_is m.name) g))
+    close_is m = (
+      (tt, tt),
+      either_good (m.target_type == 83) (without_statement s m.name)
+          (if m.target_type == 80 then without_portal s m.name else s) g
+          (either_good (m.target_type == 80) (without_portal s m.name) s (without_is m.name) g),
+    )
 
     statement_row_is : (m : PgWireFrontendMessage) → Picks IsFormat m → EffectIs (statement_row told.extended s m)
     statement_row_is (client.Parse m) picked = parsed_is m (prepared told.extended.parser s.info m)
@@ -378,7 +381,7 @@ module _ (relations : List Relation) (within : HoldIntervals relations) (even : 
     query_row_is : (answers : List Bool) (m : Query) (b : Bool)
         → EffectIs (if b then silent (says (server.EmptyQueryResponse (record {}) ∷ ready s.info.status ∷ []) s)
         else query_run answers s (told.simple s.info m.query)).effect
-    query_row_is answers m true = ((tt, tt, tt), g)
+    query_row_is answers m true = ((tt, (tt, tt)), g)
     query_row_is answers m false =
         let query = told.simple s.info m.query in
         query_polled_is (questioned query.owes answers).verdict query.outcome

@@ -1,5 +1,5 @@
 -- What is sent of items that show stored rows shows stored rows.
-use Rattle.std.proofs.Common.{◌≡◌, ℕ, ℤ, zero, suc, ◌&&◌, Bool, true, false, cond, if◌then◌else◌, List, [], ◌∷◌, ◌++◌, Option, Some, None, Result, Ok, Err, length, take, drop, unsigned_abs, codes}
+use Rattle.std.proofs.Common.{◌≡◌, ℕ, ℤ, zero, suc, Bool, true, false, cond, if◌then◌else◌, List, [], ◌∷◌, ◌++◌, Option, Some, None, Result, Ok, Err, length, take, drop, unsigned_abs, refl}
 use Rattle.std.specs.List.{AllByRecursion, filter}
 use Rattle.pg_messages.specs.declared.copy.CopyData.{CopyData}
 use Rattle.pg_messages.specs.declared.data.DataRow.{DataRow}
@@ -7,14 +7,12 @@ use Rattle.pg_messages.specs.declared.backend.PgWireBackendMessage.{PgWireBacken
 use Rattle.pg_messages.specs.declared.backend.PgWireBackendMessage.TheVariants as server
 use Rattle.pg_messages.specs.declared.response.TransactionStatus.{TransactionStatus}
 use Rattle.pg_portal.specs.declared.error.PgWireError.{PgWireError}
-use Rattle.pg_portal.specs.Copying.{CopyItem}
 use Rattle.pg_portal.specs.Page.{page, is_reached, PageEnd, AtLimit, AtEnd, AtError, ItemPage, item_page, ended_page, before_error, first_error}
 use Rattle.pg_portal.specs.Responses as response
 use Rattle.pg_portal.specs.Responses.{ToldResponse, ToldCopy}
-use Rattle.pg_portal.specs.Rows.{RowItem}
 use Rattle.pg_portal.specs.Told.{ToldRows}
-use Rattle.pg_handlers.specs.Replies.{Replies, row_replies, row_description, done_with}
-use Rattle.pg_handlers.specs.ResponseRows.{Sent, unless_error, sent_rows, rows_front, copy_items, copy_data, copy_count, not_empty, copy_replies, copy_end, copy_out_reply, copy_both_reply, sent_copy, responded}
+use Rattle.pg_handlers.specs.Replies.{Replies, row_replies, done_with}
+use Rattle.pg_handlers.specs.ResponseRows.{Sent, unless_error, sent_rows, rows_front, copy_items, copy_data, copy_count, copy_replies, copy_end, copy_out_reply, copy_both_reply, sent_copy, responded}
 use Rattle.pg_handlers.specs.SimpleRows.{followed, responded_all}
 
 -- ---- lists
@@ -138,7 +136,7 @@ module _ (IsRow : DataRow → Type 0) (IsLine : CopyData → Type 0) where
   copied_are status copying head c k h =
       unless_are status copying (head ∷ copy_replies (copy_data c)) (copy_end (copy_count (copy_data c))) (first_error (copy_items c))
       (k, copy_replies_are (copy_data c) (all_filter IsLine _ (before_error (copy_items c)) (before_are IsLine (copy_items c) h)))
-      (tt, tt, tt)
+      (tt, (tt, tt))
 
   pub responded_are : (status : TransactionStatus) (r : ToldResponse) → ResponseIs r → Are (responded status r).replies
   responded_are status response.EmptyQuery h = (tt, tt)

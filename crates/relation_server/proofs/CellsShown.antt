@@ -1,6 +1,6 @@
 -- A row and a line of a relation's handler show the row: each cell stands for its interval.
-use Rattle.std.proofs.Common.{◌≡◌, ◌∙◌, ℕ, ◌<◌, zero, suc, ◌==◌, ◌&&◌, Bool, true, false, IsTrue, List, [], ◌∷◌, ◌++◌, Option, Some, None, Result, Ok, Err, pos, length, map, zip, take, refl, sym, ap, arith}
-use Rattle.std.specs.List.{AllByRecursion, AllZip, Contains, concat, join_with_byte}
+use Rattle.std.proofs.Common.{◌≡◌, ◌∙◌, ℕ, ◌<◌, zero, suc, ◌==◌, ◌&&◌, Bool, true, false, IsTrue, List, [], ◌∷◌, ◌++◌, Option, Some, None, Result, Ok, Err, length, map, zip, refl, sym, ap, arith}
+use Rattle.std.specs.List.{AllByRecursion, AllZip, Contains, concat}
 use Rattle.std.proofs.lemmas.List.{take_all}
 use Rattle.std.proofs.lemmas.List.Elements.{All-contains, All-from_recursion}
 use Rattle.pg_interval.specs.declared.pg_interval.Interval.{Interval}
@@ -28,7 +28,7 @@ use Rattle.pg_portal.specs.declared.portal.Format.{Format}
 use Rattle.pg_portal.specs.Copying.{CopyItem}
 use Rattle.pg_portal.specs.Rows.{RowItem}
 use Rattle.relation_tables.specs.declared.Relation.{Relation}
-use Rattle.relation_tables.specs.Relations.{relation_at, are_even, HaveEvenRows, binary_value}
+use Rattle.relation_tables.specs.Relations.{relation_at, are_even, HaveEvenRows}
 use Rattle.relation_tables.specs.RelationHandler.{or_refused, in_front, all_or_error, text_of, as_value as as_text_value, value, row_of_values, row_item, line_of_texts, line_item, column_formats}
 use Rattle.relation_tables.proofs.ItemsAgree.{even_at}
 use Rattle.relation_handlers.proofs.ColumnLemmas.{formats_len}

@@ -1,5 +1,5 @@
 -- Whatever messages come and whatever the registry answers, each cell of the replies stands for a stored interval.
-use Rattle.std.proofs.Common.{◌≡◌, ◌==◌, ℕ, ℤ, Bool, true, false, if◌then◌else◌, List, [], ◌∷◌, ◌++◌, Option, Some, None, refl, ap, sym, ◌∙◌, inl, inr}
+use Rattle.std.proofs.Common.{◌≡◌, ◌==◌, ℕ, ℤ, Bool, true, false, if◌then◌else◌, List, [], ◌∷◌, Option, Some, None, refl, ap, sym, ◌∙◌, inl, inr}
 use Rattle.std.specs.Cmp.Lexicographic.{slice_cmp}
 use Rattle.std.specs.Ordering.{nat_cmp}
 use Rattle.std.specs.FinMap as fin
@@ -71,11 +71,11 @@ module _ (relations : List Relation) (within : HoldIntervals relations) (even : 
       Shown (client.Startup m ∷ messages)
       (continued given given.next (λ t. conversation table (left_by given.calls answers) t messages)).replies
   startup_shown answers m messages true c picked = all_append (Is (client.Startup m ∷ messages)) (startup_replies pid key) _
-      (tt, tt, tt, tt, tt, tt, tt, tt)
+      (tt, (tt, (tt, (tt, (tt, (tt, (tt, tt)))))))
       (started_is relations within even IsFormat text_is (style_of (client.Startup m ∷ messages)) answers (started_session first PROTOCOL3_0 m)
       messages refl (refl, none_yet (PortalIs relations within even IsFormat text_is (style_of (client.Startup m ∷ messages)))) picked)
   startup_shown answers m messages false true picked = all_append (Is (client.Startup m ∷ messages)) (startup_replies pid key) _
-      (tt, tt, tt, tt, tt, tt, tt, tt)
+      (tt, (tt, (tt, (tt, (tt, (tt, (tt, tt)))))))
       (started_is relations within even IsFormat text_is (style_of (client.Startup m ∷ messages)) answers (started_session first PROTOCOL3_2 m)
       messages refl (refl, none_yet (PortalIs relations within even IsFormat text_is (style_of (client.Startup m ∷ messages)))) picked)
   startup_shown answers m messages false false picked = (tt, tt)
