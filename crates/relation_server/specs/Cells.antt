@@ -21,8 +21,11 @@ use Rattle.pg_text.specs.Words.{interval_style_of, printed_style}
 use Rattle.pg_portal.specs.declared.portal.Format.{Format}
 use Rattle.pg_portal.specs.declared.portal.Format.TheVariants as format
 use Rattle.pg_portal.specs.Formats.{format_of}
+use Rattle.pg_portal.specs.Told.{TablePortal, value_under}
 use Rattle.pg_handlers.specs.StartupRows.{with_parameters}
+use Rattle.pg_handlers.specs.State.{State}
 use Rattle.relation_tables.specs.declared.Relation.{Relation}
+use Rattle.relation_tables.specs.declared.RelationStatement.{RelationStatement}
 use Rattle.relation_tables.specs.Relations.{relation_at}
 use Rattle.relation_tables.specs.RelationHandler.{column_formats}
 
@@ -47,6 +50,12 @@ style_of messages = interval_style_of
 abbrev pub IsChosen : List PgWireFrontendMessage → Format → Type 0
 IsChosen messages chosen = (chosen ≡ format.UnifiedText)
     ⊎ ((m : Bind) × Contains messages (client.Bind m) × (chosen ≡ format_of m.result_column_format_codes))
+
+-- the format of the results that a message asks for in a state: of an Execute that which its portal's Bind chose, and text of any other
+abbrev pub IsOwnFormat : State RelationStatement → PgWireFrontendMessage → Format → Type 0
+IsOwnFormat s (client.Execute m) chosen = (p : TablePortal RelationStatement) × (value_under (fin.get s.portals m.name) ≡ Some p)
+    × (chosen ≡ p.bound.result_column_format)
+IsOwnFormat s _ chosen = chosen ≡ format.UnifiedText
 
 -- ---- cells, rows and lines
 
@@ -115,3 +124,8 @@ ShowsReply relations style IsFormat _ = Unit {0}
 -- Bind chose, which is text without one and in a COPY, and in the session's style.
 abbrev pub ShowStored : List Relation → List PgWireFrontendMessage → List PgWireBackendMessage → Type 0
 ShowStored relations messages replies = AllByRecursion (ShowsReply relations (style_of messages) (IsChosen messages)) replies
+
+-- Each row and line among the replies to a message in a state shows a stored row, in the format of this message's own results.
+abbrev pub ShowInOwnFormat : List Relation → Option IntervalStyle → State RelationStatement → PgWireFrontendMessage → List PgWireBackendMessage
+    → Type 0
+ShowInOwnFormat relations style s m replies = AllByRecursion (ShowsReply relations style (IsOwnFormat s m)) replies

@@ -6,7 +6,7 @@ use Rattle.pg_session.specs.declared.ends.ServeError.TheVariants as fault
 use Rattle.relation_tables.specs.RelationHandler.{relation_handlers}
 use Rattle.pg_serve.specs.Serving.{WentSo}
 use Rattle.pg_serve.proofs.Serving.{none_went}
-use Rattle.relation_server.proofs.CellsWhole.{stored_shown}
+use Rattle.relation_server.proofs.CellsWhole.{stored_shown, shown_in_own_format}
 use Rattle.relation_server.proofs.EvenRows.{even}
 use Rattle.relation_server.proofs.serve.serve_relations_on.Goals as goal
 
@@ -33,3 +33,13 @@ returns-in_default-clause-cells g c = λ within. stored_shown c.args.relations.n
 pub returns-clause-cells : goal.returns-clause-cells
 returns-clause-cells g c = λ within. stored_shown c.args.relations.now within (even c.args.relations.now c.relations-valid.ensures.valid)
     (g.D.CancelDesk.registration c.args.desk.now).0 (g.D.CancelDesk.registration c.args.desk.now).1
+
+pub returns-in_default-clause-formats : goal.returns-in_default-clause-formats
+returns-in_default-clause-formats g c = λ within. shown_in_own_format c.args.relations.now within
+    (even c.args.relations.now c.relations-valid.ensures.valid) (g.D.CancelDesk.registration c.args.desk.now).0
+    (g.D.CancelDesk.registration c.args.desk.now).1
+
+pub returns-clause-formats : goal.returns-clause-formats
+returns-clause-formats g c = λ within. shown_in_own_format c.args.relations.now within
+    (even c.args.relations.now c.relations-valid.ensures.valid) (g.D.CancelDesk.registration c.args.desk.now).0
+    (g.D.CancelDesk.registration c.args.desk.now).1
