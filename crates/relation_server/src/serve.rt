@@ -8,13 +8,10 @@ ghost use Rattle.pg_handlers.specs.State.{State, first_state};
 ghost use Rattle.pg_handlers.specs.Table.{whole_table};
 ghost use Rattle.pg_handlers.specs.declared.desk.DeskCall.{DeskCall};
 ghost use Rattle.pg_serve.specs.Serving.{HasCause, counts_of};
-<<<<<<< HEAD
 ghost use Rattle.relation_server.specs.Completeness.{IsComplete};
-=======
 ghost use Rattle.relation_tables.specs.declared.RelationStatement.{RelationStatement};
 ghost use Rattle.relation_tables.specs.RelationHandler.{relation_handlers};
 ghost use Rattle.relation_server.specs.Cells.{HoldIntervals, ShowInOwnFormat, ShowStored, style_of};
->>>>>>> 77833da83b991b4e56f61db18620c851c9af6b21
 ghost use Rattle.relation_server.specs.Serving.{WentByTables};
 
 use pg_handlers::NoopHandler;
@@ -48,18 +45,18 @@ pub fn serve_relations_on<D: CancelDesk, S: Source, K: Sink>(
     ensures cause { HasCause result turn_limit (questions_since (D.calls desk.old) (D.calls desk.new))
         (counts_of S.reads S.faults K.faults source.old sink.old)
         (counts_of S.reads S.faults K.faults source.new sink.new) }
-<<<<<<< HEAD
 
     // With turns enough, and where no read and no write fails, any bytes are served to their end.
     ensures complete { IsComplete relations.now turn_limit result (S.left source.old)
         (counts_of S.reads S.faults K.faults source.old sink.old)
         (counts_of S.reads S.faults K.faults source.new sink.new) }
-=======
+
     // Whatever messages come and whatever the registry answers, each cell of the table's replies stands for a stored
     // interval: in the session's style, and in a format that a Bind among the messages chose, or in text.
     ensures cells { HoldIntervals relations.now → (answers : List Bool) (messages : List PgWireFrontendMessage)
         → ShowStored relations.now messages (conversation (whole_table (relation_handlers relations.now)) answers
         (first_state (D.registration desk.old).0 (D.registration desk.old).1) messages).replies }
+
     // Wherever the messages lead, a message behind them is answered so too: an Execute in the format that its own
     // portal's Bind chose, and every other message in text.
     ensures formats { HoldIntervals relations.now → (answers more : List Bool)
@@ -68,7 +65,6 @@ pub fn serve_relations_on<D: CancelDesk, S: Source, K: Sink>(
         (first_state (D.registration desk.old).0 (D.registration desk.old).1) messages).next ≡ Goes s
         → ShowInOwnFormat relations.now (style_of messages) s m
         (whole_table (relation_handlers relations.now) more s m).replies }
->>>>>>> 77833da83b991b4e56f61db18620c851c9af6b21
     ensures same { D.registration desk.new ≡ D.registration desk.old }
     ensures origin { D.origin desk.new ≡ D.origin desk.old }
 {

@@ -6,14 +6,10 @@ use Rattle.pg_session.specs.declared.ends.ServeError.TheVariants as fault
 use Rattle.relation_tables.specs.RelationHandler.{relation_handlers}
 use Rattle.pg_serve.specs.Serving.{WentSo, counts_of}
 use Rattle.pg_serve.proofs.Serving.{none_went}
-<<<<<<< HEAD
 use Rattle.relation_server.proofs.CoreServing.{went_by_tables}
 use Rattle.relation_server.proofs.EvenRows.{even}
 use Rattle.relation_server.proofs.Complete.{complete_serving, complete_at_want, cause_of_calls}
-=======
 use Rattle.relation_server.proofs.CellsWhole.{stored_shown, shown_in_own_format}
-use Rattle.relation_server.proofs.EvenRows.{even}
->>>>>>> 77833da83b991b4e56f61db18620c851c9af6b21
 use Rattle.relation_server.proofs.serve.serve_relations_on.Goals as goal
 
 pub returns-in_default-clause-went : goal.returns-in_default-clause-went
@@ -29,7 +25,6 @@ returns-in_default-clause-went g c = (
 
 pub returns-clause-went : goal.returns-clause-went
 returns-clause-went g c =
-<<<<<<< HEAD
     let went = c.serve_connection.ensures.went in
     (
       went.0,
@@ -66,11 +61,6 @@ returns-clause-complete g c =
     c.serve_connection.result (g.S.Source.left c.args.source.now) (g.S.Source.left c.serve_connection.new.source)
     (g.K.Sink.written c.args.sink.now) (g.K.Sink.written c.serve_connection.new.sink) went.0)
     (ap (λ h. h.relations.now) c.in-Ok.ensures.ok) went.2)
-=======
-    subst (λ relations. (x : List DeskCall) × g.D.CancelDesk.calls c.serve_connection.new.desk ≡ g.D.CancelDesk.calls c.args.desk.now ++ x
-    × WentSo (whole_rules (relation_handlers relations)) (first_state (g.D.CancelDesk.registration c.args.desk.now).0 (g.D.CancelDesk.registration c.args.desk.now).1)
-    c.serve_connection.result (g.S.Source.left c.args.source.now) (g.S.Source.left c.serve_connection.new.source) (g.K.Sink.written c.args.sink.now) (g.K.Sink.written c.serve_connection.new.sink) x)
-    (ap (λ h. h.relations.now) c.in-Ok.ensures.ok) c.serve_connection.ensures.went
 
 pub returns-in_default-clause-cells : goal.returns-in_default-clause-cells
 returns-in_default-clause-cells g c = λ within. stored_shown c.args.relations.now within (even c.args.relations.now c.relations-valid.ensures.valid)
@@ -89,4 +79,3 @@ pub returns-clause-formats : goal.returns-clause-formats
 returns-clause-formats g c = λ within. shown_in_own_format c.args.relations.now within
     (even c.args.relations.now c.relations-valid.ensures.valid) (g.D.CancelDesk.registration c.args.desk.now).0
     (g.D.CancelDesk.registration c.args.desk.now).1
->>>>>>> 77833da83b991b4e56f61db18620c851c9af6b21
