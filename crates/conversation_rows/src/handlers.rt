@@ -22,15 +22,40 @@ pub fn serve_told<'t>(
     sink: &mut CountingSink,
     turns: u64,
 ) -> Result<Result<EndKind, ServeError>, Fault<'t>> {
+    let (noop, sample) = (NoopHandler, SampleHandler);
     match told(lines, "handlers") {
         None => {
             let table = table_of(alloc, lines)?;
             Ok(serve_relations_on(alloc, desk, &table, source, sink, turns))
         }
-        Some("noop") => Ok(serve_noop(alloc, desk, source, sink, turns)?),
-        Some("sample") => Ok(serve_sample(alloc, desk, source, sink, turns)?),
+        Some("noop") => {
+            let handlers = NoopHandlers { handler: noop };
+            Ok(serve_by(alloc, handlers, desk, source, sink, turns)?)
+        }
+        Some("sample") => Ok(serve_by(alloc, sample, desk, source, sink, turns)?),
+        Some("refused_copy") => {
+            let handlers = RefusedCopyHandlers {
+                queries: sample,
+                copying: noop,
+            };
+            Ok(serve_by(alloc, handlers, desk, source, sink, turns)?)
+        }
         Some(other) => Err(Fault::Line(other)),
     }
+}
+
+/// Serves a client by these handlers.
+fn serve_by<H: PgWireServerHandlers>(
+    alloc: Global,
+    handlers: H,
+    desk: &mut ScriptDesk,
+    source: &mut MemorySource,
+    sink: &mut CountingSink,
+    turns: u64,
+) -> Result<Result<EndKind, ServeError>, AllocError> {
+    let handlers = Arc::new(alloc, handlers)?;
+    let store = MemPortalStore::new(alloc);
+    Ok(serve_connection(alloc, handlers, store, desk, source, sink, turns))
 }
 
 /// The handler that implements nothing, of every kind.
@@ -65,45 +90,35 @@ impl PgWireServerHandlers for NoopHandlers {
     }
 }
 
-/// Serves a client by the handler that implements nothing.
-fn serve_noop(
-    alloc: Global,
-    desk: &mut ScriptDesk,
-    source: &mut MemorySource,
-    sink: &mut CountingSink,
-    turns: u64,
-) -> Result<Result<EndKind, ServeError>, AllocError> {
-    let handler = NoopHandler;
-    let handlers = Arc::new(alloc, NoopHandlers { handler })?;
-    let store = MemPortalStore::new(alloc);
-    Ok(serve_connection(
-        alloc,
-        handlers,
-        store,
-        desk,
-        source,
-        sink,
-        turns,
-    ))
+/// The handler of sample queries, whose COPY from the client is left to the handler that implements nothing.
+#[derive(Drop)]
+struct RefusedCopyHandlers {
+    queries: SampleHandler,
+    copying: NoopHandler,
 }
 
-/// Serves a client by the handler of sample queries.
-fn serve_sample(
-    alloc: Global,
-    desk: &mut ScriptDesk,
-    source: &mut MemorySource,
-    sink: &mut CountingSink,
-    turns: u64,
-) -> Result<Result<EndKind, ServeError>, AllocError> {
-    let handlers = Arc::new(alloc, SampleHandler)?;
-    let store = MemPortalStore::new(alloc);
-    Ok(serve_connection(
-        alloc,
-        handlers,
-        store,
-        desk,
-        source,
-        sink,
-        turns,
-    ))
+impl PgWireServerHandlers for RefusedCopyHandlers {
+    type Simple = SampleHandler;
+
+    type Extended = SampleHandler;
+
+    type Copying = NoopHandler;
+
+    ghost simple = { λ handlers. handlers.queries };
+
+    ghost extended = { λ handlers. handlers.queries };
+
+    ghost copying = { λ handlers. handlers.copying };
+
+    fn simple_query_handler(&self) -> &SampleHandler {
+        &self.queries
+    }
+
+    fn extended_query_handler(&self) -> &SampleHandler {
+        &self.queries
+    }
+
+    fn copy_handler(&self) -> &NoopHandler {
+        &self.copying
+    }
 }

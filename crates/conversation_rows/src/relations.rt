@@ -33,11 +33,7 @@ fn relations_of<'t>(alloc: Global, lines: &[&'t str]) -> Result<Vec<Relation>, F
 }
 
 /// A relation: its name, how many polls find it unready, and its columns; its rows stand in the lines behind.
-fn relation_of<'t>(
-    alloc: Global,
-    head: &'t str,
-    lines: &[&'t str],
-) -> Result<Relation, Fault<'t>> {
+fn relation_of<'t>(alloc: Global, head: &'t str, lines: &[&'t str]) -> Result<Relation, Fault<'t>> {
     let mut words = head.split_whitespace();
     let name = words.next().unwrap_or("");
     let Ok(unready) = words.next().unwrap_or("").parse::<u32>() else {
