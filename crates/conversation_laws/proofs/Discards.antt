@@ -17,29 +17,35 @@ use Rattle.pg_handlers.specs.Handlers.{Handlers}
 use Rattle.pg_handlers.specs.Replies.{Replies, error_reply}
 use Rattle.pg_handlers.specs.State.{State}
 use Rattle.pg_handlers.specs.Table.{row, scope_in, whole_table, message_row}
-use Rattle.conversation_laws.specs.Discarding.{IsDiscarded, IsOfExtendedQuery, IsOutsideCopy, AwaitsSyncBehindError, unchanged, synced, behind_sync}
+use Rattle.conversation_laws.specs.Discarding.{IsDiscarded, IsOfExtendedQuery, IsOutsideCopy, EndsWithError, unchanged, synced, behind_sync}
 
--- an error that isn't fatal, of a message whose error is told until Sync
+-- an error whose scope is until Sync, fatal or not as told
 told_error : {S : Type 0} (replies : Replies) (calls : List DeskCall) (t : State S) (e : PgWireError) (fatal : Bool)
-    → fatal ≡ false
-    → AwaitsSyncBehindError (info_of e) (if fatal
+    → is_fatal (info_of e) ≡ fatal
+    → EndsWithError (info_of e) (if fatal
     then (let a : Answer (State S) = record { replies = replies ++ error_reply (info_of e) ∷ []; calls = calls; next = Ends end.Fatal } in a)
-    else (record { replies = replies ++ error_reply (info_of e) ∷ (after_error UntilSync t).0; calls = calls; next = Goes (after_error UntilSync t).1 }))
-told_error replies calls t e true is = cc
+    else (record {
+      replies = replies ++ error_reply (info_of e) ∷ (after_error UntilSync t).0;
+      calls = calls;
+      next = Goes (after_error UntilSync t).1;
+    }))
+told_error replies calls t e true is = record { front = replies; replied = refl; follows = rw is refl }
 told_error replies calls t e false is = record {
   front = replies;
   replied = refl;
-  state = (after_error UntilSync t).1;
-  goes = refl;
-  awaits = refl;
+  follows = rw is ((after_error UntilSync t).1, refl, refl);
 }
+
+pub error_ends : {S : Type 0} (replies : Replies) (calls : List DeskCall) (t : State S) (e : PgWireError)
+    → EndsWithError (info_of e) (settled UntilSync replies calls (Failed t e))
+error_ends replies calls t e = told_error replies calls t e (is_fatal (info_of e)) refl
 
 module _ {S : Type 0} (h : Handlers S) where
   -- the answer of a row in a phase
   abbrev answer_in : List Bool → State S → PgWireFrontendMessage → PgWireConnectionState → Answer (State S)
   answer_in answers s m x = settle (scope_in x m) (row h answers s m x)
 
-  extended_scope : (x : PgWireConnectionState) (m : PgWireFrontendMessage) → IsOfExtendedQuery x m → scope_in x m ≡ UntilSync
+  pub extended_scope : (x : PgWireConnectionState) (m : PgWireFrontendMessage) → IsOfExtendedQuery x m → scope_in x m ≡ UntilSync
   extended_scope phase.ReadyForQuery (client.Query m) k = absurd k
   extended_scope phase.ReadyForQuery _ k = refl
   extended_scope (phase.CopyInProgress true) m k = refl
@@ -48,16 +54,15 @@ module _ {S : Type 0} (h : Handlers S) where
   extended_scope phase.AwaitingSync m k = absurd k
 
   settled_error : (c : Called S) (t : State S) (e : PgWireError) (scope : Scope) → scope ≡ UntilSync
-      → (o : Outcome S) → o ≡ Failed t e → is_fatal (info_of e) ≡ false
-      → AwaitsSyncBehindError (info_of e) (settled scope c.effect.replies c.calls o)
-  settled_error c t e scope is o was n = rw (is, was) (told_error c.effect.replies c.calls t e (is_fatal (info_of e)) n)
+      → (o : Outcome S) → o ≡ Failed t e → EndsWithError (info_of e) (settled scope c.effect.replies c.calls o)
+  settled_error c t e scope is o was = rw (is, was) (error_ends c.effect.replies c.calls t e)
 
-  pub error_awaits_sync : (answers : List Bool) (s t : State S) (m : PgWireFrontendMessage) (e : PgWireError)
+  pub ends_with_error : (answers : List Bool) (s t : State S) (m : PgWireFrontendMessage) (e : PgWireError)
       → IsOfExtendedQuery s.info.state m → (message_row h answers s m).effect.outcome ≡ Failed t e
-      → is_fatal (info_of e) ≡ false → AwaitsSyncBehindError (info_of e) (whole_table h answers s m)
-  error_awaits_sync answers s t m e k was n =
+      → EndsWithError (info_of e) (whole_table h answers s m)
+  ends_with_error answers s t m e k was =
       settled_error (message_row h answers s m) t e (scope_in s.info.state m) (extended_scope s.info.state m k)
-      (message_row h answers s m).effect.outcome was n
+      (message_row h answers s m).effect.outcome was
 
   dropped : (answers : List Bool) (s : State S) (m : PgWireFrontendMessage) → IsDiscarded m
       → answer_in answers s m phase.AwaitingSync ≡ unchanged s

@@ -1,4 +1,5 @@
 pub mod Discards
+pub mod Telling
 pub mod Parts
 pub mod Names
 pub mod Keeping

@@ -1,11 +1,14 @@
 -- Messages that are dropped after an error, and the Sync that ends it (protocol: Message Flow, Extended Query).
-use Rattle.std.specs.Prelude.{true, [], ◌∷◌, ◌++◌, ◌≡◌}
+use Rattle.std.specs.Prelude.{Bool, true, false, [], ◌∷◌, ◌++◌, ◌≡◌}
 use Rattle.pg_messages.specs.declared.frontend.PgWireFrontendMessage.{PgWireFrontendMessage}
 use Rattle.pg_messages.specs.declared.frontend.PgWireFrontendMessage.TheVariants as client
 use Rattle.pg_messages.specs.declared.response.ErrorInfo.{ErrorInfo}
 use Rattle.pg_portal.specs.declared.client.PgWireConnectionState.{PgWireConnectionState}
 use Rattle.pg_portal.specs.declared.client.PgWireConnectionState.TheVariants as phase
-use Rattle.pg_handlers.specs.Answer.{Answer, Goes}
+use Rattle.pg_messages.specs.declared.backend.PgWireBackendMessage.TheVariants as server
+use Rattle.pg_handlers.specs.declared.ends.EndKind.TheVariants as end
+use Rattle.pg_handlers.specs.Errors.{is_fatal}
+use Rattle.pg_handlers.specs.Answer.{Answer, Next, Goes, Ends}
 use Rattle.pg_handlers.specs.Replies.{Replies, error_reply, ready}
 use Rattle.pg_handlers.specs.State.{State, in_phase, without_unnamed_portal}
 
@@ -40,10 +43,19 @@ behind_sync s = in_phase (without_unnamed_portal s) phase.ReadyForQuery
 abbrev pub synced : {S : Type 0} → State S → Answer (State S)
 synced s = record { replies = ready s.info.status ∷ []; calls = []; next = Goes (behind_sync s) }
 
--- The last reply is this error's, and Sync is awaited.
-pub record AwaitsSyncBehindError {S : Type 0} (info : ErrorInfo) (a : Answer (State S)) : Type 0 where
+-- what follows an error: the end where it is fatal, and else the phase that awaits Sync
+abbrev pub FollowsError : {S : Type 0} → Bool → Next (State S) → Type 0
+FollowsError true next = next ≡ Ends end.Fatal
+FollowsError {S} false next = (t : State S) × (next ≡ Goes t) × (t.info.state ≡ phase.AwaitingSync)
+
+-- The last reply is this error's, and what follows is by its severity.
+pub record EndsWithError {S : Type 0} (info : ErrorInfo) (a : Answer (State S)) : Type 0 where
   pub front : Replies
   pub replied : a.replies ≡ front ++ error_reply info ∷ []
-  pub state : State S
-  pub goes : a.next ≡ Goes state
-  pub awaits : state.info.state ≡ phase.AwaitingSync
+  pub follows : FollowsError (is_fatal info) a.next
+
+-- whether an ErrorResponse is among replies
+abbrev pub has_error : Replies → Bool
+has_error [] = false
+has_error (server.ErrorResponse m ∷ replies) = true
+has_error (reply ∷ replies) = has_error replies

@@ -1,11 +1,12 @@
 //! Laws of a conversation. The functions take nothing and do nothing: their contracts are the laws.
 
-ghost use Rattle.std.specs.Prelude.{◌≡◌, false, ℕ, Bool, List, ◌∷◌, ◌++◌};
+ghost use Rattle.std.specs.Prelude.{◌≡◌, true, false, ℕ, Bool, List, ◌∷◌, ◌++◌};
 ghost use Rattle.std.specs.List.{AllByRecursion};
 ghost use Rattle.pg_messages.specs.declared.extendedquery.Execute.{Execute};
 ghost use Rattle.pg_messages.specs.declared.extendedquery.PgSync.{PgSync};
 ghost use Rattle.pg_messages.specs.declared.frontend.PgWireFrontendMessage.{PgWireFrontendMessage};
 ghost use Rattle.pg_messages.specs.declared.frontend.PgWireFrontendMessage.TheVariants as client;
+ghost use Rattle.pg_messages.specs.declared.response.ErrorInfo.{ErrorInfo};
 ghost use Rattle.pg_portal.specs.declared.client.PgWireConnectionState.TheVariants as phase;
 ghost use Rattle.pg_portal.specs.declared.error.PgWireError.{PgWireError};
 ghost use Rattle.pg_portal.specs.Errors.{info_of};
@@ -13,7 +14,6 @@ ghost use Rattle.pg_portal.specs.Fetching.{items_to_come};
 ghost use Rattle.pg_portal.specs.Told.{ToldRows};
 ghost use Rattle.pg_handlers.specs.Answer.{Goes, conversation, joined};
 ghost use Rattle.pg_handlers.specs.Effect.{Failed};
-ghost use Rattle.pg_handlers.specs.Errors.{is_fatal};
 ghost use Rattle.pg_handlers.specs.Handlers.{Handlers};
 ghost use Rattle.pg_handlers.specs.State.{State};
 ghost use Rattle.pg_handlers.specs.Table.{whole_table, message_row};
@@ -21,7 +21,8 @@ ghost use Rattle.conversation_laws.specs.Discarding.{
   IsDiscarded,
   IsOfExtendedQuery,
   IsOutsideCopy,
-  AwaitsSyncBehindError,
+  EndsWithError,
+  has_error,
   unchanged,
   synced,
   behind_sync,
@@ -36,11 +37,16 @@ ghost use Rattle.conversation_laws.specs.Pages.{
   stage_under,
 };
 
-/// After an error in an extended message, discarding lasts until Sync and no longer.
+/// After an error in an extended message, discarding lasts until Sync and no longer: the error is the last that is told,
+/// and unless it is fatal, each message but Terminate is dropped up to the next Sync, which is answered.
 pub fn discards_until_sync<S>()
     ensures error { (h : Handlers S) (answers : List Bool) (s t : State S) (m : PgWireFrontendMessage) (e : PgWireError)
         → IsOfExtendedQuery s.info.state m → (message_row h answers s m).effect.outcome ≡ Failed t e
-        → is_fatal (info_of e) ≡ false → AwaitsSyncBehindError (info_of e) (whole_table h answers s m) }
+        → EndsWithError (info_of e) (whole_table h answers s m) }
+    ensures error_response { (h : Handlers S) (answers : List Bool) (s : State S) (m : PgWireFrontendMessage)
+        → s.info.state ≡ phase.ReadyForQuery → IsOfExtendedQuery s.info.state m
+        → has_error (whole_table h answers s m).replies ≡ true
+        → (info : ErrorInfo) × EndsWithError info (whole_table h answers s m) }
     ensures each { (h : Handlers S) (answers : List Bool) (s : State S) (m : PgWireFrontendMessage)
         → s.info.state ≡ phase.AwaitingSync → IsDiscarded m → whole_table h answers s m ≡ unchanged s }
     ensures all { (h : Handlers S) (answers : List Bool) (s : State S) (messages : List PgWireFrontendMessage)
