@@ -1,13 +1,13 @@
 .PHONY: demo build test bench docs
 
-CLIENT = crates/server/stdin
+CLIENT = tools/demo_client.hex
 WORDS = 7 01020304
 # The programs that bench/ measures.
 MEASURED = $(notdir $(wildcard $(addprefix crates/,server print_bench interval_rows read_bench message_rows cancel_stress)))
 # Runs a command in a folder, and shows what it says only where it fails.
 QUIETLY = log=$$(mktemp) && if (cd $(1) && $(2)) >$$log 2>&1; then rm -f $$log; else cat $$log; rm -f $$log; exit 1; fi
 
-# Serves the client of crates/server/stdin and shows its frames and the replies. The program is built unproved.
+# Serves a sample client and shows its frames and the replies. The program is built unproved.
 demo:
 	@echo "The program is built unproved, which takes about a minute. make build proves it first."
 	@python3 tools/show_frames.py $(CLIENT) tools/try_server $(WORDS)

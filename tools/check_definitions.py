@@ -384,7 +384,7 @@ def rows_of_page(problems):
 
 def known_examples(crates):
     """The names of tests, and those of the rows of table programs: texts in the code; lines of standard input and output,
-    their fields between tabs or bars, and their beginnings up to a colon or an arrow."""
+    what stands behind the word `row`, their fields between tabs or bars, and their beginnings up to a colon or an arrow."""
     tests, told = set(), []
     for crate in crates:
         folder = TOP / "crates" / crate
@@ -395,6 +395,7 @@ def known_examples(crates):
         for name in ("stdin", "stdout"):
             if (folder / name).is_file():
                 lines = (folder / name).read_bytes().decode("utf-8", "replace").split("\n")
+                told += [line[4:] for line in lines if line.startswith("row ")]
                 told += [part for line in lines for part in [line, re.split(r":| =>| ->", line)[0], *re.split(r"\t|\|", line)]]
     return tests, {text.strip() for text in told}
 

@@ -1,7 +1,8 @@
 #!/usr/bin/env python3
 """Shows a conversation: usage: show_frames.py CLIENT PROGRAM [WORD..]
 
-CLIENT is a file of client bytes. PROGRAM is run on it with the words, and the frames of both sides are printed, a line
+CLIENT is a file of client bytes, or of lines of hexadecimal digits, each with words behind two spaces, where its name
+ends with .hex. PROGRAM is run on it with the words, and the frames of both sides are printed, a line
 each: the message's name, its length in bytes, its bytes in hexadecimal, and what some of them say. The status is
 PROGRAM's, and what PROGRAM writes as errors is shown where that isn't 0.
 """
@@ -52,18 +53,30 @@ def server_frames(data):
 
 
 def cells_of(body):
-    """The cells of a DataRow: an interval's sixteen bytes as its three numbers, any other as text."""
+    """The cells of a DataRow: sixteen bytes that are no text as an interval's three numbers, any other as text."""
     at, cells = 2, []
     while at < len(body):
         size = int.from_bytes(body[at:at + 4], "big", signed=True)
         cell = body[at + 4:at + 4 + max(size, 0)]
-        if size == 16:
+        if size == 16 and not cell.decode("latin-1").isprintable():
             number = [int.from_bytes(part, "big", signed=True) for part in (cell[12:], cell[8:12], cell[:8])]
             cells.append("{} months {} days {} microseconds".format(*number))
         else:
             cells.append("null" if size < 0 else cell.decode("utf-8", "replace"))
         at += 4 + max(size, 0)
     return " | ".join(cells)
+
+
+def columns_of(body):
+    """The columns of a RowDescription: the name of each, its type and its format."""
+    at, columns = 2, []
+    while at < len(body):
+        end = body.index(b"\0", at)
+        kind = int.from_bytes(body[end + 7:end + 11], "big")
+        form = int.from_bytes(body[end + 17:end + 19], "big")
+        columns.append(f"{body[at:end].decode()} type {kind} {'binary' if form == 1 else 'text'}")
+        at = end + 19
+    return columns
 
 
 def meaning_of(name, frame):
@@ -73,6 +86,8 @@ def meaning_of(name, frame):
         return cells_of(body)
     if name == "BackendKeyData":
         return f"pid {int.from_bytes(body[:4], 'big', signed=True)} key {body[4:].hex()}"
+    if name == "RowDescription":
+        return " | ".join(columns_of(body))
     if name in ("Startup", "Parse", "Query", "ParameterStatus", "CommandComplete", "ErrorResponse", "ReadyForQuery"):
         texts = (body[3:] if name == "Startup" else body).split(b"\0")
         return " ".join(text.decode() for text in texts if text and text.isascii() and text.decode().isprintable())
@@ -85,9 +100,18 @@ def show(title, data, frames):
         print(f"  {name:16} {len(frame):3}  {frame.hex()}  {meaning_of(name, frame)}".rstrip())
 
 
+def read_client(name):
+    """The client's bytes: the file's, or those that its lines tell, where it is one of digits."""
+    with open(name, "rb") as file:
+        data = file.read()
+    if not name.endswith(".hex"):
+        return data
+    lines = data.decode().splitlines()
+    return bytes.fromhex("".join(line.split("  ")[0] for line in lines if not line.startswith("#")))
+
+
 def main():
-    with open(sys.argv[1], "rb") as file:
-        client = file.read()
+    client = read_client(sys.argv[1])
     done = subprocess.run(sys.argv[2:], input=client, capture_output=True)
     if done.returncode != 0:
         sys.stderr.write(done.stderr.decode("utf-8", "replace"))

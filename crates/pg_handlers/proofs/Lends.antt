@@ -25,6 +25,7 @@ use Rattle.pg_handlers.specs.Executing.{OnlyLosesUnnamed, is_unstarted, IsPageOf
 use Rattle.pg_handlers.specs.Handlers.{ExtendedTold}
 use Rattle.pg_handlers.specs.Questions.{Verdict, Passed, Canceled, Unanswered, IsAsked}
 use Rattle.pg_handlers.specs.Good.{IsGoodState, IsGoodPortal, HasGoodTag}
+use Rattle.pg_handlers.specs.Sending.{AtTurnLimit}
 use Rattle.pg_handlers.specs.State.{State, with_portal, without_portal}
 use Rattle.pg_handlers.proofs.Executes.{run_row, row_as, cut_as, refused_as, silent_row, silent_refused, cut_started, run_was, run_refused}
 use Rattle.pg_handlers.proofs.GoodStores.{good_parts, good_with_portal, good_without_portal, one_value}
@@ -162,6 +163,16 @@ module _ {S : Type 0} (s : State S) (m : Execute) (p : TablePortal S) (out new_o
       run_waits Passed (Ok (response.Query r)) x = absurd x
       run_waits Passed (Ok _) x = absurd x
 
+      -- a turn was wanting
+      pub run_stays : (verdict : Verdict) (outcome : Result ToldResponse PgWireError)
+          → IsPortalRun told (portal_run m.max_rows Unstarted verdict outcome) Unstarted stage out new_out (Err session.TurnLimit)
+          → (s' ≡ s) × (new_out ≡ out)
+      run_stays Unanswered outcome x = (sym (unchanged x.0), x.1)
+      run_stays Canceled outcome x = absurd x
+      run_stays Passed (Err d) x = absurd x
+      run_stays Passed (Ok (response.Query r)) x = absurd x
+      run_stays Passed (Ok _) x = absurd x
+
 -- a state of the same parts
 pub parts_same : {S : Type 0} (s : State S) (statements : NameMap (Entry (StoredStatement S))) (portals : NameMap (Entry (TablePortal S))) → portals ≡ s.portals → statements ≡ s.statements
     → (let t : State S = record { info = s.info; statements = statements; portals = portals } in t) ≡ s
@@ -242,6 +253,11 @@ module _ {S A : Type 0} (told : A → ToldResponse) (h : ExtendedTold S) (s : St
           → IsRefusedRow (λ answers. on_execute h answers s m) out new_out calls done s' e
       portal_refused (session.Wire e) x = row_refused out new_out s' e (run_wire s m p out new_out stage s' written found told fresh verdict (h.query s.info p.bound m.max_rows).outcome e x)
       portal_refused session.TurnLimit x = row_ran out new_out Stopped (run_waits s m p out new_out stage s' written found told fresh verdict (h.query s.info p.bound m.max_rows).outcome x)
+
+      pub portal_stays : (e : SessionError) → IsPortalRun told (portal_run m.max_rows Unstarted verdict (h.query s.info p.bound m.max_rows).outcome) Unstarted stage out new_out (Err e)
+          → AtTurnLimit e ((s' ≡ s) × (new_out ≡ out))
+      portal_stays (session.Wire e) x = tt
+      portal_stays session.TurnLimit x = run_stays s m p out new_out stage s' written found told fresh verdict (h.query s.info p.bound m.max_rows).outcome x
 
       pub portal_paged : IsPortalRun told (portal_run m.max_rows Unstarted verdict (h.query s.info p.bound m.max_rows).outcome) Unstarted stage out new_out (Ok None)
           → IsRow (λ answers. on_execute h answers s m) out new_out calls done (Done s')

@@ -1,6 +1,7 @@
 -- What was sent of a response, as it is sent reply by reply.
-use Rattle.std.proofs.Common.{arith, ◌≡◌, ◌++◌, ◌≤◌, ◌+◌, List, [], ◌∷◌, ℕ, ℤ, true, false, Ok, Err, map, length, refl, sym, ap, ◌∙◌, append_assoc}
-use Rattle.std.proofs.lemmas.List.{length-append, append-nil, map-append}
+use Rattle.std.proofs.Common.{arith, ◌≡◌, ◌++◌, ◌≤◌, ◌+◌, List, [], ◌∷◌, ℕ, ℤ, true, false, Ok, Err, map, length, take, drop, refl, sym, ap, ◌∙◌, append_assoc}
+use Rattle.std.proofs.lemmas.List.{length-append, append-nil, map-append, take-append-drop}
+use Rattle.std.proofs.Math.Seq.{take-append_seam}
 use Rattle.std.proofs.lemmas.Grind.{flat_map-append}
 use Rattle.pg_messages.specs.declared.data.DataRow.{DataRow}
 use Rattle.pg_messages.specs.declared.backend.PgWireBackendMessage.{PgWireBackendMessage}
@@ -25,6 +26,22 @@ pub sent_behind : (out mid new : List ℕ) (a b : List PgWireBackendMessage) →
 sent_behind out mid new a b e f =
     f ∙ ap (λ l. l ++ replies_bytes b) e ∙ append_assoc out (replies_bytes a) (replies_bytes b)
     ∙ ap (λ l. out ++ l) (sym (replies_bytes-append a b))
+
+-- what waited in front stays there
+pub kept_in_front : (out new more : List ℕ) → new ≡ out ++ more → take (length out) new ≡ out
+kept_in_front out new more e = ap (take (length out)) e ∙ take-append_seam out more
+
+pub kept_behind : (out mid new more : List ℕ) → mid ≡ out ++ more → take (length mid) new ≡ mid → take (length out) new ≡ out
+kept_behind out mid new more begun kept =
+    let whole : new ≡ out ++ (more ++ drop (length mid) new) =
+    sym (take-append-drop (length mid) new) ∙ ap (λ l. l ++ drop (length mid) new) (kept ∙ begun)
+    ∙ append_assoc out more (drop (length mid) new) in
+    kept_in_front out new (more ++ drop (length mid) new) whole
+
+pub kept_through : (out mid new : List ℕ) → take (length out) mid ≡ out → take (length mid) new ≡ mid → take (length out) new ≡ out
+kept_through out mid new first second =
+    kept_behind out mid new (drop (length out) mid)
+    (sym (take-append-drop (length out) mid) ∙ ap (λ l. l ++ drop (length out) mid) first) second
 
 pub one_reply : (m : PgWireBackendMessage) → reply_bytes m ≡ replies_bytes (m ∷ [])
 one_reply m = sym (append-nil (reply_bytes m))

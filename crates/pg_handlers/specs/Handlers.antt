@@ -1,5 +1,5 @@
 -- What the parts of a server tell: the handlers of extended and of simple queries, and the handler of COPY.
-use Rattle.std.specs.Prelude.{ℕ, ℤ, Bool, List, Option, Result, Ok, Err, ◌≡◌, ◌≢◌, ◌-◌}
+use Rattle.std.specs.Prelude.{ℕ, ℤ, Bool, true, List, Option, Result, Ok, Err, ◌≡◌, ◌≢◌, ◌-◌}
 use Rattle.std.specs.declared.alloc.AllocError.{AllocError}
 use Rattle.pg_portal.specs.declared.error.PgWireError.{PgWireError}
 use Rattle.pg_portal.specs.declared.client.ClientInfo.{ClientInfo}
@@ -29,7 +29,7 @@ pub record QueryTold (A : Type 0) : Type 0 where
 -- Unready exactly where a poll is owed, of which there is then one less; else the outcome, after which the query is spent.
 abbrev pub IsPolled : {A : Type 0} → QueryTold A → Result (Turn A) AllocError → QueryTold A → Type 0
 IsPolled old (Ok Unready) new = (old.owes ≢ 0) × (new ≡ record { is_spent = old.is_spent; owes = old.owes - 1; outcome = old.outcome })
-IsPolled old (Ok (Ready out)) new = (old.owes ≡ 0) × (out ≡ old.outcome)
+IsPolled old (Ok (Ready out)) new = (old.owes ≡ 0) × (out ≡ old.outcome) × (new.is_spent ≡ true)
 IsPolled old (Err e) new = new ≡ old
 
 -- the response of a query, or its error

@@ -53,3 +53,8 @@ pub record IsRefusedData (items : List (Result CopyData PgWireError)) (out new_o
 abbrev pub IsAnswerableError : SessionError → Type 0
 IsAnswerableError (session.Wire e) = IsAnswerable e
 IsAnswerableError session.TurnLimit = Unit {0}
+
+-- what holds after an error where it is the limit of the turns
+abbrev pub AtTurnLimit : SessionError → Type 0 → Type 0
+AtTurnLimit (session.Wire e) P = Unit {0}
+AtTurnLimit session.TurnLimit P = P

@@ -18,7 +18,8 @@ use pg_portal::{PgWireError, PortalStore};
 use std::alloc::{AllocError, Global};
 
 /// What a server does with the data of a COPY from the client. Its calls may append replies, and change nothing else of
-/// the client. An error ends the COPY.
+/// the client. An error, which is the handler's own or NoMemory, ends the COPY; the replies before the handler's own
+/// stay in the outbox.
 pub trait CopyHandler {
     // what it tells
     ghost told: { Self → CopyTold };

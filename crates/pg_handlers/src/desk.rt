@@ -1,3 +1,5 @@
+//! The cancel registry as a session sees it, and a desk that answers from a list.
+
 ghost use Rattle.std.specs.Prelude.{◌≡◌, ℕ, ℤ, List, ◌++◌, [], ◌∷◌, drop, IfOk, OnOk, OnErr};
 ghost use Rattle.pg_handlers.specs.declared.desk.DeskCall.{DeskCall};
 ghost use Rattle.pg_handlers.specs.Script.{first_or_no, registration_of, origin_of, IsScripted};
@@ -79,7 +81,7 @@ impl Model for ScriptDesk {
 }
 
 impl ScriptDesk {
-    /// A desk of this registration, with these answers to come.
+    /// A desk of this registration, with these answers to come. It takes no memory.
     pub fn new(alloc: Global, pid: i32, key: [u8; 4], answers: PgList<bool>) -> ScriptDesk
         ensures pid { result.pid ≡ pid }
         ensures key { result.key ≡ key }

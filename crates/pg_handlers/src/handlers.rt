@@ -8,13 +8,13 @@ use crate::query::simple::SimpleQueryHandler;
 
 /// The handlers of a server.
 pub trait PgWireServerHandlers: Drop {
-    /// That of simple queries.
+    /// The type of the handler of simple queries.
     type Simple: SimpleQueryHandler;
 
-    /// That of extended queries.
+    /// The type of the handler of extended queries.
     type Extended: ExtendedQueryHandler;
 
-    /// That of COPY.
+    /// The type of the handler of COPY.
     type Copying: CopyHandler;
 
     ghost simple: { Self → Self.Simple };

@@ -25,11 +25,12 @@ impl Model for Outbox {
     ghost invariant = { λ o. 65536 ≤ length o.bytes.items + o.bytes.spare };
 }
 
-/// As many bytes are sent at once, where there are so many.
+/// An outbox has room for so many bytes from the start, and a session sends what waits as soon as it is so many bytes
+/// or more after a message.
 pub const CHUNK: usize = 65536;
 
 impl Outbox {
-    /// An empty outbox with room for 65,536 bytes.
+    /// An empty outbox with room for 65,536 bytes, or AllocError where there is no memory for it.
     pub fn new(alloc: Global) -> Result<Outbox, AllocError>
         ensures { IfOk result (λ outbox. outbox ≡ []) }
     {

@@ -1,12 +1,14 @@
 //! The columns of relations, and their formats.
 
-ghost use Rattle.std.specs.Prelude.{◌≡◌, IfOk, IsTrue, length, map, zip};
+ghost use Rattle.std.specs.Prelude.{◌≡◌, ◌<◌, IfOk, IsTrue, length, map, zip};
 ghost use Rattle.pg_messages.specs.declared.backend.PgWireBackendMessage.TheVariants as server;
 ghost use Rattle.pg_messages.specs.Replies.{IsEncodable};
 ghost use Rattle.pg_handlers.specs.Replies.{row_description};
-ghost use Rattle.relation_tables.specs.Relations.{column};
+ghost use Rattle.relation_tables.specs.Relations.{column, relation_at};
 ghost use Rattle.relation_tables.specs.RelationHandler.{column_format, column_formats, fields_of, is_statement_of};
+ghost use Rattle.relation_handlers.specs.Shared.{shared_of, told_columns};
 
+use crate::shared::{Columns, SharedColumns};
 use crate::table::RelationTable;
 use pg_messages::{PgList, PgStr};
 use pg_portal::{FieldInfo, Format};
@@ -29,11 +31,56 @@ pub(crate) fn fields_of(
         RelationStatement::Begin => Ok(PgList::new(alloc)),
         RelationStatement::Commit => Ok(PgList::new(alloc)),
         RelationStatement::Relation(place) => {
-            let names = relations.at(place).columns.as_slice();
-            let formats = column_formats(alloc, formats, names)?;
-            columns(alloc, formats.as_slice(), names)
+            let columns = columns_at(alloc, relations, place, formats)?;
+            copy_of_fields(alloc, columns.fields())
         }
     }
+}
+
+/// The columns of the relation at a place in these formats, which can be sent as a reply.
+pub(crate) fn columns_at(
+    alloc: Global,
+    relations: &RelationTable,
+    place: u32,
+    formats: &Format,
+) -> Result<Columns, AllocError>
+    requires { place < length relations.now }
+    ensures columns { IfOk result (λ columns.
+        columns ≡ told_columns formats.now (relation_at relations.now place).columns) }
+    ensures length { IfOk result (λ columns.
+        length columns.formats ≡ length (relation_at relations.now place).columns) }
+    ensures encodable { IfOk result (λ columns. IsEncodable (row_description columns.fields)) }
+{
+    let names = relations.at(place).columns.as_slice();
+    columns_in(alloc, relations.columns_at(place), formats, names)
+}
+
+/// The columns of these names in these formats. Where all have one format they are those that are shared.
+fn columns_in(
+    alloc: Global,
+    shared: &SharedColumns,
+    formats: &Format,
+    names: &[PgStr],
+) -> Result<Columns, AllocError>
+    requires { shared.now ≡ shared_of names.now }
+    ensures { IfOk result (λ columns. columns ≡ told_columns formats.now names.now) }
+{
+    match formats {
+        Format::UnifiedText => shared.text.share(),
+        Format::UnifiedBinary => shared.binary.share(),
+        Format::Individual(_) => Columns::new(alloc, formats, names),
+    }
+}
+
+/// A copy of columns, which shares their options.
+fn copy_of_fields(alloc: Global, fields: &[FieldInfo]) -> Result<PgList<FieldInfo>, AllocError>
+    ensures { IfOk result (λ copy. copy ≡ fields.now) }
+{
+    let mut copy = PgList::new(alloc);
+    for field in fields {
+        copy.push(field.copy_of(alloc)?)?;
+    }
+    Ok(copy)
 }
 
 /// The formats of columns, one for each.

@@ -12,6 +12,7 @@ mod parser;
 mod query;
 mod row;
 mod rows;
+mod shared;
 mod simple;
 mod style;
 mod table;

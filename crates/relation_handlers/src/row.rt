@@ -20,6 +20,7 @@ use std::alloc::{AllocError, Global};
 
 /// A row in these formats, one for each column, or `InvalidOptionValue` in its place where a column is text and the
 /// session's style isn't one. It can be sent as a reply.
+#[inline(always)]
 pub(crate) fn row_item(
     alloc: Global,
     style: &SessionStyle,
@@ -39,6 +40,7 @@ pub(crate) fn row_item(
 }
 
 /// A row in these formats.
+#[inline(always)]
 fn row_of(
     alloc: Global,
     style: &SessionStyle,
@@ -59,6 +61,7 @@ fn row_of(
 }
 
 /// The values of a row, one after another. There is room for those of a binary row from the start.
+#[inline(always)]
 fn values(
     alloc: Global,
     style: &SessionStyle,
@@ -82,6 +85,7 @@ fn values(
 }
 
 /// Appends an interval as a value of a row.
+#[inline(always)]
 fn push_value(
     alloc: Global,
     payload: &mut Vec<u8>,
@@ -105,6 +109,7 @@ fn push_value(
 }
 
 /// Appends a binary value: Int32 16, and the sixteen bytes of the interval.
+#[inline(always)]
 fn push_binary(payload: &mut Vec<u8>, interval: &Interval) -> Result<(), AllocError>
     ensures pushed { OnOk result (payload.new.items ≡ payload.old.items ++ binary_value interval.now) }
     ensures short { OnOk result (length payload.new.items ≤ length payload.old.items + 20) }

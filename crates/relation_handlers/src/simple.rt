@@ -17,7 +17,6 @@ use crate::copy::RelationCopy;
 use crate::errors::unknown_relation;
 use crate::query::RelationQuery;
 use crate::rows::RelationRows;
-use crate::style::SessionStyle;
 use crate::table::RelationTable;
 use crate::words::copied_name;
 use pg_messages::PgList;
@@ -102,7 +101,7 @@ fn copy_query<'r>(
     match relations.find(name) {
         Some(place) => {
             let relation = relations.at(place);
-            let responses = copy_responses(alloc, relation, client)?;
+            let responses = copy_responses(alloc, relations, relation, client)?;
             Ok(RelationQuery::new(relation.unready, Ok(responses)))
         }
         None => refused_query(alloc, name),
@@ -112,6 +111,7 @@ fn copy_query<'r>(
 /// What a COPY of a relation is answered: its lines as text.
 fn copy_responses<'r>(
     alloc: Global,
+    relations: &RelationTable,
     relation: &'r Relation,
     client: &ClientInfo,
 ) -> Result<PgList<Response<RelationRows<'r>, RelationCopy<'r>>>, AllocError>
@@ -120,7 +120,7 @@ fn copy_responses<'r>(
     ensures { IfOk result (λ responses. told_responses (λ rows. rows) (λ items. items) responses
         ≡ copy_response client.now relation.now ∷ []) }
 {
-    let style = SessionStyle::of(alloc, client)?;
+    let style = relations.style_of(alloc, client)?;
     let lines = RelationCopy::new(alloc, relation, style);
     alone(
         alloc,

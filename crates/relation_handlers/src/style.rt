@@ -7,7 +7,8 @@ ghost use Rattle.pg_portal.specs.Clients.{HasShortMetadata};
 ghost use Rattle.pg_portal.specs.Rows.{IsAnswerable};
 ghost use Rattle.pg_portal.specs.Texts.{IsShortText};
 ghost use Rattle.pg_portal.specs.Told.{IsOutcome};
-ghost use Rattle.relation_tables.specs.RelationHandler.{session_style, style_text};
+ghost use Rattle.relation_tables.specs.RelationHandler.{or_refused, session_style};
+ghost use Rattle.relation_handlers.specs.Told.{told_style};
 
 use pg_messages::PgStr;
 use pg_portal::{ClientInfo, PgWireError};
@@ -15,25 +16,24 @@ use pg_text::{CellError, IntervalStyle};
 use std::alloc::{AllocError, Global};
 use std::marker::Model;
 
-/// A session's interval style, judged once: the style, where its text names one, and the text.
+/// A session's interval style, judged once: the style, or the text that names none.
 #[derive(Drop)]
 pub struct SessionStyle {
-    style: Option<IntervalStyle>,
-    text: PgStr,
+    style: Result<IntervalStyle, PgStr>,
 }
 
 impl Model for SessionStyle {
-    ghost use Rattle.std.specs.Prelude.{Result};
+    ghost use Rattle.std.specs.Prelude.{Result, IfErr};
     ghost use Rattle.pg_text.specs.declared.format.interval_style.IntervalStyle.{IntervalStyle};
     ghost use Rattle.pg_portal.specs.declared.error.PgWireError.{PgWireError};
     ghost use Rattle.pg_portal.specs.Texts.{IsShortText};
-    ghost use Rattle.relation_tables.specs.RelationHandler.{or_refused};
+    ghost use Rattle.relation_handlers.specs.Told.{told_style};
 
     ghost Value = { Result IntervalStyle PgWireError };
 
-    ghost view = { λ s. or_refused s.text s.style };
+    ghost view = { λ s. told_style s.style };
 
-    ghost invariant = { λ s. IsShortText s.text };
+    ghost invariant = { λ s. IfErr s.style IsShortText };
 }
 
 impl SessionStyle {
@@ -42,9 +42,22 @@ impl SessionStyle {
         requires { HasShortMetadata client.now }
         ensures { IfOk result (λ style. style ≡ session_style client.now) }
     {
-        let text = style_text(alloc, client)?;
-        let style = style_named(alloc, text.as_str())?;
-        Ok(SessionStyle { style, text })
+        let name = PgStr::copy_of(alloc, "intervalstyle")?;
+        SessionStyle::under(alloc, client, &name)
+    }
+
+    /// The style of a client, where the name `intervalstyle` is at hand. A style that is one takes no memory.
+    pub(crate) fn under(
+        alloc: Global,
+        client: &ClientInfo,
+        name: &PgStr,
+    ) -> Result<SessionStyle, AllocError>
+        requires short_metadata { HasShortMetadata client.now }
+        requires name { name.now ≡ codes "intervalstyle" }
+        ensures { IfOk result (λ style. style ≡ session_style client.now) }
+    {
+        let style = judged(alloc, text_under(client, name))?;
+        Ok(SessionStyle { style })
     }
 
     /// The style, or `InvalidOptionValue` with the text that names none.
@@ -52,22 +65,14 @@ impl SessionStyle {
         ensures outcome { IsOutcome self.now result }
         ensures answerable { IfErr result IsAnswerable }
     {
-        match self.style {
-            Some(style) => Ok(style),
-            None => Err(PgWireError::InvalidOptionValue(PgStr::copy_of(
+        match &self.style {
+            Ok(style) => Ok(*style),
+            Err(text) => Err(PgWireError::InvalidOptionValue(PgStr::copy_of(
                 alloc,
-                self.text.as_str(),
+                text.as_str(),
             )?)),
         }
     }
-}
-
-/// The text that names a client's style.
-fn style_text(alloc: Global, client: &ClientInfo) -> Result<PgStr, AllocError>
-    ensures { IfOk result (λ text. text ≡ style_text client.now) }
-{
-    let name = PgStr::copy_of(alloc, "intervalstyle")?;
-    PgStr::copy_of(alloc, text_under(client, &name))
 }
 
 /// The startup parameter of this name, and `postgres` without one.
@@ -80,13 +85,14 @@ fn text_under<'c>(client: &'c ClientInfo, name: &PgStr) -> &'c str
     }
 }
 
-/// The style that a text names, or None where it names none.
-fn style_named(alloc: Global, text: &str) -> Result<Option<IntervalStyle>, AllocError>
-    ensures { IfOk result (λ style. style ≡ interval_style_of text.now) }
+/// The style that a text names, or the text where it names none.
+fn judged(alloc: Global, text: &str) -> Result<Result<IntervalStyle, PgStr>, AllocError>
+    ensures told { IfOk result (λ style. told_style style ≡ or_refused text.now (interval_style_of text.now)) }
+    ensures refused { IfOk result (λ style. IfErr style (λ refused. refused ≡ text.now)) }
 {
     match IntervalStyle::try_from_text(alloc, text) {
-        Ok(style) => Ok(Some(style)),
-        Err(CellError::InvalidOptionValue(_)) => Ok(None),
+        Ok(style) => Ok(Ok(style)),
+        Err(CellError::InvalidOptionValue(refused)) => Ok(Err(refused)),
         Err(_) => Err(AllocError),
     }
 }

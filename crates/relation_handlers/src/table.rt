@@ -1,12 +1,17 @@
 ghost use Rattle.std.specs.Prelude.{◌≡◌, ℕ, List, [], ◌^◌, ◌<◌, ◌++◌, ◌||◌, ◌==◌, not, Option, Some, None, length, IfOk, IfErr, OnOk};
 ghost use Rattle.std.specs.FinMap as map;
 ghost use Rattle.std.specs.List.{list_all};
+ghost use Rattle.pg_portal.specs.Clients.{HasShortMetadata};
+ghost use Rattle.relation_tables.specs.RelationHandler.{session_style};
 ghost use Rattle.relation_tables.specs.Relations.{are_even, place_of, relation_at};
+ghost use Rattle.relation_handlers.specs.Shared.{shared_columns};
 ghost use Rattle.relation_handlers.specs.Tables.{is_transaction_word, is_foreign_to_names, is_name, is_column_name, are_columns, refusal_at, refusal, IsSound, IsValid, IsCause};
 
+use crate::shared::{SharedColumns, shared_columns};
+use crate::style::SessionStyle;
 use pg_interval::Interval;
 use pg_messages::{PgList, PgStr};
-use pg_portal::Named;
+use pg_portal::{ClientInfo, Named};
 use relation_tables::Relation;
 use std::alloc::{AllocError, Global};
 use std::marker::Model;
@@ -41,22 +46,30 @@ impl From<AllocError> for TableError {
 pub struct RelationTable {
     relations: PgList<Relation>,
     places: Named<u32>,
+    // the columns of each relation
+    columns: PgList<SharedColumns>,
+    // the name of the startup parameter `intervalstyle`
+    style_name: PgStr,
 }
 
 impl Model for RelationTable {
-    ghost use Rattle.std.specs.Prelude.{List, ℕ, ◌≡◌};
+    ghost use Rattle.std.specs.Prelude.{List, ℕ, ◌≡◌, codes};
+    ghost use Rattle.std.specs.Prelude as list;
     ghost use Rattle.std.specs.FinMap as map;
     ghost use Rattle.relation_tables.specs.declared.Relation.{Relation};
 
     ghost Value = { List Relation };
 
     ghost use Rattle.relation_tables.specs.Relations.{place_of};
+    ghost use Rattle.relation_handlers.specs.Shared.{shared_columns};
     ghost use Rattle.relation_handlers.specs.Tables.{IsValid};
 
     ghost view = { λ t. t.relations };
 
     ghost invariant = { λ t. IsValid t.relations
-        × ((name : List ℕ) → map.get t.places name ≡ place_of t.relations name) };
+        × ((name : List ℕ) → map.get t.places name ≡ place_of t.relations name)
+        × (t.columns ≡ list.map shared_columns t.relations)
+        × (t.style_name ≡ codes "intervalstyle") };
 }
 
 impl RelationTable {
@@ -69,7 +82,14 @@ impl RelationTable {
         ensures refused { IfErr result (λ error. IsCause relations error) }
     {
         let places = places_of(alloc, relations.as_slice())?;
-        Ok(RelationTable { relations, places })
+        let columns = shared_columns(alloc, relations.as_slice())?;
+        let style_name = PgStr::copy_of(alloc, "intervalstyle")?;
+        Ok(RelationTable {
+            relations,
+            places,
+            columns,
+            style_name,
+        })
     }
 
     /// The place of the relation of exactly this name, or None exactly where there is none.
@@ -86,6 +106,26 @@ impl RelationTable {
         ensures sound { IsSound result.now }
     {
         &self.relations.as_slice()[place as usize]
+    }
+
+    /// The columns of the relation at a place.
+    pub(crate) fn columns_at(&self, place: u32) -> &SharedColumns
+        requires { place < length self.now }
+        ensures { result.now ≡ shared_columns (relation_at self.now place) }
+    {
+        &self.columns.as_slice()[place as usize]
+    }
+
+    /// The style of a client.
+    pub(crate) fn style_of(
+        &self,
+        alloc: Global,
+        client: &ClientInfo,
+    ) -> Result<SessionStyle, AllocError>
+        requires { HasShortMetadata client.now }
+        ensures { IfOk result (λ style. style ≡ session_style client.now) }
+    {
+        SessionStyle::under(alloc, client, &self.style_name)
     }
 
     /// The relations, in their order.

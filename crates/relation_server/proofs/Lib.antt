@@ -1,4 +1,10 @@
-mod CoreServing
+mod CellsKept
+mod CellsPaged
+mod CellsShown
+mod CellsWhole
 mod Complete
+mod CoreServing
+mod EvenRows
 mod Questions
 mod Quiet
+mod Speaking

@@ -1,4 +1,5 @@
 pub mod BuiltIn
+pub mod Cells
 pub mod Completeness
 pub mod Program
 pub mod Serving

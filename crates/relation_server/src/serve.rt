@@ -1,10 +1,17 @@
 //! A client of relations is served.
 
-ghost use Rattle.std.specs.Prelude.{◌≡◌, ◌++◌, List};
+ghost use Rattle.std.specs.Prelude.{◌≡◌, ◌++◌, Bool, List};
+ghost use Rattle.pg_messages.specs.declared.frontend.PgWireFrontendMessage.{PgWireFrontendMessage};
+ghost use Rattle.pg_handlers.specs.Answer.{Goes, conversation};
 ghost use Rattle.pg_handlers.specs.Questions.{questions_since};
+ghost use Rattle.pg_handlers.specs.State.{State, first_state};
+ghost use Rattle.pg_handlers.specs.Table.{whole_table};
 ghost use Rattle.pg_handlers.specs.declared.desk.DeskCall.{DeskCall};
 ghost use Rattle.pg_serve.specs.Serving.{HasCause, counts_of};
 ghost use Rattle.relation_server.specs.Completeness.{IsComplete};
+ghost use Rattle.relation_tables.specs.declared.RelationStatement.{RelationStatement};
+ghost use Rattle.relation_tables.specs.RelationHandler.{relation_handlers};
+ghost use Rattle.relation_server.specs.Cells.{HoldIntervals, ShowInOwnFormat, ShowStored, style_of};
 ghost use Rattle.relation_server.specs.Serving.{WentByTables};
 
 use pg_handlers::NoopHandler;
@@ -43,9 +50,25 @@ pub fn serve_relations_on<D: CancelDesk, S: Source, K: Sink>(
     ensures complete { IsComplete relations.now turn_limit result (S.left source.old)
         (counts_of S.reads S.faults K.faults source.old sink.old)
         (counts_of S.reads S.faults K.faults source.new sink.new) }
+
+    // Whatever messages come and whatever the registry answers, each cell of the table's replies stands for a stored
+    // interval: in the session's style, and in a format that a Bind among the messages chose, or in text.
+    ensures cells { HoldIntervals relations.now → (answers : List Bool) (messages : List PgWireFrontendMessage)
+        → ShowStored relations.now messages (conversation (whole_table (relation_handlers relations.now)) answers
+        (first_state (D.registration desk.old).0 (D.registration desk.old).1) messages).replies }
+
+    // Wherever the messages lead, a message behind them is answered so too: an Execute in the format that its own
+    // portal's Bind chose, and every other message in text.
+    ensures formats { HoldIntervals relations.now → (answers more : List Bool)
+        (messages : List PgWireFrontendMessage) (s : State RelationStatement) (m : PgWireFrontendMessage)
+        → (conversation (whole_table (relation_handlers relations.now)) answers
+        (first_state (D.registration desk.old).0 (D.registration desk.old).1) messages).next ≡ Goes s
+        → ShowInOwnFormat relations.now (style_of messages) s m
+        (whole_table (relation_handlers relations.now) more s m).replies }
     ensures same { D.registration desk.new ≡ D.registration desk.old }
     ensures origin { D.origin desk.new ≡ D.origin desk.old }
 {
+    let _valid = relations.relations();
     let copying = NoopHandler;
     let Ok(handlers) = Arc::new(alloc, RelationHandler { relations, copying }) else {
         return Err(ServeError::NoMemory);

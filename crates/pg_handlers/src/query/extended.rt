@@ -17,7 +17,7 @@ ghost use Rattle.pg_handlers.specs.ExtendedRows.{on_parse, on_bind, on_describe,
 ghost use Rattle.pg_handlers.specs.ExecuteRow.{on_execute};
 ghost use Rattle.pg_handlers.specs.Good.{IsGiven, IsSendableOutcome, IsSendableDescription, IsGoodStatement, IsGoodPortal, IsGoodState};
 ghost use Rattle.pg_handlers.specs.Questions.{HasSpent, questions_since};
-ghost use Rattle.pg_handlers.specs.Sending.{IsAnswerableError};
+ghost use Rattle.pg_handlers.specs.Sending.{IsAnswerableError, AtTurnLimit};
 
 use crate::client::Client;
 use crate::desk::CancelDesk;
@@ -28,11 +28,11 @@ use crate::query::run::run_portal;
 use crate::query::send::{send_describe_response, send_ready_for_query};
 use crate::query::statements::{
     bind_empty, bind_statement, close, execute_no_portal, missing_portal, missing_statement,
-    store_statement,
+    store_parsed,
 };
 use pg_messages::{
-    Bind, Close, CloseComplete, Describe, Execute, Flush, Parse, ParseComplete, PgSync,
-    PgWireBackendMessage, TARGET_TYPE_BYTE_PORTAL, TARGET_TYPE_BYTE_STATEMENT,
+    Bind, Close, CloseComplete, Describe, Execute, Flush, Parse, PgSync, PgWireBackendMessage,
+    TARGET_TYPE_BYTE_PORTAL, TARGET_TYPE_BYTE_STATEMENT,
 };
 use pg_portal::{
     ClientInfo, CopySource, DescribePortalResponse, DescribeResponse, DescribeStatementResponse,
@@ -47,8 +47,9 @@ use std::sync::Arc;
 ///
 /// An `on_` call has the condition that its message is one that a good frame carries, and that the client's store is
 /// good, and it leaves the store good. Its error is an error of the message, which is told to the client by whoever
-/// called it; what stands then is what the message has replied and changed before its error. After `NoMemory` the
-/// session is given up.
+/// called it; what stands then is what the message has replied and changed before its error. After each error of
+/// Parse, Bind, Describe, Close and Sync, `NoMemory` too, the statements, the portals, what is known of the client and
+/// the outbox are as they were. After `NoMemory` the session is given up.
 pub trait ExtendedQueryHandler {
     /// What a statement means.
     type Statement: Drop;
@@ -68,12 +69,13 @@ pub trait ExtendedQueryHandler {
     // what it tells
     ghost told: { Self → ExtendedTold Self.Statement };
 
-    /// What makes statements of queries.
+    /// What makes statements of queries. The only error is want of memory.
     fn query_parser(&self, alloc: Global) -> Result<Arc<Self::QueryParser>, AllocError>
         ensures { IfOk result (λ parser.
             Self.QueryParser.told (arc_value parser) ≡ (told self.now).parser) };
 
-    /// The parameters' types and the columns of a statement. They can be sent as replies.
+    /// The parameters' types and the columns of a statement. They can be sent as replies. The errors are the handler's
+    /// own, which the client is told, and NoMemory.
     fn do_describe_statement(
         &self,
         alloc: Global,
@@ -86,7 +88,8 @@ pub trait ExtendedQueryHandler {
         ensures sendable { IfOk result IsSendableDescription }
         ensures answerable { IfErr result IsAnswerable };
 
-    /// The columns of a portal. They can be sent as a reply.
+    /// The columns of a portal. They can be sent as a reply. The errors are the handler's own, which the client is told,
+    /// and NoMemory.
     fn do_describe_portal(
         &self,
         alloc: Global,
@@ -100,7 +103,8 @@ pub trait ExtendedQueryHandler {
         ensures sendable { IfOk result (λ d. IsEncodable (row_description d.fields)) }
         ensures answerable { IfErr result IsAnswerable };
 
-    /// Begins the query of a portal that isn't started. What it gives can be sent as replies.
+    /// Begins the query of a portal that isn't started. What it gives can be sent as replies. The only error is want of
+    /// memory, and nothing was begun then.
     fn do_query(
         &self,
         alloc: Global,
@@ -118,7 +122,7 @@ pub trait ExtendedQueryHandler {
             ((told self.now).query client.now (bound_of portal.now) max_rows).outcome) };
 
     /// Parse: stores the statement that the parser makes of the query, an empty one for None or a blank query, and
-    /// appends ParseComplete. The errors are the parser's; after them the store is as it was.
+    /// appends ParseComplete. The errors are the parser's, and NoMemory; after them the client is as it was.
     fn on_parse<St: PortalStore<Statement = Self::Statement, Rows = Self::Rows>>(
         &self,
         alloc: Global,
@@ -134,20 +138,21 @@ pub trait ExtendedQueryHandler {
             (on_parse (told self.now) (state_of St.statements St.portals client.old) message)
             client.old.outbox client.new.outbox (state_of St.statements St.portals client.new)) }
         ensures answerable { IfErr result IsAnswerable }
+        ensures kept { OnErr result
+            (state_of St.statements St.portals client.new ≡ state_of St.statements St.portals client.old) }
+        ensures waiting { OnErr result (client.new.outbox ≡ client.old.outbox) }
         ensures good { IsGoodState (told self.now).parser (state_of St.statements St.portals client.new) }
     {
         let parser = self.query_parser(alloc)?;
         let found = StoredStatement::parse(alloc, &client.info, &message, &*parser)?;
-        store_statement(alloc, &mut client.store, message.name.as_str(), found)?;
-        client
-            .outbox
-            .push(&PgWireBackendMessage::ParseComplete(ParseComplete {}))?;
+        store_parsed(alloc, client, message.name.as_str(), found)?;
         Ok(())
     }
 
     /// Bind: stores a portal of the statement, and appends BindComplete. StatementNotFound comes exactly where no
     /// statement has this name; 08P01 where an empty statement is given parameters, or where there are two result codes
-    /// or more and fewer than the columns. After these errors and the parser's the store is as it was.
+    /// or more and fewer than the columns. The other errors are the parser's, and NoMemory. After each the client is as
+    /// it was.
     fn on_bind<St: PortalStore<Statement = Self::Statement, Rows = Self::Rows>>(
         &self,
         alloc: Global,
@@ -163,6 +168,9 @@ pub trait ExtendedQueryHandler {
             (on_bind (told self.now) (state_of St.statements St.portals client.old) message)
             client.old.outbox client.new.outbox (state_of St.statements St.portals client.new)) }
         ensures answerable { IfErr result IsAnswerable }
+        ensures kept { OnErr result
+            (state_of St.statements St.portals client.new ≡ state_of St.statements St.portals client.old) }
+        ensures waiting { OnErr result (client.new.outbox ≡ client.old.outbox) }
         ensures good { IsGoodState (told self.now).parser (state_of St.statements St.portals client.new) }
     {
         let parser = self.query_parser(alloc)?;
@@ -176,7 +184,8 @@ pub trait ExtendedQueryHandler {
         }
     }
 
-    /// Execute: the row of the table where the client awaits a query, and NotReadyForQuery where it doesn't.
+    /// Execute: the row of the table where the client awaits a query, and NotReadyForQuery, which changes nothing, where
+    /// it doesn't. The other errors are those of `_on_execute`. After TurnLimit the client is as it was.
     fn on_execute<St: PortalStore<Statement = Self::Statement, Rows = Self::Rows>, D: CancelDesk>(
         &self,
         alloc: Global,
@@ -198,6 +207,9 @@ pub trait ExtendedQueryHandler {
             client.old.outbox client.new.outbox (D.calls desk.old) (D.calls desk.new)
             (state_of St.statements St.portals client.new)) }
         ensures answerable { IfErr result IsAnswerableError }
+        ensures limit { IfErr result (λ e. AtTurnLimit e
+            ((state_of St.statements St.portals client.new ≡ state_of St.statements St.portals client.old)
+            × (client.new.outbox ≡ client.old.outbox))) }
         ensures good { IsGoodState (told self.now).parser (state_of St.statements St.portals client.new) }
         ensures turns { HasSpent turns.old turns.new
             (questions_since (D.calls desk.old) (D.calls desk.new)) result }
@@ -216,8 +228,13 @@ pub trait ExtendedQueryHandler {
     /// Execute, whatever the client awaits. PortalNotFound comes exactly where no portal has this name. An empty portal
     /// gives EmptyQueryResponse. A portal that isn't started calls the desk's `start` and is then polled: each poll that
     /// finds it unready spends a turn and is followed by one question; yes is QueryCanceled, and no turn left is
-    /// TurnLimit, and both leave it unstarted. Rows start it; every other response leaves it as it is. A started portal
-    /// gives its next page: DataRows, then PortalSuspended or CommandComplete.
+    /// TurnLimit, and both leave the portal unstarted and the client as it was. Rows start it; every other response leaves
+    /// it as it is. A started portal gives its next page: DataRows, then PortalSuspended or CommandComplete.
+    ///
+    /// The other errors are the query's own, after which the client is as it was; that of an item in the place of a row or
+    /// of data; and NoMemory. The error of a row is consumed with the rows before it, which are taken back from the outbox;
+    /// the data before an error stay there. After NoMemory the rows that were read are consumed, the portal may be started,
+    /// the unnamed one may be gone, and the outbox may hold a part of the replies.
     fn _on_execute<St: PortalStore<Statement = Self::Statement, Rows = Self::Rows>, D: CancelDesk>(
         &self,
         alloc: Global,
@@ -237,6 +254,9 @@ pub trait ExtendedQueryHandler {
             client.old.outbox client.new.outbox (D.calls desk.old) (D.calls desk.new)
             (state_of St.statements St.portals client.new)) }
         ensures answerable { IfErr result IsAnswerableError }
+        ensures limit { IfErr result (λ e. AtTurnLimit e
+            ((state_of St.statements St.portals client.new ≡ state_of St.statements St.portals client.old)
+            × (client.new.outbox ≡ client.old.outbox))) }
         ensures good { IsGoodState (told self.now).parser (state_of St.statements St.portals client.new) }
         ensures turns { HasSpent turns.old turns.new
             (questions_since (D.calls desk.old) (D.calls desk.new)) result }
@@ -261,7 +281,8 @@ pub trait ExtendedQueryHandler {
     }
 
     /// Describe of a statement (`S`) or a portal (`P`): what describes it. StatementNotFound and PortalNotFound come
-    /// exactly where none has this name, InvalidTargetType for any other byte.
+    /// exactly where none has this name, InvalidTargetType for any other byte. The other errors are those of
+    /// `do_describe_statement` and `do_describe_portal`, and NoMemory. After each the client is as it was.
     fn on_describe<St: PortalStore<Statement = Self::Statement, Rows = Self::Rows>>(
         &self,
         alloc: Global,
@@ -277,6 +298,9 @@ pub trait ExtendedQueryHandler {
             (on_describe (told self.now) (state_of St.statements St.portals client.old) message)
             client.old.outbox client.new.outbox (state_of St.statements St.portals client.new)) }
         ensures answerable { IfErr result IsAnswerable }
+        ensures kept { OnErr result
+            (state_of St.statements St.portals client.new ≡ state_of St.statements St.portals client.old) }
+        ensures waiting { OnErr result (client.new.outbox ≡ client.old.outbox) }
         ensures good { IsGoodState (told self.now).parser (state_of St.statements St.portals client.new) }
     {
         self._on_describe(alloc, client, message)
@@ -298,6 +322,9 @@ pub trait ExtendedQueryHandler {
             (on_describe (told self.now) (state_of St.statements St.portals client.old) message)
             client.old.outbox client.new.outbox (state_of St.statements St.portals client.new)) }
         ensures answerable { IfErr result IsAnswerable }
+        ensures kept { OnErr result
+            (state_of St.statements St.portals client.new ≡ state_of St.statements St.portals client.old) }
+        ensures waiting { OnErr result (client.new.outbox ≡ client.old.outbox) }
         ensures good { IsGoodState (told self.now).parser (state_of St.statements St.portals client.new) }
     {
         match message.target_type {
@@ -344,7 +371,8 @@ pub trait ExtendedQueryHandler {
         Ok(())
     }
 
-    /// Sync: the unnamed portal is removed, ReadyForQuery is appended, and the client awaits a query.
+    /// Sync: the unnamed portal is removed, ReadyForQuery is appended, and the client awaits a query. The only error is
+    /// NoMemory, after which the client is as it was.
     fn on_sync<St: PortalStore<Statement = Self::Statement, Rows = Self::Rows>>(
         &self,
         client: &mut Client<St>,
@@ -359,6 +387,9 @@ pub trait ExtendedQueryHandler {
             (on_sync (state_of St.statements St.portals client.old))
             client.old.outbox client.new.outbox (state_of St.statements St.portals client.new)) }
         ensures answerable { IfErr result IsAnswerable }
+        ensures kept { OnErr result
+            (state_of St.statements St.portals client.new ≡ state_of St.statements St.portals client.old) }
+        ensures waiting { OnErr result (client.new.outbox ≡ client.old.outbox) }
         ensures good { IsGoodState (told self.now).parser (state_of St.statements St.portals client.new) }
     {
         let _ = message;
@@ -369,7 +400,8 @@ pub trait ExtendedQueryHandler {
     }
 
     /// Close: removes the statement (`S`) or the portal (`P`) of this name, where there is one, and appends
-    /// CloseComplete. Portals of a removed statement stay.
+    /// CloseComplete. Portals of a removed statement stay. The only error is NoMemory, after which the client is as it
+    /// was.
     fn on_close<St: PortalStore<Statement = Self::Statement, Rows = Self::Rows>>(
         &self,
         client: &mut Client<St>,
@@ -384,12 +416,15 @@ pub trait ExtendedQueryHandler {
             (on_close (state_of St.statements St.portals client.old) message)
             client.old.outbox client.new.outbox (state_of St.statements St.portals client.new)) }
         ensures answerable { IfErr result IsAnswerable }
+        ensures kept { OnErr result
+            (state_of St.statements St.portals client.new ≡ state_of St.statements St.portals client.old) }
+        ensures waiting { OnErr result (client.new.outbox ≡ client.old.outbox) }
         ensures good { IsGoodState (told self.now).parser (state_of St.statements St.portals client.new) }
     {
-        close(&mut client.store, message);
         client
             .outbox
             .push(&PgWireBackendMessage::CloseComplete(CloseComplete {}))?;
+        close(&mut client.store, message);
         Ok(())
     }
 }

@@ -34,7 +34,7 @@ pub trait QueryState: Drop {
     ghost told: { Self → QueryTold Self.Out };
 
     /// Unready exactly where a poll is owed, of which there is then one less. Else what the query gives, after which it
-    /// isn't asked again. After an error nothing has changed.
+    /// is spent and isn't asked again. The only error is want of memory, after which nothing has changed.
     fn poll(&mut self) -> Result<Turn<Self::Out>, AllocError>
         requires { (told self.old).is_spent ≡ false }
         ensures { IsPolled (told self.old) result (told self.new) };

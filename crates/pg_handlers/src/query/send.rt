@@ -11,17 +11,18 @@ ghost use Rattle.pg_portal.specs.Responses.{told_copy};
 ghost use Rattle.pg_portal.specs.Copying.{IsNextCopy, IsSendableCopy};
 ghost use Rattle.pg_portal.specs.Rows.{IsAnswerable};
 ghost use Rattle.pg_portal.specs.Page.{item_page, before_error};
-ghost use Rattle.pg_portal.specs.Tags.{tag_text};
+ghost use Rattle.pg_portal.specs.Tags.{spaced, tag_text};
 ghost use Rattle.pg_portal.specs.Told.{told_rows};
 ghost use Rattle.pg_portal.specs.declared.error.PgWireError.{PgWireError};
 ghost use Rattle.pg_handlers.specs.Good.{IsTag};
 ghost use Rattle.pg_handlers.specs.Replies.{ready, done, done_with, row_description, parameter_description};
-ghost use Rattle.pg_handlers.specs.ExtendedRows.{description};
+ghost use Rattle.pg_handlers.specs.ExtendedRows.{columns_reply, description};
 ghost use Rattle.pg_handlers.specs.ExecuteRow.{page_replies};
 ghost use Rattle.pg_handlers.specs.ResponseRows.{sent_rows_behind, rows_front, sent_copy, copy_in_reply, copy_out_reply, copy_both_reply, copy_items, copy_count, copy_replies, copy_end, not_empty};
 ghost use Rattle.pg_handlers.specs.Sending.{IsSentPage, IsMetError, IsSentData, IsRefusedData, IsAllSent};
 
 use crate::outbox::Outbox;
+use itoa::Buffer;
 use pg_messages::{
     CommandComplete, CopyBothResponse, CopyData, CopyDone, CopyInResponse, CopyOutResponse,
     DataRow, FieldDescription, NoData, ParameterDescription, PgList, PgStr, PgWireBackendMessage,
@@ -75,8 +76,20 @@ pub(crate) fn send_done(
         (outbox.new ≡ outbox.old ++ replies_bytes (done_with command.now rows ∷ [])) }
     ensures err { OnErr result (outbox.new ≡ outbox.old) }
 {
-    let tag = Tag::new(alloc, command)?.with_rows(rows);
-    send_execution_response(alloc, outbox, tag)
+    let tag = tag_with_rows(alloc, command, rows)?;
+    outbox.push(&PgWireBackendMessage::CommandComplete(CommandComplete { tag }))
+}
+
+/// The text of a command's tag with so many rows. Its room is made at once.
+fn tag_with_rows(alloc: Global, command: &str, rows: usize) -> Result<PgStr, AllocError>
+    ensures { IfOk result (λ tag. tag ≡ command.now ++ spaced rows) }
+{
+    let mut digits = Buffer::new();
+    let mut text = String::with_capacity(alloc, command.len().saturating_add(21))?;
+    text.push_str(command)?;
+    text.push_str(" ")?;
+    text.push_str(digits.format(rows as u64))?;
+    PgStr::copy_of(alloc, text.as_str())
 }
 
 /// The descriptions of columns.
@@ -131,8 +144,25 @@ fn send_parameter_description(
     outbox.push(&PgWireBackendMessage::ParameterDescription(ParameterDescription { types }))
 }
 
+/// Appends what the columns of a statement or a portal are: RowDescription, or NoData where there is nothing to describe.
+fn send_columns<DR: DescribeResponse>(
+    alloc: Global,
+    outbox: &mut Outbox,
+    describe_response: &DR,
+) -> Result<(), AllocError>
+    requires { IsEncodable (row_description (DR.told describe_response.now).fields) }
+    ensures ok { OnOk result (outbox.new
+        ≡ outbox.old ++ replies_bytes (columns_reply (DR.told describe_response.now) ∷ [])) }
+    ensures err { OnErr result (outbox.new ≡ outbox.old) }
+{
+    if describe_response.is_no_data() {
+        return outbox.push(&PgWireBackendMessage::NoData(NoData {}));
+    }
+    send_row_description(alloc, outbox, describe_response.fields())
+}
+
 /// Appends what describes a statement or a portal: of a statement ParameterDescription, and then RowDescription, or
-/// NoData where there is nothing to describe.
+/// NoData where there is nothing to describe. After an error the outbox is as it was.
 pub fn send_describe_response<DR: DescribeResponse>(
     alloc: Global,
     outbox: &mut Outbox,
@@ -141,16 +171,19 @@ pub fn send_describe_response<DR: DescribeResponse>(
     requires parameters { IfSome (DR.told describe_response.now).parameters
         (λ types. IsEncodable (parameter_description types)) }
     requires fields { IsEncodable (row_description (DR.told describe_response.now).fields) }
-    ensures { OnOk result (outbox.new
+    ensures ok { OnOk result (outbox.new
         ≡ outbox.old ++ replies_bytes (description (DR.told describe_response.now))) }
+    ensures err { OnErr result (outbox.new ≡ outbox.old) }
 {
+    let start = outbox.len();
     if let Some(types) = describe_response.parameters() {
         send_parameter_description(alloc, outbox, types)?;
     }
-    if describe_response.is_no_data() {
-        return outbox.push(&PgWireBackendMessage::NoData(NoData {}));
+    if let Err(error) = send_columns(alloc, outbox, describe_response) {
+        outbox.truncate(start);
+        return Err(error);
     }
-    send_row_description(alloc, outbox, describe_response.fields())
+    Ok(())
 }
 
 /// Appends a row, and counts it.
@@ -165,13 +198,15 @@ fn push_row(outbox: &mut Outbox, row: DataRow, rows: usize) -> Result<usize, All
     ensures fewer { IfOk result (λ count. count ≤ length outbox.new) }
 {
     outbox.push(&PgWireBackendMessage::DataRow(row))?;
+    // A length is a usize, so that the count, which is no larger, doesn't wrap.
     let _waiting = outbox.len();
     Ok(rows + 1)
 }
 
 /// Appends a page of rows: at most so many DataRows, and below 1 all of them; then PortalSuspended where the limit was
 /// reached, which is answered by true, or else CommandComplete with the tag and the number of these rows. The error of
-/// an item is answered and the item consumed; the rows before it stay in the outbox.
+/// an item is answered and the item consumed; the rows before it stay in the outbox. After NoMemory some of the rows may
+/// stand there, and are consumed. What waited before stays in front after every answer.
 pub fn send_partial_query_response<R: RowSource>(
     alloc: Global,
     outbox: &mut Outbox,
@@ -212,7 +247,8 @@ pub fn send_partial_query_response<R: RowSource>(
 }
 
 /// Appends all rows of a query: RowDescription where it is wanted, a DataRow for each row, CommandComplete with the tag
-/// and their number. The error of an item is answered, and the rows before it stay in the outbox.
+/// and their number. The error of an item is answered, and what stands before it, RowDescription and rows, stays in the
+/// outbox. After NoMemory any part of all this may stand there. What waited before stays in front after every answer.
 pub fn send_query_response<R: RowSource>(
     alloc: Global,
     outbox: &mut Outbox,
@@ -225,6 +261,7 @@ pub fn send_query_response<R: RowSource>(
         (sent_rows_behind (rows_front send_describe (told_rows R.items results)) now
         (told_rows R.items results)) outbox.old outbox.new result }
     ensures answerable { IfErr result IsAnswerable }
+    ensures kept { take (length outbox.old) outbox.new ≡ outbox.old }
 {
     let mut results = results;
     if send_describe {
@@ -260,6 +297,7 @@ fn push_data(outbox: &mut Outbox, copied: CopyData, count: usize) -> Result<usiz
     requires fewer { count ≤ length outbox.old }
     ensures pushed { OnOk result
         (outbox.new ≡ outbox.old ++ replies_bytes (copy_replies (not_empty (copied ∷ [])))) }
+    ensures err { OnErr result (outbox.new ≡ outbox.old) }
     ensures counted { IfOk result (λ all. all ≡ count + copy_count (not_empty (copied ∷ []))) }
     ensures fewer { IfOk result (λ all. all ≤ length outbox.new) }
 {
@@ -269,6 +307,7 @@ fn push_data(outbox: &mut Outbox, copied: CopyData, count: usize) -> Result<usiz
     }
     let is_trailer = bytes == [255, 255].as_slice();
     outbox.push(&PgWireBackendMessage::CopyData(copied))?;
+    // A length is a usize, so that the count, which is no larger, doesn't wrap.
     let _waiting = outbox.len();
     if is_trailer {
         return Ok(count);
@@ -287,6 +326,7 @@ fn send_copy_data<C: CopySource>(
     ensures refused { IfErr result (λ e. (e ≡ PgWireError.NoMemory)
         ⊎ IsRefusedData (copy_items (told_copy C.items resp.old)) outbox.old outbox.new e) }
     ensures answerable { IfErr result IsAnswerable }
+    ensures kept { take (length outbox.old) outbox.new ≡ outbox.old }
 {
     let mut count = 0;
     loop {
@@ -300,10 +340,12 @@ fn send_copy_data<C: CopySource>(
 
 /// Appends the end of a COPY: CopyDone, and CommandComplete with the number of data.
 fn send_copy_end(alloc: Global, outbox: &mut Outbox, count: usize) -> Result<(), AllocError>
-    ensures { OnOk result (outbox.new ≡ outbox.old ++ replies_bytes (copy_end count)) }
+    ensures ok { OnOk result (outbox.new ≡ outbox.old ++ replies_bytes (copy_end count)) }
+    ensures kept { take (length outbox.old) outbox.new ≡ outbox.old }
 {
     outbox.push(&PgWireBackendMessage::CopyDone(CopyDone {}))?;
-    send_done(alloc, outbox, "COPY", count)
+    send_done(alloc, outbox, "COPY", count)?;
+    Ok(())
 }
 
 /// Appends CopyInResponse. After an error the outbox is as it was.
@@ -332,8 +374,9 @@ fn send_copy_out_head<C: CopySource>(
     resp: &CopyResponse<C>,
 ) -> Result<(), AllocError>
     requires { resp.now.columns ≤ 32767 }
-    ensures { OnOk result (outbox.new
+    ensures ok { OnOk result (outbox.new
         ≡ outbox.old ++ replies_bytes (copy_out_reply (told_copy C.items resp.now) ∷ [])) }
+    ensures err { OnErr result (outbox.new ≡ outbox.old) }
 {
     let head = CopyOutResponse {
         format: resp.format,
@@ -350,8 +393,9 @@ fn send_copy_both_head<C: CopySource>(
     resp: &CopyResponse<C>,
 ) -> Result<(), AllocError>
     requires { resp.now.columns ≤ 32767 }
-    ensures { OnOk result (outbox.new
+    ensures ok { OnOk result (outbox.new
         ≡ outbox.old ++ replies_bytes (copy_both_reply (told_copy C.items resp.now) ∷ [])) }
+    ensures err { OnErr result (outbox.new ≡ outbox.old) }
 {
     let head = CopyBothResponse {
         format: resp.format,
@@ -363,7 +407,7 @@ fn send_copy_both_head<C: CopySource>(
 
 /// Appends a COPY to the client: CopyOutResponse, CopyData for each data that isn't empty, CopyDone, and CommandComplete
 /// `COPY n` for n data without the trailer. The error of an item is answered, and what stands before it stays in the
-/// outbox.
+/// outbox. After NoMemory any part of all this may stand there. What waited before stays in front after every answer.
 pub fn send_copy_out_response<C: CopySource>(
     alloc: Global,
     outbox: &mut Outbox,
@@ -373,6 +417,7 @@ pub fn send_copy_out_response<C: CopySource>(
     ensures sent { (now : TransactionStatus) → IsAllSent (sent_copy now false
         (copy_out_reply (told_copy C.items resp)) (told_copy C.items resp)) outbox.old outbox.new result }
     ensures answerable { IfErr result IsAnswerable }
+    ensures kept { take (length outbox.old) outbox.new ≡ outbox.old }
 {
     let mut resp = resp;
     send_copy_out_head(alloc, outbox, &resp)?;
@@ -381,7 +426,7 @@ pub fn send_copy_out_response<C: CopySource>(
     Ok(())
 }
 
-/// Appends a COPY both ways: CopyBothResponse, and then as `send_copy_out_response`.
+/// Appends a COPY both ways: CopyBothResponse, and then as `send_copy_out_response`, with its errors.
 pub fn send_copy_both_response<C: CopySource>(
     alloc: Global,
     outbox: &mut Outbox,
@@ -391,6 +436,7 @@ pub fn send_copy_both_response<C: CopySource>(
     ensures sent { (now : TransactionStatus) → IsAllSent (sent_copy now true
         (copy_both_reply (told_copy C.items resp)) (told_copy C.items resp)) outbox.old outbox.new result }
     ensures answerable { IfErr result IsAnswerable }
+    ensures kept { take (length outbox.old) outbox.new ≡ outbox.old }
 {
     let mut resp = resp;
     send_copy_both_head(alloc, outbox, &resp)?;

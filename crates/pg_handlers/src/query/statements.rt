@@ -3,7 +3,7 @@
 ghost use Rattle.std.specs.Prelude.{◌≡◌, ◌≤◌, ◌⊎◌, ◌++◌, ◌==◌, length, Some, None, Option, IsTrue, IfOk, IfErr, IfSome, OnOk, OnErr, codes, string_bytes, if◌then◌else◌};
 ghost use Rattle.pg_messages.specs.Replies.{replies_bytes};
 ghost use Rattle.pg_portal.specs.Errors.{error as error_info};
-ghost use Rattle.pg_portal.specs.Told.{ParserTold, value_under};
+ghost use Rattle.pg_portal.specs.Told.{ParserTold, portal_of, value_under};
 ghost use Rattle.pg_handlers.specs.Errors.{values_for_empty, too_few_codes};
 ghost use Rattle.std.specs.Arc.{arc_value};
 ghost use Rattle.std.specs.FinMap as fin;
@@ -14,16 +14,17 @@ ghost use Rattle.pg_portal.specs.declared.error.PgWireError.{PgWireError};
 ghost use Rattle.pg_portal.specs.declared.error.PgWireError.TheVariants as wire;
 ghost use Rattle.pg_portal.specs.declared.store.Entry.TheVariants as entry;
 ghost use Rattle.pg_handlers.specs.Effect.{IsEffect, IsRefusedEffect, Done};
-ghost use Rattle.pg_handlers.specs.ExtendedRows.{bind_complete, bound_empty, bound_statement, entry_of, HasEnough, IsTooFew};
+ghost use Rattle.pg_handlers.specs.ExtendedRows.{parse_complete, bind_complete, bound_empty, bound_statement, entry_of, HasEnough, IsTooFew};
 ghost use Rattle.pg_handlers.specs.ExecuteRow.{executed_nothing};
 ghost use Rattle.pg_handlers.specs.Good.{IsGiven, IsGoodStatement, IsGoodState};
-ghost use Rattle.pg_handlers.specs.State.{state_of};
+ghost use Rattle.pg_handlers.specs.State.{state_of, with_portal, with_statement};
 
 use crate::client::Client;
+use crate::outbox::Outbox;
 use crate::query::respond::send_empty_query_response;
 use pg_messages::{
-    Bind, BindComplete, Close, ErrorInfo, PgStr, PgWireBackendMessage, TARGET_TYPE_BYTE_PORTAL,
-    TARGET_TYPE_BYTE_STATEMENT,
+    Bind, BindComplete, Close, ErrorInfo, ParseComplete, PgStr, PgWireBackendMessage,
+    TARGET_TYPE_BYTE_PORTAL, TARGET_TYPE_BYTE_STATEMENT,
 };
 use pg_portal::{Entry, PgWireError, Portal, PortalStore, QueryParser, StoredStatement};
 use std::alloc::{AllocError, Global};
@@ -67,6 +68,32 @@ pub(crate) fn store_statement<St: PortalStore>(
         }
         None => store.put_empty_statement(alloc, name),
     }
+}
+
+/// Appends ParseComplete, and stores what a parser found under a name. After an error neither is done.
+pub(crate) fn store_parsed<St: PortalStore>(
+    alloc: Global,
+    client: &mut Client<St>,
+    name: &str,
+    found: Option<StoredStatement<St::Statement>>,
+) -> Result<(), AllocError>
+    requires { IfSome found (λ statement. statement.id ≡ name.now) }
+    ensures ok { OnOk result (state_of St.statements St.portals client.new
+        ≡ with_statement (state_of St.statements St.portals client.old) name.now (entry_of found)) }
+    ensures replied { OnOk result (client.new.outbox ≡ client.old.outbox ++ replies_bytes parse_complete) }
+    ensures err { OnErr result
+        (state_of St.statements St.portals client.new ≡ state_of St.statements St.portals client.old) }
+    ensures waiting { OnErr result (client.new.outbox ≡ client.old.outbox) }
+{
+    let start = client.outbox.len();
+    client
+        .outbox
+        .push(&PgWireBackendMessage::ParseComplete(ParseComplete {}))?;
+    if let Err(error) = store_statement(alloc, &mut client.store, name, found) {
+        client.outbox.truncate(start);
+        return Err(error);
+    }
+    Ok(())
 }
 
 /// The error of severity ERROR and code 08P01 with this text.
@@ -117,6 +144,9 @@ pub(crate) fn bind_empty<St: PortalStore>(
         (bound_empty (state_of St.statements St.portals client.old) message)
         client.old.outbox client.new.outbox (state_of St.statements St.portals client.new)) }
     ensures answerable { IfErr result IsAnswerable }
+    ensures kept { OnErr result
+        (state_of St.statements St.portals client.new ≡ state_of St.statements St.portals client.old) }
+    ensures waiting { OnErr result (client.new.outbox ≡ client.old.outbox) }
     ensures good { (parser : ParserTold St.Statement)
         → IsGoodState parser (state_of St.statements St.portals client.old)
         → IsGoodState parser (state_of St.statements St.portals client.new) }
@@ -125,10 +155,7 @@ pub(crate) fn bind_empty<St: PortalStore>(
     if count > 0 {
         return Err(values_for_empty(alloc, count, message.statement_name.as_str())?);
     }
-    client
-        .store
-        .put_empty_portal(alloc, message.portal_name.as_str())?;
-    push_bind_complete(client)?;
+    store_empty_portal(alloc, client, message.portal_name.as_str())?;
     Ok(())
 }
 
@@ -176,6 +203,9 @@ pub(crate) fn bind_statement<St: PortalStore, Q: QueryParser<Statement = St::Sta
         (arc_value statement))
         client.old.outbox client.new.outbox (state_of St.statements St.portals client.new)) }
     ensures answerable { IfErr result IsAnswerable }
+    ensures kept { OnErr result
+        (state_of St.statements St.portals client.new ≡ state_of St.statements St.portals client.old) }
+    ensures waiting { OnErr result (client.new.outbox ≡ client.old.outbox) }
     ensures good { IsGoodState (Q.told parser.now) (state_of St.statements St.portals client.old)
         → IsGoodState (Q.told parser.now) (state_of St.statements St.portals client.new) }
 {
@@ -186,20 +216,61 @@ pub(crate) fn bind_statement<St: PortalStore, Q: QueryParser<Statement = St::Sta
         message.result_column_format_codes.len(),
     )?;
     let portal = Portal::try_new(alloc, &message, statement)?;
-    client.store.put_portal(alloc, portal)?;
-    push_bind_complete(client)?;
+    store_portal(alloc, client, portal)?;
+    Ok(())
+}
+
+/// Appends BindComplete, and stores a portal under its name. After an error neither is done.
+fn store_portal<St: PortalStore>(
+    alloc: Global,
+    client: &mut Client<St>,
+    portal: Portal<St::Statement, St::Rows>,
+) -> Result<(), AllocError>
+    ensures ok { OnOk result (state_of St.statements St.portals client.new
+        ≡ with_portal (state_of St.statements St.portals client.old) portal.name
+        (entry.Value (portal_of St.Rows.items portal))) }
+    ensures replied { OnOk result (client.new.outbox ≡ client.old.outbox ++ replies_bytes bind_complete) }
+    ensures err { OnErr result
+        (state_of St.statements St.portals client.new ≡ state_of St.statements St.portals client.old) }
+    ensures waiting { OnErr result (client.new.outbox ≡ client.old.outbox) }
+{
+    let start = client.outbox.len();
+    push_bind_complete(&mut client.outbox)?;
+    if let Err(error) = client.store.put_portal(alloc, portal) {
+        client.outbox.truncate(start);
+        return Err(error);
+    }
+    Ok(())
+}
+
+/// Appends BindComplete, and stores an empty portal under a name. After an error neither is done.
+fn store_empty_portal<St: PortalStore>(
+    alloc: Global,
+    client: &mut Client<St>,
+    name: &str,
+) -> Result<(), AllocError>
+    ensures ok { OnOk result (state_of St.statements St.portals client.new
+        ≡ with_portal (state_of St.statements St.portals client.old) name.now entry.Empty) }
+    ensures replied { OnOk result (client.new.outbox ≡ client.old.outbox ++ replies_bytes bind_complete) }
+    ensures err { OnErr result
+        (state_of St.statements St.portals client.new ≡ state_of St.statements St.portals client.old) }
+    ensures waiting { OnErr result (client.new.outbox ≡ client.old.outbox) }
+{
+    let start = client.outbox.len();
+    push_bind_complete(&mut client.outbox)?;
+    if let Err(error) = client.store.put_empty_portal(alloc, name) {
+        client.outbox.truncate(start);
+        return Err(error);
+    }
     Ok(())
 }
 
 /// Appends BindComplete.
-fn push_bind_complete<St>(client: &mut Client<St>) -> Result<(), AllocError>
-    ensures ok { OnOk result (client.new.outbox ≡ client.old.outbox ++ replies_bytes bind_complete) }
-    ensures info { client.new.info ≡ client.old.info }
-    ensures store { client.new.store ≡ client.old.store }
+fn push_bind_complete(outbox: &mut Outbox) -> Result<(), AllocError>
+    ensures ok { OnOk result (outbox.new ≡ outbox.old ++ replies_bytes bind_complete) }
+    ensures err { OnErr result (outbox.new ≡ outbox.old) }
 {
-    client
-        .outbox
-        .push(&PgWireBackendMessage::BindComplete(BindComplete {}))
+    outbox.push(&PgWireBackendMessage::BindComplete(BindComplete {}))
 }
 
 /// Execute where no portal has this name, or an empty one.

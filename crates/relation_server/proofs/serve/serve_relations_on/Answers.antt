@@ -6,24 +6,38 @@ use Rattle.pg_session.specs.declared.ends.ServeError.TheVariants as fault
 use Rattle.relation_tables.specs.RelationHandler.{relation_handlers}
 use Rattle.pg_serve.specs.Serving.{WentSo, counts_of}
 use Rattle.pg_serve.proofs.Serving.{none_went}
+use Rattle.relation_server.proofs.CoreServing.{went_by_tables}
+use Rattle.relation_server.proofs.EvenRows.{even}
 use Rattle.relation_server.proofs.Complete.{complete_serving, complete_at_want, cause_of_calls}
+use Rattle.relation_server.proofs.CellsWhole.{stored_shown, shown_in_own_format}
 use Rattle.relation_server.proofs.serve.serve_relations_on.Goals as goal
 
 pub returns-in_default-clause-went : goal.returns-in_default-clause-went
 returns-in_default-clause-went g c = (
   [],
   sym (append-nil (g.D.CancelDesk.calls c.args.desk.now)),
-  none_went (whole_rules (relation_handlers c.args.relations.now))
+  went_by_tables c.args.relations.now (g.D.CancelDesk.registration c.args.desk.now)
+      (even c.args.relations.now c.relations-valid.ensures.valid) _ (g.S.Source.left c.args.source.now) _ (g.K.Sink.written c.args.sink.now) _ []
+      (none_went (whole_rules (relation_handlers c.args.relations.now))
       (first_state (g.D.CancelDesk.registration c.args.desk.now).0 (g.D.CancelDesk.registration c.args.desk.now).1)
-      (g.S.Source.left c.args.source.now) (g.K.Sink.written c.args.sink.now) fault.NoMemory refl,
+      (g.S.Source.left c.args.source.now) (g.K.Sink.written c.args.sink.now) fault.NoMemory refl),
 )
 
 pub returns-clause-went : goal.returns-clause-went
 returns-clause-went g c =
-    subst (λ relations. (x : List DeskCall) × g.D.CancelDesk.calls c.serve_connection.new.desk ≡ g.D.CancelDesk.calls c.args.desk.now ++ x
-    × WentSo (whole_rules (relation_handlers relations)) (first_state (g.D.CancelDesk.registration c.args.desk.now).0 (g.D.CancelDesk.registration c.args.desk.now).1)
-    c.serve_connection.result (g.S.Source.left c.args.source.now) (g.S.Source.left c.serve_connection.new.source) (g.K.Sink.written c.args.sink.now) (g.K.Sink.written c.serve_connection.new.sink) x)
-    (ap (λ h. h.relations.now) c.in-Ok.ensures.ok) c.serve_connection.ensures.went
+    let went = c.serve_connection.ensures.went in
+    (
+      went.0,
+      went.1,
+      went_by_tables c.args.relations.now (g.D.CancelDesk.registration c.args.desk.now)
+          (even c.args.relations.now c.relations-valid.ensures.valid) c.serve_connection.result (g.S.Source.left c.args.source.now)
+          (g.S.Source.left c.serve_connection.new.source) (g.K.Sink.written c.args.sink.now) (g.K.Sink.written c.serve_connection.new.sink) went.0
+          (subst (λ relations. WentSo (whole_rules (relation_handlers relations))
+          (first_state (g.D.CancelDesk.registration c.args.desk.now).0 (g.D.CancelDesk.registration c.args.desk.now).1)
+          c.serve_connection.result (g.S.Source.left c.args.source.now) (g.S.Source.left c.serve_connection.new.source)
+          (g.K.Sink.written c.args.sink.now) (g.K.Sink.written c.serve_connection.new.sink) went.0)
+          (ap (λ h. h.relations.now) c.in-Ok.ensures.ok) went.2),
+    )
 
 pub returns-in_default-clause-complete : goal.returns-in_default-clause-complete
 returns-in_default-clause-complete g c =
@@ -47,3 +61,21 @@ returns-clause-complete g c =
     c.serve_connection.result (g.S.Source.left c.args.source.now) (g.S.Source.left c.serve_connection.new.source)
     (g.K.Sink.written c.args.sink.now) (g.K.Sink.written c.serve_connection.new.sink) went.0)
     (ap (λ h. h.relations.now) c.in-Ok.ensures.ok) went.2)
+
+pub returns-in_default-clause-cells : goal.returns-in_default-clause-cells
+returns-in_default-clause-cells g c = λ within. stored_shown c.args.relations.now within (even c.args.relations.now c.relations-valid.ensures.valid)
+    (g.D.CancelDesk.registration c.args.desk.now).0 (g.D.CancelDesk.registration c.args.desk.now).1
+
+pub returns-clause-cells : goal.returns-clause-cells
+returns-clause-cells g c = λ within. stored_shown c.args.relations.now within (even c.args.relations.now c.relations-valid.ensures.valid)
+    (g.D.CancelDesk.registration c.args.desk.now).0 (g.D.CancelDesk.registration c.args.desk.now).1
+
+pub returns-in_default-clause-formats : goal.returns-in_default-clause-formats
+returns-in_default-clause-formats g c = λ within. shown_in_own_format c.args.relations.now within
+    (even c.args.relations.now c.relations-valid.ensures.valid) (g.D.CancelDesk.registration c.args.desk.now).0
+    (g.D.CancelDesk.registration c.args.desk.now).1
+
+pub returns-clause-formats : goal.returns-clause-formats
+returns-clause-formats g c = λ within. shown_in_own_format c.args.relations.now within
+    (even c.args.relations.now c.relations-valid.ensures.valid) (g.D.CancelDesk.registration c.args.desk.now).0
+    (g.D.CancelDesk.registration c.args.desk.now).1

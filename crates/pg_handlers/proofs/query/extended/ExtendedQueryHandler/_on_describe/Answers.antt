@@ -26,7 +26,7 @@ do_describe_statement-requires-clause-good g c =
 pub returns-in-Some-Empty-clause-ok : goal.returns-in-Some-Empty-clause-ok
 returns-in-Some-Empty-clause-ok g c =
     let s = state_of g.St.PortalStore.statements g.St.PortalStore.portals c.args.client.now in
-    let h = c.in-83.is in let k = c.no_data-told.ensures in let e = c.in_ok-send_describe_response-in-Some-Empty.ensures in
+    let h = c.in-83.is in let k = c.no_data-told.ensures in let e = c.in_ok-send_describe_response-in-Some-Empty.ensures.ok in
     let found : fin.get s.statements c.args.message.name ≡ Some entry.Empty = ap (fin.get s.statements) (sym c.as_str.ensures) ∙
     found_empty (λ (s : Bor (Arc (StoredStatement g.row.Self-Statement.Denot) Global)). arc_value s.now) c.get_statement.result
     c.in-Some-Empty.field-0 _

@@ -12,7 +12,7 @@ use Rattle.pg_handlers.specs.Questions.{IsAsked, questions_since}
 use Rattle.pg_handlers.specs.Effect.{IsEffect, IsRefusedEffect, Done}
 use Rattle.pg_handlers.specs.State.{State, state_of}
 use Rattle.pg_handlers.proofs.Executes.{silent_row, silent_refused, cut_at_none, asked_since, spent_as}
-use Rattle.pg_handlers.proofs.Lends.{parts_same, no_portal, started_ok, started_refused, unstarted_is, written_state, good_written, good_responded, run_as, refused_begun, portal_refused, portal_paged, handed_same, handed_ok, handed_refused}
+use Rattle.pg_handlers.proofs.Lends.{parts_same, no_portal, started_ok, started_refused, unstarted_is, written_state, good_written, good_responded, run_as, refused_begun, portal_refused, portal_paged, handed_same, portal_stays, handed_ok, handed_refused}
 use Rattle.pg_handlers.proofs.query.extended.ExtendedQueryHandler._on_execute.Goals as goal
 
 pub returns-in_err-execute_no_portal-clause-refused : goal.returns-in_err-execute_no_portal-clause-refused
@@ -167,6 +167,28 @@ returns-in_err-response-clause-refused g c =
     let x = run_as told _ m.max_rows p.stage w.stage ran.0 (told_one R g.Self.CopyRows.CopySource.items (g.Self.Query.QueryState.told c.in_ok-query.query).outcome) q.outcome out c.run_portal.new.outbox (Err c.in_err-response.field-0.0)
     limit_is fresh (ap (λ t. t.outcome) query_is) ran.2 in
     rw (u.1, u.2) (portal_refused told h s m p found fresh calls begun c.in_ok-start.ensures.ok done ran.0 asked out c.run_portal.new.outbox w.stage s' written c.in_err-response.field-0.0 x)
+
+pub returns-in_err-response-clause-limit : goal.returns-in_err-response-clause-limit
+returns-in_err-response-clause-limit g c =
+    let u = err_from_is_err_and c.from_residual-in_err-response.result c.from_residual-in_err-response.ensures.1 in
+    let R = g.Self.Rows.RowSource.items in let told = told_response R g.Self.CopyRows.CopySource.items in
+    let s = state_of g.St.PortalStore.statements g.St.PortalStore.portals c.args.client.now in
+    let h = g.Self.ExtendedQueryHandler.told c.args.self.now in let m = c.args.message in
+    let p = portal_of R c.in-Some.portal.now in let w = portal_of R c.run_portal.new.portal in
+    let store = c.portal_mut.follows.lender c.run_portal.new.portal in
+    let s' = state_of g.St.PortalStore.statements g.St.PortalStore.portals (record { info = s.info; store = store; outbox = c.run_portal.new.outbox }) in
+    let found : value_under (fin.get s.portals m.name) ≡ Some p = ap (λ n. value_under (fin.get s.portals n)) (sym c.as_str.ensures) ∙ sym c.in-Some.ensures.value in
+    let holds = at_some c.portal_mut.result c.in-Some.portal c.in-Some.is (c.portal_mut.follows.holds c.run_portal.new.portal) in
+    let written = written_state s (g.St.PortalStore.statements store) (g.St.PortalStore.portals store) m.name c.as_str.result.now p w c.as_str.ensures holds.0 holds.1 c.in_err-response.ensures.bound in
+    let fresh : p.stage ≡ Unstarted = unstarted_is p.stage (sym c.is_unstarted.ensures ∙ c.if-not-is_unstarted.false) in
+    let limit_is = to_z-of_z w32 m.max_rows c.requires.given.1.carries.2.max_rows in
+    let query_is = c.in_ok-query.ensures.told ∙ ap (h.query s.info p.bound) limit_is in let q = h.query s.info p.bound m.max_rows in
+    let calls = g.D.CancelDesk.calls c.args.desk.now in let begun = g.D.CancelDesk.calls c.start.new.self in let done = g.D.CancelDesk.calls c.run_portal.new.desk in
+    let ran = c.in_err-response.ensures.ran in let out = c.args.client.now.outbox in
+    let asked : IsAsked q.owes begun done ran.0 = subst (λ (owes : ℕ). IsAsked owes begun done ran.0) (ap (λ t. t.owes) query_is) ran.1 in
+    let x = run_as told _ m.max_rows p.stage w.stage ran.0 (told_one R g.Self.CopyRows.CopySource.items (g.Self.Query.QueryState.told c.in_ok-query.query).outcome) q.outcome out c.run_portal.new.outbox (Err c.in_err-response.field-0.0)
+    limit_is fresh (ap (λ t. t.outcome) query_is) ran.2 in
+    rw (u.1, u.2) (portal_stays told h s m p found fresh calls begun c.in_ok-start.ensures.ok done ran.0 asked out c.run_portal.new.outbox w.stage s' written c.in_err-response.field-0.0 x)
 
 pub returns-in_err-response-clause-good : goal.returns-in_err-response-clause-good
 returns-in_err-response-clause-good g c =

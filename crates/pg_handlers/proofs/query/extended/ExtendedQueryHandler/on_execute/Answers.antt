@@ -12,6 +12,7 @@ returns-in_default g c =
       refused = inr (refused_unready s (λ answers. on_execute (g.Self.ExtendedQueryHandler.told c.args.self.now) answers s c.args.message)
           c.args.client.now.outbox (g.D.CancelDesk.calls c.args.desk.now) c.in_default.not-ReadyForQuery);
       answerable = not_ready_told;
+      limit = tt;
       good = c.requires.good;
       turns = inl (no_turn c.args.turns.now (g.D.CancelDesk.calls c.args.desk.now));
       bounded = λ h. h;

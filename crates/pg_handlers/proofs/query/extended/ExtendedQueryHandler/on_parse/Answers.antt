@@ -1,21 +1,14 @@
-use Rattle.std.proofs.Common.{◌≡◌, ◌∙◌, ap, refl}
+use Rattle.std.proofs.Common.{◌≡◌, ◌∙◌, ap, sym, subst}
 use Rattle.pg_handlers.specs.ExtendedRows.{entry_of}
-use Rattle.pg_handlers.specs.State.{state_of, with_statement}
-use Rattle.pg_handlers.proofs.GoodStores.{good_parts, good_with_statement}
+use Rattle.pg_handlers.specs.Good.{IsGoodState}
+use Rattle.pg_handlers.specs.State.{state_of}
+use Rattle.pg_handlers.proofs.GoodStores.{good_with_statement}
 use Rattle.pg_handlers.proofs.Parsing.{parsed_is_good}
 use Rattle.pg_handlers.proofs.query.extended.ExtendedQueryHandler.on_parse.Goals as goal
 
-pub returns-in_err-push-clause-good : goal.returns-in_err-push-clause-good
-returns-in_err-push-clause-good g c =
-    let parser = (g.Self.ExtendedQueryHandler.told c.args.self.now).parser in
-    let s = state_of g.St.PortalStore.statements g.St.PortalStore.portals c.args.client.now in
-    let there = g.Self.QueryParser.QueryParser.told c.deref.result.now in
-    let same : there ≡ parser = ap g.Self.QueryParser.QueryParser.told c.deref.ensures ∙ c.in_ok-parser.ensures in
-    good_parts parser (with_statement s c.as_str.result.now (entry_of c.in_ok-found.found)) _ _ _ refl c.in_ok-store_statement.ensures.ok
-    c.store_statement.ensures.portals
-    (good_with_statement parser s c.as_str.result.now (entry_of c.in_ok-found.found)
-    (parsed_is_good parser there c.args.client.now.info c.args.message c.in_ok-found.found same c.requires.given.1.carries.2.count
-    c.in_ok-found.ensures.outcome c.in_ok-found.ensures.given) c.requires.good)
+pub returns-in_err-store_parsed-clause-good : goal.returns-in_err-store_parsed-clause-good
+returns-in_err-store_parsed-clause-good g c =
+    subst (IsGoodState (g.Self.ExtendedQueryHandler.told c.args.self.now).parser) (sym c.in_err-store_parsed.ensures.err) c.requires.good
 
 pub returns-clause-good : goal.returns-clause-good
 returns-clause-good g c =
@@ -23,8 +16,7 @@ returns-clause-good g c =
     let s = state_of g.St.PortalStore.statements g.St.PortalStore.portals c.args.client.now in
     let there = g.Self.QueryParser.QueryParser.told c.deref.result.now in
     let same : there ≡ parser = ap g.Self.QueryParser.QueryParser.told c.deref.ensures ∙ c.in_ok-parser.ensures in
-    good_parts parser (with_statement s c.as_str.result.now (entry_of c.in_ok-found.found)) _ _ _ refl c.in_ok-store_statement.ensures.ok
-    c.store_statement.ensures.portals
+    subst (IsGoodState parser) (sym c.in_ok-store_parsed.ensures.ok)
     (good_with_statement parser s c.as_str.result.now (entry_of c.in_ok-found.found)
     (parsed_is_good parser there c.args.client.now.info c.args.message c.in_ok-found.found same c.requires.given.1.carries.2.count
     c.in_ok-found.ensures.outcome c.in_ok-found.ensures.given) c.requires.good)

@@ -1,0 +1,2 @@
+pub mod Discarding
+pub mod Pages

@@ -1,0 +1,48 @@
+-- What the sample handlers tell can be sent as replies.
+use Rattle.std.proofs.Common.{◌≡◌, ℕ, ◌≤◌, pos, List, [], ◌∷◌, length, map, codes, refl, arith}
+use Rattle.std.specs.List.{AllByRecursion}
+use Rattle.pg_messages.specs.Replies.{IsEncodable}
+use Rattle.pg_messages.specs.declared.backend.PgWireBackendMessage.TheVariants as server
+use Rattle.pg_text.specs.declared.field_format.FieldFormat.{FieldFormat}
+use Rattle.pg_text.specs.declared.field_format.FieldFormat.TheVariants as field
+use Rattle.pg_portal.specs.declared.portal.Format.{Format}
+use Rattle.pg_portal.specs.declared.portal.Format.TheVariants as format
+use Rattle.pg_portal.specs.Rows.{IsTellable, IsSendable}
+use Rattle.pg_portal.specs.Tags.{tag_text}
+use Rattle.pg_handlers.specs.Good.{AreSendable, IsSendableResponse}
+use Rattle.pg_handlers.specs.Replies.{done, row_description}
+use Rattle.pg_handlers.proofs.Encodable.{by_test, select_is_tag}
+use Rattle.pg_handlers.proofs.ErrorTexts.{tellable_error}
+use Rattle.sample_handlers.specs.declared.meaning.SampleStatement.{SampleStatement}
+use Rattle.sample_handlers.specs.declared.meaning.SampleStatement.TheVariants as statement
+use Rattle.sample_handlers.specs.Told.{name_column, span_column, columns, columns_of, column_format, division_by_zero, done_tag, listed, not_known, response_of}
+
+two_columns : (a b : FieldFormat) → IsEncodable (row_description (name_column a ∷ span_column b ∷ []))
+two_columns a b = record { body = omega arith; counts = (omega arith, tt); texts = (by_test (codes "name") refl, (by_test (codes "span") refl, tt)) }
+
+pub columns_sendable : (formats : Format) → IsEncodable (row_description (columns formats))
+columns_sendable formats = two_columns (column_format formats 0) (column_format formats 1)
+
+pub not_known_tellable : IsTellable not_known
+not_known_tellable = tellable_error (codes "42601") (codes "not known") (omega arith) (by_test (codes "42601") refl) (omega arith) (by_test (codes "not known") refl)
+
+pub division_tellable : IsTellable division_by_zero
+division_tellable = tellable_error (codes "22012") (codes "division by zero") (omega arith) (by_test (codes "22012") refl) (omega arith) (by_test (codes "division by zero") refl)
+
+done_sendable : IsEncodable (done (tag_text done_tag))
+done_sendable = record { body = omega arith; counts = tt; texts = (by_test (codes "INSERT 0 1") refl, tt) }
+
+pub response_sendable : (formats : Format) (s : SampleStatement) → IsSendableResponse (response_of formats s)
+response_sendable formats statement.Pair = (columns_sendable formats, select_is_tag)
+response_sendable formats statement.Broken = (columns_sendable formats, select_is_tag)
+response_sendable formats statement.CopyIn = omega arith
+response_sendable formats statement.CopyOut = omega arith
+response_sendable formats statement.CopyBoth = omega arith
+response_sendable formats statement.Failed =
+    (tellable_error (codes "22023") (codes "refused") (omega arith) (by_test (codes "22023") refl) (omega arith) (by_test (codes "refused") refl)).encodable
+response_sendable formats statement.Done = done_sendable
+response_sendable formats statement.Late = (columns_sendable formats, select_is_tag)
+
+pub responses_sendable : (statements : List SampleStatement) → AllByRecursion IsSendableResponse (map (response_of format.UnifiedText) statements)
+responses_sendable [] = tt
+responses_sendable (s ∷ statements) = (response_sendable format.UnifiedText s, responses_sendable statements)

@@ -1,0 +1,38 @@
+//! Data of sample COPYs.
+
+ghost use Rattle.std.specs.Prelude.{◌≡◌};
+
+use pg_messages::{CopyData, PgBytes};
+use pg_portal::{CopySource, PgWireError};
+use std::alloc::{AllocError, Global};
+
+/// So many data, each of one byte: how many are left with it.
+#[derive(Drop)]
+pub struct SampleCopy {
+    alloc: Global,
+    left: u8,
+}
+
+impl SampleCopy {
+    /// So many data.
+    pub fn new(alloc: Global, left: u8) -> SampleCopy
+        ensures { result.left ≡ left }
+    {
+        SampleCopy { alloc, left }
+    }
+}
+
+impl CopySource for SampleCopy {
+    ghost use Rattle.sample_handlers.specs.Told.{data_left};
+
+    ghost items = { λ c. data_left c.left };
+
+    fn next(&mut self) -> Result<Option<Result<CopyData, PgWireError>>, AllocError> {
+        if self.left == 0 {
+            return Ok(None);
+        }
+        let payload = PgBytes::copy_of(self.alloc, &[self.left])?;
+        self.left -= 1;
+        Ok(Some(Ok(CopyData { payload })))
+    }
+}

@@ -1,0 +1,208 @@
+//! The handlers of sample queries.
+
+ghost use Rattle.std.specs.Prelude.{◌≡◌, false, None, IfOk};
+ghost use Rattle.pg_handlers.specs.Good.{AreSendable};
+ghost use Rattle.pg_handlers.specs.Handlers.{told_all, told_query};
+ghost use Rattle.sample_handlers.specs.Queries.{is_given, query_told};
+ghost use Rattle.sample_handlers.specs.Told.{alone_or_not_known, data_left, listed};
+
+use crate::answer::{Answer, polls_of, response, responses};
+use crate::columns::columns_of;
+use crate::copy::SampleCopy;
+use crate::errors::not_known;
+use crate::meaning::{SampleStatement, meaning_of};
+use crate::parser::SampleParser;
+use crate::query::SampleQuery;
+use crate::words::trimmed;
+use pg_handlers::{
+    Client, CopyHandler, ExtendedQueryHandler, PgWireServerHandlers, SimpleQueryHandler,
+    copy_given_up,
+};
+use pg_messages::{CopyData, CopyDone, CopyFail, PgList};
+use pg_portal::{
+    ClientInfo, DescribePortalResponse, DescribeStatementResponse, Format, ListRows, PgWireError,
+    Portal, PortalStore, StoredStatement,
+};
+use std::alloc::{AllocError, Global};
+use std::sync::Arc;
+
+/// It answers sample queries, simple and extended, and takes all data of a COPY.
+#[derive(Drop)]
+pub struct SampleHandler;
+
+impl ExtendedQueryHandler for SampleHandler {
+    ghost use Rattle.sample_handlers.specs.Told.{told_extended};
+
+    type Statement = SampleStatement;
+
+    type QueryParser = SampleParser;
+
+    type Rows = ListRows;
+
+    type CopyRows = SampleCopy;
+
+    type Query = SampleQuery<Answer>;
+
+    ghost told = { λ _. told_extended };
+
+    fn query_parser(&self, alloc: Global) -> Result<Arc<SampleParser>, AllocError> {
+        Ok(Arc::new(alloc, SampleParser)?)
+    }
+
+    /// It has no parameters.
+    fn do_describe_statement(
+        &self,
+        alloc: Global,
+        _client: &ClientInfo,
+        target: &StoredStatement<SampleStatement>,
+    ) -> Result<DescribeStatementResponse, PgWireError> {
+        let fields = columns_of(alloc, target.statement, &Format::UnifiedText)?;
+        Ok(DescribeStatementResponse::new(PgList::new(alloc), fields))
+    }
+
+    fn do_describe_portal(
+        &self,
+        alloc: Global,
+        _client: &ClientInfo,
+        target: &Portal<SampleStatement, ListRows>,
+    ) -> Result<DescribePortalResponse, PgWireError> {
+        let statement = target.statement.statement;
+        let fields = columns_of(alloc, statement, &target.result_column_format)?;
+        Ok(DescribePortalResponse::new(fields))
+    }
+
+    fn do_query(
+        &self,
+        alloc: Global,
+        _client: &ClientInfo,
+        portal: &Portal<SampleStatement, ListRows>,
+        _max_rows: i32,
+    ) -> Result<SampleQuery<Answer>, AllocError> {
+        let statement = portal.statement.statement;
+        let answer = response(alloc, &portal.result_column_format, statement)?;
+        Ok(SampleQuery::new(polls_of(statement), Ok(answer)))
+    }
+}
+
+impl SimpleQueryHandler for SampleHandler {
+    ghost use Rattle.sample_handlers.specs.Told.{told_simple};
+
+    type Rows = ListRows;
+
+    type CopyRows = SampleCopy;
+
+    type Query = SampleQuery<PgList<Answer>>;
+
+    ghost told = { λ _. told_simple };
+
+    /// A statement, or one of two lists of statements.
+    fn do_query(
+        &self,
+        alloc: Global,
+        _client: &ClientInfo,
+        query: &str,
+    ) -> Result<SampleQuery<PgList<Answer>>, AllocError> {
+        let text = trimmed(query);
+        if text == "pair; done" {
+            let statements = [SampleStatement::Pair, SampleStatement::Done];
+            listed(alloc, 0, &statements)
+        } else if text == "done; broken; pair" {
+            let statements = [
+                SampleStatement::Done,
+                SampleStatement::Broken,
+                SampleStatement::Pair,
+            ];
+            listed(alloc, 0, &statements)
+        } else {
+            match meaning_of(text) {
+                Some(statement) => listed(alloc, polls_of(statement), &[statement]),
+                None => refused(alloc),
+            }
+        }
+    }
+}
+
+/// The query of several statements, which owes so many polls.
+fn listed(
+    alloc: Global,
+    polls: u32,
+    statements: &[SampleStatement],
+) -> Result<SampleQuery<PgList<Answer>>, AllocError>
+    ensures unspent { IfOk result (λ query. is_given query.outcome ≡ false) }
+    ensures told { IfOk result (λ query.
+        told_query (told_all (λ rows. rows) (λ c. data_left c.left)) (query_told query.polls query.outcome)
+        ≡ listed polls statements.now) }
+    ensures sendable { IfOk result (λ query. AreSendable (listed polls statements.now).outcome) }
+{
+    Ok(SampleQuery::new(polls, Ok(responses(alloc, statements)?)))
+}
+
+/// The query that is refused.
+fn refused(alloc: Global) -> Result<SampleQuery<PgList<Answer>>, AllocError>
+    ensures unspent { IfOk result (λ query. is_given query.outcome ≡ false) }
+    ensures told { IfOk result (λ query.
+        told_query (told_all (λ rows. rows) (λ c. data_left c.left)) (query_told query.polls query.outcome)
+        ≡ alone_or_not_known None) }
+    ensures sendable { IfOk result (λ query. AreSendable (alone_or_not_known None).outcome) }
+{
+    Ok(SampleQuery::new(0, Err(not_known(alloc)?)))
+}
+
+impl CopyHandler for SampleHandler {
+    ghost use Rattle.sample_handlers.specs.Told.{told_copying};
+
+    ghost told = { λ _. told_copying };
+
+    fn on_copy_data<St: PortalStore>(
+        &self,
+        _alloc: Global,
+        _client: &mut Client<St>,
+        _copy_data: CopyData,
+    ) -> Result<(), PgWireError> {
+        Ok(())
+    }
+
+    fn on_copy_done<St: PortalStore>(
+        &self,
+        _alloc: Global,
+        _client: &mut Client<St>,
+        _done: CopyDone,
+    ) -> Result<(), PgWireError> {
+        Ok(())
+    }
+
+    fn on_copy_fail<St: PortalStore>(
+        &self,
+        alloc: Global,
+        _client: &mut Client<St>,
+        fail: CopyFail,
+    ) -> PgWireError {
+        copy_given_up(alloc, fail)
+    }
+}
+
+impl PgWireServerHandlers for SampleHandler {
+    type Simple = SampleHandler;
+
+    type Extended = SampleHandler;
+
+    type Copying = SampleHandler;
+
+    ghost simple = { λ handler. handler };
+
+    ghost extended = { λ handler. handler };
+
+    ghost copying = { λ handler. handler };
+
+    fn simple_query_handler(&self) -> &SampleHandler {
+        self
+    }
+
+    fn extended_query_handler(&self) -> &SampleHandler {
+        self
+    }
+
+    fn copy_handler(&self) -> &SampleHandler {
+        self
+    }
+}

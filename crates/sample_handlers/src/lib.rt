@@ -1,0 +1,20 @@
+//! Handlers of a few sample queries, each with another kind of response: rows, errors among them, COPY of each
+//! direction, and commands.
+#![tactic(auto)]
+
+mod answer;
+mod columns;
+mod copy;
+mod errors;
+mod handler;
+mod meaning;
+mod parser;
+mod query;
+mod rows;
+mod words;
+
+pub use copy::SampleCopy;
+pub use handler::SampleHandler;
+pub use meaning::SampleStatement;
+pub use parser::SampleParser;
+pub use query::SampleQuery;

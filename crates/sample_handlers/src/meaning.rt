@@ -1,0 +1,59 @@
+//! What the texts of queries mean.
+
+ghost use Rattle.std.specs.Prelude.{◌≡◌};
+ghost use Rattle.sample_handlers.specs.Meanings.{meaning, meaning_of};
+
+use crate::words::trimmed;
+
+/// What a query means.
+#[derive(Clone, Copy, Debug, PartialEq, Eq)]
+pub enum SampleStatement {
+    /// `pair`: two rows.
+    Pair,
+    /// `broken`: two rows with an error between them.
+    Broken,
+    /// `in`: data from the client.
+    CopyIn,
+    /// `out`: binary data from the server.
+    CopyOut,
+    /// `both`: data of both sides.
+    CopyBoth,
+    /// `failed`: an error in place of rows.
+    Failed,
+    /// `done`: a command that inserted a row.
+    Done,
+    /// `late`: two rows, after one poll.
+    Late,
+}
+
+/// What a query means, whose whitespace and semicolons at both ends count for nothing.
+pub(crate) fn meaning(query: &str) -> Option<SampleStatement>
+    ensures { result ≡ meaning query.now }
+{
+    meaning_of(trimmed(query))
+}
+
+/// What a trimmed text means.
+pub(crate) fn meaning_of(text: &str) -> Option<SampleStatement>
+    ensures { result ≡ meaning_of text.now }
+{
+    if text == "pair" {
+        Some(SampleStatement::Pair)
+    } else if text == "broken" {
+        Some(SampleStatement::Broken)
+    } else if text == "in" {
+        Some(SampleStatement::CopyIn)
+    } else if text == "out" {
+        Some(SampleStatement::CopyOut)
+    } else if text == "both" {
+        Some(SampleStatement::CopyBoth)
+    } else if text == "failed" {
+        Some(SampleStatement::Failed)
+    } else if text == "done" {
+        Some(SampleStatement::Done)
+    } else if text == "late" {
+        Some(SampleStatement::Late)
+    } else {
+        None
+    }
+}
