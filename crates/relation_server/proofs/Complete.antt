@@ -1,5 +1,5 @@
 -- With turns enough a conversation is given up for no want of them.
-use Rattle.std.proofs.Common.{◌≡◌, ◌≤◌, ◌<◌, ◌+◌, ◌^◌, ◌⊎◌, ℕ, arith, Bool, true, false, List, [], ◌∷◌, ◌++◌, Option, Some, None, Result, Ok, Err, inl, inr, length, refl, sym, ap, subst, ◌∙◌, cond}
+use Rattle.std.proofs.Common.{◌≡◌, ◌≤◌, ◌+◌, ◌⊎◌, ℕ, arith, Bool, true, false, List, [], ◌∷◌, ◌++◌, Option, Some, None, Result, Ok, Err, inl, inr, length, sym, ap, subst, cond}
 use Rattle.std.specs.Prelude.{ℤ, ◌*◌}
 use Rattle.std.proofs.lemmas.Nat.{mul-le}
 use Rattle.pg_messages.specs.declared.frontend.PgWireFrontendMessage.{PgWireFrontendMessage}
@@ -8,7 +8,6 @@ use Rattle.pg_messages.specs.Frames.{DividesInto, IsBad, IsUnfinished, awaits_st
 use Rattle.pg_messages.proofs.OneReading.{division_kept, division_joined, awaits_joined, has_division, one_division}
 use Rattle.pg_handlers.specs.declared.desk.DeskCall.{DeskCall}
 use Rattle.pg_handlers.specs.declared.ends.EndKind.{EndKind}
-use Rattle.pg_handlers.specs.declared.ends.EndKind.TheVariants.{InputEnd}
 use Rattle.pg_handlers.specs.Answer.{Next, answers_of, conversation}
 use Rattle.pg_handlers.specs.Questions.{questions, questions_since}
 use Rattle.pg_handlers.specs.State.{State, first_state}
@@ -17,11 +16,11 @@ use Rattle.pg_session.specs.declared.ends.ServeError.{ServeError}
 use Rattle.pg_session.specs.declared.ends.ServeError.TheVariants as fault
 use Rattle.pg_session.specs.Session.{whole_rules}
 use Rattle.pg_session.proofs.Spending.{since_grown}
-use Rattle.pg_serve.specs.Serving.{Counts, HasCause, ReadsGaveBytes, TakesFrom, IsRunOfTaken, IsStoppedRunOfTaken}
+use Rattle.pg_serve.specs.Serving.{Counts, HasCause, ReadsGaveBytes, IsRunOfTaken, IsStoppedRunOfTaken}
 use Rattle.relation_tables.specs.declared.Relation.{Relation}
 use Rattle.relation_tables.specs.declared.RelationStatement.{RelationStatement}
 use Rattle.relation_tables.specs.RelationHandler.{relation_handlers}
-use Rattle.relation_server.specs.Completeness.{is_run_message, runs, most_unready, HasTurns, HasFault, IsComplete}
+use Rattle.relation_server.specs.Completeness.{is_run_message, runs, most_unready, IsComplete}
 use Rattle.relation_server.specs.Serving.{WentByWhole}
 use Rattle.relation_server.proofs.Questions.{few_questions}
 

@@ -1,12 +1,11 @@
 -- A conversation over relations asks no more questions than its messages that run a query, each as often as a relation is unready.
-use Rattle.std.proofs.Common.{◌≡◌, ◌≤◌, ◌+◌, ℕ, zero, suc, cond, max, arith, Bool, true, false, ℤ, List, [], ◌∷◌, ◌++◌, Option, Some, None, refl, sym, ap, subst, ◌∙◌}
-use Rattle.std.specs.Prelude.{◌*◌, ◌==◌, if◌then◌else◌, slice_get}
-use Rattle.std.proofs.Math.Nat.{add-mul, one-mul, le-max_left, le-max_right}
+use Rattle.std.proofs.Common.{◌≡◌, ◌≤◌, ◌+◌, ℕ, zero, suc, cond, arith, Bool, true, false, ℤ, List, [], ◌∷◌, Option, Some, None, refl}
+use Rattle.std.specs.Prelude.{◌*◌, ◌==◌}
+use Rattle.std.proofs.Math.Nat.{add-mul, one-mul}
 use Rattle.std.specs.FinMap as fin
 use Rattle.pg_messages.specs.declared.simplequery.Query.{Query}
 use Rattle.pg_messages.specs.declared.extendedquery.Execute.{Execute}
 use Rattle.pg_messages.specs.declared.startup.CancelRequest.{CancelRequest}
-use Rattle.pg_messages.specs.declared.response.ErrorInfo.{ErrorInfo}
 use Rattle.pg_messages.specs.declared.frontend.PgWireFrontendMessage.{PgWireFrontendMessage}
 use Rattle.pg_messages.specs.declared.frontend.PgWireFrontendMessage.TheVariants as client
 use Rattle.pg_portal.specs.declared.client.ClientInfo.{ClientInfo}
@@ -20,16 +19,15 @@ use Rattle.pg_portal.specs.Texts.{is_blank}
 use Rattle.pg_portal.specs.Told.{BoundPortal, TablePortal, Stage, Unstarted, Started, Ended}
 use Rattle.pg_portal.specs.Errors.{info_of}
 use Rattle.pg_handlers.specs.declared.desk.DeskCall.{DeskCall}
-use Rattle.pg_handlers.specs.declared.desk.DeskCall.TheVariants as desk
 use Rattle.pg_handlers.specs.Answer.{Answer, Table, Next, Goes, Ends, Stops, conversation, continued, left_by}
 use Rattle.pg_handlers.specs.Errors.{is_fatal}
 use Rattle.pg_handlers.specs.Replies.{Replies}
-use Rattle.pg_handlers.specs.Effect.{Called, Scope, Outcome, Done, Failed, Over, Stopped, failed, settled}
-use Rattle.pg_handlers.specs.ExecuteRow.{executed_portal, executed_entry, on_execute}
-use Rattle.pg_handlers.specs.Handlers.{ExtendedTold, SimpleTold, Handlers}
+use Rattle.pg_handlers.specs.Effect.{Called, Scope, Outcome, Done, Failed, Over, Stopped, settled}
+use Rattle.pg_handlers.specs.ExecuteRow.{executed_portal, executed_entry}
+use Rattle.pg_handlers.specs.Handlers.{Handlers}
 use Rattle.pg_handlers.specs.Questions.{questions, questioned, started}
 use Rattle.pg_handlers.specs.SimpleRows.{on_query}
-use Rattle.pg_handlers.specs.StartupRows.{on_startup, on_cancel_request, startup_row}
+use Rattle.pg_handlers.specs.StartupRows.{on_cancel_request, startup_row}
 use Rattle.pg_handlers.specs.State.{State}
 use Rattle.pg_handlers.specs.Table.{ready_row, row, scope_in, whole_table}
 use Rattle.pg_session.proofs.Spending.{questions-append}
@@ -38,7 +36,7 @@ use Rattle.relation_tables.specs.declared.RelationStatement.{RelationStatement}
 use Rattle.relation_tables.specs.declared.RelationStatement.TheVariants as statement
 use Rattle.relation_tables.specs.Queries.{trimmed, words, copied_name}
 use Rattle.relation_tables.specs.Relations.{meaning, place_of, relation_at}
-use Rattle.relation_tables.specs.RelationHandler.{relation_handlers, query_of, copy_of, copy_or_unknown, simple_of, told_simple}
+use Rattle.relation_tables.specs.RelationHandler.{relation_handlers, query_of, copy_of, copy_or_unknown, simple_of}
 use Rattle.relation_server.specs.Completeness.{is_run_message, runs, most_unready}
 
 -- ---- any handlers
