@@ -16,7 +16,7 @@ use Rattle.pg_handlers.specs.declared.ends.Turns.{Turns}
 use Rattle.pg_handlers.specs.Questions.{questions, questions_since}
 use Rattle.std.proofs.Math.Seq.{drop-append_seam}
 use Rattle.pg_session.proofs.Pieces.{IsFed-none}
-use Rattle.std.proofs.Common.{true, inl, inr, IsTrue, false, length, ◌⊎◌}
+use Rattle.std.proofs.Common.{true, inl, inr, IsTrue, false, length, length-drop, ◌⊎◌}
 use Rattle.pg_session.specs.Session.{HasFed}
 use Rattle.pg_session.specs.declared.ends.Progress.{Progress}
 use Rattle.pg_session.specs.Streams.{HasRisen}
@@ -223,7 +223,7 @@ gave_none (Some text) reads = (text, refl, omega arith)
 -- a read that gives bytes counts once, and one that gives none doesn't
 counted_within : (n r new_r : ℕ) → new_r ≡ (if n == 0 then r else min (r + 1) 18446744073709551615) → new_r ≤ r + n
 counted_within n r new_r e =
-    ⊎_elim (λ t. let m : new_r ≡ r = e ∙ ap (λ b. cond b r (min (r + 1) 18446744073709551615)) (is_true t.0) in omega arith)
+    ⊎_elim (λ t. let m : new_r ≡ r = e ∙ ap (λ b. cond b r (min (r + 1) 18446744073709551615)) t.0 in omega arith)
     (λ t. let m : new_r ≡ min (r + 1) 18446744073709551615 = e ∙ ap (λ b. cond b r (min (r + 1) 18446744073709551615)) t.0 in let p = t.1 in omega arith) (eqb_tells n 0)
 
 -- one more read gave bytes, or the end
