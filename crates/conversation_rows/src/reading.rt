@@ -12,17 +12,32 @@ pub fn is_read_back<'t>(alloc: Global, lines: &[&'t str]) -> Result<bool, Fault<
     let Some(style) = told(lines, "read_back") else {
         return Ok(true);
     };
-    let mut rows = lines.iter().filter_map(|line| told_by(line, "rows"));
+    let rows = rows_told(alloc, lines)?;
+    let mut count = 0usize;
     for line in lines {
-        let told_row = told_by(line, "reply").and_then(|reply| reply.strip_prefix("DataRow | "));
-        if let Some(cells) = told_row {
-            let row = rows.next().and_then(|words| words.strip_prefix("1 "));
-            if !are_read(alloc, style, cells, row.unwrap_or(""))? {
+        if let Some(reply) = told_by(line, "reply")
+            && let Some(cells) = reply.strip_prefix("DataRow | ")
+        {
+            let words = rows.as_slice().get(count).copied().unwrap_or("");
+            if !are_read(alloc, style, cells, words)? {
                 return Ok(false);
             }
+            count = count.saturating_add(1);
         }
     }
-    Ok(true)
+    Ok(count > 0)
+}
+
+/// The intervals of each line that tells a row.
+fn rows_told<'t>(alloc: Global, lines: &[&'t str]) -> Result<Vec<&'t str>, Fault<'t>> {
+    let mut rows = Vec::new(alloc);
+    for line in lines {
+        if let Some(words) = told_by(line, "rows") {
+            let (_, intervals) = words.split_once(" ").unwrap_or(("", words));
+            rows.push(intervals)?;
+        }
+    }
+    Ok(rows)
 }
 
 /// Whether cells are read as the intervals that stand beside.

@@ -1,7 +1,5 @@
 //! The relations that the lines of a row tell.
 
-ghost use Rattle.std.specs.Prelude.{◌≤◌, ◌<◌, IfOk, length};
-
 use crate::fault::Fault;
 use crate::row::{told, told_by};
 use pg_interval::Interval;
@@ -26,14 +24,19 @@ fn relations_of<'t>(alloc: Global, lines: &[&'t str]) -> Result<Vec<Relation>, F
     let mut relations = Vec::new(alloc);
     for (place, line) in lines.iter().enumerate() {
         if let Some(head) = told_by(line, "relation") {
-            relations.push(relation_of(alloc, head, &lines[place..])?)?;
+            relations.push(relation_of(alloc, head, lines, place)?)?;
         }
     }
     Ok(relations)
 }
 
-/// A relation: its name, how many polls find it unready, and its columns; its rows stand in the lines behind.
-fn relation_of<'t>(alloc: Global, head: &'t str, lines: &[&'t str]) -> Result<Relation, Fault<'t>> {
+/// A relation: its name, how many polls find it unready, and its columns; its rows stand behind its place.
+fn relation_of<'t>(
+    alloc: Global,
+    head: &'t str,
+    lines: &[&'t str],
+    place: usize,
+) -> Result<Relation, Fault<'t>> {
     let mut words = head.split_whitespace();
     let name = words.next().unwrap_or("");
     let Ok(unready) = words.next().unwrap_or("").parse::<u32>() else {
@@ -47,14 +50,18 @@ fn relation_of<'t>(alloc: Global, head: &'t str, lines: &[&'t str]) -> Result<Re
         name: PgStr::copy_of(alloc, name)?,
         unready,
         columns,
-        rows: rows_of(alloc, lines)?,
+        rows: rows_of(alloc, lines, place)?,
     })
 }
 
-/// The rows that stand behind the first line, up to the next relation.
-fn rows_of<'t>(alloc: Global, lines: &[&'t str]) -> Result<PgList<PgList<Interval>>, Fault<'t>> {
+/// The rows that stand behind a place, up to the next relation.
+fn rows_of<'t>(
+    alloc: Global,
+    lines: &[&'t str],
+    place: usize,
+) -> Result<PgList<PgList<Interval>>, Fault<'t>> {
     let mut rows = PgList::new(alloc);
-    for line in lines.iter().skip(1) {
+    for line in lines.iter().skip(place.saturating_add(1)) {
         if told_by(line, "relation").is_some() {
             return Ok(rows);
         }

@@ -1,3 +1,5 @@
+//! A source and a sink in memory, which give, take and fail as they are told.
+
 ghost use Rattle.std.specs.Prelude.{◌≡◌, ℕ, List, [], Some, ◌≤◌, ◌<◌, ◌++◌, ◌==◌, min, take, length, find, IfOk, IfSome, IfErr, OnErr, OnOk, IsErrOf, if◌then◌else◌};
 ghost use Rattle.std.specs.Result.{is_err};
 ghost use Rattle.pg_session.specs.Streams.{GivesFront, GrowsBy, GrowsByFront, HasRisen, reads_after};

@@ -14,7 +14,7 @@ pub use ends::{Progress, ServeError};
 pub use errors::tell_error;
 pub use messages::on_message;
 pub use pg_handlers::{
-    CancelDesk, Client, CopyHandler, DeskCall, EndKind, ExtendedQueryHandler, Outbox,
+    CancelDesk, Client, CopyHandler, DeskCall, EndKind, ExtendedQueryHandler, NoopHandler, Outbox,
     PgWireServerHandlers, QueryState, ScriptDesk, SessionError, SimpleQueryHandler, Turn, Turns,
     send_copy_both_response, send_copy_in_response, send_copy_out_response, send_describe_response,
     send_execution_response, send_partial_query_response, send_query_response,

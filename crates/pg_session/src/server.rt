@@ -70,7 +70,11 @@ pub fn process_message<
 
 /// Tells the client an error of a message, and does what follows it: ErrorResponse, and where the error's severity is
 /// FATAL the end; else the transaction status of an error, and the wait for Sync where that is wanted (after an extended
-/// message or in a COPY of one), or ReadyForQuery.
+/// message or in a COPY of one), or ReadyForQuery. The session is open, the error is no want of memory, and before the
+/// startup packet it is FATAL.
+///
+/// The replies wait for the next `feed`. An end closes the session, and so does AllocError, after which nothing more is
+/// said of what waits.
 pub fn process_error<
     H: PgWireServerHandlers,
     St: PortalStore<

@@ -89,7 +89,8 @@ impl<
         Rows = <H::Extended as ExtendedQueryHandler>::Rows,
     >,
 > Session<H, St> {
-    /// A session that awaits the startup packet of a client, who is told this pid and key. Its store is empty.
+    /// A session that awaits the startup packet of a client, who is told this pid and key. Its store is empty. The only
+    /// error is want of memory.
     pub fn new(
         alloc: Global,
         handlers: Arc<H>,

@@ -1,3 +1,5 @@
+//! What is outside: where a client's bytes come from, and where the replies go.
+
 ghost use Rattle.std.specs.Prelude.{◌≡◌, ℕ, List, Option, ◌≤◌, ◌<◌, length, IfOk, IfSome, OnOk, OnErr, IsErrOf};
 ghost use Rattle.pg_session.specs.Streams.{GivesFront, GrowsBy, GrowsByFront, HasRisen, reads_after};
 
@@ -14,7 +16,8 @@ pub trait Source {
     // the number of reads that failed
     ghost faults: { Self → ℕ };
 
-    /// Reads at least one byte and at most as many as fit, or answers 0 where no byte is left for ever.
+    /// Reads at least one byte and at most as many as fit, or answers 0 where no byte is left for ever. SourceFailed
+    /// comes only where the count of faults rose; then nothing was taken.
     fn receive(&mut self, into: &mut [u8]) -> Result<usize, SourceFailed>
         requires { 0 < length into.old }
         ensures fits { IfOk result (λ n. n ≤ length into.old) }
@@ -42,7 +45,8 @@ pub trait Sink {
     // the number of writes that failed
     ghost faults: { Self → ℕ };
 
-    /// Writes all bytes. After an error a front of them was written.
+    /// Writes all bytes. Failed comes only where the count of faults rose, and NoMemory leaves it. After either a front
+    /// of the bytes was written.
     fn send(&mut self, bytes: &[u8]) -> Result<(), SinkError>
         ensures ok { OnOk result (GrowsBy (written self.old) (written self.new) bytes.now) }
         ensures err { OnErr result (GrowsByFront (written self.old) (written self.new) bytes.now) }

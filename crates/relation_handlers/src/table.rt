@@ -1,3 +1,5 @@
+//! A table of relations: its rules, and the look-up of a name.
+
 ghost use Rattle.std.specs.Prelude.{◌≡◌, ℕ, List, [], ◌^◌, ◌<◌, ◌++◌, ◌||◌, ◌==◌, not, Option, Some, None, length, IfOk, IfErr, OnOk};
 ghost use Rattle.std.specs.FinMap as map;
 ghost use Rattle.std.specs.List.{list_all};

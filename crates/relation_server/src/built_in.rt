@@ -1,3 +1,5 @@
+//! The relations that the server has built in.
+
 ghost use Rattle.std.specs.Prelude.{◌≡◌, map, IfOk, IfErr};
 ghost use Rattle.relation_server.specs.BuiltIn as rows;
 

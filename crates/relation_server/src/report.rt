@@ -1,3 +1,5 @@
+//! What the program tells of a conversation: its status, and a line.
+
 ghost use Rattle.std.specs.Prelude.{◌≡◌};
 ghost use Rattle.relation_server.specs.Program.{status_of, line_of, IsReported};
 

@@ -1,3 +1,5 @@
+//! The program: its words, and the conversation that it serves.
+
 ghost use Rattle.std.specs.Prelude.{◌≡◌, None, Result, IfSome};
 ghost use Rattle.pg_handlers.specs.declared.ends.EndKind.{EndKind};
 ghost use Rattle.pg_session.specs.declared.ends.ServeError.{ServeError};
@@ -26,8 +28,8 @@ const USAGE: u8 = 2;
 ///
 /// The status is 0 where the client sent Terminate or a CancelRequest or its input ended, 2 where the words are
 /// others, 4 where a read failed, 5 where a write failed, 6 where the turns were spent, 7 where memory ran out, 10 at
-/// a bad frame, 11 at a fatal error. Each but 0 is told by a line on `err`. A write to `err` that fails changes no status; where it finds no memory, the
-/// status is 7.
+/// a bad frame, 11 at a fatal error. Each but 0 is told by a line on `err`. A write to `err` that fails changes no
+/// status; where it finds no memory, the status is 7.
 pub fn run_rows<S: Source, K: Sink, E: Sink>(
     alloc: Global,
     words: &[PgStr],

@@ -27,8 +27,9 @@ use std::sync::Arc;
 /// refused. A read that gives at least one byte or the end costs one turn, and so does each poll that finds a query
 /// unready.
 ///
-/// ReadFault comes where a read failed, WriteFault where a write failed, TurnLimit where all turns were spent and
-/// one more was needed, NoMemory where memory ran out.
+/// Ok tells how the conversation ended, with all of its replies written. ReadFault comes where a read failed, and the
+/// whole answer to the frames taken before is written; WriteFault where a write failed, TurnLimit where all turns were
+/// spent and one more was needed, NoMemory where memory ran out: then a front of the answer is written.
 pub fn serve_relations_on<D: CancelDesk, S: Source, K: Sink>(
     alloc: Global,
     desk: &mut D,

@@ -1,5 +1,7 @@
 -- What the sample handlers tell can be sent as replies.
-use Rattle.std.proofs.Common.{◌≡◌, ℕ, ◌≤◌, pos, List, [], ◌∷◌, length, map, codes, refl, arith}
+use Rattle.std.proofs.Common.{◌≡◌, ℕ, ◌≤◌, pos, List, [], ◌∷◌, ◌++◌, length, map, codes, refl, arith, length-append}
+use Rattle.std.specs.Fmt.{decimal}
+use Rattle.std.proofs.lemmas.Fmt.{length-decimal-le}
 use Rattle.std.specs.List.{AllByRecursion}
 use Rattle.pg_messages.specs.Replies.{IsEncodable}
 use Rattle.pg_messages.specs.declared.backend.PgWireBackendMessage.TheVariants as server
@@ -8,10 +10,10 @@ use Rattle.pg_text.specs.declared.field_format.FieldFormat.TheVariants as field
 use Rattle.pg_portal.specs.declared.portal.Format.{Format}
 use Rattle.pg_portal.specs.declared.portal.Format.TheVariants as format
 use Rattle.pg_portal.specs.Rows.{IsTellable, IsSendable}
-use Rattle.pg_portal.specs.Tags.{tag_text}
+use Rattle.pg_portal.specs.Tags.{spaced, tag_text}
 use Rattle.pg_handlers.specs.Good.{AreSendable, IsSendableResponse}
 use Rattle.pg_handlers.specs.Replies.{done, row_description}
-use Rattle.pg_handlers.proofs.Encodable.{by_test, select_is_tag}
+use Rattle.pg_handlers.proofs.Encodable.{HasNoZero-append, HasNoZero-decimal, by_test, select_is_tag}
 use Rattle.pg_handlers.proofs.ErrorTexts.{tellable_error}
 use Rattle.sample_handlers.specs.declared.meaning.SampleStatement.{SampleStatement}
 use Rattle.sample_handlers.specs.declared.meaning.SampleStatement.TheVariants as statement
@@ -30,7 +32,18 @@ pub division_tellable : IsTellable division_by_zero
 division_tellable = tellable_error (codes "22012") (codes "division by zero") (omega arith) (by_test (codes "22012") refl) (omega arith) (by_test (codes "division by zero") refl)
 
 done_sendable : IsEncodable (done (tag_text done_tag))
-done_sendable = record { body = omega arith; counts = tt; texts = (by_test (codes "INSERT 0 1") refl, tt) }
+done_sendable =
+    let a : length (decimal 0) ≤ 20 = length-decimal-le 20 0 (omega arith) (omega arith) (omega arith) in
+    let b : length (decimal 1) ≤ 20 = length-decimal-le 20 1 (omega arith) (omega arith) (omega arith) in
+    record {
+      body = simp length-append (omega (arith, a, b));
+      counts = tt;
+      texts = (
+        HasNoZero-append (codes "INSERT") (spaced 0 ++ spaced 1) (by_test (codes "INSERT") refl)
+            (HasNoZero-append (spaced 0) (spaced 1) (λ e. omega arith, HasNoZero-decimal 0) (λ e. omega arith, HasNoZero-decimal 1)),
+        tt,
+      );
+    }
 
 pub response_sendable : (formats : Format) (s : SampleStatement) → IsSendableResponse (response_of formats s)
 response_sendable formats statement.Pair = (columns_sendable formats, select_is_tag)

@@ -1,8 +1,7 @@
 -- What the sample handlers tell: a few statements, and the response to each.
-use Rattle.std.specs.Prelude.{ℕ, zero, suc, ℤ, pos, negsuc, true, List, [], ◌∷◌, ◌++◌, Option, Some, None, Result, Ok, Err, if◌then◌else◌, map, length, codes, bytes_eq, unwrap_or}
-use Rattle.std.specs.List.{flat_map, replicate}
+use Rattle.std.specs.Prelude.{ℕ, zero, suc, ℤ, pos, negsuc, true, List, [], ◌∷◌, ◌++◌, Option, Some, None, Result, Ok, Err, if◌then◌else◌, map, length, codes, bytes_eq, replicate, unwrap_or}
+use Rattle.std.specs.List.{flat_map}
 use Rattle.pg_messages.specs.declared.data.DataRow.{DataRow}
-use Rattle.pg_messages.specs.declared.response.ErrorInfo.{ErrorInfo}
 use Rattle.pg_text.specs.declared.field_format.FieldFormat.{FieldFormat}
 use Rattle.pg_text.specs.declared.field_format.FieldFormat.TheVariants as field
 use Rattle.pg_text.specs.declared.pg_type.PgType.TheVariants as type
@@ -34,10 +33,10 @@ abbrev pub column_format : Format → ℕ → FieldFormat
 column_format formats index = unwrap_or (format_for formats index) field.Text
 
 abbrev pub name_column : FieldFormat → Field
-name_column format = record (plain_field (codes "name") None None type.Text format) { type_size = negsuc 0 }
+name_column f = record (plain_field (codes "name") None None type.Text f) { type_size = negsuc 0 }
 
 abbrev pub span_column : FieldFormat → Field
-span_column format = record (plain_field (codes "span") None None type.Interval format) { type_size = pos 16 }
+span_column f = record (plain_field (codes "span") None None type.Interval f) { type_size = pos 16 }
 
 abbrev pub columns : Format → List Field
 columns formats = name_column (column_format formats 0) ∷ span_column (column_format formats 1) ∷ []
@@ -60,19 +59,19 @@ day field.Text = codes "1 day"
 day field.Binary = replicate 8 0 ++ (0 ∷ 0 ∷ 0 ∷ 1 ∷ []) ++ replicate 4 0
 
 abbrev pub first_row : FieldFormat → DataRow
-first_row format = row_of (Some (codes "a") ∷ Some (day format) ∷ [])
+first_row f = row_of (Some (codes "a") ∷ Some (day f) ∷ [])
 
 abbrev pub second_row : DataRow
 second_row = row_of (Some (codes "b") ∷ None ∷ [])
 
 abbrev pub pair_items : FieldFormat → List RowItem
-pair_items format = Ok (first_row format) ∷ Ok second_row ∷ []
+pair_items f = Ok (first_row f) ∷ Ok second_row ∷ []
 
 abbrev pub division_by_zero : PgWireError
 division_by_zero = wire.UserError (error (codes "22012") (codes "division by zero"))
 
 abbrev pub broken_items : FieldFormat → List RowItem
-broken_items format = Ok (first_row format) ∷ Err division_by_zero ∷ Ok second_row ∷ []
+broken_items f = Ok (first_row f) ∷ Err division_by_zero ∷ Ok second_row ∷ []
 
 abbrev pub rows_told : Format → List RowItem → ToldRows
 rows_told formats items = record { command_tag = codes "SELECT"; fields = columns formats; items = items }
@@ -86,7 +85,7 @@ data_left (suc n) = Ok (record { payload = suc n ∷ [] }) ∷ data_left n
 
 -- a COPY of one column
 abbrev pub copy_told : ℤ → ℕ → ToldCopy
-copy_told format count = record { format = format; columns = 1; items = data_left count; trailer_left = has_trailer format }
+copy_told code count = record { format = code; columns = 1; items = data_left count; trailer_left = has_trailer code }
 
 -- ---- responses
 

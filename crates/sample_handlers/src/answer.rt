@@ -1,12 +1,10 @@
 //! What sample statements are answered.
 
 ghost use Rattle.std.specs.Prelude.{◌≡◌, IfOk, map};
-ghost use Rattle.std.specs.Arc.{arc_value};
 ghost use Rattle.pg_portal.specs.Responses as told;
 ghost use Rattle.pg_portal.specs.Responses.{told_copy, told_response, told_responses};
-ghost use Rattle.pg_portal.specs.Told.{told_rows};
 ghost use Rattle.pg_portal.specs.declared.portal.Format.TheVariants as format;
-ghost use Rattle.sample_handlers.specs.Told.{columns, copy_told, data_left, done_tag, pair_items, broken_items, polls_of, rows_told, response_of};
+ghost use Rattle.sample_handlers.specs.Told.{column_format, copy_told, data_left, pair_items, broken_items, polls_of, rows_told, response_of};
 
 use crate::columns::{column_format, columns};
 use crate::copy::SampleCopy;

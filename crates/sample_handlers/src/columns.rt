@@ -36,6 +36,7 @@ pub(crate) fn column_format(formats: &Format, index: usize) -> FieldFormat
 }
 
 /// The columns of rows: `name` of type text and `span` of type interval.
+#[tactic(auto, using(crate::proofs::Sendable::columns_sendable))]
 pub(crate) fn columns(alloc: Global, formats: &Format) -> Result<PgList<FieldInfo>, AllocError>
     ensures columns { IfOk result (λ fields. fields ≡ columns formats.now) }
     ensures encodable { IfOk result (λ fields. IsEncodable (row_description fields)) }

@@ -21,6 +21,7 @@ pub(crate) fn error(alloc: Global, code: &str, message: &str) -> Result<ErrorInf
 }
 
 /// The error in place of a query that isn't known.
+#[tactic(auto, using(crate::proofs::Sendable::not_known_tellable))]
 pub(crate) fn not_known(alloc: Global) -> Result<PgWireError, AllocError>
     ensures error { IfOk result (λ error. error ≡ not_known) }
     ensures tellable { IfOk result IsTellable }
@@ -29,6 +30,7 @@ pub(crate) fn not_known(alloc: Global) -> Result<PgWireError, AllocError>
 }
 
 /// The error in place of a row.
+#[tactic(auto, using(crate::proofs::Sendable::division_tellable))]
 pub(crate) fn division_by_zero(alloc: Global) -> Result<PgWireError, AllocError>
     ensures error { IfOk result (λ error. error ≡ division_by_zero) }
     ensures tellable { IfOk result IsTellable }

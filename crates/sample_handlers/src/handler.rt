@@ -71,6 +71,7 @@ impl ExtendedQueryHandler for SampleHandler {
         Ok(DescribePortalResponse::new(fields))
     }
 
+    #[tactic(auto, using(crate::proofs::Sendable::response_sendable))]
     fn do_query(
         &self,
         alloc: Global,
@@ -123,6 +124,7 @@ impl SimpleQueryHandler for SampleHandler {
 }
 
 /// The query of several statements, which owes so many polls.
+#[tactic(auto, using(crate::proofs::Sendable::responses_sendable))]
 fn listed(
     alloc: Global,
     polls: u32,
@@ -138,6 +140,7 @@ fn listed(
 }
 
 /// The query that is refused.
+#[tactic(auto, using(crate::proofs::Sendable::not_known_tellable))]
 fn refused(alloc: Global) -> Result<SampleQuery<PgList<Answer>>, AllocError>
     ensures unspent { IfOk result (λ query. is_given query.outcome ≡ false) }
     ensures told { IfOk result (λ query.

@@ -1,11 +1,9 @@
 //! Sample rows.
 
 ghost use Rattle.std.specs.Prelude.{◌≡◌, ◌≤◌, pos, IfOk, length};
-ghost use Rattle.std.specs.List.{AllByRecursion};
 ghost use Rattle.pg_messages.specs.Replies.{IsEncodable};
 ghost use Rattle.pg_messages.specs.declared.backend.PgWireBackendMessage.TheVariants as server;
-ghost use Rattle.pg_portal.specs.Rows.{IsSendable};
-ghost use Rattle.sample_handlers.specs.Told.{first_row, second_row, pair_items, broken_items};
+ghost use Rattle.sample_handlers.specs.Told.{first_row, pair_items, broken_items};
 
 use crate::errors::division_by_zero;
 use pg_messages::{DataRow, PgBytes, PgList};

@@ -25,8 +25,7 @@ returns-in_default-clause-went g c = (
 
 pub returns-clause-went : goal.returns-clause-went
 returns-clause-went g c =
-    let went = c.serve_connection.ensures.went in
-    (
+    let went = c.serve_connection.ensures.went in (
       went.0,
       went.1,
       went_by_tables c.args.relations.now (g.D.CancelDesk.registration c.args.desk.now)
