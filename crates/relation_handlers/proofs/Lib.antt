@@ -5,3 +5,4 @@ pub mod ValueLemmas
 pub mod LineLemmas
 pub mod AnswerLemmas
 pub mod WordLemmas
+pub mod ReadSoFar

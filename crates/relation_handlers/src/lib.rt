@@ -15,6 +15,7 @@ mod rows;
 mod simple;
 mod style;
 mod table;
+mod within;
 mod words;
 
 pub use copy::RelationCopy;

@@ -2,8 +2,9 @@ ghost use Rattle.std.specs.Prelude.{◌≡◌, ℕ, List, [], ◌^◌, ◌<◌, 
 ghost use Rattle.std.specs.FinMap as map;
 ghost use Rattle.std.specs.List.{list_all};
 ghost use Rattle.relation_tables.specs.Relations.{are_even, place_of, relation_at};
-ghost use Rattle.relation_handlers.specs.Tables.{is_transaction_word, is_foreign_to_names, is_name, is_column_name, are_columns, refusal_at, refusal, IsSound, IsValid, IsCause};
+ghost use Rattle.relation_handlers.specs.Tables.{is_transaction_word, is_foreign_to_names, is_name, is_column_name, are_columns, refusal_at, refusal, HoldIntervals, IsSound, IsValid, IsCause};
 
+use crate::within::read_relations;
 use pg_interval::Interval;
 use pg_messages::{PgList, PgStr};
 use pg_portal::Named;
@@ -51,11 +52,11 @@ impl Model for RelationTable {
     ghost Value = { List Relation };
 
     ghost use Rattle.relation_tables.specs.Relations.{place_of};
-    ghost use Rattle.relation_handlers.specs.Tables.{IsValid};
+    ghost use Rattle.relation_handlers.specs.Tables.{HoldIntervals, IsValid};
 
     ghost view = { λ t. t.relations };
 
-    ghost invariant = { λ t. IsValid t.relations
+    ghost invariant = { λ t. IsValid t.relations × HoldIntervals t.relations
         × ((name : List ℕ) → map.get t.places name ≡ place_of t.relations name) };
 }
 
@@ -69,6 +70,7 @@ impl RelationTable {
         ensures refused { IfErr result (λ error. IsCause relations error) }
     {
         let places = places_of(alloc, relations.as_slice())?;
+        read_relations(relations.as_slice());
         Ok(RelationTable { relations, places })
     }
 
@@ -92,6 +94,7 @@ impl RelationTable {
     pub fn relations(&self) -> &[Relation]
         ensures relations { result.now ≡ self.now }
         ensures valid { IsValid self.now }
+        ensures within { HoldIntervals self.now }
     {
         self.relations.as_slice()
     }
