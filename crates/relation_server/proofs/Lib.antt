@@ -3,4 +3,5 @@ mod CellsPaged
 mod CellsShown
 mod CellsWhole
 mod EvenRows
+mod PlainTexts
 mod Quiet
