@@ -31,8 +31,10 @@ use Rattle.relation_tables.specs.declared.Relation.{Relation}
 use Rattle.relation_tables.specs.Relations.{relation_at, are_even, HaveEvenRows}
 use Rattle.relation_tables.specs.RelationHandler.{or_refused, in_front, all_or_error, text_of, as_value as as_text_value, value, row_of_values, row_item, line_of_texts, line_item, column_formats}
 use Rattle.relation_tables.proofs.ItemsAgree.{even_at}
+use Rattle.relation_handlers.specs.Tables.{HoldIntervals}
 use Rattle.relation_handlers.proofs.ColumnLemmas.{formats_len}
-use Rattle.relation_server.specs.Cells.{HoldIntervals, TextStands, CellStands, CellsStand, as_value, ShowsRow, ShowsLine, IsRowAt, ShowsStoredRow, ShowsStoredLine}
+use Rattle.relation_server.specs.Cells.{TextStands, CellStands, CellsStand, as_value, ShowsRow, ShowsLine, IsRowAt, ShowsStoredRow, ShowsStoredLine, IsPlain}
+use Rattle.relation_server.proofs.PlainTexts.{printed_plain}
 use Rattle.relation_server.proofs.CellsPaged.{ItemIs, ItemsAre}
 
 -- ---- one interval
@@ -117,13 +119,22 @@ row_shown named style formats row e is = row_from style formats row _ (values_sh
 
 -- ---- a line
 
+abbrev PlainTextShown : Option IntervalStyle → Interval → Result (List ℕ) PgWireError → Type 0
+PlainTextShown style i (Ok text) = IsPlain text × TextStands style text i
+PlainTextShown style i (Err e) = Unit {0}
+
+plain_text_shown : (named : List ℕ) (style : Option IntervalStyle) (i : Interval) → IsInterval i
+    → PlainTextShown style i (text_of (or_refused named style) i)
+plain_text_shown named None i is = tt
+plain_text_shown named (Some style) i is = (printed_plain (printed_style style) i is, printed_stands style i is)
+
 abbrev TextsShown : Option IntervalStyle → List Interval → Result (List (List ℕ)) PgWireError → Type 0
-TextsShown style row (Ok texts) = AllZip (λ text i. TextStands style text i) texts row
+TextsShown style row (Ok texts) = AllZip (λ text i. IsPlain text × TextStands style text i) texts row
 TextsShown style row (Err e) = Unit {0}
 
-front_text_shown : (style : Option IntervalStyle) (i : Interval) (row : List Interval)
-    (v : Result (List ℕ) PgWireError) (vs : Result (List (List ℕ)) PgWireError)
-    → TextShown style i v → TextsShown style row vs → TextsShown style (i ∷ row) (in_front v vs)
+front_text_shown : (style : Option IntervalStyle) (i : Interval) (row : List Interval) (v : Result (List ℕ) PgWireError)
+    (vs : Result (List (List ℕ)) PgWireError)
+    → PlainTextShown style i v → TextsShown style row vs → TextsShown style (i ∷ row) (in_front v vs)
 front_text_shown style i row (Err e) vs h hs = tt
 front_text_shown style i row (Ok v) (Err e) h hs = tt
 front_text_shown style i row (Ok v) (Ok vs) h hs = (h, hs)
@@ -132,7 +143,8 @@ texts_shown : (named : List ℕ) (style : Option IntervalStyle) (row : List Inte
     → TextsShown style row (all_or_error (map (text_of (or_refused named style)) row))
 texts_shown named style [] is = tt
 texts_shown named style (i ∷ row) is =
-    front_text_shown style i row (text_of (or_refused named style) i) _ (text_shown named style i is.0) (texts_shown named style row is.1)
+    front_text_shown style i row (text_of (or_refused named style) i) _ (plain_text_shown named style i is.0)
+    (texts_shown named style row is.1)
 
 abbrev LineShown : Option IntervalStyle → List Interval → CopyItem → Type 0
 LineShown style row (Ok d) = ShowsLine style row d

@@ -14,9 +14,11 @@ later_none (Some e) p h = absurd (let f : ⊥ = cc in f)
 even_after : (earlier relations : List Relation) → refusal_after earlier relations ≡ None → HaveEvenRows relations
 even_after earlier [] h = tt
 even_after earlier (r ∷ relations) h =
-    let sound : IsSound r = IsSound-at earlier (r ∷ relations) h zero r (omega arith) in
-    (sound.rows, even_after (earlier ++ r ∷ []) relations
-    (later_none (refusal_at (length earlier) (is_some (place_of earlier r.name)) r) (refusal_after (earlier ++ r ∷ []) relations) h))
+    let sound : IsSound r = IsSound-at earlier (r ∷ relations) h zero r (omega arith) in (
+      sound.rows,
+      even_after (earlier ++ r ∷ []) relations
+          (later_none (refusal_at (length earlier) (is_some (place_of earlier r.name)) r) (refusal_after (earlier ++ r ∷ []) relations) h),
+    )
 
 pub even : (relations : List Relation) → IsValid relations → HaveEvenRows relations
 even relations valid = even_after [] relations valid

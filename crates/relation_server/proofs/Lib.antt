@@ -5,6 +5,7 @@ mod CellsWhole
 mod Complete
 mod CoreServing
 mod EvenRows
+mod PlainTexts
 mod Questions
 mod Quiet
 mod Speaking

@@ -1,9 +1,8 @@
 -- What the server shows of relations: cells that stand for the stored intervals, each in its column's format and in the session's style.
-use Rattle.std.specs.Prelude.{ℕ, pos, List, [], ◌∷◌, ◌++◌, ◌≡◌, ◌⊎◌, Option, Some, None, Ok, map, length, codes, unwrap_or}
+use Rattle.std.specs.Prelude.{ℕ, pos, List, [], ◌∷◌, ◌++◌, ◌≡◌, ◌⊎◌, ◌==◌, ◌||◌, not, Bool, IsTrue, Option, Some, None, Ok, map, length, codes, unwrap_or}
 use Rattle.std.specs.List.{AllByRecursion, AllZip, Contains, concat, join_with_byte}
 use Rattle.std.specs.FinMap as fin
 use Rattle.pg_interval.specs.declared.pg_interval.Interval.{Interval}
-use Rattle.pg_interval.specs.Cell.{IsInterval}
 use Rattle.pg_interval.specs.Reading.{StandsForOnly}
 use Rattle.pg_messages.specs.declared.copy.CopyData.{CopyData}
 use Rattle.pg_messages.specs.declared.data.DataRow.{DataRow}
@@ -28,10 +27,6 @@ use Rattle.relation_tables.specs.declared.Relation.{Relation}
 use Rattle.relation_tables.specs.declared.RelationStatement.{RelationStatement}
 use Rattle.relation_tables.specs.Relations.{relation_at}
 use Rattle.relation_tables.specs.RelationHandler.{column_formats}
-
--- the numbers of each interval lie in their types
-abbrev pub HoldIntervals : List Relation → Type 0
-HoldIntervals relations = AllByRecursion (λ r. AllByRecursion (λ row. AllByRecursion IsInterval row) r.rows) relations
 
 -- ---- what the client chose
 
@@ -79,6 +74,13 @@ CellsStand style _ _ _ = ⊥
 abbrev pub as_value : List ℕ → List ℕ
 as_value cell = count32 (length cell) ++ cell
 
+-- no byte is a tab, a newline or a backslash, which mean something else in a line (PostgreSQL: COPY, Text Format)
+abbrev pub is_plain : ℕ → Bool
+is_plain byte = not (byte == 9 || byte == 10 || byte == 92)
+
+abbrev pub IsPlain : List ℕ → Type 0
+IsPlain text = AllByRecursion (λ byte. IsTrue (is_plain byte)) text
+
 -- a DataRow shows a row of intervals: their number, and a cell for each, one after another (protocol: Message Formats, DataRow)
 pub record ShowsRow (style : Option IntervalStyle) (formats : List FieldFormat) (row : List Interval) (d : DataRow) : Type 0 where
   pub cells : List (List ℕ)
@@ -86,11 +88,11 @@ pub record ShowsRow (style : Option IntervalStyle) (formats : List FieldFormat) 
   pub payload : d.payload ≡ concat (map as_value cells)
   pub stand : CellsStand style formats cells row
 
--- a CopyData shows a row of intervals: a line of texts, split by tabs and ended by a newline (protocol: COPY Operations)
+-- a CopyData shows a row of intervals: a line of plain texts, split by tabs and ended by a newline (protocol: COPY Operations)
 pub record ShowsLine (style : Option IntervalStyle) (row : List Interval) (d : CopyData) : Type 0 where
   pub texts : List (List ℕ)
   pub payload : d.payload ≡ join_with_byte 9 texts ++ 10 ∷ []
-  pub stand : AllZip (λ text i. TextStands style text i) texts row
+  pub stand : AllZip (λ text i. IsPlain text × TextStands style text i) texts row
 
 -- ---- replies
 
