@@ -6,3 +6,4 @@ pub mod LineLemmas
 pub mod AnswerLemmas
 pub mod WordLemmas
 pub mod SharedLemmas
+pub mod ReadSoFar

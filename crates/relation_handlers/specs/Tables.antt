@@ -1,7 +1,9 @@
 -- Relations, and the rules of a table of them.
 use Rattle.std.specs.Prelude.{ℕ, Bool, true, List, [], ◌∷◌, ◌++◌, Option, Some, None, ◌≡◌, ◌==◌, ◌&&◌, ◌||◌, not, nat_le, is_some, if◌then◌else◌, length, codes}
-use Rattle.std.specs.List.{list_all}
+use Rattle.std.specs.List.{AllByRecursion, list_all}
 use Rattle.std.specs.Str.{str_eq_ignore_ascii_case}
+use Rattle.pg_interval.specs.declared.pg_interval.Interval.{Interval}
+use Rattle.pg_interval.specs.Cell.{IsInterval}
 use Rattle.relation_tables.specs.declared.Relation.{Relation}
 use Rattle.relation_tables.specs.Relations.{place_of, are_even}
 use Rattle.relation_handlers.specs.declared.table.TableError.{TableError}
@@ -63,3 +65,15 @@ IsValid relations = refusal relations ≡ None
 abbrev pub IsCause : List Relation → TableError → Type 0
 IsCause relations NoMemory = Unit {0}
 IsCause relations e = refusal relations ≡ Some e
+
+-- ---- intervals
+
+-- the numbers of each interval of a row, of rows, and of relations lie in their types
+abbrev pub IsRowWithin : List Interval → Type 0
+IsRowWithin row = AllByRecursion IsInterval row
+
+abbrev pub AreRowsWithin : List (List Interval) → Type 0
+AreRowsWithin rows = AllByRecursion IsRowWithin rows
+
+abbrev pub HoldIntervals : List Relation → Type 0
+HoldIntervals relations = AllByRecursion (λ r. AreRowsWithin r.rows) relations

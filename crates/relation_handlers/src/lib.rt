@@ -16,6 +16,7 @@ mod shared;
 mod simple;
 mod style;
 mod table;
+mod within;
 mod words;
 
 pub use copy::RelationCopy;

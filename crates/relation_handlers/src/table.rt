@@ -7,10 +7,11 @@ ghost use Rattle.pg_portal.specs.Clients.{HasShortMetadata};
 ghost use Rattle.relation_tables.specs.RelationHandler.{session_style};
 ghost use Rattle.relation_tables.specs.Relations.{are_even, place_of, relation_at};
 ghost use Rattle.relation_handlers.specs.Shared.{shared_columns};
-ghost use Rattle.relation_handlers.specs.Tables.{is_transaction_word, is_foreign_to_names, is_name, is_column_name, are_columns, refusal_at, refusal, IsSound, IsValid, IsCause};
+ghost use Rattle.relation_handlers.specs.Tables.{is_transaction_word, is_foreign_to_names, is_name, is_column_name, are_columns, refusal_at, refusal, HoldIntervals, IsSound, IsValid, IsCause};
 
 use crate::shared::{SharedColumns, shared_columns};
 use crate::style::SessionStyle;
+use crate::within::read_relations;
 use pg_interval::Interval;
 use pg_messages::{PgList, PgStr};
 use pg_portal::{ClientInfo, Named};
@@ -64,14 +65,15 @@ impl Model for RelationTable {
 
     ghost use Rattle.relation_tables.specs.Relations.{place_of};
     ghost use Rattle.relation_handlers.specs.Shared.{shared_columns};
-    ghost use Rattle.relation_handlers.specs.Tables.{IsValid};
+    ghost use Rattle.relation_handlers.specs.Tables.{HoldIntervals, IsValid};
 
     ghost view = { λ t. t.relations };
 
     ghost invariant = { λ t. IsValid t.relations
         × ((name : List ℕ) → map.get t.places name ≡ place_of t.relations name)
         × (t.columns ≡ list.map shared_columns t.relations)
-        × (t.style_name ≡ codes "intervalstyle") };
+        × (t.style_name ≡ codes "intervalstyle")
+        × HoldIntervals t.relations };
 }
 
 impl RelationTable {
@@ -86,6 +88,7 @@ impl RelationTable {
         let places = places_of(alloc, relations.as_slice())?;
         let columns = shared_columns(alloc, relations.as_slice())?;
         let style_name = PgStr::copy_of(alloc, "intervalstyle")?;
+        read_relations(relations.as_slice());
         Ok(RelationTable {
             relations,
             places,
@@ -134,6 +137,7 @@ impl RelationTable {
     pub fn relations(&self) -> &[Relation]
         ensures relations { result.now ≡ self.now }
         ensures valid { IsValid self.now }
+        ensures within { HoldIntervals self.now }
     {
         self.relations.as_slice()
     }

@@ -64,7 +64,8 @@ use Rattle.relation_tables.specs.declared.RelationStatement.TheVariants as state
 use Rattle.relation_tables.specs.Queries.{trimmed, words, copied_name}
 use Rattle.relation_tables.specs.Relations.{relation_at, HaveEvenRows, place_of, meaning}
 use Rattle.relation_tables.specs.RelationHandler.{style_text, or_refused, row_item, line_item, column_formats, query_of, simple_of, copy_of, copy_or_unknown, relation_handlers}
-use Rattle.relation_server.specs.Cells.{HoldIntervals, IsOwnFormat, ShowsStoredRow, ShowsStoredLine}
+use Rattle.relation_handlers.specs.Tables.{HoldIntervals}
+use Rattle.relation_server.specs.Cells.{IsOwnFormat, ShowsStoredRow, ShowsStoredLine}
 use Rattle.relation_server.proofs.CellsPaged.{ItemsAre, EndIs, page_is, all_append, ReplyIs, Are, row_replies_are, either_is, ResponseIs, responded_are, all_responded_are}
 use Rattle.relation_server.proofs.CellsShown.{rows_show, lines_show}
 

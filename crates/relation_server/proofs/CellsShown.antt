@@ -31,8 +31,9 @@ use Rattle.relation_tables.specs.declared.Relation.{Relation}
 use Rattle.relation_tables.specs.Relations.{relation_at, are_even, HaveEvenRows}
 use Rattle.relation_tables.specs.RelationHandler.{or_refused, in_front, all_or_error, text_of, as_value as as_text_value, value, row_of_values, row_item, line_of_texts, line_item, column_formats}
 use Rattle.relation_tables.proofs.ItemsAgree.{even_at}
+use Rattle.relation_handlers.specs.Tables.{HoldIntervals}
 use Rattle.relation_handlers.proofs.ColumnLemmas.{formats_len}
-use Rattle.relation_server.specs.Cells.{HoldIntervals, TextStands, CellStands, CellsStand, as_value, ShowsRow, ShowsLine, IsRowAt, ShowsStoredRow, ShowsStoredLine, IsPlain}
+use Rattle.relation_server.specs.Cells.{TextStands, CellStands, CellsStand, as_value, ShowsRow, ShowsLine, IsRowAt, ShowsStoredRow, ShowsStoredLine, IsPlain}
 use Rattle.relation_server.proofs.PlainTexts.{printed_plain}
 use Rattle.relation_server.proofs.CellsPaged.{ItemIs, ItemsAre}
 

@@ -31,7 +31,8 @@ use Rattle.pg_handlers.proofs.GoodStores.{Each}
 use Rattle.relation_tables.specs.declared.Relation.{Relation}
 use Rattle.relation_tables.specs.Relations.{HaveEvenRows}
 use Rattle.relation_tables.specs.RelationHandler.{relation_handlers}
-use Rattle.relation_server.specs.Cells.{HoldIntervals, style_of, IsChosen, ShowsStoredRow, ShowsStoredLine, ShowsReply, ShowStored, IsOwnFormat, ShowInOwnFormat}
+use Rattle.relation_handlers.specs.Tables.{HoldIntervals}
+use Rattle.relation_server.specs.Cells.{style_of, IsChosen, ShowsStoredRow, ShowsStoredLine, ShowsReply, ShowStored, IsOwnFormat, ShowInOwnFormat}
 use Rattle.relation_server.proofs.CellsPaged.{ReplyIs, Are}
 use Rattle.relation_server.proofs.CellsShown.{each_of}
 use Rattle.relation_server.proofs.CellsKept.{Talk, Picks, PortalIs, Good, Shown, StartedIs, started_is, step_is}

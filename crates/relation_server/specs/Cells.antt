@@ -3,7 +3,6 @@ use Rattle.std.specs.Prelude.{ℕ, pos, List, [], ◌∷◌, ◌++◌, ◌≡◌
 use Rattle.std.specs.List.{AllByRecursion, AllZip, Contains, concat, join_with_byte}
 use Rattle.std.specs.FinMap as fin
 use Rattle.pg_interval.specs.declared.pg_interval.Interval.{Interval}
-use Rattle.pg_interval.specs.Cell.{IsInterval}
 use Rattle.pg_interval.specs.Reading.{StandsForOnly}
 use Rattle.pg_messages.specs.declared.copy.CopyData.{CopyData}
 use Rattle.pg_messages.specs.declared.data.DataRow.{DataRow}
@@ -28,10 +27,6 @@ use Rattle.relation_tables.specs.declared.Relation.{Relation}
 use Rattle.relation_tables.specs.declared.RelationStatement.{RelationStatement}
 use Rattle.relation_tables.specs.Relations.{relation_at}
 use Rattle.relation_tables.specs.RelationHandler.{column_formats}
-
--- the numbers of each interval lie in their types
-abbrev pub HoldIntervals : List Relation → Type 0
-HoldIntervals relations = AllByRecursion (λ r. AllByRecursion (λ row. AllByRecursion IsInterval row) r.rows) relations
 
 -- ---- what the client chose
 

@@ -11,7 +11,7 @@ ghost use Rattle.pg_serve.specs.Serving.{HasCause, counts_of};
 ghost use Rattle.relation_server.specs.Completeness.{IsComplete};
 ghost use Rattle.relation_tables.specs.declared.RelationStatement.{RelationStatement};
 ghost use Rattle.relation_tables.specs.RelationHandler.{relation_handlers};
-ghost use Rattle.relation_server.specs.Cells.{HoldIntervals, ShowInOwnFormat, ShowStored, style_of};
+ghost use Rattle.relation_server.specs.Cells.{ShowInOwnFormat, ShowStored, style_of};
 ghost use Rattle.relation_server.specs.Serving.{WentByTables};
 
 use pg_handlers::NoopHandler;
@@ -54,13 +54,13 @@ pub fn serve_relations_on<D: CancelDesk, S: Source, K: Sink>(
 
     // Whatever messages come and whatever the registry answers, each cell of the table's replies stands for a stored
     // interval: in the session's style, and in a format that a Bind among the messages chose, or in text.
-    ensures cells { HoldIntervals relations.now → (answers : List Bool) (messages : List PgWireFrontendMessage)
+    ensures cells { (answers : List Bool) (messages : List PgWireFrontendMessage)
         → ShowStored relations.now messages (conversation (whole_table (relation_handlers relations.now)) answers
         (first_state (D.registration desk.old).0 (D.registration desk.old).1) messages).replies }
 
     // Wherever the messages lead, a message behind them is answered so too: an Execute in the format that its own
     // portal's Bind chose, and every other message in text.
-    ensures formats { HoldIntervals relations.now → (answers more : List Bool)
+    ensures formats { (answers more : List Bool)
         (messages : List PgWireFrontendMessage) (s : State RelationStatement) (m : PgWireFrontendMessage)
         → (conversation (whole_table (relation_handlers relations.now)) answers
         (first_state (D.registration desk.old).0 (D.registration desk.old).1) messages).next ≡ Goes s

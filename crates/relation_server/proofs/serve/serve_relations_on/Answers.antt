@@ -62,19 +62,19 @@ returns-clause-complete g c =
     (ap (λ h. h.relations.now) c.in-Ok.ensures.ok) went.2)
 
 pub returns-in_default-clause-cells : goal.returns-in_default-clause-cells
-returns-in_default-clause-cells g c = λ within. stored_shown c.args.relations.now within (even c.args.relations.now c.relations-valid.ensures.valid)
+returns-in_default-clause-cells g c = stored_shown c.args.relations.now c.relations-valid.ensures.within (even c.args.relations.now c.relations-valid.ensures.valid)
     (g.D.CancelDesk.registration c.args.desk.now).0 (g.D.CancelDesk.registration c.args.desk.now).1
 
 pub returns-clause-cells : goal.returns-clause-cells
-returns-clause-cells g c = λ within. stored_shown c.args.relations.now within (even c.args.relations.now c.relations-valid.ensures.valid)
+returns-clause-cells g c = stored_shown c.args.relations.now c.relations-valid.ensures.within (even c.args.relations.now c.relations-valid.ensures.valid)
     (g.D.CancelDesk.registration c.args.desk.now).0 (g.D.CancelDesk.registration c.args.desk.now).1
 
 pub returns-in_default-clause-formats : goal.returns-in_default-clause-formats
-returns-in_default-clause-formats g c = λ within. shown_in_own_format c.args.relations.now within
+returns-in_default-clause-formats g c = shown_in_own_format c.args.relations.now c.relations-valid.ensures.within
     (even c.args.relations.now c.relations-valid.ensures.valid) (g.D.CancelDesk.registration c.args.desk.now).0
     (g.D.CancelDesk.registration c.args.desk.now).1
 
 pub returns-clause-formats : goal.returns-clause-formats
-returns-clause-formats g c = λ within. shown_in_own_format c.args.relations.now within
+returns-clause-formats g c = shown_in_own_format c.args.relations.now c.relations-valid.ensures.within
     (even c.args.relations.now c.relations-valid.ensures.valid) (g.D.CancelDesk.registration c.args.desk.now).0
     (g.D.CancelDesk.registration c.args.desk.now).1
