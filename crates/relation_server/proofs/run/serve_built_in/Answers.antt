@@ -19,7 +19,7 @@ pub returns-in_default : goal.returns-in_default
 returns-in_default g c = record {
   calls = [];
   quiet = tt;
-  went = went_by_tables built_in (c.args.pid, c.args.key) (refl, refl, refl, refl, tt) _ (g.S.Source.left c.args.client.now) _
+  went = went_by_tables built_in (c.args.pid, c.args.key) (refl, (refl, (refl, (refl, tt)))) _ (g.S.Source.left c.args.client.now) _
       (g.K.Sink.written c.args.out.now) _ []
       (none_went (whole_rules (relation_handlers built_in)) (first_state c.args.pid c.args.key) (g.S.Source.left c.args.client.now)
       (g.K.Sink.written c.args.out.now) fault.NoMemory refl);
