@@ -125,23 +125,23 @@ module _ (relations : List Relation) (registration : ℤ × List ℕ) (even : Ha
   -- a run over bytes that were taken from what the client says
   taken_in : (bytes taken : List ℕ) (new_left : Option (List ℕ)) → SpeaksCore bytes
       → (rest : List ℕ) × (bytes ≡ taken ++ rest) × (new_left ≡ Some rest) → SpeaksCore taken
-  taken_in bytes taken new_left speaks t = speaks_front taken t.0 (subst SpeaksCore t.1.0 speaks)
+  taken_in bytes taken new_left speaks t = speaks_front taken t.0 (subst SpeaksCore t.1 speaks)
 
   went : (answer : Result EndKind ServeError) (bytes : List ℕ) (new_left old new : Option (List ℕ)) (calls : List DeskCall) → SpeaksCore bytes
       → WentByWhole relations registration answer (Some bytes) new_left old new calls
       → WentByCore relations registration answer (Some bytes) new_left old new calls
-  went (Ok kind) bytes new_left old new calls speaks (text, is, replies, grown, x) =
-      (text, is, replies, grown, run text replies calls kind (subst SpeaksCore (sym is) speaks) x)
-  went (Err fault.ReadFault) bytes new_left old new calls speaks (taken, t, replies, grown, x) =
-      (taken, t, replies, grown, run taken replies calls end.InputEnd (taken_in bytes taken new_left speaks t) x)
-  went (Err fault.TurnLimit) bytes new_left old new calls speaks (inl (taken, t, replies, grown, x)) =
-      inl (taken, t, replies, grown, run taken replies calls end.InputEnd (taken_in bytes taken new_left speaks t) x)
-  went (Err fault.TurnLimit) bytes new_left old new calls speaks (inr (taken, t, front, grown, x)) =
-      inr (taken, t, front, grown, stopped taken front calls (taken_in bytes taken new_left speaks t) x)
-  went (Err fault.WriteFault) bytes new_left old new calls speaks (taken, t, front, grown, x) =
-      (taken, t, front, grown, cut taken front calls (taken_in bytes taken new_left speaks t) x)
-  went (Err fault.NoMemory) bytes new_left old new calls speaks (taken, t, front, grown, x) =
-      (taken, t, front, grown, cut taken front calls (taken_in bytes taken new_left speaks t) x)
+  went (Ok kind) bytes new_left old new calls speaks (text, is, (replies, grown, x)) =
+      (text, is, (replies, grown, run text replies calls kind (subst SpeaksCore (sym is) speaks) x))
+  went (Err fault.ReadFault) bytes new_left old new calls speaks (taken, t, (replies, grown, x)) =
+      (taken, t, (replies, grown, run taken replies calls end.InputEnd (taken_in bytes taken new_left speaks t) x))
+  went (Err fault.TurnLimit) bytes new_left old new calls speaks (inl (taken, t, (replies, grown, x))) =
+      inl (taken, t, (replies, grown, run taken replies calls end.InputEnd (taken_in bytes taken new_left speaks t) x))
+  went (Err fault.TurnLimit) bytes new_left old new calls speaks (inr (taken, t, (front, grown, x))) =
+      inr (taken, t, (front, grown, stopped taken front calls (taken_in bytes taken new_left speaks t) x))
+  went (Err fault.WriteFault) bytes new_left old new calls speaks (taken, t, (front, grown, x)) =
+      (taken, t, (front, grown, cut taken front calls (taken_in bytes taken new_left speaks t) x))
+  went (Err fault.NoMemory) bytes new_left old new calls speaks (taken, t, (front, grown, x)) =
+      (taken, t, (front, grown, cut taken front calls (taken_in bytes taken new_left speaks t) x))
 
   pub went_by_tables : (answer : Result EndKind ServeError) (left new_left old new : Option (List ℕ)) (calls : List DeskCall)
       → WentByWhole relations registration answer left new_left old new calls

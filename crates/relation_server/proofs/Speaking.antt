@@ -25,7 +25,7 @@ pub speaks : (text rest : List ℕ) (messages : List PgWireFrontendMessage) → 
     → IsRest (awaits_startup_after_all messages true) rest → IsCoreConversation messages → SpeaksCore text
 speaks text rest messages divided left is front behind d =
     let more = has_division (awaits_startup_after_all front true) behind in
-    let joined = division_joined front more.0 true text behind more.1 d more.2.0 in
-    let last = subst (λ awaiting. IsRest awaiting more.1) (sym (awaits_joined front more.0 true)) more.2.1 in
+    let joined = division_joined front more.0 true text behind more.1 d more.2 in
+    let last = subst (λ awaiting. IsRest awaiting more.1) (sym (awaits_joined front more.0 true)) more.3 in
     let one = one_division messages (front ++ more.0) true text rest more.1 divided left joined last in
     core_front front more.0 (subst IsCoreConversation one.0 is)

@@ -6,8 +6,15 @@ use Rattle.std.specs.Str.Parse.{digits_value, ParsesUnsigned}
 use Rattle.std.proofs.lemmas.Str.Parse.{numerals_by_value, tells_all_ascii_digits, parse_gives}
 use Rattle.std.proofs.lemmas.Bool.{leb-true}
 use Rattle.relation_server.specs.Words.{is_numeral, is_pid}
-use Rattle.relation_server.proofs.RowLemmas.{and_left, and_right}
 use Rattle.relation_server.proofs.words.read_pid.Goals as goal
+
+and_left : (a b : Bool) → (a && b) ≡ true → a ≡ true
+and_left true b h = refl
+and_left false b h = h
+
+and_right : (a b : Bool) → (a && b) ≡ true → b ≡ true
+and_right true b h = h
+and_right false b h = cc
 
 same_digits : (word : List ℕ) → list_all is_ascii_digit word ≡ all_ascii_digits word
 same_digits [] = refl
