@@ -1,23 +1,23 @@
 -- What went by the whole table went by the core table, where the client speaks as that does.
-use Rattle.std.proofs.Common.{◌≡◌, ◌∙◌, ◌++◌, true, Bool, List, ℕ, ℤ, Option, Some, None, Result, Ok, Err, IfSome, refl, sym, ap, subst, inl, inr}
+use Rattle.std.proofs.Common.{◌≡◌, ◌∙◌, ◌++◌, true, Bool, List, ℕ, ℤ, Option, Some, None, Result, Ok, Err, refl, sym, ap, subst, inl, inr}
 use Rattle.pg_messages.specs.declared.frontend.PgWireFrontendMessage.{PgWireFrontendMessage}
 use Rattle.pg_messages.specs.declared.backend.PgWireBackendMessage.{PgWireBackendMessage}
-use Rattle.pg_messages.specs.Frames.{DividesInto, IsBad, IsUnfinished}
+use Rattle.pg_messages.specs.Frames.{IsBad, IsUnfinished}
 use Rattle.pg_messages.specs.Replies.{replies_bytes}
 use Rattle.pg_handlers.specs.declared.desk.DeskCall.{DeskCall}
 use Rattle.pg_handlers.specs.declared.ends.EndKind.{EndKind}
 use Rattle.pg_handlers.specs.declared.ends.EndKind.TheVariants as end
 use Rattle.pg_handlers.specs.Answer.{Answer, Next, Goes, Ends, Stops, BeginsWith, answers_of, conversation}
 use Rattle.pg_handlers.specs.State.{State, first_state}
-use Rattle.pg_handlers.specs.Table.{whole_table, awaits}
+use Rattle.pg_handlers.specs.Table.{awaits}
 use Rattle.pg_session.specs.declared.ends.ServeError.{ServeError}
 use Rattle.pg_session.specs.declared.ends.ServeError.TheVariants as fault
-use Rattle.pg_session.specs.Run.{Rules, IsFed, IsRun, IsCutRun, EndsWith}
+use Rattle.pg_session.specs.Run.{Rules, IsRun, IsCutRun, EndsWith}
 use Rattle.pg_session.specs.Session.{whole_rules}
 use Rattle.pg_serve.specs.Serving.{IsStoppedRun}
 use Rattle.relation_tables.specs.declared.Relation.{Relation}
 use Rattle.relation_tables.specs.declared.RelationStatement.{RelationStatement}
-use Rattle.relation_tables.specs.CoreTable.{CoreState, core_table, core_awaits, first_core_state}
+use Rattle.relation_tables.specs.CoreTable.{CoreState, core_awaits, first_core_state}
 use Rattle.relation_tables.specs.Premises.{IsCoreConversation, AreAlike, IsSameNext}
 use Rattle.relation_tables.specs.RelationHandler.{relation_handlers}
 use Rattle.relation_tables.specs.Relations.{HaveEvenRows}

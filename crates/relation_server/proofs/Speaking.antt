@@ -1,8 +1,8 @@
 -- A client whose whole frames are those of a core conversation speaks as the core table does.
-use Rattle.std.proofs.Common.{◌≡◌, ◌++◌, ◌⊎◌, true, List, [], ◌∷◌, ℕ, sym, subst}
+use Rattle.std.proofs.Common.{◌++◌, true, List, [], ◌∷◌, ℕ, sym, subst}
 use Rattle.pg_messages.specs.declared.frontend.PgWireFrontendMessage.{PgWireFrontendMessage}
 use Rattle.pg_messages.specs.declared.frontend.PgWireFrontendMessage.TheVariants as client
-use Rattle.pg_messages.specs.Frames.{DividesInto, IsUnfinished, IsBad, awaits_startup_after_all}
+use Rattle.pg_messages.specs.Frames.{DividesInto, awaits_startup_after_all}
 use Rattle.pg_messages.proofs.OneReading.{IsRest, one_division, has_division, division_joined, awaits_joined}
 use Rattle.relation_tables.specs.Premises.{IsCoreConversation, AreCoreToTerminate, UnlessTerminate}
 use Rattle.relation_server.specs.Serving.{SpeaksCore}
