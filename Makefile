@@ -14,7 +14,7 @@ demo:
 
 # Proves the program and all that it stands on, builds it, and shows the same frames from what was built.
 build:
-	@echo "The program is proved and built: from nothing up to 38 minutes of processor time, later only what changed."
+	@echo "The program is proved and built: from nothing up to an hour of processor time, later only what changed."
 	@$(call QUIETLY,crates/server,rt run -- --version)
 	@python3 tools/show_frames.py $(CLIENT) crates/server/out/server $(WORDS)
 
@@ -24,7 +24,7 @@ test:
 
 # Times queries, printers, readers, the codec and the registry, on programs that are proved and built first.
 bench:
-	@echo "The programs are proved and built: from nothing up to an hour of processor time, later only what changed."
+	@echo "The programs are proved and built: from nothing up to two hours of processor time, later only what changed."
 	@for program in $(MEASURED); do $(call QUIETLY,crates/$$program,rt run -- $$(cat args 2>/dev/null) < stdin); done
 	python3 bench/serve_loop.py crates/server/out/server
 	@for times in $(wildcard bench/*_times); do echo $$times; $$times || exit 1; done
