@@ -162,8 +162,8 @@ fn put(bytes: &mut Vec<u8>, kind: u8, body: &[u8]) -> Result<(), AllocError> {
     bytes.extend_from_slice(body)
 }
 
-/// Appends the length of a body with its own four bytes. No body here is longer than its length can tell.
+/// Appends the length of a body with its own four bytes. No body here has more than a hundred bytes.
 fn put_length(bytes: &mut Vec<u8>, body: usize) -> Result<(), AllocError> {
-    let length = body.saturating_add(4).min(65535) as u32;
-    bytes.extend_from_slice(&length.to_be_bytes())
+    let length = if body < 1000 { body as u32 } else { 1000 };
+    bytes.extend_from_slice(&(length + 4).to_be_bytes())
 }
