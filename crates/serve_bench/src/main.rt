@@ -6,18 +6,16 @@
 mod client;
 mod draw;
 mod relations;
-mod tally;
 
 use client::{Load, client_of};
 use pg_messages::{PgBytes, PgList};
-use pg_serve::MemorySource;
-use pg_session::ScriptDesk;
+use pg_serve::{MemorySink, MemorySource};
+use pg_session::{EndKind, ScriptDesk, ServeError};
 use relation_server::{RelationTable, TURNS, serve_relations_on};
 use relations::table_of;
 use std::alloc::{AllocError, Global};
 use std::time::{Clock, Instant};
 use std::{env, io};
-use tally::Tally;
 
 /// The loads: what a client asks for, and its interval style.
 const LOADS: [(Load, &str); 14] = [
@@ -49,9 +47,9 @@ fn main(rt: HostRuntime) -> io::Result<()> {
     };
     for (load, style) in LOADS {
         let times = if load.is_scan() { 1 } else { queries };
-        let source = source_of(alloc, load, style, times)?;
+        let mut source = source_of(alloc, load, style, times)?;
         let start = Instant::now(&rt)?;
-        let bytes = served(alloc, &table, source);
+        let bytes = served(alloc, &table, &mut source);
         let taken = start.elapsed(&rt)?.as_nanos();
         println!(rt; "{}, {style}: {bytes}", load.name())?;
         let each = u128::from(if load.is_scan() { rows } else { queries });
@@ -82,11 +80,33 @@ fn source_of(
 }
 
 /// How many bytes a client is answered, or 0 where it isn't served to its end.
-fn served(alloc: Global, table: &RelationTable, mut source: MemorySource) -> u64 {
-    let mut sink = Tally { bytes: 0 };
+fn served(alloc: Global, table: &RelationTable, source: &mut MemorySource) -> u64 {
     let mut desk = ScriptDesk::new(alloc, 7, [1, 2, 3, 4], PgList::new(alloc));
-    match serve_relations_on(alloc, &mut desk, table, &mut source, &mut sink, TURNS) {
-        Ok(_) => sink.bytes,
-        Err(_) => 0,
+    let mut sink = MemorySink::new(alloc, PgList::new(alloc));
+    let answer = answer(alloc, &mut desk, table, source, &mut sink, TURNS);
+    if is_end(answer) {
+        sink.bytes().len() as u64
+    } else {
+        0
+    }
+}
+
+/// Serves a client, and tells how that ended.
+fn answer(
+    alloc: Global,
+    desk: &mut ScriptDesk,
+    table: &RelationTable,
+    source: &mut MemorySource,
+    sink: &mut MemorySink,
+    turns: u64,
+) -> Result<EndKind, ServeError> {
+    serve_relations_on(alloc, desk, table, source, sink, turns)
+}
+
+/// Whether a conversation came to an end.
+fn is_end(answer: Result<EndKind, ServeError>) -> bool {
+    match answer {
+        Ok(_) => true,
+        Err(_) => false,
     }
 }
