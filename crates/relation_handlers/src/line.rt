@@ -46,7 +46,7 @@ fn line_of(alloc: Global, style: &SessionStyle, row: &[Interval]) -> Result<Copy
     })
 }
 
-/// The texts of a row, split by tabs.
+/// The texts of a row, split by tabs. There is room for them, each of at most 96 bytes, and for the newline.
 fn texts(alloc: Global, style: &SessionStyle, row: &[Interval]) -> Result<Vec<u8>, PgWireError>
     requires { length row.now ≤ 1600 }
     ensures texts { IfOk result (λ payload. Ok payload.items
@@ -56,7 +56,7 @@ fn texts(alloc: Global, style: &SessionStyle, row: &[Interval]) -> Result<Vec<u8
         (tab_joined (all_or_error (map (text_of style.now) row.now)))) }
     ensures answerable { IfErr result IsAnswerable }
 {
-    let mut payload = Vec::with_capacity(alloc, 20 * row.len())?;
+    let mut payload = Vec::with_capacity(alloc, 97 * row.len() + 1)?;
     for (index, interval) in row.iter().enumerate() {
         push_cell(alloc, &mut payload, style, index, interval)?;
     }

@@ -1,6 +1,6 @@
 //! Rows of relations as the protocol sends them (protocol: Message Formats, DataRow).
 
-ghost use Rattle.std.specs.Prelude.{◌≡◌, ◌≤◌, ◌+◌, ◌++◌, Ok, IfOk, IfErr, OnOk, length, map, zip};
+ghost use Rattle.std.specs.Prelude.{◌≡◌, ◌≤◌, ◌+◌, ◌++◌, [], Ok, IfOk, IfErr, OnOk, length, map, zip};
 ghost use Rattle.pg_interval.specs.Printed.{printed};
 ghost use Rattle.pg_text.specs.Words.{printed_style};
 ghost use Rattle.pg_messages.specs.declared.backend.PgWireBackendMessage.TheVariants as server;
@@ -60,7 +60,7 @@ fn row_of(
     })
 }
 
-/// The values of a row, one after another. There is room for those of a binary row from the start.
+/// The values of a row, one after another.
 #[inline(always)]
 fn values(
     alloc: Global,
@@ -77,11 +77,24 @@ fn values(
         (joined (all_or_error (map (λ p. value style.now p.0 p.1) (zip formats.now row.now))))) }
     ensures answerable { IfErr result IsAnswerable }
 {
-    let mut payload = Vec::with_capacity(alloc, 20 * row.len())?;
+    let mut payload = payload_of(alloc, formats)?;
     for (index, interval) in row.iter().enumerate() {
         push_value(alloc, &mut payload, style, formats[index], interval)?;
     }
     Ok(payload)
+}
+
+/// No value yet, with room for those of a row: a binary value has 20 bytes, and a text with its length at most 100. The
+/// first column's format decides, since mostly all are alike.
+#[inline(always)]
+fn payload_of(alloc: Global, formats: &[FieldFormat]) -> Result<Vec<u8>, AllocError>
+    requires { length formats.now ≤ 1600 }
+    ensures { IfOk result (λ payload. payload.items ≡ []) }
+{
+    match formats.first() {
+        Some(FieldFormat::Binary) => Vec::with_capacity(alloc, 20 * formats.len()),
+        _ => Vec::with_capacity(alloc, 100 * formats.len()),
+    }
 }
 
 /// Appends an interval as a value of a row.
