@@ -2,6 +2,10 @@
 //! of a program of their own.
 #![tactic(auto)]
 
+mod examples;
+
+pub use examples::first_path_is_core;
+
 #[cfg(test)]
 mod run_tests;
 #[cfg(test)]
