@@ -1,2 +1,4 @@
+pub mod Desk
 pub mod Memory
 pub mod Serving
+pub mod Sockets

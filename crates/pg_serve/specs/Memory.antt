@@ -51,8 +51,7 @@ pub record IsNextCall (failed : Bool) (old new : Tape) : Type 0 where
   pub faults : new.faults ≡ counted failed old.faults
 
 -- What a sink in memory has: all that was written, the numbers of the calls that fail, each with the bytes that it takes, and how many
--- calls
--- and faults there were.
+-- calls and faults there were.
 pub record Drain : Type 0 where
   pub bytes : List ℕ
   pub fails : List (ℕ × ℕ)

@@ -87,7 +87,7 @@ impl<W: Write> Sink for WriterSink<W> {
 }
 
 /// Writes all bytes and flushes, and answers whether both were done. A write that takes none fails.
-fn write_whole<W: Write>(writer: &mut W, bytes: &[u8]) -> bool
+pub fn write_whole<W: Write>(writer: &mut W, bytes: &[u8]) -> bool
     ensures { IsTrue result → Appends (W.contents writer.old) (W.contents writer.new) bytes.now }
 {
     let mut done = 0;

@@ -5,6 +5,8 @@
 #[cfg(test)]
 mod fixtures;
 #[cfg(test)]
+mod held_tests;
+#[cfg(test)]
 mod memory_tests;
 #[cfg(test)]
 mod send_tests;

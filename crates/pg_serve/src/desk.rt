@@ -1,0 +1,46 @@
+//! The desk of a connection: its handle on the shared registry.
+
+ghost use Rattle.std.specs.Prelude.{◌≡◌};
+
+use pg_cancel::{ConnectionHandle, ConnectionManager};
+use pg_session::CancelDesk;
+use std::alloc::AllocError;
+use std::sync::Wait;
+
+/// A desk over a connection's handle. Its calls are the handle's own, which wait for the registry's turn.
+pub struct HandleDesk<'a, R: Wait> {
+    /// Who may wait.
+    pub runtime: &'a R,
+    /// The registry.
+    pub manager: &'a ConnectionManager,
+    /// The connection.
+    pub handle: &'a mut ConnectionHandle,
+    ghost issued: { handle.now.issuer ≡ manager.now },
+}
+
+impl<'a, R: Wait> CancelDesk for HandleDesk<'a, R> {
+    ghost use Rattle.pg_cancel.specs.Connections.{origin_of};
+    ghost use Rattle.pg_serve.specs.Desk.{desk_calls};
+
+    ghost registration = { λ d. (d.handle.now.pid, d.handle.now.key) };
+
+    ghost calls = { λ d. desk_calls d.handle.now.mine };
+
+    ghost origin = { λ d. origin_of d.handle.ghost_name d.handle.now.number d.handle.now.issuer };
+
+    fn identity(&self) -> (i32, [u8; 4]) {
+        (self.handle.pid(), self.handle.key())
+    }
+
+    fn start(&mut self) -> Result<(), AllocError> {
+        self.manager.start_query(self.runtime, self.handle)
+    }
+
+    fn ask(&mut self) -> Result<bool, AllocError> {
+        self.manager.ask(self.runtime, self.handle)
+    }
+
+    fn cancel(&mut self, pid: i32, key: [u8; 4]) -> Result<bool, AllocError> {
+        self.manager.cancel(self.runtime, self.handle, pid, key)
+    }
+}

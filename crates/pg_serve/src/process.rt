@@ -1,0 +1,178 @@
+//! A client at a socket is served.
+
+ghost use Rattle.std.specs.Prelude.{◌≡◌, ◌++◌, List};
+ghost use Rattle.std.specs.FinMap as fin;
+ghost use mathlib.Core.List.{IsPrefix};
+ghost use Rattle.pg_cancel.specs.Connections.{IsSameConnection, calls_of};
+ghost use Rattle.pg_cancel.specs.LegalHistory.{IsLegal};
+ghost use Rattle.pg_handlers.specs.Questions.{questions_since};
+ghost use Rattle.pg_serve.specs.Desk.{desk_calls};
+ghost use Rattle.pg_serve.specs.Serving.{HasCause, counts_of};
+ghost use Rattle.pg_serve.specs.Sockets.{reads_of, faults_of};
+
+use crate::desk::HandleDesk;
+use crate::engine::serve_connection;
+use crate::socket::MaybeTls;
+use pg_cancel::{ConnectionHandle, ConnectionManager};
+use pg_portal::PortalStore;
+use pg_session::{EndKind, ExtendedQueryHandler, PgWireServerHandlers, ServeError, Sink, Source};
+use std::alloc::Global;
+use std::sync::{Arc, Wait};
+
+/// Serves a client over TCP by [`serve_connection`], through its connection to the shared registry: reads from one
+/// handle of its stream and writes to the other. It waits for the client and for the registry's turn.
+pub fn process_socket<
+    R: Wait,
+    H: PgWireServerHandlers,
+    St: PortalStore<
+        Statement = <H::Extended as ExtendedQueryHandler>::Statement,
+        Rows = <H::Extended as ExtendedQueryHandler>::Rows,
+    >,
+>(
+    rt: &R,
+    alloc: Global,
+    reader: &mut MaybeTls,
+    writer: &mut MaybeTls,
+    handlers: Arc<H>,
+    store: St,
+    manager: &ConnectionManager,
+    handle: &mut ConnectionHandle,
+    turn_limit: u64,
+) -> Result<EndKind, ServeError>
+    requires statements { St.statements store ≡ fin.empty }
+    requires portals { St.portals store ≡ fin.empty }
+    requires issued { handle.old.issuer ≡ manager.now }
+    ensures cause { HasCause result turn_limit
+        (questions_since (desk_calls handle.old.mine) (desk_calls handle.new.mine))
+        (counts_of reads_of faults_of faults_of reader.old writer.old)
+        (counts_of reads_of faults_of faults_of reader.new writer.new) }
+    ensures same { IsSameConnection handle.old handle.new }
+    ensures seen { IsPrefix handle.old.seen handle.new.seen }
+    ensures legal { IsLegal handle.new.seen }
+    ensures own { calls_of handle.new.number handle.new.seen ≡ handle.new.mine }
+{
+    serve_handle(
+        rt, alloc, reader, writer, handlers, store, manager, handle, turn_limit,
+    )
+}
+
+/// Serves a client over a Unix socket, as [`process_socket`] does over TCP.
+pub fn process_socket_unix<
+    R: Wait,
+    H: PgWireServerHandlers,
+    St: PortalStore<
+        Statement = <H::Extended as ExtendedQueryHandler>::Statement,
+        Rows = <H::Extended as ExtendedQueryHandler>::Rows,
+    >,
+>(
+    rt: &R,
+    alloc: Global,
+    reader: &mut MaybeTls,
+    writer: &mut MaybeTls,
+    handlers: Arc<H>,
+    store: St,
+    manager: &ConnectionManager,
+    handle: &mut ConnectionHandle,
+    turn_limit: u64,
+) -> Result<EndKind, ServeError>
+    requires statements { St.statements store ≡ fin.empty }
+    requires portals { St.portals store ≡ fin.empty }
+    requires issued { handle.old.issuer ≡ manager.now }
+    ensures cause { HasCause result turn_limit
+        (questions_since (desk_calls handle.old.mine) (desk_calls handle.new.mine))
+        (counts_of reads_of faults_of faults_of reader.old writer.old)
+        (counts_of reads_of faults_of faults_of reader.new writer.new) }
+    ensures same { IsSameConnection handle.old handle.new }
+    ensures seen { IsPrefix handle.old.seen handle.new.seen }
+    ensures legal { IsLegal handle.new.seen }
+    ensures own { calls_of handle.new.number handle.new.seen ≡ handle.new.mine }
+{
+    serve_handle(
+        rt, alloc, reader, writer, handlers, store, manager, handle, turn_limit,
+    )
+}
+
+/// Serves a client through its connection to the registry. What the connection has seen goes on.
+fn serve_handle<
+    R: Wait,
+    H: PgWireServerHandlers,
+    St: PortalStore<
+        Statement = <H::Extended as ExtendedQueryHandler>::Statement,
+        Rows = <H::Extended as ExtendedQueryHandler>::Rows,
+    >,
+    S: Source,
+    K: Sink,
+>(
+    rt: &R,
+    alloc: Global,
+    source: &mut S,
+    sink: &mut K,
+    handlers: Arc<H>,
+    store: St,
+    manager: &ConnectionManager,
+    handle: &mut ConnectionHandle,
+    turn_limit: u64,
+) -> Result<EndKind, ServeError>
+    requires statements { St.statements store ≡ fin.empty }
+    requires portals { St.portals store ≡ fin.empty }
+    requires issued { handle.old.issuer ≡ manager.now }
+    ensures cause { HasCause result turn_limit
+        (questions_since (desk_calls handle.old.mine) (desk_calls handle.new.mine))
+        (counts_of S.reads S.faults K.faults source.old sink.old)
+        (counts_of S.reads S.faults K.faults source.new sink.new) }
+    ensures same { IsSameConnection handle.old handle.new }
+    ensures seen { IsPrefix handle.old.seen handle.new.seen }
+    ensures legal { IsLegal handle.new.seen }
+    ensures own { calls_of handle.new.number handle.new.seen ≡ handle.new.mine }
+{
+    let before = manager.note(handle);
+    let answer = serve_at_desk(
+        rt, alloc, source, sink, handlers, store, manager, handle, turn_limit,
+    );
+    manager.take_in(handle, before);
+    answer
+}
+
+/// Serves a client with the connection's handle as the desk.
+fn serve_at_desk<
+    R: Wait,
+    H: PgWireServerHandlers,
+    St: PortalStore<
+        Statement = <H::Extended as ExtendedQueryHandler>::Statement,
+        Rows = <H::Extended as ExtendedQueryHandler>::Rows,
+    >,
+    S: Source,
+    K: Sink,
+>(
+    rt: &R,
+    alloc: Global,
+    source: &mut S,
+    sink: &mut K,
+    handlers: Arc<H>,
+    store: St,
+    manager: &ConnectionManager,
+    handle: &mut ConnectionHandle,
+    turn_limit: u64,
+) -> Result<EndKind, ServeError>
+    requires statements { St.statements store ≡ fin.empty }
+    requires portals { St.portals store ≡ fin.empty }
+    requires issued { handle.old.issuer ≡ manager.now }
+    ensures cause { HasCause result turn_limit
+        (questions_since (desk_calls handle.old.mine) (desk_calls handle.new.mine))
+        (counts_of S.reads S.faults K.faults source.old sink.old)
+        (counts_of S.reads S.faults K.faults source.new sink.new) }
+    ensures same { IsSameConnection handle.old handle.new }
+{
+    let mut desk = HandleDesk {
+        runtime: rt,
+        manager,
+        handle,
+    };
+    let answer = serve_connection(alloc, handlers, store, &mut desk, source, sink, turn_limit);
+    let HandleDesk {
+        runtime: _,
+        manager: _,
+        handle: _handle,
+    } = desk;
+    answer
+}
