@@ -1,0 +1,11 @@
+use Rattle.std.proofs.Common.{lit<, rules, tests}
+use Rattle.std.proofs.lemmas.Iterator.Search.{all_from_yields_List}
+use Rattle.std.proofs.lemmas.Iterator.Splits.{YieldsList-from_str_split}
+use Rattle.relation_handlers.specs.Tables.{is_column_name}
+use Rattle.relation_files.proofs.header.has_good_fields.Goals as goal
+
+pub returns : goal.returns
+returns c =
+    all_from_yields_List is_column_name _ _ c.all.result c.all.ensures.ran
+    (YieldsList-from_str_split 9 c.args.text.now (lit< tt) c.split.ensures.text c.split.ensures.has_more c.split.ensures.pattern)
+    (λ x b q k. search (rules, tests))

@@ -1,0 +1,10 @@
+mod CellsKept
+mod CellsPaged
+mod CellsShown
+mod CellsWhole
+pub mod Complete
+pub mod CoreServing
+mod EvenRows
+mod PlainTexts
+mod Questions
+mod Speaking

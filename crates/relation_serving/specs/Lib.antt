@@ -1,0 +1,4 @@
+pub mod BuiltIn
+pub mod Cells
+pub mod Completeness
+pub mod Serving

@@ -1,0 +1,82 @@
+//! A client of relations is served.
+
+ghost use Rattle.std.specs.Prelude.{◌≡◌, ◌++◌, Bool, List};
+ghost use Rattle.pg_messages.specs.declared.frontend.PgWireFrontendMessage.{PgWireFrontendMessage};
+ghost use Rattle.pg_handlers.specs.Answer.{Goes, conversation};
+ghost use Rattle.pg_handlers.specs.Questions.{questions_since};
+ghost use Rattle.pg_handlers.specs.State.{State, first_state};
+ghost use Rattle.pg_handlers.specs.Table.{whole_table};
+ghost use Rattle.pg_handlers.specs.declared.desk.DeskCall.{DeskCall};
+ghost use Rattle.pg_serve.specs.Serving.{HasCause, ReadsGaveBytes, counts_of};
+ghost use Rattle.relation_serving.specs.Completeness.{IsComplete};
+ghost use Rattle.relation_tables.specs.declared.RelationStatement.{RelationStatement};
+ghost use Rattle.relation_tables.specs.RelationHandler.{relation_handlers};
+ghost use Rattle.relation_serving.specs.Cells.{ShowInOwnFormat, ShowStored, style_of};
+ghost use Rattle.relation_serving.specs.Serving.{WentByTables};
+
+use pg_handlers::NoopHandler;
+use pg_portal::MemPortalStore;
+use pg_serve::serve_connection;
+use pg_session::{CancelDesk, EndKind, ServeError, Sink, Source};
+use relation_handlers::{RelationHandler, RelationTable};
+use std::alloc::Global;
+use std::sync::Arc;
+
+/// Serves a client over relations: takes its bytes from the source, and writes the answer to the sink, until the
+/// conversation ends. Simple and extended queries are answered, `COPY name TO STDOUT` too; COPY from the client is
+/// refused. A read that gives at least one byte or the end costs one turn, and so does each poll that finds a query
+/// unready.
+///
+/// Ok tells how the conversation ended, with all of its replies written. ReadFault comes where a read failed, and the
+/// whole answer to the frames taken before is written; WriteFault where a write failed, TurnLimit where all turns were
+/// spent and one more was needed, NoMemory where memory ran out: then a front of the answer is written.
+pub fn serve_relations_on<D: CancelDesk, S: Source, K: Sink>(
+    alloc: Global,
+    desk: &mut D,
+    relations: &RelationTable,
+    source: &mut S,
+    sink: &mut K,
+    turn_limit: u64,
+) -> Result<EndKind, ServeError>
+
+    // The bytes written and the new calls are the conversation tables' answer to the client's bytes, however cut.
+    ensures went { (calls : List DeskCall) × (D.calls desk.new ≡ D.calls desk.old ++ calls)
+        × WentByTables relations.now (D.registration desk.old) result (S.left source.old) (S.left source.new)
+        (K.written sink.old) (K.written sink.new) calls }
+    ensures cause { HasCause result turn_limit (questions_since (D.calls desk.old) (D.calls desk.new))
+        (counts_of S.reads S.faults K.faults source.old sink.old)
+        (counts_of S.reads S.faults K.faults source.new sink.new) }
+
+    // With turns enough, and where no read and no write fails, any bytes are served to their end.
+    ensures complete { IsComplete relations.now turn_limit result (S.left source.old)
+        (counts_of S.reads S.faults K.faults source.old sink.old)
+        (counts_of S.reads S.faults K.faults source.new sink.new) }
+
+    // Each read that was counted gave a byte.
+    ensures reads { ReadsGaveBytes (S.left source.old) (S.left source.new) (S.reads source.old) (S.reads source.new) }
+
+    // Whatever messages come and whatever the registry answers, each cell of the table's replies stands for a stored
+    // interval: in the session's style, and in a format that a Bind among the messages chose, or in text.
+    ensures cells { (answers : List Bool) (messages : List PgWireFrontendMessage)
+        → ShowStored relations.now messages (conversation (whole_table (relation_handlers relations.now)) answers
+        (first_state (D.registration desk.old).0 (D.registration desk.old).1) messages).replies }
+
+    // Wherever the messages lead, a message behind them is answered so too: an Execute in the format that its own
+    // portal's Bind chose, and every other message in text.
+    ensures formats { (answers more : List Bool)
+        (messages : List PgWireFrontendMessage) (s : State RelationStatement) (m : PgWireFrontendMessage)
+        → (conversation (whole_table (relation_handlers relations.now)) answers
+        (first_state (D.registration desk.old).0 (D.registration desk.old).1) messages).next ≡ Goes s
+        → ShowInOwnFormat relations.now (style_of messages) s m
+        (whole_table (relation_handlers relations.now) more s m).replies }
+    ensures same { D.registration desk.new ≡ D.registration desk.old }
+    ensures origin { D.origin desk.new ≡ D.origin desk.old }
+{
+    let _valid = relations.relations();
+    let copying = NoopHandler;
+    let Ok(handlers) = Arc::new(alloc, RelationHandler { relations, copying }) else {
+        return Err(ServeError::NoMemory);
+    };
+    let store = MemPortalStore::new(alloc);
+    serve_connection(alloc, handlers, store, desk, source, sink, turn_limit)
+}

@@ -1,0 +1,14 @@
+//! The words of the command line of the server of relations: which are good, and what they tell.
+#![tactic(auto)]
+
+mod commands;
+mod file;
+mod listening;
+mod numbers;
+
+pub use commands::{Command, Load, Service, read_command};
+pub use file::file_word;
+pub use listening::{ListenPlace, listen_count, listen_place};
+
+#[cfg(test)]
+mod tests;
