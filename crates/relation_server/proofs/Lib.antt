@@ -1,11 +1,5 @@
-mod CellsKept
-mod CellsPaged
-mod CellsShown
-mod CellsWhole
-mod Complete
-mod CoreServing
-mod EvenRows
-mod PlainTexts
-mod Questions
-mod Quiet
-mod Speaking
+mod Completing
+mod Handles
+mod Loads
+mod Registering
+mod Taking

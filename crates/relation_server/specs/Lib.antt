@@ -1,6 +1,5 @@
-pub mod BuiltIn
-pub mod Cells
-pub mod Completeness
+pub mod Demo
+pub mod Jobs
+pub mod Listening
+pub mod Outcomes
 pub mod Program
-pub mod Serving
-pub mod Words

@@ -1,17 +1,26 @@
-//! A server of relations of intervals: their handlers under the engine, the built-in relations, and the program.
+//! The server of relations of intervals: clients through the shared registry, each connection as a job for a thread of its
+//! own, and the program.
 #![tactic(auto)]
 
-mod built_in;
-mod laws;
+mod connection;
+mod demo;
+mod job;
+mod listening;
+mod outcome;
 mod report;
-mod run;
-mod serve;
-mod words;
+mod running;
+mod serving_many;
+mod spawner;
 
-pub use built_in::built_in_table;
-pub use laws::whole_frames_decide;
-pub use relation_handlers::{RelationHandler, RelationRows, RelationTable, TableError};
-pub use relation_tables::Relation;
-pub use run::{TURNS, run_rows};
-pub use serve::serve_relations_on;
-pub use words::read_registration;
+pub use connection::serve_relations;
+pub use job::ConnectionJob;
+pub use listening::{ListenError, listen};
+pub use relation_files::{FileError, LineReason, read_relations};
+pub use relation_serving::{
+    Relation, RelationHandler, RelationRows, RelationTable, TableError, built_in_table,
+    serve_relations_on,
+};
+pub use relation_words::{ListenPlace, listen_place};
+pub use running::run;
+pub use serving_many::run_listen;
+pub use spawner::{JobThreads, StartJob, ThreadSpawner, jobs_cross_threads};

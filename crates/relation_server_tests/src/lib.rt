@@ -7,6 +7,14 @@ mod examples;
 pub use examples::first_path_is_core;
 
 #[cfg(test)]
+mod clients;
+#[cfg(test)]
+mod connection_tests;
+#[cfg(test)]
+mod listening_tests;
+#[cfg(test)]
 mod run_tests;
+#[cfg(test)]
+mod socket_tests;
 #[cfg(test)]
 mod tests;

@@ -1,8 +1,8 @@
-//! Tables of relations, and the words of a registration.
+//! Tables of relations.
 
 use pg_interval::Interval;
 use pg_messages::{PgList, PgStr};
-use relation_server::{Relation, RelationTable, TableError, built_in_table, read_registration};
+use relation_server::{Relation, RelationTable, TableError, built_in_table};
 use std::alloc::{AllocError, Global};
 use std::test::Fail;
 
@@ -107,33 +107,5 @@ fn relations_are_built_in(rt: HostRuntime) -> Result<(), Fail> {
         assert_eq!(rt; relation.columns.len(), columns, "{name}");
         assert_eq!(rt; relation.rows.len(), rows, "{name}");
     }
-    Ok(())
-}
-
-#[test]
-fn words_tell_a_registration(rt: HostRuntime) -> Result<(), Fail> {
-    let alloc = rt.alloc();
-    for (pid, key, told) in [
-        ("7", "01020304", Some((7, [1, 2, 3, 4]))),
-        (
-            "2147483647",
-            "0aF0ff00",
-            Some((2147483647, [0x0a, 0xf0, 0xff, 0])),
-        ),
-        ("2147483648", "01020304", None),
-        ("0", "01020304", None),
-        ("07", "01020304", None),
-        ("+7", "01020304", None),
-        ("", "01020304", None),
-        ("7", "0102030", None),
-        ("7", "010203040", None),
-        ("7", "0102030g", None),
-    ] {
-        let mut words = PgList::new(alloc);
-        words.push(PgStr::copy_of(alloc, pid)?)?;
-        words.push(PgStr::copy_of(alloc, key)?)?;
-        assert_eq!(rt; read_registration(words.as_slice()), told, "{pid} {key}");
-    }
-    assert_eq!(rt; read_registration(&[]), None);
     Ok(())
 }

@@ -1,30 +1,31 @@
-// The program `relation_server PID KEY`: it serves its relations to one client, who speaks PostgreSQL's protocol on
-// standard input and output.
+// The program relation_server: it serves relations of intervals to clients that speak PostgreSQL's protocol.
 #![tactic(auto)]
 
+ghost use Rattle.std.specs.Prelude.{◌≡◌};
+ghost use Rattle.server.specs.Handed.{accepted_at};
+
+mod files;
+mod help;
+mod places;
+
+use crate::files::OpenedFile;
+use crate::help::told;
+use crate::places::{BoundPlace, bind};
+use pg_cancel::ConnectionManager;
 use pg_messages::{PgList, PgStr};
-use pg_serve::{ReaderSource, WriterSink};
-use pg_session::Sink;
-use relation_server::run_rows;
-use std::alloc::AllocError;
-use std::env;
+use pg_serve::{KeySource, MaybeTls, RandomKeys, ReaderSource, Spawner, WriterSink};
+use pg_session::{Sink, Source};
+use relation_server::{
+    ConnectionJob, JobThreads, ListenPlace, ThreadSpawner, listen_place, run, run_listen,
+};
+use relation_words::file_word;
+use std::alloc::{AllocError, Global};
+use std::fs::Files;
+use std::io::Input;
+use std::net::{Net, TcpListener, TcpStream};
 use std::process::ExitCode;
-
-/// What `--help` writes.
-const HELP: &[u8] = b"usage: relation_server PID KEY
-
-Serves its relations (shifts, slow, wide and none) to one client that speaks PostgreSQL's protocol. The client's bytes come
-on standard input, and the replies go to standard output.
-
-  PID  the process id that the client is told: 1 to 2147483647, in decimal
-  KEY  the secret key that the client is told with it: eight hexadecimal digits
-       (A client names both to cancel a query from another connection.)
-
-Example: relation_server 7 01020304 < crates/server/stdin | xxd
-";
-
-/// What `--version` writes.
-const VERSION: &[u8] = b"relation_server 0.1.0\n";
+use std::sync::{Arc, Wait};
+use std::{env, fs, io};
 
 /// The words of the command line, without the program's name. A word that isn't UTF-8 makes them no words at all.
 fn read_words(rt: &HostRuntime) -> Result<PgList<PgStr>, AllocError> {
@@ -38,46 +39,180 @@ fn read_words(rt: &HostRuntime) -> Result<PgList<PgStr>, AllocError> {
     Ok(words)
 }
 
-/// What the one word asks for, if it asks to be told something.
-fn told(words: &[PgStr]) -> Option<&'static [u8]> {
-    let [word] = words else {
-        return None;
-    };
-    match word.as_str() {
-        "--help" => Some(HELP),
-        "--version" => Some(VERSION),
-        _ => None,
+/// The relation file that the words name, where they name one and it can be opened.
+fn open_file<R: Files>(rt: &R, words: &[PgStr]) -> OpenedFile<R::File> {
+    match file_word(words) {
+        None => OpenedFile::Unopened(0),
+        Some(path) => match fs::open(rt, path) {
+            Err(_) => OpenedFile::Unopened(0),
+            Ok(reader) => OpenedFile::Opened(ReaderSource {
+                reader,
+                reads: 0,
+                faults: 0,
+            }),
+        },
     }
 }
 
-/// This status, after the line that tells why. A line that can't be written changes no status.
-fn ended<E: Sink>(status: u8, line: &[u8], err: &mut E) -> ExitCode {
-    let _ = err.send(line);
-    ExitCode::from(status)
+/// Serves one client.
+fn serve_one<R: Wait + Files, S: Source, K: Sink, E: Sink>(
+    rt: &R,
+    alloc: Global,
+    words: &[PgStr],
+    client: &mut S,
+    out: &mut K,
+    err: &mut E,
+) -> Result<u8, AllocError> {
+    let (manager, mut door) = ConnectionManager::new(alloc)?;
+    let mut file = open_file(rt, words);
+    let (status, _note) = run(
+        rt, alloc, words, &manager, &mut door, &mut file, client, out, err,
+    );
+    Ok(status)
 }
 
-fn main(rt: HostRuntime) -> ExitCode {
-    let alloc = rt.alloc();
+/// Tells where the program listens.
+fn tell_place<R: Print>(rt: &R, place: ListenPlace<'_>) -> io::Result<()> {
+    match place {
+        ListenPlace::Tcp(port) => println!(rt; "listening on 127.0.0.1:{port}"),
+        ListenPlace::Unix(path) => println!(rt; "listening on {path}"),
+    }
+}
+
+/// Binds the place, and tells so.
+fn bind_place<R: Net<Stream = TcpStream, Listener = TcpListener> + Files + Print>(
+    rt: &R,
+    place: ListenPlace<'_>,
+) -> BoundPlace
+    ensures { accepted_at result ≡ 0 }
+{
+    match bind(rt, place) {
+        Err(_) => BoundPlace::Unbound(0),
+        Ok(acceptor) => {
+            let _told = tell_place(rt, place);
+            BoundPlace::Bound(acceptor)
+        }
+    }
+}
+
+/// Gives a place back, so that nobody comes to it any more: the file of a Unix socket goes.
+fn leave_place<R: Files>(rt: &R, place: ListenPlace<'_>, acceptor: BoundPlace) {
+    let BoundPlace::Bound(_listener) = acceptor else {
+        return;
+    };
+    if let ListenPlace::Unix(path) = place {
+        let _removed = fs::remove_file(rt, path);
+    }
+}
+
+/// Serves the clients that come to a place.
+fn serve_many<
+    R: Wait + Files,
+    P: Spawner<ConnectionJob<MaybeTls, MaybeTls>>,
+    G: KeySource,
+    E: Sink,
+>(
+    rt: &R,
+    alloc: Global,
+    words: &[PgStr],
+    acceptor: &mut BoundPlace,
+    spawner: &mut P,
+    keys: &mut G,
+    err: &mut E,
+) -> Result<u8, AllocError>
+    requires accepted { accepted_at acceptor.old ≡ 0 }
+    requires started { P.started spawner.old ≡ 0 }
+{
+    let (manager, mut door) = ConnectionManager::new(alloc)?;
+    let manager = Arc::new(alloc, manager)?;
+    let mut file = open_file(rt, words);
+    let status = run_listen(
+        rt, alloc, words, manager, &mut door, &mut file, acceptor, spawner, keys, err,
+    );
+    Ok(status)
+}
+
+/// Serves the client on standard input and output.
+fn serve_standard<R: Wait + Files + Input>(
+    rt: &R,
+    alloc: Global,
+    words: &[PgStr],
+    out: &mut impl Sink,
+    err: &mut impl Sink,
+) -> Result<u8, AllocError> {
     let mut client = ReaderSource {
         reader: rt.reader(),
         reads: 0,
         faults: 0,
     };
-    let mut out = WriterSink {
-        writer: rt.stdout(),
-        faults: 0,
-    };
-    let mut err = WriterSink {
-        writer: rt.stderr(),
-        faults: 0,
-    };
-    let Ok(words) = read_words(&rt) else {
-        return ended(7, b"out of memory\n", &mut err);
-    };
-    let status = match told(words.as_slice()) {
-        None => run_rows(alloc, words.as_slice(), &mut client, &mut out, &mut err),
-        Some(text) if out.send(text).is_ok() => 0,
-        Some(_) => return ended(5, b"write fault\n", &mut err),
-    };
+    serve_one(rt, alloc, words, &mut client, out, err)
+}
+
+/// Writes a text, and tells the status of that.
+fn tell<K: Sink, E: Sink>(text: &str, out: &mut K, err: &mut E) -> ExitCode {
+    match out.send(text.as_bytes()) {
+        Ok(()) => ExitCode::SUCCESS,
+        Err(_) => ended(5, "write fault\n", err),
+    }
+}
+
+/// This status, after the line that tells why. A line that can't be written changes no status.
+fn ended<E: Sink>(status: u8, line: &str, err: &mut E) -> ExitCode {
+    let _told = err.send(line.as_bytes());
     ExitCode::from(status)
+}
+
+/// The status where memory ran out, after its line.
+fn out_of_memory<E: Sink>(err: &mut E) -> ExitCode {
+    ended(7, "out of memory\n", err)
+}
+
+/// The status of what was served, or of want of memory.
+fn served<E: Sink>(status: Result<u8, AllocError>, err: &mut E) -> ExitCode {
+    match status {
+        Ok(status) => ExitCode::from(status),
+        Err(AllocError) => out_of_memory(err),
+    }
+}
+
+fn main(rt: HostRuntime) -> ExitCode {
+    let alloc = rt.alloc();
+    let writer = rt.stdout();
+    let mut out = WriterSink { writer, faults: 0 };
+    let writer = rt.stderr();
+    let mut err = WriterSink { writer, faults: 0 };
+    let Ok(words) = read_words(&rt) else {
+        return out_of_memory(&mut err);
+    };
+    let words = words.as_slice();
+    if let Some(text) = told(words) {
+        return tell(text, &mut out, &mut err);
+    }
+    let Some(place) = listen_place(words) else {
+        let status = serve_standard(&rt, alloc, words, &mut out, &mut err);
+        return served(status, &mut err);
+    };
+    let mut acceptor = bind_place(&rt, place);
+    let (Ok(threads), Ok(mut keys)) = (JobThreads::new(alloc), RandomKeys::new(rt)) else {
+        return out_of_memory(&mut err);
+    };
+    let Ok(theirs) = threads.share() else {
+        return out_of_memory(&mut err);
+    };
+    let Ok(start) = Box::new(alloc, move |job| theirs.start(rt, job).is_ok()) else {
+        return out_of_memory(&mut err);
+    };
+    let mut spawner = ThreadSpawner::new(threads, start);
+    let status = serve_many(
+        &rt,
+        alloc,
+        words,
+        &mut acceptor,
+        &mut spawner,
+        &mut keys,
+        &mut err,
+    );
+    leave_place(&rt, place, acceptor);
+    spawner.threads.finish(&rt);
+    served(status, &mut err)
 }

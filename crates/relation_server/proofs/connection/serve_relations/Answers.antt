@@ -1,0 +1,44 @@
+use Rattle.std.proofs.Common.{◌≡◌, ◌++◌, ◌∙◌, Bool, List, sym, ap, subst}
+use Rattle.pg_messages.specs.declared.frontend.PgWireFrontendMessage.{PgWireFrontendMessage}
+use Rattle.pg_handlers.specs.Answer.{Goes, conversation}
+use Rattle.pg_handlers.specs.State.{State, first_state}
+use Rattle.pg_handlers.specs.Table.{whole_table}
+use Rattle.relation_tables.specs.declared.RelationStatement.{RelationStatement}
+use Rattle.relation_tables.specs.RelationHandler.{relation_handlers}
+use Rattle.relation_serving.specs.Cells.{ShowInOwnFormat, style_of}
+use Rattle.pg_cancel.specs.declared.entries.Entry.{Entry}
+use Rattle.pg_cancel.specs.Connections.{calls_of}
+use Rattle.pg_serve.specs.Desk.{desk_calls}
+use Rattle.relation_serving.specs.Serving.{WentByTables}
+use Rattle.relation_server.proofs.Handles.{calls_made}
+use Rattle.relation_server.proofs.connection.serve_relations.Goals as goal
+
+pub returns-clause-went : goal.returns-clause-went
+returns-clause-went g c =
+    let note = c.note-before.result in
+    let old = c.note-before.new.handle in
+    let new = c.take_in.new.handle in
+    let went = c.serve_at_desk-answer.ensures.went in
+    let made = calls_made old.number note.seen new.seen old.mine new.mine went.0 c.take_in.ensures.told
+    (subst (λ h. calls_of h.number note.seen ≡ h.mine) (sym c.note-before.ensures.same) c.note-before.ensures.own)
+    (ap (λ n. calls_of n new.seen) (sym (c.take_in.ensures.same.1 ∙ c.serve_at_desk-answer.ensures.same.1)) ∙ c.take_in.ensures.own)
+    (ap desk_calls c.take_in.ensures.mine ∙ went.1) in
+    subst (λ h. (made : List Entry) × (new.mine ≡ h.mine ++ made)
+    × WentByTables c.args.relations.now (h.pid, h.key) c.serve_at_desk-answer.result (g.S.Source.left c.args.source.now)
+    (g.S.Source.left c.serve_at_desk-answer.new.source) (g.K.Sink.written c.args.sink.now)
+    (g.K.Sink.written c.serve_at_desk-answer.new.sink) (desk_calls made))
+    c.note-before.ensures.same (
+      made.0,
+      made.1,
+      subst (λ calls. WentByTables c.args.relations.now (old.pid, old.key) c.serve_at_desk-answer.result
+          (g.S.Source.left c.args.source.now)
+          (g.S.Source.left c.serve_at_desk-answer.new.source) (g.K.Sink.written c.args.sink.now)
+          (g.K.Sink.written c.serve_at_desk-answer.new.sink) calls) made.2 went.2,
+    )
+
+pub returns-clause-formats : goal.returns-clause-formats
+returns-clause-formats g c = subst (λ h. (answers more : List Bool) (messages : List PgWireFrontendMessage) (s : State RelationStatement)
+    (m : PgWireFrontendMessage) → (conversation (whole_table (relation_handlers c.args.relations.now)) answers
+    (first_state h.pid h.key) messages).next ≡ Goes s → ShowInOwnFormat c.args.relations.now (style_of messages) s m
+    (whole_table (relation_handlers c.args.relations.now) more s m).replies)
+    c.note-before.ensures.same c.serve_at_desk-answer.ensures.formats

@@ -1,0 +1,67 @@
+use Rattle.std.proofs.Common.{◌∙◌, ◌+◌, arith, add-one, refl}
+use Rattle.std.proofs.lemmas.Result.{err_from_is_err_and}
+use Rattle.pg_cancel.proofs.Prefixes.{prefix_self, prefix_trans}
+use Rattle.relation_server.specs.Listening.{taking_of}
+use Rattle.relation_server.proofs.Taking.{exactly_refused, gives_up, none_registered, one_more, refused_never}
+use Rattle.relation_server.proofs.listening.listen.Goals as goal
+
+pub connections-init : goal.connections-init
+connections-init g c = record {
+  below = omega arith;
+  registered = none_registered c.args.door.now.seen;
+  accepted = omega arith;
+  started = omega arith;
+  falls = (omega arith, omega arith);
+  seen = prefix_self c.args.door.now.seen;
+  issued = refl;
+}
+
+pub connections-preserved : goal.connections-preserved
+connections-preserved g c =
+    let i = c.connections.invariant in
+    let t = c.in_ok-take_in.ensures.taken in
+    record {
+      below = omega (arith, c.connections-test.true);
+      registered = one_more c.args.door.now.seen c.connections.door.seen c.take_in.new.door.seen c.connections.pid (c.connections.pid + 1)
+          (add-one c.connections.pid) i.registered t.1;
+      accepted = omega (arith, t.0.0, i.accepted);
+      started = omega (arith, t.0.1, i.started);
+      falls = (
+        omega (arith, i.falls.0, c.take_in.ensures.never_falls.0),
+        omega (arith, i.falls.1, c.take_in.ensures.never_falls.1),
+      );
+      seen = prefix_trans c.args.door.now.seen c.connections.door.seen c.take_in.new.door.seen i.seen c.take_in.ensures.seen;
+      issued = c.take_in.ensures.issued ∙ i.issued;
+    }
+
+pub returns-in_err-take_in-clause-ended : goal.returns-in_err-take_in-clause-ended
+returns-in_err-take_in-clause-ended g c =
+    let p = err_from_is_err_and c.from_residual.result c.from_residual.ensures.1 in
+    let i = c.connections.invariant in
+    rw (p.1, p.2) (gives_up c.in_err-take_in.field-0.0 c.args.count
+    (taking_of g.A.Acceptor.accepted g.A.Acceptor.faults g.P.Spawner.started g.P.Spawner.faults c.args.acceptor.now c.args.spawner.now)
+    (taking_of g.A.Acceptor.accepted g.A.Acceptor.faults g.P.Spawner.started g.P.Spawner.faults c.connections.acceptor c.connections.spawner)
+    (taking_of g.A.Acceptor.accepted g.A.Acceptor.faults g.P.Spawner.started g.P.Spawner.faults c.take_in.new.acceptor c.take_in.new.spawner)
+    c.args.door.now.seen c.connections.door.seen c.take_in.new.door.seen c.connections.pid (c.connections.pid + 1) refl
+    (omega (arith, c.connections-test.true, c.most_connections-most.ensures.count)) (i.accepted, i.started) i.registered i.falls
+    c.take_in.ensures.never_falls c.in_err-take_in.ensures.taken)
+
+pub returns-in_err-take_in-clause-exactly : goal.returns-in_err-take_in-clause-exactly
+returns-in_err-take_in-clause-exactly g c m =
+    exactly_refused m c.from_residual.result c.args.count
+    (taking_of g.A.Acceptor.accepted g.A.Acceptor.faults g.P.Spawner.started g.P.Spawner.faults c.args.acceptor.now c.args.spawner.now)
+    (taking_of g.A.Acceptor.accepted g.A.Acceptor.faults g.P.Spawner.started g.P.Spawner.faults c.take_in.new.acceptor c.take_in.new.spawner)
+    c.args.door.now.seen c.take_in.new.door.seen (returns-in_err-take_in-clause-ended g c)
+
+pub returns-in_err-take_in-clause-seen : goal.returns-in_err-take_in-clause-seen
+returns-in_err-take_in-clause-seen g c =
+    prefix_trans c.args.door.now.seen c.connections.door.seen c.take_in.new.door.seen c.connections.invariant.seen c.take_in.ensures.seen
+
+pub returns-clause-exactly : goal.returns-clause-exactly
+returns-clause-exactly g c m = (
+  λ is. absurd (cc (is)),
+  λ f. absurd (refused_never m c.connections.pid c.args.door.now.seen c.connections.door.seen c.connections.invariant.registered f),
+)
+
+pub returns-clause-seen : goal.returns-clause-seen
+returns-clause-seen g c = c.connections.invariant.seen

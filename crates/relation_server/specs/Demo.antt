@@ -1,0 +1,43 @@
+-- What comes of serving the demo load and of telling its counts. No public contract cites it.
+use Rattle.std.specs.Prelude.{ℕ, List, ◌≡◌, ◌⊎◌, Option, Some, Err, length}
+use Rattle.pg_cancel.specs.declared.entries.Entry.{Entry}
+use Rattle.pg_cancel.specs.Connections.{Connection, Witness}
+use Rattle.pg_handlers.specs.declared.ends.EndKind.{EndKind}
+use Rattle.pg_handlers.specs.State.{first_state}
+use Rattle.pg_session.specs.declared.ends.ServeError.TheVariants.{WriteFault, NoMemory}
+use Rattle.pg_session.specs.Run.{IsRun}
+use Rattle.pg_session.specs.Session.{whole_rules}
+use Rattle.pg_session.specs.Streams.{GrowsBy, GrowsByFront, HasRisen}
+use Rattle.pg_serve.specs.Desk.{desk_calls}
+use Rattle.relation_demo.specs.Counting.{row_count}
+use Rattle.relation_tables.specs.declared.Relation.{Relation}
+use Rattle.relation_tables.specs.RelationHandler.{relation_handlers}
+use Rattle.relation_server.specs.declared.outcome.Outcome.{Outcome}
+use Rattle.relation_server.specs.declared.outcome.Outcome.TheVariants.{Done, Conversation}
+use Rattle.relation_server.specs.Jobs.{IsLeftBehind}
+use Rattle.relation_server.specs.Program.{demo_lines}
+
+-- What came of writing lines: all were written, or a front of them.
+abbrev pub HasTold : Outcome → List ℕ → Option (List ℕ) → Option (List ℕ) → ℕ → ℕ → Type 0
+HasTold Done lines old new faults new_faults = GrowsBy old new lines
+HasTold (Conversation (Err WriteFault)) lines old new faults new_faults = HasRisen faults new_faults × GrowsByFront old new lines
+HasTold (Conversation (Err NoMemory)) lines old new faults new_faults = GrowsByFront old new lines × (new_faults ≡ faults)
+HasTold outcome lines old new faults new_faults = ⊥
+
+-- A conversation over relations that was served to its end, and what was told of it.
+pub record WasCounted (h : Connection) (relations : List Relation) (count : ℕ) (client : List ℕ) (made : List Entry) (outcome : Outcome)
+    (old new : Option (List ℕ)) (faults new_faults : ℕ) : Type 0 where
+  pub kind : EndKind
+  pub replies : List ℕ
+  pub run : IsRun (whole_rules (relation_handlers relations)) (first_state h.pid h.key) client replies (desk_calls made) kind
+  pub told : HasTold outcome (demo_lines count (row_count run.fed.replies) (length client) (length replies)) old new faults new_faults
+
+-- The connection was left behind, and its conversation was told, or memory ran out before.
+pub record HasCounted (h : Connection) (relations : List Relation) (count : ℕ) (client : List ℕ) (outcome : Outcome) (noted : Option Witness)
+    (old new : Option (List ℕ)) (faults new_faults : ℕ) : Type 0 where
+  pub made : List Entry
+  pub witness : Witness
+  pub is_noted : noted ≡ Some witness
+  pub behind : IsLeftBehind h made witness
+  pub told : WasCounted h relations count client made outcome old new faults new_faults
+      ⊎ ((outcome ≡ Conversation (Err NoMemory)) × (new ≡ old) × (new_faults ≡ faults))

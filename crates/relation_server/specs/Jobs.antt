@@ -1,0 +1,41 @@
+-- What becomes of a connection whose client is served.
+use Rattle.std.specs.Prelude.{◌≡◌, ◌⊎◌, ◌++◌, ℕ, List, [], ◌∷◌, Option, Result}
+use mathlib.Core.List.{IsPrefix}
+use Rattle.pg_cancel.specs.declared.entries.Entry.{Entry}
+use Rattle.pg_cancel.specs.declared.entries.RegistryCall.TheVariants.{Register, Unregister}
+use Rattle.pg_cancel.specs.declared.entries.RegistryAnswer.TheVariants.{Registered, Done}
+use Rattle.pg_cancel.specs.Connections.{Connection, Witness, calls_of, entry}
+use Rattle.pg_cancel.specs.LegalHistory.{IsLegal}
+use Rattle.pg_handlers.specs.declared.ends.EndKind.{EndKind}
+use Rattle.pg_handlers.specs.Questions.{questions}
+use Rattle.pg_session.specs.declared.ends.ServeError.{ServeError}
+use Rattle.pg_serve.specs.Desk.{desk_calls}
+use Rattle.pg_serve.specs.Serving.{Counts, HasCause, ReadsGaveBytes}
+use Rattle.relation_tables.specs.declared.Relation.{Relation}
+use Rattle.relation_serving.specs.Completeness.{IsComplete}
+use Rattle.relation_serving.specs.Serving.{WentByTables}
+
+-- no byte of the client was read, and the connection has made no call but its Register
+abbrev pub IsFresh : ℕ → Connection → Type 0
+IsFresh reads h = (reads ≡ 0) × (h.mine ≡ entry h.number (Register h.pid h.key) Registered ∷ [])
+
+-- What a connection that is gone had seen: a legal history, which goes on from what it had seen before, with its calls before, those that
+-- it made, and the end of its registration, or without that where memory ran out.
+pub record IsLeftBehind (h : Connection) (made : List Entry) (note : Witness) : Type 0 where
+  pub issuer : note.issuer ≡ h.issuer
+  pub seen : IsPrefix h.seen note.seen
+  pub legal : IsLegal note.seen
+  pub own : (calls_of h.number note.seen ≡ (h.mine ++ made) ++ entry h.number Unregister Done ∷ [])
+      ⊎ (calls_of h.number note.seen ≡ h.mine ++ made)
+
+-- A connection's client was served, and its registration then ended: what was written and the calls that the connection made are the
+-- conversation tables' answer to the client's bytes; why the conversation came to an end or was given up; and that turns enough bring it
+-- to an end.
+pub record HasConversed (h : Connection) (relations : List Relation) (turns : ℕ) (answer : Result EndKind ServeError)
+    (left new_left old new : Option (List ℕ)) (before after : Counts) (note : Witness) : Type 0 where
+  pub made : List Entry
+  pub behind : IsLeftBehind h made note
+  pub went : WentByTables relations (h.pid, h.key) answer left new_left old new (desk_calls made)
+  pub cause : HasCause answer turns (questions (desk_calls made)) before after
+  pub complete : IsComplete relations turns answer left before after
+  pub gave : ReadsGaveBytes left new_left before.reads after.reads

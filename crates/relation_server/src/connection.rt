@@ -1,0 +1,139 @@
+//! A client of relations is served through its connection to the shared registry.
+
+ghost use Rattle.std.specs.Prelude.{◌≡◌, ◌++◌, Bool, List};
+ghost use mathlib.Core.List.{IsPrefix};
+ghost use Rattle.pg_cancel.specs.Connections.{IsSameConnection, calls_of};
+ghost use Rattle.pg_cancel.specs.LegalHistory.{IsLegal};
+ghost use Rattle.pg_cancel.specs.declared.entries.Entry.{Entry};
+ghost use Rattle.pg_messages.specs.declared.frontend.PgWireFrontendMessage.{PgWireFrontendMessage};
+ghost use Rattle.pg_handlers.specs.Answer.{Goes, conversation};
+ghost use Rattle.pg_handlers.specs.Questions.{questions_since};
+ghost use Rattle.pg_handlers.specs.State.{State, first_state};
+ghost use Rattle.pg_handlers.specs.Table.{whole_table};
+ghost use Rattle.pg_handlers.specs.declared.desk.DeskCall.{DeskCall};
+ghost use Rattle.pg_serve.specs.Desk.{desk_calls};
+ghost use Rattle.pg_serve.specs.Serving.{HasCause, ReadsGaveBytes, counts_of};
+ghost use Rattle.relation_tables.specs.declared.RelationStatement.{RelationStatement};
+ghost use Rattle.relation_tables.specs.RelationHandler.{relation_handlers};
+ghost use Rattle.relation_serving.specs.Cells.{ShowInOwnFormat, ShowStored, style_of};
+ghost use Rattle.relation_serving.specs.Completeness.{IsComplete};
+ghost use Rattle.relation_serving.specs.Serving.{WentByTables};
+
+use pg_cancel::{ConnectionHandle, ConnectionManager};
+use pg_serve::HandleDesk;
+use pg_session::{EndKind, ServeError, Sink, Source};
+use relation_handlers::RelationTable;
+use relation_serving::serve_relations_on;
+use std::alloc::Global;
+use std::sync::Wait;
+
+/// Serves a client over relations, as [`serve_relations_on`] does, through its connection to the shared registry, so
+/// that the clients of other threads may cancel its queries. It waits for nobody but for the registry's turn, once for
+/// each call of the registry.
+///
+/// The connection stays usable, whatever is answered.
+pub fn serve_relations<R: Wait, S: Source, K: Sink>(
+    rt: &R,
+    alloc: Global,
+    manager: &ConnectionManager,
+    handle: &mut ConnectionHandle,
+    relations: &RelationTable,
+    source: &mut S,
+    sink: &mut K,
+    turn_limit: u64,
+) -> Result<EndKind, ServeError>
+    requires issued { handle.old.issuer ≡ manager.now }
+
+    // The bytes written and the connection's new calls are the conversation tables' answer to the client's bytes,
+    // however cut.
+    ensures went { (made : List Entry) × (handle.new.mine ≡ handle.old.mine ++ made)
+        × WentByTables relations.now (handle.old.pid, handle.old.key) result (S.left source.old) (S.left source.new)
+        (K.written sink.old) (K.written sink.new) (desk_calls made) }
+    ensures cause { HasCause result turn_limit (questions_since (desk_calls handle.old.mine) (desk_calls handle.new.mine))
+        (counts_of S.reads S.faults K.faults source.old sink.old)
+        (counts_of S.reads S.faults K.faults source.new sink.new) }
+
+    // With turns enough, and where no read and no write fails, any bytes are served to their end.
+    ensures complete { IsComplete relations.now turn_limit result (S.left source.old)
+        (counts_of S.reads S.faults K.faults source.old sink.old)
+        (counts_of S.reads S.faults K.faults source.new sink.new) }
+
+    // Each read that was counted gave a byte.
+    ensures reads { ReadsGaveBytes (S.left source.old) (S.left source.new) (S.reads source.old) (S.reads source.new) }
+
+    // Whatever messages come and whatever the registry answers, each cell of the table's replies stands for a stored
+    // interval: in the session's style, and in a format that a Bind among the messages chose, or in text.
+    ensures cells { (answers : List Bool) (messages : List PgWireFrontendMessage)
+        → ShowStored relations.now messages (conversation (whole_table (relation_handlers relations.now)) answers
+        (first_state handle.old.pid handle.old.key) messages).replies }
+
+    // Wherever the messages lead, a message behind them is answered so too: an Execute in the format that its own
+    // portal's Bind chose, and every other message in text.
+    ensures formats { (answers more : List Bool)
+        (messages : List PgWireFrontendMessage) (s : State RelationStatement) (m : PgWireFrontendMessage)
+        → (conversation (whole_table (relation_handlers relations.now)) answers
+        (first_state handle.old.pid handle.old.key) messages).next ≡ Goes s
+        → ShowInOwnFormat relations.now (style_of messages) s m
+        (whole_table (relation_handlers relations.now) more s m).replies }
+
+    // What the connection has seen of the one history goes on, and is legal, and has just its own calls under its
+    // number.
+    ensures same { IsSameConnection handle.old handle.new }
+    ensures seen { IsPrefix handle.old.seen handle.new.seen }
+    ensures legal { IsLegal handle.new.seen }
+    ensures own { calls_of handle.new.number handle.new.seen ≡ handle.new.mine }
+{
+    let before = manager.note(handle);
+    let answer = serve_at_desk(
+        rt, alloc, manager, handle, relations, source, sink, turn_limit,
+    );
+    manager.take_in(handle, before);
+    answer
+}
+
+/// Serves a client with the connection's handle as the desk.
+fn serve_at_desk<R: Wait, S: Source, K: Sink>(
+    rt: &R,
+    alloc: Global,
+    manager: &ConnectionManager,
+    handle: &mut ConnectionHandle,
+    relations: &RelationTable,
+    source: &mut S,
+    sink: &mut K,
+    turn_limit: u64,
+) -> Result<EndKind, ServeError>
+    requires issued { handle.old.issuer ≡ manager.now }
+    ensures went { (calls : List DeskCall) × (desk_calls handle.new.mine ≡ desk_calls handle.old.mine ++ calls)
+        × WentByTables relations.now (handle.old.pid, handle.old.key) result (S.left source.old) (S.left source.new)
+        (K.written sink.old) (K.written sink.new) calls }
+    ensures cause { HasCause result turn_limit (questions_since (desk_calls handle.old.mine) (desk_calls handle.new.mine))
+        (counts_of S.reads S.faults K.faults source.old sink.old)
+        (counts_of S.reads S.faults K.faults source.new sink.new) }
+    ensures complete { IsComplete relations.now turn_limit result (S.left source.old)
+        (counts_of S.reads S.faults K.faults source.old sink.old)
+        (counts_of S.reads S.faults K.faults source.new sink.new) }
+    ensures reads { ReadsGaveBytes (S.left source.old) (S.left source.new) (S.reads source.old) (S.reads source.new) }
+    ensures cells { (answers : List Bool) (messages : List PgWireFrontendMessage)
+        → ShowStored relations.now messages (conversation (whole_table (relation_handlers relations.now)) answers
+        (first_state handle.old.pid handle.old.key) messages).replies }
+    ensures formats { (answers more : List Bool)
+        (messages : List PgWireFrontendMessage) (s : State RelationStatement) (m : PgWireFrontendMessage)
+        → (conversation (whole_table (relation_handlers relations.now)) answers
+        (first_state handle.old.pid handle.old.key) messages).next ≡ Goes s
+        → ShowInOwnFormat relations.now (style_of messages) s m
+        (whole_table (relation_handlers relations.now) more s m).replies }
+    ensures same { IsSameConnection handle.old handle.new }
+{
+    let mut desk = HandleDesk {
+        runtime: rt,
+        manager,
+        handle,
+    };
+    let answer = serve_relations_on(alloc, &mut desk, relations, source, sink, turn_limit);
+    let HandleDesk {
+        runtime: _,
+        manager: _,
+        handle: _handle,
+    } = desk;
+    answer
+}

@@ -1,0 +1,168 @@
+//! The program's command `demo`: a generated load is served in memory, and counted.
+
+ghost use Rattle.std.specs.Prelude.{◌≡◌, ◌≤◌, List, ℕ, Option, Err, length, string_bytes, IfOk, IsOk, IsErr};
+ghost use Rattle.pg_messages.specs.declared.backend.PgWireBackendMessage.{PgWireBackendMessage};
+ghost use Rattle.pg_messages.specs.Replies.{replies_bytes};
+ghost use Rattle.relation_demo.specs.Counting.{row_count};
+ghost use Rattle.pg_session.specs.declared.ends.ServeError.{ServeError};
+ghost use Rattle.relation_server.specs.declared.outcome.Outcome.{Outcome};
+ghost use Rattle.relation_server.specs.Demo.{HasCounted, HasTold};
+ghost use Rattle.relation_server.specs.Program.{HasShown, counts, demo_lines, surroundings};
+
+use crate::job::serve_and_leave;
+use crate::outcome::Outcome;
+use pg_cancel::{ConnectionHandle, ConnectionManager, Door, Note, RegisterError};
+use pg_messages::{PgBytes, PgList};
+use pg_serve::{MemorySink, MemorySource};
+use pg_session::{EndKind, ServeError, Sink, SinkError};
+use relation_demo::{count_rows, demo_client, demo_table};
+use relation_handlers::RelationTable;
+use relation_words::Load;
+use std::alloc::{AllocError, Global};
+use std::sync::Wait;
+
+/// The pid and the key that the demo's client is registered under.
+const PID: i32 = 1;
+
+const KEY: [u8; 4] = [0; 4];
+
+/// How many turns the demo's client has.
+const TURNS: u64 = 1 << 63;
+
+/// How many bytes of replies are kept at most.
+const GREATEST_LENGTH: usize = 4_294_967_295;
+
+/// Serves the generated load, and writes four lines that count it. The replies are kept for that: some 6 MB of ten
+/// thousand relations. Of more than 4,294,967,295 bytes, which no load comes near, it tells that memory ran out.
+pub(crate) fn show_demo<R: Wait, K: Sink>(
+    rt: &R,
+    alloc: Global,
+    load: Load,
+    manager: &ConnectionManager,
+    door: &mut Door,
+    out: &mut K,
+) -> (Outcome, Option<Note>)
+    requires issued { door.old.issuer ≡ manager.now }
+    requires few { load.count ≤ 10000 }
+    ensures shown { (file client : Option (List ℕ)) (faults reads read_faults : ℕ)
+        → HasShown manager.now load result.0 result.1
+        (surroundings file faults client (K.written out.old) (counts reads read_faults (K.faults out.old)) door.old.seen)
+        (surroundings file faults client (K.written out.new) (counts reads read_faults (K.faults out.new)) door.new.seen) }
+    ensures issued { door.new.issuer ≡ door.old.issuer }
+{
+    let Ok(relations) = demo_table(alloc, load.seed, load.count) else {
+        return (Outcome::OUT_OF_MEMORY, None);
+    };
+    let Ok(client) = demo_client(alloc, load.count) else {
+        return (Outcome::OUT_OF_MEMORY, None);
+    };
+    match manager.register(rt, door, PID, KEY) {
+        Err(RegisterError::PidTaken(_)) => (Outcome::PidTaken, None),
+        Err(RegisterError::NoMemory) => (Outcome::OUT_OF_MEMORY, None),
+        Ok(handle) => serve_demo(
+            rt, alloc, load.count, manager, handle, &relations, client, out,
+        ),
+    }
+}
+
+/// Serves the client under its registration, ends that, and writes the lines.
+fn serve_demo<R: Wait, K: Sink>(
+    rt: &R,
+    alloc: Global,
+    count: u32,
+    manager: &ConnectionManager,
+    handle: ConnectionHandle,
+    relations: &RelationTable,
+    client: PgBytes,
+    out: &mut K,
+) -> (Outcome, Option<Note>)
+    requires issued { handle.issuer ≡ manager.now }
+    ensures { HasCounted handle relations.now count client result.0 result.1 (K.written out.old) (K.written out.new)
+        (K.faults out.old) (K.faults out.new) }
+{
+    let length = client.len();
+    let mut source = MemorySource::new(client, PgList::new(alloc), PgList::new(alloc));
+    let mut replies = MemorySink::new(alloc, PgList::new(alloc));
+    let (answer, note) = serve_and_leave(
+        rt,
+        alloc,
+        manager,
+        handle,
+        relations,
+        &mut source,
+        &mut replies,
+        TURNS,
+    );
+    let outcome = tell_end(alloc, answer, count, length, replies.bytes(), out);
+    (outcome, Some(note))
+}
+
+/// Tells of a conversation that came to its end. With so many turns and no faults, only want of memory gives one up.
+fn tell_end<K: Sink>(
+    alloc: Global,
+    answer: Result<EndKind, ServeError>,
+    count: u32,
+    client: usize,
+    replies: &[u8],
+    out: &mut K,
+) -> Outcome
+    ensures ended { IsOk answer → (messages : List PgWireBackendMessage) → replies.now ≡ replies_bytes messages
+        → HasTold result (demo_lines count (row_count messages) client (length replies.now))
+        (K.written out.old) (K.written out.new) (K.faults out.old) (K.faults out.new) }
+    ensures given_up { IsErr answer → (result ≡ Outcome.Conversation (Err ServeError.NoMemory))
+        × (K.written out.new ≡ K.written out.old) × (K.faults out.new ≡ K.faults out.old) }
+{
+    match answer {
+        Ok(_) => tell(alloc, count, client, replies, out),
+        Err(_) => Outcome::OUT_OF_MEMORY,
+    }
+}
+
+/// Counts the rows of the replies, and writes the lines.
+fn tell<K: Sink>(
+    alloc: Global,
+    relations: u32,
+    client: usize,
+    replies: &[u8],
+    out: &mut K,
+) -> Outcome
+    ensures { (messages : List PgWireBackendMessage) → replies.now ≡ replies_bytes messages
+        → HasTold result (demo_lines relations (row_count messages) client (length replies.now))
+        (K.written out.old) (K.written out.new) (K.faults out.old) (K.faults out.new) }
+{
+    if replies.len() > GREATEST_LENGTH {
+        return Outcome::OUT_OF_MEMORY;
+    }
+    let rows = count_rows(replies);
+    match lines(alloc, relations, rows, client, replies.len()) {
+        Ok(lines) => write_lines(lines.as_str(), out),
+        Err(AllocError) => Outcome::OUT_OF_MEMORY,
+    }
+}
+
+/// The four lines.
+fn lines(
+    alloc: Global,
+    relations: u32,
+    rows: u64,
+    client: usize,
+    replies: usize,
+) -> Result<String, AllocError>
+    ensures { IfOk result (λ lines. string_bytes lines ≡ demo_lines relations rows client replies) }
+{
+    let lines = format!(in alloc;
+        "relations {relations}\nrows {rows}\nin {client}\nout {replies}\n"
+    )?;
+    Ok(lines)
+}
+
+/// Writes the lines.
+fn write_lines<K: Sink>(lines: &str, out: &mut K) -> Outcome
+    ensures { HasTold result lines.now (K.written out.old) (K.written out.new) (K.faults out.old) (K.faults out.new) }
+{
+    match out.send(lines.as_bytes()) {
+        Ok(()) => Outcome::Done,
+        Err(SinkError::Failed) => Outcome::Conversation(Err(ServeError::WriteFault)),
+        Err(SinkError::NoMemory) => Outcome::OUT_OF_MEMORY,
+    }
+}

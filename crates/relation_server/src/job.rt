@@ -1,0 +1,189 @@
+//! The service of one connection, as a value that a thread may take.
+
+ghost use Rattle.std.specs.Prelude.{◌≡◌, ◌++◌, [], Bool, List};
+ghost use Rattle.std.specs.Arc.{arc_value};
+ghost use mathlib.Core.List.{IsPrefix};
+ghost use Rattle.pg_cancel.specs.Connections.{IsSameConnection, calls_of};
+ghost use Rattle.pg_cancel.specs.LegalHistory.{IsLegal};
+ghost use Rattle.pg_cancel.specs.declared.entries.Entry.{Entry};
+ghost use Rattle.pg_messages.specs.declared.frontend.PgWireFrontendMessage.{PgWireFrontendMessage};
+ghost use Rattle.pg_handlers.specs.Answer.{Goes, conversation};
+ghost use Rattle.pg_handlers.specs.Questions.{questions_since};
+ghost use Rattle.pg_handlers.specs.State.{State, first_state};
+ghost use Rattle.pg_handlers.specs.Table.{whole_table};
+ghost use Rattle.pg_serve.specs.Desk.{desk_calls};
+ghost use Rattle.pg_serve.specs.Serving.{HasCause, ReadsGaveBytes, counts_of};
+ghost use Rattle.relation_tables.specs.declared.RelationStatement.{RelationStatement};
+ghost use Rattle.relation_tables.specs.RelationHandler.{relation_handlers};
+ghost use Rattle.relation_serving.specs.Cells.{ShowInOwnFormat, ShowStored, style_of};
+ghost use Rattle.relation_serving.specs.Completeness.{IsComplete};
+ghost use Rattle.relation_serving.specs.Serving.{WentByTables};
+ghost use Rattle.relation_server.specs.Jobs.{HasConversed, IsLeftBehind};
+
+use crate::connection::serve_relations;
+use pg_cancel::{ConnectionHandle, ConnectionManager, Note};
+use pg_serve::Job;
+use pg_session::{EndKind, ServeError, Sink, Source};
+use relation_handlers::RelationTable;
+use std::alloc::Global;
+use std::sync::{Arc, Wait};
+
+/// The service of a connection over relations: the registry that it is registered at, the relations, the connection,
+/// its client's bytes, where the replies go, and how many turns it has.
+#[derive(Drop)]
+pub struct ConnectionJob<S, K> {
+    /// The registry.
+    pub manager: Arc<ConnectionManager>,
+    /// What is served.
+    pub relations: Arc<RelationTable>,
+    /// The connection's registration.
+    pub handle: ConnectionHandle,
+    /// Where the client's bytes come from.
+    pub source: S,
+    /// Where the replies go.
+    pub sink: K,
+    /// How many turns there are.
+    pub turn_limit: u64,
+    ghost issued: { handle.issuer ≡ arc_value manager },
+}
+
+impl<S: Source, K: Sink> ConnectionJob<S, K> {
+    /// Serves the connection, as [`serve_relations`] does.
+    pub fn serve<R: Wait>(&mut self, rt: &R, alloc: Global) -> Result<EndKind, ServeError>
+        ensures went { (made : List Entry) × (self.new.handle.mine ≡ self.old.handle.mine ++ made)
+            × WentByTables (arc_value self.old.relations) (self.old.handle.pid, self.old.handle.key) result
+            (S.left self.old.source) (S.left self.new.source) (K.written self.old.sink) (K.written self.new.sink)
+            (desk_calls made) }
+        ensures cause { HasCause result self.old.turn_limit
+            (questions_since (desk_calls self.old.handle.mine) (desk_calls self.new.handle.mine))
+            (counts_of S.reads S.faults K.faults self.old.source self.old.sink)
+            (counts_of S.reads S.faults K.faults self.new.source self.new.sink) }
+        ensures complete { IsComplete (arc_value self.old.relations) self.old.turn_limit result (S.left self.old.source)
+            (counts_of S.reads S.faults K.faults self.old.source self.old.sink)
+            (counts_of S.reads S.faults K.faults self.new.source self.new.sink) }
+        ensures reads { ReadsGaveBytes (S.left self.old.source) (S.left self.new.source) (S.reads self.old.source)
+            (S.reads self.new.source) }
+        ensures cells { (answers : List Bool) (messages : List PgWireFrontendMessage)
+            → ShowStored (arc_value self.old.relations) messages (conversation (whole_table (relation_handlers (arc_value self.old.relations))) answers
+            (first_state self.old.handle.pid self.old.handle.key) messages).replies }
+        ensures formats { (answers more : List Bool)
+            (messages : List PgWireFrontendMessage) (s : State RelationStatement) (m : PgWireFrontendMessage)
+            → (conversation (whole_table (relation_handlers (arc_value self.old.relations))) answers
+            (first_state self.old.handle.pid self.old.handle.key) messages).next ≡ Goes s
+            → ShowInOwnFormat (arc_value self.old.relations) (style_of messages) s m
+            (whole_table (relation_handlers (arc_value self.old.relations)) more s m).replies }
+        ensures kept { (self.new.relations ≡ self.old.relations) × (self.new.turn_limit ≡ self.old.turn_limit) }
+        ensures same { IsSameConnection self.old.handle self.new.handle }
+        ensures seen { IsPrefix self.old.handle.seen self.new.handle.seen }
+        ensures legal { IsLegal self.new.handle.seen }
+        ensures own { calls_of self.new.handle.number self.new.handle.seen ≡ self.new.handle.mine }
+    {
+        serve_relations(
+            rt,
+            alloc,
+            &self.manager,
+            &mut self.handle,
+            &self.relations,
+            &mut self.source,
+            &mut self.sink,
+            self.turn_limit,
+        )
+    }
+
+    /// Serves the connection and then ends its registration. It hands back what the service came to, the source, the
+    /// sink, and what the connection had seen of the registry's history. Where memory ran out before the registration
+    /// was ended, it stays.
+    pub fn run<R: Wait>(self, rt: &R, alloc: Global) -> (Result<EndKind, ServeError>, S, K, Note)
+        ensures conversed { HasConversed self.handle (arc_value self.relations) self.turn_limit result.0
+            (S.left self.source) (S.left result.1) (K.written self.sink) (K.written result.2)
+            (counts_of S.reads S.faults K.faults self.source self.sink)
+            (counts_of S.reads S.faults K.faults result.1 result.2) result.3 }
+        ensures cells { (answers : List Bool) (messages : List PgWireFrontendMessage)
+            → ShowStored (arc_value self.relations) messages (conversation (whole_table (relation_handlers (arc_value self.relations))) answers
+            (first_state self.handle.pid self.handle.key) messages).replies }
+        ensures formats { (answers more : List Bool)
+            (messages : List PgWireFrontendMessage) (s : State RelationStatement) (m : PgWireFrontendMessage)
+            → (conversation (whole_table (relation_handlers (arc_value self.relations))) answers
+            (first_state self.handle.pid self.handle.key) messages).next ≡ Goes s
+            → ShowInOwnFormat (arc_value self.relations) (style_of messages) s m
+            (whole_table (relation_handlers (arc_value self.relations)) more s m).replies }
+    {
+        let ConnectionJob {
+            manager,
+            relations,
+            handle,
+            mut source,
+            mut sink,
+            turn_limit,
+        } = self;
+        let (answer, note) = serve_and_leave(
+            rt,
+            alloc,
+            &manager,
+            handle,
+            &relations,
+            &mut source,
+            &mut sink,
+            turn_limit,
+        );
+        (answer, source, sink, note)
+    }
+}
+
+/// Serves a connection and then ends its registration. It hands back what the service came to, and what the connection
+/// had seen of the registry's history.
+pub(crate) fn serve_and_leave<R: Wait, S: Source, K: Sink>(
+    rt: &R,
+    alloc: Global,
+    manager: &ConnectionManager,
+    handle: ConnectionHandle,
+    relations: &RelationTable,
+    source: &mut S,
+    sink: &mut K,
+    turn_limit: u64,
+) -> (Result<EndKind, ServeError>, Note)
+    requires issued { handle.issuer ≡ manager.now }
+    ensures conversed { HasConversed handle relations.now turn_limit result.0
+        (S.left source.old) (S.left source.new) (K.written sink.old) (K.written sink.new)
+        (counts_of S.reads S.faults K.faults source.old sink.old)
+        (counts_of S.reads S.faults K.faults source.new sink.new) result.1 }
+    ensures cells { (answers : List Bool) (messages : List PgWireFrontendMessage)
+        → ShowStored relations.now messages (conversation (whole_table (relation_handlers relations.now)) answers
+        (first_state handle.pid handle.key) messages).replies }
+    ensures formats { (answers more : List Bool)
+        (messages : List PgWireFrontendMessage) (s : State RelationStatement) (m : PgWireFrontendMessage)
+        → (conversation (whole_table (relation_handlers relations.now)) answers
+        (first_state handle.pid handle.key) messages).next ≡ Goes s
+        → ShowInOwnFormat relations.now (style_of messages) s m
+        (whole_table (relation_handlers relations.now) more s m).replies }
+{
+    let mut handle = handle;
+    let answer = serve_relations(
+        rt,
+        alloc,
+        manager,
+        &mut handle,
+        relations,
+        source,
+        sink,
+        turn_limit,
+    );
+    (answer, leave(rt, manager, handle))
+}
+
+/// Ends a registration, and answers what its connection had seen.
+fn leave<R: Wait>(rt: &R, manager: &ConnectionManager, handle: ConnectionHandle) -> Note
+    requires issued { handle.issuer ≡ manager.now }
+    ensures { IsLeftBehind handle [] result }
+{
+    match manager.unregister(rt, handle) {
+        Ok(note) => note,
+        Err((mut handle, _no_memory)) => manager.note(&mut handle),
+    }
+}
+
+impl<S: Source + Drop, K: Sink + Drop> Job for ConnectionJob<S, K> {
+    ghost use Rattle.relation_server.specs.Jobs.{IsFresh};
+
+    ghost is_fresh = { λ job. IsFresh (S.reads job.source) job.handle };
+}

@@ -1,0 +1,43 @@
+//! What clients send, and what they are answered.
+
+use pg_messages::{PgBytes, PgList};
+use pg_serve::MemorySource;
+use std::alloc::{AllocError, Global};
+
+/// The key of a registration.
+pub(crate) const KEY: [u8; 4] = [1, 2, 3, 4];
+
+/// A startup packet of version 3.0 with `user` `demo`.
+pub(crate) const STARTUP: &[u8] = b"\0\0\0\x13\0\x03\0\0user\0demo\0\0";
+
+/// That; a statement, a portal and all rows of `shifts`, as binary; Sync; Terminate.
+pub(crate) const FIRST_PATH: &[u8] = b"\0\0\0\x13\0\x03\0\0user\0demo\0\0\
+P\0\0\0\x0e\0shifts\0\0\0\
+B\0\0\0\x0e\0\0\0\0\0\0\0\x01\0\x01\
+E\0\0\0\x09\0\0\0\0\0\
+S\0\0\0\x04\
+X\0\0\0\x04";
+
+/// The replies to it under the pid 7 and the key 01020304: AuthenticationOk, four ParameterStatus, BackendKeyData,
+/// ReadyForQuery; ParseComplete, BindComplete, three DataRows, CommandComplete, ReadyForQuery.
+pub(crate) const FIRST_REPLIES: &[u8] = b"R\0\0\0\x08\0\0\0\0\
+S\0\0\0\x18server_version\016.0\0\
+S\0\0\0\x19server_encoding\0UTF8\0\
+S\0\0\0\x19client_encoding\0UTF8\0\
+S\0\0\0\x19integer_datetimes\0on\0\
+K\0\0\0\x0c\0\0\0\x07\x01\x02\x03\x04\
+Z\0\0\0\x05I\
+1\0\0\0\x04\
+2\0\0\0\x04\
+D\0\0\0\x1a\0\x01\0\0\0\x10\0\0\0\0\xfb\x3b\xcb\xc0\0\0\0\x01\0\0\0\x0d\
+D\0\0\0\x1a\0\x01\0\0\0\x10\xff\xff\xff\xff\xff\xf8\x5e\xe0\0\0\0\0\0\0\0\0\
+D\0\0\0\x1a\0\x01\0\0\0\x10\0\0\0\0\0\x2d\xc6\xc0\0\0\0\x02\xff\xff\xff\xff\
+C\0\0\0\x0dSELECT 3\0\
+Z\0\0\0\x05I";
+
+/// A source of these bytes, in one piece.
+pub(crate) fn source_of(alloc: Global, bytes: &[u8]) -> Result<MemorySource, AllocError> {
+    let bytes = PgBytes::copy_of(alloc, bytes)?;
+    let (pieces, fails) = (PgList::new(alloc), PgList::new(alloc));
+    Ok(MemorySource::new(bytes, pieces, fails))
+}
