@@ -1,4 +1,4 @@
-use relation_server::TableError;
+use relation_serving::TableError;
 use std::alloc::{AllocError, AllocFailed};
 
 /// Why a row could not be judged.
@@ -42,8 +42,6 @@ pub enum Difference {
     Calls,
     /// The writes have other lengths.
     Writes,
-    /// The program's call has another outcome.
-    Program,
     /// A cell isn't read as the interval that it was made of.
     Cell,
 }

@@ -8,7 +8,7 @@ use pg_handlers::NoopHandler;
 use pg_portal::MemPortalStore;
 use pg_serve::{MemorySource, serve_connection};
 use pg_session::{EndKind, PgWireServerHandlers, ScriptDesk, ServeError};
-use relation_server::serve_relations_on;
+use relation_serving::serve_relations_on;
 use sample_handlers::SampleHandler;
 use std::alloc::{AllocError, Global};
 use std::sync::Arc;

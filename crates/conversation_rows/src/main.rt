@@ -1,13 +1,12 @@
-//! Rows of conversations, as data on standard input: each is served over relations or by handlers that the row names,
-//! and where a row needs no more by the program's call `run_rows` too. A line tells whether its replies, its end and
-//! its registry calls are the ones that the row expects. The head of `stdin` has the format.
+//! Rows of conversations, as data on standard input: each is served over relations or by handlers that the row names.
+//! A line tells whether its replies, its end and its registry calls are the ones that the row expects. The head of
+//! `stdin` has the format.
 #![tactic(auto)]
 
 mod counting;
 mod fault;
 mod handlers;
 mod message;
-mod program;
 mod reading;
 mod relations;
 mod row;
@@ -38,7 +37,6 @@ fn print_difference(rt: &impl Print, name: &str, difference: Difference) -> io::
         Difference::Replies(place) => println!(rt; "{name}: other replies from byte {place} on"),
         Difference::Calls => println!(rt; "{name}: other registry calls"),
         Difference::Writes => println!(rt; "{name}: other lengths of writes"),
-        Difference::Program => println!(rt; "{name}: another outcome of the program"),
         Difference::Cell => println!(rt; "{name}: a cell that is read as another interval"),
     }
 }

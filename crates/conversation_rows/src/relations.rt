@@ -4,7 +4,7 @@ use crate::fault::Fault;
 use crate::row::{told, told_by};
 use pg_interval::Interval;
 use pg_messages::{PgList, PgStr};
-use relation_server::{Relation, RelationTable, built_in_table};
+use relation_serving::{Relation, RelationTable, built_in_table};
 use std::alloc::Global;
 
 /// The built-in relations; or those that the lines tell, where there are such lines.

@@ -1,5 +1,4 @@
 use crate::fault::{Difference, Fault};
-use crate::program;
 use crate::reading::is_read_back;
 use crate::row::{front_of, messages_of, number_told, numbers_of, told, told_by};
 use crate::serving::{Plan, Reads, serve};
@@ -31,9 +30,6 @@ fn judge_told<'t>(
     let written = written_told(lines)?;
     if let Some(difference) = difference(alloc, lines, &outcome, end_told(lines), written)? {
         return Ok(Some(difference));
-    }
-    if !program::is_told(alloc, lines, client)? {
-        return Ok(Some(Difference::Program));
     }
     if !is_read_back(alloc, lines)? {
         return Ok(Some(Difference::Cell));

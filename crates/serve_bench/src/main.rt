@@ -11,11 +11,14 @@ use client::{Load, client_of};
 use pg_messages::{PgBytes, PgList};
 use pg_serve::{MemorySink, MemorySource};
 use pg_session::{EndKind, ScriptDesk, ServeError};
-use relation_server::{RelationTable, TURNS, serve_relations_on};
+use relation_serving::{RelationTable, serve_relations_on};
 use relations::table_of;
 use std::alloc::{AllocError, Global};
 use std::time::{Clock, Instant};
 use std::{env, io};
+
+/// How many turns a client has.
+const TURNS: u64 = 1_000_000_000;
 
 /// The loads: what a client asks for, and its interval style.
 const LOADS: [(Load, &str); 14] = [

@@ -5,7 +5,7 @@ ghost use Rattle.std.specs.Prelude.{◌≡◌, IfOk, length};
 use crate::draw::Draw;
 use pg_interval::Interval;
 use pg_messages::{PgList, PgStr};
-use relation_server::{Relation, RelationTable};
+use relation_serving::{Relation, RelationTable};
 use std::alloc::{AllocError, Global};
 
 /// `many`, of so many rows of one small interval, and `few`, of three. None where memory is wanting.
