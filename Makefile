@@ -1,9 +1,11 @@
-.PHONY: demo build test bench docs
+.PHONY: demo serve try build test bench docs
 
 CLIENT = tools/demo_client.hex
-WORDS = 7 01020304
+ROSTERS = $(CURDIR)/data/rosters
+WORDS = serve $(ROSTERS) 7 01020304
+PORT = 5433
 # The programs that bench/ measures.
-MEASURED = $(notdir $(wildcard $(addprefix crates/,server serve_bench print_bench interval_rows read_bench message_rows cancel_stress)))
+MEASURED = $(notdir $(wildcard $(addprefix crates/,server serve_bench print_bench interval_rows read_bench file_bench message_rows cancel_stress)))
 # Runs a command in a folder, and shows what it says only where it fails.
 QUIETLY = log=$$(mktemp) && if (cd $(1) && $(2)) >$$log 2>&1; then rm -f $$log; else cat $$log; rm -f $$log; exit 1; fi
 
@@ -11,6 +13,15 @@ QUIETLY = log=$$(mktemp) && if (cd $(1) && $(2)) >$$log 2>&1; then rm -f $$log; 
 demo:
 	@echo "The program is built unproved, which takes about a minute. make build proves it first."
 	@python3 tools/show_frames.py $(CLIENT) tools/try_server $(WORDS)
+
+# Serves the sample relations at 127.0.0.1:5433, until it is interrupted: by the proved program where it was built.
+serve:
+	@echo "Serves data/rosters at 127.0.0.1:$(PORT). Ctrl-C ends it. Ask it by: psql -h 127.0.0.1 -p $(PORT) -c shifts"
+	@tools/run_server listen tcp $(PORT) $(ROSTERS)
+
+# Runs psql over the sample relations, and compares what it prints: over the proved program where it was built.
+try:
+	@tools/try_psql.sh
 
 # Proves the program and all that it stands on, builds it, and shows the same frames from what was built.
 build:
@@ -27,6 +38,7 @@ bench:
 	@echo "The programs are proved and built: from nothing up to two hours of processor time, later only what changed."
 	@for program in $(MEASURED); do $(call QUIETLY,crates/$$program,rt run -- $$(cat args 2>/dev/null) < stdin); done
 	python3 bench/serve_loop.py crates/server/out/server
+	bench/tcp_memory
 	@for times in $(wildcard bench/*_times); do echo $$times; $$times || exit 1; done
 
 # Compares docs/DEFINITIONS.md with what the public clauses cite, and docs/WRONG_BODIES.md with the edits and tests.
