@@ -1,5 +1,7 @@
 //! What clients send, and what they are answered.
 
+ghost use Rattle.std.specs.Prelude.{◌≡◌, IfOk};
+
 use pg_messages::{PgBytes, PgList};
 use pg_serve::MemorySource;
 use std::alloc::{AllocError, Global};
@@ -36,7 +38,9 @@ C\0\0\0\x0dSELECT 3\0\
 Z\0\0\0\x05I";
 
 /// A source of these bytes, in one piece.
-pub(crate) fn source_of(alloc: Global, bytes: &[u8]) -> Result<MemorySource, AllocError> {
+pub(crate) fn source_of(alloc: Global, bytes: &[u8]) -> Result<MemorySource, AllocError>
+    ensures { IfOk result (λ source. source.reads ≡ 0) }
+{
     let bytes = PgBytes::copy_of(alloc, bytes)?;
     let (pieces, fails) = (PgList::new(alloc), PgList::new(alloc));
     Ok(MemorySource::new(bytes, pieces, fails))

@@ -4,7 +4,7 @@ ghost use Rattle.std.specs.Prelude.{◌≡◌, ◌<◌, ◌^◌};
 ghost use Rattle.std.specs.Arc.{arc_value};
 
 use crate::clients::{KEY, source_of};
-use pg_cancel::{ConnectionManager, Door, RegisterError};
+use pg_cancel::{ConnectionHandle, ConnectionManager, Door, RegisterError};
 use pg_messages::{PgBytes, PgList, PgStr};
 use pg_serve::{AcceptFailed, Acceptor, KeySource, MemorySink, MemorySource, SpawnFailed, Spawner};
 use pg_session::{Sink, Source};
@@ -193,20 +193,41 @@ fn a_failed_accept_leaves_one_job(rt: HostRuntime) -> Result<(), Fail> {
     let table = built_in_table(alloc)?;
     let answer = listen_for_three(&rt, &mut acceptor, &mut spawner, &manager, &mut door, table);
     assert_eq!(rt; answer, Err(ListenError::AcceptFault));
-    let Some(mut job) = spawner.jobs.pop() else {
+    let Some(job) = spawner.jobs.pop() else {
         panic!(rt; "one job")
     };
     assert!(rt; spawner.jobs.is_empty());
     assert!(rt; job.handle.pid() == 1 && job.handle.key() == key_of(1) && job.turn_limit == 55);
     assert_eq!(rt; job.relations.find("shifts"), Some(0));
     assert_eq!(rt; job.relations.relations().len(), 4);
-    let Ok(mut other) = manager.register(&rt, &mut door, 9, KEY) else {
+    let Ok(other) = manager.register(&rt, &mut door, 9, KEY) else {
         panic!(rt; "a second registration")
     };
-    job.manager.start_query(&rt, &mut job.handle)?;
-    assert!(rt; manager.cancel(&rt, &mut other, 1, key_of(1))?);
-    assert!(rt; job.manager.ask(&rt, &mut job.handle)?);
+    assert!(rt; is_heard(&rt, job, &manager, other)?);
     Ok(())
+}
+
+/// Whether a cancel of pid 1 through this registry is heard by the job's connection.
+fn is_heard<R: Wait>(
+    rt: &R,
+    job: ConnectionJob<MemorySource, MemorySink>,
+    manager: &ConnectionManager,
+    other: ConnectionHandle,
+) -> Result<bool, AllocError>
+    requires issued { other.issuer ≡ manager.now }
+{
+    let ConnectionJob {
+        manager: theirs,
+        relations: _relations,
+        handle,
+        source: _source,
+        sink: _sink,
+        turn_limit: _turn_limit,
+    } = job;
+    let (mut handle, mut other) = (handle, other);
+    theirs.start_query(rt, &mut handle)?;
+    let is_made = manager.cancel(rt, &mut other, 1, key_of(1))?;
+    Ok(is_made && theirs.ask(rt, &mut handle)?)
 }
 
 /// A job that can't be started is dropped, and its registration stays.

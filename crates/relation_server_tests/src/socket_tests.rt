@@ -3,7 +3,7 @@
 ghost use Rattle.std.specs.Prelude.{◌≡◌};
 
 use crate::clients::{FIRST_PATH, FIRST_REPLIES, KEY, STARTUP};
-use pg_cancel::{ConnectionHandle, ConnectionManager};
+use pg_cancel::{ConnectionHandle, ConnectionManager, Door};
 use pg_interval::Interval;
 use pg_messages::{PgList, PgStr};
 use pg_portal::MemPortalStore;
@@ -193,8 +193,16 @@ fn a_query_is_canceled_over_tcp(rt: HostRuntime) -> Result<(), Fail> {
     assert_eq!(rt; answer, Ok(51));
     assert!(rt; client.join(&rt));
     spawner.threads.finish(&rt);
-    for pid in [1, 2, 51] {
-        assert!(rt; manager.register(&rt, &mut door, pid, KEY).is_ok(), "{pid}");
-    }
+    assert!(rt; is_free(&rt, &manager, &mut door, 1));
+    assert!(rt; is_free(&rt, &manager, &mut door, 2));
+    assert!(rt; is_free(&rt, &manager, &mut door, 51));
     Ok(())
+}
+
+/// Whether nobody has a pid.
+fn is_free<R: Wait>(rt: &R, manager: &ConnectionManager, door: &mut Door, pid: i32) -> bool
+    requires issued { door.old.issuer ≡ manager.now }
+    ensures issued { door.new.issuer ≡ door.old.issuer }
+{
+    manager.register(rt, door, pid, KEY).is_ok()
 }
