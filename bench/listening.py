@@ -103,12 +103,15 @@ class Connection:
             got += more
         return got
 
+    def send(self, text, times=1):
+        """Sends a simple query so many times at once."""
+        self.socket.sendall((b"Q" + struct.pack(">I", len(text) + 5) + text.encode() + b"\0") * times)
+
     def query(self, text, times=1):
-        """Sends a simple query so many times at once, and reads all replies."""
-        frame = b"Q" + struct.pack(">I", len(text) + 5) + text.encode() + b"\0"
-        self.socket.sendall(frame)
+        """Sends a simple query so many times, all but the first at once, and reads all replies."""
+        self.send(text)
         length = len(self.until_ready())
         left = length * (times - 1)
-        self.socket.sendall(frame * (times - 1))
+        self.send(text, times - 1)
         while left:
             left -= len(self.socket.recv(min(left, 1 << 20)))

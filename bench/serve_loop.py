@@ -3,8 +3,7 @@
 
 The body of the first path (Parse, Bind, Execute, Sync over three rows) is repeated 10,000 and 100,000 times on one
 connection, through pipes. Printed are the seconds, the nanoseconds of a repetition, and the peak resident size of the
-program, which is read when all replies but Terminate's are there and the program waits. Of its growth the entry of 40 bytes that
-each query leaves in the history of the cancel registry is told apart.
+program, which is read when all replies but Terminate's are there and the program waits.
 """
 import re
 import subprocess
@@ -19,7 +18,6 @@ BODY = bytes.fromhex("500000000e00736869667473000000420000000e000000000000000100
 TERMINATE = bytes.fromhex("5800000004")
 STARTUP_REPLY = 131
 REPLY = 111
-ENTRY = 40
 
 
 def write_queries(stream, count):
@@ -64,10 +62,8 @@ def main():
             results[count] = seconds, peak
             print(f"{count:7} repetitions: {seconds:.3f} s, {seconds * 1e9 / count:.0f} ns each, peak {peak} kB")
     (few, small), (many, large) = results[10_000], results[100_000]
-    history = 90_000 * ENTRY // 1024
-    rest = large - small - history
-    print(f"ratio of the totals {many / few:.1f} (at most 12), peak grew by {large - small} kB, of which {history} are the history's and {rest} (at most 2048) not")
-    return 0 if many / few <= 12 and rest <= 2048 else 1
+    print(f"ratio of the totals {many / few:.1f} (at most 12), peak grew by {large - small} kB (at most 1024)")
+    return 0 if many / few <= 12 and large - small <= 1024 else 1
 
 
 if __name__ == "__main__":

@@ -3,8 +3,8 @@ ghost use Rattle.std.specs.Prelude.{◌≡◌};
 ghost use Rattle.std.specs.Thread.{IsSync};
 
 use crate::plain::is_legal;
-use crate::worker::{Counts, Worker, end_all, workers};
-use pg_cancel::{ConnectionManager, Door};
+use crate::worker::{Counts, Worker, are_in_order, are_within_cancels, end_all, workers};
+use pg_cancel::{ConnectionManager, Door, Registry};
 use std::alloc::Global;
 use std::sync::Wait;
 use std::thread::Threads;
@@ -16,22 +16,49 @@ const THREADS: u32 = 8;
 /// What came of the calls.
 #[derive(Clone, Copy)]
 pub struct Told {
-    pub counts: Counts,
-    pub entries: usize,
+    pub heard: Heard,
+    pub entries: u64,
     pub legal: bool,
 }
 
-/// So many calls of each thread, and then the end of each connection. None where there was no memory.
+/// What the threads were answered.
+#[derive(Clone, Copy)]
+pub struct Heard {
+    pub counts: Counts,
+    pub in_order: bool,
+    pub within: bool,
+}
+
+/// So many calls of each thread, and then the end of each connection. The number of a registration after all of them is
+/// how many entries there were. None where there was no memory.
 pub fn stressed<R: Threads + Wait + Sync>(rt: &R, alloc: Global, calls: u64) -> Option<Told> {
     let (manager, mut door) = ConnectionManager::new(alloc).ok()?;
-    let counts = called(rt, alloc, &manager, &mut door, calls)?;
-    let registry = manager.close(rt, door);
-    let legal = is_legal(alloc, registry.history()).ok()?;
+    let heard = called(rt, alloc, &manager, &mut door, calls)?;
+    let entries = manager.register(rt, &mut door, 0, [0; 4]).ok()?.number();
+    let legal = in_turn(rt, alloc, calls)?;
     Some(Told {
-        counts,
-        entries: registry.history().len(),
+        heard,
+        entries,
         legal,
     })
+}
+
+/// Whether connections that make so many calls each, in turn, are answered as a `Registry` beside them is, and whether its
+/// history is legal. None where there was no memory.
+fn in_turn<R: Wait>(rt: &R, alloc: Global, calls: u64) -> Option<bool> {
+    let (manager, mut door) = ConnectionManager::new(alloc).ok()?;
+    let mut all = workers(rt, alloc, &manager, &mut door, THREADS)?;
+    let mut beside = Registry::new(alloc);
+    let mut same = true;
+    for worker in all.iter() {
+        same = worker.registers(&mut beside).ok()? && same;
+    }
+    for call in 0..calls {
+        for worker in all.iter_mut() {
+            same = worker.agrees(rt, &mut beside, call).ok()? && same;
+        }
+    }
+    Some(same && is_legal(alloc, beside.history()).ok()?)
 }
 
 fn called<R: Threads + Wait + Sync>(
@@ -40,13 +67,19 @@ fn called<R: Threads + Wait + Sync>(
     manager: &ConnectionManager,
     door: &mut Door,
     calls: u64,
-) -> Option<Counts>
+) -> Option<Heard>
     requires { door.old.issuer ≡ manager.now }
     ensures { door.new.issuer ≡ door.old.issuer }
 {
     let all = workers(rt, alloc, manager, door, THREADS)?;
     let all = thread::map_vec(rt, all, &|worker: Worker| worker.after_calls(rt, calls)).ok()?;
-    end_all(rt, all)
+    let in_order = are_in_order(&all);
+    let within = are_within_cancels(&all);
+    Some(Heard {
+        counts: end_all(rt, all)?,
+        in_order,
+        within,
+    })
 }
 
 /// Nanoseconds of a start or a question, where so many threads make so many each, after so many entries. 0 where there was

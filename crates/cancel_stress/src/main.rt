@@ -1,7 +1,7 @@
 //! Threads that share one cancel registry, each with a connection of its own, which they cancel
-//! among each other. Words: CALLS, the calls of each of eight threads; the history is then checked,
-//! entry by entry. Or `0 ENTRIES CALLS`, which tells the nanoseconds of a call on 1, 2, 4 and 8
-//! threads over a history of so many entries.
+//! among each other. Words: CALLS, the calls of each of eight threads, whose answers are checked, and
+//! then as many calls in turn, whose answers and history are. Or `0 ENTRIES CALLS`, which tells the
+//! nanoseconds of a call on 1, 2, 4 and 8 threads after so many entries.
 #![tactic(auto)]
 
 mod crowd;
@@ -39,7 +39,7 @@ fn numbers_of(words: env::Args<Global>) -> [u64; 3] {
 }
 
 fn tell(rt: &impl Print, calls: u64, told: Told) -> io::Result<()> {
-    let counts = told.counts;
+    let counts = told.heard.counts;
     println!(rt; "calls of each thread {calls}")?;
     println!(rt;
         "cancels by pid and key {}, true {}",
@@ -49,6 +49,8 @@ fn tell(rt: &impl Print, calls: u64, told: Told) -> io::Result<()> {
         "cancels by another key {}, true {}",
         counts.wrong, counts.misses
     )?;
+    println!(rt; "answers in order {}", told.heard.in_order)?;
+    println!(rt; "canceled within the cancels {}", told.heard.within)?;
     println!(rt; "entries {}", told.entries)?;
     println!(rt; "legal {}", told.legal)
 }

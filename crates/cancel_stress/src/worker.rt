@@ -1,7 +1,10 @@
 //! A connection that makes calls in a thread of its own.
 ghost use Rattle.std.specs.Prelude.{◌≡◌};
+ghost use Rattle.pg_cancel.specs.LegalHistory.{IsLive};
 
-use pg_cancel::{ConnectionHandle, ConnectionManager, Door};
+use pg_cancel::{
+    ConnectionHandle, ConnectionManager, Door, Registry, RegistryAnswer, RegistryCall,
+};
 use std::alloc::{AllocError, Global};
 use std::sync::Wait;
 
@@ -24,6 +27,11 @@ pub struct Worker<'a> {
     /// The connection that this one cancels.
     other: i32,
     pub counts: Counts,
+    /// How many of its queries were told to be canceled, and whether the last one was.
+    canceled: u64,
+    is_canceled: bool,
+    /// A question was answered no after one of the same query that was answered yes.
+    pub wavers: bool,
     pub failed: bool,
     ghost issued: { handle.issuer ≡ manager.now },
 }
@@ -31,6 +39,15 @@ pub struct Worker<'a> {
 /// The key of the connection with this pid.
 pub fn key_of(pid: i32) -> [u8; 4] {
     pid.to_be_bytes()
+}
+
+/// The answer to an Ask or a Cancel.
+fn answer_of(yes: bool) -> RegistryAnswer {
+    if yes {
+        RegistryAnswer::Yes
+    } else {
+        RegistryAnswer::No
+    }
 }
 
 pub fn no_counts() -> Counts {
@@ -52,6 +69,9 @@ impl<'a> Worker<'a> {
             handle,
             other,
             counts: no_counts(),
+            canceled: 0,
+            is_canceled: false,
+            wavers: false,
             failed: false,
         }
     }
@@ -100,12 +120,26 @@ impl<'a> Worker<'a> {
     }
 
     fn start<R: Wait>(&mut self, rt: &R) -> Result<(), AllocError> {
-        self.manager.start_query(rt, &mut self.handle)
+        self.manager.start_query(rt, &mut self.handle)?;
+        self.is_canceled = false;
+        Ok(())
     }
 
     fn ask<R: Wait>(&mut self, rt: &R) -> Result<(), AllocError> {
-        self.manager.ask(rt, &mut self.handle)?;
+        let yes = self.manager.ask(rt, &mut self.handle)?;
+        self.hears(yes);
         Ok(())
+    }
+
+    /// Notes the answer to a question: the first yes of a query, or a no behind it.
+    fn hears(&mut self, yes: bool) {
+        if yes && !self.is_canceled {
+            self.is_canceled = true;
+            self.canceled = self.canceled.wrapping_add(1);
+        }
+        if !yes && self.is_canceled {
+            self.wavers = true;
+        }
     }
 
     fn cancel<R: Wait>(&mut self, rt: &R) -> Result<(), AllocError> {
@@ -129,6 +163,53 @@ impl<'a> Worker<'a> {
         Ok(())
     }
 
+    /// Registers the connection beside too. Whether it has the same number there.
+    pub fn registers(&self, beside: &mut Registry) -> Result<bool, AllocError> {
+        let number = beside.history().len() as u64;
+        let call = RegistryCall::Register(self.handle.pid(), self.handle.key());
+        let answer = beside.apply(number, call)?;
+        Ok(answer == RegistryAnswer::Registered && number == self.handle.number())
+    }
+
+    /// Makes a call, beside too. Whether both are answered alike.
+    pub fn agrees<R: Wait>(
+        &mut self,
+        rt: &R,
+        beside: &mut Registry,
+        call: u64,
+    ) -> Result<bool, AllocError> {
+        let number = self.handle.number();
+        if !beside.is_live(number) {
+            return Ok(false);
+        }
+        match call % 5 {
+            0 => {
+                self.start(rt)?;
+                Ok(beside.apply(number, RegistryCall::Start)? == RegistryAnswer::Done)
+            }
+            1 | 3 => {
+                let told = self.manager.ask(rt, &mut self.handle)?;
+                Ok(beside.apply(number, RegistryCall::Ask)? == answer_of(told))
+            }
+            2 => self.cancels(rt, beside, number, key_of(self.other)),
+            _ => self.cancels(rt, beside, number, [0xff; 4]),
+        }
+    }
+
+    fn cancels<R: Wait>(
+        &mut self,
+        rt: &R,
+        beside: &mut Registry,
+        number: u64,
+        key: [u8; 4],
+    ) -> Result<bool, AllocError>
+        requires { IsLive beside.old number }
+    {
+        let told = self.manager.cancel(rt, &mut self.handle, self.other, key)?;
+        let call = RegistryCall::Cancel(self.other, key);
+        Ok(beside.apply(number, call)? == answer_of(told))
+    }
+
     /// Ends the registration. False where there was no memory.
     pub fn end<R: Wait>(self, rt: &R) -> bool {
         let Worker {
@@ -136,6 +217,9 @@ impl<'a> Worker<'a> {
             handle,
             other: _,
             counts: _,
+            canceled: _,
+            is_canceled: _,
+            wavers: _,
             failed: _,
         } = self;
         manager.unregister(rt, handle).is_ok()
@@ -161,6 +245,22 @@ pub fn workers<'a, R: Wait>(
         all.push(Worker::new(manager, handle, other)).ok()?;
     }
     Some(all)
+}
+
+/// Whether each thread was answered in order: a query that was told to be canceled stays so until the next start.
+pub fn are_in_order(all: &[Worker<'_>]) -> bool {
+    all.iter().all(|worker| !worker.wavers)
+}
+
+/// Whether no connection was told of more canceled queries than cancels of it were answered true. Each cancels the next.
+pub fn are_within_cancels(all: &[Worker<'_>]) -> bool {
+    let mut hits = all.last().map_or(0, |worker| worker.counts.hits);
+    let mut within = true;
+    for worker in all {
+        within = within && worker.canceled <= hits;
+        hits = worker.counts.hits;
+    }
+    within
 }
 
 /// Ends all registrations, and adds up the counts. None where some call found no memory.

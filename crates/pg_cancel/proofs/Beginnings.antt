@@ -1,19 +1,20 @@
 -- Laws of legal histories that the table's rule rests on.
-use Rattle.std.proofs.Common.{◌≡◌, ◌≢◌, false, append_assoc, ℕ, zero, suc, ◌+◌, ◌-◌, ◌<◌, ◌≤◌, List, [], ◌∷◌, ◌++◌, length, take, slice_get, Some, refl, ap, sym, ◌∙◌, subst, arith, length-append, eq-eqb, ne_eqb}
+use Rattle.std.proofs.Common.{◌≡◌, ◌≢◌, Bool, true, false, cond, filter, ℤ, append_assoc, ℕ, zero, suc, ◌+◌, ◌-◌, ◌<◌, ◌≤◌, List, [], ◌∷◌, ◌++◌, length, take, slice_get, Some, refl, ap, sym, ◌∙◌, subst, arith, length-append, eq-eqb, ne_eqb}
 use Rattle.std.proofs.lemmas.List.{append-nil, take-append-le, length-take-le}
 use Rattle.std.proofs.Math.Seq.{take-append_seam}
 use mathlib.Core.List.{IsPrefix}
 use Rattle.pg_cancel.specs.declared.entries.Entry.{Entry}
 use Rattle.pg_cancel.specs.declared.entries.RegistryAnswer.{RegistryAnswer}
-use Rattle.pg_cancel.specs.declared.entries.RegistryAnswer.TheVariants.{Yes}
+use Rattle.pg_cancel.specs.declared.entries.RegistryAnswer.TheVariants.{Registered, Yes}
 use Rattle.pg_cancel.specs.declared.entries.RegistryCall.{RegistryCall}
 use Rattle.pg_cancel.specs.declared.entries.RegistryCall.TheVariants.{Register, Start, Ask, Cancel, Unregister}
-use Rattle.pg_cancel.specs.LegalHistory.{IsLegal, IsLive, IsNumber, IsAnswer, IsCanceled, MayFollow}
+use Rattle.std.specs.Prelude.{◌==◌}
+use Rattle.pg_cancel.specs.LegalHistory.{IsLegal, IsLive, IsRegisteredAt, IsNumber, IsAnswer, IsCanceled, MayFollow}
 use mathlib.Core.Logic.{dite}
 use native.Mathlib.Decide.{ℕ_discrete}
 use Rattle.pg_cancel.proofs.Histories.{Registers, Cancels, live_within, last_keeps, determined}
-use Rattle.pg_cancel.proofs.Places.{at_within, at_old, at_from_taken, some_and}
-use Rattle.pg_cancel.specs.Connections.{calls_of, is_register, before_last, IsTheAnswer}
+use Rattle.pg_cancel.proofs.Places.{at_within, at_old, at_from_taken, some_and, and_holds}
+use Rattle.pg_cancel.specs.Connections.{calls_of, is_register, before_last, entry, IsTheAnswer}
 use Rattle.pg_cancel.specs.Turns.{HasNoStray}
 use Rattle.pg_cancel.proofs.Prefixes.{prefix_get}
 
@@ -104,3 +105,28 @@ the_answer h n c a legal told =
 pub heard_by : (seen between : List Entry) (n : ℕ) (a : RegistryAnswer) → IsTheAnswer (seen ++ between) n Ask a → calls_of n between ≡ []
     → IsCanceled seen n → a ≡ Yes
 heard_by seen between n a told quiet c = sym ((told Yes).1 (canceled_on between seen n quiet c))
+
+-- what stands first among the elements that pass stands at some place
+first_passes : {A : Type 0} (p : A → Bool) (x : A) (xs : List A) (y : A) (rest : List A) (b : Bool) → p x ≡ b → filter p (x ∷ xs) ≡ y ∷ rest
+    → (filter p xs ≡ y ∷ rest → (k : ℕ) × (slice_get xs k ≡ Some y)) → (k : ℕ) × (slice_get (x ∷ xs) k ≡ Some y)
+first_passes p x xs y rest true is first others =
+    let here : x ∷ filter p xs ≡ y ∷ rest = sym (ap (λ b. cond b (x ∷ filter p xs) (filter p xs)) is) ∙ first in
+    let same : x ≡ y = cc (here) in (zero, ap (λ z. Some z) same)
+first_passes p x xs y rest false is first others =
+    let r = others (sym (ap (λ b. cond b (x ∷ filter p xs) (filter p xs)) is) ∙ first) in (suc r.0, r.1)
+
+pub first_place : {A : Type 0} (p : A → Bool) (xs : List A) (y : A) (rest : List A) → filter p xs ≡ y ∷ rest
+    → (k : ℕ) × (slice_get xs k ≡ Some y)
+first_place p [] y rest first = absurd (cc (first))
+first_place p (x ∷ xs) y rest first = first_passes p x xs y rest (p x) refl first (λ others. first_place p xs y rest others)
+
+-- in a legal history a number whose calls begin with its Register was registered so
+pub begins_registered : (h : List Entry) (n : ℕ) (pid : ℤ) (key : List ℕ) (rest : List Entry) → IsLegal h
+    → calls_of n h ≡ entry n (Register pid key) Registered ∷ rest → IsRegisteredAt h n pid key
+begins_registered h n pid key rest legal calls =
+    let e = entry n (Register pid key) Registered in
+    let at = first_place (λ (x : Entry). x.number == n) h e rest calls in
+    let within : at.0 < length h = at_within (λ x. x ≡ e) h at.0 (some_and (slice_get h at.0) e at.1) in
+    let own : n ≡ length (take at.0 h) = (legal at.0 e at.1).number in
+    let place : length (take at.0 h) ≡ at.0 = length-take-le at.0 h (omega arith) in
+    subst (λ k. IsRegisteredAt h k pid key) (sym (own ∙ place)) (and_holds (Registers pid key) (slice_get h at.0) e at.1 (refl, refl))

@@ -1,5 +1,5 @@
 -- What an event tells the caller.
-use Rattle.std.proofs.Common.{◌≡◌, ℕ, ℤ, Bool, true, false, List, [], ◌∷◌, ◌++◌, length, Some, inl, inr, ◌↔◌, Result, Ok, Err, IfOk, sym, refl, ap, ◌∙◌, subst}
+use Rattle.std.proofs.Common.{◌≡◌, ℕ, ℤ, Bool, true, false, List, [], ◌∷◌, ◌++◌, length, Option, Some, inl, inr, ◌↔◌, Result, Ok, Err, IfOk, sym, refl, ap, ◌∙◌, subst}
 use Rattle.std.proofs.lemmas.List.{append-nil, append_cancel_left}
 use Rattle.std.proofs.lemmas.List.Elements.{filter-append}
 use Rattle.std.specs.Prelude.{◌==◌}
@@ -10,34 +10,22 @@ use Rattle.pg_cancel.specs.declared.entries.RegistryCall.{RegistryCall}
 use Rattle.pg_cancel.specs.declared.entries.RegistryCall.TheVariants.{Register, Start, Ask, Cancel, Unregister}
 use Rattle.pg_cancel.specs.declared.entries.RegistryAnswer.{RegistryAnswer}
 use Rattle.pg_cancel.specs.declared.entries.RegistryAnswer.TheVariants.{Registered, Taken, Done, Yes, No}
+use Rattle.pg_cancel.specs.declared.roster.Roster.{Roster}
 use Rattle.pg_cancel.specs.declared.seat.View.{View}
 use Rattle.pg_cancel.specs.declared.manager.RegisterError.{RegisterError}
 use Rattle.pg_cancel.specs.declared.manager.RegisterError.TheVariants.{PidTaken, NoMemory}
-use Rattle.pg_cancel.specs.LegalHistory.{IsLegal, IsLive, HasPid, IsCanceled, IsAnswer, MayCall, entry_of}
+use Rattle.pg_cancel.specs.LegalHistory.{IsLegal, IsLive, IsLiveAs, HasPid, IsCanceled, IsAnswer, MayCall, entry_of}
+use Rattle.pg_cancel.specs.Index.{IsCaller}
 use Rattle.pg_cancel.specs.Connections.{calls_of, is_register, registers_of, entry, before_last, yes_if, Made, Registers, Begins}
-use Rattle.pg_cancel.specs.Turns.{Fits, holding, idle, called, entered, refused, grown, HasOut, IsFree, IsHandle, IsDoor, IsOpening, IsLeft, IsToldTo, MayMake}
-use Rattle.pg_cancel.proofs.Histories.{registered_lives}
-use Rattle.pg_cancel.proofs.Beginnings.{the_answer, before_of, heard_by}
-use Rattle.pg_cancel.proofs.Views.{called_fits, entered_fits, false_true, holding_fits}
+use Rattle.pg_cancel.specs.Turns.{Fits, holding, called, entered, refused, grown, HasOut, HasHappened, IsHolding, IsCalled, IsHandle, IsDoor, IsOpening, IsLeft, IsToldTo, MayMake}
+use Rattle.pg_cancel.proofs.Histories.{IsLegal-push, entry_follows, registered_once, registered_lives, stays_live}
+use Rattle.pg_cancel.proofs.Beginnings.{the_answer, before_of, heard_by, begins_registered}
+use Rattle.pg_cancel.proofs.Views.{Answered, called_fits, entered_fits, false_true, holding_fits}
 
 abbrev Sat : Type 0
-Sat = Me (List Entry) View
+Sat = Me Roster View
 
 -- ---- before a call
-
-pub may_call : (h : List Entry) (n : ℕ) (c : RegistryCall) → is_register c ≡ false → IsLive h n → MayCall h n c
-may_call h n (Register pid key) quiet live = absurd (cc (quiet))
-may_call h n Start quiet live = live
-may_call h n Ask quiet live = live
-may_call h n (Cancel pid key) quiet live = live
-may_call h n Unregister quiet live = live
-
-pub may_register : (h : List Entry) (n : ℕ) (c : RegistryCall) → is_register c ≡ true → MayCall h n c
-may_register h n (Register pid key) is = tt
-may_register h n Start is = false_true is
-may_register h n Ask is = false_true is
-may_register h n (Cancel pid key) is = false_true is
-may_register h n Unregister is = false_true is
 
 pub may_make : (v : View) (n : ℕ) (c : RegistryCall) → is_register c ≡ false → v.number ≡ Some n → v.is_live ≡ true → MayMake v n c
 may_make v n (Register pid key) quiet own live = absurd (cc (quiet))
@@ -138,24 +126,69 @@ left m m' h n Unregister a quiet was is x =
     let view : m'.0 ≡ called false (holding m.0 h) h (entry n Unregister a) = ap (λ (z : Sat). z.0) is in
     ((ap (λ (z : Sat). z.1) is, ap (λ (u : View). u.turn) view), ap (λ (u : View). u.is_door) view ∙ was.3)
 
--- the view before the turn, and after it was given back with nothing done
-as_idle : (m : Sat) → IsFree m → (idle m.0, []) ≡ m
-as_idle m free = λ i. (
-  record {
-    seen = m.0.seen;
-    told = m.0.told;
-    number = m.0.number;
-    mine = m.0.mine;
-    is_live = m.0.is_live;
-    is_door = m.0.is_door;
-    turn = sym free.1 i;
-  },
-  sym free.0 i,
-)
+-- who has the turn may make an event
+pub is_holding : (m : Sat) (v : View) (roster : Roster) → HasOut m v roster → IsHolding m roster
+is_holding m v roster x = record {
+  log = x.log;
+  left = x.left;
+  turn = ap (λ (z : Sat). z.0.turn) x.is;
+  slot = ap (λ (z : Sat). z.1) x.is;
+  right = x.right;
+  legal = x.legal;
+}
 
-pub released : (m out m' : Sat) (h : List Entry) → IsFree m → out.0 ≡ holding m.0 h → m' ≡ (idle out.0, []) → m' ≡ m
-released m out m' h free turn is =
-    let back : ◌≡◌ {A = Sat} (idle out.0, []) (idle m.0, []) = λ i. (idle (turn i), []) in is ∙ (back ∙ as_idle m free)
+-- the history in which a seat has the turn
+pub one_log : (m : Sat) (h k : List Entry) → m.0.turn ≡ Some h → m.0.turn ≡ Some k → h ≡ k
+one_log m h k first second = let e : ◌≡◌ {A = Option (List Entry)} (Some h) (Some k) = sym first ∙ second in cc (e)
+
+-- a handle's number has its pid in the history
+caller : (h : List Entry) (n : ℕ) (pid : ℤ) (c : RegistryCall) → HasPid h n pid → IsCaller h n pid c
+caller h n pid (Register p key) has = tt
+caller h n pid Start has = has
+caller h n pid Ask has = has
+caller h n pid (Cancel p key) has = has
+caller h n pid Unregister has = has
+
+pub calls_of_handle : (m out : Sat) (roster : Roster) (n : ℕ) (pid : ℤ) (key : List ℕ) (c : RegistryCall) → IsHandle m n
+    → Begins m.0.mine n pid key → HasOut out m.0 roster → IsCalled out n pid c
+calls_of_handle m out roster n pid key c handle begins x log has =
+    let same : x.log ≡ log = one_log out x.log log (ap (λ (z : Sat). z.0.turn) x.is) has in
+    let own = x.fits.own n handle.1 in
+    let live = own.live handle.2 in
+    let registered = begins_registered x.log n pid key begins.0 x.legal (own.all ∙ begins.1) in
+    let pids : live.0 ≡ pid = (registered_once x.log n live.0 pid live.1 key live.2.registered registered).0 in
+    let here : HasPid x.log n pid = (live.1, subst (λ p. IsLiveAs x.log n p live.1) pids live.2) in
+    subst (λ h. IsCaller h n pid c) same (caller x.log n pid c here)
+
+pub calls_of_door : (m : Sat) (n : ℕ) (pid : ℤ) (c : RegistryCall) → is_register c ≡ true → IsCalled m n pid c
+calls_of_door m n pid (Register p key) is log has = tt
+calls_of_door m n pid Start is log has = false_true is
+calls_of_door m n pid Ask is log has = false_true is
+calls_of_door m n pid (Cancel p key) is log has = false_true is
+calls_of_door m n pid Unregister is log has = false_true is
+
+-- what the entry of a call leaves
+caller_may : (h : List Entry) (n : ℕ) (pid : ℤ) (c : RegistryCall) → IsCaller h n pid c → MayCall h n c
+caller_may h n pid (Register p key) is = tt
+caller_may h n pid Start is = (pid, is.0, is.1)
+caller_may h n pid Ask is = (pid, is.0, is.1)
+caller_may h n pid (Cancel p key) is = (pid, is.0, is.1)
+caller_may h n pid Unregister is = (pid, is.0, is.1)
+
+lives : (h : List Entry) (n : ℕ) (c : RegistryCall) (a : RegistryAnswer) → IsAnswer h n c a → a ≡ Registered
+    → IsLive (h ++ entry_of h n c a ∷ []) (length h)
+lives h n c a told same =
+    let here = registered_lives h n c (subst (λ x. IsAnswer h n c x) same told) in
+    subst (λ x. IsLive (h ++ entry_of h n c x ∷ []) (length h)) (sym same) here
+
+pub answered : (h : List Entry) (n : ℕ) (pid : ℤ) (c : RegistryCall) (a : RegistryAnswer) → IsLegal h → IsCaller h n pid c → IsAnswer h n c a
+    → Answered h n c a
+answered h n pid c a legal is told = record {
+  legal = IsLegal-push h (entry_of h n c a) legal (entry_follows h n c a (caller_may h n pid c is) told);
+  told = told;
+  stays = λ k live other. stays_live h n k c a other live;
+  lives = λ same. lives h n c a told same;
+}
 
 -- which answers a call has
 pub only_done : (h : List Entry) (n : ℕ) (a : RegistryAnswer) → IsAnswer h n Start a → a ≡ Done
@@ -175,27 +208,41 @@ told_to h n (Cancel pid key) _ x = absurd x
 told_to h n Unregister Done x = refl
 told_to h n Unregister _ x = absurd x
 
+pub only_registered : (h : List Entry) (n : ℕ) (c : RegistryCall) (a : RegistryAnswer) → is_register c ≡ true → IsAnswer h n c a
+    → (a ≡ Registered → ⊥) → ((m : ℕ) → a ≡ Taken m → ⊥) → ⊥
+only_registered h n (Register pid key) Registered is told one two = one refl
+only_registered h n (Register pid key) (Taken m) is told one two = two m refl
+only_registered h n (Register pid key) _ is told one two = absurd told
+only_registered h n Start a is told one two = false_true is
+only_registered h n Ask a is told one two = false_true is
+only_registered h n (Cancel pid key) a is told one two = false_true is
+only_registered h n Unregister a is told one two = false_true is
+
 -- the answer, where it is known to be another name for this one
 pub made_as : (n : ℕ) (c : RegistryCall) (seen mine seen' mine' : List Entry) (a b : RegistryAnswer) → a ≡ b
     → Made n c seen mine seen' mine' a → Made n c seen mine seen' mine' b
 made_as n c seen mine seen' mine' a b same made = subst (λ x. Made n c seen mine seen' mine' x) same made
 
 -- what a call of a handle's seat ensures
-pub call_ensures : (m out m' : Sat) (h : List Entry) (n : ℕ) (c : RegistryCall) (r : Result RegistryAnswer AllocError)
-    → is_register c ≡ false → IsHandle m n
-    → Fits h m.0 → IsLegal h → HasOut out m.0 h → IfOk r (λ a. m' ≡ (grown out.0 h (entry_of h n c a), []))
-    → IfOk r (λ a. IsLegal (h ++ entry_of h n c a ∷ [])) → IfOk r (IsAnswer h n c)
+pub call_ensures : (m out m' : Sat) (roster : Roster) (n : ℕ) (c : RegistryCall) (r : Result RegistryAnswer AllocError)
+    → is_register c ≡ false → IsHandle m n → HasOut out m.0 roster → IfOk r (HasHappened out n c m')
     → IfOk r (λ a. IsLeft m' n c × Made n c m.0.seen m.0.mine m'.0.seen m'.0.mine a)
-call_ensures m out m' h n c (Ok a) quiet handle f was turn is legal told =
-    let x = asked m.0 h n c a quiet handle.1 f was legal told in
-    let now : m' ≡ (grown (holding m.0 h) h (entry_of h n c a), []) = is ∙ ap (λ (z : Sat). (grown z.0 h (entry_of h n c a), [])) turn in
-    let made = call_made m.0 m'.0 h n c a x (ap (λ (z : Sat). z.0) now) in (left m m' h n c a quiet handle now made, made)
-call_ensures m out m' h n c (Err e) quiet handle f was turn is legal told = tt
+call_ensures m out m' roster n c (Ok a) quiet handle turn happened =
+    let h = turn.log in
+    let has : out.0.turn ≡ Some h = ap (λ (z : Sat). z.0.turn) turn.is in
+    let x = happened h has in
+    let a_call = asked m.0 h n c a quiet handle.1 turn.fits turn.legal x.legal x.told in
+    let now : m' ≡ (grown (holding m.0 h) h (entry_of h n c a), []) =
+    x.is ∙ ap (λ (z : Sat). (grown z.0 h (entry_of h n c a), [])) turn.is in
+    let made = call_made m.0 m'.0 h n c a a_call (ap (λ (z : Sat). z.0) now) in (left m m' h n c a quiet handle now made, made)
+call_ensures m out m' roster n c (Err e) quiet handle turn happened = tt
 
-pub told_ensures : (h : List Entry) (n : ℕ) (c : RegistryCall) (r : Result RegistryAnswer AllocError) → IfOk r (IsAnswer h n c)
-    → IfOk r (IsToldTo c)
-told_ensures h n c (Ok a) told = told_to h n c a told
-told_ensures h n c (Err e) told = tt
+pub told_ensures : (m out m' : Sat) (roster : Roster) (n : ℕ) (c : RegistryCall) (r : Result RegistryAnswer AllocError)
+    → HasOut out m.0 roster → IfOk r (HasHappened out n c m') → IfOk r (IsToldTo c)
+told_ensures m out m' roster n c (Ok a) turn happened =
+    let has : out.0.turn ≡ Some turn.log = ap (λ (z : Sat). z.0.turn) turn.is in
+    told_to turn.log n c a (happened turn.log has).told
+told_ensures m out m' roster n c (Err e) turn happened = tt
 
 -- right answers are those of the history before the last entry
 pub exactly_made : (n : ℕ) (c : RegistryCall) (seen mine seen' mine' : List Entry) (a b : RegistryAnswer) → Made n c seen mine seen' mine' a

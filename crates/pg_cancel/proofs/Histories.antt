@@ -1,14 +1,15 @@
 -- Laws of legal histories: what one more entry changes, and that the answer to a call is determined.
-use Rattle.std.proofs.Common.{◌≡◌, ◌↔◌, ◌⊎◌, ℕ, ◌+◌, ◌<◌, ◌≤◌, ℤ, List, [], ◌∷◌, ◌++◌, length, take, slice_get, inl, inr, refl, ap, sym, subst, arith, length-append}
+use Rattle.std.proofs.Common.{◌≡◌, ◌↔◌, ◌⊎◌, ℕ, ◌+◌, ◌<◌, ◌≤◌, ℤ, List, [], ◌∷◌, ◌++◌, length, Option, Some, take, slice_get, inl, inr, refl, ap, sym, subst, arith, length-append}
 use Rattle.std.proofs.Math.Seq.{take-append_seam}
 use Rattle.std.proofs.lemmas.List.{take-append-le}
+use Rattle.std.specs.List.{last_or}
 use mathlib.Core.Logic.{⊎_elim}
 use Rattle.pg_cancel.specs.declared.entries.Entry.{Entry}
 use Rattle.pg_cancel.specs.declared.entries.RegistryCall.{RegistryCall}
 use Rattle.pg_cancel.specs.declared.entries.RegistryCall.TheVariants.{Register, Start, Ask, Cancel, Unregister}
 use Rattle.pg_cancel.specs.declared.entries.RegistryAnswer.{RegistryAnswer}
 use Rattle.pg_cancel.specs.declared.entries.RegistryAnswer.TheVariants.{Registered, Taken, Done, Yes, No}
-use Rattle.pg_cancel.specs.LegalHistory.{IsCallAt, IsRegisteredAt, IsLiveAs, IsLive, HasPid, IsLastStart, IsNumber, IsAnswer, MayFollow, IsLegal, MayCall, entry_of}
+use Rattle.pg_cancel.specs.LegalHistory.{IsCallAt, IsRegisteredAt, IsLiveAs, IsLive, IsLastStart, IsNumber, IsAnswer, MayFollow, IsLegal, MayCall, entry_of}
 use Rattle.pg_cancel.proofs.Places.{at_within, at_old, at_new, at_either, at_taken, at_from_taken, some_and, some_from, the_value, both}
 
 -- the facts that a registered place, a call at a place and a cancel at a place are about
@@ -180,12 +181,11 @@ last_new h e n starts = record {
 
 -- ---- who is live after one more entry
 
--- a Register is told that a place is taken exactly where that is the place of the pid's live registration
-pub taken_when : (h : List Entry) (n : ℕ) (pid : ℤ) (key : List ℕ) (m : ℕ) (a : RegistryAnswer) → IsLegal h → IsAnswer h n (Register pid key) a → (a ≡ Taken m) ↔ HasPid h m pid
-taken_when h n pid key m a legal x =
-    let told : a ≡ Taken m → HasPid h m pid = λ same. subst (λ b. IsAnswer h n (Register pid key) b) same x in
-    let back : HasPid h m pid → a ≡ Taken m = λ holder. determined h n (Register pid key) a (Taken m) legal x holder in
-    (told, back)
+-- an answer is the right one exactly where it was given
+pub answered_when : (h : List Entry) (n : ℕ) (c d : RegistryCall) (a b : RegistryAnswer) → IsLegal h → IsAnswer h n c a → c ≡ d → (a ≡ b) ↔ IsAnswer h n d b
+answered_when h n c d a b legal told same =
+    let x : IsAnswer h n d a = subst (λ y. IsAnswer h n y a) same told in
+    (λ is. subst (λ y. IsAnswer h n d y) is x, λ right. determined h n d a b legal x right)
 
 pub registered_lives : (h : List Entry) (n : ℕ) (c : RegistryCall) → IsAnswer h n c Registered → IsLive (h ++ entry_of h n c Registered ∷ []) (length h)
 registered_lives h n (Register pid key) x =
@@ -206,3 +206,9 @@ no_end h n k Unregister a other ends = other (refl, ends.0)
 pub stays_live : (h : List Entry) (n k : ℕ) (c : RegistryCall) (a : RegistryAnswer) → ((c ≡ Unregister) × (n ≡ k) → ⊥) → IsLive h k → IsLive (h ++ entry_of h n c a ∷ []) k
 stays_live h n k c a other live =
     (live.0, live.1, live_keeps h (entry_of h n c a) k live.0 live.1 (no_end h n k c a other) live.2)
+
+-- ---- the last entry
+
+pub last_pushed : (o : Option Entry) (h : List Entry) (e : Entry) → last_or o (h ++ e ∷ []) ≡ Some e
+last_pushed o [] e = refl
+last_pushed o (x ∷ xs) e = last_pushed (Some x) xs e

@@ -86,9 +86,9 @@ quiet_at h e pid None quiet x = λ taken.
     (λ new. quiet.registers taken.1.0 new.1)
     (live_was h e taken.0 pid taken.1.0 taken.1.1)
 quiet_at h e pid (Some holder) quiet x = record {
-  key = x.key;
-  live = live_keeps h e holder.number pid x.key (quiet.ends holder.number x.key x.live) x.live;
-  query = query_keeps h e holder.number pid x.key holder.query (quiet.starts holder.number x.key x.live) (quiet.cancels holder.number x.key x.live) x.query;
+  live = live_keeps h e holder.number pid holder.key (quiet.ends holder.number holder.key x.live) x.live;
+  query = query_keeps h e holder.number pid holder.key holder.query (quiet.starts holder.number holder.key x.live)
+      (quiet.cancels holder.number holder.key x.live) x.query;
 }
 
 updated_by : (P : ℤ → Option Holder → Type 0) (m n : BTreeMap ℤ Holder) (pid : ℤ) (w : Option Holder) (q : ℤ) (b : Bool) → is_at (int_cmp pid) q ≡ b → get int_cmp n q ≡ cond b w (get int_cmp m q) → P pid w → ((q : ℤ) → q ≢ pid → P q (get int_cmp m q)) → P q (get int_cmp n q)

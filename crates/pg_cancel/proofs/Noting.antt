@@ -1,7 +1,8 @@
 -- Each call's answer is right, and the index follows the history.
-use Rattle.std.proofs.Common.{◌≡◌, ℕ, ◌<◌, ℤ, List, [], ◌∷◌, ◌++◌, length, get_or, slice_get, bytes_eq, Bool, IsTrue, nat_eq, ◌↔◌, cond, Option, Some, None, IsSome, FitsSigned, Result, Ok, Err, IfOk, ◌∙◌, refl, ap, sym, subst, arith}
+use Rattle.std.proofs.Common.{◌≡◌, ℕ, ◌<◌, ◌≤◌, ◌^◌, ℤ, List, [], ◌∷◌, ◌++◌, length, get_or, slice_get, IsTrue, nat_eq, ◌↔◌, cond, Option, Some, None, IsSome, FitsSigned, Result, Ok, Err, IfOk, ◌∙◌, refl, ap, sym, subst, arith}
 use Rattle.std.specs.Ordering.{int_cmp}
-use Rattle.std.specs.BTreeMap.{BTreeMap, get, is_at, WritesThrough}
+use Rattle.std.specs.BTreeMap.{BTreeMap, get, is_at, IsUnchanged, WritesThrough}
+use Rattle.std.specs.Map.{lookup}
 use Rattle.std.proofs.lemmas.Int.{to_z-of_z}
 use Rattle.std.proofs.Common.{to_z, of_z, w32}
 use mathlib.Core.Logic.{⊎_elim}
@@ -15,13 +16,13 @@ use Rattle.pg_cancel.specs.declared.holders.Holder.{Holder}
 use Rattle.pg_cancel.specs.declared.holders.Holders.{Holders}
 use Rattle.pg_cancel.specs.declared.holders.Query.{Query}
 use Rattle.pg_cancel.specs.declared.holders.Query.TheVariants.{Unstarted, Running, Canceled}
+use Rattle.pg_cancel.specs.declared.roster.Roster.{Roster}
 use Rattle.pg_cancel.specs.LegalHistory.{IsRegisteredAt, IsLiveAs, IsLive, HasPid, IsTaken, IsConnected, IsLegal, IsAnswer}
-use Rattle.pg_cancel.specs.Index.{IsKeyOf, IsQuery, answer_of, canceled, Holds, IsEntryAt, Notes}
-use Rattle.pg_cancel.proofs.Histories.{Registers, Calls, registered_once, one_holder, live_within, start_within, live_keeps, live_was, live_new, live_ended}
+use Rattle.pg_cancel.specs.Index.{IsQuery, answer_of, canceled, Holds, IsEntryAt, Notes, MayAsk, IsCaller, NotesAny, IsRosterOf, IsSameRoster}
+use Rattle.pg_cancel.proofs.Histories.{Registers, Calls, Cancels, registered_once, one_holder, live_within, start_within, live_keeps, live_was, live_new, live_ended}
 use Rattle.std.proofs.lemmas.Option.{get_or_from_slice_get}
 use Rattle.std.proofs.lemmas.Bool.Decides.{Decides-eqb}
-use Rattle.std.proofs.lemmas.Slice.Eq.{bytes_eq-Decides}
-use Rattle.pg_cancel.proofs.Places.{at_either, the_value, and_holds}
+use Rattle.pg_cancel.proofs.Places.{at_either, the_value}
 use Rattle.pg_cancel.proofs.Indexing.{IsCanceled-from_query, not_canceled_unstarted, not_canceled_running, query_starts, query_canceled, Quiet, quiet_at, updated}
 
 -- the map is an index of the history
@@ -47,7 +48,7 @@ one_pid h m n p q j k first second same =
 -- a holder's number is that of the live registration
 one_number : (h : List Entry) (number : ℕ) (pid : ℤ) (holder : Holder) → IsLegal h → HasPid h number pid → Holds h pid holder → holder.number ≡ number
 one_number h number pid holder legal live holds =
-    one_holder h holder.number number pid holds.key live.0 legal holds.live live.1
+    one_holder h holder.number number pid holder.key live.0 legal holds.live live.1
 
 -- an entry that is quiet at each pid leaves the index
 keeps_index : (h : List Entry) (e : Entry) (m : BTreeMap ℤ Holder) → ((q : ℤ) → Quiet h e q) → Indexes h m → Indexes (h ++ e ∷ []) m
@@ -60,7 +61,7 @@ notes_taken h m pid holder index at number key =
     let holds = found h m pid holder index at in
     let e : Entry = record { number = length h; call = Register pid key; answer = Taken holder.number } in
     record {
-      told = (holds.key, holds.live);
+      told = (holder.key, holds.live);
       noted = keeps_index h e m
           (λ q. record {
             registers = λ k r. let no : ◌≡◌ {A = RegistryAnswer} (Taken holder.number) Registered = r.1 in cc (no);
@@ -71,12 +72,11 @@ notes_taken h m pid holder index at number key =
           index;
     }
 
-pub notes_registered : (h : List Entry) (m n : BTreeMap ℤ Holder) (pid : ℤ) → IsLegal h → Indexes h m → get int_cmp m pid ≡ None → Changes m n pid (Some (record { number = length h; query = Unstarted })) → (number : ℕ) (key : List ℕ) → Notes h number (Register pid key) (record { by_pid = n }) Registered
-notes_registered h m n pid legal index at changes number key =
+pub notes_registered : (h : List Entry) (m n : BTreeMap ℤ Holder) (pid : ℤ) (key : List ℕ) → IsLegal h → Indexes h m → get int_cmp m pid ≡ None → Changes m n pid (Some (record { number = length h; key = key; query = Unstarted })) → (number : ℕ) → Notes h number (Register pid key) (record { by_pid = n }) Registered
+notes_registered h m n pid key legal index at changes number =
     let e : Entry = record { number = length h; call = Register pid key; answer = Registered } in
-    let holder : Holder = record { number = length h; query = Unstarted } in
+    let holder : Holder = record { number = length h; key = key; query = Unstarted } in
     let here : Holds (h ++ e ∷ []) pid holder = record {
-      key = key;
       live = live_new h e pid key (refl, refl);
       query = λ k called.
           ⊎_elim
@@ -98,19 +98,18 @@ notes_registered h m n pid legal index at changes number key =
 
 -- ---- Start
 
-pub notes_start : (h : List Entry) (m n : BTreeMap ℤ Holder) (number : ℕ) (pid : ℤ) (holder : Holder) → IsLegal h → Indexes h m → HasPid h number pid → get int_cmp m pid ≡ Some holder → Changes m n pid (Some (record { number = holder.number; query = Running })) → Notes h number Start (record { by_pid = n }) Done
+pub notes_start : (h : List Entry) (m n : BTreeMap ℤ Holder) (number : ℕ) (pid : ℤ) (holder : Holder) → IsLegal h → Indexes h m → HasPid h number pid → get int_cmp m pid ≡ Some holder → Changes m n pid (Some (record { number = holder.number; key = holder.key; query = Running })) → Notes h number Start (record { by_pid = n }) Done
 notes_start h m n number pid holder legal index live at changes =
     let e : Entry = record { number = number; call = Start; answer = Done } in
     let holds = found h m pid holder index at in
     let same = one_number h number pid holder legal live holds in
-    let here : Holds (h ++ e ∷ []) pid (record { number = holder.number; query = Running }) = record {
-      key = holds.key;
-      live = live_keeps h e holder.number pid holds.key (λ r. let no : ◌≡◌ {A = RegistryCall} Start Unregister = r.1 in cc (no)) holds.live;
-      query = query_starts h e holder.number pid holds.key (sym same, refl);
+    let here : Holds (h ++ e ∷ []) pid (record { number = holder.number; key = holder.key; query = Running }) = record {
+      live = live_keeps h e holder.number pid holder.key (λ r. let no : ◌≡◌ {A = RegistryCall} Start Unregister = r.1 in cc (no)) holds.live;
+      query = query_starts h e holder.number pid holder.key (sym same, refl);
     } in
     record {
       told = tt;
-      noted = updated (IsEntryAt (h ++ e ∷ [])) m n pid (Some (record { number = holder.number; query = Running })) changes here
+      noted = updated (IsEntryAt (h ++ e ∷ [])) m n pid (Some (record { number = holder.number; key = holder.key; query = Running })) changes here
           (λ q apart. quiet_at h e q (get int_cmp m q) (record {
             registers = λ k r. let no : ◌≡◌ {A = RegistryCall} Start (Register q k) = r.0 in cc (no);
             starts = λ i k l r. apart (one_pid h number i pid q live.0 k live.1 l r.0);
@@ -133,10 +132,10 @@ notes_asked h m number pid holder legal index live at =
     let e : Entry = record { number = number; call = Ask; answer = answer_of holder.query } in
     let holds = found h m pid holder index at in
     let same = one_number h number pid holder legal live holds in
-    let registered = subst (λ i. IsRegisteredAt h i pid holds.key) same holds.live.registered in
-    let query = subst (λ i. IsQuery h i pid holds.key holder.query) same holds.query in
+    let registered = subst (λ i. IsRegisteredAt h i pid holder.key) same holds.live.registered in
+    let query = subst (λ i. IsQuery h i pid holder.key holder.query) same holds.query in
     record {
-      told = answer_is h number pid holds.key holder.query registered query;
+      told = answer_is h number pid holder.key holder.query registered query;
       noted = keeps_index h e m
           (λ q. record {
             registers = λ k r. let no : ◌≡◌ {A = RegistryCall} Ask (Register q k) = r.0 in cc (no);
@@ -149,27 +148,18 @@ notes_asked h m number pid holder legal index live at =
 
 -- ---- Cancel
 
--- the key of n, which has the pid, is the key of n and the pid
-key_with_pid : (h : List Entry) (n : ℕ) (pid : ℤ) (j k : List ℕ) → IsRegisteredAt h n pid j → IsKeyOf h n k → IsRegisteredAt h n pid k
-key_with_pid h n pid j k registered key =
-    subst (λ p. IsRegisteredAt h n p k) (registered_once h n key.0 pid k j key.1 registered).0 key.1
-
-pub notes_canceled : (h : List Entry) (m n : BTreeMap ℤ Holder) (pid : ℤ) (key : List ℕ) (holder : Holder) → Indexes h m → get int_cmp m pid ≡ Some holder → IsKeyOf h holder.number key → Changes m n pid (Some (record { number = holder.number; query = canceled holder.query })) → (number : ℕ) → Notes h number (Cancel pid key) (record { by_pid = n }) Yes
-notes_canceled h m n pid key holder index at is_key changes number =
+pub notes_canceled : (h : List Entry) (m n : BTreeMap ℤ Holder) (pid : ℤ) (key : List ℕ) (holder : Holder) → Indexes h m → get int_cmp m pid ≡ Some holder → holder.key ≡ key → Changes m n pid (Some (record { number = holder.number; key = holder.key; query = canceled holder.query })) → (number : ℕ) → Notes h number (Cancel pid key) (record { by_pid = n }) Yes
+notes_canceled h m n pid key holder index at same changes number =
     let e : Entry = record { number = number; call = Cancel pid key; answer = Yes } in
     let holds = found h m pid holder index at in
-    let registered = key_with_pid h holder.number pid holds.key key holds.live.registered is_key in
-    let same : holds.key ≡ key = (registered_once h holder.number pid pid holds.key key holds.live.registered registered).1 in
-    let live : IsLiveAs h holder.number pid key = subst (λ k. IsLiveAs h holder.number pid k) same holds.live in
-    let query : IsQuery h holder.number pid key holder.query = subst (λ k. IsQuery h holder.number pid k holder.query) same holds.query in
-    let here : Holds (h ++ e ∷ []) pid (record { number = holder.number; query = canceled holder.query }) = record {
-      key = key;
-      live = live_keeps h e holder.number pid key (λ r. let no : ◌≡◌ {A = RegistryCall} (Cancel pid key) Unregister = r.1 in cc (no)) live;
-      query = query_canceled h e holder.number pid key holder.query refl query;
+    let by_key : Cancels pid holder.key e = ap (λ k. Cancel pid k) (sym same) in
+    let here : Holds (h ++ e ∷ []) pid (record { number = holder.number; key = holder.key; query = canceled holder.query }) = record {
+      live = live_keeps h e holder.number pid holder.key (λ r. let no : ◌≡◌ {A = RegistryCall} (Cancel pid key) Unregister = r.1 in cc (no)) holds.live;
+      query = query_canceled h e holder.number pid holder.key holder.query by_key holds.query;
     } in
     record {
-      told = (holder.number, live);
-      noted = updated (IsEntryAt (h ++ e ∷ [])) m n pid (Some (record { number = holder.number; query = canceled holder.query })) changes here
+      told = (holder.number, subst (λ k. IsLiveAs h holder.number pid k) same holds.live);
+      noted = updated (IsEntryAt (h ++ e ∷ [])) m n pid (Some (record { number = holder.number; key = holder.key; query = canceled holder.query })) changes here
           (λ q apart. quiet_at h e q (get int_cmp m q) (record {
             registers = λ k r. let no : ◌≡◌ {A = RegistryCall} (Cancel pid key) (Register q k) = r.0 in cc (no);
             starts = λ i k l r. let no : ◌≡◌ {A = RegistryCall} (Cancel pid key) Start = r.1 in cc (no);
@@ -201,10 +191,12 @@ notes_unmet h m pid key index none number =
 pub not_connected_free : (h : List Entry) (pid : ℤ) (key : List ℕ) → (IsTaken h pid → ⊥) → IsConnected h pid key → ⊥
 not_connected_free h pid key free connected = free (connected.0, (key, connected.1))
 
-pub not_connected_key : (h : List Entry) (m : BTreeMap ℤ Holder) (pid : ℤ) (key : List ℕ) (holder : Holder) → IsLegal h → Indexes h m → get int_cmp m pid ≡ Some holder → (IsKeyOf h holder.number key → ⊥) → IsConnected h pid key → ⊥
+pub not_connected_key : (h : List Entry) (m : BTreeMap ℤ Holder) (pid : ℤ) (key : List ℕ) (holder : Holder) → IsLegal h → Indexes h m → get int_cmp m pid ≡ Some holder → (holder.key ≡ key → ⊥) → IsConnected h pid key → ⊥
 not_connected_key h m pid key holder legal index at other connected =
-    let same = one_number h connected.0 pid holder legal (key, connected.1) (found h m pid holder index at) in
-    other (pid, subst (λ i. IsRegisteredAt h i pid key) (sym same) connected.1.registered)
+    let holds = found h m pid holder index at in
+    let same = one_number h connected.0 pid holder legal (key, connected.1) holds in
+    let here = subst (λ i. IsRegisteredAt h i pid key) (sym same) connected.1.registered in
+    other (registered_once h holder.number pid pid holder.key key holds.live.registered here).1
 
 -- ---- Unregister
 
@@ -253,16 +245,6 @@ pub changed_at : (m n : BTreeMap ℤ Holder) (pid : ℤ) (w : Option Holder) →
 changed_at m n pid w fits changes =
     subst (λ p. Changes m n p w) (to_z-of_z w32 pid fits) changes
 
--- whether a live registration has the key, by the call that stands at its place
-pub key_matches : (h : List Entry) (n : ℕ) (d : Entry) (p pid : ℤ) (held k key : List ℕ) (r : Bool) → (get_or h n d).call ≡ Register p held → IsLiveAs h n pid k → r ≡ bytes_eq held key → IsTrue r ↔ IsKeyOf h n key
-key_matches h n d p pid held k key r is live tested =
-    let t = the_value (Registers pid k) (slice_get h n) live.registered in
-    let call : t.0.call ≡ Register p held = subst (λ (e : Entry). e.call ≡ Register p held) (get_or_from_slice_get h n t.0 d t.1) is in
-    let registered : IsRegisteredAt h n p held = and_holds (Registers p held) (slice_get h n) t.0 t.1 (call, t.2.1) in
-    let yes : IsTrue r → IsKeyOf h n key = λ true_is. (p, subst (λ x. IsRegisteredAt h n p x) ((bytes_eq-Decides held key).0 (sym tested ∙ true_is)) registered) in
-    let back : IsKeyOf h n key → IsTrue r = λ is_key. tested ∙ (bytes_eq-Decides held key).1 (registered_once h n p is_key.0 held key registered is_key.1).1 in
-    (yes, back)
-
 -- ---- whether a registration is live
 
 -- the pid of a live registration, by the call that stands at its place
@@ -277,10 +259,10 @@ same_pid h n d pid p key k is live =
 pub live_by_holder : (h : List Entry) (m : BTreeMap ℤ Holder) (n : ℕ) (d : Entry) (pid : ℤ) (key : List ℕ) (holder : Holder) → IsLegal h → Indexes h m → (get_or h n d).call ≡ Register pid key → get int_cmp m pid ≡ Some holder → IsTrue (nat_eq holder.number n) ↔ IsLive h n
 live_by_holder h m n d pid key holder legal index is at =
     let holds = found h m pid holder index at in
-    let yes : IsTrue (nat_eq holder.number n) → IsLive h n = λ true_is. subst (λ i. IsLive h i) ((Decides-eqb holder.number n).0 true_is) (pid, holds.key, holds.live) in
+    let yes : IsTrue (nat_eq holder.number n) → IsLive h n = λ true_is. subst (λ i. IsLive h i) ((Decides-eqb holder.number n).0 true_is) (pid, holder.key, holds.live) in
     let back : IsLive h n → IsTrue (nat_eq holder.number n) = λ live.
     let here : IsLiveAs h n pid live.1 = subst (λ p. IsLiveAs h n p live.1) (same_pid h n d pid live.0 key live.1 is live.2) live.2 in
-    (Decides-eqb holder.number n).1 (one_holder h holder.number n pid holds.key live.1 legal holds.live here) in
+    (Decides-eqb holder.number n).1 (one_holder h holder.number n pid holder.key live.1 legal holds.live here) in
     (yes, back)
 
 pub live_by_none : (h : List Entry) (m : BTreeMap ℤ Holder) (n : ℕ) (d : Entry) (pid : ℤ) (key : List ℕ) → Indexes h m → (get_or h n d).call ≡ Register pid key → get int_cmp m pid ≡ None → IsLive h n → ⊥
@@ -288,12 +270,58 @@ live_by_none h m n d pid key index is at live =
     let here : IsLiveAs h n pid live.1 = subst (λ p. IsLiveAs h n p live.1) (same_pid h n d pid live.0 key live.1 is live.2) live.2 in
     missing h m pid index at (n, (live.1, here))
 
--- the notes of a Register and of a Cancel, at the call that was made
-pub notes_as_register : (h : List Entry) (n : ℕ) (c : RegistryCall) (pid : ℤ) (key : List ℕ) (holders : Holders) (r : Result RegistryAnswer AllocError) → FitsSigned w32 pid → c ≡ Register pid key → IfOk r (λ a. (number : ℕ) (k : List ℕ) → Notes h number (Register (to_z w32 (of_z w32 pid)) k) holders a) → IfOk r (Notes h n c holders)
-notes_as_register h n c pid key holders (Ok a) fits same notes =
-    subst (λ d. Notes h n d holders a) (sym same) (subst (λ p. Notes h n (Register p key) holders a) (to_z-of_z w32 pid fits) (notes n key))
-notes_as_register h n c pid key holders (Err e) fits same notes = tt
+-- ---- the notes after any history
 
-pub notes_as_cancel : (h : List Entry) (n : ℕ) (c : RegistryCall) (pid : ℤ) (key : List ℕ) (holders : Holders) (a : RegistryAnswer) → FitsSigned w32 pid → c ≡ Cancel pid key → ((number : ℕ) → Notes h number (Cancel (to_z w32 (of_z w32 pid)) key) holders a) → Notes h n c holders a
-notes_as_cancel h n c pid key holders a fits same notes =
-    subst (λ d. Notes h n d holders a) (sym same) (subst (λ p. Notes h n (Cancel p key) holders a) (to_z-of_z w32 pid fits) (notes n))
+-- the notes of a call, under the name that it was made by
+pub notes_as : (old new : Holders) (place : ℕ) (p q : ℤ) (c d : RegistryCall) (a : RegistryAnswer) → p ≡ q → c ≡ d → NotesAny old place p c new a → NotesAny old place q d new a
+notes_as old new place p q c d a pid call notes =
+    subst (λ x. NotesAny old place q x new a) call (subst (λ x. NotesAny old place x c new a) pid notes)
+
+-- those of a Register and of a Cancel, which are anybody's
+pub register_as : (old new : Holders) (place : ℕ) (p q caller : ℤ) (key : List ℕ) (c : RegistryCall) (r : Result RegistryAnswer AllocError) → p ≡ q → c ≡ Register q key → IfOk r (NotesAny old place p (Register p key) new) → IfOk r (NotesAny old place caller c new)
+register_as old new place p q caller key c (Ok a) pid call notes =
+    let here : NotesAny old place caller (Register p key) new a = notes in
+    subst (λ x. NotesAny old place caller x new a) (ap (λ x. Register x key) pid ∙ sym call) here
+register_as old new place p q caller key c (Err e) pid call notes = tt
+
+pub cancel_as : (old new : Holders) (place : ℕ) (p q caller : ℤ) (key : List ℕ) (c : RegistryCall) (a : RegistryAnswer) → p ≡ q → c ≡ Cancel q key → NotesAny old place caller (Cancel p key) new a → NotesAny old place caller c new a
+cancel_as old new place p q caller key c a pid call notes =
+    subst (λ x. NotesAny old place caller x new a) (ap (λ x. Cancel x key) pid ∙ sym call) notes
+
+-- the pid of a call's registration is held
+pub held_of : (holders : Holders) (pid : ℤ) (c d : RegistryCall) → c ≡ d → MayAsk holders pid c → MayAsk holders pid d
+held_of holders pid c d same may = subst (λ x. MayAsk holders pid x) same may
+
+is_held : (h : List Entry) (n : ℕ) (pid : ℤ) (o : Option Holder) → IsEntryAt h pid o → HasPid h n pid → IsSome o
+is_held h n pid None none has = absurd (none (n, has))
+is_held h n pid (Some holder) holds has = refl
+
+-- a live registration is in the index
+pub may_ask : (h : List Entry) (n : ℕ) (pid : ℤ) (c : RegistryCall) (holders : Holders) → Indexes h holders.by_pid → IsCaller h n pid c → MayAsk holders pid c
+may_ask h n pid (Register p key) holders index is = tt
+may_ask h n pid Start holders index is = is_held h n pid (get int_cmp holders.by_pid pid) (index pid) is
+may_ask h n pid Ask holders index is = is_held h n pid (get int_cmp holders.by_pid pid) (index pid) is
+may_ask h n pid (Cancel p key) holders index is = is_held h n pid (get int_cmp holders.by_pid pid) (index pid) is
+may_ask h n pid Unregister holders index is = is_held h n pid (get int_cmp holders.by_pid pid) (index pid) is
+
+-- a pid that is held has a holder
+pub none_held : {X : Type 0} (o : Option Holder) → o ≡ None → IsSome o → X
+none_held None same held = absurd (cc (held))
+none_held (Some holder) same held = absurd (cc (same))
+
+-- a map with the same entries is an index of the same histories
+pub same_index : (h : List Entry) (m n : BTreeMap ℤ Holder) → IsUnchanged m n → Indexes h m → Indexes h n
+same_index h m n same index q = subst (λ o. IsEntryAt h q o) (λ i. lookup (is_at (int_cmp q)) (sym same i)) (index q)
+
+-- what was not noted leaves the roster
+pub same_roster : (h : List Entry) (before roster : Roster) → IsSameRoster before roster → IsRosterOf h before → IsRosterOf h roster
+same_roster h before roster same right =
+    let counted = right.count in
+    let few = right.few in
+    let kept = same.1 in
+    record {
+      index = same_index h before.holders.by_pid roster.holders.by_pid same.0 right.index;
+      count = kept ∙ counted;
+      few = subst (λ n. n ≤ 2 ^ 58) (sym kept) few;
+      last = same.2 ∙ right.last;
+    }

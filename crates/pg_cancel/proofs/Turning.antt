@@ -1,6 +1,5 @@
 -- Each step on the registry's table keeps its rule.
-use Rattle.std.proofs.Common.{◌≡◌, ◌≢◌, ℕ, ◌+◌, ◌*◌, ◌%◌, ◌<◌, Bool, true, false, cond, ltb, eqb, List, [], ◌∷◌, ◌++◌, length, get_or, set, Option, Some, None, inl, inr, ⊎_elim, sym, refl, ap, ◌∙◌, subst, arith, length-set, get_or-set_same, eq-eqb, ne_eqb}
-use Rattle.std.proofs.lemmas.List.{append_cancel_left}
+use Rattle.std.proofs.Common.{◌≡◌, ◌≢◌, ℕ, zero, suc, ◌+◌, ◌*◌, ◌%◌, ◌<◌, Bool, true, false, cond, ltb, eqb, List, [], ◌∷◌, ◌++◌, length, get_or, set, Option, Some, None, inl, inr, ⊎_elim, sym, refl, ap, ◌∙◌, subst, arith, length-set, get_or-set_same, eq-eqb, ne_eqb}
 use Rattle.std.proofs.lemmas.Bool.{lt-ltb, ltb-true}
 use Rattle.std.specs.Prelude.{◌==◌}
 use mathlib.Core.Logic.{dite}
@@ -10,24 +9,27 @@ use native.Mathlib.Decide.{ℕ_discrete}
 use lib.ListN.{get_elem?}
 use lib.Seq.{set-get_or}
 use prog.Atomic.{either}
-use Rattle.atomic_table.specs.Table.{State, Me, step, keeps, takes, gives, stepped, Allows, Splits, Joins, rest}
+use Rattle.atomic_table.specs.Table.{State, Me, opening, step, keeps, takes, gives, stepped, Allows, Splits, Joins, rest}
 use Rattle.atomic_table.proofs.Lists.{at_set, at_longer, set_here, set_else, set_again}
 use Rattle.pg_cancel.specs.declared.entries.Entry.{Entry}
 use Rattle.pg_cancel.specs.declared.entries.RegistryCall.{RegistryCall}
 use Rattle.pg_cancel.specs.declared.entries.RegistryAnswer.{RegistryAnswer}
+use Rattle.pg_cancel.specs.declared.roster.Roster.{Roster}
 use Rattle.pg_cancel.specs.declared.seat.View.{View}
 use Rattle.pg_cancel.specs.LegalHistory.{IsLegal, entry_of}
+use Rattle.pg_cancel.specs.Index.{IsRosterOf}
 use Rattle.pg_cancel.specs.Connections.{is_register}
-use Rattle.pg_cancel.specs.Turns.{Fits, IsHome, IsApart, InTurn, MayMake, reader, holding, idle, grown, without_number, handle, longer, joined, looked, compared, took, publishes, releases}
+use Rattle.pg_cancel.specs.Turns.{Fits, IsHome, IsApart, InTurn, MayMake, first_door, reader, holding, idle, grown, without_number, handle, longer, joined, looked, compared, took, publishes, releases}
+use Rattle.pg_cancel.proofs.Histories.{last_pushed}
 use Rattle.pg_cancel.proofs.Prefixes.{prefix_self, prefix_shorter, between_filter}
 use Rattle.pg_cancel.proofs.Beginnings.{legal_prefix, no_stray}
 use Rattle.pg_cancel.proofs.Views.{KeepsOthers, Answered, holding_fits, idle_fits, false_true, none_some, reader_fits, apart_same, apart_none, apart_more, at_end, seat_inside, grows_fits, grows_keeps, grows_free}
 
 abbrev Sat : Type 0
-Sat = Me (List Entry) View
+Sat = Me Roster View
 
 abbrev St : Type 0
-St = State (List Entry) View
+St = State Roster View
 
 -- ---- loads
 
@@ -94,12 +96,23 @@ takes_turn slots id m old one even s r wide at _ = dite (ℕ_discrete (get_or s.
     let count : old ≡ 2 * length r.log = sym hit ∙ home.0 in
     let next : old + 1 ≡ 2 * length r.log + 1 = omega arith in (
       holding m.0 r.log,
-      takes 0 r.log,
-      home.1,
-      subst (λ b. InTurn (stepped s 0 (either b (old + 1) (get_or s.words 0 0)) id m.1 (holding m.0 r.log) (takes 0 r.log)))
+      takes 0 home.1.0,
+      home.1.1,
+      subst (λ b. InTurn (stepped s 0 (either b (old + 1) (get_or s.words 0 0)) id m.1 (holding m.0 r.log) (takes 0 home.1.0)))
           (sym (eq-eqb (get_or s.words 0 0) old hit))
           (taken s r id m.0 (old + 1) home (omega arith) at next),
-      ((λ _. record { log = r.log; is = refl; counted = home.0; legal = r.legal; fits = r.fits id m.0 at }), λ not. absurd (not hit)),
+      (
+        (λ _. record {
+          log = r.log;
+          roster = home.1.0;
+          is = refl;
+          counted = home.0;
+          right = home.1.2;
+          legal = r.legal;
+          fits = r.fits id m.0 at;
+        }),
+        λ not. absurd (not hit),
+      ),
     ))
     (λ miss. (
       m.0,
@@ -112,15 +125,16 @@ takes_turn slots id m old one even s r wide at _ = dite (ℕ_discrete (get_or s.
 
 -- ---- the turn is given back
 
-abbrev value_of : List (ℕ × List Entry) → List Entry
-value_of [] = []
-value_of (x ∷ xs) = x.1
+abbrev last_of : List (ℕ × Roster) → Option Entry
+last_of [] = None
+last_of (x ∷ xs) = x.1.last
 
-given_back : (s : St) (r : InTurn s) (id : ℕ) (v w : View) (before after : List Entry) → 0 < length s.homes → get_elem? s.views id ≡ some v
-    → v.turn ≡ Some before → w.turn ≡ None → IsLegal after → (IsLegal before → Fits before v → Fits after w)
+given_back : (s : St) (r : InTurn s) (id : ℕ) (v w : View) (before after : List Entry) (roster : Roster) → 0 < length s.homes
+    → get_elem? s.views id ≡ some v
+    → v.turn ≡ Some before → w.turn ≡ None → IsLegal after → IsRosterOf after roster → (IsLegal before → Fits before v → Fits after w)
     → KeepsOthers id v w before after
-    → InTurn record { words = set s.words 0 (2 * length after); homes = set s.homes 0 (some after); views = set s.views id w }
-given_back s r id v w before after inside at has done legal mine keep =
+    → InTurn record { words = set s.words 0 (2 * length after); homes = set s.homes 0 (some roster); views = set s.views id w }
+given_back s r id v w before after roster inside at has done legal right mine keep =
     let wide = r.width in
     let now : get_or (set s.words 0 (2 * length after)) 0 0 ≡ 2 * length after =
     get_or-set_same s.words 0 (2 * length after) 0 (omega arith) in
@@ -132,7 +146,7 @@ given_back s r id v w before after inside at has done legal mine keep =
       width = length-set s.words 0 (2 * length after) ∙ r.width;
       legal = legal;
       strays = no_stray after legal;
-      place = inl (now, set_here s.homes 0 (some after) inside);
+      place = inl (now, (roster, set_here s.homes 0 (some roster) inside, right));
       fits = λ j a e. ⊎_elim (λ t. subst (Fits after) t.1 fit) (λ t. others.1 j a t.0 t.1) (at_set s.views id j w a e);
       turn = λ j a e h is. ⊎_elim
           (λ t. none_some h (sym done ∙ (ap (λ (u : View). u.turn) t.1 ∙ is)))
@@ -141,50 +155,58 @@ given_back s r id v w before after inside at has done legal mine keep =
       apart = others.0;
     }
 
-gives_turn : (slots id : ℕ) (m : Sat) (new : ℕ) (w : View) (before after : List Entry) (tell : Sat → Type 0) → slots ≡ 1
+gives_turn : (slots id : ℕ) (m : Sat) (new : ℕ) (w : View) (before after : List Entry) (roster : Roster) (tell : Sat → Type 0) → slots ≡ 1
     → m.0.turn ≡ Some before
-    → m.1 ≡ (0, after) ∷ [] → new ≡ 2 * length after → w.turn ≡ None → IsLegal after → (IsLegal before → Fits before m.0 → Fits after w)
+    → m.1 ≡ (0, roster) ∷ [] → new ≡ 2 * length after → w.turn ≡ None → IsLegal after → IsRosterOf after roster
+    → (IsLegal before → Fits before m.0 → Fits after w)
     → KeepsOthers id m.0 w before after → tell (w, []) → Allows InTurn slots id m 0 (λ _. new) (λ _. tell)
-gives_turn slots id m new w before after tell one has slot count done legal mine keep told s r wide at _ = (
+gives_turn slots id m new w before after roster tell one has slot count done legal right mine keep told s r wide at _ = (
   w,
   gives,
   tt,
-  subst (λ (z : ℕ × List (ℕ × List Entry)). InTurn (stepped s 0 z.0 id z.1 w gives)) (λ i. (sym count i, sym slot i))
-      (given_back s r id m.0 w before after (omega arith) at has done legal mine keep),
-  subst (λ (l : List (ℕ × List Entry)). tell (w, l)) (sym (ap (λ l. rest l) slot)) told,
+  subst (λ (z : ℕ × List (ℕ × Roster)). InTurn (stepped s 0 z.0 id z.1 w gives)) (λ i. (sym count i, sym slot i))
+      (given_back s r id m.0 w before after roster (omega arith) at has done legal right mine keep),
+  subst (λ (l : List (ℕ × Roster)). tell (w, l)) (sym (ap (λ l. rest l) slot)) told,
 )
 
 same_turn : (m : Sat) (before b : List Entry) → m.0.turn ≡ Some before → m.0.turn ≡ Some b → before ≡ b
 same_turn m before b has is = let e : ◌≡◌ {A = Option (List Entry)} (Some before) (Some b) = sym has ∙ is in cc (e)
 
-same_end : (before b : List Entry) (e f : Entry) → before ≡ b → before ++ e ∷ [] ≡ b ++ f ∷ [] → e ≡ f
-same_end before b e f same is =
-    let ends : e ∷ [] ≡ f ∷ [] = append_cancel_left before (e ∷ []) (f ∷ []) (is ∙ ap (λ h. h ++ f ∷ []) (sym same)) in cc (ends)
+same_last : (e f : Entry) (o p : Option Entry) → o ≡ Some e → p ≡ Some f → o ≡ p → e ≡ f
+same_last e f o p first second same = let ends : Some e ≡ Some f = sym first ∙ (same ∙ second) in cc (ends)
 
 -- the store that makes an event
-pub publishes_turn : (slots id : ℕ) (m : Sat) (new : ℕ) (before : List Entry) (number : ℕ) (call : RegistryCall) (answer : RegistryAnswer)
-    → slots ≡ 1 → m.0.turn ≡ Some before → m.1 ≡ (0, before ++ entry_of before number call answer ∷ []) ∷ []
-    → new ≡ 2 * length (before ++ entry_of before number call answer ∷ []) → MayMake m.0 number call → Answered before number call answer
+pub publishes_turn : (slots id : ℕ) (m : Sat) (new : ℕ) (before : List Entry) (roster : Roster) (number : ℕ) (call : RegistryCall)
+    (answer : RegistryAnswer) → slots ≡ 1 → m.0.turn ≡ Some before → m.1 ≡ (0, roster) ∷ [] → new ≡ roster.count * 2
+    → IsRosterOf (before ++ entry_of before number call answer ∷ []) roster
+    → MayMake m.0 number call → Answered before number call answer
     → Allows InTurn slots id m 0 (λ _. new) (λ _. publishes (step slots 0 new 0 none) m new)
-publishes_turn slots id m new before number call answer one has slot count may x =
+publishes_turn slots id m new before roster number call answer one has slot word right may x =
     let e = entry_of before number call answer in
-    gives_turn slots id m new (grown m.0 before e) before (before ++ e ∷ []) (publishes (step slots 0 new 0 none) m new) one has slot count
-    (grows_free m.0 before number call answer x.told) x.legal (λ legal f. grows_fits m.0 before number call answer may x legal f)
+    let counted = right.count in
+    let last : roster.last ≡ Some e = right.last ∙ last_pushed None before e in
+    let count : new ≡ 2 * length (before ++ e ∷ []) = omega (arith, word, counted) in
+    gives_turn slots id m new (grown m.0 before e) before (before ++ e ∷ []) roster (publishes (step slots 0 new 0 none) m new) one has slot
+    count
+    (grows_free m.0 before number call answer x.told) x.legal right (λ legal f. grows_fits m.0 before number call answer may x legal f)
     (grows_keeps id m.0 before number call answer may x.told)
-    (λ b f is_b is_f.
+    (λ b y f is_b is_y is_f.
     let same : before ≡ b = same_turn m before b has is_b in
-    let last : e ≡ f = same_end before b e f same (ap value_of (sym slot ∙ is_f)) in
-    λ i. (grown m.0 (same i) (last i), []))
+    let ends : e ≡ f = same_last e f roster.last y.last last is_f (ap last_of (sym slot ∙ is_y)) in
+    λ i. (grown m.0 (same i) (ends i), []))
 
 -- the store that makes none
 idle_keeps : (id : ℕ) (v : View) (h : List Entry) → KeepsOthers id v (idle v) h h
 idle_keeps id v h views at apart fits = (apart_same views id v (idle v) at refl refl apart, λ j a other e. fits j a e)
 
-pub releases_turn : (slots id : ℕ) (m : Sat) (new : ℕ) (before : List Entry) → slots ≡ 1 → m.0.turn ≡ Some before → m.1 ≡ (0, before) ∷ []
-    → new ≡ 2 * length before → IsLegal before → Allows InTurn slots id m 0 (λ _. new) (λ _. releases (step slots 0 new 0 none) m new)
-releases_turn slots id m new before one has slot count legal =
-    gives_turn slots id m new (idle m.0) before before (releases (step slots 0 new 0 none) m new) one has slot count refl legal
-    (λ _ f. idle_fits before m.0 f) (idle_keeps id m.0 before) (λ b is_b is_c. refl)
+pub releases_turn : (slots id : ℕ) (m : Sat) (new : ℕ) (before : List Entry) (roster : Roster) → slots ≡ 1 → m.0.turn ≡ Some before
+    → m.1 ≡ (0, roster) ∷ [] → new ≡ roster.count * 2 → IsRosterOf before roster → IsLegal before
+    → Allows InTurn slots id m 0 (λ _. new) (λ _. releases (step slots 0 new 0 none) m new)
+releases_turn slots id m new before roster one has slot word right legal =
+    let counted = right.count in
+    let count : new ≡ 2 * length before = omega (arith, word, counted) in
+    gives_turn slots id m new (idle m.0) before before roster (releases (step slots 0 new 0 none) m new) one has slot count refl legal right
+    (λ _ f. idle_fits before m.0 f) (idle_keeps id m.0 before) (λ y is_y. refl)
 
 -- ---- seats
 
@@ -301,3 +323,34 @@ takes_in id v other w free free_w door_w s r at apart at_w =
     changes record { words = s.words; homes = s.homes; views = set s.views id x } first other w (reader []) at_w free_w refl
     (reader_fits r.log [] (r.log, refl))
     (apart_none (set s.views id x) other w (reader []) at_w (sym door_w) refl first.apart)
+
+-- ---- the table at the start
+
+only_one : (a b : View) (j : ℕ) → get_elem? (a ∷ []) j ≡ some b → (j ≡ 0) × (a ≡ b)
+only_one a b zero e = (refl, some-injective a b e)
+only_one a b (suc j) e = absurd (cc (e))
+
+first_fits : Fits [] first_door
+first_fits = record { seen = ([], refl); told = ([], refl); own = λ n is. none_some n is; door = λ yes. refl }
+
+-- an empty history, whose roster is at home, and one door
+starts : (roster : Roster) → IsRosterOf [] roster → InTurn (opening (0 ∷ []) (roster ∷ []) first_door)
+starts roster right = record {
+  log = [];
+  holder = 0;
+  width = refl;
+  legal = λ place entry at. none_some entry at;
+  strays = λ k e at quiet. none_some e at;
+  place = inl (refl, (roster, refl, right));
+  fits = λ j a e. subst (Fits []) (only_one first_door a j e).1 first_fits;
+  turn = λ j a e h is. none_some h (ap (λ (u : View). u.turn) (only_one first_door a j e).1 ∙ is);
+  apart = record {
+    numbers = λ j k n a b at_j at_k is_a is_b. (only_one first_door a j at_j).0 ∙ sym (only_one first_door b k at_k).0;
+    doors = λ j k a b at_j at_k is_a is_b. (only_one first_door a j at_j).0 ∙ sym (only_one first_door b k at_k).0;
+  };
+}
+
+pub begins_turn : (words : List ℕ) (slots : List Roster) (roster : Roster) → words ≡ 0 ∷ [] → slots ≡ roster ∷ [] → IsRosterOf [] roster
+    → InTurn (opening words slots first_door)
+begins_turn words slots roster word slot right =
+    subst (λ (z : List ℕ × List Roster). InTurn (opening z.0 z.1 first_door)) (λ i. (sym word i, sym slot i)) (starts roster right)

@@ -1,5 +1,6 @@
 -- The rule of the table behind a shared registry, and what each step on it tells. No public contract names it.
--- H, `log` below, is the history so far. Word 0 is twice its length while the registry is at home, and one more while a seat has the turn.
+-- H, `log` below, is the history so far. It stands in the rule and in the views alone: the slot has its roster, which has no entry but the last.
+-- Word 0 is twice the length of H while the roster is at home, and one more while a seat has the turn.
 use Rattle.std.specs.Prelude.{◌≡◌, ◌≢◌, ◌⊎◌, ℕ, ℤ, ◌+◌, ◌*◌, ◌<◌, Bool, true, false, List, [], ◌∷◌, ◌++◌, length, slice_get, slice_index, Some, None, cond, ltb}
 use mathlib.Core.Option.{some, none}
 use mathlib.Core.Option as maybe
@@ -11,8 +12,10 @@ use Rattle.pg_cancel.specs.declared.entries.RegistryCall.{RegistryCall}
 use Rattle.pg_cancel.specs.declared.entries.RegistryCall.TheVariants.{Register, Start, Unregister}
 use Rattle.pg_cancel.specs.declared.entries.RegistryAnswer.{RegistryAnswer}
 use Rattle.pg_cancel.specs.declared.entries.RegistryAnswer.TheVariants.{Registered, Done, Yes, No}
+use Rattle.pg_cancel.specs.declared.roster.Roster.{Roster}
 use Rattle.pg_cancel.specs.declared.seat.View.{View}
-use Rattle.pg_cancel.specs.LegalHistory.{IsLegal, IsLive, IsRegisteredAt}
+use Rattle.pg_cancel.specs.LegalHistory.{IsLegal, IsLive, IsRegisteredAt, IsAnswer, entry_of}
+use Rattle.pg_cancel.specs.Index.{IsRosterOf, IsCaller}
 use Rattle.pg_cancel.specs.Connections.{calls_of, is_register, registers_of, entry, Knows}
 
 -- ---- the rule
@@ -35,12 +38,12 @@ pub record Fits (log : List Entry) (v : View) : Type 0 where
 abbrev pub Holds : List Entry → ℕ → ℕ → ℕ → View → Type 0
 Holds log word holder j v = (h : List Entry) → v.turn ≡ Some h → (j ≡ holder) × (h ≡ log) × (word ≡ 2 * length log + 1)
 
--- the registry is at home, with the history
-abbrev pub IsHome : ℕ → List (maybe.Option (List Entry)) → List Entry → Type 0
-IsHome word homes log = (word ≡ 2 * length log) × (get_elem? homes 0 ≡ some (some log))
+-- the roster of the history is at home
+abbrev pub IsHome : ℕ → List (maybe.Option Roster) → List Entry → Type 0
+IsHome word homes log = (word ≡ 2 * length log) × ((roster : Roster) × (get_elem? homes 0 ≡ some (some roster)) × IsRosterOf log roster)
 
--- a seat has the turn, and the registry is out with it
-abbrev pub IsOut : ℕ → List (maybe.Option (List Entry)) → List View → List Entry → ℕ → Type 0
+-- a seat has the turn, and the roster is out with it
+abbrev pub IsOut : ℕ → List (maybe.Option Roster) → List View → List Entry → ℕ → Type 0
 IsOut word homes views log holder =
     (word ≡ 2 * length log + 1)
     × (get_elem? homes 0 ≡ some none)
@@ -58,7 +61,7 @@ HasNoStray history =
     (k : ℕ) (e : Entry) → slice_get history k ≡ Some e → is_register e.call ≡ false → (pid : ℤ) × (key : List ℕ)
     × IsRegisteredAt history e.number pid key
 
-pub record InTurn (s : State (List Entry) View) : Type 0 where
+pub record InTurn (s : State Roster View) : Type 0 where
   pub log : List Entry
   pub holder : ℕ
   pub width : length s.words ≡ 1
@@ -145,10 +148,10 @@ joined v w =
 -- ---- steps
 
 abbrev Sat : Type 0
-Sat = Me (List Entry) View
+Sat = Me Roster View
 
 abbrev At : Type 0
-At = Step (List Entry)
+At = Step Roster
 
 abbrev pub looked : At → Sat → ℕ → Sat → Type 0
 looked st m r n = n ≡ m
@@ -157,35 +160,61 @@ abbrev pub compared : At → Sat → ℕ → Sat → Type 0
 compared st m r n =
     (n ≡ m) × IsPrefix m.0.told m.0.seen × IsLegal m.0.seen × ((k : ℕ) → m.0.number ≡ Some k → calls_of k m.0.seen ≡ m.0.mine)
 
--- the history is out with the seat
+-- the roster of the history is out with the seat
 pub record HasTurn (m n : Sat) (word : ℕ) : Type 0 where
   pub log : List Entry
-  pub is : n ≡ (holding m.0 log, (0, log) ∷ m.1)
+  pub roster : Roster
+  pub is : n ≡ (holding m.0 log, (0, roster) ∷ m.1)
   pub counted : word ≡ 2 * length log
+  pub right : IsRosterOf log roster
   pub legal : IsLegal log
   pub fits : Fits log m.0
 
 abbrev pub took : At → Sat → ℕ → Sat → Type 0
 took st m r n = (r ≡ st.first → HasTurn m n r) × (r ≢ st.first → n ≡ m)
 
--- the turn is given back with an entry more
+-- the turn is given back with an entry more, the last one of the roster
 abbrev pub publishes : At → Sat → ℕ → Sat → Type 0
 publishes st m r n =
-    (before : List Entry) (e : Entry) → m.0.turn ≡ Some before → m.1 ≡ (0, before ++ e ∷ []) ∷ [] → n ≡ (grown m.0 before e, [])
+    (before : List Entry) (roster : Roster) (e : Entry) → m.0.turn ≡ Some before → m.1 ≡ (0, roster) ∷ [] → roster.last ≡ Some e
+    → n ≡ (grown m.0 before e, [])
 
 -- the turn is given back with nothing done
 abbrev pub releases : At → Sat → ℕ → Sat → Type 0
-releases st m r n = (before : List Entry) → m.0.turn ≡ Some before → m.1 ≡ (0, before) ∷ [] → n ≡ (idle m.0, [])
+releases st m r n = (roster : Roster) → m.1 ≡ (0, roster) ∷ [] → n ≡ (idle m.0, [])
 
 -- ---- seats between two steps
 
--- a seat with this view took the turn, and the registry of this history is out
-abbrev pub HasOut : Sat → View → List Entry → Type 0
-HasOut m v log = m ≡ (holding v log, (0, []) ∷ [])
+-- a seat with this view took the turn, and this is the roster of the history, which is out. What lies in its place does not matter
+pub record HasOut (m : Sat) (v : View) (roster : Roster) : Type 0 where
+  pub log : List Entry
+  pub left : Roster
+  pub is : m ≡ (holding v log, (0, left) ∷ [])
+  pub right : IsRosterOf log roster
+  pub legal : IsLegal log
+  pub fits : Fits log v
 
--- the seat has the turn, and the registry of this history is out
-abbrev pub IsHolding : Sat → List Entry → Type 0
-IsHolding m log = (m.0.turn ≡ Some log) × (m.1 ≡ (0, []) ∷ [])
+-- the seat has the turn, and this is the roster of the history, which is out
+pub record IsHolding (m : Sat) (roster : Roster) : Type 0 where
+  pub log : List Entry
+  pub left : Roster
+  pub turn : m.0.turn ≡ Some log
+  pub slot : m.1 ≡ (0, left) ∷ []
+  pub right : IsRosterOf log roster
+  pub legal : IsLegal log
+
+-- the seat's history has the call's registration, which has the pid. A Register is anybody's
+abbrev pub IsCalled : Sat → ℕ → ℤ → RegistryCall → Type 0
+IsCalled m number pid call = (log : List Entry) → m.0.turn ≡ Some log → IsCaller log number pid call
+
+-- after the seat's history the call was made once, with the right answer, and the turn given back
+pub record Happens (m : Sat) (log : List Entry) (number : ℕ) (call : RegistryCall) (m' : Sat) (answer : RegistryAnswer) : Type 0 where
+  pub is : m' ≡ (grown m.0 log (entry_of log number call answer), [])
+  pub legal : IsLegal (log ++ entry_of log number call answer ∷ [])
+  pub told : IsAnswer log number call answer
+
+abbrev pub HasHappened : Sat → ℕ → RegistryCall → Sat → RegistryAnswer → Type 0
+HasHappened m number call m' answer = (log : List Entry) → m.0.turn ≡ Some log → Happens m log number call m' answer
 
 abbrev pub IsFree : Sat → Type 0
 IsFree m = (m.1 ≡ []) × (m.0.turn ≡ None)

@@ -1,4 +1,4 @@
-ghost use Rattle.std.specs.Prelude.{◌≡◌, ◌↔◌, ◌⊎◌, ℕ, [], ◌∷◌, ◌++◌, IfOk, IfErr, OnOk, OnErr, true, false};
+ghost use Rattle.std.specs.Prelude.{◌≡◌, ◌↔◌, ◌⊎◌, ℕ, List, [], ◌∷◌, ◌++◌, IfOk, IfErr, OnOk, OnErr, true, false};
 ghost use mathlib.Core.List.{IsPrefix};
 ghost use Rattle.pg_cancel.specs.LegalHistory.{IsLegal, IsCanceled, IsConnected};
 ghost use Rattle.pg_cancel.specs.declared.entries.RegistryCall.{RegistryCall};
@@ -12,6 +12,10 @@ use crate::seat::{Compare, Copy, Place, TakeIn};
 use std::alloc::AllocError;
 use std::marker::Model;
 use std::sync::Wait;
+use std::thread;
+
+/// How many questions are answered no between two times that the processor is given away.
+const NOES: u32 = 63;
 
 /// A live registration, the right to make calls under its number.
 /// Contracts see who issued it, its number, pid and key, what it has seen of the history, and its
@@ -22,6 +26,8 @@ pub struct ConnectionHandle {
     pub(crate) number: u64,
     pub(crate) pid: i32,
     pub(crate) key: [u8; 4],
+    /// How many questions were answered no since the processor was given away.
+    pub(crate) noes: u32,
 }
 
 impl Model for ConnectionHandle {
@@ -100,14 +106,16 @@ impl ConnectionManager {
         ensures err { OnErr result (handle.new ≡ handle.old) }
     {
         let number = handle.number;
-        match self.make_call(rt, &mut handle.seat, number, RegistryCall::Start)? {
+        let pid = handle.pid;
+        match self.make_call(rt, &mut handle.seat, number, pid, RegistryCall::Start)? {
             RegistryAnswer::Done => Ok(()),
             _ => unreachable!(),
         }
     }
 
     /// Whether the connection's query was canceled since it was started; without a query it is not.
-    /// Waits for the turn.
+    /// Waits for the turn. Every 64th no gives the processor away, so that a thread that asks on and
+    /// on leaves some of it to the others.
     #[tactic(auto, using(crate::proofs::Events::begins_more))]
     pub fn ask<R: Wait>(&self, rt: &R, handle: &mut ConnectionHandle) -> Result<bool, AllocError>
         requires issued { handle.old.issuer ≡ self.now }
@@ -123,8 +131,11 @@ impl ConnectionManager {
         ensures err { OnErr result (handle.new ≡ handle.old) }
     {
         let number = handle.number;
-        let answer = self.make_call(rt, &mut handle.seat, number, RegistryCall::Ask)?;
-        Ok(is_yes(answer))
+        let pid = handle.pid;
+        let answer = self.make_call(rt, &mut handle.seat, number, pid, RegistryCall::Ask)?;
+        let yes = is_yes(answer);
+        handle.noes = noes_after(handle.noes, yes);
+        Ok(yes)
     }
 
     /// Cancels the query of the connection with this pid and key, and says whether there is such a
@@ -146,7 +157,9 @@ impl ConnectionManager {
         ensures err { OnErr result (handle.new ≡ handle.old) }
     {
         let number = handle.number;
-        let answer = self.make_call(rt, &mut handle.seat, number, RegistryCall::Cancel(pid, key))?;
+        let own = handle.pid;
+        let call = RegistryCall::Cancel(pid, key);
+        let answer = self.make_call(rt, &mut handle.seat, number, own, call)?;
         Ok(is_yes(answer))
     }
 
@@ -167,8 +180,9 @@ impl ConnectionManager {
             number,
             pid,
             key,
+            noes,
         } = handle;
-        match self.make_call(rt, &mut seat, number, RegistryCall::Unregister) {
+        match self.make_call(rt, &mut seat, number, pid, RegistryCall::Unregister) {
             Ok(_) => Ok(Note { seat }),
             Err(AllocError) => Err((
                 ConnectionHandle {
@@ -176,6 +190,7 @@ impl ConnectionManager {
                     number,
                     pid,
                     key,
+                    noes,
                 },
                 AllocError,
             )),
@@ -213,17 +228,19 @@ impl ConnectionManager {
         let _ = shared.load::<Compare>(&mut handle.seat, 0);
     }
 
-    /// Waits for the turn and makes a call, which is no Register, under the number of the seat's
-    /// live registration.
+    /// Waits for the turn and makes a call, which is no Register, under the number and the pid of the
+    /// seat's live registration.
     fn make_call<R: Wait>(
         &self,
         rt: &R,
         seat: &mut Place,
         number: u64,
+        pid: i32,
         call: RegistryCall,
     ) -> Result<RegistryAnswer, AllocError>
         requires issued { seat.old.table_id ≡ self.now }
         requires handle { IsHandle seat.old.me number }
+        requires begins { (key : List ℕ) × Begins seat.old.me.0.mine number pid key }
         requires call { is_register call ≡ false }
         ensures same { (seat.new.table_id ≡ seat.old.table_id) × (seat.new.id ≡ seat.old.id) }
         ensures ok { IfOk result (λ answer. IsLeft seat.new.me number call
@@ -232,8 +249,8 @@ impl ConnectionManager {
         ensures told { IfOk result (IsToldTo call) }
         ensures err { OnErr result (seat.new.me ≡ seat.old.me) }
     {
-        let registry = self.take_turn(rt, seat);
-        self.make_event(seat, registry, number, call)
+        let roster = self.take_turn(rt, seat);
+        self.make_event(seat, roster, number, pid, call)
     }
 }
 
@@ -243,4 +260,16 @@ fn is_yes(answer: RegistryAnswer) -> bool
     ensures { answer ≡ yes_if result }
 {
     matches!(answer, RegistryAnswer::Yes)
+}
+
+/// Counts a question that was answered no. Where there were enough, the processor is given away instead.
+fn noes_after(noes: u32, yes: bool) -> u32 {
+    if yes {
+        return noes;
+    }
+    if noes < NOES {
+        return noes + 1;
+    }
+    thread::yield_now();
+    0
 }

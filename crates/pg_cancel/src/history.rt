@@ -1,5 +1,7 @@
 ghost use Rattle.std.specs.Prelude.{◌≡◌, ◌↔◌, ◌⊎◌, ℕ, ℤ, List, [], ◌∷◌, ◌++◌, length, IfOk, OnErr, IsTrue};
 ghost use Rattle.pg_cancel.specs.LegalHistory.{IsLegal, IsLive, HasPid, IsTaken, IsConnected, IsCanceled, IsAnswer, MayCall, entry_number, entry_of};
+ghost use Rattle.pg_cancel.specs.Index.{IsCaller};
+ghost use Rattle.pg_cancel.specs.declared.entries.Entry.{Entry};
 
 use crate::entries::{Entry, RegistryAnswer, RegistryCall};
 use crate::holders::Holders;
@@ -89,8 +91,10 @@ impl Registry {
         ensures stays { (n : ℕ) → IsLive self.old n → ¬ ((call ≡ RegistryCall.Unregister) × (number ≡ n)) → IsLive self.new n }
     {
         self.history.reserve(1)?;
-        let answer = self.holders.answer(&self.history, number, &call)?;
-        let number = entry_number(&self.history, number, &call);
+        let place = self.history.len() as u64;
+        let pid = caller_pid(&self.history, number, &call);
+        let answer = self.holders.answer(place, pid, &call)?;
+        let number = entry_number(place, number, &call);
         self.history.push_reserved(Entry {
             number,
             call,
@@ -100,12 +104,34 @@ impl Registry {
     }
 }
 
-/// The number that a call is entered under.
-fn entry_number(history: &[Entry], number: u64, call: &RegistryCall) -> u64
-    ensures { result ≡ entry_number history.now number call.now }
+/// The process id of the registration that makes the call. A Register has its own.
+fn caller_pid(history: &[Entry], number: u64, call: &RegistryCall) -> i32
+    requires { MayCall history.now number call.now }
+    ensures { IsCaller history.now number result call.now }
 {
     match call {
-        RegistryCall::Register(..) => history.len() as u64,
+        RegistryCall::Register(pid, _) => *pid,
+        _ => pid_of(history, number),
+    }
+}
+
+/// The process id of a live registration.
+fn pid_of(history: &[Entry], number: u64) -> i32
+    requires { IsLive history.now number }
+    ensures { HasPid history.now number result }
+{
+    match &history[number as usize].call {
+        RegistryCall::Register(pid, _) => *pid,
+        _ => unreachable!(),
+    }
+}
+
+/// The number that a call is entered under, at this place.
+pub fn entry_number(place: u64, number: u64, call: &RegistryCall) -> u64
+    ensures { (history : List Entry) → place ≡ length history → result ≡ entry_number history number call.now }
+{
+    match call {
+        RegistryCall::Register(..) => place,
         _ => number,
     }
 }

@@ -1,7 +1,7 @@
-ghost use Rattle.std.specs.Prelude.{◌≡◌, ℕ, List, [], ◌↔◌, IfOk, OnErr, IsTrue};
+ghost use Rattle.std.specs.Prelude.{◌≡◌, ℕ, ℤ, [], ◌↔◌, IfOk, OnErr, IsTrue};
 ghost use Rattle.std.specs.BTreeMap.{IsUnchanged};
-ghost use Rattle.pg_cancel.specs.LegalHistory.{IsLegal, IsLive, HasPid, MayCall};
-ghost use Rattle.pg_cancel.specs.Index.{IsIndexOf, IsKeyOf, Notes, answer_of, canceled};
+ghost use Rattle.pg_cancel.specs.LegalHistory.{IsLegal, IsLive};
+ghost use Rattle.pg_cancel.specs.Index.{IsIndexOf, IsHeld, MayAsk, NotesAny, answer_of, canceled};
 
 use crate::entries::{Entry, RegistryAnswer, RegistryCall};
 use std::alloc::{AllocError, Global};
@@ -18,14 +18,15 @@ pub enum Query {
     Canceled,
 }
 
-/// The live registration of a process id: its number, and how far its query has come. Its key stands in the history.
+/// The live registration of a process id: its number, its secret key, and how far its query has come.
 #[derive(Clone, Copy)]
 pub struct Holder {
     pub number: u64,
+    pub key: [u8; 4],
     pub query: Query,
 }
 
-/// The index behind the history: the live registrations by their process ids.
+/// The index of a history: its live registrations by their process ids. The history itself is not needed for an answer.
 #[derive(Drop)]
 pub struct Holders {
     pub by_pid: BTreeMap<i32, Holder>,
@@ -40,33 +41,35 @@ impl Holders {
         }
     }
 
-    /// Answers the call and notes it. After an error nothing is noted.
+    /// Answers a call of the registration that has the pid, after `place` entries, and notes it. A Register is anybody's.
+    /// After an error nothing is noted.
     pub fn answer(
         &mut self,
-        history: &[Entry],
-        number: u64,
+        place: u64,
+        pid: i32,
         call: &RegistryCall,
     ) -> Result<RegistryAnswer, AllocError>
-        requires legal { IsLegal history.now }
-        requires index { IsIndexOf history.now self.old }
-        requires may { MayCall history.now number call.now }
-        ensures ok { IfOk result (Notes history.now number call.now self.new) }
+        requires { MayAsk self.old pid call.now }
+        ensures ok { IfOk result (NotesAny self.old place pid call.now self.new) }
         ensures err { OnErr result (IsUnchanged self.old.by_pid self.new.by_pid) }
     {
         match call {
-            RegistryCall::Register(pid, _) => self.register(history, *pid),
-            RegistryCall::Start => Ok(self.start(history, number)),
-            RegistryCall::Ask => Ok(self.ask(history, number)),
-            RegistryCall::Cancel(pid, key) => Ok(self.cancel(history, *pid, key)),
-            RegistryCall::Unregister => Ok(self.unregister(history, number)),
+            RegistryCall::Register(pid, key) => self.register(place, *pid, key),
+            RegistryCall::Start => Ok(self.start(pid)),
+            RegistryCall::Ask => Ok(self.ask(pid)),
+            RegistryCall::Cancel(pid, key) => Ok(self.cancel(*pid, key)),
+            RegistryCall::Unregister => Ok(self.unregister(pid)),
         }
     }
 
-    /// The pid is taken, or has this registration now, at the end of the history.
-    fn register(&mut self, history: &[Entry], pid: i32) -> Result<RegistryAnswer, AllocError>
-        requires legal { IsLegal history.now }
-        requires index { IsIndexOf history.now self.old }
-        ensures ok { IfOk result (λ answer. (number : ℕ) (key : List ℕ) → Notes history.now number (RegistryCall.Register pid key) self.new answer) }
+    /// The pid is taken, or has this registration now, which is entered at the place.
+    fn register(
+        &mut self,
+        place: u64,
+        pid: i32,
+        key: &[u8; 4],
+    ) -> Result<RegistryAnswer, AllocError>
+        ensures ok { IfOk result (NotesAny self.old place pid (RegistryCall.Register pid key.now) self.new) }
         ensures err { OnErr result (IsUnchanged self.old.by_pid self.new.by_pid) }
     {
         if let Some(holder) = self.by_pid.get(&pid) {
@@ -75,20 +78,18 @@ impl Holders {
         self.by_pid.insert(
             pid,
             Holder {
-                number: history.len() as u64,
+                number: place,
+                key: *key,
                 query: Query::Unstarted,
             },
         )?;
         Ok(RegistryAnswer::Registered)
     }
 
-    fn start(&mut self, history: &[Entry], number: u64) -> RegistryAnswer
-        requires legal { IsLegal history.now }
-        requires index { IsIndexOf history.now self.old }
-        requires live { IsLive history.now number }
-        ensures { Notes history.now number RegistryCall.Start self.new result }
+    fn start(&mut self, pid: i32) -> RegistryAnswer
+        requires { IsHeld self.old pid }
+        ensures { (place : ℕ) → NotesAny self.old place pid RegistryCall.Start self.new result }
     {
-        let pid = pid_of(history, number);
         let Some(holder) = self.by_pid.get_mut(&pid) else {
             unreachable!()
         };
@@ -96,41 +97,33 @@ impl Holders {
         RegistryAnswer::Done
     }
 
-    fn ask(&self, history: &[Entry], number: u64) -> RegistryAnswer
-        requires legal { IsLegal history.now }
-        requires index { IsIndexOf history.now self.now }
-        requires live { IsLive history.now number }
-        ensures { Notes history.now number RegistryCall.Ask self.now result }
+    fn ask(&self, pid: i32) -> RegistryAnswer
+        requires { IsHeld self.now pid }
+        ensures { (place : ℕ) → NotesAny self.now place pid RegistryCall.Ask self.now result }
     {
-        let pid = pid_of(history, number);
         let Some(holder) = self.by_pid.get(&pid) else {
             unreachable!()
         };
         holder.query.answer()
     }
 
-    fn cancel(&mut self, history: &[Entry], pid: i32, key: &[u8; 4]) -> RegistryAnswer
-        requires legal { IsLegal history.now }
-        requires index { IsIndexOf history.now self.old }
-        ensures { (number : ℕ) → Notes history.now number (RegistryCall.Cancel pid key.now) self.new result }
+    fn cancel(&mut self, pid: i32, key: &[u8; 4]) -> RegistryAnswer
+        ensures { (place : ℕ) (caller : ℤ) → NotesAny self.old place caller (RegistryCall.Cancel pid key.now) self.new result }
     {
         let Some(holder) = self.by_pid.get_mut(&pid) else {
             return RegistryAnswer::No;
         };
-        if !has_key(history, holder.number, key) {
+        if !has_key(&holder.key, key) {
             return RegistryAnswer::No;
         }
         holder.query = holder.query.canceled();
         RegistryAnswer::Yes
     }
 
-    fn unregister(&mut self, history: &[Entry], number: u64) -> RegistryAnswer
-        requires legal { IsLegal history.now }
-        requires index { IsIndexOf history.now self.old }
-        requires live { IsLive history.now number }
-        ensures { Notes history.now number RegistryCall.Unregister self.new result }
+    fn unregister(&mut self, pid: i32) -> RegistryAnswer
+        requires { IsHeld self.old pid }
+        ensures { (place : ℕ) → NotesAny self.old place pid RegistryCall.Unregister self.new result }
     {
-        let pid = pid_of(history, number);
         let _ = self.by_pid.remove(&pid);
         RegistryAnswer::Done
     }
@@ -177,24 +170,9 @@ impl Query {
     }
 }
 
-/// The process id of a registration.
-fn pid_of(history: &[Entry], number: u64) -> i32
-    requires { IsLive history.now number }
-    ensures { HasPid history.now number result }
+/// Whether the key of a registration is this one.
+fn has_key(held: &[u8; 4], key: &[u8; 4]) -> bool
+    ensures { IsTrue result ↔ (held.now ≡ key.now) }
 {
-    match &history[number as usize].call {
-        RegistryCall::Register(pid, _) => *pid,
-        _ => unreachable!(),
-    }
-}
-
-/// Whether this is the key of the registration at that place.
-fn has_key(history: &[Entry], number: u64, key: &[u8; 4]) -> bool
-    requires { IsLive history.now number }
-    ensures { IsTrue result ↔ IsKeyOf history.now number key.now }
-{
-    match &history[number as usize].call {
-        RegistryCall::Register(_, held) => held == key,
-        _ => unreachable!(),
-    }
+    held == key
 }

@@ -6,6 +6,7 @@ mod handle;
 mod history;
 mod holders;
 mod manager;
+mod roster;
 mod seat;
 mod turn;
 

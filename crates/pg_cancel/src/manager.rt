@@ -1,15 +1,15 @@
-ghost use Rattle.std.specs.Prelude.{◌≡◌, ◌≢◌, ◌↔◌, ℕ, List, [], ◌∷◌, ◌++◌, length, IfOk, Err, true};
-ghost use mathlib.Core.List.{IsPrefix};
-ghost use Rattle.pg_cancel.specs.LegalHistory.{IsLegal, IsAnswer, HasPid};
+ghost use Rattle.std.specs.Prelude.{◌≡◌, ◌≢◌, ◌↔◌, ℕ, List, [], ◌∷◌, IfOk, Err, Some, true};
+ghost use Rattle.pg_cancel.specs.LegalHistory.{HasPid};
+ghost use Rattle.pg_cancel.specs.declared.entries.Entry.{Entry};
 ghost use Rattle.pg_cancel.specs.declared.entries.RegistryCall.{RegistryCall};
 ghost use Rattle.pg_cancel.specs.declared.entries.RegistryAnswer.{RegistryAnswer};
 ghost use Rattle.pg_cancel.specs.declared.manager.RegisterError.{RegisterError};
-ghost use Rattle.pg_cancel.specs.Connections.{Registers, Knows, before_last, calls_of, registers_of, entry, is_register};
+ghost use Rattle.pg_cancel.specs.Connections.{Registers, before_last, calls_of, entry, is_register};
 ghost use Rattle.pg_cancel.specs.Turns.{Fits, IsHolding, IsDoor, IsOpening, idle};
 
 use crate::entries::{RegistryAnswer, RegistryCall};
 use crate::handle::ConnectionHandle;
-use crate::history::Registry;
+use crate::roster::Roster;
 use crate::seat::{Board, PassOn, Place};
 use atomic_table::{Refused, Table};
 use std::alloc::{AllocError, Global};
@@ -68,7 +68,7 @@ impl ConnectionManager {
         ensures empty { IfOk result (λ r. r.1.seen ≡ []) }
     {
         let mut slots = Vec::with_capacity(alloc, 1)?;
-        slots.push_reserved(Registry::new(alloc));
+        slots.push_reserved(Roster::new(alloc));
         match Table::new(alloc, &[0], slots, &()) {
             Ok((table, seat)) => Ok((ConnectionManager { table, alloc }, Door { seat })),
             Err(Refused { slots: _ }) => Err(AllocError),
@@ -106,7 +106,7 @@ impl ConnectionManager {
             (result ≡ Err (RegisterError.PidTaken m)) ↔ HasPid (before_last door.new.seen) m pid }
         ensures no_memory { result ≡ Err RegisterError.NoMemory → door.new ≡ door.old }
     {
-        match self.enter(rt, &mut door.seat, RegistryCall::Register(pid, key)) {
+        match self.enter(rt, &mut door.seat, pid, RegistryCall::Register(pid, key)) {
             Ok(number) => {
                 let seat = self.table.shared.split_seat::<PassOn>(&mut door.seat);
                 Ok(ConnectionHandle {
@@ -114,6 +114,7 @@ impl ConnectionManager {
                     number,
                     pid,
                     key,
+                    noes: 0,
                 })
             }
             Err(refusal) => Err(refusal),
@@ -125,6 +126,7 @@ impl ConnectionManager {
         &self,
         rt: &R,
         seat: &mut Place,
+        pid: i32,
         call: RegistryCall,
     ) -> Result<u64, RegisterError>
         requires issued { seat.old.table_id ≡ self.now }
@@ -139,23 +141,23 @@ impl ConnectionManager {
             seat.old.me.0.seen seat.new.me.0.seen (RegistryAnswer.Taken m)) }
         ensures no_memory { result ≡ Err RegisterError.NoMemory → seat.new.me ≡ seat.old.me }
     {
-        let registry = self.take_turn(rt, seat);
-        self.admit(seat, registry, call)
+        let roster = self.take_turn(rt, seat);
+        self.admit(seat, roster, pid, call)
     }
 
     /// Makes a Register, and tells its place or who has the pid.
     fn admit(
         &self,
         seat: &mut Place,
-        registry: Registry,
+        roster: Roster,
+        pid: i32,
         call: RegistryCall,
     ) -> Result<u64, RegisterError>
         requires issued { seat.old.table_id ≡ self.now }
-        requires turn { IsHolding seat.old.me registry }
+        requires turn { IsHolding seat.old.me roster }
         requires door { seat.old.me.0.is_door ≡ true }
         requires call { is_register call ≡ true }
-        requires legal { IsLegal registry }
-        requires fits { Fits registry seat.old.me.0 }
+        requires fits { (log : List Entry) → seat.old.me.0.turn ≡ Some log → Fits log seat.old.me.0 }
         ensures same { (seat.new.table_id ≡ seat.old.table_id) × (seat.new.id ≡ seat.old.id) }
         ensures ok { IfOk result (λ number. IsOpening seat.new.me number call
             × Registers number call
@@ -166,8 +168,8 @@ impl ConnectionManager {
         ensures no_memory { result ≡ Err RegisterError.NoMemory →
             seat.new.me ≡ (idle seat.old.me.0, []) }
     {
-        let place = registry.history().len() as u64;
-        match self.make_event(seat, registry, place, call) {
+        let place = roster.count;
+        match self.make_event(seat, roster, place, pid, call) {
             Ok(answer) => match answer {
                 RegistryAnswer::Registered => Ok(place),
                 RegistryAnswer::Taken(holder) => Err(RegisterError::PidTaken(holder)),
@@ -175,17 +177,5 @@ impl ConnectionManager {
             },
             Err(AllocError) => Err(RegisterError::NoMemory),
         }
-    }
-
-    /// The registry with its whole history, once no thread shares the manager. Nobody else can have
-    /// the turn then, so it doesn't wait.
-    pub fn close<R: Wait>(self, rt: &R, door: Door) -> Registry
-        requires issued { door.issuer ≡ self }
-        ensures legal { IsLegal result }
-        ensures seen { IsPrefix door.seen result }
-        ensures registers { registers_of result ≡ registers_of door.seen }
-    {
-        let Door { mut seat } = door;
-        self.take_turn(rt, &mut seat)
     }
 }

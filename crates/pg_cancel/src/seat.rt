@@ -1,6 +1,6 @@
-//! The table behind a shared registry: word 0 tells whose turn it is, and slot 0 has the registry.
+//! The table behind a shared registry: word 0 tells whose turn it is, and slot 0 has the roster.
 use crate::entries::Entry;
-use crate::history::Registry;
+use crate::roster::Roster;
 use atomic_table::{Join, Play, Seat, Split, Table, TableRule};
 use std::alloc::Global;
 use std::collections::LinkedList;
@@ -25,7 +25,7 @@ pub struct View {
 
 pub struct Turns;
 
-impl TableRule<Registry, View, ()> for Turns {
+impl TableRule<Roster, View, ()> for Turns {
     ghost use Rattle.pg_cancel.specs.Turns.{InTurn, first_door};
 
     ghost holds = { λ _. InTurn };
@@ -33,14 +33,14 @@ impl TableRule<Registry, View, ()> for Turns {
     ghost first = { λ _. first_door };
 }
 
-pub type Board = Table<Registry, View, (), Turns, Global>;
+pub type Board = Table<Roster, View, (), Turns, Global>;
 
-pub type Place = Seat<Registry, View>;
+pub type Place = Seat<Roster, View>;
 
 /// A load, which changes nothing.
 pub struct Look;
 
-impl Play<Registry, View> for Look {
+impl Play<Roster, View> for Look {
     ghost use Rattle.pg_cancel.specs.Turns.{looked};
 
     ghost then = { looked };
@@ -49,7 +49,7 @@ impl Play<Registry, View> for Look {
 /// The turn is taken, or the word was another.
 pub struct Take;
 
-impl Play<Registry, View> for Take {
+impl Play<Roster, View> for Take {
     ghost use Rattle.pg_cancel.specs.Turns.{took};
 
     ghost then = { took };
@@ -58,7 +58,7 @@ impl Play<Registry, View> for Take {
 /// The turn is given back with one event.
 pub struct Publish;
 
-impl Play<Registry, View> for Publish {
+impl Play<Roster, View> for Publish {
     ghost use Rattle.pg_cancel.specs.Turns.{publishes};
 
     ghost then = { publishes };
@@ -67,7 +67,7 @@ impl Play<Registry, View> for Publish {
 /// The turn is given back with nothing done.
 pub struct Release;
 
-impl Play<Registry, View> for Release {
+impl Play<Roster, View> for Release {
     ghost use Rattle.pg_cancel.specs.Turns.{releases};
 
     ghost then = { releases };
@@ -110,7 +110,7 @@ impl Join<View> for TakeIn {
 /// A load after that, which tells that both lists begin what is seen now.
 pub struct Compare;
 
-impl Play<Registry, View> for Compare {
+impl Play<Roster, View> for Compare {
     ghost use Rattle.pg_cancel.specs.Turns.{compared};
 
     ghost then = { compared };

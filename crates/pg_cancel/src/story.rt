@@ -1,11 +1,9 @@
-//! The registry story through a manager, on one thread and on two.
+//! The registry story through a manager, on one thread and on two. No history is stored: each answer is compared, and the
+//! number of the last registration is how many entries came before it.
 ghost use Rattle.std.specs.Prelude.{◌≡◌, IfSome};
 ghost use Rattle.std.specs.Thread.{IsSync};
 
-use crate::{
-    ConnectionHandle, ConnectionManager, Door, RegisterError, Registry, RegistryAnswer,
-    RegistryCall,
-};
+use crate::{ConnectionHandle, ConnectionManager, Door, RegisterError};
 use std::alloc::AllocError;
 use std::process::Abort;
 use std::sync::{Condvar, Mutex, Wait};
@@ -24,7 +22,6 @@ const ZERO: [u8; 4] = [0, 0, 0, 0];
 fn story_on_one_thread(rt: HostRuntime) -> Result<(), Fail> {
     let (manager, mut door) = ConnectionManager::new(rt.alloc())?;
     assert!(rt; in_turn(&rt, &manager, &mut door)?);
-    assert!(rt; is_story(&manager.close(&rt, door)));
     Ok(())
 }
 
@@ -52,7 +49,6 @@ fn story_on_two_threads(rt: HostRuntime) -> Result<(), Fail> {
     };
     let (first, second) = both(&rt, &manager, first, second);
     assert!(rt; ending(&rt, &manager, &mut door, first, second));
-    assert!(rt; is_story(&manager.close(&rt, door)));
     Ok(())
 }
 
@@ -151,7 +147,7 @@ fn is_cancelled<R: Wait>(
     Ok(!early && hit && asked)
 }
 
-/// The first ends, which the second finds, and its pid is free again.
+/// The first ends, which the second finds, and its pid is free again. Twelve calls were made before its third registration.
 fn ending<R: Wait>(
     rt: &R,
     manager: &ConnectionManager,
@@ -169,33 +165,6 @@ fn ending<R: Wait>(
         Ok(third) => ended && missed && third.number() == 12,
         Err(_) => false,
     }
-}
-
-/// Whether the history is the story's.
-fn is_story(registry: &Registry) -> bool {
-    use RegistryAnswer::*;
-    use RegistryCall::*;
-    let story = [
-        (0, Register(7, A), Registered),
-        (1, Register(7, B), Taken(0)),
-        (2, Register(8, C), Registered),
-        (0, Start, Done),
-        (0, Ask, No),
-        (2, Cancel(7, A), Yes),
-        (0, Ask, Yes),
-        (0, Start, Done),
-        (0, Ask, No),
-        (2, Cancel(7, ZERO), No),
-        (0, Unregister, Done),
-        (2, Cancel(7, A), No),
-        (12, Register(7, A), Registered),
-    ];
-    let history = registry.history();
-    let mut is = history.len() == story.len();
-    for (entry, (number, call, answer)) in history.iter().zip(story.iter()) {
-        is = is && entry.number == *number && entry.call == *call && entry.answer == *answer;
-    }
-    is
 }
 
 /// The turns that two threads take.

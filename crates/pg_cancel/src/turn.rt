@@ -1,25 +1,23 @@
-//! The turn: who has it holds the registry. The store that gives it back makes one event, or none.
-ghost use Rattle.std.specs.Prelude.{◌≡◌, ◌*◌, ◌<◌, List, [], ◌∷◌, ◌++◌, length, IfOk, OnErr, Some, None};
-ghost use Rattle.pg_cancel.specs.LegalHistory.{IsLegal, IsAnswer, MayCall, entry_of};
-ghost use Rattle.pg_cancel.specs.Turns.{Fits, HasOut, IsFree, IsHolding, MayMake, grown, idle};
+//! The turn: who has it holds the roster. The store that gives it back makes one event, or none.
+ghost use Rattle.std.specs.Prelude.{◌≡◌, ◌*◌, ◌<◌, ◌≤◌, ◌^◌, [], ◌∷◌, IfOk, OnErr};
+ghost use Rattle.pg_cancel.specs.declared.roster.Roster.{Roster};
+ghost use Rattle.pg_cancel.specs.Turns.{HasOut, HasHappened, IsCalled, IsFree, IsHolding, MayMake, idle};
 
 use crate::entries::{RegistryAnswer, RegistryCall};
-use crate::history::Registry;
 use crate::manager::ConnectionManager;
+use crate::roster::Roster;
 use crate::seat::{Look, Place, Publish, Release, Take};
 use std::alloc::AllocError;
 use std::sync::Wait;
 use std::thread;
 
 impl ConnectionManager {
-    /// Waits for the turn, and takes the registry out.
-    pub(crate) fn take_turn<R: Wait>(&self, rt: &R, seat: &mut Place) -> Registry
+    /// Waits for the turn, and takes the roster out.
+    pub(crate) fn take_turn<R: Wait>(&self, rt: &R, seat: &mut Place) -> Roster
         requires issued { seat.old.table_id ≡ self.now }
         requires free { IsFree seat.old.me }
         ensures same { (seat.new.table_id ≡ seat.old.table_id) × (seat.new.id ≡ seat.old.id) }
         ensures out { HasOut seat.new.me seat.old.me.0 result }
-        ensures legal { IsLegal result }
-        ensures fits { Fits result seat.old.me.0 }
     {
         let shared = &self.table.shared;
         for _ in rt.forever() {
@@ -27,7 +25,7 @@ impl ConnectionManager {
             if word % 2 == 0 {
                 let found = shared.compare_exchange::<Take>(seat, 0, word, word + 1);
                 if found == word {
-                    return shared.exchange(seat, 0, Registry::new(self.alloc));
+                    return shared.exchange(seat, 0, Roster::new(self.alloc));
                 }
             }
             thread::yield_now();
@@ -35,44 +33,41 @@ impl ConnectionManager {
         unreachable!()
     }
 
-    /// Puts the registry back, and counts its entries. The seat still has the turn.
-    fn put_back(&self, seat: &mut Place, registry: Registry) -> u64
+    /// Puts the roster back, and tells how many entries it counts. The seat still has the turn.
+    fn put_back(&self, seat: &mut Place, roster: Roster) -> u64
         requires issued { seat.old.table_id ≡ self.now }
-        requires out { seat.old.me.1 ≡ (0, []) ∷ [] }
+        requires out { (left : Roster) × (seat.old.me.1 ≡ (0, left) ∷ []) }
+        requires few { roster.count ≤ 2 ^ 58 }
         ensures same { (seat.new.table_id ≡ seat.old.table_id) × (seat.new.id ≡ seat.old.id) }
-        ensures back { seat.new.me ≡ (seat.old.me.0, (0, registry) ∷ []) }
-        ensures count { result ≡ length registry }
+        ensures back { seat.new.me ≡ (seat.old.me.0, (0, roster) ∷ []) }
+        ensures count { result ≡ roster.count }
         ensures fits { result * 2 < 18446744073709551616 }
     {
-        let count = registry.history().len() as u64;
-        drop(self.table.shared.exchange(seat, 0, registry));
+        let count = roster.count;
+        drop(self.table.shared.exchange(seat, 0, roster));
         count
     }
 
-    /// Makes one event, a call under a number that is live or a Register, and gives the turn back.
-    /// After want of memory the turn was given back with nothing done.
+    /// Makes one event, a call of the registration with this number and pid or a Register, and gives the turn back.
+    /// After want of memory, or of room for an entry more, the turn was given back with nothing done.
     pub(crate) fn make_event(
         &self,
         seat: &mut Place,
-        mut registry: Registry,
+        mut roster: Roster,
         number: u64,
+        pid: i32,
         call: RegistryCall,
     ) -> Result<RegistryAnswer, AllocError>
         requires issued { seat.old.table_id ≡ self.now }
-        requires turn { IsHolding seat.old.me registry }
-        requires live { MayCall registry number call }
+        requires turn { IsHolding seat.old.me roster }
+        requires called { IsCalled seat.old.me number pid call }
         requires own { MayMake seat.old.me.0 number call }
         ensures same { (seat.new.table_id ≡ seat.old.table_id) × (seat.new.id ≡ seat.old.id) }
-        ensures ok { IfOk result
-            (λ answer. seat.new.me
-            ≡ (grown seat.old.me.0 registry (entry_of registry number call answer), [])) }
-        ensures legal { IfOk result
-            (λ answer. IsLegal (registry ++ entry_of registry number call answer ∷ [])) }
-        ensures answer { IfOk result (IsAnswer registry number call) }
+        ensures ok { IfOk result (HasHappened seat.old.me number call seat.new.me) }
         ensures err { OnErr result (seat.new.me ≡ (idle seat.old.me.0, [])) }
     {
-        let answer = registry.apply(number, call);
-        let count = self.put_back(seat, registry);
+        let answer = roster.apply(number, pid, call);
+        let count = self.put_back(seat, roster);
         match answer {
             Ok(answer) => {
                 self.table.shared.store::<Publish>(seat, 0, count * 2);

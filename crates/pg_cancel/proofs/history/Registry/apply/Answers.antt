@@ -1,24 +1,37 @@
-use Rattle.std.proofs.Common.{◌≡◌, ◌∷◌, [], ◌++◌, length, ap, subst, sym, ◌∙◌}
-use Rattle.pg_cancel.specs.declared.entries.RegistryAnswer.TheVariants.{Registered}
+use Rattle.std.proofs.Common.{◌≡◌, ◌∷◌, [], ◌++◌, length, ⊎_elim, w32, rules, ap, subst, sym, ◌∙◌}
+use mir.Val.{to_z, of_z}
+use Rattle.pg_cancel.specs.declared.entries.RegistryCall.TheVariants.{Register, Start, Ask, Cancel, Unregister}
+use Rattle.pg_cancel.specs.declared.entries.RegistryAnswer.TheVariants.{Registered, Taken, Done, Yes, No}
 use Rattle.pg_cancel.specs.LegalHistory.{IsLegal, IsLive, IsAnswer, entry_number, entry_of}
-use Rattle.pg_cancel.specs.Index.{IsIndexOf, Notes}
-use Rattle.pg_cancel.proofs.Histories.{IsLegal-push, entry_follows, determined, taken_when, registered_lives, stays_live}
+use Rattle.pg_cancel.specs.Index.{IsIndexOf, IsCaller, Notes}
+use Rattle.pg_cancel.proofs.Histories.{IsLegal-push, entry_follows, determined, answered_when, registered_lives, stays_live}
+use Rattle.pg_cancel.proofs.Noting.{may_ask}
 use Rattle.pg_cancel.proofs.history.Registry.apply.Goals as goal
 use Rattle.pg_cancel.proofs.history.Registry.apply.Goals.{After-push_reserved}
 
 was_legal : (c : After-push_reserved) → IsLegal c.args.self.now
 was_legal c = subst IsLegal c.self.view_is c.self.invariant.0
 
+-- how many entries there were
+place : (c : After-push_reserved) → c.len-place.result ≡ length c.args.self.now
+place c =
+    let same : c.deref.result.now ≡ c.args.self.now = c.deref.ensures.value ∙ c.reserve.ensures.items ∙ c.self.view_is in
+    c.len-place.ensures ∙ (sym c.deref.ensures.len ∙ ap length same)
+
 -- what the index says of the history as it was
 notes : (c : After-push_reserved) → Notes c.args.self.now c.args.number c.args.call c.answer.new.self c.in_ok-answer.answer
 notes c =
-    let same : c.deref.result.now ≡ c.args.self.now = c.deref.ensures.value ∙ c.reserve.ensures.items ∙ c.self.view_is in
-    subst (λ h. Notes h c.args.number c.args.call c.answer.new.self c.in_ok-answer.answer) same c.in_ok-answer.ensures.ok
+    let h = c.args.self.now in
+    let pid : to_z w32 (of_z w32 c.caller_pid-pid.result) ≡ c.caller_pid-pid.result = search rules in
+    let same : c.deref.result.now ≡ h = c.deref.ensures.value ∙ c.reserve.ensures.items ∙ c.self.view_is in
+    let caller = subst (λ x. IsCaller x c.args.number c.caller_pid-pid.result c.args.call) same c.caller_pid-pid.ensures in
+    let index = subst (λ x. IsIndexOf x c.self.inside.holders) c.self.view_is c.self.invariant.1 in
+    c.in_ok-answer.ensures.ok h c.args.number (was_legal c) index (place c)
+    (subst (λ p. IsCaller h c.args.number p c.args.call) (sym pid) caller)
 
 items : (c : After-push_reserved) → c.push_reserved.new.self.items ≡ c.args.self.now ++ entry_of c.args.self.now c.args.number c.args.call c.in_ok-answer.answer ∷ []
 items c =
-    let same : c.deref-2.result.now ≡ c.args.self.now = c.deref-2.ensures.value ∙ c.reserve.ensures.items ∙ c.self.view_is in
-    let number : c.entry_number-number.result ≡ entry_number c.args.self.now c.args.number c.args.call = c.entry_number-number.ensures ∙ ap (λ h. entry_number h c.args.number c.args.call) same in
+    let number : c.entry_number-number.result ≡ entry_number c.args.self.now c.args.number c.args.call = c.entry_number-number.ensures c.args.self.now (place c) in
     let before : c.reserve.new.self.items ≡ c.args.self.now = c.reserve.ensures.items ∙ c.self.view_is in
     rw (c.push_reserved.ensures.items, number, before)
 
@@ -28,6 +41,16 @@ legal c =
     let may = entry_follows h c.args.number c.args.call c.in_ok-answer.answer c.requires (notes c).told in
     subst IsLegal (sym (items c)) (IsLegal-push h (entry_of h c.args.number c.args.call c.in_ok-answer.answer) (was_legal c) may)
 
+pub answer-requires : goal.answer-requires
+answer-requires c =
+    let h = c.args.self.now in
+    let pid : to_z w32 (of_z w32 c.caller_pid-pid.result) ≡ c.caller_pid-pid.result = search rules in
+    let same : c.deref.result.now ≡ h = c.deref.ensures.value ∙ c.reserve.ensures.items ∙ c.self.view_is in
+    let caller = subst (λ x. IsCaller x c.args.number c.caller_pid-pid.result c.args.call) same c.caller_pid-pid.ensures in
+    let index = subst (λ x. IsIndexOf x c.self.inside.holders) c.self.view_is c.self.invariant.1 in
+    may_ask h c.args.number _ c.args.call c.self.inside.holders index
+    (subst (λ p. IsCaller h c.args.number p c.args.call) (sym pid) caller)
+
 pub invariant_of-self-2 : goal.invariant_of-self-2
 invariant_of-self-2 c =
     (legal c, subst (λ h. IsIndexOf h c.answer.new.self) (sym (items c)) (notes c).noted)
@@ -35,13 +58,42 @@ invariant_of-self-2 c =
 pub returns-clause-legal : goal.returns-clause-legal
 returns-clause-legal c = legal c
 
+pub returns-clause-answer : goal.returns-clause-answer
+returns-clause-answer c = (notes c).told
+
 pub returns-clause-determined : goal.returns-clause-determined
 returns-clause-determined c = λ other is.
     determined c.args.self.now c.args.number c.args.call other c.in_ok-answer.answer (was_legal c) is (notes c).told
 
+pub returns-clause-registered : goal.returns-clause-registered
+returns-clause-registered c = λ pid key same.
+    answered_when c.args.self.now c.args.number c.args.call (Register pid key) c.in_ok-answer.answer Registered (was_legal c) (notes c).told same
+
 pub returns-clause-taken : goal.returns-clause-taken
 returns-clause-taken c = λ pid key m same.
-    taken_when c.args.self.now c.args.number pid key m c.in_ok-answer.answer (was_legal c) (subst (λ call. IsAnswer c.args.self.now c.args.number call c.in_ok-answer.answer) same (notes c).told)
+    answered_when c.args.self.now c.args.number c.args.call (Register pid key) c.in_ok-answer.answer (Taken m) (was_legal c) (notes c).told same
+
+pub returns-clause-ask_yes : goal.returns-clause-ask_yes
+returns-clause-ask_yes c = λ same.
+    answered_when c.args.self.now c.args.number c.args.call Ask c.in_ok-answer.answer Yes (was_legal c) (notes c).told same
+
+pub returns-clause-ask_no : goal.returns-clause-ask_no
+returns-clause-ask_no c = λ same.
+    answered_when c.args.self.now c.args.number c.args.call Ask c.in_ok-answer.answer No (was_legal c) (notes c).told same
+
+pub returns-clause-cancel_yes : goal.returns-clause-cancel_yes
+returns-clause-cancel_yes c = λ pid key same.
+    answered_when c.args.self.now c.args.number c.args.call (Cancel pid key) c.in_ok-answer.answer Yes (was_legal c) (notes c).told same
+
+pub returns-clause-cancel_no : goal.returns-clause-cancel_no
+returns-clause-cancel_no c = λ pid key same.
+    answered_when c.args.self.now c.args.number c.args.call (Cancel pid key) c.in_ok-answer.answer No (was_legal c) (notes c).told same
+
+pub returns-clause-done : goal.returns-clause-done
+returns-clause-done c = λ either. ⊎_elim
+    (λ same. (answered_when c.args.self.now c.args.number c.args.call Start c.in_ok-answer.answer Done (was_legal c) (notes c).told same).1 tt)
+    (λ same. (answered_when c.args.self.now c.args.number c.args.call Unregister c.in_ok-answer.answer Done (was_legal c) (notes c).told same).1 tt)
+    either
 
 pub returns-clause-lives : goal.returns-clause-lives
 returns-clause-lives c = λ ok.

@@ -1,7 +1,8 @@
-use Rattle.std.proofs.Common.{[], ◌∷◌, ◌++◌, subst}
+use Rattle.std.proofs.Common.{rules, ◌≡◌, [], ◌∷◌, ◌++◌, w32, sym, subst}
+use mir.Val.{to_z, of_z}
 use Rattle.pg_cancel.specs.declared.entries.RegistryCall.TheVariants.{Unregister}
 use Rattle.pg_cancel.specs.declared.entries.RegistryAnswer.TheVariants.{Done}
-use Rattle.pg_cancel.specs.Connections.{Connection, Made, entry}
+use Rattle.pg_cancel.specs.Connections.{Connection, Begins, Made, entry}
 use Rattle.pg_cancel.proofs.Events.{ended}
 use Rattle.pg_cancel.proofs.manager.ConnectionManager.unregister.Goals as goal
 
@@ -11,3 +12,9 @@ returns-in-Ok-clause-ok g c =
     subst (λ (h : Connection). Made h.number Unregister h.seen h.mine seen
     (h.mine ++ entry h.number Unregister Done ∷ []) Done) c.handle.view_is
     (ended _ _ _ _ _ _ c.in-Ok.ensures.told c.in-Ok.ensures.ok.1)
+
+pub make_call-requires-clause-begins : goal.make_call-requires-clause-begins
+make_call-requires-clause-begins g c =
+    let h = c.handle.inside in
+    let pid : to_z w32 (of_z w32 h.pid) ≡ h.pid = search rules in
+    (h.key, subst (λ p. Begins h.seat.me.0.mine h.number p h.key) (sym pid) c.handle.invariant.1)
