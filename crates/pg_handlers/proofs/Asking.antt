@@ -7,9 +7,9 @@ use Rattle.std.proofs.Math.Seq.{drop-append_seam}
 use Rattle.pg_handlers.specs.declared.ends.Turns.{Turns}
 use Rattle.pg_handlers.specs.declared.desk.DeskCall.{DeskCall}
 use Rattle.pg_handlers.specs.declared.desk.DeskCall.TheVariants as desk
-use Rattle.pg_handlers.specs.Answer.{answers_of}
+use Rattle.pg_handlers.specs.Answer.{answers_of, BeginsWith}
 use Rattle.pg_handlers.specs.Handlers.{QueryTold}
-use Rattle.pg_handlers.specs.Questions.{Verdict, Passed, Canceled, Unanswered, Questioned, questioned, questions, questions_since, IsAsked}
+use Rattle.pg_handlers.specs.Questions.{Verdict, Passed, Canceled, Unanswered, Questioned, questioned, questions, questions_since, IsAsked, EndsWithYes}
 
 -- so many questions, each answered no
 abbrev pub noes : ℕ → List DeskCall
@@ -107,6 +107,10 @@ module _ {A : Type 0} (first told : QueryTold A) (old new : List DeskCall) (turn
     grown_by_yes : next ≡ old ++ (noes h.asked ++ desk.Ask true ∷ [])
     grown_by_yes = yes ∙ ap (λ l. l ++ desk.Ask true ∷ []) h.calls ∙ append_assoc old (noes h.asked) (desk.Ask true ∷ [])
 
+    -- so a canceled query's last question was answered yes
+    pub ends_with_yes : EndsWithYes old next
+    ends_with_yes = (noes h.asked, grown_by_yes)
+
     -- the last question was answered yes
     pub canceled : told.owes ≢ 0 → IsAsked first.owes old next Canceled
     canceled owes =
@@ -154,3 +158,14 @@ begins_waiting told calls turns e = record {
   spent = omega arith;
   limit = refl;
 }
+
+-- Where an answer is missing, one more is that of a question.
+pub asks_next : (owes : ℕ) (answers : List Bool) (more : Bool) → (questioned owes answers).verdict ≡ Unanswered
+    → BeginsWith (questioned owes (answers ++ more ∷ [])).calls ((questioned owes answers).calls ++ desk.Ask more ∷ [])
+asks_next zero answers more e = cc
+asks_next (suc owed) [] true e = ([], refl)
+asks_next (suc owed) [] false e = ((questioned owed []).calls, refl)
+asks_next (suc owed) (true ∷ answers) more e = cc
+asks_next (suc owed) (false ∷ answers) more e =
+    let rest = asks_next owed answers more e in
+    (rest.0, ap (λ l. desk.Ask false ∷ l) rest.1)

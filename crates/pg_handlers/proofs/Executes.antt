@@ -13,11 +13,12 @@ use Rattle.pg_handlers.specs.declared.ends.SessionError.{SessionError}
 use Rattle.pg_handlers.specs.declared.ends.SessionError.TheVariants as session
 use Rattle.pg_handlers.specs.declared.ends.Turns.{Turns}
 use Rattle.pg_handlers.specs.Answer.{answers_of}
-use Rattle.pg_handlers.specs.Effect.{Effect, Called, Row, Outcome, IsEffect, IsRow, IsCutRow, IsRefusedRow, IsRefusedEffect, silent, stopped, refuses}
+use Rattle.pg_handlers.specs.Effect.{Effect, Called, Row, Outcome, Stopped, IsEffect, IsRow, IsStoppedRow, IsCutRow, IsRefusedRow, IsRefusedEffect, silent, stopped, refuses}
 use Rattle.pg_handlers.specs.Questions.{Verdict, Passed, Canceled, Unanswered, Questioned, started, questioned, questions, questions_since, IsAsked, IsVerdict, HasSpent}
 use Rattle.pg_handlers.specs.Handlers.{SimpleTold}
 use Rattle.pg_handlers.specs.SimpleRows.{on_query, query_polled, answered_all}
 use Rattle.pg_handlers.specs.State.{State}
+use Rattle.pg_handlers.proofs.Asking.{asks_next}
 
 -- a row that starts a query which owes so many polls, and whose effect is told by the verdict
 abbrev pub run_row : {S : Type 0} → ℕ → (Verdict → Effect S) → Row S
@@ -36,6 +37,16 @@ row_as row other {out} {new_out} {calls} {new_calls} {outcome} same x = record {
   effect = subst (λ c. IsEffect c.effect out new_out outcome) (sym (same (answers_of x.made))) x.effect;
 }
 
+pub stopped_as : {S : Type 0} (row other : Row S) {out new_out : List ℕ} {calls new_calls : List DeskCall}
+    → ((answers : List Bool) → row answers ≡ other answers) → IsStoppedRow other out new_out calls new_calls → IsStoppedRow row out new_out calls new_calls
+stopped_as row other {out} {new_out} {calls} {new_calls} same x = record {
+  made = x.made;
+  own = ap (λ c. c.calls) (same (answers_of x.made)) ∙ x.own;
+  called = x.called;
+  effect = subst (λ c. IsEffect c.effect out new_out Stopped) (sym (same (answers_of x.made))) x.effect;
+  asks = λ yes. ((x.asks yes).0, ap (λ c. c.calls) (same (answers_of x.made ++ yes ∷ [])) ∙ (x.asks yes).1);
+}
+
 pub cut_as : {S : Type 0} (row other : Row S) {calls new_calls : List DeskCall}
     → ((answers : List Bool) → row answers ≡ other answers) → IsCutRow other calls new_calls → IsCutRow row calls new_calls
 cut_as row other same x = record {
@@ -48,7 +59,7 @@ pub refused_as : {S : Type 0} (row other : Row S) (out new_out : List ℕ) (call
     → ((answers : List Bool) → row answers ≡ other answers) → IsRefusedRow other out new_out calls new_calls s e → IsRefusedRow row out new_out calls new_calls s e
 refused_as row other out new_out calls new_calls s (session.Wire e) same (inl x) = inl (x.0, cut_as row other same x.1)
 refused_as row other out new_out calls new_calls s (session.Wire e) same (inr x) = inr (row_as row other same x)
-refused_as row other out new_out calls new_calls s session.TurnLimit same x = row_as row other same x
+refused_as row other out new_out calls new_calls s session.TurnLimit same x = stopped_as row other same x
 
 -- ---- rows that call nothing
 
@@ -87,6 +98,20 @@ module _ {S : Type 0} (owes : ℕ) (effect : Verdict → Effect S) (calls starte
       effect = subst (λ c. IsEffect c.effect out new_out outcome) (sym run_is) x;
     }
 
+    -- it stops where an answer is missing
+    pub run_stopped : {out new_out : List ℕ} → verdict ≡ Unanswered → IsEffect (effect verdict) out new_out Stopped
+        → IsStoppedRow (run_row owes effect) out new_out calls new_calls
+    run_stopped {out} {new_out} missing x = record {
+      made = desk.Start ∷ asked.made;
+      own = ap (λ c. c.calls) run_is;
+      called = called_so;
+      effect = subst (λ c. IsEffect c.effect out new_out Stopped) (sym run_is) x;
+      asks = λ yes.
+          let next = asks_next owes (answers_of asked.made) yes (ap (λ q. q.verdict) asked.asked ∙ missing) in
+          let calls_are : (questioned owes (answers_of asked.made)).calls ≡ asked.made = ap (λ q. q.calls) asked.asked in
+          (next.0, ap (λ l. desk.Start ∷ l) (next.1 ∙ ap (λ l. (l ++ desk.Ask yes ∷ []) ++ next.0) calls_are));
+    }
+
     pub run_cut : IsCutRow (run_row owes effect) calls new_calls
     run_cut = record {
       made = desk.Start ∷ asked.made;
@@ -105,7 +130,7 @@ module _ {S : Type 0} (owes : ℕ) (effect : Verdict → Effect S) (calls starte
       → IsAsked owes started_calls new_calls verdict → (e : SessionError) → IsVerdict outcome verdict (Err e)
       → IsRefusedRow (run_row owes effect) out out calls new_calls s e
   wait_refused out outcome new_calls verdict s stops cancels asked session.TurnLimit v =
-      run_was new_calls verdict asked (rw (v, stops) (record { replied = sym (append-nil out); came = refl }))
+      run_stopped new_calls verdict asked v (rw (v, stops) (record { replied = sym (append-nil out); came = refl }))
   wait_refused out outcome new_calls verdict s stops cancels asked (session.Wire e) (inl v) =
       inr (run_was new_calls verdict asked (rw (v.1, cancels, v.0) (record { replied = sym (append-nil out); came = refl })))
   wait_refused out outcome new_calls verdict s stops cancels asked (session.Wire e) (inr none) = inl (none, run_cut new_calls verdict asked)

@@ -1,8 +1,10 @@
 -- A state stays good: what is put is good, and an empty entry, a removal and a change of info that keeps the metadata change no value.
-use Rattle.std.proofs.Common.{◌≡◌, ℕ, Bool, true, false, cond, if◌then◌else◌, List, Option, Some, None, sym, ap, subst, ◌∙◌}
+use Rattle.std.proofs.Common.{◌≡◌, ◌==◌, ℕ, Bool, true, false, cond, if◌then◌else◌, List, Option, Some, None, sym, ap, subst, ◌∙◌}
 use Rattle.std.specs.Cmp.Lexicographic.{slice_cmp, nat_list_cmp_total}
 use Rattle.std.specs.Ordering.{nat_cmp, eq_by_cmp}
 use Rattle.std.specs.FinMap as fin
+use Rattle.pg_messages.specs.declared.extendedquery.Close.{Close}
+use Rattle.pg_portal.specs.Maps.{Maps, maps_without_statement, maps_without_portal}
 use Rattle.pg_portal.specs.Names.{NameMap}
 use Rattle.pg_portal.specs.declared.client.ClientInfo.{ClientInfo}
 use Rattle.pg_portal.specs.declared.stmt.StoredStatement.{StoredStatement}
@@ -12,7 +14,8 @@ use Rattle.pg_portal.specs.Clients.{HasShortMetadata}
 use Rattle.std.specs.Option.{option_map}
 use Rattle.pg_portal.specs.Told.{ParserTold, TablePortal, entry_map, value_under, value_of}
 use Rattle.pg_handlers.specs.Good.{IsGoodStatement, IsGoodPortal, IsGoodState}
-use Rattle.pg_handlers.specs.State.{State, with_statement, with_portal, without_statement, without_portal}
+use Rattle.pg_handlers.specs.ExtendedRows.{maps_after_close}
+use Rattle.pg_handlers.specs.State.{State, state_in, with_statement, with_portal, without_statement, without_portal}
 
 -- each value of a map has the property
 abbrev pub Each : {X : Type 0} → (X → Type 0) → NameMap (Entry X) → Type 0
@@ -91,23 +94,17 @@ good_without_portal parser s name good = record {
   metadata = good.metadata;
 }
 
-each_where : {X : Type 0} (P : X → Type 0) (m : NameMap (Entry X)) (k : List ℕ) (b : Bool) → Each P m
-    → Each P (if b then fin.remove m k else m)
-each_where P m k true each = each_after_remove P m k each
-each_where P m k false each = each
-
 -- what Close leaves, whichever byte it names
-pub good_closed : {S : Type 0} (parser : ParserTold S) (s : State S) (name : List ℕ) (is_statement is_portal : Bool)
-    (statements : NameMap (Entry (StoredStatement S))) (portals : NameMap (Entry (TablePortal S)))
-    → statements ≡ (if is_statement then fin.remove s.statements name else s.statements)
-    → portals ≡ (if is_portal then fin.remove s.portals name else s.portals)
-    → IsGoodState parser s → IsGoodState parser (record { info = s.info; statements = statements; portals = portals })
-good_closed parser s name is_statement is_portal statements portals j k good = record {
-  statements = subst (Each (IsGoodStatement parser)) (sym j)
-      (each_where (IsGoodStatement parser) s.statements name is_statement good.statements);
-  portals = subst (Each (IsGoodPortal parser)) (sym k) (each_where (IsGoodPortal parser) s.portals name is_portal good.portals);
-  metadata = good.metadata;
-}
+pub good_closed : {S : Type 0} (parser : ParserTold S) (info : ClientInfo) (old new : Maps S) (m : Close) → new ≡ maps_after_close old m
+    → IsGoodState parser (state_in info old) → IsGoodState parser (state_in info new)
+good_closed {S} parser info old new m e good =
+    subst (λ maps. IsGoodState parser (state_in info maps)) (sym e) (by_byte (m.target_type == 83) (m.target_type == 80))
+  where
+    by_byte : (is_statement is_portal : Bool)
+        → IsGoodState parser (state_in info (if is_statement then maps_without_statement old m.name else if is_portal then maps_without_portal old m.name else old))
+    by_byte true is_portal = good_without_statement parser (state_in info old) m.name good
+    by_byte false true = good_without_portal parser (state_in info old) m.name good
+    by_byte false false = good
 
 -- what a store found under a name is what it tells
 pub found_value : {X Y : Type 0} (f : X → Y) (found : Option (Entry X)) (e : Entry X) (x : X) (told : Option (Entry Y))

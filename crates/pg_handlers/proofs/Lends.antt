@@ -6,10 +6,9 @@ use Rattle.pg_messages.specs.declared.data.DataRow.{DataRow}
 use Rattle.pg_messages.specs.declared.extendedquery.Execute.{Execute}
 use Rattle.pg_portal.specs.declared.error.PgWireError.{PgWireError}
 use Rattle.pg_portal.specs.declared.client.ClientInfo.{ClientInfo}
-use Rattle.pg_portal.specs.declared.stmt.StoredStatement.{StoredStatement}
 use Rattle.pg_portal.specs.declared.store.Entry.{Entry}
 use Rattle.pg_portal.specs.declared.store.Entry.TheVariants as entry
-use Rattle.pg_portal.specs.Names.{NameMap}
+use Rattle.pg_portal.specs.Maps.{Maps, maps_with_portal}
 use Rattle.pg_portal.specs.Page.{PageEnd, AtLimit, AtEnd, AtError, item_page}
 use Rattle.pg_portal.specs.Responses as response
 use Rattle.pg_portal.specs.Responses.{ToldResponse}
@@ -19,15 +18,15 @@ use Rattle.pg_handlers.specs.declared.desk.DeskCall.{DeskCall}
 use Rattle.pg_handlers.specs.declared.desk.DeskCall.TheVariants as desk
 use Rattle.pg_handlers.specs.declared.ends.SessionError.{SessionError}
 use Rattle.pg_handlers.specs.declared.ends.SessionError.TheVariants as session
-use Rattle.pg_handlers.specs.Effect.{Effect, Outcome, Failed, Done, Stopped, IsEffect, IsRow, IsCutRow, IsRefusedRow, IsRefusedEffect, silent}
+use Rattle.pg_handlers.specs.Effect.{Effect, Outcome, Failed, Done, Stopped, IsEffect, IsRow, IsStoppedRow, IsCutRow, IsRefusedRow, IsRefusedEffect, silent}
 use Rattle.pg_handlers.specs.ExecuteRow.{at_stage, stage_after, page_effect, fetched, fetched_nothing, executed_portal, executed_entry, executed_without_rows, executed_nothing, execute_polled, on_execute}
-use Rattle.pg_handlers.specs.Executing.{OnlyLosesUnnamed, is_unstarted, IsPageOf, IsPortalRun, page_result, response_page, portal_run}
+use Rattle.pg_handlers.specs.Executing.{OnlyLosesUnnamed, HasComeTo, IsLeftBehind, is_unstarted, IsPageOf, IsPortalRun, page_result, response_page, portal_run}
 use Rattle.pg_handlers.specs.Handlers.{ExtendedTold}
 use Rattle.pg_handlers.specs.Questions.{Verdict, Passed, Canceled, Unanswered, IsAsked}
 use Rattle.pg_handlers.specs.Good.{IsGoodState, IsGoodPortal, HasGoodTag}
 use Rattle.pg_handlers.specs.Sending.{AtTurnLimit}
-use Rattle.pg_handlers.specs.State.{State, with_portal, without_portal}
-use Rattle.pg_handlers.proofs.Executes.{run_row, row_as, cut_as, refused_as, silent_row, silent_refused, cut_started, run_was, run_refused}
+use Rattle.pg_handlers.specs.State.{State, state_in, with_portal, without_portal}
+use Rattle.pg_handlers.proofs.Executes.{run_row, row_as, stopped_as, run_stopped, cut_as, refused_as, silent_row, silent_refused, cut_started, run_was, run_refused}
 use Rattle.pg_handlers.proofs.GoodStores.{good_parts, good_with_portal, good_without_portal, one_value}
 
 -- ---- the portal under a name
@@ -163,6 +162,16 @@ module _ {S : Type 0} (s : State S) (m : Execute) (p : TablePortal S) (out new_o
       run_waits Passed (Ok (response.Query r)) x = absurd x
       run_waits Passed (Ok _) x = absurd x
 
+      -- an answer was missing
+      pub run_missing : (verdict : Verdict) (outcome : Result ToldResponse PgWireError)
+          → IsPortalRun told (portal_run m.max_rows Unstarted verdict outcome) Unstarted stage out new_out (Err session.TurnLimit)
+          → verdict ≡ Unanswered
+      run_missing Unanswered outcome x = refl
+      run_missing Canceled outcome x = absurd x
+      run_missing Passed (Err d) x = absurd x
+      run_missing Passed (Ok (response.Query r)) x = absurd x
+      run_missing Passed (Ok _) x = absurd x
+
       -- a turn was wanting
       pub run_stays : (verdict : Verdict) (outcome : Result ToldResponse PgWireError)
           → IsPortalRun told (portal_run m.max_rows Unstarted verdict outcome) Unstarted stage out new_out (Err session.TurnLimit)
@@ -172,11 +181,6 @@ module _ {S : Type 0} (s : State S) (m : Execute) (p : TablePortal S) (out new_o
       run_stays Passed (Err d) x = absurd x
       run_stays Passed (Ok (response.Query r)) x = absurd x
       run_stays Passed (Ok _) x = absurd x
-
--- a state of the same parts
-pub parts_same : {S : Type 0} (s : State S) (statements : NameMap (Entry (StoredStatement S))) (portals : NameMap (Entry (TablePortal S))) → portals ≡ s.portals → statements ≡ s.statements
-    → (let t : State S = record { info = s.info; statements = statements; portals = portals } in t) ≡ s
-parts_same s statements portals e f = rw (e, f) refl
 
 -- where there is no portal to run
 pub no_portal : {S : Type 0} (h : ExtendedTold S) (answers : List Bool) (s : State S) (m : Execute) (o : Option (Entry (TablePortal S))) → value_under o ≡ None
@@ -193,11 +197,12 @@ unstarted_is (Started r) e = cc
 unstarted_is Ended e = cc
 
 -- the state where a portal was written back
-pub written_state : {S : Type 0} (s : State S) (statements : NameMap (Entry (StoredStatement S))) (portals : NameMap (Entry (TablePortal S))) (name shown : List ℕ) (p w : TablePortal S)
-    → shown ≡ name → portals ≡ fin.insert s.portals shown (entry.Value w) → statements ≡ s.statements → w.bound ≡ p.bound
-    → (let t : State S = record { info = s.info; statements = statements; portals = portals } in t) ≡ with_portal s name (entry.Value (at_stage p w.stage))
-written_state {S} s statements portals name shown p w e f g b =
-    rw (g, f, e) (ap (λ (bound : BoundPortal S). with_portal s name (entry.Value (record { bound = bound; stage = w.stage }))) b)
+pub written_state : {S : Type 0} (info : ClientInfo) (old new : Maps S) (name shown : List ℕ) (p w : TablePortal S)
+    → shown ≡ name → new ≡ maps_with_portal old shown (entry.Value w) → w.bound ≡ p.bound
+    → state_in info new ≡ with_portal (state_in info old) name (entry.Value (at_stage p w.stage))
+written_state {S} info old new name shown p w e f b =
+    ap (state_in info) f ∙ ap (λ n. with_portal (state_in info old) n (entry.Value w)) e
+    ∙ ap (λ (bound : BoundPortal S). with_portal (state_in info old) name (entry.Value (record { bound = bound; stage = w.stage }))) b
 
 module _ {S : Type 0} (parser : ParserTold S) (s : State S) (good : IsGoodState parser s) where
   pub good_written : (name : List ℕ) (p : TablePortal S) (stage : Stage) (s' : State S) → value_under (fin.get s.portals name) ≡ Some p
@@ -210,11 +215,14 @@ module _ {S : Type 0} (parser : ParserTold S) (s : State S) (good : IsGoodState 
   pub good_same : (s' : State S) → s' ≡ s → IsGoodState parser s'
   good_same s' e = subst (IsGoodState parser) (sym e) good
 
-  pub good_responded : (s' : State S) → s' ≡ s → (info : ClientInfo) (statements : NameMap (Entry (StoredStatement S))) (portals : NameMap (Entry (TablePortal S)))
-      → info.metadata ≡ s'.info.metadata → statements ≡ s'.statements → OnlyLosesUnnamed s'.portals portals
-      → IsGoodState parser (record { info = info; statements = statements; portals = portals })
-  good_responded s' e info statements portals i j (inl k) = good_parts parser s' info statements portals i j k (good_same s' e)
-  good_responded s' e info statements portals i j (inr k) = good_parts parser (without_portal s' []) info statements portals i j k (good_without_portal parser s' [] (good_same s' e))
+  pub good_responded : (was : ClientInfo) (old : Maps S) → state_in was old ≡ s → (info : ClientInfo) (new : Maps S)
+      → info.metadata ≡ was.metadata → OnlyLosesUnnamed old new → IsGoodState parser (state_in info new)
+  good_responded was old e info new i (inl k) =
+      good_parts parser (state_in was old) info new.statements new.portals i (ap (λ m. m.statements) k) (ap (λ m. m.portals) k)
+      (good_same (state_in was old) e)
+  good_responded was old e info new i (inr k) =
+      good_parts parser (without_portal (state_in was old) []) info new.statements new.portals i (ap (λ m. m.statements) k) (ap (λ m. m.portals) k)
+      (good_without_portal parser (state_in was old) [] (good_same (state_in was old) e))
 
 -- ---- a portal that isn't started, as a row
 
@@ -243,6 +251,11 @@ module _ {S A : Type 0} (told : A → ToldResponse) (h : ExtendedTold S) (s : St
     row_ran out new_out outcome x = row_as (λ answers. on_execute h answers s m) (run_row (h.query s.info p.bound m.max_rows).owes effect_by) (runs_portal h s m p found fresh)
         (run_was (h.query s.info p.bound m.max_rows).owes effect_by calls begun starts done verdict asked x)
 
+    pub row_stopped : (out new_out : List ℕ) → verdict ≡ Unanswered → IsEffect (effect_by verdict) out new_out Stopped
+        → IsStoppedRow (λ answers. on_execute h answers s m) out new_out calls done
+    row_stopped out new_out missing x = stopped_as (λ answers. on_execute h answers s m) (run_row (h.query s.info p.bound m.max_rows).owes effect_by) (runs_portal h s m p found fresh)
+        (run_stopped (h.query s.info p.bound m.max_rows).owes effect_by calls begun starts done verdict asked missing x)
+
     pub row_refused : (out new_out : List ℕ) (s' : State S) (e : PgWireError) → IsRefusedEffect (effect_by verdict) out new_out s' e
         → IsRefusedRow (λ answers. on_execute h answers s m) out new_out calls done s' (session.Wire e)
     row_refused out new_out s' e x = refused_as (λ answers. on_execute h answers s m) (run_row (h.query s.info p.bound m.max_rows).owes effect_by) out new_out calls done s' (session.Wire e)
@@ -252,7 +265,9 @@ module _ {S A : Type 0} (told : A → ToldResponse) (h : ExtendedTold S) (s : St
       pub portal_refused : (e : SessionError) → IsPortalRun told (portal_run m.max_rows Unstarted verdict (h.query s.info p.bound m.max_rows).outcome) Unstarted stage out new_out (Err e)
           → IsRefusedRow (λ answers. on_execute h answers s m) out new_out calls done s' e
       portal_refused (session.Wire e) x = row_refused out new_out s' e (run_wire s m p out new_out stage s' written found told fresh verdict (h.query s.info p.bound m.max_rows).outcome e x)
-      portal_refused session.TurnLimit x = row_ran out new_out Stopped (run_waits s m p out new_out stage s' written found told fresh verdict (h.query s.info p.bound m.max_rows).outcome x)
+      portal_refused session.TurnLimit x = row_stopped out new_out
+          (run_missing s m p out new_out stage s' written found told fresh verdict (h.query s.info p.bound m.max_rows).outcome x)
+          (run_waits s m p out new_out stage s' written found told fresh verdict (h.query s.info p.bound m.max_rows).outcome x)
 
       pub portal_stays : (e : SessionError) → IsPortalRun told (portal_run m.max_rows Unstarted verdict (h.query s.info p.bound m.max_rows).outcome) Unstarted stage out new_out (Err e)
           → AtTurnLimit e ((s' ≡ s) × (new_out ≡ out))
@@ -282,3 +297,24 @@ module _ {S A : Type 0} (told : A → ToldResponse) (h : ExtendedTold S) (s : St
             → IsRefusedRow (λ answers. on_execute h answers s m) out last calls done t (session.Wire e)
         handed_refused last t e y = row_refused out last t e
             (subst (λ o. IsRefusedEffect (effect_by verdict) o last t e) handed.2 (subst (λ effect. IsRefusedEffect effect new_out last t e) (sym effect_is) y))
+
+-- ---- what a refused Execute leaves
+
+pub left_as : {S : Type 0} (old new : Maps S) (name : List ℕ) → new ≡ old → IsLeftBehind old name new
+left_as old new name e = inl e
+
+-- the portal of its name was written back, and may have come further
+pub left_written : {S : Type 0} (old new : Maps S) (name shown : List ℕ) (p w : TablePortal S) → value_under (fin.get old.portals name) ≡ Some p
+    → shown ≡ name → new ≡ maps_with_portal old shown (entry.Value w) → w.bound ≡ p.bound → HasComeTo p.stage w.stage → IsLeftBehind old name new
+left_written {S} old new name shown p w found e f b come = inr (
+  p,
+  w.stage,
+  found,
+  come,
+  f ∙ ap (λ n. maps_with_portal old n (entry.Value w)) e
+      ∙ ap (λ (bound : BoundPortal S). maps_with_portal old name (entry.Value (record { bound = bound; stage = w.stage }))) b,
+)
+
+-- a portal that isn't started may come anywhere
+pub comes_from_unstarted : (old new : Stage) → old ≡ Unstarted → HasComeTo old new
+comes_from_unstarted old new e = subst (λ (st : Stage). HasComeTo st new) (sym e) tt

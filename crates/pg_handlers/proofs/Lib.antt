@@ -1,7 +1,9 @@
+pub mod Desks
 pub mod Answers
 pub mod Asking
 pub mod Awaiting
 pub mod Binds
+pub mod Causes
 pub mod Copied
 pub mod Describing
 pub mod Encodable

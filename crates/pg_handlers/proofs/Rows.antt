@@ -1,5 +1,6 @@
 -- Rows of the conversation table that were carried out or refused, and the errors that they tell.
-use Rattle.std.proofs.Common.{arith, ◌≡◌, ◌≢◌, ℕ, ◌+◌, inr, List, [], codes, refl, ap, sym, subst}
+use Rattle.std.proofs.Common.{arith, ◌≡◌, ◌≢◌, ℕ, ◌+◌, inr, List, [], Result, Ok, Err, codes, refl, ap, sym, subst}
+use Rattle.std.specs.Prelude.{IfErr}
 use Rattle.std.proofs.lemmas.List.{append-nil}
 use Rattle.std.proofs.Math.Seq.{drop-length}
 use Rattle.pg_portal.specs.declared.error.PgWireError.TheVariants as wire
@@ -9,7 +10,9 @@ use Rattle.pg_portal.specs.Rows.{IsAnswerable}
 use Rattle.pg_handlers.proofs.Encodable.{by_test}
 use Rattle.pg_handlers.specs.declared.desk.DeskCall.{DeskCall}
 use Rattle.pg_handlers.specs.declared.ends.Turns.{Turns}
-use Rattle.pg_handlers.specs.Effect.{Called, Row, Failed, IsEffect, IsRow, when_ready, ready_or_refused, silent, refuses}
+use Rattle.pg_handlers.specs.Effect.{Called, Row, Failed, IsEffect, IsRow, IsRefusedRow, when_ready, ready_or_refused, silent, refuses}
+use Rattle.pg_handlers.proofs.Executes.{refused_as}
+use Rattle.pg_handlers.specs.declared.ends.SessionError.{SessionError}
 use Rattle.pg_handlers.specs.Questions.{questions_since, questions}
 use Rattle.pg_handlers.specs.State.{State}
 
@@ -59,3 +62,11 @@ refused_unready s row out calls ne = record {
   effect = subst (λ c. IsEffect c.effect out out (Failed s wire.NotReadyForQuery)) (sym (not_ready s (row []) s.info.state ne))
       (record { replied = sym (append-nil out); came = refl });
 }
+
+-- a row where the client awaits a query
+pub ready_refused : {S A : Type 0} (s : State S) (row : Row S) (out new_out : List ℕ) (calls new_calls : List DeskCall) (t : State S)
+    (result : Result A SessionError) → s.info.state ≡ phase.ReadyForQuery → IfErr result (IsRefusedRow row out new_out calls new_calls t)
+    → IfErr result (IsRefusedRow (λ answers. when_ready s (row answers)) out new_out calls new_calls t)
+ready_refused s row out new_out calls new_calls t (Ok x) is h = tt
+ready_refused s row out new_out calls new_calls t (Err e) is h =
+    refused_as (λ answers. when_ready s (row answers)) row out new_out calls new_calls t e (λ answers. ap (ready_or_refused s (row answers)) is) h

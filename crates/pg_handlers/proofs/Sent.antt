@@ -8,10 +8,10 @@ use Rattle.pg_messages.specs.declared.backend.PgWireBackendMessage.{PgWireBacken
 use Rattle.pg_messages.specs.declared.backend.PgWireBackendMessage.TheVariants as server
 use Rattle.pg_messages.specs.Replies.{reply_bytes, replies_bytes}
 use Rattle.pg_portal.specs.declared.error.PgWireError.{PgWireError}
-use Rattle.pg_portal.specs.Fetching.{with_items}
+use Rattle.pg_portal.specs.Fetching.{IsKept, with_items}
 use Rattle.pg_portal.specs.Page.{ItemPage, AtLimit, AtEnd, AtError, is_reached, item_page, before_error}
 use Rattle.pg_portal.specs.Rows.{RowItem}
-use Rattle.pg_portal.specs.Told.{ToldRows}
+use Rattle.pg_portal.specs.Told.{ToldRows, Started}
 use Rattle.pg_portal.proofs.Paging.{GoesOn, begins, goes_on, page_at_limit, page_at_end, page_at_error}
 use Rattle.pg_handlers.specs.Replies.{row_replies, done_with}
 use Rattle.pg_handlers.specs.ExecuteRow.{page_replies}
@@ -30,6 +30,10 @@ sent_behind out mid new a b e f =
 -- what waited in front stays there
 pub kept_in_front : (out new more : List ℕ) → new ≡ out ++ more → take (length out) new ≡ out
 kept_in_front out new more e = ap (take (length out)) e ∙ take-append_seam out more
+
+-- it does where nothing has changed
+pub kept_as : (out new : List ℕ) → new ≡ out → take (length out) new ≡ out
+kept_as out new e = kept_in_front out new [] (e ∙ sym (append-nil out))
 
 pub kept_behind : (out mid new more : List ℕ) → mid ≡ out ++ more → take (length mid) new ≡ mid → take (length out) new ≡ out
 kept_behind out mid new more begun kept =
@@ -135,3 +139,13 @@ module _ (limit : ℤ) (old : ToldRows) (out : List ℕ) (items : List RowItem) 
         (sym (ap before_error (p.going.taken ∙ ap (λ items. map Ok p.rows ++ items) is) ∙ before_rows p.rows (Err error ∷ left)
         ∙ append-nil p.rows));
   }
+
+  -- one more item was taken
+  pub kept_at : (item : RowItem) (left : List RowItem) → items ≡ item ∷ left → (told : ToldRows) → told ≡ with_items old left
+      → IsKept (Started old) (Started told)
+  kept_at item left is told t = (
+    map Ok p.rows ++ item ∷ [],
+    left,
+    p.going.taken ∙ ap (λ l. map Ok p.rows ++ l) is ∙ sym (append_assoc (map Ok p.rows) (item ∷ []) left),
+    ap Started t,
+  )

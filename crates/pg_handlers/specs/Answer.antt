@@ -53,3 +53,7 @@ conversation table answers s (m ∷ messages) =
 -- the list begins with this front
 abbrev pub BeginsWith : {A : Type 0} → List A → List A → Type 0
 BeginsWith {A} whole front = (others : List A) × (whole ≡ front ++ others)
+
+-- Behind these calls the next one is a question, whatever that would be answered.
+abbrev pub AsksNext : (List Bool → List DeskCall) → List DeskCall → Type 0
+AsksNext calls_under made = (yes : Bool) → BeginsWith (calls_under (answers_of made ++ yes ∷ [])) (made ++ desk.Ask yes ∷ [])

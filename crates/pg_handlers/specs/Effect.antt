@@ -13,7 +13,7 @@ use Rattle.pg_portal.specs.Errors.{info_of}
 use Rattle.pg_handlers.specs.declared.desk.DeskCall.{DeskCall}
 use Rattle.pg_handlers.specs.declared.ends.EndKind.{EndKind}
 use Rattle.pg_handlers.specs.declared.ends.EndKind.TheVariants as end
-use Rattle.pg_handlers.specs.Answer.{Answer, Goes, Ends, Stops, answers_of, BeginsWith}
+use Rattle.pg_handlers.specs.Answer.{Answer, Goes, Ends, Stops, answers_of, BeginsWith, AsksNext}
 use Rattle.pg_handlers.specs.Errors.{is_fatal}
 use Rattle.pg_handlers.specs.Replies.{Replies, error_reply, ready}
 use Rattle.pg_handlers.specs.State.{State, in_phase, with_status}
@@ -117,8 +117,16 @@ pub record IsCutRow {S : Type 0} (row : Row S) (calls new_calls : List DeskCall)
   pub front : BeginsWith (row (answers_of made)).calls made
   pub grown : new_calls ≡ calls ++ made
 
+-- A row stops at a question: its next call is one, whatever that would be answered.
+pub record IsStoppedRow {S : Type 0} (row : Row S) (out new_out : List ℕ) (calls new_calls : List DeskCall) : Type 0 where
+  pub made : List DeskCall
+  pub own : (row (answers_of made)).calls ≡ made
+  pub called : new_calls ≡ calls ++ made
+  pub effect : IsEffect (row (answers_of made)).effect out new_out Stopped
+  pub asks : AsksNext (λ answers. (row answers).calls) made
+
 -- A row was refused: with this error, or memory is wanting, or it stops at a question for which no turn is left.
 abbrev pub IsRefusedRow : {S : Type 0} → Row S → List ℕ → List ℕ → List DeskCall → List DeskCall → State S → SessionError → Type 0
 IsRefusedRow row out new_out calls new_calls s (session.Wire e) = ((e ≡ wire.NoMemory) × IsCutRow row calls new_calls)
     ⊎ IsRow row out new_out calls new_calls (Failed s e)
-IsRefusedRow row out new_out calls new_calls s session.TurnLimit = IsRow row out new_out calls new_calls Stopped
+IsRefusedRow row out new_out calls new_calls s session.TurnLimit = IsStoppedRow row out new_out calls new_calls

@@ -5,17 +5,18 @@ use Rattle.pg_messages.specs.declared.data.DataRow.{DataRow}
 use Rattle.pg_messages.specs.Replies.{replies_bytes}
 use Rattle.pg_portal.specs.declared.error.PgWireError.{PgWireError}
 use Rattle.pg_portal.specs.declared.error.PgWireError.TheVariants as wire
-use Rattle.pg_portal.specs.declared.store.Entry.{Entry}
-use Rattle.pg_portal.specs.Names.{NameMap}
+use Rattle.pg_portal.specs.declared.store.Entry.TheVariants as entry
+use Rattle.pg_portal.specs.Fetching.{IsKept}
+use Rattle.pg_portal.specs.Maps.{Maps, maps_with_portal, maps_without_portal}
 use Rattle.pg_portal.specs.Page.{ItemPage, PageEnd, AtLimit, AtEnd, AtError, item_page}
-use Rattle.pg_portal.specs.Told.{Stage, Unstarted, Started, Ended, ToldRows, TablePortal}
+use Rattle.pg_portal.specs.Told.{Stage, Unstarted, Started, Ended, ToldRows, TablePortal, value_under}
 use Rattle.pg_portal.specs.Responses as response
 use Rattle.pg_portal.specs.Responses.{ToldResponse}
 use Rattle.pg_handlers.specs.declared.ends.SessionError.{SessionError}
 use Rattle.pg_handlers.specs.declared.ends.SessionError.TheVariants as session
 use Rattle.pg_handlers.specs.Replies.{Replies, done_with}
 use Rattle.pg_handlers.specs.Questions.{Verdict, Passed, Canceled, Unanswered}
-use Rattle.pg_handlers.specs.ExecuteRow.{stage_after, page_replies, told_number}
+use Rattle.pg_handlers.specs.ExecuteRow.{at_stage, stage_after, page_replies, told_number}
 
 abbrev pub is_unstarted : Stage → Bool
 is_unstarted Unstarted = true
@@ -93,6 +94,18 @@ IsPortalRun told Waits stage new_stage out new_out (Ok x) = ⊥
 IsPortalRun told Waits stage new_stage out new_out (Err (session.Wire e)) = e ≡ wire.NoMemory
 IsPortalRun told Waits stage new_stage out new_out (Err session.TurnLimit) = (new_stage ≡ stage) × (new_out ≡ out)
 
--- the portals are as they were, or the unnamed one went
-abbrev pub OnlyLosesUnnamed : {S : Type 0} → NameMap (Entry (TablePortal S)) → NameMap (Entry (TablePortal S)) → Type 0
-OnlyLosesUnnamed old new = (new ≡ old) ⊎ (new ≡ fin.remove old [])
+-- the statements and portals are as they were, or the unnamed portal went
+abbrev pub OnlyLosesUnnamed : {S : Type 0} → Maps S → Maps S → Type 0
+OnlyLosesUnnamed old new = (new ≡ old) ⊎ (new ≡ maps_without_portal old [])
+
+-- how far a portal may have come behind an Execute that was refused: one that isn't started may be so, and a started one still is, with a
+-- rest of its items
+abbrev pub HasComeTo : Stage → Stage → Type 0
+HasComeTo Unstarted new = Unit {0}
+HasComeTo (Started r) new = IsKept (Started r) new
+HasComeTo Ended new = new ≡ Ended
+
+-- What a refused Execute leaves: the statements and portals are as they were, but that the portal of its name may have come further.
+abbrev pub IsLeftBehind : {S : Type 0} → Maps S → List ℕ → Maps S → Type 0
+IsLeftBehind {S} old name new = (new ≡ old) ⊎ ((p : TablePortal S) × (stage : Stage) × (value_under (fin.get old.portals name) ≡ Some p)
+    × HasComeTo p.stage stage × (new ≡ maps_with_portal old name (entry.Value (at_stage p stage))))

@@ -18,6 +18,7 @@ use Rattle.pg_portal.specs.declared.results.describe.DescribePortalResponse.{Des
 use Rattle.pg_text.specs.declared.pg_type.PgType.{PgType}
 use Rattle.pg_portal.specs.Describing.{Described, is_empty_list, is_no_data}
 use Rattle.pg_portal.specs.Fields.{Field}
+use Rattle.pg_portal.specs.Maps.{Maps, maps_without_statement, maps_without_portal}
 use Rattle.pg_portal.specs.Statements.{prepared, bound_by}
 use Rattle.pg_portal.specs.Told.{ParserTold, TablePortal, Unstarted}
 use Rattle.pg_handlers.specs.Errors.{values_for_empty, too_few_codes}
@@ -143,6 +144,11 @@ on_describe h s m =
 abbrev pub on_close : {S : Type 0} → State S → Close → Effect S
 on_close s m = says (server.CloseComplete (record {}) ∷ [])
     (if m.target_type == 83 then without_statement s m.name else if m.target_type == 80 then without_portal s m.name else s)
+
+-- the statements and portals that a Close leaves
+abbrev pub maps_after_close : {S : Type 0} → Maps S → Close → Maps S
+maps_after_close maps m =
+    if m.target_type == 83 then maps_without_statement maps m.name else if m.target_type == 80 then maps_without_portal maps m.name else maps
 
 -- Sync: the unnamed portal goes, and the client is told that the server is ready.
 abbrev pub on_sync : {S : Type 0} → State S → Effect S

@@ -14,7 +14,7 @@ use Rattle.pg_portal.specs.Clients.{HasShortMetadata}
 use Rattle.pg_portal.specs.Fields.{Field}
 use Rattle.pg_portal.specs.Responses as response
 use Rattle.pg_portal.specs.Responses.{ToldResponse, ToldCopy}
-use Rattle.pg_portal.specs.Rows.{IsTellable}
+use Rattle.pg_portal.specs.Rows.{IsItemError}
 use Rattle.pg_portal.specs.Tags.{tag_text}
 use Rattle.pg_portal.specs.Told.{ParserTold, TablePortal, Stage, Started, Unstarted, Ended, value_under}
 use Rattle.pg_handlers.specs.Replies.{done, done_with, error_reply, row_description, parameter_description}
@@ -45,12 +45,12 @@ IsSendableResponse (response.CopyBoth c) = c.columns ≤ 32767
 -- an outcome of an extended query
 abbrev pub IsSendableOutcome : Result ToldResponse PgWireError → Type 0
 IsSendableOutcome (Ok answered) = IsSendableResponse answered
-IsSendableOutcome (Err error) = IsTellable error
+IsSendableOutcome (Err error) = IsItemError error
 
 -- an outcome of a simple query
 abbrev pub AreSendable : Result (List ToldResponse) PgWireError → Type 0
 AreSendable (Ok answered) = AllByRecursion IsSendableResponse answered
-AreSendable (Err error) = IsTellable error
+AreSendable (Err error) = IsItemError error
 
 -- what a describe tells becomes replies
 pub record IsSendableDescription (d : DescribeStatementResponse) : Type 0 where

@@ -1,4 +1,5 @@
 pub mod Answer
+pub mod Desk
 pub mod Script
 pub mod Questions
 pub mod Errors

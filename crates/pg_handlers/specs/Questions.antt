@@ -54,6 +54,18 @@ IsVerdict outcome verdict (Err (session.Wire e)) = ((e ≡ wire.QueryCanceled) �
 abbrev pub questions_since : List DeskCall → List DeskCall → ℕ
 questions_since calls new_calls = questions (drop (length calls) new_calls)
 
+-- the last of the calls that were made since is a question that was answered yes
+abbrev pub EndsWithYes : List DeskCall → List DeskCall → Type 0
+EndsWithYes calls new_calls = (made : List DeskCall) × (new_calls ≡ calls ++ (made ++ desk.Ask true ∷ []))
+
+-- The errors of a query that the session itself tells: it is canceled only where its last question was answered yes, and it is never told
+-- that the client isn't ready, or that a portal isn't started.
+abbrev pub IsCausedSo : List DeskCall → List DeskCall → SessionError → Type 0
+IsCausedSo calls new_calls (session.Wire wire.QueryCanceled) = EndsWithYes calls new_calls
+IsCausedSo calls new_calls (session.Wire wire.NotReadyForQuery) = ⊥
+IsCausedSo calls new_calls (session.Wire wire.PortalNotStarted) = ⊥
+IsCausedSo calls new_calls _ = Unit {0}
+
 -- Turns were spent on questions, and on nothing else; where memory was wanting, one more may be spent. None is left where one more was met.
 abbrev pub HasSpent : {A : Type 0} → Turns → Turns → ℕ → Result A SessionError → Type 0
 HasSpent old new asked (Ok out) = new ≡ record { spent = old.spent + asked; limit = old.limit }

@@ -2,6 +2,7 @@
 use Rattle.std.specs.Prelude.{ℕ, ℤ, suc, zero, Bool, false, List, [], ◌∷◌, ◌≡◌, drop, map, length, if◌then◌else◌}
 use Rattle.pg_handlers.specs.declared.desk.DeskCall.{DeskCall}
 use Rattle.pg_handlers.specs.Answer.{answers_of}
+use Rattle.pg_handlers.specs.Desk.{DeskTold}
 
 -- the registration, the whole script, the answers to come, and the calls so far
 pub record Script : Type 0 where
@@ -11,13 +12,13 @@ pub record Script : Type 0 where
   pub answers : List Bool
   pub calls : List DeskCall
 
--- the pid and the key of the registration
-abbrev pub registration_of : Script → ℤ × List ℕ
-registration_of d = (d.pid, d.key)
-
 -- the script as numbers, 1 for yes
 abbrev pub origin_of : List Bool → List ℕ
 origin_of script = map (λ answer. if answer then 1 else 0) script
+
+-- what a scripted desk tells
+abbrev pub script_told : Script → DeskTold
+script_told d = record { registration = (d.pid, d.key); calls = d.calls; origin = origin_of d.script }
 
 -- the first answer, or no where there is none
 abbrev pub first_or_no : List Bool → Bool

@@ -9,6 +9,7 @@ use Rattle.pg_portal.specs.declared.client.PgWireConnectionState.{PgWireConnecti
 use Rattle.pg_portal.specs.declared.client.PgWireConnectionState.TheVariants as phase
 use Rattle.pg_portal.specs.declared.stmt.StoredStatement.{StoredStatement}
 use Rattle.pg_portal.specs.declared.store.Entry.{Entry}
+use Rattle.pg_portal.specs.Maps.{Maps}
 use Rattle.pg_portal.specs.Names.{NameMap}
 use Rattle.pg_portal.specs.Told.{TablePortal}
 use Rattle.pg_handlers.specs.declared.client.Client.{Client}
@@ -18,9 +19,13 @@ pub record State (S : Type 0) : Type 0 where
   pub statements : NameMap (Entry (StoredStatement S))
   pub portals : NameMap (Entry (TablePortal S))
 
+-- the state of a client of whom this is known, with these maps
+abbrev pub state_in : {S : Type 0} → ClientInfo → Maps S → State S
+state_in info maps = record { info = info; statements = maps.statements; portals = maps.portals }
+
 -- the state that a client tells, by what its store tells
-abbrev pub state_of : {S St : Type 0} → (St → NameMap (Entry (StoredStatement S))) → (St → NameMap (Entry (TablePortal S))) → Client St → State S
-state_of statements portals client = record { info = client.info; statements = statements client.store; portals = portals client.store }
+abbrev pub state_of : {S St : Type 0} → (St → Maps S) → Client St → State S
+state_of maps client = state_in client.info (maps client.store)
 
 -- what is known of a client before its startup packet, under a registration
 abbrev pub first_info : ℤ → List ℕ → ClientInfo

@@ -1,6 +1,6 @@
 //! COPY from the client (protocol: Message Flow, COPY Operations).
 
-ghost use Rattle.std.specs.Prelude.{◌≡◌, ◌⊎◌, ◌++◌, codes, IfOk, IfErr, OnOk};
+ghost use Rattle.std.specs.Prelude.{◌≡◌, ◌⊎◌, ◌++◌, codes, length, take, IfOk, IfErr, OnOk};
 ghost use Rattle.pg_messages.specs.declared.frontend.PgWireFrontendMessage.TheVariants as frontend;
 ghost use Rattle.pg_portal.specs.Clients.{HasShortMetadata};
 ghost use Rattle.pg_portal.specs.Rows.{IsAnswerable};
@@ -34,17 +34,17 @@ pub trait CopyHandler {
         requires given { IsGiven (frontend.CopyData copy_data) }
         requires short_metadata { HasShortMetadata client.old.info }
         ensures ok { OnOk result (IsEffect
-            (copy_step (state_of St.statements St.portals client.old)
+            (copy_step (state_of St.maps client.old)
             ((told self.now).on_data client.old.info copy_data.payload))
-            client.old.outbox client.new.outbox (Done (state_of St.statements St.portals client.new))) }
+            client.old.outbox client.new.outbox (Done (state_of St.maps client.new))) }
         ensures refused { IfErr result (IsRefusedEffect
-            (copy_step (state_of St.statements St.portals client.old)
+            (copy_step (state_of St.maps client.old)
             ((told self.now).on_data client.old.info copy_data.payload))
-            client.old.outbox client.new.outbox (state_of St.statements St.portals client.new)) }
+            client.old.outbox client.new.outbox (state_of St.maps client.new)) }
         ensures answerable { IfErr result IsAnswerable }
         ensures info { client.new.info ≡ client.old.info }
-        ensures statements { St.statements client.new.store ≡ St.statements client.old.store }
-        ensures portals { St.portals client.new.store ≡ St.portals client.old.store };
+        ensures kept { take (length client.old.outbox) client.new.outbox ≡ client.old.outbox }
+        ensures store { St.maps client.new.store ≡ St.maps client.old.store };
 
     /// Takes the end of the data.
     fn on_copy_done<St: PortalStore>(
@@ -56,17 +56,17 @@ pub trait CopyHandler {
         requires given { IsGiven (frontend.CopyDone done) }
         requires short_metadata { HasShortMetadata client.old.info }
         ensures ok { OnOk result (IsEffect
-            (copy_step (state_of St.statements St.portals client.old)
+            (copy_step (state_of St.maps client.old)
             ((told self.now).on_done client.old.info))
-            client.old.outbox client.new.outbox (Done (state_of St.statements St.portals client.new))) }
+            client.old.outbox client.new.outbox (Done (state_of St.maps client.new))) }
         ensures refused { IfErr result (IsRefusedEffect
-            (copy_step (state_of St.statements St.portals client.old)
+            (copy_step (state_of St.maps client.old)
             ((told self.now).on_done client.old.info))
-            client.old.outbox client.new.outbox (state_of St.statements St.portals client.new)) }
+            client.old.outbox client.new.outbox (state_of St.maps client.new)) }
         ensures answerable { IfErr result IsAnswerable }
         ensures info { client.new.info ≡ client.old.info }
-        ensures statements { St.statements client.new.store ≡ St.statements client.old.store }
-        ensures portals { St.portals client.new.store ≡ St.portals client.old.store };
+        ensures kept { take (length client.old.outbox) client.new.outbox ≡ client.old.outbox }
+        ensures store { St.maps client.new.store ≡ St.maps client.old.store };
 
     /// The error with which a COPY that the client gives up ends. An impl tells it in `on_fail`, or `NoMemory`.
     fn on_copy_fail<St: PortalStore>(

@@ -1,8 +1,9 @@
 //! The cancel registry as a session sees it, and a desk that answers from a list.
 
-ghost use Rattle.std.specs.Prelude.{◌≡◌, ℕ, ℤ, List, ◌++◌, [], ◌∷◌, drop, IfOk, OnOk, OnErr};
+ghost use Rattle.std.specs.Prelude.{◌≡◌, [], ◌∷◌, drop, IfOk, OnOk, OnErr};
+ghost use Rattle.pg_handlers.specs.Desk.{DeskTold, after_calls};
 ghost use Rattle.pg_handlers.specs.declared.desk.DeskCall.{DeskCall};
-ghost use Rattle.pg_handlers.specs.Script.{first_or_no, registration_of, origin_of, IsScripted};
+ghost use Rattle.pg_handlers.specs.Script.{first_or_no, script_told, IsScripted};
 
 use pg_messages::PgList;
 use std::alloc::{AllocError, Global};
@@ -21,42 +22,31 @@ pub enum DeskCall {
 
 /// What a session sees of the cancel registry: its own registration.
 pub trait CancelDesk {
-    // the pid and the key of the registration
-    ghost registration: { Self → ℤ × List ℕ };
-
-    // the calls so far, with their answers
-    ghost calls: { Self → List DeskCall };
-
-    // what a desk was made over, as numbers: no call changes it, so that a caller who lent something to the
-    // desk knows it again
-    ghost origin: { Self → List ℕ };
+    // its registration, the calls so far with their answers, and what it was made over
+    ghost told: { Self → DeskTold };
 
     /// The pid and the key that the client is told.
     fn identity(&self) -> (i32, [u8; 4])
-        ensures { result ≡ registration self.now };
+        ensures { result ≡ (told self.now).registration };
 
     /// Notes that a query starts. After an error nothing has changed.
     fn start(&mut self) -> Result<(), AllocError>
-        ensures ok { OnOk result (calls self.new ≡ calls self.old ++ DeskCall.Start ∷ []) }
-        ensures err { OnErr result (calls self.new ≡ calls self.old) }
-        ensures same { registration self.new ≡ registration self.old }
-        ensures origin { origin self.new ≡ origin self.old };
+        ensures ok { OnOk result
+            (told self.new ≡ after_calls (told self.old) (DeskCall.Start ∷ [])) }
+        ensures err { OnErr result (told self.new ≡ told self.old) };
 
     /// Whether the running query was canceled. After an error nothing has changed.
     fn ask(&mut self) -> Result<bool, AllocError>
-        ensures ok { IfOk result (λ yes. calls self.new ≡ calls self.old ++ DeskCall.Ask yes ∷ []) }
-        ensures err { OnErr result (calls self.new ≡ calls self.old) }
-        ensures same { registration self.new ≡ registration self.old }
-        ensures origin { origin self.new ≡ origin self.old };
+        ensures ok { IfOk result
+            (λ yes. told self.new ≡ after_calls (told self.old) (DeskCall.Ask yes ∷ [])) }
+        ensures err { OnErr result (told self.new ≡ told self.old) };
 
     /// Cancels the query of the registration with this pid and key, and tells whether there is one.
     /// After an error nothing has changed.
     fn cancel(&mut self, pid: i32, key: [u8; 4]) -> Result<bool, AllocError>
-        ensures ok { IfOk result
-            (λ yes. calls self.new ≡ calls self.old ++ DeskCall.Cancel pid key yes ∷ []) }
-        ensures err { OnErr result (calls self.new ≡ calls self.old) }
-        ensures same { registration self.new ≡ registration self.old }
-        ensures origin { origin self.new ≡ origin self.old };
+        ensures ok { IfOk result (λ yes.
+            told self.new ≡ after_calls (told self.old) (DeskCall.Cancel pid key yes ∷ [])) }
+        ensures err { OnErr result (told self.new ≡ told self.old) };
 }
 
 /// A desk that answers from a list, in its order, and no past its end.
@@ -130,11 +120,7 @@ fn behind_next(answers: &[bool], taken: usize) -> usize
 }
 
 impl CancelDesk for ScriptDesk {
-    ghost registration = { registration_of };
-
-    ghost calls = { λ d. d.calls };
-
-    ghost origin = { λ d. origin_of d.script };
+    ghost told = { script_told };
 
     fn identity(&self) -> (i32, [u8; 4]) {
         (self.pid, self.key)
@@ -142,10 +128,9 @@ impl CancelDesk for ScriptDesk {
 
     fn start(&mut self) -> Result<(), AllocError>
         ensures answers { self.new.answers ≡ self.old.answers }
-        ensures ok { OnOk result (self.new.calls ≡ self.old.calls ++ DeskCall.Start ∷ []) }
-        ensures err { OnErr result (self.new.calls ≡ self.old.calls) }
-        ensures same { registration_of self.new ≡ registration_of self.old }
-        ensures origin { origin_of self.new.script ≡ origin_of self.old.script }
+        ensures ok { OnOk result
+            (script_told self.new ≡ after_calls (script_told self.old) (DeskCall.Start ∷ [])) }
+        ensures err { OnErr result (script_told self.new ≡ script_told self.old) }
     {
         self.calls.push(DeskCall::Start)?;
         Ok(())
@@ -155,10 +140,9 @@ impl CancelDesk for ScriptDesk {
         ensures answer { IfOk result (λ yes. yes ≡ first_or_no self.old.answers) }
         ensures used_up { OnOk result (self.new.answers ≡ drop 1 self.old.answers) }
         ensures kept { OnErr result (self.new.answers ≡ self.old.answers) }
-        ensures ok { IfOk result (λ yes. self.new.calls ≡ self.old.calls ++ DeskCall.Ask yes ∷ []) }
-        ensures err { OnErr result (self.new.calls ≡ self.old.calls) }
-        ensures same { registration_of self.new ≡ registration_of self.old }
-        ensures origin { origin_of self.new.script ≡ origin_of self.old.script }
+        ensures ok { IfOk result (λ yes.
+            script_told self.new ≡ after_calls (script_told self.old) (DeskCall.Ask yes ∷ [])) }
+        ensures err { OnErr result (script_told self.new ≡ script_told self.old) }
     {
         let yes = self.next_answer();
         self.calls.push(DeskCall::Ask(yes))?;
@@ -170,11 +154,9 @@ impl CancelDesk for ScriptDesk {
         ensures answer { IfOk result (λ yes. yes ≡ first_or_no self.old.answers) }
         ensures used_up { OnOk result (self.new.answers ≡ drop 1 self.old.answers) }
         ensures kept { OnErr result (self.new.answers ≡ self.old.answers) }
-        ensures ok { IfOk result
-            (λ yes. self.new.calls ≡ self.old.calls ++ DeskCall.Cancel pid key yes ∷ []) }
-        ensures err { OnErr result (self.new.calls ≡ self.old.calls) }
-        ensures same { registration_of self.new ≡ registration_of self.old }
-        ensures origin { origin_of self.new.script ≡ origin_of self.old.script }
+        ensures ok { IfOk result (λ yes. script_told self.new
+            ≡ after_calls (script_told self.old) (DeskCall.Cancel pid key yes ∷ [])) }
+        ensures err { OnErr result (script_told self.new ≡ script_told self.old) }
     {
         let yes = self.next_answer();
         self.calls.push(DeskCall::Cancel(pid, key, yes))?;

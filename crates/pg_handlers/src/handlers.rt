@@ -1,6 +1,7 @@
 //! The handlers of a server.
 
 ghost use Rattle.std.specs.Prelude.{◌≡◌};
+ghost use Rattle.pg_handlers.specs.Handlers.{Handlers};
 
 use crate::copy::CopyHandler;
 use crate::query::extended::ExtendedQueryHandler;
@@ -17,21 +18,18 @@ pub trait PgWireServerHandlers: Drop {
     /// The type of the handler of COPY.
     type Copying: CopyHandler;
 
-    ghost simple: { Self → Self.Simple };
-
-    ghost extended: { Self → Self.Extended };
-
-    ghost copying: { Self → Self.Copying };
+    // what the three tell
+    ghost told: { Self → Handlers Self.Extended.Statement };
 
     /// The handler of simple queries.
     fn simple_query_handler(&self) -> &Self::Simple
-        ensures { result.now ≡ simple self.now };
+        ensures { Self.Simple.told result.now ≡ (told self.now).simple };
 
     /// The handler of extended queries.
     fn extended_query_handler(&self) -> &Self::Extended
-        ensures { result.now ≡ extended self.now };
+        ensures { Self.Extended.told result.now ≡ (told self.now).extended };
 
     /// The handler of COPY.
     fn copy_handler(&self) -> &Self::Copying
-        ensures { result.now ≡ copying self.now };
+        ensures { Self.Copying.told result.now ≡ (told self.now).copying };
 }

@@ -6,7 +6,7 @@ use Rattle.pg_messages.specs.declared.copy.CopyData.{CopyData}
 use Rattle.pg_messages.specs.declared.backend.PgWireBackendMessage.TheVariants as server
 use Rattle.pg_messages.specs.Replies.{IsEncodable}
 use Rattle.pg_portal.specs.declared.error.PgWireError.{PgWireError}
-use Rattle.pg_portal.specs.Rows.{IsTellable}
+use Rattle.pg_portal.specs.Rows.{IsItemError}
 
 -- data, or the error that stands in their place
 abbrev pub CopyItem : Type 0
@@ -21,7 +21,7 @@ IsNextCopy old (Err e) new = new ≡ old
 -- an item that becomes a reply
 abbrev pub IsSendableCopy : CopyItem → Type 0
 IsSendableCopy (Ok copied) = IsEncodable (server.CopyData copied)
-IsSendableCopy (Err error) = IsTellable error
+IsSendableCopy (Err error) = IsItemError error
 
 -- what follows binary data
 abbrev pub trailer : CopyData

@@ -2,7 +2,7 @@
 
 ghost use Rattle.std.specs.Prelude.{◌≡◌, OnOk, OnErr};
 ghost use Rattle.std.specs.Arc.{arc_value};
-ghost use Rattle.std.specs.FinMap as fin;
+ghost use Rattle.pg_portal.specs.Maps.{no_maps, maps_with_statement, maps_with_portal};
 ghost use Rattle.pg_portal.specs.Told.{portal_of};
 ghost use Rattle.pg_portal.specs.declared.store.Entry.TheVariants as entry;
 
@@ -25,8 +25,7 @@ pub struct MemPortalStore<S, R> {
 impl<S: Drop, R: RowSource> MemPortalStore<S, R> {
     /// An empty store, which takes no memory.
     pub fn new(alloc: Global) -> MemPortalStore<S, R>
-        ensures statements { ⟦<MemPortalStore<S, R> as PortalStore>⟧.statements result ≡ fin.empty }
-        ensures portals { ⟦<MemPortalStore<S, R> as PortalStore>⟧.portals result ≡ fin.empty }
+        ensures { ⟦<MemPortalStore<S, R> as PortalStore>⟧.maps result ≡ no_maps }
     {
         MemPortalStore {
             statements: Named::new(alloc),
@@ -44,22 +43,21 @@ impl<S: Drop, R: RowSource> PortalStore for MemPortalStore<S, R> {
 
     type Rows = R;
 
-    ghost statements = { λ store. map_values (entry_map arc_value) store.statements };
-
-    ghost portals = { λ store. map_values (entry_map (portal_of R.items)) store.portals };
+    ghost maps = { λ store. record {
+      statements = map_values (entry_map arc_value) store.statements;
+      portals = map_values (entry_map (portal_of R.items)) store.portals;
+    } };
 
     fn put_statement(
         &mut self,
         alloc: Global,
         statement: Arc<StoredStatement<S>>,
     ) -> Result<(), AllocError>
-        ensures ok { OnOk result (⟦<MemPortalStore<S, R> as PortalStore>⟧.statements self.new
-            ≡ fin.insert (⟦<MemPortalStore<S, R> as PortalStore>⟧.statements self.old)
+        ensures ok { OnOk result (⟦<MemPortalStore<S, R> as PortalStore>⟧.maps self.new
+            ≡ maps_with_statement (⟦<MemPortalStore<S, R> as PortalStore>⟧.maps self.old)
             (arc_value statement).id (entry.Value (arc_value statement))) }
-        ensures err { OnErr result (⟦<MemPortalStore<S, R> as PortalStore>⟧.statements self.new
-            ≡ ⟦<MemPortalStore<S, R> as PortalStore>⟧.statements self.old) }
-        ensures portals { ⟦<MemPortalStore<S, R> as PortalStore>⟧.portals self.new
-            ≡ ⟦<MemPortalStore<S, R> as PortalStore>⟧.portals self.old }
+        ensures err { OnErr result (⟦<MemPortalStore<S, R> as PortalStore>⟧.maps self.new
+            ≡ ⟦<MemPortalStore<S, R> as PortalStore>⟧.maps self.old) }
     {
         let name = PgStr::copy_of(alloc, statement.id.as_str())?;
         self.statements.put(name, Entry::Value(statement))
@@ -83,13 +81,11 @@ impl<S: Drop, R: RowSource> PortalStore for MemPortalStore<S, R> {
     }
 
     fn put_portal(&mut self, alloc: Global, portal: Portal<S, R>) -> Result<(), AllocError>
-        ensures ok { OnOk result (⟦<MemPortalStore<S, R> as PortalStore>⟧.portals self.new
-            ≡ fin.insert (⟦<MemPortalStore<S, R> as PortalStore>⟧.portals self.old)
+        ensures ok { OnOk result (⟦<MemPortalStore<S, R> as PortalStore>⟧.maps self.new
+            ≡ maps_with_portal (⟦<MemPortalStore<S, R> as PortalStore>⟧.maps self.old)
             portal.name (entry.Value (portal_of R.items portal))) }
-        ensures err { OnErr result (⟦<MemPortalStore<S, R> as PortalStore>⟧.portals self.new
-            ≡ ⟦<MemPortalStore<S, R> as PortalStore>⟧.portals self.old) }
-        ensures statements { ⟦<MemPortalStore<S, R> as PortalStore>⟧.statements self.new
-            ≡ ⟦<MemPortalStore<S, R> as PortalStore>⟧.statements self.old }
+        ensures err { OnErr result (⟦<MemPortalStore<S, R> as PortalStore>⟧.maps self.new
+            ≡ ⟦<MemPortalStore<S, R> as PortalStore>⟧.maps self.old) }
     {
         let name = PgStr::copy_of(alloc, portal.name.as_str())?;
         self.portals.put(name, Entry::Value(portal))

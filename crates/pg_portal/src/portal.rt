@@ -1,13 +1,15 @@
 //! Portals: statements with their parameters and formats, whose rows are fetched page by page.
 
-ghost use Rattle.std.specs.Prelude.{◌≡◌, length, option_map, IfOk, IfErr, OnOk};
+ghost use Rattle.std.specs.Prelude.{◌≡◌, ◌↔◌, length, option_map, IfOk, IfErr, IsErrOf, OnOk};
 ghost use Rattle.std.specs.Arc.{arc_value};
 ghost use Rattle.pg_portal.specs.Fetching.{IsRefusedFetch, TakesInOrder, IsPage, IsRefusedPage, fetched, no_rows};
 ghost use Rattle.pg_portal.specs.Formats.{format_of, format_for, unified, is_text, is_binary};
 ghost use Rattle.pg_portal.specs.Page.{is_reached};
 ghost use Rattle.pg_portal.specs.Statements.{bound_by, cursor_of};
 ghost use Rattle.pg_portal.specs.Told.{Unstarted, Started, stage_of, bound_of, told_rows};
+ghost use Rattle.pg_portal.specs.Rows.{IsAnswerableItem};
 ghost use Rattle.pg_portal.specs.declared.error.PgWireError.{PgWireError};
+ghost use Rattle.pg_portal.specs.declared.error.PgWireError.TheVariants as wire;
 
 use crate::error::PgWireError;
 use crate::results::response::QueryResponse;
@@ -232,6 +234,8 @@ impl<S: Drop, R: RowSource> Portal<S, R> {
             (stage_of R.items self.old.state) (stage_of R.items self.new.state)) }
         ensures taken { TakesInOrder
             (stage_of R.items self.old.state) (stage_of R.items self.new.state) result }
+        ensures not_started { IsErrOf result wire.PortalNotStarted
+            ↔ (stage_of R.items self.old.state ≡ Unstarted) }
         ensures bound { bound_of self.new ≡ bound_of self.old }
     {
         let page = match &mut self.state {
@@ -276,6 +280,7 @@ fn next_page<R: RowSource>(
         (told_rows R.items response.old) (told_rows R.items response.new) page) }
     ensures refusal { IfErr result (IsRefusedPage max_rows
         (told_rows R.items response.old) (told_rows R.items response.new)) }
+    ensures own { IfErr result IsAnswerableItem }
 {
     let command_tag = PgStr::copy_of(alloc, response.command_tag.as_str())?;
     let mut rows = PgList::new(alloc);

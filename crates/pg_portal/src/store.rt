@@ -5,12 +5,10 @@ ghost use Rattle.std.specs.Arc.{arc_value};
 ghost use Rattle.std.specs.Borrow.{LendsIf, LendsSo, sem};
 ghost use Rattle.std.specs.FinMap as fin;
 ghost use Rattle.std.specs.Option.{option_copied, option_copied_mut, option_map};
-ghost use Rattle.pg_portal.specs.Names.{NameMap};
-ghost use Rattle.pg_portal.specs.Told.{TablePortal, portal_of, entry_map, value_of, value_under};
+ghost use Rattle.pg_portal.specs.Maps.{Maps, maps_with_statement, maps_without_statement, maps_with_portal, maps_without_portal, maps_without_portals};
+ghost use Rattle.pg_portal.specs.Told.{portal_of, entry_map, value_of, value_under};
 ghost use Rattle.pg_portal.specs.contracts.portal.Portal.{the_row as portal_row};
 ghost use Rattle.pg_portal.specs.contracts.store.Entry.{the_row as entry_row};
-ghost use Rattle.pg_portal.specs.declared.stmt.StoredStatement.{StoredStatement};
-ghost use Rattle.pg_portal.specs.declared.store.Entry.{Entry};
 ghost use Rattle.pg_portal.specs.declared.store.Entry.TheVariants as entry;
 
 use crate::portal::Portal;
@@ -67,9 +65,8 @@ pub trait PortalStore: Drop {
     /// Where the rows of a started portal come from.
     type Rows: RowSource;
 
-    ghost statements: { Self → NameMap (Entry (StoredStatement Self.Statement)) };
-
-    ghost portals: { Self → NameMap (Entry (TablePortal Self.Statement)) };
+    // its statements and portals
+    ghost maps: { Self → Maps Self.Statement };
 
     /// Puts a statement under its name.
     fn put_statement(
@@ -77,27 +74,24 @@ pub trait PortalStore: Drop {
         alloc: Global,
         statement: Arc<StoredStatement<Self::Statement>>,
     ) -> Result<(), AllocError>
-        ensures ok { OnOk result (statements self.new ≡ fin.insert (statements self.old)
+        ensures ok { OnOk result (maps self.new ≡ maps_with_statement (maps self.old)
             (arc_value statement).id (entry.Value (arc_value statement))) }
-        ensures err { OnErr result (statements self.new ≡ statements self.old) }
-        ensures portals { portals self.new ≡ portals self.old };
+        ensures err { OnErr result (maps self.new ≡ maps self.old) };
 
     /// Puts an empty statement under a name.
     fn put_empty_statement(&mut self, alloc: Global, name: &str) -> Result<(), AllocError>
         ensures ok { OnOk result
-            (statements self.new ≡ fin.insert (statements self.old) name.now entry.Empty) }
-        ensures err { OnErr result (statements self.new ≡ statements self.old) }
-        ensures portals { portals self.new ≡ portals self.old };
+            (maps self.new ≡ maps_with_statement (maps self.old) name.now entry.Empty) }
+        ensures err { OnErr result (maps self.new ≡ maps self.old) };
 
     /// Removes the statement under a name, if there is one. Portals of it stay.
     fn rm_statement(&mut self, name: &str)
-        ensures statements { statements self.new ≡ fin.remove (statements self.old) name.now }
-        ensures portals { portals self.new ≡ portals self.old };
+        ensures { maps self.new ≡ maps_without_statement (maps self.old) name.now };
 
     /// The statement under a name, or None exactly where none stands there.
     fn get_statement(&self, name: &str) -> Option<Entry<&Arc<StoredStatement<Self::Statement>>>>
         ensures { option_map (entry_map (λ s. arc_value s.now)) result
-            ≡ fin.get (statements self.now) name.now };
+            ≡ fin.get (maps self.now).statements name.now };
 
     /// Puts a portal under its name.
     fn put_portal(
@@ -105,43 +99,37 @@ pub trait PortalStore: Drop {
         alloc: Global,
         portal: Portal<Self::Statement, Self::Rows>,
     ) -> Result<(), AllocError>
-        ensures ok { OnOk result (portals self.new ≡ fin.insert (portals self.old)
+        ensures ok { OnOk result (maps self.new ≡ maps_with_portal (maps self.old)
             portal.name (entry.Value (portal_of Self.Rows.items portal))) }
-        ensures err { OnErr result (portals self.new ≡ portals self.old) }
-        ensures statements { statements self.new ≡ statements self.old };
+        ensures err { OnErr result (maps self.new ≡ maps self.old) };
 
     /// Puts an empty portal under a name.
     fn put_empty_portal(&mut self, alloc: Global, name: &str) -> Result<(), AllocError>
         ensures ok { OnOk result
-            (portals self.new ≡ fin.insert (portals self.old) name.now entry.Empty) }
-        ensures err { OnErr result (portals self.new ≡ portals self.old) }
-        ensures statements { statements self.new ≡ statements self.old };
+            (maps self.new ≡ maps_with_portal (maps self.old) name.now entry.Empty) }
+        ensures err { OnErr result (maps self.new ≡ maps self.old) };
 
     /// Removes the portal under a name, if there is one.
     fn rm_portal(&mut self, name: &str)
-        ensures portals { portals self.new ≡ fin.remove (portals self.old) name.now }
-        ensures statements { statements self.new ≡ statements self.old };
+        ensures { maps self.new ≡ maps_without_portal (maps self.old) name.now };
 
     /// Removes all portals.
     fn clear_portals(&mut self)
-        ensures portals { portals self.new ≡ fin.empty }
-        ensures statements { statements self.new ≡ statements self.old };
+        ensures { maps self.new ≡ maps_without_portals (maps self.old) };
 
     /// The portal under a name, or None exactly where none stands there.
     fn get_portal(&self, name: &str) -> Option<Entry<&Portal<Self::Statement, Self::Rows>>>
         ensures { option_map (entry_map (λ portal. portal_of Self.Rows.items portal.now)) result
-            ≡ fin.get (portals self.now) name.now };
+            ≡ fin.get (maps self.now).portals name.now };
 
     /// The portal under a name, lent, or None exactly where none stands there or it is empty. What it is when the
     /// borrow ends stands under this name, whatever its own name is then, and all else is as it was.
     fn portal_mut(&mut self, name: &str) -> Option<&mut Portal<Self::Statement, Self::Rows>>
         ensures* writes_back { sem 𝓛 (LendsSo Self.row (portal_row Self.Statement.row Self.Rows.row)
             self.entry result
-            (λ n w. OnSome result
-            ((portals n ≡ fin.insert (portals self.old) name.now
-            (entry.Value (portal_of Self.Rows.items w)))
-            × (statements n ≡ statements self.old)))
-            (λ n. (portals n ≡ portals self.old) × (statements n ≡ statements self.old))) }
+            (λ n w. OnSome result (maps n ≡ maps_with_portal (maps self.old) name.now
+            (entry.Value (portal_of Self.Rows.items w))))
+            (λ n. maps n ≡ maps self.old)) }
         ensures value { option_map (portal_of Self.Rows.items) (option_copied_mut result)
-            ≡ value_under (fin.get (portals self.old) name.now) };
+            ≡ value_under (fin.get (maps self.old).portals name.now) };
 }

@@ -10,7 +10,7 @@ use Rattle.pg_handlers.specs.declared.ends.EndKind.{EndKind}
 use Rattle.pg_handlers.specs.declared.ends.EndKind.TheVariants as end
 use Rattle.pg_handlers.specs.declared.ends.SessionError.TheVariants as session
 use Rattle.pg_handlers.specs.Answer.{Answer, Next, Goes, Ends, answers_of}
-use Rattle.pg_handlers.specs.Effect.{Scope, Outcome, Done, Failed, Over, Stopped, IsRow, IsCutRow, IsRefusedRow, after_error, failed, settled}
+use Rattle.pg_handlers.specs.Effect.{Scope, Outcome, Done, Failed, Over, Stopped, IsRow, IsStoppedRow, IsCutRow, IsRefusedRow, after_error, failed, settled}
 use Rattle.pg_handlers.specs.Errors.{is_fatal}
 use Rattle.pg_handlers.specs.Handlers.{Handlers}
 use Rattle.pg_handlers.specs.Lawful.{IsLawful}
@@ -141,7 +141,11 @@ module _ {S : Type 0} (h : Handlers S) (s : State S) (m : PgWireFrontendMessage)
       → IsCutAnswer (whole_table h) s m calls new_calls
   cut_behind_row out mid outcome x = cut_row (record { made = x.made; front = ([], x.own ∙ sym (append-nil x.made)); grown = x.called })
 
-  pub stopped_row : (out mid : List ℕ) → IsRow (λ answers. message_row h answers s m) out mid calls new_calls Stopped
+  pub cut_behind_stopped : (out mid : List ℕ) → IsStoppedRow (λ answers. message_row h answers s m) out mid calls new_calls
+      → IsCutAnswer (whole_table h) s m calls new_calls
+  cut_behind_stopped out mid x = cut_row (record { made = x.made; front = ([], x.own ∙ sym (append-nil x.made)); grown = x.called })
+
+  pub stopped_row : (out mid : List ℕ) → IsStoppedRow (λ answers. message_row h answers s m) out mid calls new_calls
       → IsStoppedAnswer (whole_table h) s m calls new_calls
   stopped_row out mid x =
       let c = message_row h (answers_of x.made) s m in
@@ -149,6 +153,9 @@ module _ {S : Type 0} (h : Handlers S) (s : State S) (m : PgWireFrontendMessage)
         made = x.made;
         own = settled_calls (scope_in s.info.state m) c.effect.replies c.calls c.effect.outcome ∙ x.own;
         stops = ap (λ o. (settled (scope_in s.info.state m) c.effect.replies c.calls o).next) x.effect.came;
+        asks = λ yes.
+            let next = message_row h (answers_of x.made ++ yes ∷ []) s m in
+            ((x.asks yes).0, settled_calls (scope_in s.info.state m) next.effect.replies next.calls next.effect.outcome ∙ (x.asks yes).1);
         grown = x.called;
       }
 

@@ -2,6 +2,7 @@ pub mod Answering
 pub mod BadFrames
 pub mod Flowing
 pub mod GoodStates
+pub mod Held
 pub mod Pieces
 pub mod ReplyBytes
 pub mod Rows

@@ -114,17 +114,23 @@ module _ {T : Type 0} (rules : Rules T) (lawful : IsLawful rules.table rules.awa
       by_next (Ends kind) n ih f = absurd (subst goes (sym (sym n ∙ f)) tt)
       by_next Stops n ih f = absurd (subst goes (sym (sym n ∙ f)) tt)
 
-  -- The answer to two pieces, under the answers of the calls of both, is the one after the other.
+  -- The answer to two pieces, under the answers of the calls of the first and more, is the one after the other.
+  pub one_piece_under : (ms ns : List PgWireFrontendMessage) (s t : T) (a : Answer T) (more : List Bool)
+      → conversation rules.table (answers_of a.calls) s ms ≡ a → a.next ≡ Goes t
+      → conversation rules.table (answers_of a.calls ++ more) s (ms ++ ns) ≡ joined a (conversation rules.table more t ns)
+  one_piece_under ms ns s t a more first goes_on =
+      let mine = answers_of a.calls in
+      let none_left : left_by a.calls mine ≡ [] = drop-length mine in
+      two_pieces ms ns mine more s t (ap (λ x. x.next) first ∙ goes_on)
+      ∙ ap (λ x. joined x (conversation rules.table (left_by x.calls mine ++ more) t ns)) first
+      ∙ ap (λ xs. joined a (conversation rules.table (xs ++ more) t ns)) none_left
+
   pub one_piece : (ms ns : List PgWireFrontendMessage) (s t : T) (a : Answer T) (l : List DeskCall)
       → conversation rules.table (answers_of a.calls) s ms ≡ a → a.next ≡ Goes t
       → conversation rules.table (answers_of (a.calls ++ l)) s (ms ++ ns) ≡ joined a (conversation rules.table (answers_of l) t ns)
   one_piece ms ns s t a l first goes_on =
-      let mine = answers_of a.calls in
-      let none_left : left_by a.calls mine ≡ [] = drop-length mine in
       ap (λ xs. conversation rules.table xs s (ms ++ ns)) (answers_of-append a.calls l)
-      ∙ two_pieces ms ns mine (answers_of l) s t (ap (λ x. x.next) first ∙ goes_on)
-      ∙ ap (λ x. joined x (conversation rules.table (left_by x.calls mine ++ answers_of l) t ns)) first
-      ∙ ap (λ xs. joined a (conversation rules.table (xs ++ answers_of l) t ns)) none_left
+      ∙ one_piece_under ms ns s t a (answers_of l) first goes_on
 
   conversation_awaits_by : (given : Answer T) (n : Next T) → given.next ≡ n → (t : T) (b : Bool) (others : T → Answer T)
       → ((u : T) → given.next ≡ Goes u → (others u).next ≡ Goes t → rules.awaits t ≡ b) → (continued given n others).next ≡ Goes t

@@ -1,7 +1,8 @@
 -- Rows that call nothing, and rows that are the same.
-use Rattle.std.proofs.Common.{◌≡◌, ℕ, List, [], Bool, refl, sym, ap, subst, ◌∙◌, append-nil, ⊎_elim, inl, inr}
+use Rattle.std.proofs.Common.{◌≡◌, ℕ, List, [], ◌∷◌, ◌++◌, Bool, Option, Result, IfErr, refl, sym, ap, subst, ◌∙◌, append-nil, ⊎_elim, inl, inr}
 use Rattle.pg_portal.specs.declared.error.PgWireError.{PgWireError}
 use Rattle.pg_handlers.specs.declared.desk.DeskCall.{DeskCall}
+use Rattle.pg_handlers.specs.declared.ends.EndKind.{EndKind}
 use Rattle.pg_handlers.specs.declared.ends.SessionError.{SessionError}
 use Rattle.pg_handlers.specs.declared.ends.SessionError.TheVariants as session
 use Rattle.pg_messages.specs.declared.simplequery.Query.{Query}
@@ -12,9 +13,9 @@ use Rattle.pg_messages.specs.declared.frontend.PgWireFrontendMessage.TheVariants
 use Rattle.pg_handlers.specs.declared.ends.EndKind.TheVariants as end
 use Rattle.pg_handlers.specs.Answer.{answers_of}
 use Rattle.pg_handlers.specs.Handlers.{Handlers}
-use Rattle.pg_handlers.specs.Table.{ready_row, statement_row}
+use Rattle.pg_handlers.specs.Table.{message_row, ready_row, statement_row}
 use Rattle.pg_handlers.specs.State.{State}
-use Rattle.pg_handlers.specs.Effect.{Effect, Outcome, Row, IsEffect, IsRefusedEffect, IsRow, IsCutRow, IsRefusedRow, Over, silent, over}
+use Rattle.pg_handlers.specs.Effect.{Effect, Outcome, Row, IsEffect, IsRefusedEffect, IsRow, IsCutRow, IsStoppedRow, IsRefusedRow, Over, Stopped, silent, over}
 
 pub silent_row : {S : Type 0} (e : Effect S) {out new_out : List ℕ} (calls : List DeskCall) {o : Outcome S} → IsEffect e out new_out o
     → IsRow (λ answers. silent e) out new_out calls calls o
@@ -46,10 +47,20 @@ same_cut same x = record {
   grown = x.grown;
 }
 
+pub same_stopped : {S : Type 0} {row other : Row S} {out new_out : List ℕ} {calls new_calls : List DeskCall}
+    → ((answers : List Bool) → row answers ≡ other answers) → IsStoppedRow other out new_out calls new_calls → IsStoppedRow row out new_out calls new_calls
+same_stopped {out = out} {new_out = new_out} same x = record {
+  made = x.made;
+  own = ap (λ c. c.calls) (same (answers_of x.made)) ∙ x.own;
+  called = x.called;
+  effect = subst (λ c. IsEffect c.effect out new_out Stopped) (sym (same (answers_of x.made))) x.effect;
+  asks = λ yes. ((x.asks yes).0, ap (λ c. c.calls) (same (answers_of x.made ++ yes ∷ [])) ∙ (x.asks yes).1);
+}
+
 pub same_refused : {S : Type 0} (row other : Row S) (out new_out : List ℕ) (calls new_calls : List DeskCall) (s : State S) (error : SessionError)
     → ((answers : List Bool) → row answers ≡ other answers) → IsRefusedRow other out new_out calls new_calls s error → IsRefusedRow row out new_out calls new_calls s error
 same_refused row other out new_out calls new_calls s (session.Wire e) same x = ⊎_elim (λ none. inl (none.0, same_cut same none.1)) (λ told. inr (same_row same told)) x
-same_refused row other out new_out calls new_calls s session.TurnLimit same x = same_row same x
+same_refused row other out new_out calls new_calls s session.TurnLimit same x = same_stopped same x
 
 -- ---- rows of a session that is ready
 
@@ -66,3 +77,11 @@ ended_row {S} h s m t out calls is =
     let row : IsRow {S = S} (λ answers. silent (over end.Terminate)) out out calls calls ended =
     silent_row (over end.Terminate) calls (record { replied = sym (append-nil out); came = refl }) in
     subst (λ n. IsRow (λ answers. ready_row h answers s n) out out calls calls ended) (sym is) row
+
+-- ---- the same handlers, state and outbox
+
+pub refused_as : {S : Type 0} (h other : Handlers S) (s t : State S) (m : PgWireFrontendMessage) (out other_out new_out : List ℕ) (calls new_calls : List DeskCall) (n : State S)
+    (answer : Result (Option EndKind) SessionError) → h ≡ other → s ≡ t → out ≡ other_out
+    → IfErr answer (IsRefusedRow (λ answers. message_row other answers t m) other_out new_out calls new_calls n)
+    → IfErr answer (IsRefusedRow (λ answers. message_row h answers s m) out new_out calls new_calls n)
+refused_as h other s t m out other_out new_out calls new_calls n answer p q r x = rw (p, q, r) x

@@ -8,7 +8,9 @@ use Rattle.pg_handlers.specs.declared.ends.EndKind.{EndKind}
 use Rattle.pg_handlers.specs.declared.ends.EndKind.TheVariants as end
 use Rattle.pg_session.specs.declared.ends.Progress.{Progress}
 use Rattle.pg_session.specs.declared.ends.Progress.TheVariants as progress
-use Rattle.pg_handlers.specs.Answer.{Answer, Next, Goes, Ends, Stops, answers_of, joined}
+use Rattle.pg_handlers.specs.Answer.{Answer, Next, Goes, Ends, Stops, answers_of, conversation, joined}
+use Rattle.pg_handlers.specs.declared.desk.DeskCall.TheVariants as desk
+use Rattle.pg_handlers.proofs.Scripts.{answers_of-append}
 use Rattle.std.specs.Option.{option_map}
 use Rattle.std.specs.Result.{IsErrAnd}
 use Rattle.pg_handlers.specs.Lawful.{IsLawful}
@@ -18,7 +20,7 @@ use Rattle.pg_session.specs.declared.ends.ServeError.{ServeError}
 use Rattle.pg_session.specs.Session.{goes_on, is_going}
 use Rattle.pg_session.specs.Streams.{GrowsByFront}
 use Rattle.pg_session.specs.Steps.{Flows, IsAnswered, IsCutAnswer, IsStoppedAnswer, IsServed, IsCutOff, IsStopped, StandsAfterStep}
-use Rattle.pg_session.proofs.Pieces.{IsFed-none, IsFed-one, IsFed-then, divides-then, one_piece, conversation-one}
+use Rattle.pg_session.proofs.Pieces.{IsFed-none, IsFed-one, IsFed-then, divides-then, one_piece, one_piece_under, conversation-one}
 use Rattle.pg_session.proofs.ReplyBytes.{replies_bytes-append}
 use Rattle.pg_session.proofs.Flowing.{Flows-none, Flows-wait, Flows-then, cut_at_once, cut_after, GrowsByFront-then}
 
@@ -139,6 +141,10 @@ module _ {T : Type 0} (rules : Rules T) where
         division = (frame, rest, e, f, refl);
         answered = conversation-one rules.table (answers_of x.made) s m
             ∙ (λ i. record { replies = given.replies; calls = x.own i; next = x.stops i });
+        asks = λ yes. (
+          (x.asks yes).0,
+          ap (λ a. a.calls) (conversation-one rules.table (answers_of x.made ++ yes ∷ []) s m) ∙ (x.asks yes).1,
+        );
         cut = cut_at_once w (o ++ replies_bytes given.replies);
         grown = x.grown;
       }
@@ -246,6 +252,16 @@ module _ {T : Type 0} (rules : Rules T) (lawful : IsLawful rules.table rules.awa
         division = subst (λ l. DividesInto (rules.awaits s) l (fed.messages ++ y.messages) y.rest) (append-nil text)
             (divides-then rules lawful y.rest fed y.messages followed);
         answered = one_piece rules lawful fed.messages y.messages s t first y.made fed.answered refl ∙ ap (λ a. joined first a) y.answered;
+        asks = λ yes. (
+          (y.asks yes).0,
+          ap (λ answers. (conversation rules.table (answers ++ yes ∷ []) s (fed.messages ++ y.messages)).calls) (answers_of-append x.called y.made)
+              ∙ ap (λ answers. (conversation rules.table answers s (fed.messages ++ y.messages)).calls)
+              (append_assoc (answers_of x.called) (answers_of y.made) (yes ∷ []))
+              ∙ ap (λ a. a.calls) (one_piece_under rules lawful fed.messages y.messages s t first (answers_of y.made ++ yes ∷ []) fed.answered refl)
+              ∙ ap (λ calls. x.called ++ calls) (y.asks yes).1
+              ∙ sym (append_assoc x.called (y.made ++ desk.Ask yes ∷ []) (y.asks yes).0)
+              ∙ ap (λ calls. calls ++ (y.asks yes).0) (sym (append_assoc x.called y.made (desk.Ask yes ∷ []))),
+        );
         cut = subst (λ b. GrowsByFront w u b)
             (sym (append_assoc x.flows.sent p behind) ∙ ap (λ b. b ++ behind) x.flows.same ∙ append_assoc o x.bytes behind
             ∙ ap (λ b. o ++ (b ++ behind)) fed.replied ∙ ap (λ b. o ++ b) (sym (replies_bytes-append fed.replies y.replies)))

@@ -23,6 +23,11 @@ pub record SessionValue (H S : Type 0) : Type 0 where
   pub unsent : List ℕ
   pub is_open : Bool
 
+-- the most bytes of a frame that isn't whole: one less than a frame may have while the startup packet is awaited, and afterwards
+abbrev pub most_held : Bool → ℕ
+most_held true = 9999
+most_held false = 1048576
+
 -- the conversation by what handlers tell
 abbrev pub whole_rules : {S : Type 0} → Handlers S → Rules (State S)
 whole_rules h = record { table = whole_table h; awaits = awaits }

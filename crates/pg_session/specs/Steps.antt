@@ -9,7 +9,7 @@ use Rattle.pg_handlers.specs.declared.ends.EndKind.TheVariants as end
 use Rattle.pg_session.specs.declared.ends.Progress.{Progress}
 use Rattle.pg_session.specs.declared.ends.Progress.TheVariants as progress
 use Rattle.pg_handlers.specs.Answer.{Answer, Table, Next, Goes, Stops, answers_of, conversation}
-use Rattle.pg_handlers.specs.Answer.{BeginsWith}
+use Rattle.pg_handlers.specs.Answer.{BeginsWith, AsksNext}
 use Rattle.pg_session.specs.Streams.{GrowsBy, GrowsByFront}
 use Rattle.pg_session.specs.Run.{Rules, IsFed, EndsWith}
 
@@ -38,12 +38,13 @@ pub record IsCutAnswer {T : Type 0} (table : Table T) (s : T) (m : PgWireFronten
   pub front : BeginsWith (table (answers_of made) s m).calls made
   pub grown : new_calls ≡ calls ++ made
 
--- The answer to a message stops: all calls were made, and the next one wants an answer that isn't there.
+-- The answer to a message stops at a question: all calls were made, and the next one is a question, whose answer isn't there.
 pub record IsStoppedAnswer {T : Type 0} (table : Table T) (s : T) (m : PgWireFrontendMessage)
     (calls new_calls : List DeskCall) : Type 0 where
   pub made : List DeskCall
   pub own : (table (answers_of made) s m).calls ≡ made
   pub stops : (table (answers_of made) s m).next ≡ Stops
+  pub asks : AsksNext (λ answers. (table answers s m).calls) made
   pub grown : new_calls ≡ calls ++ made
 
 -- ---- a text
@@ -88,6 +89,7 @@ pub record IsStopped {T : Type 0} (rules : Rules T) (s : T) (text : List ℕ) (w
   pub replies : List PgWireBackendMessage
   pub division : DividesInto (rules.awaits s) text messages rest
   pub answered : conversation rules.table (answers_of made) s messages ≡ record { replies = replies; calls = made; next = Stops }
+  pub asks : AsksNext (λ answers. (conversation rules.table answers s messages).calls) made
   pub cut : GrowsByFront written new_written (out ++ replies_bytes replies)
   pub grown : new_calls ≡ calls ++ made
 

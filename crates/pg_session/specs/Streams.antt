@@ -1,5 +1,5 @@
 -- What goes in and out of a conversation: bytes that come, bytes that go, and counts.
-use Rattle.std.specs.Prelude.{ℕ, List, [], ◌++◌, Option, Some, Result, Ok, Err, ◌≡◌, ◌≤◌, ◌<◌, ◌+◌, ◌==◌, ◌⊎◌, IfSome, IsErrOf, if◌then◌else◌, min, take, drop, length}
+use Rattle.std.specs.Prelude.{ℕ, List, [], ◌++◌, Option, Some, Result, Ok, Err, ◌≡◌, ◌≤◌, ◌<◌, ◌+◌, ◌==◌, ◌⊎◌, IfSome, IsErrOf, OnOk, if◌then◌else◌, min, take, drop, length}
 use Rattle.pg_handlers.specs.Answer.{BeginsWith}
 use Rattle.pg_session.specs.declared.ends.ServeError.{ServeError}
 use Rattle.pg_session.specs.declared.ends.ServeError.TheVariants.{ReadFault, WriteFault, TurnLimit, NoMemory}
@@ -40,15 +40,18 @@ told_of_sink sink.Failed = WriteFault
 told_of_sink sink.NoMemory = NoMemory
 
 -- The cause of an error that comes from the sink's side: a write fault only where the sink's count has risen, and no
--- fault of another side. The count never falls.
+-- fault of another side. The count never falls, and without an error it stays.
 pub record HasFlushed {T : Type 0} (old new : ℕ) (result : Result T ServeError) : Type 0 where
   pub write_fault : IsErrOf result WriteFault → HasRisen old new
   pub no_read_fault : ¬ IsErrOf result ReadFault
   pub no_turn_limit : ¬ IsErrOf result TurnLimit
   pub never_falls : old ≤ new
+  pub calm : OnOk result (new ≡ old)
 
--- The cause of an error of a session: a write fault only where the sink's count has risen, and no read fault. The count never falls.
+-- The cause of an error of a session: a write fault only where the sink's count has risen, and no read fault. The count never falls, and
+-- without an error it stays.
 pub record HasSinkCause {T : Type 0} (old new : ℕ) (result : Result T ServeError) : Type 0 where
   pub write_fault : IsErrOf result WriteFault → HasRisen old new
   pub no_read_fault : ¬ IsErrOf result ReadFault
   pub never_falls : old ≤ new
+  pub calm : OnOk result (new ≡ old)

@@ -25,11 +25,11 @@ pub fn tell_error<St: PortalStore>(
 ) -> Result<Option<EndKind>, AllocError>
     requires { IsTellable error }
     ensures replied { OnOk result (client.new.outbox ≡ client.old.outbox ++ replies_bytes
-        (failed (scope_for wait_for_sync) [] [] (state_of St.statements St.portals client.old)
+        (failed (scope_for wait_for_sync) [] [] (state_of St.maps client.old)
         (info_of error)).replies) }
     ensures next { IfOk result (λ end.
-        (failed (scope_for wait_for_sync) [] [] (state_of St.statements St.portals client.old)
-        (info_of error)).next ≡ next_of end (state_of St.statements St.portals client.new)) }
+        (failed (scope_for wait_for_sync) [] [] (state_of St.maps client.old)
+        (info_of error)).next ≡ next_of end (state_of St.maps client.new)) }
     ensures store { client.new.store ≡ client.old.store }
     ensures metadata { client.new.info.metadata ≡ client.old.info.metadata }
     ensures ends { IfOk result (λ end. (end ≡ None) ⊎ (end ≡ Some Fatal)) }

@@ -4,10 +4,10 @@ ghost use Rattle.std.specs.Prelude.{◌≡◌, ◌≢◌, ◌≤◌, Some, IfOk,
 ghost use Rattle.pg_portal.specs.Rows.{IsAnswerable};
 ghost use Rattle.pg_portal.specs.declared.error.PgWireError.{PgWireError};
 ghost use Rattle.pg_portal.specs.declared.client.PgWireConnectionState.TheVariants as phase;
+ghost use Rattle.pg_handlers.specs.Desk.{KeepsDesk};
 ghost use Rattle.pg_handlers.specs.CopyRows.{copy_row, copied};
 ghost use Rattle.pg_handlers.specs.Effect.{IsRow, IsRefusedRow, IsEffect, IsRefusedEffect, Done};
 ghost use Rattle.pg_handlers.specs.Good.{IsGiven, IsGoodState};
-ghost use Rattle.pg_handlers.specs.Handlers.{handlers_of};
 ghost use Rattle.pg_handlers.specs.Questions.{HasSpent, questions_since};
 ghost use Rattle.pg_handlers.specs.Sending.{IsAnswerableError};
 ghost use Rattle.pg_handlers.specs.State.{state_of};
@@ -40,28 +40,27 @@ pub fn on_message<
     turns: &mut Turns,
     message: PgWireFrontendMessage,
 ) -> Result<Option<EndKind>, SessionError>
-    requires given { IsGivenIn (state_of St.statements St.portals client.old) message }
-    requires good { IsGoodState (H.Extended.told (H.extended handlers.now)).parser (state_of St.statements St.portals client.old) }
+    requires given { IsGivenIn (state_of St.maps client.old) message }
+    requires good { IsGoodState (H.told handlers.now).extended.parser (state_of St.maps client.old) }
     ensures ok { IfOk result (λ end. IsRow
         (λ answers. message_row
-        (handlers_of (H.Extended.told (H.extended handlers.now)) (H.Simple.told (H.simple handlers.now)) (H.Copying.told (H.copying handlers.now)))
-        answers (state_of St.statements St.portals client.old) message)
-        client.old.outbox client.new.outbox (D.calls desk.old) (D.calls desk.new)
-        (outcome_of end (state_of St.statements St.portals client.new))) }
+        (H.told handlers.now)
+        answers (state_of St.maps client.old) message)
+        client.old.outbox client.new.outbox (D.told desk.old).calls (D.told desk.new).calls
+        (outcome_of end (state_of St.maps client.new))) }
     ensures refused { IfErr result (IsRefusedRow
         (λ answers. message_row
-        (handlers_of (H.Extended.told (H.extended handlers.now)) (H.Simple.told (H.simple handlers.now)) (H.Copying.told (H.copying handlers.now)))
-        answers (state_of St.statements St.portals client.old) message)
-        client.old.outbox client.new.outbox (D.calls desk.old) (D.calls desk.new)
-        (state_of St.statements St.portals client.new)) }
+        (H.told handlers.now)
+        answers (state_of St.maps client.old) message)
+        client.old.outbox client.new.outbox (D.told desk.old).calls (D.told desk.new).calls
+        (state_of St.maps client.new)) }
     ensures answerable { IfErr result IsAnswerableError }
     ensures ends { IfOk result (λ end. end ≢ Some InputEnd) }
-    ensures good { IsGoodState (H.Extended.told (H.extended handlers.now)).parser (state_of St.statements St.portals client.new) }
+    ensures good { IsGoodState (H.told handlers.now).extended.parser (state_of St.maps client.new) }
     ensures turns { HasSpent turns.old turns.new
-        (questions_since (D.calls desk.old) (D.calls desk.new)) result }
+        (questions_since (D.told desk.old).calls (D.told desk.new).calls) result }
     ensures bounded { turns.old.spent ≤ turns.old.limit → turns.new.spent ≤ turns.new.limit }
-    ensures same { D.registration desk.new ≡ D.registration desk.old }
-    ensures origin { D.origin desk.new ≡ D.origin desk.old }
+    ensures keeps { KeepsDesk (D.told desk.old) (D.told desk.new) }
 {
     match client.info.state {
         PgWireConnectionState::AwaitingStartup => on_startup_phase(alloc, client, desk, message),
@@ -103,27 +102,26 @@ fn on_ready<
 ) -> Result<Option<EndKind>, SessionError>
     requires given { IsGiven message }
     requires ready { client.old.info.state ≡ phase.ReadyForQuery }
-    requires good { IsGoodState (H.Extended.told (H.extended handlers.now)).parser (state_of St.statements St.portals client.old) }
+    requires good { IsGoodState (H.told handlers.now).extended.parser (state_of St.maps client.old) }
     ensures ok { IfOk result (λ end. IsRow
         (λ answers. ready_row
-        (handlers_of (H.Extended.told (H.extended handlers.now)) (H.Simple.told (H.simple handlers.now)) (H.Copying.told (H.copying handlers.now)))
-        answers (state_of St.statements St.portals client.old) message)
-        client.old.outbox client.new.outbox (D.calls desk.old) (D.calls desk.new)
-        (outcome_of end (state_of St.statements St.portals client.new))) }
+        (H.told handlers.now)
+        answers (state_of St.maps client.old) message)
+        client.old.outbox client.new.outbox (D.told desk.old).calls (D.told desk.new).calls
+        (outcome_of end (state_of St.maps client.new))) }
     ensures refused { IfErr result (IsRefusedRow
         (λ answers. ready_row
-        (handlers_of (H.Extended.told (H.extended handlers.now)) (H.Simple.told (H.simple handlers.now)) (H.Copying.told (H.copying handlers.now)))
-        answers (state_of St.statements St.portals client.old) message)
-        client.old.outbox client.new.outbox (D.calls desk.old) (D.calls desk.new)
-        (state_of St.statements St.portals client.new)) }
+        (H.told handlers.now)
+        answers (state_of St.maps client.old) message)
+        client.old.outbox client.new.outbox (D.told desk.old).calls (D.told desk.new).calls
+        (state_of St.maps client.new)) }
     ensures answerable { IfErr result IsAnswerableError }
     ensures ends { IfOk result (λ end. end ≢ Some InputEnd) }
-    ensures good { IsGoodState (H.Extended.told (H.extended handlers.now)).parser (state_of St.statements St.portals client.new) }
+    ensures good { IsGoodState (H.told handlers.now).extended.parser (state_of St.maps client.new) }
     ensures turns { HasSpent turns.old turns.new
-        (questions_since (D.calls desk.old) (D.calls desk.new)) result }
+        (questions_since (D.told desk.old).calls (D.told desk.new).calls) result }
     ensures bounded { turns.old.spent ≤ turns.old.limit → turns.new.spent ≤ turns.new.limit }
-    ensures same { D.registration desk.new ≡ D.registration desk.old }
-    ensures origin { D.origin desk.new ≡ D.origin desk.old }
+    ensures keeps { KeepsDesk (D.told desk.old) (D.told desk.new) }
 {
     match message {
         PgWireFrontendMessage::Query(m) => {
@@ -161,15 +159,15 @@ fn on_statement<
 ) -> Result<(), PgWireError>
     requires given { IsGiven message }
     requires plain { IsPlain message }
-    requires good { IsGoodState (H.Extended.told (H.extended handlers.now)).parser (state_of St.statements St.portals client.old) }
+    requires good { IsGoodState (H.told handlers.now).extended.parser (state_of St.maps client.old) }
     ensures ok { OnOk result (IsEffect
-        (statement_row (H.Extended.told (H.extended handlers.now)) (state_of St.statements St.portals client.old) message)
-        client.old.outbox client.new.outbox (Done (state_of St.statements St.portals client.new))) }
+        (statement_row (H.told handlers.now).extended (state_of St.maps client.old) message)
+        client.old.outbox client.new.outbox (Done (state_of St.maps client.new))) }
     ensures refused { IfErr result (IsRefusedEffect
-        (statement_row (H.Extended.told (H.extended handlers.now)) (state_of St.statements St.portals client.old) message)
-        client.old.outbox client.new.outbox (state_of St.statements St.portals client.new)) }
+        (statement_row (H.told handlers.now).extended (state_of St.maps client.old) message)
+        client.old.outbox client.new.outbox (state_of St.maps client.new)) }
     ensures answerable { IfErr result IsAnswerable }
-    ensures good { IsGoodState (H.Extended.told (H.extended handlers.now)).parser (state_of St.statements St.portals client.new) }
+    ensures good { IsGoodState (H.told handlers.now).extended.parser (state_of St.maps client.new) }
 {
     match message {
         PgWireFrontendMessage::Parse(m) => handlers
@@ -204,16 +202,16 @@ fn on_awaiting_sync<
     message: PgWireFrontendMessage,
 ) -> Result<Option<EndKind>, PgWireError>
     requires given { IsGiven message }
-    requires good { IsGoodState (H.Extended.told (H.extended handlers.now)).parser (state_of St.statements St.portals client.old) }
+    requires good { IsGoodState (H.told handlers.now).extended.parser (state_of St.maps client.old) }
     ensures ok { IfOk result (λ end. IsEffect
-        (awaiting_sync_row (state_of St.statements St.portals client.old) message)
-        client.old.outbox client.new.outbox (outcome_of end (state_of St.statements St.portals client.new))) }
+        (awaiting_sync_row (state_of St.maps client.old) message)
+        client.old.outbox client.new.outbox (outcome_of end (state_of St.maps client.new))) }
     ensures refused { IfErr result (IsRefusedEffect
-        (awaiting_sync_row (state_of St.statements St.portals client.old) message)
-        client.old.outbox client.new.outbox (state_of St.statements St.portals client.new)) }
+        (awaiting_sync_row (state_of St.maps client.old) message)
+        client.old.outbox client.new.outbox (state_of St.maps client.new)) }
     ensures answerable { IfErr result IsAnswerable }
     ensures ends { IfOk result (λ end. end ≢ Some InputEnd) }
-    ensures good { IsGoodState (H.Extended.told (H.extended handlers.now)).parser (state_of St.statements St.portals client.new) }
+    ensures good { IsGoodState (H.told handlers.now).extended.parser (state_of St.maps client.new) }
 {
     match message {
         PgWireFrontendMessage::Terminate(_) => Ok(Some(EndKind::Terminate)),
@@ -243,16 +241,16 @@ fn on_copy<
     message: PgWireFrontendMessage,
 ) -> Result<Option<EndKind>, PgWireError>
     requires given { IsGiven message }
-    requires good { IsGoodState (H.Extended.told (H.extended handlers.now)).parser (state_of St.statements St.portals client.old) }
+    requires good { IsGoodState (H.told handlers.now).extended.parser (state_of St.maps client.old) }
     ensures ok { IfOk result (λ end. IsEffect
-        (copy_row (H.Copying.told (H.copying handlers.now)) is_extended (state_of St.statements St.portals client.old) message)
-        client.old.outbox client.new.outbox (outcome_of end (state_of St.statements St.portals client.new))) }
+        (copy_row (H.told handlers.now).copying is_extended (state_of St.maps client.old) message)
+        client.old.outbox client.new.outbox (outcome_of end (state_of St.maps client.new))) }
     ensures refused { IfErr result (IsRefusedEffect
-        (copy_row (H.Copying.told (H.copying handlers.now)) is_extended (state_of St.statements St.portals client.old) message)
-        client.old.outbox client.new.outbox (state_of St.statements St.portals client.new)) }
+        (copy_row (H.told handlers.now).copying is_extended (state_of St.maps client.old) message)
+        client.old.outbox client.new.outbox (state_of St.maps client.new)) }
     ensures answerable { IfErr result IsAnswerable }
     ensures ends { IfOk result (λ end. end ≢ Some InputEnd) }
-    ensures good { IsGoodState (H.Extended.told (H.extended handlers.now)).parser (state_of St.statements St.portals client.new) }
+    ensures good { IsGoodState (H.told handlers.now).extended.parser (state_of St.maps client.new) }
 {
     match message {
         PgWireFrontendMessage::Terminate(_) => Ok(Some(EndKind::Terminate)),
@@ -278,8 +276,8 @@ fn on_copy<
 /// The COPY is done: in a Query ReadyForQuery with the status that was kept, in an extended query nothing is said.
 fn end_copy<St: PortalStore>(client: &mut Client<St>, is_extended: bool) -> Result<(), PgWireError>
     ensures ok { OnOk result (IsEffect
-        (copied is_extended (state_of St.statements St.portals client.old))
-        client.old.outbox client.new.outbox (Done (state_of St.statements St.portals client.new))) }
+        (copied is_extended (state_of St.maps client.old))
+        client.old.outbox client.new.outbox (Done (state_of St.maps client.new))) }
     ensures refused { IfErr result (λ e. e ≡ PgWireError.NoMemory) }
     ensures store { client.new.store ≡ client.old.store }
     ensures metadata { client.new.info.metadata ≡ client.old.info.metadata }

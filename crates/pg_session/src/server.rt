@@ -4,9 +4,9 @@ ghost use Rattle.std.specs.Prelude.{◌≡◌, ◌≢◌, ◌≤◌, ◌++◌, �
 ghost use Rattle.pg_messages.specs.Replies.{replies_bytes};
 ghost use Rattle.pg_portal.specs.Errors.{info_of};
 ghost use Rattle.pg_portal.specs.Rows.{IsTellable};
+ghost use Rattle.pg_handlers.specs.Desk.{KeepsDesk};
 ghost use Rattle.pg_handlers.specs.Effect.{IsRow, IsRefusedRow, failed};
 ghost use Rattle.pg_handlers.specs.Errors.{is_fatal};
-ghost use Rattle.pg_handlers.specs.Handlers.{handlers_of};
 ghost use Rattle.pg_handlers.specs.Questions.{HasSpent, questions_since};
 ghost use Rattle.pg_handlers.specs.Sending.{IsAnswerableError};
 ghost use Rattle.pg_handlers.specs.Table.{message_row, awaits};
@@ -44,15 +44,15 @@ pub fn process_message<
     requires given { IsGivenIn session.old.state message }
     ensures ok { IfOk result (λ end. IsRow
         (λ answers. message_row
-        (handlers_of (H.Extended.told (H.extended session.old.handlers)) (H.Simple.told (H.simple session.old.handlers)) (H.Copying.told (H.copying session.old.handlers)))
+        (H.told session.old.handlers)
         answers session.old.state message)
-        session.old.unsent session.new.unsent (D.calls desk.old) (D.calls desk.new)
+        session.old.unsent session.new.unsent (D.told desk.old).calls (D.told desk.new).calls
         (outcome_of end session.new.state)) }
     ensures refused { IfErr result (IsRefusedRow
         (λ answers. message_row
-        (handlers_of (H.Extended.told (H.extended session.old.handlers)) (H.Simple.told (H.simple session.old.handlers)) (H.Copying.told (H.copying session.old.handlers)))
+        (H.told session.old.handlers)
         answers session.old.state message)
-        session.old.unsent session.new.unsent (D.calls desk.old) (D.calls desk.new)
+        session.old.unsent session.new.unsent (D.told desk.old).calls (D.told desk.new).calls
         session.new.state) }
     ensures answerable { IfErr result IsAnswerableError }
     ensures ends { IfOk result (λ end. end ≢ Some InputEnd) }
@@ -60,10 +60,9 @@ pub fn process_message<
     ensures handlers { session.new.handlers ≡ session.old.handlers }
     ensures rest { session.new.rest ≡ session.old.rest }
     ensures turns { HasSpent turns.old turns.new
-        (questions_since (D.calls desk.old) (D.calls desk.new)) result }
+        (questions_since (D.told desk.old).calls (D.told desk.new).calls) result }
     ensures bounded { turns.old.spent ≤ turns.old.limit → turns.new.spent ≤ turns.new.limit }
-    ensures same { D.registration desk.new ≡ D.registration desk.old }
-    ensures origin { D.origin desk.new ≡ D.origin desk.old }
+    ensures keeps { KeepsDesk (D.told desk.old) (D.told desk.new) }
 {
     session.answer(alloc, desk, turns, message)
 }

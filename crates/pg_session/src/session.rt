@@ -1,13 +1,14 @@
 //! The session: a conversation with one client, fed with the client's bytes piece by piece.
 
-ghost use Rattle.std.specs.Prelude.{◌≡◌, ◌≢◌, ◌≤◌, ◌<◌, ◌++◌, ◌⊎◌, [], true, false, Option, Some, None, IfOk, IfErr, OnOk, OnErr, IsErrOf};
+ghost use Rattle.std.specs.Prelude.{◌≡◌, ◌≢◌, ◌≤◌, ◌<◌, ◌++◌, ◌⊎◌, [], true, false, length, Option, Some, None, IfOk, IfErr, OnOk, OnErr, IsErrOf};
 ghost use Rattle.std.specs.Arc.{arc_value};
 ghost use Rattle.std.specs.FinMap as fin;
 ghost use Rattle.pg_messages.specs.Replies.{replies_bytes};
+ghost use Rattle.pg_portal.specs.Maps.{no_maps};
 ghost use Rattle.pg_portal.specs.Errors.{info_of};
 ghost use Rattle.pg_portal.specs.Rows.{IsTellable};
+ghost use Rattle.pg_handlers.specs.Desk.{KeepsDesk};
 ghost use Rattle.pg_handlers.specs.Effect.{IsRow, IsRefusedRow, failed};
-ghost use Rattle.pg_handlers.specs.Handlers.{handlers_of};
 ghost use Rattle.pg_handlers.specs.Questions.{HasSpent, questions_since};
 ghost use Rattle.pg_handlers.specs.Sending.{IsAnswerableError};
 ghost use Rattle.pg_handlers.specs.State.{first_info, first_state};
@@ -63,9 +64,9 @@ impl<
 
     ghost coded = { Prim.hlevel (codes, fin.code) };
 
-    ghost view = { λ s. record { handlers = arc_value s.handlers; state = state_of St.statements St.portals s.client; rest = s.rest.items; unsent = s.client.outbox; is_open = s.opened } };
+    ghost view = { λ s. record { handlers = arc_value s.handlers; state = state_of St.maps s.client; rest = s.rest.items; unsent = s.client.outbox; is_open = s.opened } };
 
-    ghost invariant = { λ s. s.opened ≡ true → IsGoodState (H.Extended.told (H.extended (arc_value s.handlers))).parser (state_of St.statements St.portals s.client) };
+    ghost invariant = { λ s. s.opened ≡ true → IsGoodState (H.told (arc_value s.handlers)).extended.parser (state_of St.maps s.client) };
 }
 
 /// What is known of a client before its startup packet.
@@ -98,8 +99,7 @@ impl<
         pid: i32,
         key: [u8; 4],
     ) -> Result<Session<H, St>, AllocError>
-        requires statements { St.statements store ≡ fin.empty }
-        requires portals { St.portals store ≡ fin.empty }
+        requires empty { St.maps store ≡ no_maps }
         ensures { IfOk result (λ session. session ≡ record {
           handlers = arc_value handlers;
           state = first_state pid key;
@@ -122,6 +122,13 @@ impl<
             rest: BytesMut::new(alloc),
             opened: true,
         })
+    }
+
+    /// How many bytes the session holds of a frame that isn't whole.
+    pub fn held(&self) -> usize
+        ensures { result ≡ length self.now.rest }
+    {
+        self.rest.len()
     }
 
     /// Whether the session takes more bytes: until it ends or fails.
@@ -178,15 +185,15 @@ impl<
         requires given { IsGivenIn self.old.state message }
         ensures ok { IfOk result (λ end. IsRow
             (λ answers. message_row
-            (handlers_of (H.Extended.told (H.extended self.old.handlers)) (H.Simple.told (H.simple self.old.handlers)) (H.Copying.told (H.copying self.old.handlers)))
+            (H.told self.old.handlers)
             answers self.old.state message)
-            self.old.unsent self.new.unsent (D.calls desk.old) (D.calls desk.new)
+            self.old.unsent self.new.unsent (D.told desk.old).calls (D.told desk.new).calls
             (outcome_of end self.new.state)) }
         ensures refused { IfErr result (IsRefusedRow
             (λ answers. message_row
-            (handlers_of (H.Extended.told (H.extended self.old.handlers)) (H.Simple.told (H.simple self.old.handlers)) (H.Copying.told (H.copying self.old.handlers)))
+            (H.told self.old.handlers)
             answers self.old.state message)
-            self.old.unsent self.new.unsent (D.calls desk.old) (D.calls desk.new)
+            self.old.unsent self.new.unsent (D.told desk.old).calls (D.told desk.new).calls
             self.new.state) }
         ensures answerable { IfErr result IsAnswerableError }
         ensures ends { IfOk result (λ end. end ≢ Some InputEnd) }
@@ -194,10 +201,9 @@ impl<
         ensures handlers { self.new.handlers ≡ self.old.handlers }
         ensures rest { self.new.rest ≡ self.old.rest }
         ensures turns { HasSpent turns.old turns.new
-            (questions_since (D.calls desk.old) (D.calls desk.new)) result }
+            (questions_since (D.told desk.old).calls (D.told desk.new).calls) result }
         ensures bounded { turns.old.spent ≤ turns.old.limit → turns.new.spent ≤ turns.new.limit }
-        ensures same { D.registration desk.new ≡ D.registration desk.old }
-        ensures origin { D.origin desk.new ≡ D.origin desk.old }
+        ensures keeps { KeepsDesk (D.told desk.old) (D.told desk.new) }
     {
         let outcome = on_message(
             alloc,
@@ -247,27 +253,26 @@ impl<
         requires given { IsGivenIn self.old.state message }
         ensures answer { IfOk result (λ end. IsAnswered
             (whole_table
-            (handlers_of (H.Extended.told (H.extended self.old.handlers)) (H.Simple.told (H.simple self.old.handlers)) (H.Copying.told (H.copying self.old.handlers))))
-            self.old.state message self.old.unsent self.new.unsent (D.calls desk.old) (D.calls desk.new)
+            (H.told self.old.handlers))
+            self.old.state message self.old.unsent self.new.unsent (D.told desk.old).calls (D.told desk.new).calls
             (next_of end self.new.state)) }
         ensures err { OnErr result (IsCutAnswer
             (whole_table
-            (handlers_of (H.Extended.told (H.extended self.old.handlers)) (H.Simple.told (H.simple self.old.handlers)) (H.Copying.told (H.copying self.old.handlers))))
-            self.old.state message (D.calls desk.old) (D.calls desk.new)) }
+            (H.told self.old.handlers))
+            self.old.state message (D.told desk.old).calls (D.told desk.new).calls) }
         ensures stopped { IsErrOf result serve.TurnLimit → IsStoppedAnswer
             (whole_table
-            (handlers_of (H.Extended.told (H.extended self.old.handlers)) (H.Simple.told (H.simple self.old.handlers)) (H.Copying.told (H.copying self.old.handlers))))
-            self.old.state message (D.calls desk.old) (D.calls desk.new) }
+            (H.told self.old.handlers))
+            self.old.state message (D.told desk.old).calls (D.told desk.new).calls }
         ensures only { IfErr result (λ e. (e ≡ serve.NoMemory) ⊎ (e ≡ serve.TurnLimit)) }
         ensures ends { IfOk result (λ end. end ≢ Some InputEnd) }
         ensures open { self.new.is_open ≡ goes_on result }
         ensures handlers { self.new.handlers ≡ self.old.handlers }
         ensures rest { self.new.rest ≡ self.old.rest }
         ensures turns { HasFed turns.old turns.new
-            (questions_since (D.calls desk.old) (D.calls desk.new)) result }
+            (questions_since (D.told desk.old).calls (D.told desk.new).calls) result }
         ensures bounded { turns.old.spent ≤ turns.old.limit → turns.new.spent ≤ turns.new.limit }
-        ensures same { D.registration desk.new ≡ D.registration desk.old }
-        ensures origin { D.origin desk.new ≡ D.origin desk.old }
+        ensures keeps { KeepsDesk (D.told desk.old) (D.told desk.new) }
     {
         let wait_for_sync = waits_for_sync(self.client.info.state, &message);
         match self.answer(alloc, desk, turns, message) {

@@ -10,6 +10,7 @@ ghost use Rattle.pg_messages.specs.declared.backend.PgWireBackendMessage.TheVari
 ghost use Rattle.pg_portal.specs.Clients.{HasShortMetadata};
 ghost use Rattle.pg_portal.specs.Rows.{IsTellable, IsAnswerable};
 ghost use Rattle.pg_portal.specs.declared.error.PgWireError.TheVariants as wire;
+ghost use Rattle.pg_handlers.specs.Desk.{KeepsDesk};
 ghost use Rattle.pg_handlers.specs.Effect.{IsRow, IsRefusedRow, IsEffect, IsRefusedEffect, Done};
 ghost use Rattle.pg_handlers.specs.Errors.{unsupported_version, unsupported_text};
 ghost use Rattle.pg_handlers.specs.Replies.{parameter, startup_replies};
@@ -45,20 +46,19 @@ pub(crate) fn on_startup_phase<St: PortalStore, D: CancelDesk>(
 ) -> Result<Option<EndKind>, SessionError>
     requires { (frame : List ℕ) × IsFrame true frame message }
     ensures ok { IfOk result (λ end. IsRow
-        (λ answers. startup_row answers (state_of St.statements St.portals client.old) message)
-        client.old.outbox client.new.outbox (D.calls desk.old) (D.calls desk.new)
-        (outcome_of end (state_of St.statements St.portals client.new))) }
+        (λ answers. startup_row answers (state_of St.maps client.old) message)
+        client.old.outbox client.new.outbox (D.told desk.old).calls (D.told desk.new).calls
+        (outcome_of end (state_of St.maps client.new))) }
     ensures refused { IfErr result (IsRefusedRow
-        (λ answers. startup_row answers (state_of St.statements St.portals client.old) message)
-        client.old.outbox client.new.outbox (D.calls desk.old) (D.calls desk.new)
-        (state_of St.statements St.portals client.new)) }
+        (λ answers. startup_row answers (state_of St.maps client.old) message)
+        client.old.outbox client.new.outbox (D.told desk.old).calls (D.told desk.new).calls
+        (state_of St.maps client.new)) }
     ensures answerable { IfErr result IsAnswerableError }
     ensures unlimited { IfErr result (λ error. error ≢ session.TurnLimit) }
     ensures ends { IfOk result (λ end. end ≢ Some InputEnd) }
     ensures store { client.new.store ≡ client.old.store }
     ensures metadata { HasShortMetadata client.old.info → HasShortMetadata client.new.info }
-    ensures same { D.registration desk.new ≡ D.registration desk.old }
-    ensures origin { D.origin desk.new ≡ D.origin desk.old }
+    ensures keeps { KeepsDesk (D.told desk.old) (D.told desk.new) }
 {
     match message {
         PgWireFrontendMessage::SslNegotiation(kind) => {
@@ -86,11 +86,10 @@ fn cancel<D: CancelDesk>(
     request: CancelRequest,
 ) -> Result<Option<EndKind>, AllocError>
     ensures answer { IfOk result (λ end. (end ≡ Some CancelServed) × ((yes : Bool)
-        × (D.calls desk.new ≡ D.calls desk.old
+        × ((D.told desk.new).calls ≡ (D.told desk.old).calls
         ++ DeskCall.Cancel request.pid request.secret_key yes ∷ []))) }
-    ensures err { OnErr result (D.calls desk.new ≡ D.calls desk.old) }
-    ensures same { D.registration desk.new ≡ D.registration desk.old }
-    ensures origin { D.origin desk.new ≡ D.origin desk.old }
+    ensures err { OnErr result ((D.told desk.new).calls ≡ (D.told desk.old).calls) }
+    ensures keeps { KeepsDesk (D.told desk.old) (D.told desk.new) }
 {
     desk.cancel(request.pid, request.secret_key)?;
     Ok(Some(EndKind::CancelServed))
@@ -105,12 +104,12 @@ fn on_startup<St: PortalStore>(
 ) -> Result<(), PgWireError>
     requires { (frame : List ℕ) × IsFrame true frame (frontend.Startup message) }
     ensures ok { OnOk result (IsEffect
-        (on_startup (state_of St.statements St.portals client.old) message).effect
-        client.old.outbox client.new.outbox (Done (state_of St.statements St.portals client.new))) }
+        (on_startup (state_of St.maps client.old) message).effect
+        client.old.outbox client.new.outbox (Done (state_of St.maps client.new))) }
     ensures refused { IfErr result (IsRefusedEffect
-        (on_startup (state_of St.statements St.portals client.old) message).effect
-        client.old.outbox client.new.outbox (state_of St.statements St.portals client.new)) }
-    ensures silent { (on_startup (state_of St.statements St.portals client.old) message).calls
+        (on_startup (state_of St.maps client.old) message).effect
+        client.old.outbox client.new.outbox (state_of St.maps client.new)) }
+    ensures silent { (on_startup (state_of St.maps client.old) message).calls
         ≡ [] }
     ensures answerable { IfErr result IsAnswerable }
     ensures store { client.new.store ≡ client.old.store }

@@ -17,7 +17,7 @@ pub trait Source {
     ghost faults: { Self → ℕ };
 
     /// Reads at least one byte and at most as many as fit, or answers 0 where no byte is left for ever. SourceFailed
-    /// comes only where the count of faults rose; then nothing was taken.
+    /// comes only where the count of faults rose; then nothing was taken. An Ok leaves the count.
     fn receive(&mut self, into: &mut [u8]) -> Result<usize, SourceFailed>
         requires { 0 < length into.old }
         ensures fits { IfOk result (λ n. n ≤ length into.old) }
@@ -26,6 +26,7 @@ pub trait Source {
         ensures counts { reads self.new ≡ reads_after result (reads self.old) }
         ensures failed { OnErr result (HasRisen (faults self.old) (faults self.new)) }
         ensures untouched { OnErr result (left self.new ≡ left self.old) }
+        ensures calm { OnOk result (faults self.new ≡ faults self.old) }
         ensures never_falls { faults self.old ≤ faults self.new };
 }
 
@@ -45,7 +46,7 @@ pub trait Sink {
     // the number of writes that failed
     ghost faults: { Self → ℕ };
 
-    /// Writes all bytes. Failed comes only where the count of faults rose, and NoMemory leaves it. After either a front
+    /// Writes all bytes. Failed comes only where the count of faults rose; Ok and NoMemory leave it. After an error a front
     /// of the bytes was written.
     fn send(&mut self, bytes: &[u8]) -> Result<(), SinkError>
         ensures ok { OnOk result (GrowsBy (written self.old) (written self.new) bytes.now) }
@@ -53,5 +54,6 @@ pub trait Sink {
         ensures failed { IsErrOf result SinkError.Failed
             → HasRisen (faults self.old) (faults self.new) }
         ensures no_memory { IsErrOf result SinkError.NoMemory → faults self.new ≡ faults self.old }
+        ensures calm { OnOk result (faults self.new ≡ faults self.old) }
         ensures never_falls { faults self.old ≤ faults self.new };
 }

@@ -120,17 +120,15 @@ impl<'r> SimpleQueryHandler for RelationHandler<'r> {
 }
 
 impl<'r> PgWireServerHandlers for RelationHandler<'r> {
+    ghost use Rattle.relation_tables.specs.RelationHandler.{relation_handlers};
+
     type Simple = RelationHandler<'r>;
 
     type Extended = RelationHandler<'r>;
 
     type Copying = NoopHandler;
 
-    ghost simple = { λ handler. handler };
-
-    ghost extended = { λ handler. handler };
-
-    ghost copying = { λ handler. handler.copying };
+    ghost told = { λ handler. relation_handlers handler.relations.now };
 
     fn simple_query_handler(&self) -> &RelationHandler<'r> {
         self

@@ -4,7 +4,7 @@ ghost use Rattle.std.specs.Prelude.{◌≡◌, ◌≤◌, ◌+◌, ◌++◌, Ok,
 ghost use Rattle.pg_messages.specs.declared.backend.PgWireBackendMessage.TheVariants as server;
 ghost use Rattle.pg_messages.specs.Replies.{IsEncodable};
 ghost use Rattle.pg_portal.specs.Copying.{IsSendableCopy};
-ghost use Rattle.pg_portal.specs.Rows.{IsAnswerable};
+ghost use Rattle.pg_portal.specs.Rows.{IsAnswerableItem};
 ghost use Rattle.pg_portal.specs.Told.{IsOutcome};
 ghost use Rattle.relation_tables.specs.RelationHandler.{all_or_error, text_of, line_item};
 ghost use Rattle.relation_handlers.specs.Values.{IsPushed, IsRefusedBy, tab, tabbed, tab_joined};
@@ -37,7 +37,7 @@ fn line_of(alloc: Global, style: &SessionStyle, row: &[Interval]) -> Result<Copy
     requires { length row.now ≤ 1600 }
     ensures outcome { IsOutcome (line_item style.now row.now) result }
     ensures encodable { IfOk result (λ line. IsEncodable (server.CopyData line)) }
-    ensures answerable { IfErr result IsAnswerable }
+    ensures answerable { IfErr result IsAnswerableItem }
 {
     let mut payload = texts(alloc, style, row)?;
     payload.extend_from_slice(b"\n")?;
@@ -54,7 +54,7 @@ fn texts(alloc: Global, style: &SessionStyle, row: &[Interval]) -> Result<Vec<u8
     ensures short { IfOk result (λ payload. length payload.items ≤ 6560000) }
     ensures refused { IfErr result (IsRefusedBy
         (tab_joined (all_or_error (map (text_of style.now) row.now)))) }
-    ensures answerable { IfErr result IsAnswerable }
+    ensures answerable { IfErr result IsAnswerableItem }
 {
     let mut payload = Vec::with_capacity(alloc, 97 * row.len() + 1)?;
     for (index, interval) in row.iter().enumerate() {
@@ -75,7 +75,7 @@ fn push_cell(
         payload.old.items payload.new.items) }
     ensures short { OnOk result (length payload.new.items ≤ length payload.old.items + 4100) }
     ensures refused { IfErr result (IsRefusedBy (tabbed index (text_of style.now interval.now))) }
-    ensures answerable { IfErr result IsAnswerable }
+    ensures answerable { IfErr result IsAnswerableItem }
 {
     let style = style.get(alloc)?;
     push_tab(payload, index)?;

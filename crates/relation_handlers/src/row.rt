@@ -5,7 +5,7 @@ ghost use Rattle.pg_interval.specs.Printed.{printed};
 ghost use Rattle.pg_text.specs.Words.{printed_style};
 ghost use Rattle.pg_messages.specs.declared.backend.PgWireBackendMessage.TheVariants as server;
 ghost use Rattle.pg_messages.specs.Replies.{IsEncodable};
-ghost use Rattle.pg_portal.specs.Rows.{IsAnswerable, IsSendable};
+ghost use Rattle.pg_portal.specs.Rows.{IsAnswerableItem, IsSendable};
 ghost use Rattle.pg_portal.specs.Told.{IsOutcome};
 ghost use Rattle.relation_tables.specs.Relations.{binary_value, text_value};
 ghost use Rattle.relation_tables.specs.RelationHandler.{all_or_error, value, row_item};
@@ -51,7 +51,7 @@ fn row_of(
     requires narrow { length row.now ≤ 1600 }
     ensures outcome { IsOutcome (row_item style.now formats.now row.now) result }
     ensures encodable { IfOk result (λ row. IsEncodable (server.DataRow row)) }
-    ensures answerable { IfErr result IsAnswerable }
+    ensures answerable { IfErr result IsAnswerableItem }
 {
     let payload = values(alloc, style, formats, row)?;
     Ok(DataRow {
@@ -75,7 +75,7 @@ fn values(
     ensures short { IfOk result (λ payload. length payload.items ≤ 6560000) }
     ensures refused { IfErr result (IsRefusedBy
         (joined (all_or_error (map (λ p. value style.now p.0 p.1) (zip formats.now row.now))))) }
-    ensures answerable { IfErr result IsAnswerable }
+    ensures answerable { IfErr result IsAnswerableItem }
 {
     let mut payload = payload_of(alloc, formats)?;
     for (index, interval) in row.iter().enumerate() {
@@ -110,7 +110,7 @@ fn push_value(
         payload.old.items payload.new.items) }
     ensures short { OnOk result (length payload.new.items ≤ length payload.old.items + 4100) }
     ensures refused { IfErr result (IsRefusedBy (value style.now format interval.now)) }
-    ensures answerable { IfErr result IsAnswerable }
+    ensures answerable { IfErr result IsAnswerableItem }
 {
     match format {
         FieldFormat::Binary => Ok(push_binary(payload, interval)?),

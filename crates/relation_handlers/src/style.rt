@@ -4,7 +4,7 @@ ghost use Rattle.std.specs.Prelude.{◌≡◌, IfOk, IfErr, codes, unwrap_or};
 ghost use Rattle.std.specs.FinMap as fin;
 ghost use Rattle.pg_text.specs.Words.{interval_style_of};
 ghost use Rattle.pg_portal.specs.Clients.{HasShortMetadata};
-ghost use Rattle.pg_portal.specs.Rows.{IsAnswerable};
+ghost use Rattle.pg_portal.specs.Rows.{IsAnswerableItem};
 ghost use Rattle.pg_portal.specs.Texts.{IsShortText};
 ghost use Rattle.pg_portal.specs.Told.{IsOutcome};
 ghost use Rattle.relation_tables.specs.RelationHandler.{or_refused, session_style};
@@ -63,7 +63,7 @@ impl SessionStyle {
     /// The style, or `InvalidOptionValue` with the text that names none.
     pub fn get(&self, alloc: Global) -> Result<IntervalStyle, PgWireError>
         ensures outcome { IsOutcome self.now result }
-        ensures answerable { IfErr result IsAnswerable }
+        ensures answerable { IfErr result IsAnswerableItem }
     {
         match &self.style {
             Ok(style) => Ok(*style),

@@ -1,5 +1,5 @@
 -- What went by the whole table went by the core table, where the client speaks as that does.
-use Rattle.std.proofs.Common.{◌≡◌, ◌∙◌, ◌++◌, true, Bool, List, ℕ, ℤ, Option, Some, None, Result, Ok, Err, refl, sym, ap, subst, inl, inr}
+use Rattle.std.proofs.Common.{◌≡◌, ◌∙◌, ◌++◌, [], ◌∷◌, true, Bool, List, ℕ, ℤ, Option, Some, None, Result, Ok, Err, refl, sym, ap, subst, inl, inr}
 use Rattle.pg_messages.specs.declared.frontend.PgWireFrontendMessage.{PgWireFrontendMessage}
 use Rattle.pg_messages.specs.declared.backend.PgWireBackendMessage.{PgWireBackendMessage}
 use Rattle.pg_messages.specs.Frames.{IsBad, IsUnfinished}
@@ -119,6 +119,9 @@ module _ (relations : List Relation) (registration : ℤ × List ℕ) (even : Ha
         replies = x.replies;
         division = x.division;
         answered = is ∙ ap (λ next. record { replies = x.replies; calls = calls; next = next }) last;
+        asks = λ yes.
+            let next = alike (answers_of calls ++ yes ∷ []) messages (speaks messages x.rest x.division) in
+            ((x.asks yes).0, sym next.calls ∙ (x.asks yes).1);
         replied = x.replied;
       }
 

@@ -1,13 +1,15 @@
 //! A client of relations is served.
 
-ghost use Rattle.std.specs.Prelude.{◌≡◌, ◌++◌, Bool, List};
+ghost use Rattle.std.specs.Prelude.{◌≡◌, ◌++◌, Bool, List, IfOk, OnOk};
 ghost use Rattle.pg_messages.specs.declared.frontend.PgWireFrontendMessage.{PgWireFrontendMessage};
+ghost use Rattle.pg_handlers.specs.Desk.{KeepsDesk};
 ghost use Rattle.pg_handlers.specs.Answer.{Goes, conversation};
 ghost use Rattle.pg_handlers.specs.Questions.{questions_since};
 ghost use Rattle.pg_handlers.specs.State.{State, first_state};
 ghost use Rattle.pg_handlers.specs.Table.{whole_table};
 ghost use Rattle.pg_handlers.specs.declared.desk.DeskCall.{DeskCall};
-ghost use Rattle.pg_serve.specs.Serving.{HasCause, ReadsGaveBytes, counts_of};
+ghost use Rattle.pg_serve.specs.Serving.{HasCause, EndsAtLast, FaultsNeverFall, IsCalm, ReadsGaveBytes, counts_of};
+ghost use Rattle.pg_session.specs.Session.{whole_rules};
 ghost use Rattle.relation_serving.specs.Completeness.{IsComplete};
 ghost use Rattle.relation_tables.specs.declared.RelationStatement.{RelationStatement};
 ghost use Rattle.relation_tables.specs.RelationHandler.{relation_handlers};
@@ -40,10 +42,10 @@ pub fn serve_relations_on<D: CancelDesk, S: Source, K: Sink>(
 ) -> Result<EndKind, ServeError>
 
     // The bytes written and the new calls are the conversation tables' answer to the client's bytes, however cut.
-    ensures went { (calls : List DeskCall) × (D.calls desk.new ≡ D.calls desk.old ++ calls)
-        × WentByTables relations.now (D.registration desk.old) result (S.left source.old) (S.left source.new)
+    ensures went { (calls : List DeskCall) × ((D.told desk.new).calls ≡ (D.told desk.old).calls ++ calls)
+        × WentByTables relations.now (D.told desk.old).registration result (S.left source.old) (S.left source.new)
         (K.written sink.old) (K.written sink.new) calls }
-    ensures cause { HasCause result turn_limit (questions_since (D.calls desk.old) (D.calls desk.new))
+    ensures cause { HasCause result turn_limit (questions_since (D.told desk.old).calls (D.told desk.new).calls)
         (counts_of S.reads S.faults K.faults source.old sink.old)
         (counts_of S.reads S.faults K.faults source.new sink.new) }
 
@@ -53,24 +55,30 @@ pub fn serve_relations_on<D: CancelDesk, S: Source, K: Sink>(
         (counts_of S.reads S.faults K.faults source.new sink.new) }
 
     // Each read that was counted gave a byte.
+    ensures last { IfOk result (EndsAtLast (whole_rules (relation_handlers relations.now))
+        (first_state (D.told desk.old).registration.0 (D.told desk.old).registration.1)
+        (S.left source.old) (S.left source.new)) }
+    ensures calm { OnOk result (IsCalm (counts_of S.reads S.faults K.faults source.old sink.old)
+        (counts_of S.reads S.faults K.faults source.new sink.new)) }
+    ensures never_falls { FaultsNeverFall (counts_of S.reads S.faults K.faults source.old sink.old)
+        (counts_of S.reads S.faults K.faults source.new sink.new) }
     ensures reads { ReadsGaveBytes (S.left source.old) (S.left source.new) (S.reads source.old) (S.reads source.new) }
 
     // Whatever messages come and whatever the registry answers, each cell of the table's replies stands for a stored
     // interval: in the session's style, and in a format that a Bind among the messages chose, or in text.
     ensures cells { (answers : List Bool) (messages : List PgWireFrontendMessage)
         → ShowStored relations.now messages (conversation (whole_table (relation_handlers relations.now)) answers
-        (first_state (D.registration desk.old).0 (D.registration desk.old).1) messages).replies }
+        (first_state (D.told desk.old).registration.0 (D.told desk.old).registration.1) messages).replies }
 
     // Wherever the messages lead, a message behind them is answered so too: an Execute in the format that its own
     // portal's Bind chose, and every other message in text.
     ensures formats { (answers more : List Bool)
         (messages : List PgWireFrontendMessage) (s : State RelationStatement) (m : PgWireFrontendMessage)
         → (conversation (whole_table (relation_handlers relations.now)) answers
-        (first_state (D.registration desk.old).0 (D.registration desk.old).1) messages).next ≡ Goes s
+        (first_state (D.told desk.old).registration.0 (D.told desk.old).registration.1) messages).next ≡ Goes s
         → ShowInOwnFormat relations.now (style_of messages) s m
         (whole_table (relation_handlers relations.now) more s m).replies }
-    ensures same { D.registration desk.new ≡ D.registration desk.old }
-    ensures origin { D.origin desk.new ≡ D.origin desk.old }
+    ensures keeps { KeepsDesk (D.told desk.old) (D.told desk.new) }
 {
     let _valid = relations.relations();
     let copying = NoopHandler;

@@ -17,7 +17,7 @@ use Rattle.pg_portal.specs.declared.portal.Format.{Format}
 use Rattle.pg_portal.specs.declared.portal.Format.TheVariants as format
 use Rattle.pg_portal.specs.declared.stmt.StoredStatement.{StoredStatement}
 use Rattle.pg_portal.specs.Fields.{Field, description_of}
-use Rattle.pg_portal.specs.Rows.{IsTellable}
+use Rattle.pg_portal.specs.Rows.{IsItemError, IsTellable}
 use Rattle.pg_portal.specs.Texts.{IsShortText, quoted}
 use Rattle.pg_handlers.specs.Good.{IsSendableOutcome, AreSendable, IsSendableDescription}
 use Rattle.pg_handlers.specs.Replies.{done, row_description, parameter_description}
@@ -137,6 +137,9 @@ unknown_tellable name h =
     (HasNoZero-append (x ++ quoted name) y (HasNoZero-append x (quoted name) (by_test x refl) (quoted_no_zero name h.no_zero))
     (by_test y refl))
 
+pub unknown_item : (name : List ℕ) → IsShortText name → IsItemError (wire.UserError (unknown_relation name))
+unknown_item name h = record { tellable = unknown_tellable name h; is_own = refl }
+
 pub option_tellable : (text : List ℕ) → IsShortText text → IsTellable (wire.InvalidOptionValue text)
 option_tellable text h =
     let x = codes "invalid option value " in let b = length-append x (quoted text) in let e = length-append text (34 ∷ []) in
@@ -146,6 +149,9 @@ option_tellable text h =
           (tellable_error (codes "22023") (x ++ quoted text) (omega arith) (by_test (codes "22023") refl) (omega (arith, b, e, h.len))
           (HasNoZero-append x (quoted text) (by_test x refl) (quoted_no_zero text h.no_zero))).encodable;
     }
+
+pub option_item : (text : List ℕ) → IsShortText text → IsItemError (wire.InvalidOptionValue text)
+option_item text h = record { tellable = option_tellable text h; is_own = refl }
 
 -- ---- outcomes of queries
 
@@ -161,12 +167,12 @@ query_sendable relations h client formats (statement.Relation place) =
 
 copy_sendable : (relations : List Relation) → HaveColumns relations → (client : ClientInfo) (name : List ℕ) → IsShortText name
     → (place : Option ℕ) → AreSendable (copy_of relations client name place).outcome
-copy_sendable relations h client name short None = unknown_tellable name short
+copy_sendable relations h client name short None = unknown_item name short
 copy_sendable relations h client name short (Some place) = (omega (arith, (columns_at relations h place).0), tt)
 
 copied_sendable : (relations : List Relation) → HaveColumns relations → (client : ClientInfo) (text : List ℕ) → IsShortText text
     → (name : Option (List ℕ)) → copied_name (words text) ≡ name → AreSendable (copy_or_unknown relations client text name).outcome
-copied_sendable relations h client text short None e = unknown_tellable text short
+copied_sendable relations h client text short None e = unknown_item text short
 copied_sendable relations h client text short (Some name) e =
     copy_sendable relations h client name (copied_short text name short e) (place_of relations name)
 

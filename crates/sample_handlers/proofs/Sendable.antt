@@ -9,7 +9,7 @@ use Rattle.pg_text.specs.declared.field_format.FieldFormat.{FieldFormat}
 use Rattle.pg_text.specs.declared.field_format.FieldFormat.TheVariants as field
 use Rattle.pg_portal.specs.declared.portal.Format.{Format}
 use Rattle.pg_portal.specs.declared.portal.Format.TheVariants as format
-use Rattle.pg_portal.specs.Rows.{IsTellable, IsSendable}
+use Rattle.pg_portal.specs.Rows.{IsItemError, IsSendable}
 use Rattle.pg_portal.specs.Tags.{spaced, tag_text}
 use Rattle.pg_handlers.specs.Good.{AreSendable, IsSendableResponse}
 use Rattle.pg_handlers.specs.Replies.{done, row_description}
@@ -25,11 +25,19 @@ two_columns a b = record { body = omega arith; counts = (omega arith, tt); texts
 pub columns_sendable : (formats : Format) → IsEncodable (row_description (columns formats))
 columns_sendable formats = two_columns (column_format formats 0) (column_format formats 1)
 
-pub not_known_tellable : IsTellable not_known
-not_known_tellable = tellable_error (codes "42601") (codes "not known") (omega arith) (by_test (codes "42601") refl) (omega arith) (by_test (codes "not known") refl)
+pub not_known_item : IsItemError not_known
+not_known_item = record {
+  tellable = tellable_error (codes "42601") (codes "not known") (omega arith) (by_test (codes "42601") refl) (omega arith)
+      (by_test (codes "not known") refl);
+  is_own = refl;
+}
 
-pub division_tellable : IsTellable division_by_zero
-division_tellable = tellable_error (codes "22012") (codes "division by zero") (omega arith) (by_test (codes "22012") refl) (omega arith) (by_test (codes "division by zero") refl)
+pub division_item : IsItemError division_by_zero
+division_item = record {
+  tellable = tellable_error (codes "22012") (codes "division by zero") (omega arith) (by_test (codes "22012") refl) (omega arith)
+      (by_test (codes "division by zero") refl);
+  is_own = refl;
+}
 
 done_sendable : IsEncodable (done (tag_text done_tag))
 done_sendable =

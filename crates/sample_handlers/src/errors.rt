@@ -2,7 +2,7 @@
 
 ghost use Rattle.std.specs.Prelude.{◌≡◌, IfOk};
 ghost use Rattle.pg_portal.specs.Errors.{error};
-ghost use Rattle.pg_portal.specs.Rows.{IsTellable};
+ghost use Rattle.pg_portal.specs.Rows.{IsItemError};
 ghost use Rattle.sample_handlers.specs.Told.{division_by_zero, not_known};
 
 use pg_messages::{ErrorInfo, PgStr};
@@ -21,19 +21,19 @@ pub(crate) fn error(alloc: Global, code: &str, message: &str) -> Result<ErrorInf
 }
 
 /// The error in place of a query that isn't known.
-#[tactic(auto, using(crate::proofs::Sendable::not_known_tellable))]
+#[tactic(auto, using(crate::proofs::Sendable::not_known_item))]
 pub(crate) fn not_known(alloc: Global) -> Result<PgWireError, AllocError>
     ensures error { IfOk result (λ error. error ≡ not_known) }
-    ensures tellable { IfOk result IsTellable }
+    ensures item { IfOk result IsItemError }
 {
     Ok(PgWireError::UserError(error(alloc, "42601", "not known")?))
 }
 
 /// The error in place of a row.
-#[tactic(auto, using(crate::proofs::Sendable::division_tellable))]
+#[tactic(auto, using(crate::proofs::Sendable::division_item))]
 pub(crate) fn division_by_zero(alloc: Global) -> Result<PgWireError, AllocError>
     ensures error { IfOk result (λ error. error ≡ division_by_zero) }
-    ensures tellable { IfOk result IsTellable }
+    ensures item { IfOk result IsItemError }
 {
     Ok(PgWireError::UserError(error(alloc, "22012", "division by zero")?))
 }

@@ -140,7 +140,7 @@ fn listed(
 }
 
 /// The query that is refused.
-#[tactic(auto, using(crate::proofs::Sendable::not_known_tellable))]
+#[tactic(auto, using(crate::proofs::Sendable::not_known_item))]
 fn refused(alloc: Global) -> Result<SampleQuery<PgList<Answer>>, AllocError>
     ensures unspent { IfOk result (λ query. is_given query.outcome ≡ false) }
     ensures told { IfOk result (λ query.
@@ -185,17 +185,15 @@ impl CopyHandler for SampleHandler {
 }
 
 impl PgWireServerHandlers for SampleHandler {
+    ghost use Rattle.sample_handlers.specs.Told.{sample_handlers};
+
     type Simple = SampleHandler;
 
     type Extended = SampleHandler;
 
     type Copying = SampleHandler;
 
-    ghost simple = { λ handler. handler };
-
-    ghost extended = { λ handler. handler };
-
-    ghost copying = { λ handler. handler };
+    ghost told = { λ _. sample_handlers };
 
     fn simple_query_handler(&self) -> &SampleHandler {
         self

@@ -1,9 +1,10 @@
 //! The extended query (protocol: Message Flow, Extended Query).
 
-ghost use Rattle.std.specs.Prelude.{◌≡◌, ◌≤◌, List, false, Some, None, IfOk, IfErr, OnOk, OnErr, Bool};
+ghost use Rattle.std.specs.Prelude.{◌≡◌, ◌≢◌, ◌≤◌, List, false, length, take, Err, Some, None, IfOk, IfErr, OnOk, OnErr, Bool};
 ghost use Rattle.std.specs.Arc.{arc_value};
 ghost use Rattle.std.specs.FinMap as fin;
 ghost use Rattle.pg_messages.specs.Replies.{IsEncodable};
+ghost use Rattle.pg_handlers.specs.Desk.{KeepsDesk};
 ghost use Rattle.pg_handlers.specs.Replies.{row_description};
 ghost use Rattle.pg_messages.specs.declared.frontend.PgWireFrontendMessage.TheVariants as frontend;
 ghost use Rattle.pg_portal.specs.Clients.{HasShortMetadata};
@@ -15,8 +16,12 @@ ghost use Rattle.pg_handlers.specs.State.{state_of};
 ghost use Rattle.pg_handlers.specs.Effect.{IsEffect, IsRefusedEffect, IsRow, IsRefusedRow, Done, says, when_ready};
 ghost use Rattle.pg_handlers.specs.ExtendedRows.{on_parse, on_bind, on_describe, on_close, on_sync};
 ghost use Rattle.pg_handlers.specs.ExecuteRow.{on_execute};
+ghost use Rattle.pg_handlers.specs.Executing.{IsLeftBehind};
+ghost use Rattle.pg_portal.specs.declared.client.PgWireConnectionState.TheVariants as phase;
+ghost use Rattle.pg_portal.specs.declared.error.PgWireError.TheVariants as wire;
+ghost use Rattle.pg_handlers.specs.declared.ends.SessionError.TheVariants as session;
 ghost use Rattle.pg_handlers.specs.Good.{IsGiven, IsSendableOutcome, IsSendableDescription, IsGoodStatement, IsGoodPortal, IsGoodState};
-ghost use Rattle.pg_handlers.specs.Questions.{HasSpent, questions_since};
+ghost use Rattle.pg_handlers.specs.Questions.{IsCausedSo, HasSpent, questions_since};
 ghost use Rattle.pg_handlers.specs.Sending.{IsAnswerableError, AtTurnLimit};
 
 use crate::client::Client;
@@ -130,18 +135,18 @@ pub trait ExtendedQueryHandler {
         message: Parse,
     ) -> Result<(), PgWireError>
         requires given { IsGiven (frontend.Parse message) }
-        requires good { IsGoodState (told self.now).parser (state_of St.statements St.portals client.old) }
+        requires good { IsGoodState (told self.now).parser (state_of St.maps client.old) }
         ensures ok { OnOk result (IsEffect
-            (on_parse (told self.now) (state_of St.statements St.portals client.old) message)
-            client.old.outbox client.new.outbox (Done (state_of St.statements St.portals client.new))) }
+            (on_parse (told self.now) (state_of St.maps client.old) message)
+            client.old.outbox client.new.outbox (Done (state_of St.maps client.new))) }
         ensures refused { IfErr result (IsRefusedEffect
-            (on_parse (told self.now) (state_of St.statements St.portals client.old) message)
-            client.old.outbox client.new.outbox (state_of St.statements St.portals client.new)) }
+            (on_parse (told self.now) (state_of St.maps client.old) message)
+            client.old.outbox client.new.outbox (state_of St.maps client.new)) }
         ensures answerable { IfErr result IsAnswerable }
         ensures kept { OnErr result
-            (state_of St.statements St.portals client.new ≡ state_of St.statements St.portals client.old) }
+            (state_of St.maps client.new ≡ state_of St.maps client.old) }
         ensures waiting { OnErr result (client.new.outbox ≡ client.old.outbox) }
-        ensures good { IsGoodState (told self.now).parser (state_of St.statements St.portals client.new) }
+        ensures good { IsGoodState (told self.now).parser (state_of St.maps client.new) }
     {
         let parser = self.query_parser(alloc)?;
         let found = StoredStatement::parse(alloc, &client.info, &message, &*parser)?;
@@ -160,18 +165,18 @@ pub trait ExtendedQueryHandler {
         message: Bind,
     ) -> Result<(), PgWireError>
         requires given { IsGiven (frontend.Bind message) }
-        requires good { IsGoodState (told self.now).parser (state_of St.statements St.portals client.old) }
+        requires good { IsGoodState (told self.now).parser (state_of St.maps client.old) }
         ensures ok { OnOk result (IsEffect
-            (on_bind (told self.now) (state_of St.statements St.portals client.old) message)
-            client.old.outbox client.new.outbox (Done (state_of St.statements St.portals client.new))) }
+            (on_bind (told self.now) (state_of St.maps client.old) message)
+            client.old.outbox client.new.outbox (Done (state_of St.maps client.new))) }
         ensures refused { IfErr result (IsRefusedEffect
-            (on_bind (told self.now) (state_of St.statements St.portals client.old) message)
-            client.old.outbox client.new.outbox (state_of St.statements St.portals client.new)) }
+            (on_bind (told self.now) (state_of St.maps client.old) message)
+            client.old.outbox client.new.outbox (state_of St.maps client.new)) }
         ensures answerable { IfErr result IsAnswerable }
         ensures kept { OnErr result
-            (state_of St.statements St.portals client.new ≡ state_of St.statements St.portals client.old) }
+            (state_of St.maps client.new ≡ state_of St.maps client.old) }
         ensures waiting { OnErr result (client.new.outbox ≡ client.old.outbox) }
-        ensures good { IsGoodState (told self.now).parser (state_of St.statements St.portals client.new) }
+        ensures good { IsGoodState (told self.now).parser (state_of St.maps client.new) }
     {
         let parser = self.query_parser(alloc)?;
         match client.store.get_statement(message.statement_name.as_str()) {
@@ -195,27 +200,34 @@ pub trait ExtendedQueryHandler {
         message: Execute,
     ) -> Result<(), SessionError>
         requires given { IsGiven (frontend.Execute message) }
-        requires good { IsGoodState (told self.now).parser (state_of St.statements St.portals client.old) }
+        requires good { IsGoodState (told self.now).parser (state_of St.maps client.old) }
         ensures ok { OnOk result (IsRow
-            (λ answers. when_ready (state_of St.statements St.portals client.old)
-            (on_execute (told self.now) answers (state_of St.statements St.portals client.old) message))
-            client.old.outbox client.new.outbox (D.calls desk.old) (D.calls desk.new)
-            (Done (state_of St.statements St.portals client.new))) }
+            (λ answers. when_ready (state_of St.maps client.old)
+            (on_execute (told self.now) answers (state_of St.maps client.old) message))
+            client.old.outbox client.new.outbox (D.told desk.old).calls (D.told desk.new).calls
+            (Done (state_of St.maps client.new))) }
         ensures refused { IfErr result (IsRefusedRow
-            (λ answers. when_ready (state_of St.statements St.portals client.old)
-            (on_execute (told self.now) answers (state_of St.statements St.portals client.old) message))
-            client.old.outbox client.new.outbox (D.calls desk.old) (D.calls desk.new)
-            (state_of St.statements St.portals client.new)) }
+            (λ answers. when_ready (state_of St.maps client.old)
+            (on_execute (told self.now) answers (state_of St.maps client.old) message))
+            client.old.outbox client.new.outbox (D.told desk.old).calls (D.told desk.new).calls
+            (state_of St.maps client.new)) }
         ensures answerable { IfErr result IsAnswerableError }
+        ensures not_ready { client.old.info.state ≢ phase.ReadyForQuery
+            → result ≡ Err (session.Wire wire.NotReadyForQuery) }
+        ensures caused { client.old.info.state ≡ phase.ReadyForQuery
+            → IfErr result (IsCausedSo (D.told desk.old).calls (D.told desk.new).calls) }
         ensures limit { IfErr result (λ e. AtTurnLimit e
-            ((state_of St.statements St.portals client.new ≡ state_of St.statements St.portals client.old)
+            ((state_of St.maps client.new ≡ state_of St.maps client.old)
             × (client.new.outbox ≡ client.old.outbox))) }
-        ensures good { IsGoodState (told self.now).parser (state_of St.statements St.portals client.new) }
+        ensures info { OnErr result (client.new.info ≡ client.old.info) }
+        ensures left { OnErr result (IsLeftBehind (St.maps client.old.store) message.name
+            (St.maps client.new.store)) }
+        ensures kept { take (length client.old.outbox) client.new.outbox ≡ client.old.outbox }
+        ensures good { IsGoodState (told self.now).parser (state_of St.maps client.new) }
         ensures turns { HasSpent turns.old turns.new
-            (questions_since (D.calls desk.old) (D.calls desk.new)) result }
+            (questions_since (D.told desk.old).calls (D.told desk.new).calls) result }
         ensures bounded { turns.old.spent ≤ turns.old.limit → turns.new.spent ≤ turns.new.limit }
-        ensures same { D.registration desk.new ≡ D.registration desk.old }
-        ensures origin { D.origin desk.new ≡ D.origin desk.old }
+        ensures keeps { KeepsDesk (D.told desk.old) (D.told desk.new) }
     {
         match client.info.state {
             PgWireConnectionState::ReadyForQuery => {
@@ -244,25 +256,29 @@ pub trait ExtendedQueryHandler {
         message: Execute,
     ) -> Result<(), SessionError>
         requires given { IsGiven (frontend.Execute message) }
-        requires good { IsGoodState (told self.now).parser (state_of St.statements St.portals client.old) }
+        requires good { IsGoodState (told self.now).parser (state_of St.maps client.old) }
         ensures ok { OnOk result (IsRow
-            (λ answers. on_execute (told self.now) answers (state_of St.statements St.portals client.old) message)
-            client.old.outbox client.new.outbox (D.calls desk.old) (D.calls desk.new)
-            (Done (state_of St.statements St.portals client.new))) }
+            (λ answers. on_execute (told self.now) answers (state_of St.maps client.old) message)
+            client.old.outbox client.new.outbox (D.told desk.old).calls (D.told desk.new).calls
+            (Done (state_of St.maps client.new))) }
         ensures refused { IfErr result (IsRefusedRow
-            (λ answers. on_execute (told self.now) answers (state_of St.statements St.portals client.old) message)
-            client.old.outbox client.new.outbox (D.calls desk.old) (D.calls desk.new)
-            (state_of St.statements St.portals client.new)) }
+            (λ answers. on_execute (told self.now) answers (state_of St.maps client.old) message)
+            client.old.outbox client.new.outbox (D.told desk.old).calls (D.told desk.new).calls
+            (state_of St.maps client.new)) }
         ensures answerable { IfErr result IsAnswerableError }
+        ensures caused { IfErr result (IsCausedSo (D.told desk.old).calls (D.told desk.new).calls) }
         ensures limit { IfErr result (λ e. AtTurnLimit e
-            ((state_of St.statements St.portals client.new ≡ state_of St.statements St.portals client.old)
+            ((state_of St.maps client.new ≡ state_of St.maps client.old)
             × (client.new.outbox ≡ client.old.outbox))) }
-        ensures good { IsGoodState (told self.now).parser (state_of St.statements St.portals client.new) }
+        ensures info { OnErr result (client.new.info ≡ client.old.info) }
+        ensures left { OnErr result (IsLeftBehind (St.maps client.old.store) message.name
+            (St.maps client.new.store)) }
+        ensures kept { take (length client.old.outbox) client.new.outbox ≡ client.old.outbox }
+        ensures good { IsGoodState (told self.now).parser (state_of St.maps client.new) }
         ensures turns { HasSpent turns.old turns.new
-            (questions_since (D.calls desk.old) (D.calls desk.new)) result }
+            (questions_since (D.told desk.old).calls (D.told desk.new).calls) result }
         ensures bounded { turns.old.spent ≤ turns.old.limit → turns.new.spent ≤ turns.new.limit }
-        ensures same { D.registration desk.new ≡ D.registration desk.old }
-        ensures origin { D.origin desk.new ≡ D.origin desk.old }
+        ensures keeps { KeepsDesk (D.told desk.old) (D.told desk.new) }
     {
         let Some(portal) = client.store.portal_mut(message.name.as_str()) else {
             return Ok(execute_no_portal(client, message.name)?);
@@ -290,18 +306,18 @@ pub trait ExtendedQueryHandler {
         message: Describe,
     ) -> Result<(), PgWireError>
         requires given { IsGiven (frontend.Describe message) }
-        requires good { IsGoodState (told self.now).parser (state_of St.statements St.portals client.old) }
+        requires good { IsGoodState (told self.now).parser (state_of St.maps client.old) }
         ensures ok { OnOk result (IsEffect
-            (on_describe (told self.now) (state_of St.statements St.portals client.old) message)
-            client.old.outbox client.new.outbox (Done (state_of St.statements St.portals client.new))) }
+            (on_describe (told self.now) (state_of St.maps client.old) message)
+            client.old.outbox client.new.outbox (Done (state_of St.maps client.new))) }
         ensures refused { IfErr result (IsRefusedEffect
-            (on_describe (told self.now) (state_of St.statements St.portals client.old) message)
-            client.old.outbox client.new.outbox (state_of St.statements St.portals client.new)) }
+            (on_describe (told self.now) (state_of St.maps client.old) message)
+            client.old.outbox client.new.outbox (state_of St.maps client.new)) }
         ensures answerable { IfErr result IsAnswerable }
         ensures kept { OnErr result
-            (state_of St.statements St.portals client.new ≡ state_of St.statements St.portals client.old) }
+            (state_of St.maps client.new ≡ state_of St.maps client.old) }
         ensures waiting { OnErr result (client.new.outbox ≡ client.old.outbox) }
-        ensures good { IsGoodState (told self.now).parser (state_of St.statements St.portals client.new) }
+        ensures good { IsGoodState (told self.now).parser (state_of St.maps client.new) }
     {
         self._on_describe(alloc, client, message)
     }
@@ -314,18 +330,18 @@ pub trait ExtendedQueryHandler {
         message: Describe,
     ) -> Result<(), PgWireError>
         requires given { IsGiven (frontend.Describe message) }
-        requires good { IsGoodState (told self.now).parser (state_of St.statements St.portals client.old) }
+        requires good { IsGoodState (told self.now).parser (state_of St.maps client.old) }
         ensures ok { OnOk result (IsEffect
-            (on_describe (told self.now) (state_of St.statements St.portals client.old) message)
-            client.old.outbox client.new.outbox (Done (state_of St.statements St.portals client.new))) }
+            (on_describe (told self.now) (state_of St.maps client.old) message)
+            client.old.outbox client.new.outbox (Done (state_of St.maps client.new))) }
         ensures refused { IfErr result (IsRefusedEffect
-            (on_describe (told self.now) (state_of St.statements St.portals client.old) message)
-            client.old.outbox client.new.outbox (state_of St.statements St.portals client.new)) }
+            (on_describe (told self.now) (state_of St.maps client.old) message)
+            client.old.outbox client.new.outbox (state_of St.maps client.new)) }
         ensures answerable { IfErr result IsAnswerable }
         ensures kept { OnErr result
-            (state_of St.statements St.portals client.new ≡ state_of St.statements St.portals client.old) }
+            (state_of St.maps client.new ≡ state_of St.maps client.old) }
         ensures waiting { OnErr result (client.new.outbox ≡ client.old.outbox) }
-        ensures good { IsGoodState (told self.now).parser (state_of St.statements St.portals client.new) }
+        ensures good { IsGoodState (told self.now).parser (state_of St.maps client.new) }
     {
         match message.target_type {
             TARGET_TYPE_BYTE_STATEMENT => match client.store.get_statement(message.name.as_str()) {
@@ -361,10 +377,10 @@ pub trait ExtendedQueryHandler {
         message: Flush,
     ) -> Result<(), PgWireError>
         requires given { IsGiven (frontend.Flush message) }
-        requires good { IsGoodState (told self.now).parser (state_of St.statements St.portals client.old) }
-        ensures ok { OnOk result (client.new ≡ client.old) }
+        requires good { IsGoodState (told self.now).parser (state_of St.maps client.old) }
+        ensures same { client.new ≡ client.old }
         ensures refused { IfErr result (λ e. e ≡ PgWireError.NoMemory) }
-        ensures good { IsGoodState (told self.now).parser (state_of St.statements St.portals client.new) }
+        ensures good { IsGoodState (told self.now).parser (state_of St.maps client.new) }
     {
         let _ = message;
         let _ = client;
@@ -379,18 +395,18 @@ pub trait ExtendedQueryHandler {
         message: PgSync,
     ) -> Result<(), PgWireError>
         requires given { IsGiven (frontend.PgSync message) }
-        requires good { IsGoodState (told self.now).parser (state_of St.statements St.portals client.old) }
+        requires good { IsGoodState (told self.now).parser (state_of St.maps client.old) }
         ensures ok { OnOk result (IsEffect
-            (on_sync (state_of St.statements St.portals client.old))
-            client.old.outbox client.new.outbox (Done (state_of St.statements St.portals client.new))) }
+            (on_sync (state_of St.maps client.old))
+            client.old.outbox client.new.outbox (Done (state_of St.maps client.new))) }
         ensures refused { IfErr result (IsRefusedEffect
-            (on_sync (state_of St.statements St.portals client.old))
-            client.old.outbox client.new.outbox (state_of St.statements St.portals client.new)) }
+            (on_sync (state_of St.maps client.old))
+            client.old.outbox client.new.outbox (state_of St.maps client.new)) }
         ensures answerable { IfErr result IsAnswerable }
         ensures kept { OnErr result
-            (state_of St.statements St.portals client.new ≡ state_of St.statements St.portals client.old) }
+            (state_of St.maps client.new ≡ state_of St.maps client.old) }
         ensures waiting { OnErr result (client.new.outbox ≡ client.old.outbox) }
-        ensures good { IsGoodState (told self.now).parser (state_of St.statements St.portals client.new) }
+        ensures good { IsGoodState (told self.now).parser (state_of St.maps client.new) }
     {
         let _ = message;
         send_ready_for_query(&mut client.outbox, client.info.status)?;
@@ -408,18 +424,18 @@ pub trait ExtendedQueryHandler {
         message: Close,
     ) -> Result<(), PgWireError>
         requires given { IsGiven (frontend.Close message) }
-        requires good { IsGoodState (told self.now).parser (state_of St.statements St.portals client.old) }
+        requires good { IsGoodState (told self.now).parser (state_of St.maps client.old) }
         ensures ok { OnOk result (IsEffect
-            (on_close (state_of St.statements St.portals client.old) message)
-            client.old.outbox client.new.outbox (Done (state_of St.statements St.portals client.new))) }
+            (on_close (state_of St.maps client.old) message)
+            client.old.outbox client.new.outbox (Done (state_of St.maps client.new))) }
         ensures refused { IfErr result (IsRefusedEffect
-            (on_close (state_of St.statements St.portals client.old) message)
-            client.old.outbox client.new.outbox (state_of St.statements St.portals client.new)) }
+            (on_close (state_of St.maps client.old) message)
+            client.old.outbox client.new.outbox (state_of St.maps client.new)) }
         ensures answerable { IfErr result IsAnswerable }
         ensures kept { OnErr result
-            (state_of St.statements St.portals client.new ≡ state_of St.statements St.portals client.old) }
+            (state_of St.maps client.new ≡ state_of St.maps client.old) }
         ensures waiting { OnErr result (client.new.outbox ≡ client.old.outbox) }
-        ensures good { IsGoodState (told self.now).parser (state_of St.statements St.portals client.new) }
+        ensures good { IsGoodState (told self.now).parser (state_of St.maps client.new) }
     {
         client
             .outbox

@@ -1,8 +1,9 @@
 //! Queries: how they are polled, and what is sent of what they answer.
 
 ghost use Rattle.std.specs.Prelude.{◌≡◌, ◌≤◌, false, IfErr, OnErr, List};
+ghost use Rattle.pg_handlers.specs.Desk.{KeepsDesk};
 ghost use Rattle.pg_handlers.specs.Handlers.{QueryTold, IsPolled};
-ghost use Rattle.pg_handlers.specs.Questions.{Verdict, IsAsked, IsVerdict, HasSpent, questions_since};
+ghost use Rattle.pg_handlers.specs.Questions.{Verdict, IsAsked, IsVerdict, IsCausedSo, HasSpent, questions_since};
 
 use crate::desk::CancelDesk;
 use crate::ends::{SessionError, Turns};
@@ -49,13 +50,13 @@ pub(crate) fn wait<Q: QueryState, D: CancelDesk>(
 ) -> Result<Q::Out, SessionError>
     requires { (Q.told query.old).is_spent ≡ false }
     ensures asked { (verdict : Verdict)
-        × IsAsked (Q.told query.old).owes (D.calls desk.old) (D.calls desk.new) verdict
+        × IsAsked (Q.told query.old).owes (D.told desk.old).calls (D.told desk.new).calls verdict
         × IsVerdict (Q.told query.old).outcome verdict result }
+    ensures caused { IfErr result (IsCausedSo (D.told desk.old).calls (D.told desk.new).calls) }
     ensures turns { HasSpent turns.old turns.new
-        (questions_since (D.calls desk.old) (D.calls desk.new)) result }
+        (questions_since (D.told desk.old).calls (D.told desk.new).calls) result }
     ensures bounded { turns.old.spent ≤ turns.old.limit → turns.new.spent ≤ turns.new.limit }
-    ensures same { D.registration desk.new ≡ D.registration desk.old }
-    ensures origin { D.origin desk.new ≡ D.origin desk.old }
+    ensures keeps { KeepsDesk (D.told desk.old) (D.told desk.new) }
 {
     loop {
         match query.poll()? {

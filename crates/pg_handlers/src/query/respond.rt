@@ -1,6 +1,6 @@
 //! What responses send, in an Execute and in a Query alike.
 
-ghost use Rattle.std.specs.Prelude.{◌≡◌, ◌⊎◌, ◌++◌, ◌∷◌, [], None, Some, false, List, map, length, IfOk, IfErr, OnOk, OnErr, codes};
+ghost use Rattle.std.specs.Prelude.{◌≡◌, ◌⊎◌, ◌++◌, ◌∷◌, [], None, Some, false, List, map, length, take, IfOk, IfErr, OnOk, OnErr, codes};
 ghost use Rattle.std.specs.List.{AllByRecursion};
 ghost use Rattle.pg_messages.specs.Replies.{replies_bytes, IsEncodable};
 ghost use Rattle.pg_messages.specs.declared.backend.PgWireBackendMessage.TheVariants as server;
@@ -8,12 +8,12 @@ ghost use Rattle.pg_handlers.specs.Replies.{error_reply};
 ghost use Rattle.pg_portal.specs.Fetching.{with_items};
 ghost use Rattle.pg_portal.specs.Page.{item_page, PageEnd, AtLimit, AtEnd, AtError};
 ghost use Rattle.pg_portal.specs.Responses.{told_response, told_responses};
-ghost use Rattle.pg_portal.specs.Rows.{IsAnswerable};
+ghost use Rattle.pg_portal.specs.Rows.{IsAnswerableItem};
 ghost use Rattle.pg_portal.specs.Told.{Stage, stage_of, bound_of, portal_of, told_rows};
 ghost use Rattle.pg_portal.specs.declared.error.PgWireError.{PgWireError};
 ghost use Rattle.pg_handlers.specs.Effect.{IsEffect, IsRefusedEffect, Done};
 ghost use Rattle.pg_handlers.specs.ExecuteRow.{executed_without_rows, executed_other};
-ghost use Rattle.pg_handlers.specs.Executing.{IsPageOf, OnlyLosesUnnamed, page_result, has_rows, is_unstarted};
+ghost use Rattle.pg_handlers.specs.Executing.{IsPageOf, HasComeTo, OnlyLosesUnnamed, page_result, has_rows, is_unstarted};
 ghost use Rattle.pg_handlers.specs.Good.{IsSendableResponse, HasGoodTag};
 ghost use Rattle.pg_handlers.specs.ResponseRows.{responded};
 ghost use Rattle.pg_handlers.specs.SimpleRows.{responded_all};
@@ -85,7 +85,8 @@ pub(crate) fn send_response<R: RowSource, C: CopySource>(
         outbox.old outbox.new result }
     ensures left { IfOk result (λ left.
         left ≡ behind (responded status (told_response R.items C.items response))) }
-    ensures answerable { IfErr result IsAnswerable }
+    ensures answerable { IfErr result IsAnswerableItem }
+    ensures kept { take (length outbox.old) outbox.new ≡ outbox.old }
 {
     match response {
         Response::EmptyQuery => send_empty_query_response(outbox)?,
@@ -134,7 +135,8 @@ pub(crate) fn send_responses<R: RowSource, C: CopySource>(
         outbox.old outbox.new result }
     ensures left { IfOk result (λ left.
         left ≡ behind (responded_all status (told_responses R.items C.items responses))) }
-    ensures answerable { IfErr result IsAnswerable }
+    ensures answerable { IfErr result IsAnswerableItem }
+    ensures kept { take (length outbox.old) outbox.new ≡ outbox.old }
 {
     let mut left = Behind::at(status);
     for response in responses.into_vec() {
@@ -161,10 +163,14 @@ pub(crate) fn send_page<S: Drop, R: RowSource>(
     portal: &mut Portal<S, R>,
     max_rows: i32,
 ) -> Result<(), PgWireError>
+    requires started { is_unstarted (stage_of R.items portal.old.state) ≡ false }
     requires tag { HasGoodTag (stage_of R.items portal.old.state) }
     ensures page { IsPageOf (page_result max_rows (stage_of R.items portal.old.state))
         (stage_of R.items portal.new.state) outbox.old outbox.new result }
-    ensures answerable { IfErr result IsAnswerable }
+    ensures answerable { IfErr result IsAnswerableItem }
+    ensures stays { OnErr result
+        (HasComeTo (stage_of R.items portal.old.state) (stage_of R.items portal.new.state)) }
+    ensures kept { take (length outbox.old) outbox.new ≡ outbox.old }
     ensures bound { bound_of portal.new ≡ bound_of portal.old }
     ensures tag { HasGoodTag (stage_of R.items portal.new.state) }
 {
@@ -198,23 +204,25 @@ pub(crate) fn respond<St: PortalStore, C: CopySource>(
     requires sendable { IsSendableResponse (told_response St.Rows.items C.items response) }
     requires without_rows { has_rows (told_response St.Rows.items C.items response) ≡ false }
     ensures ok { OnOk result (IsEffect
-        (executed_without_rows (state_of St.statements St.portals client.old)
+        (executed_without_rows (state_of St.maps client.old)
         (told_response St.Rows.items C.items response)) client.old.outbox client.new.outbox
-        (Done (state_of St.statements St.portals client.new))) }
+        (Done (state_of St.maps client.new))) }
     ensures refused { IfErr result (IsRefusedEffect
-        (executed_without_rows (state_of St.statements St.portals client.old)
+        (executed_without_rows (state_of St.maps client.old)
         (told_response St.Rows.items C.items response)) client.old.outbox client.new.outbox
-        (state_of St.statements St.portals client.new)) }
-    ensures answerable { IfErr result IsAnswerable }
+        (state_of St.maps client.new)) }
+    ensures answerable { IfErr result IsAnswerableItem }
     ensures metadata { client.new.info.metadata ≡ client.old.info.metadata }
-    ensures portals { OnlyLosesUnnamed (St.portals client.old.store) (St.portals client.new.store) }
-    ensures statements { St.statements client.new.store ≡ St.statements client.old.store }
+    ensures store { OnlyLosesUnnamed (St.maps client.old.store) (St.maps client.new.store) }
+    ensures left { OnErr result (client.new.store ≡ client.old.store) }
+    ensures info { OnErr result (client.new.info ≡ client.old.info) }
+    ensures kept { take (length client.old.outbox) client.new.outbox ≡ client.old.outbox }
 {
     match response {
         Response::Error(info) => Err(PgWireError::UserError(info)),
         Response::TransactionEnd(tag) => {
-            client.store.rm_portal("");
             send_execution_response(alloc, &mut client.outbox, tag)?;
+            client.store.rm_portal("");
             client.info.status = client.info.status.to_idle_state();
             Ok(())
         }
@@ -230,16 +238,18 @@ fn respond_otherwise<St: PortalStore, C: CopySource>(
 ) -> Result<(), PgWireError>
     requires sendable { IsSendableResponse (told_response St.Rows.items C.items response) }
     ensures ok { OnOk result (IsEffect
-        (executed_other (state_of St.statements St.portals client.old)
+        (executed_other (state_of St.maps client.old)
         (told_response St.Rows.items C.items response)) client.old.outbox client.new.outbox
-        (Done (state_of St.statements St.portals client.new))) }
+        (Done (state_of St.maps client.new))) }
     ensures refused { IfErr result (IsRefusedEffect
-        (executed_other (state_of St.statements St.portals client.old)
+        (executed_other (state_of St.maps client.old)
         (told_response St.Rows.items C.items response)) client.old.outbox client.new.outbox
-        (state_of St.statements St.portals client.new)) }
-    ensures answerable { IfErr result IsAnswerable }
+        (state_of St.maps client.new)) }
+    ensures answerable { IfErr result IsAnswerableItem }
     ensures metadata { client.new.info.metadata ≡ client.old.info.metadata }
     ensures store { client.new.store ≡ client.old.store }
+    ensures info { OnErr result (client.new.info ≡ client.old.info) }
+    ensures kept { take (length client.old.outbox) client.new.outbox ≡ client.old.outbox }
 {
     let left = send_response(alloc, &mut client.outbox, client.info.status, response)?;
     client.info.status = left.status;

@@ -1,12 +1,13 @@
 //! The query of a portal, while the store lends it.
 
-ghost use Rattle.std.specs.Prelude.{◌≡◌, ◌≤◌, false, true, IfOk, IfErr, IfSome, OnOk};
+ghost use Rattle.std.specs.Prelude.{◌≡◌, ◌≤◌, false, true, length, take, IfOk, IfErr, IfSome, OnOk};
 ghost use Rattle.pg_portal.specs.Responses.{told_response};
 ghost use Rattle.pg_portal.specs.Told.{stage_of, bound_of};
+ghost use Rattle.pg_handlers.specs.Desk.{KeepsDesk};
 ghost use Rattle.pg_handlers.specs.Executing.{portal_run, IsPortalRun, has_rows};
 ghost use Rattle.pg_handlers.specs.Good.{IsSendableOutcome, IsSendableResponse, HasGoodTag};
 ghost use Rattle.pg_handlers.specs.Handlers.{told_one};
-ghost use Rattle.pg_handlers.specs.Questions.{Verdict, IsAsked, HasSpent, questions_since};
+ghost use Rattle.pg_handlers.specs.Questions.{Verdict, IsAsked, IsCausedSo, HasSpent, questions_since};
 ghost use Rattle.pg_handlers.specs.Sending.{IsAnswerableError};
 
 use crate::desk::CancelDesk;
@@ -38,7 +39,7 @@ pub(crate) fn run_portal<
     requires sendable { IsSendableOutcome (told_one R.items C.items (Q.told query.old).outcome) }
     requires tag { HasGoodTag (stage_of R.items portal.old.state) }
     ensures ran { (verdict : Verdict)
-        × IsAsked (Q.told query.old).owes (D.calls desk.old) (D.calls desk.new) verdict
+        × IsAsked (Q.told query.old).owes (D.told desk.old).calls (D.told desk.new).calls verdict
         × IsPortalRun (told_response R.items C.items)
         (portal_run max_rows (stage_of R.items portal.old.state) verdict
         (told_one R.items C.items (Q.told query.old).outcome))
@@ -49,13 +50,14 @@ pub(crate) fn run_portal<
     ensures sendable { IfOk result (λ left. IfSome left (λ response.
         IsSendableResponse (told_response R.items C.items response))) }
     ensures answerable { IfErr result IsAnswerableError }
+    ensures caused { IfErr result (IsCausedSo (D.told desk.old).calls (D.told desk.new).calls) }
+    ensures kept { take (length outbox.old) outbox.new ≡ outbox.old }
     ensures bound { bound_of portal.new ≡ bound_of portal.old }
     ensures tag { HasGoodTag (stage_of R.items portal.new.state) }
     ensures turns { HasSpent turns.old turns.new
-        (questions_since (D.calls desk.old) (D.calls desk.new)) result }
+        (questions_since (D.told desk.old).calls (D.told desk.new).calls) result }
     ensures bounded { turns.old.spent ≤ turns.old.limit → turns.new.spent ≤ turns.new.limit }
-    ensures same { D.registration desk.new ≡ D.registration desk.old }
-    ensures origin { D.origin desk.new ≡ D.origin desk.old }
+    ensures keeps { KeepsDesk (D.told desk.old) (D.told desk.new) }
 {
     match wait(query, desk, turns)?? {
         Response::Query(rows) => {

@@ -9,10 +9,11 @@ ghost use Rattle.pg_messages.specs.declared.backend.PgWireBackendMessage.TheVari
 ghost use Rattle.pg_portal.specs.Fields.{description_of};
 ghost use Rattle.pg_portal.specs.Responses.{told_copy};
 ghost use Rattle.pg_portal.specs.Copying.{IsNextCopy, IsSendableCopy};
-ghost use Rattle.pg_portal.specs.Rows.{IsAnswerable};
+ghost use Rattle.pg_portal.specs.Rows.{IsAnswerableItem};
 ghost use Rattle.pg_portal.specs.Page.{item_page, before_error};
 ghost use Rattle.pg_portal.specs.Tags.{spaced, tag_text};
-ghost use Rattle.pg_portal.specs.Told.{told_rows};
+ghost use Rattle.pg_portal.specs.Fetching.{IsKept};
+ghost use Rattle.pg_portal.specs.Told.{Started, told_rows};
 ghost use Rattle.pg_portal.specs.declared.error.PgWireError.{PgWireError};
 ghost use Rattle.pg_handlers.specs.Good.{IsTag};
 ghost use Rattle.pg_handlers.specs.Replies.{ready, done, done_with, row_description, parameter_description};
@@ -225,9 +226,11 @@ pub fn send_partial_query_response<R: RowSource>(
         ⊎ IsMetError (told_rows R.items results.old)
         (item_page max_rows (R.items results.old.data_rows)).ending
         e (told_rows R.items results.new) outbox.old outbox.new) }
-    ensures answerable { IfErr result IsAnswerable }
+    ensures answerable { IfErr result IsAnswerableItem }
     ensures tag { results.new.command_tag ≡ results.old.command_tag }
     ensures fields { arc_value results.new.row_schema ≡ arc_value results.old.row_schema }
+    ensures left { OnErr result (IsKept (Started (told_rows R.items results.old))
+        (Started (told_rows R.items results.new))) }
     ensures begins { length outbox.old ≤ length outbox.new }
     ensures kept { take (length outbox.old) outbox.new ≡ outbox.old }
 {
@@ -260,7 +263,7 @@ pub fn send_query_response<R: RowSource>(
     ensures sent { (now : TransactionStatus) → IsAllSent
         (sent_rows_behind (rows_front send_describe (told_rows R.items results)) now
         (told_rows R.items results)) outbox.old outbox.new result }
-    ensures answerable { IfErr result IsAnswerable }
+    ensures answerable { IfErr result IsAnswerableItem }
     ensures kept { take (length outbox.old) outbox.new ≡ outbox.old }
 {
     let mut results = results;
@@ -325,7 +328,7 @@ fn send_copy_data<C: CopySource>(
         (IsSentData (copy_items (told_copy C.items resp.old)) outbox.old outbox.new) }
     ensures refused { IfErr result (λ e. (e ≡ PgWireError.NoMemory)
         ⊎ IsRefusedData (copy_items (told_copy C.items resp.old)) outbox.old outbox.new e) }
-    ensures answerable { IfErr result IsAnswerable }
+    ensures answerable { IfErr result IsAnswerableItem }
     ensures kept { take (length outbox.old) outbox.new ≡ outbox.old }
 {
     let mut count = 0;
@@ -416,7 +419,7 @@ pub fn send_copy_out_response<C: CopySource>(
     requires { resp.columns ≤ 32767 }
     ensures sent { (now : TransactionStatus) → IsAllSent (sent_copy now false
         (copy_out_reply (told_copy C.items resp)) (told_copy C.items resp)) outbox.old outbox.new result }
-    ensures answerable { IfErr result IsAnswerable }
+    ensures answerable { IfErr result IsAnswerableItem }
     ensures kept { take (length outbox.old) outbox.new ≡ outbox.old }
 {
     let mut resp = resp;
@@ -435,7 +438,7 @@ pub fn send_copy_both_response<C: CopySource>(
     requires { resp.columns ≤ 32767 }
     ensures sent { (now : TransactionStatus) → IsAllSent (sent_copy now true
         (copy_both_reply (told_copy C.items resp)) (told_copy C.items resp)) outbox.old outbox.new result }
-    ensures answerable { IfErr result IsAnswerable }
+    ensures answerable { IfErr result IsAnswerableItem }
     ensures kept { take (length outbox.old) outbox.new ≡ outbox.old }
 {
     let mut resp = resp;

@@ -1,19 +1,23 @@
 //! The simple query (protocol: Message Flow, Simple Query).
 
-ghost use Rattle.std.specs.Prelude.{◌≡◌, ◌≤◌, false, IfOk, IfErr, OnOk};
+ghost use Rattle.std.specs.Prelude.{◌≡◌, ◌≢◌, ◌≤◌, false, length, take, Err, IfOk, IfErr, OnOk, OnErr};
 ghost use Rattle.pg_messages.specs.declared.frontend.PgWireFrontendMessage.TheVariants as frontend;
 ghost use Rattle.pg_portal.specs.Clients.{HasShortMetadata};
 ghost use Rattle.std.specs.List.{AllByRecursion};
 ghost use Rattle.pg_portal.specs.Responses.{told_responses};
-ghost use Rattle.pg_portal.specs.Rows.{IsAnswerable};
+ghost use Rattle.pg_portal.specs.Rows.{IsAnswerableItem};
 ghost use Rattle.pg_portal.specs.Texts.{IsShortText};
+ghost use Rattle.pg_handlers.specs.Desk.{KeepsDesk};
 ghost use Rattle.pg_handlers.specs.Handlers.{SimpleTold, told_all, told_query};
 ghost use Rattle.pg_handlers.specs.State.{state_of};
 ghost use Rattle.pg_handlers.specs.Effect.{IsEffect, IsRefusedEffect, IsRow, IsRefusedRow, Done, when_ready};
 ghost use Rattle.pg_handlers.specs.SimpleRows.{on_query, answered_all};
 ghost use Rattle.pg_handlers.specs.Good.{IsGiven, AreSendable, IsSendableResponse};
-ghost use Rattle.pg_handlers.specs.Questions.{HasSpent, questions_since};
-ghost use Rattle.pg_handlers.specs.Sending.{IsAnswerableError};
+ghost use Rattle.pg_handlers.specs.Questions.{IsCausedSo, HasSpent, questions_since};
+ghost use Rattle.pg_handlers.specs.Sending.{IsAnswerableError, AtTurnLimit};
+ghost use Rattle.pg_portal.specs.declared.client.PgWireConnectionState.TheVariants as phase;
+ghost use Rattle.pg_portal.specs.declared.error.PgWireError.TheVariants as wire;
+ghost use Rattle.pg_handlers.specs.declared.ends.SessionError.TheVariants as session;
 
 use crate::client::Client;
 use crate::desk::CancelDesk;
@@ -72,23 +76,31 @@ pub trait SimpleQueryHandler {
         requires given { IsGiven (frontend.Query query) }
         requires short_metadata { HasShortMetadata client.old.info }
         ensures ok { OnOk result (IsRow
-            (λ answers. when_ready (state_of St.statements St.portals client.old)
-            (on_query (told self.now) answers (state_of St.statements St.portals client.old) query))
-            client.old.outbox client.new.outbox (D.calls desk.old) (D.calls desk.new)
-            (Done (state_of St.statements St.portals client.new))) }
+            (λ answers. when_ready (state_of St.maps client.old)
+            (on_query (told self.now) answers (state_of St.maps client.old) query))
+            client.old.outbox client.new.outbox (D.told desk.old).calls (D.told desk.new).calls
+            (Done (state_of St.maps client.new))) }
         ensures refused { IfErr result (IsRefusedRow
-            (λ answers. when_ready (state_of St.statements St.portals client.old)
-            (on_query (told self.now) answers (state_of St.statements St.portals client.old) query))
-            client.old.outbox client.new.outbox (D.calls desk.old) (D.calls desk.new)
-            (state_of St.statements St.portals client.new)) }
+            (λ answers. when_ready (state_of St.maps client.old)
+            (on_query (told self.now) answers (state_of St.maps client.old) query))
+            client.old.outbox client.new.outbox (D.told desk.old).calls (D.told desk.new).calls
+            (state_of St.maps client.new)) }
         ensures answerable { IfErr result IsAnswerableError }
         ensures store { client.new.store ≡ client.old.store }
+        ensures not_ready { client.old.info.state ≢ phase.ReadyForQuery
+            → result ≡ Err (session.Wire wire.NotReadyForQuery) }
+        ensures caused { client.old.info.state ≡ phase.ReadyForQuery
+            → IfErr result (IsCausedSo (D.told desk.old).calls (D.told desk.new).calls) }
+        ensures limit { IfErr result (λ e. AtTurnLimit e
+            ((state_of St.maps client.new ≡ state_of St.maps client.old)
+            × (client.new.outbox ≡ client.old.outbox))) }
+        ensures info { OnErr result (client.new.info ≡ client.old.info) }
+        ensures kept { take (length client.old.outbox) client.new.outbox ≡ client.old.outbox }
         ensures metadata { client.new.info.metadata ≡ client.old.info.metadata }
         ensures turns { HasSpent turns.old turns.new
-            (questions_since (D.calls desk.old) (D.calls desk.new)) result }
+            (questions_since (D.told desk.old).calls (D.told desk.new).calls) result }
         ensures bounded { turns.old.spent ≤ turns.old.limit → turns.new.spent ≤ turns.new.limit }
-        ensures same { D.registration desk.new ≡ D.registration desk.old }
-        ensures origin { D.origin desk.new ≡ D.origin desk.old }
+        ensures keeps { KeepsDesk (D.told desk.old) (D.told desk.new) }
     {
         match client.info.state {
             PgWireConnectionState::ReadyForQuery => {
@@ -117,21 +129,26 @@ pub trait SimpleQueryHandler {
         requires given { IsGiven (frontend.Query query) }
         requires short_metadata { HasShortMetadata client.old.info }
         ensures ok { OnOk result (IsRow
-            (λ answers. on_query (told self.now) answers (state_of St.statements St.portals client.old) query)
-            client.old.outbox client.new.outbox (D.calls desk.old) (D.calls desk.new)
-            (Done (state_of St.statements St.portals client.new))) }
+            (λ answers. on_query (told self.now) answers (state_of St.maps client.old) query)
+            client.old.outbox client.new.outbox (D.told desk.old).calls (D.told desk.new).calls
+            (Done (state_of St.maps client.new))) }
         ensures refused { IfErr result (IsRefusedRow
-            (λ answers. on_query (told self.now) answers (state_of St.statements St.portals client.old) query)
-            client.old.outbox client.new.outbox (D.calls desk.old) (D.calls desk.new)
-            (state_of St.statements St.portals client.new)) }
+            (λ answers. on_query (told self.now) answers (state_of St.maps client.old) query)
+            client.old.outbox client.new.outbox (D.told desk.old).calls (D.told desk.new).calls
+            (state_of St.maps client.new)) }
         ensures answerable { IfErr result IsAnswerableError }
         ensures store { client.new.store ≡ client.old.store }
+        ensures caused { IfErr result (IsCausedSo (D.told desk.old).calls (D.told desk.new).calls) }
+        ensures limit { IfErr result (λ e. AtTurnLimit e
+            ((state_of St.maps client.new ≡ state_of St.maps client.old)
+            × (client.new.outbox ≡ client.old.outbox))) }
+        ensures info { OnErr result (client.new.info ≡ client.old.info) }
+        ensures kept { take (length client.old.outbox) client.new.outbox ≡ client.old.outbox }
         ensures metadata { client.new.info.metadata ≡ client.old.info.metadata }
         ensures turns { HasSpent turns.old turns.new
-            (questions_since (D.calls desk.old) (D.calls desk.new)) result }
+            (questions_since (D.told desk.old).calls (D.told desk.new).calls) result }
         ensures bounded { turns.old.spent ≤ turns.old.limit → turns.new.spent ≤ turns.new.limit }
-        ensures same { D.registration desk.new ≡ D.registration desk.old }
-        ensures origin { D.origin desk.new ≡ D.origin desk.old }
+        ensures keeps { KeepsDesk (D.told desk.old) (D.told desk.new) }
     {
         if is_blank(query.query.as_str()) {
             send_empty_query_response(&mut client.outbox)?;
@@ -153,12 +170,14 @@ fn answer_query<St: PortalStore, R: RowSource, C: CopySource>(
 ) -> Result<(), PgWireError>
     requires { AllByRecursion IsSendableResponse (told_responses R.items C.items responses) }
     ensures ok { OnOk result (IsEffect
-        (answered_all (state_of St.statements St.portals client.old) (told_responses R.items C.items responses))
-        client.old.outbox client.new.outbox (Done (state_of St.statements St.portals client.new))) }
+        (answered_all (state_of St.maps client.old) (told_responses R.items C.items responses))
+        client.old.outbox client.new.outbox (Done (state_of St.maps client.new))) }
     ensures refused { IfErr result (IsRefusedEffect
-        (answered_all (state_of St.statements St.portals client.old) (told_responses R.items C.items responses))
-        client.old.outbox client.new.outbox (state_of St.statements St.portals client.new)) }
-    ensures answerable { IfErr result IsAnswerable }
+        (answered_all (state_of St.maps client.old) (told_responses R.items C.items responses))
+        client.old.outbox client.new.outbox (state_of St.maps client.new)) }
+    ensures answerable { IfErr result IsAnswerableItem }
+    ensures info { OnErr result (client.new.info ≡ client.old.info) }
+    ensures kept { take (length client.old.outbox) client.new.outbox ≡ client.old.outbox }
     ensures store { client.new.store ≡ client.old.store }
     ensures metadata { client.new.info.metadata ≡ client.old.info.metadata }
 {

@@ -3,6 +3,7 @@
 ghost use Rattle.std.specs.Prelude.{◌≡◌, ◌≤◌, ◌⊎◌, ◌++◌, ◌==◌, length, Some, None, Option, IsTrue, IfOk, IfErr, IfSome, OnOk, OnErr, codes, string_bytes, if◌then◌else◌};
 ghost use Rattle.pg_messages.specs.Replies.{replies_bytes};
 ghost use Rattle.pg_portal.specs.Errors.{error as error_info};
+ghost use Rattle.pg_portal.specs.Maps.{maps_with_statement};
 ghost use Rattle.pg_portal.specs.Told.{ParserTold, portal_of, value_under};
 ghost use Rattle.pg_handlers.specs.Errors.{values_for_empty, too_few_codes};
 ghost use Rattle.std.specs.Arc.{arc_value};
@@ -14,7 +15,7 @@ ghost use Rattle.pg_portal.specs.declared.error.PgWireError.{PgWireError};
 ghost use Rattle.pg_portal.specs.declared.error.PgWireError.TheVariants as wire;
 ghost use Rattle.pg_portal.specs.declared.store.Entry.TheVariants as entry;
 ghost use Rattle.pg_handlers.specs.Effect.{IsEffect, IsRefusedEffect, Done};
-ghost use Rattle.pg_handlers.specs.ExtendedRows.{parse_complete, bind_complete, bound_empty, bound_statement, entry_of, HasEnough, IsTooFew};
+ghost use Rattle.pg_handlers.specs.ExtendedRows.{parse_complete, bind_complete, bound_empty, bound_statement, entry_of, maps_after_close, HasEnough, IsTooFew};
 ghost use Rattle.pg_handlers.specs.ExecuteRow.{executed_nothing};
 ghost use Rattle.pg_handlers.specs.Good.{IsGiven, IsGoodStatement, IsGoodState};
 ghost use Rattle.pg_handlers.specs.State.{state_of, with_portal, with_statement};
@@ -56,10 +57,9 @@ pub(crate) fn store_statement<St: PortalStore>(
     found: Option<StoredStatement<St::Statement>>,
 ) -> Result<(), AllocError>
     requires { IfSome found (λ statement. statement.id ≡ name.now) }
-    ensures ok { OnOk result (St.statements store.new
-        ≡ fin.insert (St.statements store.old) name.now (entry_of found)) }
-    ensures err { OnErr result (St.statements store.new ≡ St.statements store.old) }
-    ensures portals { St.portals store.new ≡ St.portals store.old }
+    ensures ok { OnOk result
+        (St.maps store.new ≡ maps_with_statement (St.maps store.old) name.now (entry_of found)) }
+    ensures err { OnErr result (St.maps store.new ≡ St.maps store.old) }
 {
     match found {
         Some(statement) => {
@@ -78,11 +78,11 @@ pub(crate) fn store_parsed<St: PortalStore>(
     found: Option<StoredStatement<St::Statement>>,
 ) -> Result<(), AllocError>
     requires { IfSome found (λ statement. statement.id ≡ name.now) }
-    ensures ok { OnOk result (state_of St.statements St.portals client.new
-        ≡ with_statement (state_of St.statements St.portals client.old) name.now (entry_of found)) }
+    ensures ok { OnOk result (state_of St.maps client.new
+        ≡ with_statement (state_of St.maps client.old) name.now (entry_of found)) }
     ensures replied { OnOk result (client.new.outbox ≡ client.old.outbox ++ replies_bytes parse_complete) }
     ensures err { OnErr result
-        (state_of St.statements St.portals client.new ≡ state_of St.statements St.portals client.old) }
+        (state_of St.maps client.new ≡ state_of St.maps client.old) }
     ensures waiting { OnErr result (client.new.outbox ≡ client.old.outbox) }
 {
     let start = client.outbox.len();
@@ -138,18 +138,18 @@ pub(crate) fn bind_empty<St: PortalStore>(
 ) -> Result<(), PgWireError>
     requires given { IsGiven (frontend.Bind message) }
     ensures ok { OnOk result (IsEffect
-        (bound_empty (state_of St.statements St.portals client.old) message)
-        client.old.outbox client.new.outbox (Done (state_of St.statements St.portals client.new))) }
+        (bound_empty (state_of St.maps client.old) message)
+        client.old.outbox client.new.outbox (Done (state_of St.maps client.new))) }
     ensures refused { IfErr result (IsRefusedEffect
-        (bound_empty (state_of St.statements St.portals client.old) message)
-        client.old.outbox client.new.outbox (state_of St.statements St.portals client.new)) }
+        (bound_empty (state_of St.maps client.old) message)
+        client.old.outbox client.new.outbox (state_of St.maps client.new)) }
     ensures answerable { IfErr result IsAnswerable }
     ensures kept { OnErr result
-        (state_of St.statements St.portals client.new ≡ state_of St.statements St.portals client.old) }
+        (state_of St.maps client.new ≡ state_of St.maps client.old) }
     ensures waiting { OnErr result (client.new.outbox ≡ client.old.outbox) }
     ensures good { (parser : ParserTold St.Statement)
-        → IsGoodState parser (state_of St.statements St.portals client.old)
-        → IsGoodState parser (state_of St.statements St.portals client.new) }
+        → IsGoodState parser (state_of St.maps client.old)
+        → IsGoodState parser (state_of St.maps client.new) }
 {
     let count = message.parameters.len();
     if count > 0 {
@@ -195,19 +195,19 @@ pub(crate) fn bind_statement<St: PortalStore, Q: QueryParser<Statement = St::Sta
     requires given { IsGiven (frontend.Bind message) }
     requires good { IsGoodStatement (Q.told parser.now) (arc_value statement) }
     ensures ok { OnOk result (IsEffect
-        (bound_statement (Q.told parser.now) (state_of St.statements St.portals client.old) message
+        (bound_statement (Q.told parser.now) (state_of St.maps client.old) message
         (arc_value statement))
-        client.old.outbox client.new.outbox (Done (state_of St.statements St.portals client.new))) }
+        client.old.outbox client.new.outbox (Done (state_of St.maps client.new))) }
     ensures refused { IfErr result (IsRefusedEffect
-        (bound_statement (Q.told parser.now) (state_of St.statements St.portals client.old) message
+        (bound_statement (Q.told parser.now) (state_of St.maps client.old) message
         (arc_value statement))
-        client.old.outbox client.new.outbox (state_of St.statements St.portals client.new)) }
+        client.old.outbox client.new.outbox (state_of St.maps client.new)) }
     ensures answerable { IfErr result IsAnswerable }
     ensures kept { OnErr result
-        (state_of St.statements St.portals client.new ≡ state_of St.statements St.portals client.old) }
+        (state_of St.maps client.new ≡ state_of St.maps client.old) }
     ensures waiting { OnErr result (client.new.outbox ≡ client.old.outbox) }
-    ensures good { IsGoodState (Q.told parser.now) (state_of St.statements St.portals client.old)
-        → IsGoodState (Q.told parser.now) (state_of St.statements St.portals client.new) }
+    ensures good { IsGoodState (Q.told parser.now) (state_of St.maps client.old)
+        → IsGoodState (Q.told parser.now) (state_of St.maps client.new) }
 {
     check_codes(
         alloc,
@@ -226,12 +226,12 @@ fn store_portal<St: PortalStore>(
     client: &mut Client<St>,
     portal: Portal<St::Statement, St::Rows>,
 ) -> Result<(), AllocError>
-    ensures ok { OnOk result (state_of St.statements St.portals client.new
-        ≡ with_portal (state_of St.statements St.portals client.old) portal.name
+    ensures ok { OnOk result (state_of St.maps client.new
+        ≡ with_portal (state_of St.maps client.old) portal.name
         (entry.Value (portal_of St.Rows.items portal))) }
     ensures replied { OnOk result (client.new.outbox ≡ client.old.outbox ++ replies_bytes bind_complete) }
     ensures err { OnErr result
-        (state_of St.statements St.portals client.new ≡ state_of St.statements St.portals client.old) }
+        (state_of St.maps client.new ≡ state_of St.maps client.old) }
     ensures waiting { OnErr result (client.new.outbox ≡ client.old.outbox) }
 {
     let start = client.outbox.len();
@@ -249,11 +249,11 @@ fn store_empty_portal<St: PortalStore>(
     client: &mut Client<St>,
     name: &str,
 ) -> Result<(), AllocError>
-    ensures ok { OnOk result (state_of St.statements St.portals client.new
-        ≡ with_portal (state_of St.statements St.portals client.old) name.now entry.Empty) }
+    ensures ok { OnOk result (state_of St.maps client.new
+        ≡ with_portal (state_of St.maps client.old) name.now entry.Empty) }
     ensures replied { OnOk result (client.new.outbox ≡ client.old.outbox ++ replies_bytes bind_complete) }
     ensures err { OnErr result
-        (state_of St.statements St.portals client.new ≡ state_of St.statements St.portals client.old) }
+        (state_of St.maps client.new ≡ state_of St.maps client.old) }
     ensures waiting { OnErr result (client.new.outbox ≡ client.old.outbox) }
 {
     let start = client.outbox.len();
@@ -279,17 +279,18 @@ pub(crate) fn execute_no_portal<St: PortalStore>(
     name: PgStr,
 ) -> Result<(), PgWireError>
     requires short { IsShortText name }
-    requires none { value_under (fin.get (St.portals client.old.store) name) ≡ None }
+    requires none { value_under (fin.get (St.maps client.old.store).portals name) ≡ None }
     ensures ok { OnOk result (IsEffect
-        (executed_nothing (state_of St.statements St.portals client.old) name
-        (fin.get (St.portals client.old.store) name))
-        client.old.outbox client.new.outbox (Done (state_of St.statements St.portals client.new))) }
+        (executed_nothing (state_of St.maps client.old) name
+        (fin.get (St.maps client.old.store).portals name))
+        client.old.outbox client.new.outbox (Done (state_of St.maps client.new))) }
     ensures refused { IfErr result (IsRefusedEffect
-        (executed_nothing (state_of St.statements St.portals client.old) name
-        (fin.get (St.portals client.old.store) name))
-        client.old.outbox client.new.outbox (state_of St.statements St.portals client.new)) }
+        (executed_nothing (state_of St.maps client.old) name
+        (fin.get (St.maps client.old.store).portals name))
+        client.old.outbox client.new.outbox (state_of St.maps client.new)) }
     ensures answerable { IfErr result IsAnswerable }
-    ensures same { state_of St.statements St.portals client.new ≡ state_of St.statements St.portals client.old }
+    ensures same { state_of St.maps client.new ≡ state_of St.maps client.old }
+    ensures waiting { OnErr result (client.new.outbox ≡ client.old.outbox) }
 {
     if client.store.get_portal(name.as_str()).is_none() {
         return Err(missing_portal(name));
@@ -300,10 +301,7 @@ pub(crate) fn execute_no_portal<St: PortalStore>(
 
 /// Close: removes the statement or the portal of this name.
 pub(crate) fn close<St: PortalStore>(store: &mut St, message: Close)
-    ensures statements { St.statements store.new ≡ (if message.target_type == 83
-        then fin.remove (St.statements store.old) message.name else St.statements store.old) }
-    ensures portals { St.portals store.new ≡ (if message.target_type == 80
-        then fin.remove (St.portals store.old) message.name else St.portals store.old) }
+    ensures { St.maps store.new ≡ maps_after_close (St.maps store.old) message }
 {
     match message.target_type {
         TARGET_TYPE_BYTE_STATEMENT => store.rm_statement(message.name.as_str()),

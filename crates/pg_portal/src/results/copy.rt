@@ -13,8 +13,9 @@ pub trait CopySource: Drop {
     // the items to come
     ghost items: { Self → List CopyItem };
 
-    /// The next item, or None exactly at the end. No item is `NoMemory`, and each can be sent as a reply. After
-    /// an error all items are still to come.
+    /// The next item, or None exactly at the end. Each can be sent as a reply, and no error in the place of data is one
+    /// that the session itself tells: `NoMemory`, `QueryCanceled`, `NotReadyForQuery`, `PortalNotStarted`. After an
+    /// AllocError all items are still to come.
     fn next(&mut self) -> Result<Option<Result<CopyData, PgWireError>>, AllocError>
         ensures next { IsNextCopy (items self.old) result (items self.new) }
         ensures sendable { IfOk result (λ found. IfSome found IsSendableCopy) };

@@ -2,13 +2,13 @@
 
 ghost use Rattle.std.specs.Prelude.{◌≡◌, ◌≤◌, ◌<◌, ◌++◌, [], true, ℕ, List, Option, Some, None, length, IfOk, IfNone, OnOk, OnErr, Ok, IsErrOf};
 ghost use Rattle.std.specs.Option.{option_map};
+ghost use Rattle.pg_handlers.specs.Desk.{KeepsDesk};
 ghost use Rattle.pg_handlers.specs.Answer.{Next, Goes};
-ghost use Rattle.pg_handlers.specs.Handlers.{handlers_of};
 ghost use Rattle.pg_handlers.specs.Questions.{questions_since};
 ghost use Rattle.pg_handlers.specs.State.{State};
 ghost use Rattle.pg_handlers.specs.Table.{awaits, is_startup_phase};
 ghost use Rattle.pg_handlers.specs.declared.desk.DeskCall.{DeskCall};
-ghost use Rattle.pg_session.specs.Session.{whole_rules, HasFed, is_going, is_more};
+ghost use Rattle.pg_session.specs.Session.{whole_rules, HasFed, is_going, is_more, most_held};
 ghost use Rattle.pg_session.specs.Steps.{IsServed, IsCutOff, IsStopped, Flows, Stands, StandsAfterStep};
 ghost use Rattle.pg_session.specs.Streams.{GrowsBy, GrowsByFront, HasSinkCause, HasFlushed};
 ghost use Rattle.pg_session.specs.declared.ends.Progress.TheVariants.{More};
@@ -90,29 +90,28 @@ impl<
         requires { self.old.is_open ≡ true }
         ensures served { IfOk result (λ step. (next : Next (State H.Extended.Statement)) × IsServed
             (whole_rules
-            (handlers_of (H.Extended.told (H.extended self.old.handlers)) (H.Simple.told (H.simple self.old.handlers)) (H.Copying.told (H.copying self.old.handlers))))
+            (H.told self.old.handlers))
             self.old.state self.old.rest self.new.rest next (K.written sink.old) (K.written sink.new)
-            self.old.unsent self.new.unsent (D.calls desk.old) (D.calls desk.new)
+            self.old.unsent self.new.unsent (D.told desk.old).calls (D.told desk.new).calls
             × StandsAfterStep awaits next self.new.state self.new.rest step) }
         ensures cut_off { OnErr result (IsCutOff
             (whole_rules
-            (handlers_of (H.Extended.told (H.extended self.old.handlers)) (H.Simple.told (H.simple self.old.handlers)) (H.Copying.told (H.copying self.old.handlers))))
+            (H.told self.old.handlers))
             self.old.state self.old.rest (K.written sink.old) (K.written sink.new) self.old.unsent
-            (D.calls desk.old) (D.calls desk.new)) }
+            (D.told desk.old).calls (D.told desk.new).calls) }
         ensures stopped { IsErrOf result serve.TurnLimit → IsStopped
             (whole_rules
-            (handlers_of (H.Extended.told (H.extended self.old.handlers)) (H.Simple.told (H.simple self.old.handlers)) (H.Copying.told (H.copying self.old.handlers))))
+            (H.told self.old.handlers))
             self.old.state self.old.rest (K.written sink.old) (K.written sink.new) self.old.unsent
-            (D.calls desk.old) (D.calls desk.new) }
+            (D.told desk.old).calls (D.told desk.new).calls }
         ensures open { IfOk result (λ step. is_going step ≡ true → self.new.is_open ≡ true) }
         ensures handlers { self.new.handlers ≡ self.old.handlers }
         ensures shorter { IfOk result (λ step. IfNone step (length self.new.rest < length self.old.rest)) }
         ensures cause { HasSinkCause (K.faults sink.old) (K.faults sink.new) result }
         ensures turns { HasFed turns.old turns.new
-            (questions_since (D.calls desk.old) (D.calls desk.new)) result }
+            (questions_since (D.told desk.old).calls (D.told desk.new).calls) result }
         ensures bounded { turns.old.spent ≤ turns.old.limit → turns.new.spent ≤ turns.new.limit }
-        ensures same { D.registration desk.new ≡ D.registration desk.old }
-        ensures origin { D.origin desk.new ≡ D.origin desk.old }
+        ensures keeps { KeepsDesk (D.told desk.old) (D.told desk.new) }
     {
         self.codec.context.awaiting_startup = awaits_startup(self.client.info.state);
         let message = match self.codec.decode(alloc, &mut self.rest) {
@@ -137,29 +136,28 @@ impl<
         requires { self.old.is_open ≡ true }
         ensures served { IfOk result (λ told. (next : Next (State H.Extended.Statement)) × IsServed
             (whole_rules
-            (handlers_of (H.Extended.told (H.extended self.old.handlers)) (H.Simple.told (H.simple self.old.handlers)) (H.Copying.told (H.copying self.old.handlers))))
+            (H.told self.old.handlers))
             self.old.state self.old.rest self.new.rest next (K.written sink.old) (K.written sink.new)
-            self.old.unsent [] (D.calls desk.old) (D.calls desk.new)
+            self.old.unsent [] (D.told desk.old).calls (D.told desk.new).calls
             × Stands awaits next self.new.state self.new.rest told) }
         ensures cut_off { OnErr result (IsCutOff
             (whole_rules
-            (handlers_of (H.Extended.told (H.extended self.old.handlers)) (H.Simple.told (H.simple self.old.handlers)) (H.Copying.told (H.copying self.old.handlers))))
+            (H.told self.old.handlers))
             self.old.state self.old.rest (K.written sink.old) (K.written sink.new) self.old.unsent
-            (D.calls desk.old) (D.calls desk.new)) }
+            (D.told desk.old).calls (D.told desk.new).calls) }
         ensures stopped { IsErrOf result serve.TurnLimit → IsStopped
             (whole_rules
-            (handlers_of (H.Extended.told (H.extended self.old.handlers)) (H.Simple.told (H.simple self.old.handlers)) (H.Copying.told (H.copying self.old.handlers))))
+            (H.told self.old.handlers))
             self.old.state self.old.rest (K.written sink.old) (K.written sink.new) self.old.unsent
-            (D.calls desk.old) (D.calls desk.new) }
+            (D.told desk.old).calls (D.told desk.new).calls }
         ensures sent { OnOk result (self.new.unsent ≡ []) }
         ensures open { result ≡ Ok More → self.new.is_open ≡ true }
         ensures handlers { self.new.handlers ≡ self.old.handlers }
         ensures cause { HasSinkCause (K.faults sink.old) (K.faults sink.new) result }
         ensures turns { HasFed turns.old turns.new
-            (questions_since (D.calls desk.old) (D.calls desk.new)) result }
+            (questions_since (D.told desk.old).calls (D.told desk.new).calls) result }
         ensures bounded { turns.old.spent ≤ turns.old.limit → turns.new.spent ≤ turns.new.limit }
-        ensures same { D.registration desk.new ≡ D.registration desk.old }
-        ensures origin { D.origin desk.new ≡ D.origin desk.old }
+        ensures keeps { KeepsDesk (D.told desk.old) (D.told desk.new) }
     {
         'messages: loop {
             match self.step(alloc, desk, sink, turns)? {
@@ -184,37 +182,37 @@ impl<
         requires { self.old.is_open ≡ true }
         ensures served { IfOk result (λ told. (next : Next (State H.Extended.Statement)) × IsServed
             (whole_rules
-            (handlers_of (H.Extended.told (H.extended self.old.handlers)) (H.Simple.told (H.simple self.old.handlers)) (H.Copying.told (H.copying self.old.handlers))))
+            (H.told self.old.handlers))
             self.old.state (self.old.rest ++ piece.now) self.new.rest next (K.written sink.old) (K.written sink.new)
-            self.old.unsent [] (D.calls desk.old) (D.calls desk.new)
+            self.old.unsent [] (D.told desk.old).calls (D.told desk.new).calls
             × Stands awaits next self.new.state self.new.rest told) }
         ensures cut_off { OnErr result (IsCutOff
             (whole_rules
-            (handlers_of (H.Extended.told (H.extended self.old.handlers)) (H.Simple.told (H.simple self.old.handlers)) (H.Copying.told (H.copying self.old.handlers))))
+            (H.told self.old.handlers))
             self.old.state (self.old.rest ++ piece.now) (K.written sink.old) (K.written sink.new) self.old.unsent
-            (D.calls desk.old) (D.calls desk.new)) }
+            (D.told desk.old).calls (D.told desk.new).calls) }
         ensures stopped { IsErrOf result serve.TurnLimit → IsStopped
             (whole_rules
-            (handlers_of (H.Extended.told (H.extended self.old.handlers)) (H.Simple.told (H.simple self.old.handlers)) (H.Copying.told (H.copying self.old.handlers))))
+            (H.told self.old.handlers))
             self.old.state (self.old.rest ++ piece.now) (K.written sink.old) (K.written sink.new) self.old.unsent
-            (D.calls desk.old) (D.calls desk.new) }
+            (D.told desk.old).calls (D.told desk.new).calls }
         ensures sent { OnOk result (self.new.unsent ≡ []) }
         ensures open { result ≡ Ok More → self.new.is_open ≡ true }
         ensures handlers { self.new.handlers ≡ self.old.handlers }
         ensures cause { HasSinkCause (K.faults sink.old) (K.faults sink.new) result }
         ensures turns { HasFed turns.old turns.new
-            (questions_since (D.calls desk.old) (D.calls desk.new)) result }
+            (questions_since (D.told desk.old).calls (D.told desk.new).calls) result }
         ensures bounded { turns.old.spent ≤ turns.old.limit → turns.new.spent ≤ turns.new.limit }
-        ensures same { D.registration desk.new ≡ D.registration desk.old }
-        ensures origin { D.origin desk.new ≡ D.origin desk.old }
+        ensures keeps { KeepsDesk (D.told desk.old) (D.told desk.new) }
     {
         self.rest.extend_from_slice(piece)?;
         self.run(alloc, desk, sink, turns)
     }
 
     /// Takes a piece of the client's bytes, sends what waits, and writes the whole answer to the messages that the piece
-    /// completes. Ok(More) says that no whole frame is left, and Ok(Ended(kind)) that the conversation has ended, after
-    /// which the session is closed. So it is after an error: WriteFault where the sink failed, TurnLimit where a query
+    /// completes. Ok(More) says that no whole frame is left: then the session holds at most 9,999 bytes before the startup
+    /// packet, and 1,048,576 after it. Ok(Ended(kind)) says that the conversation has ended, after which the session is
+    /// closed. So it is after an error: WriteFault where the sink failed, TurnLimit where a query
     /// wanted a turn and none was left, NoMemory where memory ran out. ReadFault never comes.
     pub fn feed<D: CancelDesk, K: Sink>(
         &mut self,
@@ -229,61 +227,61 @@ impl<
         // The frames of the rest and the piece are answered by the conversation table.
         ensures served { IfOk result (λ told. (next : Next (State H.Extended.Statement)) × IsServed
             (whole_rules
-            (handlers_of (H.Extended.told (H.extended self.old.handlers)) (H.Simple.told (H.simple self.old.handlers)) (H.Copying.told (H.copying self.old.handlers))))
+            (H.told self.old.handlers))
             self.old.state (self.old.rest ++ piece.now) self.new.rest next (K.written sink.old) (K.written sink.new)
-            self.old.unsent [] (D.calls desk.old) (D.calls desk.new)
+            self.old.unsent [] (D.told desk.old).calls (D.told desk.new).calls
             × Stands awaits next self.new.state self.new.rest told) }
         ensures cut_off { OnErr result (IsCutOff
             (whole_rules
-            (handlers_of (H.Extended.told (H.extended self.old.handlers)) (H.Simple.told (H.simple self.old.handlers)) (H.Copying.told (H.copying self.old.handlers))))
+            (H.told self.old.handlers))
             self.old.state (self.old.rest ++ piece.now) (K.written sink.old) (K.written sink.new) self.old.unsent
-            (D.calls desk.old) (D.calls desk.new)) }
+            (D.told desk.old).calls (D.told desk.new).calls) }
         ensures stopped { IsErrOf result serve.TurnLimit → IsStopped
             (whole_rules
-            (handlers_of (H.Extended.told (H.extended self.old.handlers)) (H.Simple.told (H.simple self.old.handlers)) (H.Copying.told (H.copying self.old.handlers))))
+            (H.told self.old.handlers))
             self.old.state (self.old.rest ++ piece.now) (K.written sink.old) (K.written sink.new) self.old.unsent
-            (D.calls desk.old) (D.calls desk.new) }
+            (D.told desk.old).calls (D.told desk.new).calls }
 
         // So are those of all that came before, and of this piece.
         ensures continues { (s : State H.Extended.Statement) (text : List ℕ) (written : Option (List ℕ)) (out : List ℕ) (calls : List DeskCall)
             → IsServed
             (whole_rules
-            (handlers_of (H.Extended.told (H.extended self.old.handlers)) (H.Simple.told (H.simple self.old.handlers)) (H.Copying.told (H.copying self.old.handlers))))
-            s text self.old.rest (Goes self.old.state) written (K.written sink.old) out self.old.unsent calls (D.calls desk.old)
+            (H.told self.old.handlers))
+            s text self.old.rest (Goes self.old.state) written (K.written sink.old) out self.old.unsent calls (D.told desk.old).calls
             → IfOk result (λ told. (next : Next (State H.Extended.Statement)) × IsServed
             (whole_rules
-            (handlers_of (H.Extended.told (H.extended self.old.handlers)) (H.Simple.told (H.simple self.old.handlers)) (H.Copying.told (H.copying self.old.handlers))))
-            s (text ++ piece.now) self.new.rest next written (K.written sink.new) out [] calls (D.calls desk.new)
+            (H.told self.old.handlers))
+            s (text ++ piece.now) self.new.rest next written (K.written sink.new) out [] calls (D.told desk.new).calls
             × Stands awaits next self.new.state self.new.rest told) }
         ensures continues_cut { (s : State H.Extended.Statement) (text : List ℕ) (written : Option (List ℕ)) (out : List ℕ) (calls : List DeskCall)
             → IsServed
             (whole_rules
-            (handlers_of (H.Extended.told (H.extended self.old.handlers)) (H.Simple.told (H.simple self.old.handlers)) (H.Copying.told (H.copying self.old.handlers))))
-            s text self.old.rest (Goes self.old.state) written (K.written sink.old) out self.old.unsent calls (D.calls desk.old)
+            (H.told self.old.handlers))
+            s text self.old.rest (Goes self.old.state) written (K.written sink.old) out self.old.unsent calls (D.told desk.old).calls
             → OnErr result (IsCutOff
             (whole_rules
-            (handlers_of (H.Extended.told (H.extended self.old.handlers)) (H.Simple.told (H.simple self.old.handlers)) (H.Copying.told (H.copying self.old.handlers))))
-            s (text ++ piece.now) written (K.written sink.new) out calls (D.calls desk.new)) }
+            (H.told self.old.handlers))
+            s (text ++ piece.now) written (K.written sink.new) out calls (D.told desk.new).calls) }
         ensures continues_stopped { (s : State H.Extended.Statement) (text : List ℕ) (written : Option (List ℕ)) (out : List ℕ) (calls : List DeskCall)
             → IsServed
             (whole_rules
-            (handlers_of (H.Extended.told (H.extended self.old.handlers)) (H.Simple.told (H.simple self.old.handlers)) (H.Copying.told (H.copying self.old.handlers))))
-            s text self.old.rest (Goes self.old.state) written (K.written sink.old) out self.old.unsent calls (D.calls desk.old)
+            (H.told self.old.handlers))
+            s text self.old.rest (Goes self.old.state) written (K.written sink.old) out self.old.unsent calls (D.told desk.old).calls
             → IsErrOf result serve.TurnLimit → IsStopped
             (whole_rules
-            (handlers_of (H.Extended.told (H.extended self.old.handlers)) (H.Simple.told (H.simple self.old.handlers)) (H.Copying.told (H.copying self.old.handlers))))
-            s (text ++ piece.now) written (K.written sink.new) out calls (D.calls desk.new) }
+            (H.told self.old.handlers))
+            s (text ++ piece.now) written (K.written sink.new) out calls (D.told desk.new).calls }
         ensures sent { OnOk result (self.new.unsent ≡ []) }
+        ensures held { result ≡ Ok More → length self.new.rest ≤ most_held (awaits self.new.state) }
         ensures open { self.new.is_open ≡ is_more result }
         ensures handlers { self.new.handlers ≡ self.old.handlers }
 
         // The cause of each error.
         ensures cause { HasSinkCause (K.faults sink.old) (K.faults sink.new) result }
         ensures turns { HasFed turns.old turns.new
-            (questions_since (D.calls desk.old) (D.calls desk.new)) result }
+            (questions_since (D.told desk.old).calls (D.told desk.new).calls) result }
         ensures bounded { turns.old.spent ≤ turns.old.limit → turns.new.spent ≤ turns.new.limit }
-        ensures same { D.registration desk.new ≡ D.registration desk.old }
-        ensures origin { D.origin desk.new ≡ D.origin desk.old }
+        ensures keeps { KeepsDesk (D.told desk.old) (D.told desk.new) }
     {
         let outcome = self.take(alloc, desk, piece, sink, turns);
         self.opened = self.opened && is_more(&outcome);

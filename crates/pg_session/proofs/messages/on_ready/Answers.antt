@@ -1,5 +1,6 @@
 use Rattle.std.proofs.Common.{ap, refl, inl}
-use Rattle.pg_handlers.specs.Handlers.{handlers_of}
+use Rattle.std.proofs.lemmas.Result.{err_from_is_err_and}
+use Rattle.pg_handlers.proofs.Desks.{keeps_none}
 use Rattle.pg_handlers.specs.State.{state_of}
 use Rattle.pg_handlers.specs.Table.{statement_row}
 use Rattle.pg_handlers.specs.declared.ends.SessionError.TheVariants as session
@@ -10,54 +11,64 @@ use Rattle.pg_session.proofs.messages.on_ready.Goals as goal
 
 pub returns-in_err-on_query-in-Query-clause-good : goal.returns-in_err-on_query-in-Query-clause-good
 returns-in_err-on_query-in-Query-clause-good g c =
-    let s = state_of g.St.PortalStore.statements g.St.PortalStore.portals c.args.client.now in
-    let n = state_of g.St.PortalStore.statements g.St.PortalStore.portals c.on_query.new.client in
-    good_parts (g.H.Extended.ExtendedQueryHandler.told (g.H.PgWireServerHandlers.extended c.args.handlers.now)).parser s n.info n.statements n.portals
-    c.in_err-on_query-in-Query.ensures.metadata (ap g.St.PortalStore.statements c.in_err-on_query-in-Query.ensures.store) (ap g.St.PortalStore.portals c.in_err-on_query-in-Query.ensures.store) c.requires.good
+    let s = state_of g.St.PortalStore.maps c.args.client.now in
+    let n = state_of g.St.PortalStore.maps c.on_query.new.client in
+    good_parts (g.H.PgWireServerHandlers.told c.args.handlers.now).extended.parser s n.info n.statements n.portals
+    c.in_err-on_query-in-Query.ensures.metadata (ap (λ st. (g.St.PortalStore.maps st).statements) c.in_err-on_query-in-Query.ensures.store) (ap (λ st. (g.St.PortalStore.maps st).portals) c.in_err-on_query-in-Query.ensures.store) c.requires.good
+
+pub returns-in_err-on_query-in-Query-clause-refused : goal.returns-in_err-on_query-in-Query-clause-refused
+returns-in_err-on_query-in-Query-clause-refused g c =
+    let p = err_from_is_err_and c.from_residual.result c.from_residual.ensures.1 in
+    let refused = rw c.requires.ready at c.in_err-on_query-in-Query.ensures.refused in
+    rw (p.1, p.2, c.in-Query.is, ← c.simple_query_handler.ensures) refused
+
+pub returns-in_err-on_execute-in-Execute-clause-refused : goal.returns-in_err-on_execute-in-Execute-clause-refused
+returns-in_err-on_execute-in-Execute-clause-refused g c =
+    let p = err_from_is_err_and c.from_residual-in_err-on_execute-in-Execute.result c.from_residual-in_err-on_execute-in-Execute.ensures.1 in
+    let refused = rw c.requires.ready at c.in_err-on_execute-in-Execute.ensures.refused in
+    rw (p.1, p.2, c.in-Execute.is, ← c.extended_query_handler.ensures) refused
 
 pub returns-in_ok-on_query-in-Query-clause-good : goal.returns-in_ok-on_query-in-Query-clause-good
 returns-in_ok-on_query-in-Query-clause-good g c =
-    let s = state_of g.St.PortalStore.statements g.St.PortalStore.portals c.args.client.now in
-    let n = state_of g.St.PortalStore.statements g.St.PortalStore.portals c.on_query.new.client in
-    good_parts (g.H.Extended.ExtendedQueryHandler.told (g.H.PgWireServerHandlers.extended c.args.handlers.now)).parser s n.info n.statements n.portals
-    c.in_ok-on_query-in-Query.ensures.metadata (ap g.St.PortalStore.statements c.in_ok-on_query-in-Query.ensures.store) (ap g.St.PortalStore.portals c.in_ok-on_query-in-Query.ensures.store) c.requires.good
+    let s = state_of g.St.PortalStore.maps c.args.client.now in
+    let n = state_of g.St.PortalStore.maps c.on_query.new.client in
+    good_parts (g.H.PgWireServerHandlers.told c.args.handlers.now).extended.parser s n.info n.statements n.portals
+    c.in_ok-on_query-in-Query.ensures.metadata (ap (λ st. (g.St.PortalStore.maps st).statements) c.in_ok-on_query-in-Query.ensures.store) (ap (λ st. (g.St.PortalStore.maps st).portals) c.in_ok-on_query-in-Query.ensures.store) c.requires.good
 
 pub returns-in-Terminate-clause-ok : goal.returns-in-Terminate-clause-ok
 returns-in-Terminate-clause-ok g c =
-    let h = handlers_of (g.H.Extended.ExtendedQueryHandler.told (g.H.PgWireServerHandlers.extended c.args.handlers.now)) (g.H.Simple.SimpleQueryHandler.told (g.H.PgWireServerHandlers.simple c.args.handlers.now)) (g.H.Copying.CopyHandler.told (g.H.PgWireServerHandlers.copying c.args.handlers.now)) in
-    ended_row h (state_of g.St.PortalStore.statements g.St.PortalStore.portals c.args.client.now) c.args.message c.in-Terminate.field-0 c.args.client.now.outbox (g.D.CancelDesk.calls c.args.desk.now) c.in-Terminate.is
+    let h = g.H.PgWireServerHandlers.told c.args.handlers.now in
+    ended_row h (state_of g.St.PortalStore.maps c.args.client.now) c.args.message c.in-Terminate.field-0 c.args.client.now.outbox (g.D.CancelDesk.told c.args.desk.now).calls c.in-Terminate.is
 
 pub returns-in-Ok : goal.returns-in-Ok
 returns-in-Ok g c =
-    let h = handlers_of (g.H.Extended.ExtendedQueryHandler.told (g.H.PgWireServerHandlers.extended c.args.handlers.now)) (g.H.Simple.SimpleQueryHandler.told (g.H.PgWireServerHandlers.simple c.args.handlers.now)) (g.H.Copying.CopyHandler.told (g.H.PgWireServerHandlers.copying c.args.handlers.now)) in
-    let s = (state_of g.St.PortalStore.statements g.St.PortalStore.portals c.args.client.now) in
+    let h = g.H.PgWireServerHandlers.told c.args.handlers.now in
+    let s = (state_of g.St.PortalStore.maps c.args.client.now) in
     record {
       ok = same_row (λ answers. plain_row h answers s c.args.message c.in_default.not-Query c.in_default.not-Execute)
-          (silent_row (statement_row h.extended s c.args.message) (g.D.CancelDesk.calls c.args.desk.now) c.in-Ok.ensures.ok);
+          (silent_row (statement_row h.extended s c.args.message) (g.D.CancelDesk.told c.args.desk.now).calls c.in-Ok.ensures.ok);
       refused = tt;
       answerable = tt;
       ends = λ e. cc;
       good = c.in-Ok.ensures.good;
-      turns = no_turn c.args.turns.now (g.D.CancelDesk.calls c.args.desk.now);
+      turns = no_turn c.args.turns.now (g.D.CancelDesk.told c.args.desk.now).calls;
       bounded = λ p. p;
-      same = refl;
-      origin = refl;
+      keeps = keeps_none _;
     }
 
 pub returns-in-Err : goal.returns-in-Err
 returns-in-Err g c =
-    let h = handlers_of (g.H.Extended.ExtendedQueryHandler.told (g.H.PgWireServerHandlers.extended c.args.handlers.now)) (g.H.Simple.SimpleQueryHandler.told (g.H.PgWireServerHandlers.simple c.args.handlers.now)) (g.H.Copying.CopyHandler.told (g.H.PgWireServerHandlers.copying c.args.handlers.now)) in
-    let s = (state_of g.St.PortalStore.statements g.St.PortalStore.portals c.args.client.now) in
+    let h = g.H.PgWireServerHandlers.told c.args.handlers.now in
+    let s = (state_of g.St.PortalStore.maps c.args.client.now) in
     record {
       ok = tt;
-      refused = same_refused _ _ c.args.client.now.outbox c.on_statement.new.client.outbox (g.D.CancelDesk.calls c.args.desk.now) (g.D.CancelDesk.calls c.args.desk.now) (state_of g.St.PortalStore.statements g.St.PortalStore.portals c.on_statement.new.client)
+      refused = same_refused _ _ c.args.client.now.outbox c.on_statement.new.client.outbox (g.D.CancelDesk.told c.args.desk.now).calls (g.D.CancelDesk.told c.args.desk.now).calls (state_of g.St.PortalStore.maps c.on_statement.new.client)
           (session.Wire c.in-Err.error) (λ answers. plain_row h answers s c.args.message c.in_default.not-Query c.in_default.not-Execute)
-          (silent_refused (statement_row h.extended s c.args.message) (g.D.CancelDesk.calls c.args.desk.now) c.in-Err.ensures.refused);
+          (silent_refused (statement_row h.extended s c.args.message) (g.D.CancelDesk.told c.args.desk.now).calls c.in-Err.ensures.refused);
       answerable = c.in-Err.ensures.answerable;
       ends = tt;
       good = c.in-Err.ensures.good;
-      turns = inl (no_turn c.args.turns.now (g.D.CancelDesk.calls c.args.desk.now));
+      turns = inl (no_turn c.args.turns.now (g.D.CancelDesk.told c.args.desk.now).calls);
       bounded = λ p. p;
-      same = refl;
-      origin = refl;
+      keeps = keeps_none _;
     }

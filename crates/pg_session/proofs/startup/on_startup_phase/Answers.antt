@@ -9,7 +9,7 @@ pub returns-in_err-push_no_encryption-in-SslNegotiation-clause-refused :
     goal.returns-in_err-push_no_encryption-in-SslNegotiation-clause-refused
 returns-in_err-push_no_encryption-in-SslNegotiation-clause-refused g c =
     let p = err_from_is_err_and c.from_residual.result c.from_residual.ensures.1 in
-    let s = state_of g.St.PortalStore.statements g.St.PortalStore.portals c.args.client.now in
+    let s = state_of g.St.PortalStore.maps c.args.client.now in
     rw p.1 (row_without_memory (λ answers. startup_row answers s c.args.message) c.args.client.now.outbox
     c.push_no_encryption.new.outbox _ _ _ p.0 refl p.2)
 
@@ -18,7 +18,7 @@ pub returns-in_err-cancel-in-CancelRequest-clause-refused :
 returns-in_err-cancel-in-CancelRequest-clause-refused g c =
     let from = c.from_residual-in_err-cancel-in-CancelRequest in
     let p = err_from_is_err_and from.result from.ensures.1 in
-    let s = state_of g.St.PortalStore.statements g.St.PortalStore.portals c.args.client.now in
+    let s = state_of g.St.PortalStore.maps c.args.client.now in
     rw p.1 (row_without_memory (λ answers. startup_row answers s c.args.message) c.args.client.now.outbox
     c.args.client.now.outbox _ _ _ p.0 c.in_err-cancel-in-CancelRequest.ensures.err p.2)
 
@@ -27,15 +27,15 @@ pub returns-in_err-on_startup-in-Startup-clause-refused :
 returns-in_err-on_startup-in-Startup-clause-refused g c =
     let from = c.from_residual-in_err-on_startup-in-Startup in
     let p = err_from_is_err_and from.result from.ensures.1 in
-    let s = state_of g.St.PortalStore.statements g.St.PortalStore.portals c.args.client.now in
+    let s = state_of g.St.PortalStore.maps c.args.client.now in
     rw p.1 (packet_refused s _ c.args.message c.in-Startup.startup c.in-Startup.is c.args.client.now.outbox
-    c.on_startup.new.client.outbox (g.D.CancelDesk.calls c.args.desk.now) c.in_err-on_startup-in-Startup.ensures.silent
+    c.on_startup.new.client.outbox (g.D.CancelDesk.told c.args.desk.now).calls c.in_err-on_startup-in-Startup.ensures.silent
     _ p.0 p.2 c.in_err-on_startup-in-Startup.ensures.refused)
 
 pub returns-in_ok-on_startup-in-Startup-clause-ok :
     goal.returns-in_ok-on_startup-in-Startup-clause-ok
 returns-in_ok-on_startup-in-Startup-clause-ok g c =
-    let s = state_of g.St.PortalStore.statements g.St.PortalStore.portals c.args.client.now in
+    let s = state_of g.St.PortalStore.maps c.args.client.now in
     packet_answered s _ c.args.message c.in-Startup.startup c.in-Startup.is c.args.client.now.outbox
-    c.on_startup.new.client.outbox (g.D.CancelDesk.calls c.args.desk.now) c.in_ok-on_startup-in-Startup.ensures.silent
+    c.on_startup.new.client.outbox (g.D.CancelDesk.told c.args.desk.now).calls c.in_ok-on_startup-in-Startup.ensures.silent
     c.in_ok-on_startup-in-Startup.ensures.ok

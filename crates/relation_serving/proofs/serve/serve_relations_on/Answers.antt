@@ -1,9 +1,10 @@
 use Rattle.std.proofs.Common.{[], sym, ap, subst, append-nil, refl}
+use Rattle.std.specs.Prelude.{IfOk}
 use Rattle.pg_handlers.specs.State.{first_state}
 use Rattle.pg_session.specs.Session.{whole_rules}
 use Rattle.pg_session.specs.declared.ends.ServeError.TheVariants as fault
 use Rattle.relation_tables.specs.RelationHandler.{relation_handlers}
-use Rattle.pg_serve.specs.Serving.{WentSo, counts_of}
+use Rattle.pg_serve.specs.Serving.{WentSo, EndsAtLast, counts_of}
 use Rattle.pg_serve.proofs.Serving.{none_went}
 use Rattle.relation_serving.proofs.CoreServing.{went_by_tables}
 use Rattle.relation_serving.proofs.EvenRows.{even}
@@ -14,11 +15,11 @@ use Rattle.relation_serving.proofs.serve.serve_relations_on.Goals as goal
 pub returns-in_default-clause-went : goal.returns-in_default-clause-went
 returns-in_default-clause-went g c = (
   [],
-  sym (append-nil (g.D.CancelDesk.calls c.args.desk.now)),
-  went_by_tables c.args.relations.now (g.D.CancelDesk.registration c.args.desk.now)
+  sym (append-nil (g.D.CancelDesk.told c.args.desk.now).calls),
+  went_by_tables c.args.relations.now (g.D.CancelDesk.told c.args.desk.now).registration
       (even c.args.relations.now c.relations-valid.ensures.valid) _ (g.S.Source.left c.args.source.now) _ (g.K.Sink.written c.args.sink.now) _ []
       (none_went (whole_rules (relation_handlers c.args.relations.now))
-      (first_state (g.D.CancelDesk.registration c.args.desk.now).0 (g.D.CancelDesk.registration c.args.desk.now).1)
+      (first_state (g.D.CancelDesk.told c.args.desk.now).registration.0 (g.D.CancelDesk.told c.args.desk.now).registration.1)
       (g.S.Source.left c.args.source.now) (g.K.Sink.written c.args.sink.now) fault.NoMemory refl),
 )
 
@@ -27,11 +28,11 @@ returns-clause-went g c =
     let went = c.serve_connection.ensures.went in (
       went.0,
       went.1,
-      went_by_tables c.args.relations.now (g.D.CancelDesk.registration c.args.desk.now)
+      went_by_tables c.args.relations.now (g.D.CancelDesk.told c.args.desk.now).registration
           (even c.args.relations.now c.relations-valid.ensures.valid) c.serve_connection.result (g.S.Source.left c.args.source.now)
           (g.S.Source.left c.serve_connection.new.source) (g.K.Sink.written c.args.sink.now) (g.K.Sink.written c.serve_connection.new.sink) went.0
           (subst (λ relations. WentSo (whole_rules (relation_handlers relations))
-          (first_state (g.D.CancelDesk.registration c.args.desk.now).0 (g.D.CancelDesk.registration c.args.desk.now).1)
+          (first_state (g.D.CancelDesk.told c.args.desk.now).registration.0 (g.D.CancelDesk.told c.args.desk.now).registration.1)
           c.serve_connection.result (g.S.Source.left c.args.source.now) (g.S.Source.left c.serve_connection.new.source)
           (g.K.Sink.written c.args.sink.now) (g.K.Sink.written c.serve_connection.new.sink) went.0)
           (ap (λ h. h.relations.now) c.in-Ok.ensures.ok) went.2),
@@ -48,35 +49,42 @@ returns-clause-complete g c =
     let went = c.serve_connection.ensures.went in
     let before = counts_of g.S.Source.reads g.S.Source.faults g.K.Sink.faults c.args.source.now c.args.sink.now in
     let after = counts_of g.S.Source.reads g.S.Source.faults g.K.Sink.faults c.serve_connection.new.source c.serve_connection.new.sink in
-    complete_serving c.args.relations.now (g.D.CancelDesk.registration c.args.desk.now) c.args.turn_limit c.serve_connection.result
+    complete_serving c.args.relations.now (g.D.CancelDesk.told c.args.desk.now).registration c.args.turn_limit c.serve_connection.result
     (g.S.Source.left c.args.source.now) (g.S.Source.left c.serve_connection.new.source) (g.K.Sink.written c.args.sink.now)
     (g.K.Sink.written c.serve_connection.new.sink) went.0 before after
-    (cause_of_calls c.serve_connection.result c.args.turn_limit (g.D.CancelDesk.calls c.args.desk.now) (g.D.CancelDesk.calls c.serve_connection.new.desk) went.0
+    (cause_of_calls c.serve_connection.result c.args.turn_limit (g.D.CancelDesk.told c.args.desk.now).calls (g.D.CancelDesk.told c.serve_connection.new.desk).calls went.0
     before after went.1 c.serve_connection.ensures.cause)
     c.serve_connection.ensures.reads
     (subst (λ relations. WentSo (whole_rules (relation_handlers relations))
-    (first_state (g.D.CancelDesk.registration c.args.desk.now).0 (g.D.CancelDesk.registration c.args.desk.now).1)
+    (first_state (g.D.CancelDesk.told c.args.desk.now).registration.0 (g.D.CancelDesk.told c.args.desk.now).registration.1)
     c.serve_connection.result (g.S.Source.left c.args.source.now) (g.S.Source.left c.serve_connection.new.source)
     (g.K.Sink.written c.args.sink.now) (g.K.Sink.written c.serve_connection.new.sink) went.0)
     (ap (λ h. h.relations.now) c.in-Ok.ensures.ok) went.2)
 
 pub returns-in_default-clause-cells : goal.returns-in_default-clause-cells
 returns-in_default-clause-cells g c = stored_shown c.args.relations.now c.relations-valid.ensures.within (even c.args.relations.now c.relations-valid.ensures.valid)
-    (g.D.CancelDesk.registration c.args.desk.now).0 (g.D.CancelDesk.registration c.args.desk.now).1
+    (g.D.CancelDesk.told c.args.desk.now).registration.0 (g.D.CancelDesk.told c.args.desk.now).registration.1
 
 pub returns-clause-cells : goal.returns-clause-cells
 returns-clause-cells g c = stored_shown c.args.relations.now c.relations-valid.ensures.within (even c.args.relations.now c.relations-valid.ensures.valid)
-    (g.D.CancelDesk.registration c.args.desk.now).0 (g.D.CancelDesk.registration c.args.desk.now).1
+    (g.D.CancelDesk.told c.args.desk.now).registration.0 (g.D.CancelDesk.told c.args.desk.now).registration.1
 
 pub returns-in_default-clause-formats : goal.returns-in_default-clause-formats
 returns-in_default-clause-formats g c = shown_in_own_format c.args.relations.now c.relations-valid.ensures.within
-    (even c.args.relations.now c.relations-valid.ensures.valid) (g.D.CancelDesk.registration c.args.desk.now).0
-    (g.D.CancelDesk.registration c.args.desk.now).1
+    (even c.args.relations.now c.relations-valid.ensures.valid) (g.D.CancelDesk.told c.args.desk.now).registration.0
+    (g.D.CancelDesk.told c.args.desk.now).registration.1
 
 pub returns-clause-formats : goal.returns-clause-formats
 returns-clause-formats g c = shown_in_own_format c.args.relations.now c.relations-valid.ensures.within
-    (even c.args.relations.now c.relations-valid.ensures.valid) (g.D.CancelDesk.registration c.args.desk.now).0
-    (g.D.CancelDesk.registration c.args.desk.now).1
+    (even c.args.relations.now c.relations-valid.ensures.valid) (g.D.CancelDesk.told c.args.desk.now).registration.0
+    (g.D.CancelDesk.told c.args.desk.now).registration.1
 
 pub returns-in_default-clause-reads : goal.returns-in_default-clause-reads
 returns-in_default-clause-reads g c = none_gave (g.S.Source.left c.args.source.now) (g.S.Source.reads c.args.source.now)
+
+pub returns-clause-last : goal.returns-clause-last
+returns-clause-last g c =
+    subst (λ relations. IfOk c.serve_connection.result (EndsAtLast (whole_rules (relation_handlers relations))
+    (first_state (g.D.CancelDesk.told c.args.desk.now).registration.0 (g.D.CancelDesk.told c.args.desk.now).registration.1)
+    (g.S.Source.left c.args.source.now) (g.S.Source.left c.serve_connection.new.source)))
+    (ap (λ h. h.relations.now) c.in-Ok.ensures.ok) c.serve_connection.ensures.last

@@ -1,9 +1,10 @@
-use Rattle.std.proofs.Common.{rules, inr, refl}
+use Rattle.std.proofs.Common.{rules, inr, refl, Ok, Err}
 use Rattle.std.proofs.lemmas.Int.{to_z-of_z}
+use Rattle.std.proofs.lemmas.Result.{err_from_is_err_and}
 use Rattle.pg_portal.specs.Told.{told_rows}
 use Rattle.pg_portal.proofs.Fetches.{told_later}
 use Rattle.pg_portal.proofs.Paging.{test_is}
-use Rattle.pg_handlers.proofs.Sent.{paging_goes_on, sent_suspended, replied_suspended, sent_complete, replied_complete, met_error}
+use Rattle.pg_handlers.proofs.Sent.{paging_goes_on, sent_suspended, replied_suspended, sent_complete, replied_complete, met_error, kept_at}
 use Rattle.pg_handlers.proofs.query.send.send_partial_query_response.Goals as goal
 
 pub returns-in-None-clause-page : goal.returns-in-None-clause-page
@@ -36,6 +37,31 @@ returns-in-Some-Err-clause-refused g c =
     inr (met_error c.args.max_rows old _ _ _ c.loop-alloc.rows paged
     (test_is c.args.max_rows _ _ _ _ fits c.is_reached.ensures refl c.loop-alloc-test.true) c.in-Some-Err.error
     (g.R.RowSource.items c.next.new.self)
+    (let taken = c.in_ok-next.ensures.next in search rules) _
+    (told_later g.R.RowSource.items c.args.results.now (record {
+      command_tag = c.loop-alloc.results.command_tag;
+      row_schema = c.loop-alloc.results.row_schema;
+      data_rows = c.next.new.self;
+    }) l.same_tag l.same_schema))
+
+pub returns-in-Some-Err-clause-left : goal.returns-in-Some-Err-clause-left
+returns-in-Some-Err-clause-left g c =
+    let l = c.loop-alloc.invariant in
+    let old = told_rows g.R.RowSource.items c.args.results.now in
+    kept_at _ old _ _ _ c.loop-alloc.rows l.paged (Err c.in-Some-Err.error) (g.R.RowSource.items c.next.new.self)
+    (let taken = c.in_ok-next.ensures.next in search rules) _
+    (told_later g.R.RowSource.items c.args.results.now (record {
+      command_tag = c.loop-alloc.results.command_tag;
+      row_schema = c.loop-alloc.results.row_schema;
+      data_rows = c.next.new.self;
+    }) l.same_tag l.same_schema)
+
+pub returns-in_err-rows-in-Some-Ok-clause-left : goal.returns-in_err-rows-in-Some-Ok-clause-left
+returns-in_err-rows-in-Some-Ok-clause-left g c =
+    let l = c.loop-alloc.invariant in
+    let old = told_rows g.R.RowSource.items c.args.results.now in
+    let p = err_from_is_err_and c.from_residual-in_err-rows-in-Some-Ok.result c.from_residual-in_err-rows-in-Some-Ok.ensures.1 in
+    rw p.1 (kept_at _ old _ _ _ c.loop-alloc.rows l.paged (Ok c.in-Some-Ok.row) (g.R.RowSource.items c.next.new.self)
     (let taken = c.in_ok-next.ensures.next in search rules) _
     (told_later g.R.RowSource.items c.args.results.now (record {
       command_tag = c.loop-alloc.results.command_tag;

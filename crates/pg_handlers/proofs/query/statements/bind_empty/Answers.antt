@@ -10,5 +10,5 @@ returns-in_err-store_empty_portal-clause-good g c = λ parser good.
 
 pub returns-clause-good : goal.returns-clause-good
 returns-clause-good g c = λ parser good.
-    let s = state_of g.St.PortalStore.statements g.St.PortalStore.portals c.args.client.now in
+    let s = state_of g.St.PortalStore.maps c.args.client.now in
     subst (IsGoodState parser) (sym c.in_ok-store_empty_portal.ensures.ok) (good_with_empty_portal parser s c.as_str-2.result.now good)

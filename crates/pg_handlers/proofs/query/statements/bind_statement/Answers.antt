@@ -13,7 +13,7 @@ pub returns-in_err-check_codes-clause-refused : goal.returns-in_err-check_codes-
 returns-in_err-check_codes-clause-refused g c =
     let p = err_from_is_err_and c.from_residual.result c.from_residual.ensures.1 in
     rw (p.1, p.2) (few_refused (g.Q.QueryParser.told c.args.parser.now)
-    (state_of g.St.PortalStore.statements g.St.PortalStore.portals c.args.client.now)
+    (state_of g.St.PortalStore.maps c.args.client.now)
     c.args.message (arc_value c.args.statement) c.deref.result.now c.len.result c.in_err-check_codes.field-0.0 c.args.client.now.outbox
     c.deref.ensures c.len.ensures c.in_err-check_codes.ensures.refused)
 
@@ -24,7 +24,7 @@ returns-in_err-store_portal-clause-good g c = λ good.
 pub returns-clause-good : goal.returns-clause-good
 returns-clause-good g c = λ good.
     let parser = g.Q.QueryParser.told c.args.parser.now in
-    let s = state_of g.St.PortalStore.statements g.St.PortalStore.portals c.args.client.now in
+    let s = state_of g.St.PortalStore.maps c.args.client.now in
     let portal = portal_of g.St.Rows.RowSource.items c.in_ok-portal.portal in
     let bound : IsGoodPortal parser portal = bound_is_good parser c.args.message (arc_value c.args.statement) c.deref.result.now
     c.len.result portal

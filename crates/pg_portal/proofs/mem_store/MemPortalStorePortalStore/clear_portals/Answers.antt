@@ -2,5 +2,5 @@ use Rattle.std.proofs.Common.{rules}
 use Rattle.pg_portal.proofs.NameMaps.{map_values-empty}
 use Rattle.pg_portal.proofs.mem_store.MemPortalStorePortalStore.clear_portals.Goals as goal
 
-pub returns-clause-portals : goal.returns-clause-portals
-returns-clause-portals g c = search (rules, map_values-empty)
+pub returns : goal.returns
+returns g c = search (rules, map_values-empty)

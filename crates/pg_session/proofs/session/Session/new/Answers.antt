@@ -4,7 +4,6 @@ use Rattle.pg_session.proofs.GoodStates.{good_new}
 use Rattle.pg_session.proofs.session.Session.new.Goals as goal
 
 pub invariant_of-result : goal.invariant_of-result
-invariant_of-result g c = λ _. good_new (g.H.Extended.ExtendedQueryHandler.told (g.H.PgWireServerHandlers.extended
-    (arc_value c.args.handlers))).parser
-    c.first_info-info.result (g.St.PortalStore.statements c.args.store) (g.St.PortalStore.portals c.args.store)
-    (ap (λ info. info.metadata) c.first_info-info.ensures) c.requires.statements c.requires.portals
+invariant_of-result g c = λ _. good_new (g.H.PgWireServerHandlers.told (arc_value c.args.handlers)).extended.parser
+    c.first_info-info.result (g.St.PortalStore.maps c.args.store).statements (g.St.PortalStore.maps c.args.store).portals
+    (ap (λ info. info.metadata) c.first_info-info.ensures) (ap (λ m. m.statements) c.requires.empty) (ap (λ m. m.portals) c.requires.empty)

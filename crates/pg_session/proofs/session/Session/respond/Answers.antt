@@ -1,42 +1,42 @@
 use Rattle.std.proofs.Common.{rules, inl, refl, ap, ◌∙◌}
 use Rattle.std.specs.declared.alloc.AllocError.{AllocError}
 use Rattle.pg_session.specs.declared.ends.ServeError.{ServeError}
-use Rattle.pg_handlers.specs.Handlers.{handlers_of}
 use Rattle.pg_handlers.specs.Questions.{questions_since}
 use Rattle.pg_handlers.specs.Table.{scope_in}
 use Rattle.pg_session.specs.Messages.{scope_for, next_of}
 use Rattle.pg_session.proofs.Spending.{fed_where_told, fed_no_memory}
-use Rattle.pg_handlers.specs.Effect.{Stopped}
-use Rattle.pg_session.proofs.Answering.{cut_behind_row, cut_refused, row_where_told, answered_by_error, none_or_fatal, goes_on_alike}
+use Rattle.pg_session.proofs.Answering.{cut_behind_row, cut_behind_stopped, stopped_row, cut_refused, row_where_told, answered_by_error, none_or_fatal, goes_on_alike}
 use Rattle.pg_session.proofs.session.Session.respond.Goals as goal
 
 pub returns-in-Err-TurnLimit-clause-err : goal.returns-in-Err-TurnLimit-clause-err
 returns-in-Err-TurnLimit-clause-err g c =
     let session = c.args.self.now in
-    let h = handlers_of (g.H.Extended.ExtendedQueryHandler.told (g.H.PgWireServerHandlers.extended session.handlers))
-    (g.H.Simple.SimpleQueryHandler.told (g.H.PgWireServerHandlers.simple session.handlers)) (g.H.Copying.CopyHandler.told
-    (g.H.PgWireServerHandlers.copying session.handlers)) in
+    let h = g.H.PgWireServerHandlers.told session.handlers in
     let refused = rw c.in-Err-TurnLimit.field-0-is at c.in-Err-TurnLimit.ensures.refused in
-    cut_behind_row h session.state c.args.message (g.D.CancelDesk.calls c.args.desk.now) (g.D.CancelDesk.calls c.answer.new.desk)
-    session.unsent c.answer.new.self.unsent Stopped refused
+    cut_behind_stopped h session.state c.args.message (g.D.CancelDesk.told c.args.desk.now).calls (g.D.CancelDesk.told c.answer.new.desk).calls
+    session.unsent c.answer.new.self.unsent refused
+
+pub returns-in-Err-TurnLimit-clause-stopped : goal.returns-in-Err-TurnLimit-clause-stopped
+returns-in-Err-TurnLimit-clause-stopped g c = λ limit.
+    let session = c.args.self.now in
+    let h = g.H.PgWireServerHandlers.told session.handlers in
+    let refused = rw c.in-Err-TurnLimit.field-0-is at c.in-Err-TurnLimit.ensures.refused in
+    stopped_row h session.state c.args.message (g.D.CancelDesk.told c.args.desk.now).calls (g.D.CancelDesk.told c.answer.new.desk).calls
+    session.unsent c.answer.new.self.unsent refused
 
 pub returns-in-NoMemory-clause-err : goal.returns-in-NoMemory-clause-err
 returns-in-NoMemory-clause-err g c =
     let session = c.args.self.now in
-    let h = handlers_of (g.H.Extended.ExtendedQueryHandler.told (g.H.PgWireServerHandlers.extended session.handlers))
-    (g.H.Simple.SimpleQueryHandler.told (g.H.PgWireServerHandlers.simple session.handlers)) (g.H.Copying.CopyHandler.told
-    (g.H.PgWireServerHandlers.copying session.handlers)) in
+    let h = g.H.PgWireServerHandlers.told session.handlers in
     let refused = rw c.in-Err-Wire.field-0-is at c.in-Err-Wire.ensures.refused in
-    cut_refused h session.state c.args.message (g.D.CancelDesk.calls c.args.desk.now) (g.D.CancelDesk.calls c.answer.new.desk)
+    cut_refused h session.state c.args.message (g.D.CancelDesk.told c.args.desk.now).calls (g.D.CancelDesk.told c.answer.new.desk).calls
     session.unsent c.answer.new.self.unsent c.answer.new.self.state c.in-Err-Wire.error refused
 
 pub returns-in-Ok-tell : goal.returns-in-Ok-tell
 returns-in-Ok-tell g c =
     let session = c.args.self.now in
-    let h = handlers_of (g.H.Extended.ExtendedQueryHandler.told (g.H.PgWireServerHandlers.extended session.handlers))
-    (g.H.Simple.SimpleQueryHandler.told (g.H.PgWireServerHandlers.simple session.handlers)) (g.H.Copying.CopyHandler.told
-    (g.H.PgWireServerHandlers.copying session.handlers)) in
-    let calls = g.D.CancelDesk.calls c.args.desk.now in let new_calls = g.D.CancelDesk.calls c.answer.new.desk in
+    let h = g.H.PgWireServerHandlers.told session.handlers in
+    let calls = (g.D.CancelDesk.told c.args.desk.now).calls in let new_calls = (g.D.CancelDesk.told c.answer.new.desk).calls in
     let mid = c.answer.new.self in
     let refused = rw c.in-Err-Wire.field-0-is at c.in-Err-Wire.ensures.refused in
     let turns = rw c.in-Err-Wire.field-0-is at c.in-Err-Wire.ensures.turns in
@@ -58,17 +58,14 @@ returns-in-Ok-tell g c =
       turns = fed_where_told c.args.turns.now c.answer.new.turns
           (questions_since calls new_calls) c.in-Err-Wire.error c.in_default.not-NoMemory turns;
       bounded = c.answer.ensures.bounded;
-      same = c.answer.ensures.same;
-      origin = c.answer.ensures.origin;
+      keeps = c.answer.ensures.keeps;
     }
 
 pub returns-in-Err : goal.returns-in-Err
 returns-in-Err g c =
     let session = c.args.self.now in
-    let h = handlers_of (g.H.Extended.ExtendedQueryHandler.told (g.H.PgWireServerHandlers.extended session.handlers))
-    (g.H.Simple.SimpleQueryHandler.told (g.H.PgWireServerHandlers.simple session.handlers)) (g.H.Copying.CopyHandler.told
-    (g.H.PgWireServerHandlers.copying session.handlers)) in
-    let calls = g.D.CancelDesk.calls c.args.desk.now in let new_calls = g.D.CancelDesk.calls c.answer.new.desk in
+    let h = g.H.PgWireServerHandlers.told session.handlers in
+    let calls = (g.D.CancelDesk.told c.args.desk.now).calls in let new_calls = (g.D.CancelDesk.told c.answer.new.desk).calls in
     let refused = rw c.in-Err-Wire.field-0-is at c.in-Err-Wire.ensures.refused in
     let turns = rw c.in-Err-Wire.field-0-is at c.in-Err-Wire.ensures.turns in
     record {
@@ -83,6 +80,5 @@ returns-in-Err g c =
       rest = c.in-Err.ensures.rest ∙ c.answer.ensures.rest;
       turns = fed_no_memory c.args.turns.now c.answer.new.turns (questions_since calls new_calls) c.in-Err-Wire.error turns;
       bounded = c.answer.ensures.bounded;
-      same = c.answer.ensures.same;
-      origin = c.answer.ensures.origin;
+      keeps = c.answer.ensures.keeps;
     }

@@ -1,5 +1,5 @@
 use Rattle.std.proofs.Common.{arith, Option, Ok, Err, [], sym, ap, subst, refl, ◌∙◌}
-use Rattle.pg_handlers.specs.Handlers.{handlers_of}
+use Rattle.pg_handlers.proofs.Desks.{keeps_none, keeps_then}
 use Rattle.pg_handlers.specs.Questions.{questions_since}
 use Rattle.pg_handlers.specs.Table.{awaits}
 use Rattle.pg_session.specs.declared.ends.Progress.{Progress}
@@ -16,31 +16,25 @@ use Rattle.pg_session.proofs.session.Session.run.Goals as goal
 pub messages-init : goal.messages-init
 messages-init g c =
     let x = c.args.self.now.handlers in
-    let rules = whole_rules (handlers_of (g.H.Extended.ExtendedQueryHandler.told (g.H.PgWireServerHandlers.extended x))
-    (g.H.Simple.SimpleQueryHandler.told (g.H.PgWireServerHandlers.simple x)) (g.H.Copying.CopyHandler.told
-    (g.H.PgWireServerHandlers.copying x))) in
+    let rules = whole_rules (g.H.PgWireServerHandlers.told x) in
     record {
       served = serves_none rules c.args.self.now.state c.args.self.now.rest c.args.self.now.rest
           (g.K.Sink.written c.args.sink.now) c.args.self.now.unsent
-          (g.D.CancelDesk.calls c.args.desk.now) refl;
+          (g.D.CancelDesk.told c.args.desk.now).calls refl;
       opened = c.requires;
       handlers = refl;
-      faults = omega arith;
-      turns = no_turn c.args.turns.now (g.D.CancelDesk.calls c.args.desk.now);
+      faults = refl;
+      turns = no_turn c.args.turns.now (g.D.CancelDesk.told c.args.desk.now).calls;
       bounded = λ h. h;
-      same = refl;
-      origin = refl;
+      keeps = keeps_none _;
     }
 
 pub returns-in_err-step-clause-cut_off : goal.returns-in_err-step-clause-cut_off
 returns-in_err-step-clause-cut_off g c =
-    let h = λ (x : g.row.H.Denot). handlers_of (g.H.Extended.ExtendedQueryHandler.told (g.H.PgWireServerHandlers.extended x))
-    (g.H.Simple.SimpleQueryHandler.told (g.H.PgWireServerHandlers.simple x)) (g.H.Copying.CopyHandler.told
-    (g.H.PgWireServerHandlers.copying x)) in
+    let h = λ (x : g.row.H.Denot). g.H.PgWireServerHandlers.told x in
     let at = λ (x : g.row.H.Denot). whole_rules (h x) in
     let x = c.args.self.now.handlers in let law = whole_lawful (h x) in
-    let k = g.D.CancelDesk.calls c.args.desk.now in let l = g.D.CancelDesk.calls c.messages.desk in let m = g.D.CancelDesk.calls
-    c.step.new.desk in
+    let k = (g.D.CancelDesk.told c.args.desk.now).calls in let l = (g.D.CancelDesk.told c.messages.desk).calls in let m = (g.D.CancelDesk.told c.step.new.desk).calls in
     let before = c.messages.self in let after = c.step.new.self in
     let written = g.K.Sink.written c.messages.sink in let now = g.K.Sink.written c.step.new.sink in
     let so_far = c.messages.invariant in
@@ -50,13 +44,10 @@ returns-in_err-step-clause-cut_off g c =
 
 pub returns-in_err-step-clause-stopped : goal.returns-in_err-step-clause-stopped
 returns-in_err-step-clause-stopped g c =
-    let h = λ (x : g.row.H.Denot). handlers_of (g.H.Extended.ExtendedQueryHandler.told (g.H.PgWireServerHandlers.extended x))
-    (g.H.Simple.SimpleQueryHandler.told (g.H.PgWireServerHandlers.simple x)) (g.H.Copying.CopyHandler.told
-    (g.H.PgWireServerHandlers.copying x)) in
+    let h = λ (x : g.row.H.Denot). g.H.PgWireServerHandlers.told x in
     let at = λ (x : g.row.H.Denot). whole_rules (h x) in
     let x = c.args.self.now.handlers in let law = whole_lawful (h x) in
-    let k = g.D.CancelDesk.calls c.args.desk.now in let l = g.D.CancelDesk.calls c.messages.desk in let m = g.D.CancelDesk.calls
-    c.step.new.desk in
+    let k = (g.D.CancelDesk.told c.args.desk.now).calls in let l = (g.D.CancelDesk.told c.messages.desk).calls in let m = (g.D.CancelDesk.told c.step.new.desk).calls in
     let before = c.messages.self in let after = c.step.new.self in
     let written = g.K.Sink.written c.messages.sink in let now = g.K.Sink.written c.step.new.sink in
     let so_far = c.messages.invariant in
@@ -67,13 +58,10 @@ returns-in_err-step-clause-stopped g c =
 
 pub returns-in_err-step-clause-turns : goal.returns-in_err-step-clause-turns
 returns-in_err-step-clause-turns g c =
-    let h = λ (x : g.row.H.Denot). handlers_of (g.H.Extended.ExtendedQueryHandler.told (g.H.PgWireServerHandlers.extended x))
-    (g.H.Simple.SimpleQueryHandler.told (g.H.PgWireServerHandlers.simple x)) (g.H.Copying.CopyHandler.told
-    (g.H.PgWireServerHandlers.copying x)) in
+    let h = λ (x : g.row.H.Denot). g.H.PgWireServerHandlers.told x in
     let at = λ (x : g.row.H.Denot). whole_rules (h x) in
     let x = c.args.self.now.handlers in let law = whole_lawful (h x) in
-    let k = g.D.CancelDesk.calls c.args.desk.now in let l = g.D.CancelDesk.calls c.messages.desk in let m = g.D.CancelDesk.calls
-    c.step.new.desk in
+    let k = (g.D.CancelDesk.told c.args.desk.now).calls in let l = (g.D.CancelDesk.told c.messages.desk).calls in let m = (g.D.CancelDesk.told c.step.new.desk).calls in
     let before = c.messages.self in let after = c.step.new.self in
     let written = g.K.Sink.written c.messages.sink in let now = g.K.Sink.written c.step.new.sink in
     let so_far = c.messages.invariant in
@@ -86,13 +74,10 @@ returns-in_err-step-clause-turns g c =
 
 pub returns-in_err-flush-in-Some-clause-cut_off : goal.returns-in_err-flush-in-Some-clause-cut_off
 returns-in_err-flush-in-Some-clause-cut_off g c =
-    let h = λ (x : g.row.H.Denot). handlers_of (g.H.Extended.ExtendedQueryHandler.told (g.H.PgWireServerHandlers.extended x))
-    (g.H.Simple.SimpleQueryHandler.told (g.H.PgWireServerHandlers.simple x)) (g.H.Copying.CopyHandler.told
-    (g.H.PgWireServerHandlers.copying x)) in
+    let h = λ (x : g.row.H.Denot). g.H.PgWireServerHandlers.told x in
     let at = λ (x : g.row.H.Denot). whole_rules (h x) in
     let x = c.args.self.now.handlers in let law = whole_lawful (h x) in
-    let k = g.D.CancelDesk.calls c.args.desk.now in let l = g.D.CancelDesk.calls c.messages.desk in let m = g.D.CancelDesk.calls
-    c.step.new.desk in
+    let k = (g.D.CancelDesk.told c.args.desk.now).calls in let l = (g.D.CancelDesk.told c.messages.desk).calls in let m = (g.D.CancelDesk.told c.step.new.desk).calls in
     let before = c.messages.self in let after = c.step.new.self in
     let written = g.K.Sink.written c.messages.sink in let now = g.K.Sink.written c.step.new.sink in
     let so_far = c.messages.invariant in
@@ -106,13 +91,10 @@ returns-in_err-flush-in-Some-clause-cut_off g c =
 
 pub returns-in_err-flush-in-Some-clause-turns : goal.returns-in_err-flush-in-Some-clause-turns
 returns-in_err-flush-in-Some-clause-turns g c =
-    let h = λ (x : g.row.H.Denot). handlers_of (g.H.Extended.ExtendedQueryHandler.told (g.H.PgWireServerHandlers.extended x))
-    (g.H.Simple.SimpleQueryHandler.told (g.H.PgWireServerHandlers.simple x)) (g.H.Copying.CopyHandler.told
-    (g.H.PgWireServerHandlers.copying x)) in
+    let h = λ (x : g.row.H.Denot). g.H.PgWireServerHandlers.told x in
     let at = λ (x : g.row.H.Denot). whole_rules (h x) in
     let x = c.args.self.now.handlers in let law = whole_lawful (h x) in
-    let k = g.D.CancelDesk.calls c.args.desk.now in let l = g.D.CancelDesk.calls c.messages.desk in let m = g.D.CancelDesk.calls
-    c.step.new.desk in
+    let k = (g.D.CancelDesk.told c.args.desk.now).calls in let l = (g.D.CancelDesk.told c.messages.desk).calls in let m = (g.D.CancelDesk.told c.step.new.desk).calls in
     let before = c.messages.self in let after = c.step.new.self in
     let written = g.K.Sink.written c.messages.sink in let now = g.K.Sink.written c.step.new.sink in
     let so_far = c.messages.invariant in
@@ -129,13 +111,10 @@ returns-in_err-flush-in-Some-clause-turns g c =
 
 pub returns-in-Some-clause-turns : goal.returns-in-Some-clause-turns
 returns-in-Some-clause-turns g c =
-    let h = λ (x : g.row.H.Denot). handlers_of (g.H.Extended.ExtendedQueryHandler.told (g.H.PgWireServerHandlers.extended x))
-    (g.H.Simple.SimpleQueryHandler.told (g.H.PgWireServerHandlers.simple x)) (g.H.Copying.CopyHandler.told
-    (g.H.PgWireServerHandlers.copying x)) in
+    let h = λ (x : g.row.H.Denot). g.H.PgWireServerHandlers.told x in
     let at = λ (x : g.row.H.Denot). whole_rules (h x) in
     let x = c.args.self.now.handlers in let law = whole_lawful (h x) in
-    let k = g.D.CancelDesk.calls c.args.desk.now in let l = g.D.CancelDesk.calls c.messages.desk in let m = g.D.CancelDesk.calls
-    c.step.new.desk in
+    let k = (g.D.CancelDesk.told c.args.desk.now).calls in let l = (g.D.CancelDesk.told c.messages.desk).calls in let m = (g.D.CancelDesk.told c.step.new.desk).calls in
     let before = c.messages.self in let after = c.step.new.self in
     let written = g.K.Sink.written c.messages.sink in let now = g.K.Sink.written c.step.new.sink in
     let so_far = c.messages.invariant in
@@ -149,13 +128,10 @@ returns-in-Some-clause-turns g c =
 
 pub returns-in-Some-clause-served : goal.returns-in-Some-clause-served
 returns-in-Some-clause-served g c =
-    let h = λ (x : g.row.H.Denot). handlers_of (g.H.Extended.ExtendedQueryHandler.told (g.H.PgWireServerHandlers.extended x))
-    (g.H.Simple.SimpleQueryHandler.told (g.H.PgWireServerHandlers.simple x)) (g.H.Copying.CopyHandler.told
-    (g.H.PgWireServerHandlers.copying x)) in
+    let h = λ (x : g.row.H.Denot). g.H.PgWireServerHandlers.told x in
     let at = λ (x : g.row.H.Denot). whole_rules (h x) in
     let x = c.args.self.now.handlers in let law = whole_lawful (h x) in
-    let k = g.D.CancelDesk.calls c.args.desk.now in let l = g.D.CancelDesk.calls c.messages.desk in let m = g.D.CancelDesk.calls
-    c.step.new.desk in
+    let k = (g.D.CancelDesk.told c.args.desk.now).calls in let l = (g.D.CancelDesk.told c.messages.desk).calls in let m = (g.D.CancelDesk.told c.step.new.desk).calls in
     let before = c.messages.self in let after = c.step.new.self in
     let written = g.K.Sink.written c.messages.sink in let now = g.K.Sink.written c.step.new.sink in
     let so_far = c.messages.invariant in
@@ -179,13 +155,10 @@ returns-in-Some-clause-open g c = λ more. ap (λ v. v.is_open) c.self.view_is
 
 pub messages-preserved : goal.messages-preserved
 messages-preserved g c =
-    let h = λ (x : g.row.H.Denot). handlers_of (g.H.Extended.ExtendedQueryHandler.told (g.H.PgWireServerHandlers.extended x))
-    (g.H.Simple.SimpleQueryHandler.told (g.H.PgWireServerHandlers.simple x)) (g.H.Copying.CopyHandler.told
-    (g.H.PgWireServerHandlers.copying x)) in
+    let h = λ (x : g.row.H.Denot). g.H.PgWireServerHandlers.told x in
     let at = λ (x : g.row.H.Denot). whole_rules (h x) in
     let x = c.args.self.now.handlers in let law = whole_lawful (h x) in
-    let k = g.D.CancelDesk.calls c.args.desk.now in let l = g.D.CancelDesk.calls c.messages.desk in let m = g.D.CancelDesk.calls
-    c.step.new.desk in
+    let k = (g.D.CancelDesk.told c.args.desk.now).calls in let l = (g.D.CancelDesk.told c.messages.desk).calls in let m = (g.D.CancelDesk.told c.step.new.desk).calls in
     let before = c.messages.self in let after = c.step.new.self in
     let written = g.K.Sink.written c.messages.sink in let now = g.K.Sink.written c.step.new.sink in
     let so_far = c.messages.invariant in
@@ -200,9 +173,8 @@ messages-preserved g c =
       served = serves_then (at x) law so_far.served (serves_to (at x) goes served);
       opened = c.in_ok-step.ensures.«open» (ap is_going c.in-None.is);
       handlers = c.in_ok-step.ensures.handlers ∙ so_far.handlers;
-      faults = omega arith;
+      faults = c.in_ok-step.ensures.cause.calm ∙ so_far.faults;
       turns = spent;
       bounded = λ within. c.in_ok-step.ensures.bounded (so_far.bounded within);
-      same = c.in_ok-step.ensures.same ∙ so_far.same;
-      origin = c.in_ok-step.ensures.origin ∙ so_far.origin;
+      keeps = keeps_then _ _ _ so_far.keeps c.in_ok-step.ensures.keeps;
     }

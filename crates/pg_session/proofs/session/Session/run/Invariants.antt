@@ -1,6 +1,6 @@
 use Rattle.std.proofs.Common.{◌≡◌, ◌≤◌, true, length}
+use Rattle.pg_handlers.specs.Desk.{KeepsDesk}
 use Rattle.pg_handlers.specs.Answer.{Goes}
-use Rattle.pg_handlers.specs.Handlers.{handlers_of}
 use Rattle.pg_handlers.specs.Questions.{questions_since}
 use Rattle.pg_session.specs.Session.{whole_rules}
 use Rattle.pg_session.specs.Steps.{IsServed}
@@ -10,20 +10,16 @@ use Rattle.pg_session.proofs.session.Session.run.Given as goal
 -- what was served so far, and what a step asks of the session
 abbrev pub invariant-messages : goal.invariant-messages
 invariant-messages g l = record {
-  served : IsServed (whole_rules (handlers_of (g.H.Extended.ExtendedQueryHandler.told
-      (g.H.PgWireServerHandlers.extended l.fn.self.handlers))
-      (g.H.Simple.SimpleQueryHandler.told (g.H.PgWireServerHandlers.simple l.fn.self.handlers)) (g.H.Copying.CopyHandler.told
-      (g.H.PgWireServerHandlers.copying l.fn.self.handlers))))
+  served : IsServed (whole_rules (g.H.PgWireServerHandlers.told l.fn.self.handlers))
       l.fn.self.state l.fn.self.rest l.self.rest (Goes l.self.state) (g.K.Sink.written l.fn.sink)
       (g.K.Sink.written l.sink) l.fn.self.unsent l.self.unsent
-      (g.D.CancelDesk.calls l.fn.desk) (g.D.CancelDesk.calls l.desk);
+      (g.D.CancelDesk.told l.fn.desk).calls (g.D.CancelDesk.told l.desk).calls;
   opened : l.self.is_open ≡ true;
   handlers : l.self.handlers ≡ l.fn.self.handlers;
-  faults : g.K.Sink.faults l.fn.sink ≤ g.K.Sink.faults l.sink;
-  turns : l.turns ≡ spent_more l.fn.turns (questions_since (g.D.CancelDesk.calls l.fn.desk) (g.D.CancelDesk.calls l.desk));
+  faults : g.K.Sink.faults l.sink ≡ g.K.Sink.faults l.fn.sink;
+  turns : l.turns ≡ spent_more l.fn.turns (questions_since (g.D.CancelDesk.told l.fn.desk).calls (g.D.CancelDesk.told l.desk).calls);
   bounded : l.fn.turns.spent ≤ l.fn.turns.limit → l.turns.spent ≤ l.turns.limit;
-  same : g.D.CancelDesk.registration l.desk ≡ g.D.CancelDesk.registration l.fn.desk;
-  origin : g.D.CancelDesk.origin l.desk ≡ g.D.CancelDesk.origin l.fn.desk;
+  keeps : KeepsDesk (g.D.CancelDesk.told l.fn.desk) (g.D.CancelDesk.told l.desk);
 }
 
 abbrev pub decreases-messages : goal.decreases-messages

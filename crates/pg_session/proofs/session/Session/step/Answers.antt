@@ -2,7 +2,6 @@ use Rattle.std.proofs.Common.{◌≡◌, Err, [], sym, ap, subst, refl, ◌∙�
 use Rattle.std.specs.Arc.{arc_value}
 use Rattle.pg_messages.specs.Frames.{IsFrame, IsUnfinished, IsBad}
 use Rattle.pg_handlers.specs.Answer.{Goes}
-use Rattle.pg_handlers.specs.Handlers.{handlers_of}
 use Rattle.pg_handlers.specs.State.{state_of}
 use Rattle.pg_handlers.specs.Table.{awaits}
 use Rattle.pg_session.specs.Messages.{next_of}
@@ -16,13 +15,11 @@ use Rattle.pg_session.proofs.session.Session.step.Goals as goal
 
 pub returns-in-Ok-None-clause-served : goal.returns-in-Ok-None-clause-served
 returns-in-Ok-None-clause-served g c =
-    let at = λ (x : g.row.H.Denot). whole_rules (handlers_of (g.H.Extended.ExtendedQueryHandler.told (g.H.PgWireServerHandlers.extended x))
-    (g.H.Simple.SimpleQueryHandler.told (g.H.PgWireServerHandlers.simple x)) (g.H.Copying.CopyHandler.told
-    (g.H.PgWireServerHandlers.copying x))) in
-    let x = arc_value c.self.inside.handlers in let s = state_of g.St.PortalStore.statements g.St.PortalStore.portals c.self.inside.client
+    let at = λ (x : g.row.H.Denot). whole_rules (g.H.PgWireServerHandlers.told x) in
+    let x = arc_value c.self.inside.handlers in let s = state_of g.St.PortalStore.maps c.self.inside.client
     in
     let text = c.self.inside.rest.items in let rest = c.decode.new.src.items in let out = c.self.inside.client.outbox in
-    let written = g.K.Sink.written c.args.sink.now in let calls = g.D.CancelDesk.calls c.args.desk.now in
+    let written = g.K.Sink.written c.args.sink.now in let calls = (g.D.CancelDesk.told c.args.desk.now).calls in
     let kept : rest ≡ text = rw c.in-Ok-None.field-0-is at c.in-Ok-None.ensures.kept in
     let short = rw c.in-Ok-None.field-0-is at c.in-Ok-None.ensures.none in (
       Goes s,
@@ -37,13 +34,11 @@ returns-in-Ok-None-clause-served g c =
 
 pub returns-in-Err-Bad-clause-served : goal.returns-in-Err-Bad-clause-served
 returns-in-Err-Bad-clause-served g c =
-    let at = λ (x : g.row.H.Denot). whole_rules (handlers_of (g.H.Extended.ExtendedQueryHandler.told (g.H.PgWireServerHandlers.extended x))
-    (g.H.Simple.SimpleQueryHandler.told (g.H.PgWireServerHandlers.simple x)) (g.H.Copying.CopyHandler.told
-    (g.H.PgWireServerHandlers.copying x))) in
-    let x = arc_value c.self.inside.handlers in let s = state_of g.St.PortalStore.statements g.St.PortalStore.portals c.self.inside.client
+    let at = λ (x : g.row.H.Denot). whole_rules (g.H.PgWireServerHandlers.told x) in
+    let x = arc_value c.self.inside.handlers in let s = state_of g.St.PortalStore.maps c.self.inside.client
     in
     let text = c.self.inside.rest.items in let rest = c.decode.new.src.items in let out = c.self.inside.client.outbox in
-    let written = g.K.Sink.written c.args.sink.now in let calls = g.D.CancelDesk.calls c.args.desk.now in
+    let written = g.K.Sink.written c.args.sink.now in let calls = (g.D.CancelDesk.told c.args.desk.now).calls in
     let kept : rest ≡ text = c.in-Err-Bad.ensures.err in
     let bad : IsBad c.awaits_startup-self-inside.result text = c.in-Err-Bad.ensures.bad (ap Err c.in-Err-Bad.field-0-is) in (
       Goes s,
@@ -59,22 +54,18 @@ returns-in-Err-Bad-clause-served g c =
 pub returns-in-Err-NoMemory-clause-cut_off : goal.returns-in-Err-NoMemory-clause-cut_off
 returns-in-Err-NoMemory-clause-cut_off g c =
     let x = c.args.self.now.handlers in
-    cut_none (whole_rules (handlers_of (g.H.Extended.ExtendedQueryHandler.told (g.H.PgWireServerHandlers.extended x))
-    (g.H.Simple.SimpleQueryHandler.told (g.H.PgWireServerHandlers.simple x)) (g.H.Copying.CopyHandler.told
-    (g.H.PgWireServerHandlers.copying x))))
+    cut_none (whole_rules (g.H.PgWireServerHandlers.told x))
     c.args.self.now.state c.args.self.now.rest (g.K.Sink.written c.args.sink.now) c.args.self.now.unsent
-    (g.D.CancelDesk.calls c.args.desk.now)
+    (g.D.CancelDesk.told c.args.desk.now).calls
 
 pub returns-in_err-end-clause-cut_off : goal.returns-in_err-end-clause-cut_off
 returns-in_err-end-clause-cut_off g c =
-    let at = λ (x : g.row.H.Denot). whole_rules (handlers_of (g.H.Extended.ExtendedQueryHandler.told (g.H.PgWireServerHandlers.extended x))
-    (g.H.Simple.SimpleQueryHandler.told (g.H.PgWireServerHandlers.simple x)) (g.H.Copying.CopyHandler.told
-    (g.H.PgWireServerHandlers.copying x))) in
-    let x = arc_value c.self.inside.handlers in let s = state_of g.St.PortalStore.statements g.St.PortalStore.portals c.self.inside.client
+    let at = λ (x : g.row.H.Denot). whole_rules (g.H.PgWireServerHandlers.told x) in
+    let x = arc_value c.self.inside.handlers in let s = state_of g.St.PortalStore.maps c.self.inside.client
     in
     let text = c.self.inside.rest.items in let rest = c.decode.new.src.items in let out = c.self.inside.client.outbox in
-    let written = g.K.Sink.written c.args.sink.now in let calls = g.D.CancelDesk.calls c.args.desk.now in
-    let new_calls = g.D.CancelDesk.calls c.respond.new.desk in
+    let written = g.K.Sink.written c.args.sink.now in let calls = (g.D.CancelDesk.told c.args.desk.now).calls in
+    let new_calls = (g.D.CancelDesk.told c.respond.new.desk).calls in
     let found = rw c.in-Ok-Some.field-0-is at c.in-Ok-Some.ensures.found in
     let frame = subst (λ b. IsFrame b found.0 c.in-Ok-Some.message) c.awaits_startup-self-inside.ensures found.2 in
     on_err_always c.from_residual.result
@@ -83,14 +74,12 @@ returns-in_err-end-clause-cut_off g c =
 
 pub returns-in_err-end-clause-stopped : goal.returns-in_err-end-clause-stopped
 returns-in_err-end-clause-stopped g c =
-    let at = λ (x : g.row.H.Denot). whole_rules (handlers_of (g.H.Extended.ExtendedQueryHandler.told (g.H.PgWireServerHandlers.extended x))
-    (g.H.Simple.SimpleQueryHandler.told (g.H.PgWireServerHandlers.simple x)) (g.H.Copying.CopyHandler.told
-    (g.H.PgWireServerHandlers.copying x))) in
-    let x = arc_value c.self.inside.handlers in let s = state_of g.St.PortalStore.statements g.St.PortalStore.portals c.self.inside.client
+    let at = λ (x : g.row.H.Denot). whole_rules (g.H.PgWireServerHandlers.told x) in
+    let x = arc_value c.self.inside.handlers in let s = state_of g.St.PortalStore.maps c.self.inside.client
     in
     let text = c.self.inside.rest.items in let rest = c.decode.new.src.items in let out = c.self.inside.client.outbox in
-    let written = g.K.Sink.written c.args.sink.now in let calls = g.D.CancelDesk.calls c.args.desk.now in
-    let new_calls = g.D.CancelDesk.calls c.respond.new.desk in
+    let written = g.K.Sink.written c.args.sink.now in let calls = (g.D.CancelDesk.told c.args.desk.now).calls in
+    let new_calls = (g.D.CancelDesk.told c.respond.new.desk).calls in
     let found = rw c.in-Ok-Some.field-0-is at c.in-Ok-Some.ensures.found in
     let frame = subst (λ b. IsFrame b found.0 c.in-Ok-Some.message) c.awaits_startup-self-inside.ensures found.2 in
     λ limit. subst (λ v. IsStopped (at v.handlers) v.state v.rest written written v.unsent calls new_calls) c.self.view_is
@@ -99,14 +88,12 @@ returns-in_err-end-clause-stopped g c =
 
 pub returns-in_err-flush_if_full-clause-cut_off : goal.returns-in_err-flush_if_full-clause-cut_off
 returns-in_err-flush_if_full-clause-cut_off g c =
-    let at = λ (x : g.row.H.Denot). whole_rules (handlers_of (g.H.Extended.ExtendedQueryHandler.told (g.H.PgWireServerHandlers.extended x))
-    (g.H.Simple.SimpleQueryHandler.told (g.H.PgWireServerHandlers.simple x)) (g.H.Copying.CopyHandler.told
-    (g.H.PgWireServerHandlers.copying x))) in
-    let x = arc_value c.self.inside.handlers in let s = state_of g.St.PortalStore.statements g.St.PortalStore.portals c.self.inside.client
+    let at = λ (x : g.row.H.Denot). whole_rules (g.H.PgWireServerHandlers.told x) in
+    let x = arc_value c.self.inside.handlers in let s = state_of g.St.PortalStore.maps c.self.inside.client
     in
     let text = c.self.inside.rest.items in let rest = c.decode.new.src.items in let out = c.self.inside.client.outbox in
-    let written = g.K.Sink.written c.args.sink.now in let calls = g.D.CancelDesk.calls c.args.desk.now in
-    let new_calls = g.D.CancelDesk.calls c.respond.new.desk in
+    let written = g.K.Sink.written c.args.sink.now in let calls = (g.D.CancelDesk.told c.args.desk.now).calls in
+    let new_calls = (g.D.CancelDesk.told c.respond.new.desk).calls in
     let found = rw c.in-Ok-Some.field-0-is at c.in-Ok-Some.ensures.found in
     let frame = subst (λ b. IsFrame b found.0 c.in-Ok-Some.message) c.awaits_startup-self-inside.ensures found.2 in
     let n = c.respond.new.self in
@@ -119,14 +106,12 @@ returns-in_err-flush_if_full-clause-cut_off g c =
 
 pub returns-clause-served : goal.returns-clause-served
 returns-clause-served g c =
-    let at = λ (x : g.row.H.Denot). whole_rules (handlers_of (g.H.Extended.ExtendedQueryHandler.told (g.H.PgWireServerHandlers.extended x))
-    (g.H.Simple.SimpleQueryHandler.told (g.H.PgWireServerHandlers.simple x)) (g.H.Copying.CopyHandler.told
-    (g.H.PgWireServerHandlers.copying x))) in
-    let x = arc_value c.self.inside.handlers in let s = state_of g.St.PortalStore.statements g.St.PortalStore.portals c.self.inside.client
+    let at = λ (x : g.row.H.Denot). whole_rules (g.H.PgWireServerHandlers.told x) in
+    let x = arc_value c.self.inside.handlers in let s = state_of g.St.PortalStore.maps c.self.inside.client
     in
     let text = c.self.inside.rest.items in let rest = c.decode.new.src.items in let out = c.self.inside.client.outbox in
-    let written = g.K.Sink.written c.args.sink.now in let calls = g.D.CancelDesk.calls c.args.desk.now in
-    let new_calls = g.D.CancelDesk.calls c.respond.new.desk in
+    let written = g.K.Sink.written c.args.sink.now in let calls = (g.D.CancelDesk.told c.args.desk.now).calls in
+    let new_calls = (g.D.CancelDesk.told c.respond.new.desk).calls in
     let found = rw c.in-Ok-Some.field-0-is at c.in-Ok-Some.ensures.found in
     let frame = subst (λ b. IsFrame b found.0 c.in-Ok-Some.message) c.awaits_startup-self-inside.ensures found.2 in
     let n = c.respond.new.self in

@@ -1,5 +1,4 @@
 use Rattle.std.proofs.Common.{◌++◌}
-use Rattle.pg_handlers.specs.Handlers.{handlers_of}
 use Rattle.pg_session.specs.Session.{whole_rules}
 use Rattle.pg_session.proofs.Stepping.{on_err_always, cut_none}
 use Rattle.pg_session.proofs.session.Session.take.Goals as goal
@@ -8,8 +7,6 @@ pub returns-in_err-extend_from_slice-clause-cut_off : goal.returns-in_err-extend
 returns-in_err-extend_from_slice-clause-cut_off g c =
     let x = c.args.self.now.handlers in
     on_err_always c.from_residual.result
-    (cut_none (whole_rules (handlers_of (g.H.Extended.ExtendedQueryHandler.told (g.H.PgWireServerHandlers.extended x))
-    (g.H.Simple.SimpleQueryHandler.told (g.H.PgWireServerHandlers.simple x)) (g.H.Copying.CopyHandler.told
-    (g.H.PgWireServerHandlers.copying x))))
+    (cut_none (whole_rules (g.H.PgWireServerHandlers.told x))
     c.args.self.now.state (c.args.self.now.rest ++ c.args.piece.now) (g.K.Sink.written c.args.sink.now) c.args.self.now.unsent
-    (g.D.CancelDesk.calls c.args.desk.now))
+    (g.D.CancelDesk.told c.args.desk.now).calls)

@@ -9,7 +9,7 @@ invariant_of-self g c = λ _.
     let old = c.self.inside.client in let new = c.tell_error-outcome.new.client in
     let told = c.tell_error-outcome.ensures in
     let was_open : c.self.inside.opened ≡ true = ap (λ v. v.is_open) c.self.view_is ∙ c.requires.«open» in
-    good_parts (g.H.Extended.ExtendedQueryHandler.told (g.H.PgWireServerHandlers.extended (arc_value c.self.inside.handlers))).parser
-    (state_of g.St.PortalStore.statements g.St.PortalStore.portals old) new.info (g.St.PortalStore.statements new.store)
-    (g.St.PortalStore.portals new.store)
-    told.metadata (ap g.St.PortalStore.statements told.store) (ap g.St.PortalStore.portals told.store) (c.self.invariant was_open)
+    good_parts (g.H.PgWireServerHandlers.told (arc_value c.self.inside.handlers)).extended.parser
+    (state_of g.St.PortalStore.maps old) new.info (g.St.PortalStore.maps new.store).statements
+    (g.St.PortalStore.maps new.store).portals
+    told.metadata (ap (λ st. (g.St.PortalStore.maps st).statements) told.store) (ap (λ st. (g.St.PortalStore.maps st).portals) told.store) (c.self.invariant was_open)

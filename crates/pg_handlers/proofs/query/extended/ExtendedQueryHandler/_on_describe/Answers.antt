@@ -17,7 +17,7 @@ pub do_describe_statement-requires-clause-good : goal.do_describe_statement-requ
 do_describe_statement-requires-clause-good g c =
     let parser = (g.Self.ExtendedQueryHandler.told c.args.self.now).parser in
     let statement = arc_value c.in-Some-Value.statement.now in
-    let found : value_under (fin.get (g.St.PortalStore.statements c.args.client.now.store) c.as_str.result.now) ≡ Some statement =
+    let found : value_under (fin.get (g.St.PortalStore.maps c.args.client.now.store).statements c.as_str.result.now) ≡ Some statement =
     found_value (λ (s : Bor (Arc (StoredStatement g.row.Self-Statement.Denot) Global)). arc_value s.now) c.get_statement.result
     c.in-Some-Value.field-0 c.in-Some-Value.statement _
     c.get_statement.ensures c.in-Some-Value.is c.in-Some-Value.field-0-is in
@@ -25,7 +25,7 @@ do_describe_statement-requires-clause-good g c =
 
 pub returns-in-Some-Empty-clause-ok : goal.returns-in-Some-Empty-clause-ok
 returns-in-Some-Empty-clause-ok g c =
-    let s = state_of g.St.PortalStore.statements g.St.PortalStore.portals c.args.client.now in
+    let s = state_of g.St.PortalStore.maps c.args.client.now in
     let h = c.in-83.is in let k = c.no_data-told.ensures in let e = c.in_ok-send_describe_response-in-Some-Empty.ensures.ok in
     let found : fin.get s.statements c.args.message.name ≡ Some entry.Empty = ap (fin.get s.statements) (sym c.as_str.ensures) ∙
     found_empty (λ (s : Bor (Arc (StoredStatement g.row.Self-Statement.Denot) Global)). arc_value s.now) c.get_statement.result
@@ -36,7 +36,7 @@ returns-in-Some-Empty-clause-ok g c =
 
 pub do_describe_portal-requires-clause-good : goal.do_describe_portal-requires-clause-good
 do_describe_portal-requires-clause-good g c =
-    let found : value_under (fin.get (g.St.PortalStore.portals c.args.client.now.store) c.as_str-in-80.result.now)
+    let found : value_under (fin.get (g.St.PortalStore.maps c.args.client.now.store).portals c.as_str-in-80.result.now)
     ≡ Some (portal_of g.Self.Rows.RowSource.items c.in-Some-Value-get_portal.portal.now) =
     found_value (λ (p : Bor (Portal g.row.Self-Statement.Denot g.row.Self-Rows.Denot)). portal_of g.Self.Rows.RowSource.items p.now)
     c.get_portal.result c.in-Some-Value-get_portal.field-0 c.in-Some-Value-get_portal.portal _

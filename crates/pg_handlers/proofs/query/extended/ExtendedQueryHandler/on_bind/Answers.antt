@@ -14,7 +14,7 @@ bind_statement-requires-clause-good g c =
     let parser = (g.Self.ExtendedQueryHandler.told c.args.self.now).parser in
     let same : told c.deref.result.now ≡ parser = ap told c.deref.ensures ∙ c.in_ok-parser.ensures in
     let statement = arc_value c.in-Some-Value.statement.now in
-    let found : value_under (fin.get (g.St.PortalStore.statements c.args.client.now.store) c.as_str.result.now) ≡ Some statement =
+    let found : value_under (fin.get (g.St.PortalStore.maps c.args.client.now.store).statements c.as_str.result.now) ≡ Some statement =
     found_value (λ (s : Bor (Arc (StoredStatement g.row.Self-Statement.Denot) Global)). arc_value s.now) c.get_statement.result
     c.in-Some-Value.field-0 c.in-Some-Value.statement _
     c.get_statement.ensures c.in-Some-Value.is c.in-Some-Value.field-0-is in

@@ -1,21 +1,34 @@
 use Rattle.std.proofs.Common.{inl, inr, refl}
-use Rattle.pg_handlers.proofs.Rows.{refused_unready, no_turn, not_ready_told}
+use Rattle.pg_handlers.proofs.Desks.{keeps_none}
+use Rattle.pg_handlers.proofs.Sent.{kept_as}
+use Rattle.pg_handlers.proofs.Rows.{ready_refused, refused_unready, no_turn, not_ready_told}
 use Rattle.pg_handlers.specs.ExecuteRow.{on_execute}
 use Rattle.pg_handlers.specs.State.{state_of}
 use Rattle.pg_handlers.proofs.query.extended.ExtendedQueryHandler.on_execute.Goals as goal
 
 pub returns-in_default : goal.returns-in_default
 returns-in_default g c =
-    let s = state_of g.St.PortalStore.statements g.St.PortalStore.portals c.args.client.now in
+    let s = state_of g.St.PortalStore.maps c.args.client.now in
     record {
       ok = tt;
       refused = inr (refused_unready s (λ answers. on_execute (g.Self.ExtendedQueryHandler.told c.args.self.now) answers s c.args.message)
-          c.args.client.now.outbox (g.D.CancelDesk.calls c.args.desk.now) c.in_default.not-ReadyForQuery);
+          c.args.client.now.outbox (g.D.CancelDesk.told c.args.desk.now).calls c.in_default.not-ReadyForQuery);
       answerable = not_ready_told;
+      not_ready = λ _. refl;
+      caused = λ ready. absurd (c.in_default.not-ReadyForQuery ready);
       limit = tt;
+      info = refl;
+      left = inl refl;
+      kept = kept_as c.args.client.now.outbox _ refl;
       good = c.requires.good;
-      turns = inl (no_turn c.args.turns.now (g.D.CancelDesk.calls c.args.desk.now));
+      turns = inl (no_turn c.args.turns.now (g.D.CancelDesk.told c.args.desk.now).calls);
       bounded = λ h. h;
-      same = refl;
-      origin = refl;
+      keeps = keeps_none _;
     }
+
+pub returns-in-ReadyForQuery-clause-refused : goal.returns-in-ReadyForQuery-clause-refused
+returns-in-ReadyForQuery-clause-refused g c =
+    let s = state_of g.St.PortalStore.maps c.args.client.now in
+    ready_refused s (λ answers. on_execute (g.Self.ExtendedQueryHandler.told c.args.self.now) answers s c.args.message) c.args.client.now.outbox
+    c._on_execute.new.client.outbox (g.D.CancelDesk.told c.args.desk.now).calls (g.D.CancelDesk.told c._on_execute.new.desk).calls
+    (state_of g.St.PortalStore.maps c._on_execute.new.client) c._on_execute.result c.in-ReadyForQuery.is c._on_execute.ensures.refused

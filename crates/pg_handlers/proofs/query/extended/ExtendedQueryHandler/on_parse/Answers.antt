@@ -13,7 +13,7 @@ returns-in_err-store_parsed-clause-good g c =
 pub returns-clause-good : goal.returns-clause-good
 returns-clause-good g c =
     let parser = (g.Self.ExtendedQueryHandler.told c.args.self.now).parser in
-    let s = state_of g.St.PortalStore.statements g.St.PortalStore.portals c.args.client.now in
+    let s = state_of g.St.PortalStore.maps c.args.client.now in
     let there = g.Self.QueryParser.QueryParser.told c.deref.result.now in
     let same : there ≡ parser = ap g.Self.QueryParser.QueryParser.told c.deref.ensures ∙ c.in_ok-parser.ensures in
     subst (IsGoodState parser) (sym c.in_ok-store_parsed.ensures.ok)
