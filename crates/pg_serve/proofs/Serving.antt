@@ -1,7 +1,7 @@
 -- A conversation that was served piece by piece is a run over the bytes that were taken.
 use Rattle.std.proofs.Common.{◌≡◌, ◌≢◌, ℕ, ⊎_elim, cond, ◌+◌, ◌≤◌, ◌<◌, ◌^◌, min, arith, Bool, List, [], ◌∷◌, ◌++◌, Option, Some, None, Err, IfSome, take, drop, refl, sym, ap, subst, ◌∙◌, append-nil, append_assoc}
 use Rattle.std.specs.Prelude.{◌==◌, if◌then◌else◌}
-use Rattle.std.proofs.lemmas.List.{take-append-drop}
+use Rattle.std.proofs.lemmas.List.{take-append-drop, length-take}
 use Rattle.std.proofs.lemmas.Bool.Decides.{eqb_tells}
 use Rattle.pg_messages.specs.Frames.{IsUnfinished}
 use Rattle.pg_messages.specs.Replies.{replies_bytes}
@@ -17,14 +17,14 @@ use Rattle.pg_handlers.specs.Questions.{questions, questions_since}
 use Rattle.std.proofs.Math.Seq.{drop-append_seam}
 use Rattle.pg_session.proofs.Pieces.{IsFed-none}
 use Rattle.std.proofs.Common.{true, inl, inr, IsTrue, false, length, length-drop, ◌⊎◌}
-use Rattle.pg_session.specs.Session.{HasFed}
+use Rattle.pg_session.specs.Session.{HasFed, most_held}
 use Rattle.pg_session.specs.declared.ends.Progress.{Progress}
 use Rattle.pg_session.specs.Streams.{HasRisen}
 use Rattle.pg_serve.specs.Serving.{Counts, HasCause, end_turn}
 use Rattle.pg_session.specs.Run.{Rules, IsRun, IsCutRun, IsFed, EndsWith}
 use Rattle.pg_session.specs.Streams.{GrowsBy, GrowsByFront, GivesFront}
 use Rattle.pg_session.specs.Steps as steps
-use Rattle.pg_serve.specs.Serving.{TakesFrom, ReadsGaveBytes, IsServedRun, IsRunOfTaken, IsCutRunOfTaken, IsStoppedRun, IsStoppedRunOfTaken, WentSo}
+use Rattle.pg_serve.specs.Serving.{TakesFrom, ReadsGaveBytes, IsServedRun, IsRunOfTaken, IsCutRunOfTaken, IsStoppedRun, IsStoppedRunOfTaken, GoesOnOver, EndsAtLast, WentSo}
 
 -- what was served is a run over a text that begins with it
 is_run : {T : Type 0} (rules : Rules T) (first : T) {taken rest : List ℕ} {next : Next T} {w v : Option (List ℕ)} {k l : List DeskCall} (x : steps.IsServed rules first taken rest next w v [] [] k l)
@@ -98,6 +98,51 @@ takes_more (Some text) mid new_left taken n into t g =
       given.rest,
     )
 
+-- the run over what was taken goes on
+goes_on_over : {T : Type 0} (rules : Rules T) (first : T) {s : T} {taken rest : List ℕ} {w v : Option (List ℕ)} {k l : List DeskCall}
+    → steps.IsServed rules first taken rest (Goes s) w v [] [] k l → IsUnfinished (rules.awaits s) rest → GoesOnOver rules first taken
+goes_on_over rules first {s} {taken} {rest} x short = (
+  x.bytes,
+  x.called,
+  is_run rules first x taken [] end.InputEnd (sym (append-nil taken)) (subst (λ r. IsUnfinished (rules.awaits s) r) (sym (append-nil rest)) short),
+)
+
+-- the input ended behind what was taken
+pub ends_with_input : {T : Type 0} (rules : Rules T) (first : T) {s : T} {taken rest : List ℕ} {w v : Option (List ℕ)} {k l : List DeskCall} (left mid new_left : Option (List ℕ)) (n : ℕ) (into : List ℕ)
+    → TakesFrom left mid taken → IfSome mid (λ bytes. GivesFront n into bytes new_left) → n ≡ 0
+    → steps.IsServed rules first taken rest (Goes s) w v [] [] k l → IsUnfinished (rules.awaits s) rest → EndsAtLast rules first left new_left end.InputEnd
+ends_with_input rules first {taken = taken} left mid new_left n into t g z x short =
+    (taken, take n into, takes_more left mid new_left taken n into t g, goes_on_over rules first x short, λ other. absurd (other refl))
+
+piece_is_some : (n : ℕ) (into bytes : List ℕ) (new_left : Option (List ℕ)) → GivesFront n into bytes new_left → n ≢ 0 → take n into ≢ []
+piece_is_some n into bytes new_left given ne none =
+    let few = length-take n bytes in let within = given.within in
+    let empty : length (take n bytes) ≡ 0 = ap length (sym given.given ∙ none) in
+    ne (omega (arith, few, within, empty))
+
+last_is_some : (left mid new_left : Option (List ℕ)) (taken : List ℕ) (n : ℕ) (into : List ℕ) → TakesFrom left mid taken
+    → IfSome mid (λ bytes. GivesFront n into bytes new_left) → n ≢ 0 → IfSome left (λ text. take n into ≢ [])
+last_is_some None mid new_left taken n into t g ne = tt
+last_is_some (Some text) mid new_left taken n into t g ne =
+    piece_is_some n into t.0 new_left (subst (λ o. IfSome o (λ bytes. GivesFront n into bytes new_left)) t.2 g) ne
+
+-- the conversation ended with the piece that was taken last
+pub ends_at_last : {T : Type 0} (rules : Rules T) (first : T) {s : T} {taken rest : List ℕ} {w v : Option (List ℕ)} {k l : List DeskCall} (left mid new_left : Option (List ℕ)) (n : ℕ) (into : List ℕ)
+    → TakesFrom left mid taken → IfSome mid (λ bytes. GivesFront n into bytes new_left) → n ≢ 0
+    → steps.IsServed rules first taken rest (Goes s) w v [] [] k l → IsUnfinished (rules.awaits s) rest → (kind : EndKind) → EndsAtLast rules first left new_left kind
+ends_at_last rules first {taken = taken} left mid new_left n into t g ne x short kind = (
+  taken,
+  take n into,
+  takes_more left mid new_left taken n into t g,
+  goes_on_over rules first x short,
+  λ other. last_is_some left mid new_left taken n into t g ne,
+)
+
+-- what a session holds before its startup packet or behind it
+pub within_all : (awaiting : Bool) (rest : List ℕ) → length rest ≤ most_held awaiting → length rest ≤ 1048576
+within_all true rest h = omega arith
+within_all false rest h = h
+
 cut_grows : (w v : Option (List ℕ)) (bytes : List ℕ) (P : List ℕ → Type 0) → GrowsByFront w v bytes → ((front : List ℕ) → BeginsWith bytes front → P front) → (front : List ℕ) × GrowsBy w v front × P front
 cut_grows None v bytes P g p = ([], tt, p [] (bytes, refl))
 cut_grows (Some x) v bytes P g p = (g.0, g.2, p g.0 g.1)
@@ -131,6 +176,7 @@ stopped_run_of_taken rules first {taken} {w} {v} left new_left t x = (
     replies = x.replies;
     division = x.division;
     answered = x.answered;
+    asks = x.asks;
     replied = begins;
   }),
 )

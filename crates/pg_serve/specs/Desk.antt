@@ -1,5 +1,5 @@
 -- The calls of a connection as the session of its client sees them.
-use Rattle.std.specs.Prelude.{true, false, List, [], ◌∷◌}
+use Rattle.std.specs.Prelude.{ℕ, true, false, List, [], ◌∷◌, ◌++◌, ◌≡◌, Option, Result}
 use Rattle.std.specs.List.{flat_map}
 use Rattle.pg_cancel.specs.declared.entries.Entry.{Entry}
 use Rattle.pg_cancel.specs.declared.entries.RegistryCall.{RegistryCall}
@@ -8,6 +8,10 @@ use Rattle.pg_cancel.specs.declared.entries.RegistryAnswer.{RegistryAnswer}
 use Rattle.pg_cancel.specs.declared.entries.RegistryAnswer.TheVariants.{Yes, No}
 use Rattle.pg_handlers.specs.declared.desk.DeskCall.{DeskCall}
 use Rattle.pg_handlers.specs.declared.desk.DeskCall.TheVariants as desk
+use Rattle.pg_handlers.specs.declared.ends.EndKind.{EndKind}
+use Rattle.pg_session.specs.declared.ends.ServeError.{ServeError}
+use Rattle.pg_session.specs.Run.{Rules}
+use Rattle.pg_serve.specs.Serving.{WentSo}
 
 -- a call of the registry as one of a desk; a session neither registers nor ends a registration
 abbrev pub desk_call : RegistryCall → RegistryAnswer → List DeskCall
@@ -21,3 +25,10 @@ desk_call call answer = []
 -- the calls of a session among entries, in order
 abbrev pub desk_calls : List Entry → List DeskCall
 desk_calls entries = flat_map (λ e. desk_call e.call e.answer) entries
+
+-- A client was served through its connection: its own calls, which were `mine`, grew by those that it made, and these with what was
+-- written and the end are those of a run.
+abbrev pub WentByCalls : {T : Type 0} → Rules T → T → List Entry → List Entry → Result EndKind ServeError
+    → Option (List ℕ) → Option (List ℕ) → Option (List ℕ) → Option (List ℕ) → Type 0
+WentByCalls rules first mine new_mine answer left new_left old new = (made : List Entry) × (new_mine ≡ mine ++ made)
+    × WentSo rules first answer left new_left old new (desk_calls made)

@@ -1,4 +1,5 @@
 pub mod Desk
+pub mod Flaky
 pub mod Memory
 pub mod Serving
 pub mod Sockets

@@ -1,5 +1,5 @@
 -- What the server owes its client: what is written and called by how a conversation ended, and why it ended so.
-use Rattle.std.specs.Prelude.{ℕ, List, ◌++◌, ◌+◌, ◌≤◌, ◌<◌, ◌^◌, ◌≡◌, ◌⊎◌, Option, Some, Result, Ok, Err, IfSome, length}
+use Rattle.std.specs.Prelude.{ℕ, List, ◌++◌, ◌+◌, ◌≤◌, ◌<◌, ◌^◌, [], ◌≡◌, ◌≢◌, ◌⊎◌, Option, Some, Result, Ok, Err, IfSome, length}
 use Rattle.pg_messages.specs.declared.frontend.PgWireFrontendMessage.{PgWireFrontendMessage}
 use Rattle.pg_messages.specs.declared.backend.PgWireBackendMessage.{PgWireBackendMessage}
 use Rattle.pg_messages.specs.Frames.{DividesInto}
@@ -7,7 +7,7 @@ use Rattle.pg_messages.specs.Replies.{replies_bytes}
 use Rattle.pg_handlers.specs.declared.desk.DeskCall.{DeskCall}
 use Rattle.pg_handlers.specs.declared.ends.EndKind.{EndKind}
 use Rattle.pg_handlers.specs.declared.ends.EndKind.TheVariants.{InputEnd}
-use Rattle.pg_handlers.specs.Answer.{BeginsWith, Stops, answers_of, conversation}
+use Rattle.pg_handlers.specs.Answer.{AsksNext, BeginsWith, Stops, answers_of, conversation}
 use Rattle.pg_session.specs.declared.ends.ServeError.{ServeError}
 use Rattle.pg_session.specs.declared.ends.ServeError.TheVariants.{ReadFault, WriteFault, TurnLimit, NoMemory}
 use Rattle.pg_session.specs.Run.{Rules, IsRun, IsCutRun}
@@ -23,6 +23,10 @@ IsServedRun rules first left old new calls kind = (text : List ℕ) × IfSome le
 abbrev pub TakesFrom : Option (List ℕ) → Option (List ℕ) → List ℕ → Type 0
 TakesFrom left new_left taken = IfSome left (λ text. (rest : List ℕ) × (text ≡ taken ++ rest) × (new_left ≡ Some rest))
 
+-- The run over these bytes goes on: they end where one more read is needed.
+abbrev pub GoesOnOver : {T : Type 0} → Rules T → T → List ℕ → Type 0
+GoesOnOver rules first text = (replies : List ℕ) × (calls : List DeskCall) × IsRun rules first text replies calls InputEnd
+
 -- What was written has grown by the whole answer to the taken bytes, which end where one more read was needed.
 abbrev pub IsRunOfTaken : {T : Type 0} → Rules T → T → Option (List ℕ) → Option (List ℕ) → Option (List ℕ) → Option (List ℕ) → List DeskCall → Type 0
 IsRunOfTaken rules first left new_left old new calls = (taken : List ℕ) × TakesFrom left new_left taken
@@ -33,13 +37,15 @@ abbrev pub IsCutRunOfTaken : {T : Type 0} → Rules T → T → Option (List ℕ
 IsCutRunOfTaken rules first left new_left old new calls = (taken : List ℕ) × TakesFrom left new_left taken
     × ((front : List ℕ) × GrowsBy old new front × IsCutRun rules first taken front calls)
 
--- A run that stops at a question for want of an answer: these are all its calls, and these bytes a front of its replies.
+-- A run that stops at a question for want of an answer: these are all its calls, the next would be the question, and these bytes are a
+-- front of its replies.
 pub record IsStoppedRun {T : Type 0} (rules : Rules T) (s : T) (text bytes : List ℕ) (calls : List DeskCall) : Type 0 where
   pub messages : List PgWireFrontendMessage
   pub rest : List ℕ
   pub replies : List PgWireBackendMessage
   pub division : DividesInto (rules.awaits s) text messages rest
   pub answered : conversation rules.table (answers_of calls) s messages ≡ record { replies = replies; calls = calls; next = Stops }
+  pub asks : AsksNext (λ answers. (conversation rules.table answers s messages).calls) calls
   pub replied : BeginsWith (replies_bytes replies) bytes
 
 -- What was written has grown by a front of the answer to the taken bytes, which stops at a question, where one more turn was needed.
@@ -58,6 +64,12 @@ WentSo rules first (Err TurnLimit) left new_left old new calls = IsRunOfTaken ru
 WentSo rules first (Err WriteFault) left new_left old new calls = IsCutRunOfTaken rules first left new_left old new calls
 WentSo rules first (Err NoMemory) left new_left old new calls = IsCutRunOfTaken rules first left new_left old new calls
 
+-- The conversation went on until the last bytes that were taken: before these the run over the bytes taken goes on, and they aren't none. So
+-- nothing was taken behind its end. Where it ended with the input, all that was taken went before.
+abbrev pub EndsAtLast : {T : Type 0} → Rules T → T → Option (List ℕ) → Option (List ℕ) → EndKind → Type 0
+EndsAtLast rules first left new_left kind = (before : List ℕ) × (last : List ℕ) × TakesFrom left new_left (before ++ last)
+    × GoesOnOver rules first before × (kind ≢ InputEnd → IfSome left (λ text. last ≢ []))
+
 -- where the counts of a source and of a sink stood at the start of a conversation, and where they stand after it
 pub record Counts : Type 0 where
   pub reads : ℕ
@@ -71,6 +83,16 @@ counts_of reads read_faults write_faults source sink = record {
   read_faults = read_faults source;
   write_faults = write_faults sink;
 }
+
+-- The counts of faults of a source and of a sink never fall.
+pub record FaultsNeverFall (old new : Counts) : Type 0 where
+  pub read_faults : old.read_faults ≤ new.read_faults
+  pub write_faults : old.write_faults ≤ new.write_faults
+
+-- No count of faults has risen.
+pub record IsCalm (old new : Counts) : Type 0 where
+  pub read_faults : new.read_faults ≡ old.read_faults
+  pub write_faults : new.write_faults ≡ old.write_faults
 
 -- Each read that was counted gave a byte at least: where the source tells its bytes, it tells those that are left, and these with the reads
 -- that were counted since are no more than the bytes that there were.

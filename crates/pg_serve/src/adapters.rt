@@ -36,6 +36,7 @@ impl<R: Read> Source for ReaderSource<R> {
         ensures counts { self.new.reads ≡ reads_after result self.old.reads }
         ensures faults { self.new.faults ≡ counted (is_err result) self.old.faults }
         ensures failed { OnErr result (HasRisen self.old.faults self.new.faults) }
+        ensures calm { OnOk result (self.new.faults ≡ self.old.faults) }
         ensures never_falls { self.old.faults ≤ self.new.faults }
     {
         match self.reader.read(into) {
@@ -75,6 +76,7 @@ impl<W: Write> Sink for WriterSink<W> {
         ensures faults { self.new.faults ≡ counted (is_err result) self.old.faults }
         ensures failed { OnErr result (HasRisen self.old.faults self.new.faults) }
         ensures no_memory { IsErrOf result SinkError.NoMemory → ⊥ }
+        ensures calm { OnOk result (self.new.faults ≡ self.old.faults) }
         ensures never_falls { self.old.faults ≤ self.new.faults }
     {
         if write_whole(&mut self.writer, bytes) {

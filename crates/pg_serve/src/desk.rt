@@ -22,11 +22,11 @@ impl<'a, R: Wait> CancelDesk for HandleDesk<'a, R> {
     ghost use Rattle.pg_cancel.specs.Connections.{origin_of};
     ghost use Rattle.pg_serve.specs.Desk.{desk_calls};
 
-    ghost registration = { λ d. (d.handle.now.pid, d.handle.now.key) };
-
-    ghost calls = { λ d. desk_calls d.handle.now.mine };
-
-    ghost origin = { λ d. origin_of d.handle.ghost_name d.handle.now.number d.handle.now.issuer };
+    ghost told = { λ d. record {
+      registration = (d.handle.now.pid, d.handle.now.key);
+      calls = desk_calls d.handle.now.mine;
+      origin = origin_of d.handle.ghost_name d.handle.now.number d.handle.now.issuer;
+    } };
 
     fn identity(&self) -> (i32, [u8; 4]) {
         (self.handle.pid(), self.handle.key())

@@ -1,16 +1,17 @@
 //! The engine: it reads the client's bytes, feeds a session with them, and counts turns.
 
-ghost use Rattle.std.specs.Prelude.{◌≡◌, ◌++◌, ◌≤◌, ◌<◌, List, [], length, take, true};
+ghost use Rattle.std.specs.Prelude.{◌≡◌, ◌++◌, ◌≤◌, ◌<◌, List, [], length, take, true, IfOk, OnOk};
 ghost use Rattle.std.specs.Arc.{arc_value};
 ghost use Rattle.std.specs.FinMap as fin;
 ghost use Rattle.pg_messages.specs.Frames.{IsUnfinished};
+ghost use Rattle.pg_portal.specs.Maps.{no_maps};
+ghost use Rattle.pg_handlers.specs.Desk.{KeepsDesk};
 ghost use Rattle.pg_handlers.specs.declared.desk.DeskCall.{DeskCall};
 ghost use Rattle.pg_handlers.specs.Answer.{Goes};
-ghost use Rattle.pg_handlers.specs.Handlers.{handlers_of};
 ghost use Rattle.pg_handlers.specs.Questions.{questions_since};
 ghost use Rattle.pg_handlers.specs.State.{first_state};
 ghost use Rattle.pg_session.specs.Session.{whole_rules};
-ghost use Rattle.pg_serve.specs.Serving.{WentSo, HasCause, ReadsGaveBytes, counts_of};
+ghost use Rattle.pg_serve.specs.Serving.{WentSo, HasCause, EndsAtLast, FaultsNeverFall, IsCalm, ReadsGaveBytes, counts_of};
 
 use pg_portal::PortalStore;
 use pg_session::{
@@ -47,20 +48,25 @@ pub fn serve_connection<
     sink: &mut K,
     turn_limit: u64,
 ) -> Result<EndKind, ServeError>
-    requires statements { St.statements store ≡ fin.empty }
-    requires portals { St.portals store ≡ fin.empty }
+    requires empty { St.maps store ≡ no_maps }
 
     // The bytes written and the new calls are the conversation table's answer to the client's bytes, however cut.
-    ensures went { (calls : List DeskCall) × (D.calls desk.new ≡ D.calls desk.old ++ calls)
-        × WentSo (whole_rules (handlers_of (H.Extended.told (H.extended (arc_value handlers))) (H.Simple.told (H.simple (arc_value handlers))) (H.Copying.told (H.copying (arc_value handlers)))))
-        (first_state (D.registration desk.old).0 (D.registration desk.old).1)
+    ensures went { (calls : List DeskCall) × ((D.told desk.new).calls ≡ (D.told desk.old).calls ++ calls)
+        × WentSo (whole_rules (H.told (arc_value handlers)))
+        (first_state (D.told desk.old).registration.0 (D.told desk.old).registration.1)
         result (S.left source.old) (S.left source.new) (K.written sink.old) (K.written sink.new) calls }
-    ensures cause { HasCause result turn_limit (questions_since (D.calls desk.old) (D.calls desk.new))
+    ensures cause { HasCause result turn_limit (questions_since (D.told desk.old).calls (D.told desk.new).calls)
         (counts_of S.reads S.faults K.faults source.old sink.old)
         (counts_of S.reads S.faults K.faults source.new sink.new) }
+    ensures last { IfOk result (EndsAtLast (whole_rules (H.told (arc_value handlers)))
+        (first_state (D.told desk.old).registration.0 (D.told desk.old).registration.1)
+        (S.left source.old) (S.left source.new)) }
+    ensures calm { OnOk result (IsCalm (counts_of S.reads S.faults K.faults source.old sink.old)
+        (counts_of S.reads S.faults K.faults source.new sink.new)) }
+    ensures never_falls { FaultsNeverFall (counts_of S.reads S.faults K.faults source.old sink.old)
+        (counts_of S.reads S.faults K.faults source.new sink.new) }
     ensures reads { ReadsGaveBytes (S.left source.old) (S.left source.new) (S.reads source.old) (S.reads source.new) }
-    ensures same { D.registration desk.new ≡ D.registration desk.old }
-    ensures origin { D.origin desk.new ≡ D.origin desk.old }
+    ensures keeps { KeepsDesk (D.told desk.old) (D.told desk.new) }
 {
     let (pid, key) = desk.identity();
     let mut session = Session::new(alloc, handlers, store, pid, key)?;
@@ -104,16 +110,22 @@ fn serve_session<
     requires unsent { session.old.unsent ≡ [] }
     requires fresh { turns.old.spent ≡ 0 }
     requires room { 0 < length buffer.old }
-    ensures went { (calls : List DeskCall) × (D.calls desk.new ≡ D.calls desk.old ++ calls)
-        × WentSo (whole_rules (handlers_of (H.Extended.told (H.extended session.old.handlers)) (H.Simple.told (H.simple session.old.handlers)) (H.Copying.told (H.copying session.old.handlers))))
+    ensures went { (calls : List DeskCall) × ((D.told desk.new).calls ≡ (D.told desk.old).calls ++ calls)
+        × WentSo (whole_rules (H.told session.old.handlers))
         session.old.state
         result (S.left source.old) (S.left source.new) (K.written sink.old) (K.written sink.new) calls }
-    ensures cause { HasCause result turns.old.limit (questions_since (D.calls desk.old) (D.calls desk.new))
+    ensures cause { HasCause result turns.old.limit (questions_since (D.told desk.old).calls (D.told desk.new).calls)
         (counts_of S.reads S.faults K.faults source.old sink.old)
         (counts_of S.reads S.faults K.faults source.new sink.new) }
+    ensures last { IfOk result (EndsAtLast (whole_rules (H.told session.old.handlers))
+        session.old.state
+        (S.left source.old) (S.left source.new)) }
+    ensures calm { OnOk result (IsCalm (counts_of S.reads S.faults K.faults source.old sink.old)
+        (counts_of S.reads S.faults K.faults source.new sink.new)) }
+    ensures never_falls { FaultsNeverFall (counts_of S.reads S.faults K.faults source.old sink.old)
+        (counts_of S.reads S.faults K.faults source.new sink.new) }
     ensures reads { ReadsGaveBytes (S.left source.old) (S.left source.new) (S.reads source.old) (S.reads source.new) }
-    ensures same { D.registration desk.new ≡ D.registration desk.old }
-    ensures origin { D.origin desk.new ≡ D.origin desk.old }
+    ensures keeps { KeepsDesk (D.told desk.old) (D.told desk.new) }
 {
     'turns: loop {
         if !turns.spend() {

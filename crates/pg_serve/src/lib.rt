@@ -3,19 +3,23 @@
 #![tactic(auto)]
 
 mod accept;
+mod acceptor;
 mod adapters;
 mod desk;
 mod engine;
+mod flaky;
 mod keys;
 mod memory;
 mod process;
 mod socket;
 
 pub use accept::{AcceptFailed, Acceptor, Job, KeySource, SpawnFailed, Spawner};
+pub use acceptor::{Listener, Listening, SocketAcceptor};
 pub use adapters::{ReaderSource, WriterSink};
 pub use desk::HandleDesk;
 pub use engine::serve_connection;
+pub use flaky::FlakyDesk;
 pub use keys::RandomKeys;
 pub use memory::{MemorySink, MemorySource};
 pub use process::{process_socket, process_socket_unix};
-pub use socket::{Counted, Listening, MaybeTls, SocketAcceptor};
+pub use socket::{Counted, MaybeTls};

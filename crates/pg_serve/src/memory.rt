@@ -101,6 +101,7 @@ impl Source for MemorySource {
         ensures counts { self.new.reads ≡ reads_after result self.old.reads }
         ensures failed { OnErr result (HasRisen self.old.faults self.new.faults) }
         ensures untouched { OnErr result (self.new.left ≡ self.old.left) }
+        ensures calm { OnOk result (self.new.faults ≡ self.old.faults) }
         ensures never_falls { self.old.faults ≤ self.new.faults }
     {
         let call = self.calls;
@@ -185,6 +186,7 @@ impl Sink for MemorySink {
         ensures failed { IsErrOf result SinkError.Failed
             → HasRisen self.old.faults self.new.faults }
         ensures no_memory { IsErrOf result SinkError.NoMemory → self.new.faults ≡ self.old.faults }
+        ensures calm { OnOk result (self.new.faults ≡ self.old.faults) }
         ensures never_falls { self.old.faults ≤ self.new.faults }
     {
         let call = self.calls;

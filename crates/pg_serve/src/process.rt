@@ -1,13 +1,18 @@
 //! A client at a socket is served.
 
-ghost use Rattle.std.specs.Prelude.{◌≡◌, ◌++◌, List};
+ghost use Rattle.std.specs.Prelude.{◌≡◌, ◌++◌, List, None, OnOk};
+ghost use Rattle.std.specs.Arc.{arc_value};
 ghost use Rattle.std.specs.FinMap as fin;
 ghost use mathlib.Core.List.{IsPrefix};
 ghost use Rattle.pg_cancel.specs.Connections.{IsSameConnection, calls_of};
 ghost use Rattle.pg_cancel.specs.LegalHistory.{IsLegal};
+ghost use Rattle.pg_portal.specs.Maps.{no_maps};
+ghost use Rattle.pg_handlers.specs.declared.desk.DeskCall.{DeskCall};
 ghost use Rattle.pg_handlers.specs.Questions.{questions_since};
-ghost use Rattle.pg_serve.specs.Desk.{desk_calls};
-ghost use Rattle.pg_serve.specs.Serving.{HasCause, counts_of};
+ghost use Rattle.pg_handlers.specs.State.{first_state};
+ghost use Rattle.pg_session.specs.Session.{whole_rules};
+ghost use Rattle.pg_serve.specs.Desk.{WentByCalls, desk_calls};
+ghost use Rattle.pg_serve.specs.Serving.{HasCause, FaultsNeverFall, IsCalm, WentSo, counts_of};
 ghost use Rattle.pg_serve.specs.Sockets.{reads_of, faults_of};
 
 use crate::desk::HandleDesk;
@@ -39,12 +44,19 @@ pub fn process_socket<
     handle: &mut ConnectionHandle,
     turn_limit: u64,
 ) -> Result<EndKind, ServeError>
-    requires statements { St.statements store ≡ fin.empty }
-    requires portals { St.portals store ≡ fin.empty }
+    requires empty { St.maps store ≡ no_maps }
     requires issued { handle.old.issuer ≡ manager.now }
+    // A socket tells no bytes; the end and the calls are those of some run.
+    ensures went { WentByCalls (whole_rules (H.told (arc_value handlers)))
+        (first_state handle.old.pid handle.old.key)
+        handle.old.mine handle.new.mine result None None None None }
     ensures cause { HasCause result turn_limit
         (questions_since (desk_calls handle.old.mine) (desk_calls handle.new.mine))
         (counts_of reads_of faults_of faults_of reader.old writer.old)
+        (counts_of reads_of faults_of faults_of reader.new writer.new) }
+    ensures calm { OnOk result (IsCalm (counts_of reads_of faults_of faults_of reader.old writer.old)
+        (counts_of reads_of faults_of faults_of reader.new writer.new)) }
+    ensures never_falls { FaultsNeverFall (counts_of reads_of faults_of faults_of reader.old writer.old)
         (counts_of reads_of faults_of faults_of reader.new writer.new) }
     ensures same { IsSameConnection handle.old handle.new }
     ensures seen { IsPrefix handle.old.seen handle.new.seen }
@@ -75,12 +87,19 @@ pub fn process_socket_unix<
     handle: &mut ConnectionHandle,
     turn_limit: u64,
 ) -> Result<EndKind, ServeError>
-    requires statements { St.statements store ≡ fin.empty }
-    requires portals { St.portals store ≡ fin.empty }
+    requires empty { St.maps store ≡ no_maps }
     requires issued { handle.old.issuer ≡ manager.now }
+    // A socket tells no bytes; the end and the calls are those of some run.
+    ensures went { WentByCalls (whole_rules (H.told (arc_value handlers)))
+        (first_state handle.old.pid handle.old.key)
+        handle.old.mine handle.new.mine result None None None None }
     ensures cause { HasCause result turn_limit
         (questions_since (desk_calls handle.old.mine) (desk_calls handle.new.mine))
         (counts_of reads_of faults_of faults_of reader.old writer.old)
+        (counts_of reads_of faults_of faults_of reader.new writer.new) }
+    ensures calm { OnOk result (IsCalm (counts_of reads_of faults_of faults_of reader.old writer.old)
+        (counts_of reads_of faults_of faults_of reader.new writer.new)) }
+    ensures never_falls { FaultsNeverFall (counts_of reads_of faults_of faults_of reader.old writer.old)
         (counts_of reads_of faults_of faults_of reader.new writer.new) }
     ensures same { IsSameConnection handle.old handle.new }
     ensures seen { IsPrefix handle.old.seen handle.new.seen }
@@ -113,12 +132,18 @@ fn serve_handle<
     handle: &mut ConnectionHandle,
     turn_limit: u64,
 ) -> Result<EndKind, ServeError>
-    requires statements { St.statements store ≡ fin.empty }
-    requires portals { St.portals store ≡ fin.empty }
+    requires empty { St.maps store ≡ no_maps }
     requires issued { handle.old.issuer ≡ manager.now }
+    ensures went { WentByCalls (whole_rules (H.told (arc_value handlers)))
+        (first_state handle.old.pid handle.old.key) handle.old.mine handle.new.mine result
+        (S.left source.old) (S.left source.new) (K.written sink.old) (K.written sink.new) }
     ensures cause { HasCause result turn_limit
         (questions_since (desk_calls handle.old.mine) (desk_calls handle.new.mine))
         (counts_of S.reads S.faults K.faults source.old sink.old)
+        (counts_of S.reads S.faults K.faults source.new sink.new) }
+    ensures calm { OnOk result (IsCalm (counts_of S.reads S.faults K.faults source.old sink.old)
+        (counts_of S.reads S.faults K.faults source.new sink.new)) }
+    ensures never_falls { FaultsNeverFall (counts_of S.reads S.faults K.faults source.old sink.old)
         (counts_of S.reads S.faults K.faults source.new sink.new) }
     ensures same { IsSameConnection handle.old handle.new }
     ensures seen { IsPrefix handle.old.seen handle.new.seen }
@@ -154,12 +179,20 @@ fn serve_at_desk<
     handle: &mut ConnectionHandle,
     turn_limit: u64,
 ) -> Result<EndKind, ServeError>
-    requires statements { St.statements store ≡ fin.empty }
-    requires portals { St.portals store ≡ fin.empty }
+    requires empty { St.maps store ≡ no_maps }
     requires issued { handle.old.issuer ≡ manager.now }
+    ensures went { (calls : List DeskCall)
+        × (desk_calls handle.new.mine ≡ desk_calls handle.old.mine ++ calls)
+        × WentSo (whole_rules (H.told (arc_value handlers)))
+        (first_state handle.old.pid handle.old.key) result
+        (S.left source.old) (S.left source.new) (K.written sink.old) (K.written sink.new) calls }
     ensures cause { HasCause result turn_limit
         (questions_since (desk_calls handle.old.mine) (desk_calls handle.new.mine))
         (counts_of S.reads S.faults K.faults source.old sink.old)
+        (counts_of S.reads S.faults K.faults source.new sink.new) }
+    ensures calm { OnOk result (IsCalm (counts_of S.reads S.faults K.faults source.old sink.old)
+        (counts_of S.reads S.faults K.faults source.new sink.new)) }
+    ensures never_falls { FaultsNeverFall (counts_of S.reads S.faults K.faults source.old sink.old)
         (counts_of S.reads S.faults K.faults source.new sink.new) }
     ensures same { IsSameConnection handle.old handle.new }
 {

@@ -17,20 +17,6 @@ use Rattle.pg_handlers.specs.Questions.{questions, questions_since}
 use Rattle.pg_serve.specs.Desk.{desk_call, desk_calls}
 use Rattle.relation_server.specs.Jobs.{IsLeftBehind}
 
--- what a connection has seen goes on, and so do its own calls there: by those of a session
-pub calls_made : (n : ℕ) (seen seen' mine mine' : List Entry) (calls : List DeskCall) → IsPrefix seen seen' → calls_of n seen ≡ mine
-    → calls_of n seen' ≡ mine' → desk_calls mine' ≡ desk_calls mine ++ calls
-    → (made : List Entry) × (mine' ≡ mine ++ made) × (calls ≡ desk_calls made)
-calls_made n seen seen' mine mine' calls grown own own' called =
-    let made = calls_of n grown.0 in
-    let split : mine' ≡ mine ++ made =
-    sym own' ∙ ap (calls_of n) (sym grown.1) ∙ filter-append (λ (e : Entry). e.number == n) seen grown.0 ∙ ap (λ m. m ++ made) own in (
-      made,
-      split,
-      append_cancel_left (desk_calls mine) calls (desk_calls made)
-          (sym called ∙ ap desk_calls split ∙ flat_map-append (λ (e : Entry). desk_call e.call e.answer) mine made),
-    )
-
 -- a connection that is gone after it was served
 pub left_behind : (h h' : Connection) (made : List Entry) (note : Witness) → IsSameConnection h h' → IsPrefix h.seen h'.seen
     → h'.mine ≡ h.mine ++ made → IsLeftBehind h' [] note → IsLeftBehind h made note

@@ -1,6 +1,6 @@
 //! A client of relations is served through its connection to the shared registry.
 
-ghost use Rattle.std.specs.Prelude.{◌≡◌, ◌++◌, Bool, List};
+ghost use Rattle.std.specs.Prelude.{◌≡◌, ◌++◌, Bool, List, IfOk, OnOk};
 ghost use mathlib.Core.List.{IsPrefix};
 ghost use Rattle.pg_cancel.specs.Connections.{IsSameConnection, calls_of};
 ghost use Rattle.pg_cancel.specs.LegalHistory.{IsLegal};
@@ -12,7 +12,8 @@ ghost use Rattle.pg_handlers.specs.State.{State, first_state};
 ghost use Rattle.pg_handlers.specs.Table.{whole_table};
 ghost use Rattle.pg_handlers.specs.declared.desk.DeskCall.{DeskCall};
 ghost use Rattle.pg_serve.specs.Desk.{desk_calls};
-ghost use Rattle.pg_serve.specs.Serving.{HasCause, ReadsGaveBytes, counts_of};
+ghost use Rattle.pg_session.specs.Session.{whole_rules};
+ghost use Rattle.pg_serve.specs.Serving.{HasCause, EndsAtLast, FaultsNeverFall, IsCalm, ReadsGaveBytes, counts_of};
 ghost use Rattle.relation_tables.specs.declared.RelationStatement.{RelationStatement};
 ghost use Rattle.relation_tables.specs.RelationHandler.{relation_handlers};
 ghost use Rattle.relation_serving.specs.Cells.{ShowInOwnFormat, ShowStored, style_of};
@@ -51,6 +52,12 @@ pub fn serve_relations<R: Wait, S: Source, K: Sink>(
         (K.written sink.old) (K.written sink.new) (desk_calls made) }
     ensures cause { HasCause result turn_limit (questions_since (desk_calls handle.old.mine) (desk_calls handle.new.mine))
         (counts_of S.reads S.faults K.faults source.old sink.old)
+        (counts_of S.reads S.faults K.faults source.new sink.new) }
+    ensures last { IfOk result (EndsAtLast (whole_rules (relation_handlers relations.now))
+        (first_state handle.old.pid handle.old.key) (S.left source.old) (S.left source.new)) }
+    ensures calm { OnOk result (IsCalm (counts_of S.reads S.faults K.faults source.old sink.old)
+        (counts_of S.reads S.faults K.faults source.new sink.new)) }
+    ensures never_falls { FaultsNeverFall (counts_of S.reads S.faults K.faults source.old sink.old)
         (counts_of S.reads S.faults K.faults source.new sink.new) }
 
     // With turns enough, and where no read and no write fails, any bytes are served to their end.
@@ -108,6 +115,12 @@ fn serve_at_desk<R: Wait, S: Source, K: Sink>(
         (K.written sink.old) (K.written sink.new) calls }
     ensures cause { HasCause result turn_limit (questions_since (desk_calls handle.old.mine) (desk_calls handle.new.mine))
         (counts_of S.reads S.faults K.faults source.old sink.old)
+        (counts_of S.reads S.faults K.faults source.new sink.new) }
+    ensures last { IfOk result (EndsAtLast (whole_rules (relation_handlers relations.now))
+        (first_state handle.old.pid handle.old.key) (S.left source.old) (S.left source.new)) }
+    ensures calm { OnOk result (IsCalm (counts_of S.reads S.faults K.faults source.old sink.old)
+        (counts_of S.reads S.faults K.faults source.new sink.new)) }
+    ensures never_falls { FaultsNeverFall (counts_of S.reads S.faults K.faults source.old sink.old)
         (counts_of S.reads S.faults K.faults source.new sink.new) }
     ensures complete { IsComplete relations.now turn_limit result (S.left source.old)
         (counts_of S.reads S.faults K.faults source.old sink.old)

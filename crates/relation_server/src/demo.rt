@@ -48,6 +48,7 @@ pub(crate) fn show_demo<R: Wait, K: Sink>(
         → HasShown manager.now load result.0 result.1
         (surroundings file faults client (K.written out.old) (counts reads read_faults (K.faults out.old)) door.old.seen)
         (surroundings file faults client (K.written out.new) (counts reads read_faults (K.faults out.new)) door.new.seen) }
+    ensures never_falls { K.faults out.old ≤ K.faults out.new }
     ensures issued { door.new.issuer ≡ door.old.issuer }
 {
     let Ok(relations) = demo_table(alloc, load.seed, load.count) else {
@@ -77,8 +78,9 @@ fn serve_demo<R: Wait, K: Sink>(
     out: &mut K,
 ) -> (Outcome, Option<Note>)
     requires issued { handle.issuer ≡ manager.now }
-    ensures { HasCounted handle relations.now count client result.0 result.1 (K.written out.old) (K.written out.new)
+    ensures counted { HasCounted handle relations.now count client result.0 result.1 (K.written out.old) (K.written out.new)
         (K.faults out.old) (K.faults out.new) }
+    ensures never_falls { K.faults out.old ≤ K.faults out.new }
 {
     let length = client.len();
     let mut source = MemorySource::new(client, PgList::new(alloc), PgList::new(alloc));
@@ -111,6 +113,7 @@ fn tell_end<K: Sink>(
         (K.written out.old) (K.written out.new) (K.faults out.old) (K.faults out.new) }
     ensures given_up { IsErr answer → (result ≡ Outcome.Conversation (Err ServeError.NoMemory))
         × (K.written out.new ≡ K.written out.old) × (K.faults out.new ≡ K.faults out.old) }
+    ensures never_falls { K.faults out.old ≤ K.faults out.new }
 {
     match answer {
         Ok(_) => tell(alloc, count, client, replies, out),
@@ -126,9 +129,10 @@ fn tell<K: Sink>(
     replies: &[u8],
     out: &mut K,
 ) -> Outcome
-    ensures { (messages : List PgWireBackendMessage) → replies.now ≡ replies_bytes messages
+    ensures told { (messages : List PgWireBackendMessage) → replies.now ≡ replies_bytes messages
         → HasTold result (demo_lines relations (row_count messages) client (length replies.now))
         (K.written out.old) (K.written out.new) (K.faults out.old) (K.faults out.new) }
+    ensures never_falls { K.faults out.old ≤ K.faults out.new }
 {
     if replies.len() > GREATEST_LENGTH {
         return Outcome::OUT_OF_MEMORY;
@@ -158,7 +162,8 @@ fn lines(
 
 /// Writes the lines.
 fn write_lines<K: Sink>(lines: &str, out: &mut K) -> Outcome
-    ensures { HasTold result lines.now (K.written out.old) (K.written out.new) (K.faults out.old) (K.faults out.new) }
+    ensures told { HasTold result lines.now (K.written out.old) (K.written out.new) (K.faults out.old) (K.faults out.new) }
+    ensures never_falls { K.faults out.old ≤ K.faults out.new }
 {
     match out.send(lines.as_bytes()) {
         Ok(()) => Outcome::Done,

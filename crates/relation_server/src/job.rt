@@ -1,6 +1,6 @@
 //! The service of one connection, as a value that a thread may take.
 
-ghost use Rattle.std.specs.Prelude.{◌≡◌, ◌++◌, [], Bool, List};
+ghost use Rattle.std.specs.Prelude.{◌≡◌, ◌++◌, [], Bool, List, OnOk};
 ghost use Rattle.std.specs.Arc.{arc_value};
 ghost use mathlib.Core.List.{IsPrefix};
 ghost use Rattle.pg_cancel.specs.Connections.{IsSameConnection, calls_of};
@@ -12,7 +12,7 @@ ghost use Rattle.pg_handlers.specs.Questions.{questions_since};
 ghost use Rattle.pg_handlers.specs.State.{State, first_state};
 ghost use Rattle.pg_handlers.specs.Table.{whole_table};
 ghost use Rattle.pg_serve.specs.Desk.{desk_calls};
-ghost use Rattle.pg_serve.specs.Serving.{HasCause, ReadsGaveBytes, counts_of};
+ghost use Rattle.pg_serve.specs.Serving.{HasCause, FaultsNeverFall, IsCalm, ReadsGaveBytes, counts_of};
 ghost use Rattle.relation_tables.specs.declared.RelationStatement.{RelationStatement};
 ghost use Rattle.relation_tables.specs.RelationHandler.{relation_handlers};
 ghost use Rattle.relation_serving.specs.Cells.{ShowInOwnFormat, ShowStored, style_of};
@@ -57,6 +57,10 @@ impl<S: Source, K: Sink> ConnectionJob<S, K> {
         ensures cause { HasCause result self.old.turn_limit
             (questions_since (desk_calls self.old.handle.mine) (desk_calls self.new.handle.mine))
             (counts_of S.reads S.faults K.faults self.old.source self.old.sink)
+            (counts_of S.reads S.faults K.faults self.new.source self.new.sink) }
+        ensures calm { OnOk result (IsCalm (counts_of S.reads S.faults K.faults self.old.source self.old.sink)
+            (counts_of S.reads S.faults K.faults self.new.source self.new.sink)) }
+        ensures never_falls { FaultsNeverFall (counts_of S.reads S.faults K.faults self.old.source self.old.sink)
             (counts_of S.reads S.faults K.faults self.new.source self.new.sink) }
         ensures complete { IsComplete (arc_value self.old.relations) self.old.turn_limit result (S.left self.old.source)
             (counts_of S.reads S.faults K.faults self.old.source self.old.sink)

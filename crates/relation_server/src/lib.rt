@@ -23,4 +23,4 @@ pub use relation_serving::{
 pub use relation_words::{ListenPlace, listen_place};
 pub use running::run;
 pub use serving_many::run_listen;
-pub use spawner::{JobThreads, StartJob, ThreadSpawner, jobs_cross_threads};
+pub use spawner::{JobThreads, StartJob, ThreadSpawner, Tries, jobs_cross_threads};

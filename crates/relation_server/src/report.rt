@@ -1,6 +1,6 @@
 //! What the program tells of a command's outcome: its status, and a line.
 
-ghost use Rattle.std.specs.Prelude.{◌≡◌, ◌≢◌, [], string_bytes, IfOk};
+ghost use Rattle.std.specs.Prelude.{◌≡◌, ◌≢◌, ◌≤◌, [], string_bytes, IfOk};
 ghost use Rattle.relation_server.specs.Outcomes.{status_of, status_of_conversation, status_of_file, line_of, line_of_conversation, line_of_file, bad_line, reason_text, IsReported};
 
 use crate::outcome::Outcome;
@@ -18,8 +18,9 @@ const USAGE: &str =
 /// Writes the line of an outcome, where there is one, and answers its status, or that of no memory where the line or
 /// the sink finds none.
 pub(crate) fn report<E: Sink>(alloc: Global, outcome: &Outcome, err: &mut E) -> u8
-    ensures { IsReported (status_of outcome.now) (line_of outcome.now) result (E.written err.old)
+    ensures reported { IsReported (status_of outcome.now) (line_of outcome.now) result (E.written err.old)
         (E.written err.new) (E.faults err.old) (E.faults err.new) }
+    ensures never_falls { E.faults err.old ≤ E.faults err.new }
 {
     match outcome {
         Outcome::Done => 0,
@@ -34,8 +35,9 @@ pub(crate) fn report<E: Sink>(alloc: Global, outcome: &Outcome, err: &mut E) -> 
 
 /// The same of a relation file that was refused.
 fn report_file<E: Sink>(alloc: Global, error: &FileError, err: &mut E) -> u8
-    ensures { IsReported (status_of_file error.now) (line_of_file error.now) result (E.written err.old)
+    ensures reported { IsReported (status_of_file error.now) (line_of_file error.now) result (E.written err.old)
         (E.written err.new) (E.faults err.old) (E.faults err.new) }
+    ensures never_falls { E.faults err.old ≤ E.faults err.new }
 {
     match error {
         FileError::BadLine(number, reason) => match bad_line(alloc, *number, reason) {
@@ -73,8 +75,9 @@ fn reason_text(reason: &LineReason) -> &'static str
 
 /// The same of a conversation.
 fn report_conversation<E: Sink>(answer: Result<EndKind, ServeError>, err: &mut E) -> u8
-    ensures { IsReported (status_of_conversation answer) (line_of_conversation answer) result (E.written err.old)
+    ensures reported { IsReported (status_of_conversation answer) (line_of_conversation answer) result (E.written err.old)
         (E.written err.new) (E.faults err.old) (E.faults err.new) }
+    ensures never_falls { E.faults err.old ≤ E.faults err.new }
 {
     match answer {
         Ok(EndKind::Terminate) | Ok(EndKind::InputEnd) | Ok(EndKind::CancelServed) => 0,
@@ -90,8 +93,9 @@ fn report_conversation<E: Sink>(answer: Result<EndKind, ServeError>, err: &mut E
 /// Writes a line, and answers this status, or that of no memory where the sink finds none.
 fn write_line<E: Sink>(status: u8, line: &str, err: &mut E) -> u8
     requires { line.now ≢ [] }
-    ensures { IsReported status line.now result (E.written err.old) (E.written err.new)
+    ensures reported { IsReported status line.now result (E.written err.old) (E.written err.new)
         (E.faults err.old) (E.faults err.new) }
+    ensures never_falls { E.faults err.old ≤ E.faults err.new }
 {
     match err.send(line.as_bytes()) {
         Ok(()) | Err(SinkError::Failed) => status,

@@ -1,7 +1,7 @@
 //! The program over one client: its commands `serve` and `demo`.
 
-ghost use Rattle.std.specs.Prelude.{◌≡◌, List, ℕ, Option};
-ghost use Rattle.pg_serve.specs.Serving.{counts_of};
+ghost use Rattle.std.specs.Prelude.{◌≡◌, ◌≤◌, List, ℕ, Option};
+ghost use Rattle.pg_serve.specs.Serving.{FaultsNeverFall, counts_of};
 ghost use Rattle.relation_server.specs.Outcomes.{status_of, line_of, IsReported};
 ghost use Rattle.relation_server.specs.Program.{HasRun, HasServed, HasServedFile, IsRunComplete, surroundings, surroundings_of};
 ghost use Rattle.relation_server.specs.declared.outcome.Outcome.{Outcome};
@@ -57,6 +57,10 @@ pub fn run<R: Wait, F: Source, S: Source, K: Sink, E: Sink>(
     ensures complete { IsRunComplete (command_of words.now) result.0
         (surroundings_of F.left F.faults S.left S.reads S.faults K.written K.faults file.old client.old out.old door.old.seen)
         (surroundings_of F.left F.faults S.left S.reads S.faults K.written K.faults file.new client.new out.new door.new.seen) }
+    ensures file_never_falls { F.faults file.old ≤ F.faults file.new }
+    ensures never_falls { FaultsNeverFall (counts_of S.reads S.faults K.faults client.old out.old)
+        (counts_of S.reads S.faults K.faults client.new out.new) }
+    ensures err_never_falls { E.faults err.old ≤ E.faults err.new }
     ensures issued { door.new.issuer ≡ door.old.issuer }
 {
     let (outcome, note) = carry_out(rt, alloc, words, manager, door, file, client, out);
@@ -78,6 +82,9 @@ fn carry_out<R: Wait, F: Source, S: Source, K: Sink>(
     ensures ran { HasRun manager.now (command_of words.now) result.0 result.1
         (surroundings_of F.left F.faults S.left S.reads S.faults K.written K.faults file.old client.old out.old door.old.seen)
         (surroundings_of F.left F.faults S.left S.reads S.faults K.written K.faults file.new client.new out.new door.new.seen) }
+    ensures file_never_falls { F.faults file.old ≤ F.faults file.new }
+    ensures never_falls { FaultsNeverFall (counts_of S.reads S.faults K.faults client.old out.old)
+        (counts_of S.reads S.faults K.faults client.new out.new) }
     ensures issued { door.new.issuer ≡ door.old.issuer }
 {
     match read_command(words) {
@@ -104,6 +111,9 @@ fn serve_file<R: Wait, F: Source, S: Source, K: Sink>(
     ensures served { HasServedFile manager.now service result.0 result.1
         (surroundings_of F.left F.faults S.left S.reads S.faults K.written K.faults file.old client.old out.old door.old.seen)
         (surroundings_of F.left F.faults S.left S.reads S.faults K.written K.faults file.new client.new out.new door.new.seen) }
+    ensures file_never_falls { F.faults file.old ≤ F.faults file.new }
+    ensures never_falls { FaultsNeverFall (counts_of S.reads S.faults K.faults client.old out.old)
+        (counts_of S.reads S.faults K.faults client.new out.new) }
     ensures issued { door.new.issuer ≡ door.old.issuer }
 {
     match read_relations(alloc, file) {
@@ -127,6 +137,8 @@ fn serve_table<R: Wait, S: Source, K: Sink>(
     ensures served { (left new_left : Option (List ℕ)) (faults new_faults : ℕ) → HasServed manager.now service relations.now result.0 result.1
         (surroundings left faults (S.left client.old) (K.written out.old) (counts_of S.reads S.faults K.faults client.old out.old) door.old.seen)
         (surroundings new_left new_faults (S.left client.new) (K.written out.new) (counts_of S.reads S.faults K.faults client.new out.new) door.new.seen) }
+    ensures never_falls { FaultsNeverFall (counts_of S.reads S.faults K.faults client.old out.old)
+        (counts_of S.reads S.faults K.faults client.new out.new) }
     ensures issued { door.new.issuer ≡ door.old.issuer }
 {
     match manager.register(rt, door, service.pid, service.key) {

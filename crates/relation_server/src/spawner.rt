@@ -8,86 +8,170 @@ use pg_serve::{MaybeTls, SpawnFailed, Spawner};
 use relation_handlers::RelationTable;
 use std::alloc::{AllocError, Global};
 use std::sync::{Arc, Condvar, Mutex, Wait};
-use std::thread::{Builder, Threads};
+use std::thread::{Builder, Promise, Threads};
+use std::time::{Clock, Duration};
 
 /// The bytes of a thread's stack. Without a size a thread would reserve what the C library gives, mostly 8 MiB.
 const STACK: usize = 512 * 1024;
 
-/// How many jobs run, and who waits until none does.
+/// How many milliseconds are waited behind a job's end until its thread is gone too.
+const PAUSE: u64 = 100;
+
+/// How many jobs run, and how many have ended, wrapping.
+#[derive(Clone, Copy)]
+struct Count {
+    running: u64,
+    ended: u64,
+}
+
+/// The count of jobs, and who waits until it changes.
 #[derive(Drop)]
 struct Running {
-    jobs: Mutex<u64>,
-    ended: Condvar,
+    jobs: Mutex<Count>,
+    changed: Condvar,
 }
 
 impl Running {
-    /// One job more runs.
-    fn enter<R: Wait>(&self, rt: &R) {
+    /// One job more runs. It answers how many have ended.
+    fn enter<R: Wait>(&self, rt: &R) -> u64 {
         let mut jobs = self.jobs.lock(rt);
-        *jobs = jobs.saturating_add(1);
+        jobs.running = jobs.running.saturating_add(1);
+        jobs.ended
     }
 
     /// A job has ended.
     fn leave<R: Wait>(&self, rt: &R) {
         let mut jobs = self.jobs.lock(rt);
-        *jobs = jobs.saturating_sub(1);
-        self.ended.notify_all();
+        jobs.running = jobs.running.saturating_sub(1);
+        jobs.ended = jobs.ended.wrapping_add(1);
+        self.changed.notify_all();
+    }
+
+    /// A job didn't come to run.
+    fn withdraw<R: Wait>(&self, rt: &R) {
+        let mut jobs = self.jobs.lock(rt);
+        jobs.running = jobs.running.saturating_sub(1);
+        self.changed.notify_all();
+    }
+
+    /// Waits until another number of jobs has ended than this, or none runs. It answers whether one has ended.
+    fn wait_for_end<R: Wait>(&self, rt: &R, ended: u64) -> bool {
+        let jobs = self.changed.wait_while(rt, self.jobs.lock(rt), |jobs| {
+            jobs.running > 0 && jobs.ended == ended
+        });
+        jobs.ended != ended
     }
 
     /// Waits until no job runs.
     fn wait<R: Wait>(&self, rt: &R) {
         let _none = self
-            .ended
-            .wait_while(rt, self.jobs.lock(rt), |jobs| *jobs > 0);
+            .changed
+            .wait_while(rt, self.jobs.lock(rt), |jobs| jobs.running > 0);
     }
+}
+
+/// What came of starting a job.
+#[derive(Clone, Copy, Debug, PartialEq, Eq)]
+pub struct Tries {
+    /// Whether it was started. Where it wasn't, it was dropped.
+    pub is_started: bool,
+    /// How many tries failed.
+    pub failed: u64,
 }
 
 /// Jobs that run beside each other, each on a thread of its own. They are counted.
 #[derive(Drop)]
 pub struct JobThreads {
     alloc: Global,
+    stack: usize,
     running: Arc<Running>,
 }
 
 impl JobThreads {
-    /// No job runs yet.
+    /// No job runs yet. A thread has 512 KiB of stack.
     pub fn new(alloc: Global) -> Result<JobThreads, AllocError> {
-        let jobs = Mutex::new(0);
-        let ended = Condvar::new();
-        let running = Arc::new(alloc, Running { jobs, ended })?;
-        Ok(JobThreads { alloc, running })
+        let count = Count {
+            running: 0,
+            ended: 0,
+        };
+        let jobs = Mutex::new(count);
+        let changed = Condvar::new();
+        let running = Arc::new(alloc, Running { jobs, changed })?;
+        Ok(JobThreads {
+            alloc,
+            stack: STACK,
+            running,
+        })
     }
 
     /// The same threads, for another owner.
     pub fn share(&self) -> Result<JobThreads, AllocError> {
+        self.share_with_stack(self.stack)
+    }
+
+    /// The same threads, for another owner, whose threads have so many bytes of stack. With more than there can be, no
+    /// thread can be started.
+    pub fn share_with_stack(&self, stack: usize) -> Result<JobThreads, AllocError> {
         Ok(JobThreads {
             alloc: self.alloc,
+            stack,
             running: Arc::try_clone(&self.running)?,
         })
     }
 
-    /// Starts a thread that runs a job, and doesn't wait for it. SpawnFailed tells that no thread or no memory was to be
-    /// had, and that the job was dropped.
+    /// Starts a thread that runs a job, and doesn't wait for it. Where no thread can be made, it waits until one of the
+    /// jobs that run has ended and tries again. The answer tells how many tries failed, and where none runs any more
+    /// that the job was dropped.
     ///
     /// A job that has ended leaves nothing behind: its sockets, its buffers and what its service came to are dropped on
     /// its thread, which then ends. Nobody joins it.
-    pub fn start<R: Threads + Wait + Copy + Send + 'static>(
+    pub fn start<R: Threads + Wait + Clock + Copy + Send + 'static>(
         &self,
         rt: R,
         job: ConnectionJob<MaybeTls, MaybeTls>,
-    ) -> Result<(), SpawnFailed> {
+    ) -> Tries {
         let alloc = self.alloc;
-        let Ok(running) = Arc::try_clone(&self.running) else {
-            return Err(SpawnFailed {});
-        };
-        running.enter(&rt);
-        let thread = Builder::new().stack_size(STACK);
-        match thread.spawn(&rt, move || run_to_end(&rt, alloc, &running, job)) {
-            Ok(_apart) => Ok(()),
-            Err(_refused) => {
-                self.running.leave(&rt);
-                Err(SpawnFailed {})
+        match Arc::try_clone(&self.running) {
+            Ok(running) => self.start_thread(&rt, move || run_to_end(&rt, alloc, &running, job)),
+            Err(AllocError) => Tries {
+                is_started: false,
+                failed: 1,
+            },
+        }
+    }
+
+    /// Starts a thread that does this, which tells that it has ended.
+    fn start_thread<R: Threads + Wait + Clock, F: FnOnce() + Send + Drop + 'static>(
+        &self,
+        rt: &R,
+        work: F,
+    ) -> Tries
+        requires { F.pre work }
+    {
+        let mut work = work;
+        let mut failed = 0u64;
+        for _ in rt.forever() {
+            let ended = self.running.enter(rt);
+            let thread = Builder::new().stack_size(self.stack);
+            match thread.spawn_with(rt, Apart, work) {
+                Ok(_apart) => {
+                    return Tries {
+                        is_started: true,
+                        failed,
+                    };
+                }
+                Err(refused) => work = refused.value,
             }
+            failed = failed.saturating_add(1);
+            self.running.withdraw(rt);
+            if !self.running.wait_for_end(rt, ended) {
+                break;
+            }
+            rt.sleep(Duration::from_millis(PAUSE));
+        }
+        Tries {
+            is_started: false,
+            failed,
         }
     }
 
@@ -96,6 +180,16 @@ impl JobThreads {
     pub fn finish<R: Wait>(&self, rt: &R) {
         self.running.wait(rt);
     }
+}
+
+/// Nothing is promised of a thread.
+#[derive(Clone, Copy)]
+struct Apart;
+
+impl Promise<()> for Apart {
+    ghost use Rattle.std.specs.Prelude.{⊤};
+
+    ghost kept_by = { λ _ _. ⊤ };
 }
 
 /// Runs a job to its end, and tells that it has ended.
@@ -109,11 +203,12 @@ fn run_to_end<R: Wait>(
     running.leave(rt);
 }
 
-/// How a job is started. The answer tells whether it was; where it wasn't, it was dropped.
-pub type StartJob = Box<dyn Fn(ConnectionJob<MaybeTls, MaybeTls>) -> bool + Drop>;
+/// How a job is started.
+pub type StartJob = Box<dyn Fn(ConnectionJob<MaybeTls, MaybeTls>) -> Tries + Drop>;
 
 /// A spawner of the jobs of sockets. How it starts one is its maker's choice: by [`JobThreads::start`], say, for which
-/// the maker needs the leave to start threads. It keeps the threads, for whoever waits for them in the end.
+/// the maker needs the leave to start threads. Each try that failed is counted, also those of a job that was started in
+/// the end. It keeps the threads, for whoever waits for them in the end.
 #[derive(Drop)]
 pub struct ThreadSpawner<T> {
     /// The threads.
@@ -138,6 +233,13 @@ impl<T> ThreadSpawner<T> {
             faults: 0,
         }
     }
+
+    /// How many tries to start a job failed. The count stands still at the greatest `u64`.
+    pub fn faults(&self) -> u64
+        ensures { result ≡ self.now.faults }
+    {
+        self.faults
+    }
 }
 
 impl<T> Spawner<ConnectionJob<MaybeTls, MaybeTls>> for ThreadSpawner<T> {
@@ -146,11 +248,13 @@ impl<T> Spawner<ConnectionJob<MaybeTls, MaybeTls>> for ThreadSpawner<T> {
     ghost started = { λ s. s.started };
 
     fn start(&mut self, job: ConnectionJob<MaybeTls, MaybeTls>) -> Result<(), SpawnFailed> {
-        if (self.start)(job) {
+        let tries = (self.start)(job);
+        self.faults = self.faults.saturating_add(tries.failed);
+        if tries.is_started {
             self.started += 1;
             Ok(())
         } else {
-            self.faults = self.faults.saturating_add(1);
+            self.faults = self.faults.saturating_add(u64::from(tries.failed == 0));
             Err(SpawnFailed {})
         }
     }

@@ -10,7 +10,7 @@ mod places;
 
 use crate::files::OpenedFile;
 use crate::help::told;
-use crate::places::{BoundPlace, bind};
+use crate::places::{BoundPlace, bind_place, leave_place};
 use pg_cancel::ConnectionManager;
 use pg_messages::{PgList, PgStr};
 use pg_serve::{KeySource, MaybeTls, RandomKeys, ReaderSource, Spawner, WriterSink};
@@ -22,10 +22,10 @@ use relation_words::file_word;
 use std::alloc::{AllocError, Global};
 use std::fs::Files;
 use std::io::Input;
-use std::net::{Net, TcpListener, TcpStream};
 use std::process::ExitCode;
 use std::sync::{Arc, Wait};
-use std::{env, fs, io};
+use std::time::Clock;
+use std::{env, fs};
 
 /// The words of the command line, without the program's name. A word that isn't UTF-8 makes them no words at all.
 fn read_words(rt: &HostRuntime) -> Result<PgList<PgStr>, AllocError> {
@@ -71,43 +71,9 @@ fn serve_one<R: Wait + Files, S: Source, K: Sink, E: Sink>(
     Ok(status)
 }
 
-/// Tells where the program listens.
-fn tell_place<R: Print>(rt: &R, place: ListenPlace<'_>) -> io::Result<()> {
-    match place {
-        ListenPlace::Tcp(port) => println!(rt; "listening on 127.0.0.1:{port}"),
-        ListenPlace::Unix(path) => println!(rt; "listening on {path}"),
-    }
-}
-
-/// Binds the place, and tells so.
-fn bind_place<R: Net<Stream = TcpStream, Listener = TcpListener> + Files + Print>(
-    rt: &R,
-    place: ListenPlace<'_>,
-) -> BoundPlace
-    ensures { accepted_at result ≡ 0 }
-{
-    match bind(rt, place) {
-        Err(_) => BoundPlace::Unbound(0),
-        Ok(acceptor) => {
-            let _told = tell_place(rt, place);
-            BoundPlace::Bound(acceptor)
-        }
-    }
-}
-
-/// Gives a place back, so that nobody comes to it any more: the file of a Unix socket goes.
-fn leave_place<R: Files>(rt: &R, place: ListenPlace<'_>, acceptor: BoundPlace) {
-    let BoundPlace::Bound(_listener) = acceptor else {
-        return;
-    };
-    if let ListenPlace::Unix(path) = place {
-        let _removed = fs::remove_file(rt, path);
-    }
-}
-
 /// Serves the clients that come to a place.
 fn serve_many<
-    R: Wait + Files,
+    R: Wait + Files + Clock + Print,
     P: Spawner<ConnectionJob<MaybeTls, MaybeTls>>,
     G: KeySource,
     E: Sink,
@@ -115,7 +81,7 @@ fn serve_many<
     rt: &R,
     alloc: Global,
     words: &[PgStr],
-    acceptor: &mut BoundPlace,
+    acceptor: &mut BoundPlace<'_, R>,
     spawner: &mut P,
     keys: &mut G,
     err: &mut E,
@@ -192,17 +158,18 @@ fn main(rt: HostRuntime) -> ExitCode {
         let status = serve_standard(&rt, alloc, words, &mut out, &mut err);
         return served(status, &mut err);
     };
-    let mut acceptor = bind_place(&rt, place);
     let (Ok(threads), Ok(mut keys)) = (JobThreads::new(alloc), RandomKeys::new(rt)) else {
         return out_of_memory(&mut err);
     };
     let Ok(theirs) = threads.share() else {
         return out_of_memory(&mut err);
     };
-    let Ok(start) = Box::new(alloc, move |job| theirs.start(rt, job).is_ok()) else {
+    let Ok(start) = Box::new(alloc, move |job| theirs.start(rt, job)) else {
         return out_of_memory(&mut err);
     };
     let mut spawner = ThreadSpawner::new(threads, start);
+    // What is bound is left below, so that nothing of it stays behind.
+    let mut acceptor = bind_place(rt, place);
     let status = serve_many(
         &rt,
         alloc,

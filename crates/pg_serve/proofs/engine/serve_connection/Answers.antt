@@ -1,7 +1,6 @@
 use Rattle.std.proofs.Common.{[], sym, append-nil}
 use Rattle.std.proofs.lemmas.Result.{err_from_is_err_and}
 use Rattle.std.specs.Arc.{arc_value}
-use Rattle.pg_handlers.specs.Handlers.{handlers_of}
 use Rattle.pg_handlers.specs.State.{first_state}
 use Rattle.pg_session.specs.Session.{whole_rules}
 use Rattle.pg_serve.proofs.Serving.{none_went, gave_none}
@@ -11,9 +10,9 @@ pub returns-in_err-session-clause-went : goal.returns-in_err-session-clause-went
 returns-in_err-session-clause-went g c =
     let p = err_from_is_err_and c.from_residual.result c.from_residual.ensures.1 in (
       [],
-      sym (append-nil (g.D.CancelDesk.calls c.args.desk.now)),
-      rw p.1 (none_went (whole_rules (handlers_of (g.H.Extended.ExtendedQueryHandler.told (g.H.PgWireServerHandlers.extended (arc_value c.args.handlers))) (g.H.Simple.SimpleQueryHandler.told (g.H.PgWireServerHandlers.simple (arc_value c.args.handlers))) (g.H.Copying.CopyHandler.told (g.H.PgWireServerHandlers.copying (arc_value c.args.handlers)))))
-          (first_state (g.D.CancelDesk.registration c.args.desk.now).0 (g.D.CancelDesk.registration c.args.desk.now).1)
+      sym (append-nil (g.D.CancelDesk.told c.args.desk.now).calls),
+      rw p.1 (none_went (whole_rules (g.H.PgWireServerHandlers.told (arc_value c.args.handlers)))
+          (first_state (g.D.CancelDesk.told c.args.desk.now).registration.0 (g.D.CancelDesk.told c.args.desk.now).registration.1)
           (g.S.Source.left c.args.source.now) (g.K.Sink.written c.args.sink.now) p.0 p.2),
     )
 

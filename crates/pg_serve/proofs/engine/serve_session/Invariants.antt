@@ -1,7 +1,7 @@
-use Rattle.std.proofs.Common.{◌≡◌, ◌≤◌, ◌<◌, ◌+◌, ◌-◌, ◌^◌, List, ℕ, [], true}
+use Rattle.std.proofs.Common.{◌≡◌, ◌≤◌, ◌<◌, ◌+◌, ◌-◌, ◌^◌, List, ℕ, [], true, length}
 use Rattle.pg_messages.specs.Frames.{IsUnfinished}
+use Rattle.pg_handlers.specs.Desk.{KeepsDesk}
 use Rattle.pg_handlers.specs.Answer.{Goes}
-use Rattle.pg_handlers.specs.Handlers.{handlers_of}
 use Rattle.pg_handlers.specs.Questions.{questions_since}
 use Rattle.pg_handlers.specs.Table.{awaits}
 use Rattle.pg_session.specs.Session.{whole_rules}
@@ -14,20 +14,20 @@ abbrev pub invariant-turns : goal.invariant-turns
 invariant-turns g l = record {
   taken : List ℕ;
   takes : TakesFrom (g.S.Source.left l.fn.source) (g.S.Source.left l.source) taken;
-  served : IsServed (whole_rules (handlers_of (g.H.Extended.ExtendedQueryHandler.told (g.H.PgWireServerHandlers.extended l.fn.session.handlers)) (g.H.Simple.SimpleQueryHandler.told (g.H.PgWireServerHandlers.simple l.fn.session.handlers)) (g.H.Copying.CopyHandler.told (g.H.PgWireServerHandlers.copying l.fn.session.handlers))))
-      l.fn.session.state taken l.session.rest (Goes l.session.state) (g.K.Sink.written l.fn.sink) (g.K.Sink.written l.sink) [] [] (g.D.CancelDesk.calls l.fn.desk) (g.D.CancelDesk.calls l.desk);
+  served : IsServed (whole_rules (g.H.PgWireServerHandlers.told l.fn.session.handlers))
+      l.fn.session.state taken l.session.rest (Goes l.session.state) (g.K.Sink.written l.fn.sink) (g.K.Sink.written l.sink) [] [] (g.D.CancelDesk.told l.fn.desk).calls (g.D.CancelDesk.told l.desk).calls;
   short : IsUnfinished (awaits l.session.state) l.session.rest;
   opened : l.session.is_open ≡ true;
   unsent : l.session.unsent ≡ [];
   handlers : l.session.handlers ≡ l.fn.session.handlers;
   limit : l.turns.limit ≡ l.fn.turns.limit;
-  counted : g.S.Source.reads l.fn.source + l.fn.turns.limit < 2 ^ 64 → g.S.Source.reads l.source + questions_since (g.D.CancelDesk.calls l.fn.desk) (g.D.CancelDesk.calls l.desk) ≡ g.S.Source.reads l.fn.source + l.turns.spent;
+  counted : g.S.Source.reads l.fn.source + l.fn.turns.limit < 2 ^ 64 → g.S.Source.reads l.source + questions_since (g.D.CancelDesk.told l.fn.desk).calls (g.D.CancelDesk.told l.desk).calls ≡ g.S.Source.reads l.fn.source + l.turns.spent;
   gave : ReadsGaveBytes (g.S.Source.left l.fn.source) (g.S.Source.left l.source) (g.S.Source.reads l.fn.source) (g.S.Source.reads l.source);
   spent : l.turns.spent ≤ l.turns.limit;
-  read_faults : g.S.Source.faults l.fn.source ≤ g.S.Source.faults l.source;
-  write_faults : g.K.Sink.faults l.fn.sink ≤ g.K.Sink.faults l.sink;
-  same : g.D.CancelDesk.registration l.desk ≡ g.D.CancelDesk.registration l.fn.desk;
-  origin : g.D.CancelDesk.origin l.desk ≡ g.D.CancelDesk.origin l.fn.desk;
+  read_faults : g.S.Source.faults l.source ≡ g.S.Source.faults l.fn.source;
+  write_faults : g.K.Sink.faults l.sink ≡ g.K.Sink.faults l.fn.sink;
+  held : length l.session.rest ≤ 1048576;
+  keeps : KeepsDesk (g.D.CancelDesk.told l.fn.desk) (g.D.CancelDesk.told l.desk);
 }
 
 abbrev pub decreases-turns : goal.decreases-turns

@@ -8,9 +8,12 @@ use Rattle.relation_tables.specs.RelationHandler.{relation_handlers}
 use Rattle.relation_serving.specs.Cells.{ShowInOwnFormat, style_of}
 use Rattle.pg_cancel.specs.declared.entries.Entry.{Entry}
 use Rattle.pg_cancel.specs.Connections.{calls_of}
+use Rattle.std.specs.Prelude.{IfOk}
+use Rattle.pg_session.specs.Session.{whole_rules}
+use Rattle.pg_serve.specs.Serving.{EndsAtLast}
 use Rattle.pg_serve.specs.Desk.{desk_calls}
 use Rattle.relation_serving.specs.Serving.{WentByTables}
-use Rattle.relation_server.proofs.Handles.{calls_made}
+use Rattle.pg_serve.proofs.Calls.{calls_made}
 use Rattle.relation_server.proofs.connection.serve_relations.Goals as goal
 
 pub returns-clause-went : goal.returns-clause-went
@@ -42,3 +45,8 @@ returns-clause-formats g c = subst (λ h. (answers more : List Bool) (messages :
     (first_state h.pid h.key) messages).next ≡ Goes s → ShowInOwnFormat c.args.relations.now (style_of messages) s m
     (whole_table (relation_handlers c.args.relations.now) more s m).replies)
     c.note-before.ensures.same c.serve_at_desk-answer.ensures.formats
+
+pub returns-clause-last : goal.returns-clause-last
+returns-clause-last g c = subst (λ h. IfOk c.serve_at_desk-answer.result (EndsAtLast (whole_rules (relation_handlers c.args.relations.now))
+    (first_state h.pid h.key) (g.S.Source.left c.args.source.now) (g.S.Source.left c.serve_at_desk-answer.new.source)))
+    c.note-before.ensures.same c.serve_at_desk-answer.ensures.last

@@ -17,6 +17,8 @@ returns-clause-conversed g c =
           (counts_of g.S.Source.reads g.S.Source.faults g.K.Sink.faults c.args.source.now c.args.sink.now)
           (counts_of g.S.Source.reads g.S.Source.faults g.K.Sink.faults c.serve_relations-answer.new.source c.serve_relations-answer.new.sink))
           (since_made old.mine new.mine made served.went.1) served.cause;
+      calm = served.calm;
+      never_falls = served.never_falls;
       complete = served.complete;
       gave = served.reads;
     }

@@ -1,0 +1,20 @@
+-- A desk over a script that finds no memory as it is told.
+use Rattle.std.specs.Prelude.{ℕ, Bool, List, ◌≡◌, ◌==◌}
+use Rattle.std.specs.List.{list_any}
+use Rattle.pg_handlers.specs.Script.{Script}
+use Rattle.pg_serve.specs.Memory.{raised}
+
+-- What such a desk has: the script, the numbers of the calls that fail, and how many calls there were, those that failed among them.
+pub record Flaky : Type 0 where
+  pub script : Script
+  pub fails : List ℕ
+  pub made : ℕ
+
+-- Whether the next call fails. Calls are numbered from 0.
+abbrev pub is_next_refused : Flaky → Bool
+is_next_refused d = list_any (λ call. call == d.made) d.fails
+
+-- a call was counted, and it has changed nothing of which calls fail
+pub record IsNextCall (old new : Flaky) : Type 0 where
+  pub fails : new.fails ≡ old.fails
+  pub made : new.made ≡ raised old.made
