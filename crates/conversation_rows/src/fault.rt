@@ -45,3 +45,20 @@ pub enum Difference {
     /// A cell isn't read as the interval that it was made of.
     Cell,
 }
+
+/// What came out otherwise in the case of this number.
+#[derive(Clone, Copy, Debug)]
+pub struct Finding {
+    pub case: usize,
+    pub difference: Difference,
+}
+
+impl Finding {
+    /// The finding of a case, if there is a difference.
+    pub fn of(case: usize, found: Option<Difference>) -> Option<Finding> {
+        match found {
+            None => None,
+            Some(difference) => Some(Finding { case, difference }),
+        }
+    }
+}

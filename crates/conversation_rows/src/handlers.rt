@@ -6,8 +6,8 @@ use crate::relations::table_of;
 use crate::row::told;
 use pg_handlers::NoopHandler;
 use pg_portal::MemPortalStore;
-use pg_serve::{MemorySource, serve_connection};
-use pg_session::{EndKind, PgWireServerHandlers, ScriptDesk, ServeError};
+use pg_serve::{FlakyDesk, MemorySource, serve_connection};
+use pg_session::{EndKind, PgWireServerHandlers, ServeError};
 use relation_serving::serve_relations_on;
 use sample_handlers::SampleHandler;
 use std::alloc::{AllocError, Global};
@@ -17,7 +17,7 @@ use std::sync::Arc;
 pub fn serve_told<'t>(
     alloc: Global,
     lines: &[&'t str],
-    desk: &mut ScriptDesk,
+    desk: &mut FlakyDesk,
     source: &mut MemorySource,
     sink: &mut CountingSink,
     turns: u64,
@@ -48,7 +48,7 @@ pub fn serve_told<'t>(
 fn serve_by<H: PgWireServerHandlers>(
     alloc: Global,
     handlers: H,
-    desk: &mut ScriptDesk,
+    desk: &mut FlakyDesk,
     source: &mut MemorySource,
     sink: &mut CountingSink,
     turns: u64,
@@ -65,17 +65,15 @@ struct NoopHandlers {
 }
 
 impl PgWireServerHandlers for NoopHandlers {
+    ghost use Rattle.pg_handlers.specs.Noop.{noop_extended, noop_simple, noop_copy};
+
     type Simple = NoopHandler;
 
     type Extended = NoopHandler;
 
     type Copying = NoopHandler;
 
-    ghost simple = { λ handlers. handlers.handler };
-
-    ghost extended = { λ handlers. handlers.handler };
-
-    ghost copying = { λ handlers. handlers.handler };
+    ghost told = { λ _. record { extended = noop_extended; simple = noop_simple; copying = noop_copy } };
 
     fn simple_query_handler(&self) -> &NoopHandler {
         &self.handler
@@ -98,17 +96,16 @@ struct RefusedCopyHandlers {
 }
 
 impl PgWireServerHandlers for RefusedCopyHandlers {
+    ghost use Rattle.pg_handlers.specs.Noop.{noop_copy};
+    ghost use Rattle.sample_handlers.specs.Told.{told_extended, told_simple};
+
     type Simple = SampleHandler;
 
     type Extended = SampleHandler;
 
     type Copying = NoopHandler;
 
-    ghost simple = { λ handlers. handlers.queries };
-
-    ghost extended = { λ handlers. handlers.queries };
-
-    ghost copying = { λ handlers. handlers.copying };
+    ghost told = { λ _. record { extended = told_extended; simple = told_simple; copying = noop_copy } };
 
     fn simple_query_handler(&self) -> &SampleHandler {
         &self.queries

@@ -5,16 +5,18 @@
 
 mod counting;
 mod fault;
+mod fronts;
 mod handlers;
 mod message;
 mod reading;
 mod relations;
 mod row;
+mod script;
 mod serving;
 mod sweeps;
 mod verdict;
 
-use crate::fault::{Difference, Fault};
+use crate::fault::{Difference, Fault, Finding};
 use crate::row::{lines_of, name_of};
 use crate::sweeps::judge;
 use std::alloc::Global;
@@ -25,19 +27,22 @@ fn verdict_of<'t>(
     alloc: Global,
     text: &'t str,
     block: &'t str,
-) -> Result<Option<Difference>, Fault<'t>> {
+) -> Result<Option<Finding>, Fault<'t>> {
     let lines = lines_of(alloc, text, block)?;
     judge(alloc, lines.as_slice())
 }
 
-/// Prints what came out otherwise than a row tells.
-fn print_difference(rt: &impl Print, name: &str, difference: Difference) -> io::Result<()> {
-    match difference {
-        Difference::End(end) => println!(rt; "{name}: ends with {end}"),
-        Difference::Replies(place) => println!(rt; "{name}: other replies from byte {place} on"),
-        Difference::Calls => println!(rt; "{name}: other registry calls"),
-        Difference::Writes => println!(rt; "{name}: other lengths of writes"),
-        Difference::Cell => println!(rt; "{name}: a cell that is read as another interval"),
+/// Prints what came out otherwise than a row tells, and in which case of a sweep.
+fn print_finding(rt: &impl Print, name: &str, found: Finding) -> io::Result<()> {
+    let case = found.case;
+    match found.difference {
+        Difference::End(end) => println!(rt; "{name}: {case}: ends with {end}"),
+        Difference::Replies(place) => println!(rt;
+            "{name}: {case}: other replies from byte {place} on"
+        ),
+        Difference::Calls => println!(rt; "{name}: {case}: other registry calls"),
+        Difference::Writes => println!(rt; "{name}: {case}: other lengths of writes"),
+        Difference::Cell => println!(rt; "{name}: {case}: a cell that is read as another interval"),
     }
 }
 
@@ -54,7 +59,7 @@ fn print_row(
             println!(rt; "{name}: ok")?;
             return Ok(true);
         }
-        Ok(Some(difference)) => print_difference(rt, name, difference)?,
+        Ok(Some(found)) => print_finding(rt, name, found)?,
         Err(Fault::Line(line)) => println!(rt; "{name}: what is {line}")?,
         Err(Fault::NoMemory) => println!(rt; "{name}: out of memory")?,
     }

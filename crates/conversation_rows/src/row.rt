@@ -1,5 +1,4 @@
 use crate::fault::Fault;
-use crate::message::put_message;
 use std::alloc::Global;
 
 /// The name of a block that begins with this word, or None where it is no such block.
@@ -23,7 +22,7 @@ pub fn told_by<'t>(line: &'t str, word: &str) -> Option<&'t str> {
 }
 
 /// The words that lines begin with.
-const WORDS: [&str; 19] = [
+const WORDS: [&str; 21] = [
     "row",
     "define",
     "client",
@@ -35,6 +34,7 @@ const WORDS: [&str; 19] = [
     "answers",
     "read_fails",
     "write_fails",
+    "desk_fails",
     "written",
     "prefix",
     "writes",
@@ -43,6 +43,7 @@ const WORDS: [&str; 19] = [
     "handlers",
     "read_back",
     "sweep",
+    "amounts",
 ];
 
 /// The lines of a row, where each `use` stands for the lines of the block that it names.
@@ -98,56 +99,6 @@ pub fn told<'t>(lines: &[&'t str], word: &str) -> Option<&'t str> {
         }
     }
     None
-}
-
-/// The bytes of the messages that the lines with this word tell. A number before a message repeats it.
-pub fn messages_of<'t>(alloc: Global, lines: &[&'t str], word: &str) -> Result<Vec<u8>, Fault<'t>> {
-    let mut bytes = Vec::new(alloc);
-    for line in lines {
-        if let Some(message) = told_by(line, word) {
-            put_messages(alloc, &mut bytes, message)?;
-        }
-    }
-    Ok(bytes)
-}
-
-/// Appends a message as often as the number before it says.
-fn put_messages<'t>(alloc: Global, bytes: &mut Vec<u8>, message: &'t str) -> Result<(), Fault<'t>> {
-    let (first, rest) = message.split_once(" ").unwrap_or((message, ""));
-    match first.parse::<u32>() {
-        Err(_) => put_message(alloc, bytes, message),
-        Ok(times) => {
-            for _ in 0..times {
-                put_message(alloc, bytes, rest)?;
-            }
-            Ok(())
-        }
-    }
-}
-
-/// The lines of a row of which only so many of the client's bytes were taken: without the replies and registry calls
-/// that stand behind a message that isn't whole by then.
-pub fn front_of<'t>(
-    alloc: Global,
-    lines: &[&'t str],
-    taken: usize,
-) -> Result<Vec<&'t str>, Fault<'t>> {
-    let mut client = Vec::new(alloc);
-    let mut front = Vec::new(alloc);
-    for line in lines {
-        if let Some(message) = told_by(line, "client") {
-            put_messages(alloc, &mut client, message)?;
-        }
-        if client.len() <= taken || !is_answer(line) {
-            front.push(*line)?;
-        }
-    }
-    Ok(front)
-}
-
-/// Whether a line tells a reply or a registry call.
-fn is_answer(line: &str) -> bool {
-    told_by(line, "reply").is_some() || told_by(line, "call").is_some()
 }
 
 /// The numbers of a line.

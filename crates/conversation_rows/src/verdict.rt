@@ -1,52 +1,75 @@
-use crate::fault::{Difference, Fault};
-use crate::row::{messages_of, numbers_of, told_by};
+use crate::fault::Difference;
+use crate::script::{Script, Step};
 use crate::serving::Outcome;
 use pg_session::{DeskCall, EndKind, ServeError};
-use std::alloc::Global;
 
-/// How much of the replies is written.
+/// How many there may be.
 #[derive(Clone, Copy)]
-pub enum Written {
-    /// All.
-    Whole,
-    /// The first so many bytes.
-    Front(usize),
-    /// Any first bytes.
-    AnyFront,
+pub struct Between {
+    pub least: usize,
+    pub most: usize,
 }
 
-/// The first difference between an outcome and what the lines tell, if there is one: the end, the replies as far as
-/// they are written, and the registry calls, of which a failed write leaves any first ones.
-pub fn difference<'t>(
-    alloc: Global,
-    lines: &[&'t str],
+impl Between {
+    /// Just so many.
+    pub fn just(count: usize) -> Between {
+        Between {
+            least: count,
+            most: count,
+        }
+    }
+
+    fn has(self, count: usize) -> bool {
+        self.least <= count && count <= self.most
+    }
+}
+
+/// What is expected of a conversation: its end, how many bytes of the replies are written, and how many of the registry's
+/// calls are made.
+#[derive(Clone, Copy)]
+pub struct Expected<'t> {
+    pub end: &'t str,
+    pub written: Between,
+    pub calls: Between,
+}
+
+/// The first difference between an outcome and what is expected, if there is one. Another end is told only where what was
+/// written and called is a front of the conversation. No write is empty, and they are as long as the words tell, where there
+/// are such words.
+pub fn difference(
+    script: &Script,
     outcome: &Outcome,
-    end: &str,
-    written: Written,
-) -> Result<Option<Difference>, Fault<'t>> {
-    let ended = end_name(outcome.end);
-    if ended != end {
-        return Ok(Some(Difference::End(ended)));
-    }
-    let replies = messages_of(alloc, lines, "reply")?;
+    expected: Expected<'_>,
+    writes: Option<&str>,
+) -> Option<Difference> {
     let sent = outcome.sink.sink.bytes();
-    let told = written_of(replies.as_slice(), sent.len(), written);
-    if sent != told {
-        return Ok(Some(Difference::Replies(common_len(sent, told))));
+    let replies = script.replies.as_slice();
+    let calls = outcome.desk.calls();
+    if !replies.starts_with(sent) {
+        return Some(Difference::Replies(common_len(sent, replies)));
     }
-    if !are_called(outcome.calls.as_slice(), lines, end != "WriteFault") {
-        return Ok(Some(Difference::Calls));
+    if !are_first_calls(calls, script.steps.as_slice()) {
+        return Some(Difference::Calls);
     }
-    Ok(None)
-}
-
-/// What is to be written of the replies, where so many bytes were.
-fn written_of(replies: &[u8], len: usize, written: Written) -> &[u8] {
-    match written {
-        Written::Whole => replies,
-        Written::Front(count) => &replies[..count.min(replies.len())],
-        Written::AnyFront => &replies[..len.min(replies.len())],
+    let ended = end_name(outcome.end);
+    if ended != expected.end {
+        return Some(Difference::End(ended));
     }
+    if !expected.written.has(sent.len()) {
+        return Some(Difference::Replies(sent.len()));
+    }
+    if !expected.calls.has(calls.len()) {
+        return Some(Difference::Calls);
+    }
+    let lengths = outcome.sink.lengths.as_slice();
+    let are_told = match writes {
+        None => true,
+        Some(words) => are_lengths(lengths, words),
+    };
+    if lengths.contains(&0) || !are_told {
+        return Some(Difference::Writes);
+    }
+    None
 }
 
 /// How many bytes are equal at the front of both.
@@ -61,58 +84,32 @@ fn common_len(one: &[u8], other: &[u8]) -> usize {
     len
 }
 
-/// The difference where the writes aren't as long as a line tells.
-pub fn other_lengths<'t>(
-    alloc: Global,
-    outcome: &Outcome,
-    lengths: &'t str,
-) -> Result<Option<Difference>, Fault<'t>> {
-    let lengths = numbers_of(alloc, lengths)?;
-    if lengths.as_slice() == outcome.sink.lengths.as_slice() {
-        Ok(None)
-    } else {
-        Ok(Some(Difference::Writes))
+/// Whether the writes are as long as the words tell.
+fn are_lengths(lengths: &[usize], words: &str) -> bool {
+    let mut count = 0usize;
+    for word in words.split_whitespace() {
+        if word.parse::<usize>().ok() != lengths.get(count).copied() {
+            return false;
+        }
+        count = count.saturating_add(1);
     }
+    count == lengths.len()
 }
 
-/// Whether the registry calls are those that the lines tell, in their order; all of them, or any first ones.
-fn are_called(calls: &[DeskCall], lines: &[&str], all: bool) -> bool {
+/// Whether these are the first registry calls of a conversation, in their order.
+fn are_first_calls(calls: &[DeskCall], steps: &[Step]) -> bool {
     let mut count = 0usize;
-    for line in lines {
-        if let Some(call) = told_by(line, "call") {
+    for step in steps {
+        if let Step::Call(call) = *step {
             match calls.get(count) {
-                Some(made) if is_call(*made, call) => {}
+                None => return true,
+                Some(made) if *made == call => {}
                 Some(_) => return false,
-                None => return !all,
             }
             count = count.saturating_add(1);
         }
     }
     count == calls.len()
-}
-
-/// Whether these words tell this registry call: `start`, `ask` and its answer, or `cancel`, its answer, the pid and the
-/// key.
-fn is_call(call: DeskCall, words: &str) -> bool {
-    match call {
-        DeskCall::Start => words == "start",
-        DeskCall::Ask(true) => words == "ask yes",
-        DeskCall::Ask(false) => words == "ask no",
-        DeskCall::Cancel(pid, key, true) => is_cancel("cancel yes", pid, key, words),
-        DeskCall::Cancel(pid, key, false) => is_cancel("cancel no", pid, key, words),
-    }
-}
-
-/// Whether the words are these, and then this pid in decimal and this key in hexadecimal.
-fn is_cancel(answered: &str, pid: i32, key: [u8; 4], words: &str) -> bool {
-    let Some(named) = words.strip_prefix(answered) else {
-        return false;
-    };
-    let Some((number, digits)) = named.trim().split_once(" ") else {
-        return false;
-    };
-    number.parse::<i32>() == Ok(pid)
-        && u32::from_str_radix(digits, 16) == Ok(u32::from_be_bytes(key))
 }
 
 /// The word for an end.

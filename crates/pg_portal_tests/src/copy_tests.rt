@@ -21,6 +21,14 @@ fn push_data(
     items.push(Ok(CopyData { payload }))
 }
 
+/// Data of these two bytes.
+fn two(alloc: Global) -> Result<ListCopy, AllocError> {
+    let mut items = PgList::new(alloc);
+    push_data(alloc, &mut items, 5)?;
+    push_data(alloc, &mut items, 6)?;
+    Ok(ListCopy::new(items))
+}
+
 /// The next byte of data; None at the end.
 fn next_byte(copies: &mut ListCopy) -> Result<Option<u8>, AllocError> {
     match copies.next()? {
@@ -29,38 +37,40 @@ fn next_byte(copies: &mut ListCopy) -> Result<Option<u8>, AllocError> {
     }
 }
 
+/// Whether a trailer follows data in a format.
+fn has_trailer(alloc: Global, format: i8) -> bool {
+    CopyResponse::new(format, 1, ListCopy::new(PgList::new(alloc))).trailer_left
+}
+
+/// Whether each of two columns has the COPY's format.
+fn has_one_format(alloc: Global, format: i8) -> Result<bool, AllocError> {
+    let response = CopyResponse::new(format, 2, ListCopy::new(PgList::new(alloc)));
+    let codes = response.column_formats(alloc)?;
+    Ok(codes.as_slice() == [i16::from(format); 2].as_slice())
+}
+
+/// Whether the trailer is the bytes FF FF.
+fn is_trailer(alloc: Global) -> Result<bool, AllocError> {
+    Ok(finish_copy_binary(alloc)?.payload.as_slice() == [0xff, 0xff].as_slice())
+}
+
 #[test]
 fn a_binary_copy(rt: HostRuntime) -> Result<(), Fail> {
     let alloc = rt.alloc();
-    let mut items = PgList::new(alloc);
-    push_data(alloc, &mut items, 5)?;
-    push_data(alloc, &mut items, 6)?;
-    let mut response = CopyResponse::new(1, 2, ListCopy::new(items));
-    assert!(rt; response.trailer_left);
-    assert_eq!(rt;
-        response.column_formats(alloc)?.as_slice(),
-        [1, 1].as_slice()
-    );
+    let mut response = CopyResponse::new(1, 2, two(alloc)?);
     for expected in [Some(5), Some(6), None, None] {
         assert_eq!(rt; next_byte(response.data_stream())?, expected);
     }
-    assert_eq!(rt;
-        finish_copy_binary(alloc)?.payload.as_slice(),
-        [0xff, 0xff].as_slice()
-    );
+    assert!(rt; is_trailer(alloc)?);
     Ok(())
 }
 
 #[test]
 fn other_copies_have_no_trailer(rt: HostRuntime) -> Result<(), Fail> {
     let alloc = rt.alloc();
-    for format in [0, 2, -1] {
-        let response = CopyResponse::new(format, 1, ListCopy::new(PgList::new(alloc)));
-        assert!(rt; !response.trailer_left, "{format}");
-        assert_eq!(rt;
-            response.column_formats(alloc)?.as_slice(),
-            [i16::from(format)].as_slice()
-        );
+    for (format, trailer) in [(1, true), (0, false), (2, false), (-1, false)] {
+        assert_eq!(rt; has_trailer(alloc, format), trailer, "{format}");
+        assert!(rt; has_one_format(alloc, format)?, "{format}");
     }
     Ok(())
 }

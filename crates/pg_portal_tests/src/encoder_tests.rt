@@ -3,9 +3,9 @@
 ghost use Rattle.std.specs.Prelude.{◌≤◌, IfOk, length};
 
 use pg_interval::Interval;
-use pg_messages::{PgList, PgStr};
+use pg_messages::{DataRow, PgList, PgStr};
 use pg_portal::{DataRowEncoder, FieldInfo};
-use pg_text::{CellError, FieldFormat, PgType, ToSql, ToSqlText};
+use pg_text::{FieldFormat, PgType, ToSql, ToSqlText};
 use std::alloc::{AllocError, Global};
 use std::sync::Arc;
 use std::test::Fail;
@@ -32,15 +32,25 @@ fn encoder(alloc: Global) -> Result<DataRowEncoder, AllocError> {
 }
 
 /// Appends a cell where a column is left, and tells whether it was.
-fn encode<T: ToSql + ToSqlText>(
-    encoder: &mut DataRowEncoder,
-    value: &T,
-) -> Result<bool, CellError> {
-    if encoder.columns_left() == 0 {
-        return Ok(false);
-    }
-    encoder.encode_field(value)?;
-    Ok(true)
+fn is_encoded<T: ToSql + ToSqlText>(rows: &mut DataRowEncoder, value: &T) -> bool {
+    rows.columns_left() > 0 && rows.encode_field(value).is_ok()
+}
+
+/// Appends a day and the same day that may be a null, and tells whether there was a column for both and for no third.
+fn are_days_encoded(rows: &mut DataRowEncoder) -> bool {
+    let day = Interval::new(0, 1, 0);
+    is_encoded(rows, &day) && is_encoded(rows, &Some(day)) && !is_encoded(rows, &day)
+}
+
+/// Appends two nulls.
+fn are_nulls_encoded(rows: &mut DataRowEncoder) -> bool {
+    let null: Option<Interval> = None;
+    is_encoded(rows, &null) && is_encoded(rows, &null)
+}
+
+/// Whether a row of two cells has this payload.
+fn is_row(row: &DataRow, payload: &[u8]) -> bool {
+    row.field_count == 2 && row.payload.as_slice() == payload
 }
 
 /// A binary cell of one day, and a text cell of it.
@@ -54,27 +64,18 @@ const NULLS: [u8; 8] = [255; 8];
 
 #[test]
 fn rows_of_two_columns(rt: HostRuntime) -> Result<(), Fail> {
-    let alloc = rt.alloc();
-    let mut rows = encoder(alloc)?;
-    let day = Interval::new(0, 1, 0);
-    assert!(rt; encode(&mut rows, &day)?);
-    assert!(rt; encode(&mut rows, &Some(day))?);
-    assert!(rt; !encode(&mut rows, &day)?);
+    let mut rows = encoder(rt.alloc())?;
+    assert!(rt; are_days_encoded(&mut rows));
     assert_eq!(rt; rows.cells(), 2);
-    let row = rows.take_row()?;
-    assert_eq!(rt; row.payload.as_slice(), DAY_AND_DAY.as_slice());
-    assert_eq!(rt; row.field_count, 2);
+    assert!(rt; is_row(&rows.take_row()?, &DAY_AND_DAY));
     assert_eq!(rt; (rows.cells(), rows.columns_left()), (0, 2));
     Ok(())
 }
 
 #[test]
 fn rows_of_nulls(rt: HostRuntime) -> Result<(), Fail> {
-    let alloc = rt.alloc();
-    let mut rows = encoder(alloc)?;
-    let null: Option<Interval> = None;
-    assert!(rt; encode(&mut rows, &null)?);
-    assert!(rt; encode(&mut rows, &null)?);
-    assert_eq!(rt; rows.finish()?.payload.as_slice(), NULLS.as_slice());
+    let mut rows = encoder(rt.alloc())?;
+    assert!(rt; are_nulls_encoded(&mut rows));
+    assert!(rt; is_row(&rows.finish()?, &NULLS));
     Ok(())
 }

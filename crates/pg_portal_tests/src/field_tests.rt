@@ -1,4 +1,4 @@
-//! Columns, tags and options: both ways, and copies.
+//! Columns and tags: both ways, and copies.
 
 use pg_messages::{FieldDescription, PgList, PgStr};
 use pg_portal::{FieldInfo, Format, Tag};
@@ -21,53 +21,109 @@ fn column(alloc: Global) -> Result<FieldInfo, AllocError> {
     Ok(field.with_type_size(16).with_type_modifier(5))
 }
 
+/// A column of no table.
+fn plain(alloc: Global) -> Result<FieldInfo, AllocError> {
+    let name = PgStr::copy_of(alloc, "a")?;
+    FieldInfo::new(alloc, name, None, None, PgType::Unknown, FieldFormat::Text)
+}
+
+/// Options with this interval style.
+fn options(alloc: Global, style: &str) -> Result<Arc<FormatOptions>, AllocError> {
+    let mut options = FormatOptions::new_default(alloc)?;
+    options.interval_style = PgStr::copy_of(alloc, style)?;
+    Ok(Arc::new(alloc, options)?)
+}
+
+/// The column of a table with this interval style.
+fn styled(alloc: Global, style: &str) -> Result<FieldInfo, AllocError> {
+    let options = options(alloc, style)?;
+    Ok(column(alloc)?.with_format_options(options))
+}
+
+/// Whether a description has this name, these places in a table, type, size and modifier, and format.
+fn is_told(
+    told: &FieldDescription,
+    name: &str,
+    place: (i32, i16),
+    numbers: (u32, i16, i32),
+    format_code: i16,
+) -> bool {
+    told.name.as_str() == name
+        && (told.table_id, told.column_id) == place
+        && (told.type_id, told.type_size, told.type_modifier) == numbers
+        && told.format_code == format_code
+}
+
+/// A column, as it is told and read.
+fn read_back(alloc: Global, field: &FieldInfo) -> Result<FieldInfo, AllocError> {
+    FieldInfo::from_description(alloc, field.to_description(alloc)?)
+}
+
+/// Whether a column is equal to its copy, and to what is read of what is told of it.
+fn is_read_back(alloc: Global, field: &FieldInfo) -> Result<(bool, bool), AllocError> {
+    let copied = *field == field.copy_of(alloc)?;
+    let read = *field == read_back(alloc, field)?;
+    Ok((copied, read))
+}
+
+/// What is told of a column of a type that isn't known, in a format that isn't.
+fn unknown(alloc: Global) -> Result<FieldDescription, AllocError> {
+    Ok(FieldDescription {
+        name: PgStr::copy_of(alloc, "a")?,
+        table_id: 1,
+        column_id: 2,
+        type_id: 4_000_000_000,
+        type_size: -1,
+        type_modifier: 3,
+        format_code: 2,
+    })
+}
+
+/// Whether a tag is equal to its copy, and has this text.
+fn is_tag(alloc: Global, tag: Tag, text: &str) -> Result<bool, AllocError> {
+    let copied = tag == tag.copy_of(alloc)?;
+    Ok(copied && tag.into_command_complete(alloc)?.tag.as_str() == text)
+}
+
+/// Whether individual codes are copied.
+fn are_codes_copied(alloc: Global) -> Result<bool, AllocError> {
+    let codes = Format::Individual(PgList::from_vec(Vec::from_slice(alloc, &[1, 0])?));
+    Ok(has_codes(&codes.copy_of(alloc)?, &[1, 0]))
+}
+
+/// Whether a format is of these codes, one each.
+fn has_codes(format: &Format, expected: &[i16]) -> bool {
+    match format {
+        Format::Individual(codes) => codes.as_slice() == expected,
+        _ => false,
+    }
+}
+
 #[test]
 fn a_column_is_told(rt: HostRuntime) -> Result<(), Fail> {
     let alloc = rt.alloc();
-    let told = column(alloc)?.to_description(alloc)?;
-    assert_eq!(rt; told.name.as_str(), "span");
-    assert_eq!(rt; (told.table_id, told.column_id), (7, 2));
-    assert_eq!(rt;
-        (told.type_id, told.type_size, told.type_modifier),
-        (1186, 16, 5)
-    );
-    assert_eq!(rt; told.format_code, 1);
-    assert!(rt; FieldInfo::from_description(alloc, told)? == column(alloc)?);
+    let field = column(alloc)?;
+    let told = field.to_description(alloc)?;
+    assert!(rt; is_told(&told, "span", (7, 2), (1186, 16, 5), 1));
+    assert_eq!(rt; is_read_back(alloc, &field)?, (true, true));
     Ok(())
 }
 
 #[test]
 fn a_plain_column_is_told(rt: HostRuntime) -> Result<(), Fail> {
     let alloc = rt.alloc();
-    let name = PgStr::copy_of(alloc, "a")?;
-    let field = FieldInfo::new(alloc, name, None, None, PgType::Unknown, FieldFormat::Text)?;
+    let field = plain(alloc)?;
     let told = field.to_description(alloc)?;
-    assert_eq!(rt; (told.table_id, told.column_id), (0, 0));
-    assert_eq!(rt;
-        (told.type_id, told.type_size, told.type_modifier),
-        (705, 0, -1)
-    );
-    let read = FieldInfo::from_description(alloc, told)?;
-    assert_eq!(rt; (read.table_id(), read.column_id()), (Some(0), Some(0)));
-    assert!(rt; read != field);
+    assert!(rt; is_told(&told, "a", (0, 0), (705, 0, -1), 0));
+    assert_eq!(rt; is_read_back(alloc, &field)?, (true, false));
     Ok(())
 }
 
 #[test]
 fn an_unknown_oid(rt: HostRuntime) -> Result<(), Fail> {
     let alloc = rt.alloc();
-    let read = FieldInfo::from_description(
-        alloc,
-        FieldDescription {
-            name: PgStr::copy_of(alloc, "a")?,
-            table_id: 1,
-            column_id: 2,
-            type_id: 4_000_000_000,
-            type_size: -1,
-            type_modifier: 3,
-            format_code: 2,
-        },
-    )?;
+    let read = FieldInfo::from_description(alloc, unknown(alloc)?)?;
+    assert_eq!(rt; (read.table_id(), read.column_id()), (Some(1), Some(2)));
     assert_eq!(rt; read.datatype(), PgType::Unknown);
     assert_eq!(rt; read.format(), FieldFormat::Text);
     Ok(())
@@ -77,48 +133,27 @@ fn an_unknown_oid(rt: HostRuntime) -> Result<(), Fail> {
 fn columns_are_compared(rt: HostRuntime) -> Result<(), Fail> {
     let alloc = rt.alloc();
     let field = column(alloc)?;
-    assert!(rt; field == field.copy_of(alloc)?);
-    assert!(rt; field == column(alloc)?);
     assert!(rt; field != column(alloc)?.with_type_modifier(6));
-    let mut options = FormatOptions::new_default(alloc)?;
-    let same = column(alloc)?.with_format_options(Arc::new(alloc, options.copy_of(alloc)?)?);
-    assert!(rt; field == same);
-    options.interval_style = PgStr::copy_of(alloc, "iso_8601")?;
-    assert!(rt; field != same.with_format_options(Arc::new(alloc, options)?));
+    assert!(rt; field == styled(alloc, "postgres")?);
+    assert!(rt; field != styled(alloc, "iso_8601")?);
     Ok(())
-}
-
-#[test]
-fn copies_are_equal(rt: HostRuntime) -> Result<(), Fail> {
-    let alloc = rt.alloc();
-    let options = FormatOptions::new_default(alloc)?;
-    assert!(rt; options == options.copy_of(alloc)?);
-    let tag = Tag::new(alloc, "INSERT")?.with_oid(3).with_rows(1);
-    assert!(rt; tag == tag.copy_of(alloc)?);
-    let codes = PgList::from_vec(Vec::from_slice(alloc, &[1, 0])?);
-    match Format::Individual(codes).copy_of(alloc)? {
-        Format::Individual(copy) => assert_eq!(rt; copy.as_slice(), [1, 0].as_slice()),
-        _ => assert!(rt; false),
-    }
-    assert!(rt; matches!(Format::default(), Format::UnifiedText));
-    Ok(())
-}
-
-/// The text of a tag of a command.
-fn text_of(tag: Tag, alloc: Global) -> Result<PgStr, AllocError> {
-    Ok(tag.into_command_complete(alloc)?.tag)
 }
 
 #[test]
 fn tags_have_texts(rt: HostRuntime) -> Result<(), Fail> {
     let alloc = rt.alloc();
     let insert = Tag::new(alloc, "INSERT")?.with_oid(0).with_rows(1);
-    assert_eq!(rt; text_of(insert, alloc)?.as_str(), "INSERT 0 1");
+    assert!(rt; is_tag(alloc, insert, "INSERT 0 1")?);
     let select = Tag::new(alloc, "SELECT")?.with_rows(3);
-    assert_eq!(rt; text_of(select, alloc)?.as_str(), "SELECT 3");
-    assert_eq!(rt;
-        text_of(Tag::new(alloc, "BEGIN")?.with_oid(4), alloc)?.as_str(),
-        "BEGIN"
-    );
+    assert!(rt; is_tag(alloc, select, "SELECT 3")?);
+    let begin = Tag::new(alloc, "BEGIN")?.with_oid(4);
+    assert!(rt; is_tag(alloc, begin, "BEGIN")?);
+    Ok(())
+}
+
+#[test]
+fn formats_are_copied(rt: HostRuntime) -> Result<(), Fail> {
+    assert!(rt; are_codes_copied(rt.alloc())?);
+    assert!(rt; matches!(Format::default(), Format::UnifiedText));
     Ok(())
 }

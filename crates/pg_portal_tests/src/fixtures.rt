@@ -5,13 +5,14 @@ ghost use Rattle.pg_portal.specs.Rows.{IsSendable};
 
 use pg_messages::{DataRow, PgBytes, PgList, PgStr};
 use pg_portal::{ListRows, PgWireError, Portal, QueryResponse, StoredStatement};
+use pg_text::CellError;
 use std::alloc::{AllocError, Global};
 use std::sync::Arc;
 
 /// Rows or errors.
 pub(crate) type Items = PgList<Result<DataRow, PgWireError>>;
 
-/// The statement of a query, without parameters.
+/// The statement `s1` of a query, without parameters.
 pub(crate) fn statement(alloc: Global) -> Result<Arc<StoredStatement<PgStr>>, AllocError> {
     let id = PgStr::copy_of(alloc, "s1")?;
     let query = PgStr::copy_of(alloc, "shifts")?;
@@ -30,21 +31,39 @@ pub(crate) fn push_row(alloc: Global, items: &mut Items, byte: u8) -> Result<(),
     }))
 }
 
-/// Appends the error of a canceled query.
+/// Appends an error.
 pub(crate) fn push_error(items: &mut Items) -> Result<(), AllocError>
     requires { AllByRecursion IsSendable items.old }
     ensures { AllByRecursion IsSendable items.new }
 {
-    items.push(Err(PgWireError::QueryCanceled))
+    items.push(Err(PgWireError::FailedToParseParameter(CellError::WrongType)))
 }
 
-/// A started portal of these items.
-pub(crate) fn started(alloc: Global, items: Items) -> Result<Portal<PgStr, ListRows>, AllocError>
+/// The cursor `p`, which wasn't started.
+pub(crate) fn cursor(alloc: Global) -> Result<Portal<PgStr, ListRows>, AllocError> {
+    let statement = statement(alloc)?;
+    Ok(Portal::new_cursor(alloc, PgStr::copy_of(alloc, "p")?, statement))
+}
+
+/// These items, without columns, under a tag of their own.
+fn response(alloc: Global, items: Items) -> Result<QueryResponse<ListRows>, AllocError>
     requires { AllByRecursion IsSendable items }
 {
+    let rows = ListRows::new(items);
     let columns = Arc::new(alloc, PgList::new(alloc))?;
-    let response = QueryResponse::new(alloc, columns, ListRows::new(items))?;
-    let mut portal = Portal::new_cursor(alloc, PgStr::copy_of(alloc, "p")?, statement(alloc)?);
+    QueryResponse::new(alloc, columns, rows)
+}
+
+/// Starts a portal with these items, under the tag `FETCH`.
+pub(crate) fn start(
+    alloc: Global,
+    portal: &mut Portal<PgStr, ListRows>,
+    items: Items,
+) -> Result<(), AllocError>
+    requires { AllByRecursion IsSendable items }
+{
+    let mut response = response(alloc, items)?;
+    response.set_command_tag(alloc, "FETCH")?;
     portal.start(response);
-    Ok(portal)
+    Ok(())
 }

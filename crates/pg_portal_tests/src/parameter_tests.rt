@@ -8,50 +8,93 @@ use pg_text::{CellError, PgType};
 use std::alloc::{AllocError, Global};
 use std::test::Fail;
 
-/// A portal with these format codes, and with a null and a parameter of these bytes.
+/// A Bind of the statement `s1`, without parameters.
+fn bind(alloc: Global) -> Result<Bind, AllocError> {
+    let portal_name = PgStr::copy_of(alloc, "")?;
+    let statement_name = PgStr::copy_of(alloc, "s1")?;
+    Ok(Bind {
+        portal_name,
+        statement_name,
+        parameter_format_codes: PgList::new(alloc),
+        parameters: PgList::new(alloc),
+        result_column_format_codes: PgList::new(alloc),
+    })
+}
+
+/// Appends these format codes.
+fn push_codes(codes: &mut PgList<i16>, some: &[i16]) -> Result<(), AllocError> {
+    for code in some {
+        codes.push(*code)?;
+    }
+    Ok(())
+}
+
+/// Appends a null, a parameter of these bytes, and a null.
+fn push_parameters(
+    alloc: Global,
+    parameters: &mut PgList<Option<PgBytes>>,
+    bytes: &[u8],
+) -> Result<(), AllocError> {
+    parameters.push(None)?;
+    parameters.push(Some(PgBytes::copy_of(alloc, bytes)?))?;
+    parameters.push(None)
+}
+
+/// A Bind with these format codes, and with a null, a parameter of these bytes, and a null.
+fn bind_with(alloc: Global, codes: &[i16], bytes: &[u8]) -> Result<Bind, AllocError> {
+    let mut bind = bind(alloc)?;
+    push_codes(&mut bind.parameter_format_codes, codes)?;
+    push_parameters(alloc, &mut bind.parameters, bytes)?;
+    Ok(bind)
+}
+
+/// The portal of such a Bind.
 fn portal_with(
     alloc: Global,
     codes: &[i16],
     bytes: &[u8],
 ) -> Result<Portal<PgStr, ListRows>, AllocError> {
-    let mut parameters = PgList::new(alloc);
-    parameters.push(None)?;
-    parameters.push(Some(PgBytes::copy_of(alloc, bytes)?))?;
-    let bind = Bind {
-        portal_name: PgStr::copy_of(alloc, "")?,
-        statement_name: PgStr::copy_of(alloc, "s1")?,
-        parameter_format_codes: PgList::from_vec(Vec::from_slice(alloc, codes)?),
-        parameters,
-        result_column_format_codes: PgList::new(alloc),
-    };
+    let bind = bind_with(alloc, codes, bytes)?;
     Portal::try_new(alloc, &bind, statement(alloc)?).map_err(|_| AllocError)
 }
 
+/// What a parameter tells, in a word.
+fn told(answer: &Result<Option<Interval>, PgWireError>) -> &'static str {
+    match answer {
+        Ok(Some(interval)) if *interval == Interval::new(0, 1, 0) => "a day",
+        Ok(None) => "null",
+        Err(PgWireError::InvalidRustTypeForParameter(name)) if name.as_str() == "int4" =>
+            "not int4",
+        Err(PgWireError::ParameterIndexOutOfBound(index)) => past(*index),
+        Err(PgWireError::FailedToParseParameter(CellError::ShortCell)) => "short",
+        Err(PgWireError::FailedToParseParameter(CellError::Parse(_))) => "shape",
+        _ => "other",
+    }
+}
+
+/// An index, in a word.
+fn past(index: usize) -> &'static str {
+    match index {
+        2 => "past 2",
+        3 => "past 3",
+        _ => "past another",
+    }
+}
+
 /// What the parameter at an index tells, in a word.
-fn told(
+fn parameter(
     portal: &Portal<PgStr, ListRows>,
     alloc: Global,
     idx: usize,
     pg_type: PgType,
-) -> Result<String, AllocError> {
-    let answer: Result<Option<Interval>, PgWireError> = portal.parameter(alloc, idx, pg_type);
-    match answer {
-        Ok(Some(interval)) => format!(in alloc;
-            "{} {} {}",
-            interval.months, interval.days, interval.microseconds
-        ),
-        Ok(None) => format!(in alloc; "null"),
-        Err(PgWireError::InvalidRustTypeForParameter(name)) => format!(in alloc;
-            "not {}",
-            name.as_str()
-        ),
-        Err(PgWireError::ParameterIndexOutOfBound(index)) => format!(in alloc; "past {index}"),
-        Err(PgWireError::FailedToParseParameter(CellError::ShortCell)) => format!(in alloc;
-            "short"
-        ),
-        Err(PgWireError::FailedToParseParameter(CellError::Parse(_))) => format!(in alloc; "shape"),
-        Err(_) => format!(in alloc; "other"),
-    }
+) -> &'static str {
+    told(&portal.parameter(alloc, idx, pg_type))
+}
+
+/// What the bytes tell as the second of three parameters with these format codes, in a word.
+fn second(alloc: Global, codes: &[i16], bytes: &[u8]) -> Result<&'static str, AllocError> {
+    let portal = portal_with(alloc, codes, bytes)?;
+    Ok(parameter(&portal, alloc, 1, PgType::Interval))
 }
 
 #[test]
@@ -61,11 +104,11 @@ fn binary_parameters(rt: HostRuntime) -> Result<(), Fail> {
     for (idx, pg_type, expected) in [
         (0, PgType::Interval, "null"),
         (1, PgType::Interval, "short"),
-        (2, PgType::Interval, "past 2"),
+        (3, PgType::Interval, "past 3"),
         (0, PgType::Int4, "not int4"),
-        (2, PgType::Int4, "not int4"),
+        (3, PgType::Int4, "not int4"),
     ] {
-        assert_eq!(rt; told(&portal, alloc, idx, pg_type)?.as_str(), expected);
+        assert_eq!(rt; parameter(&portal, alloc, idx, pg_type), expected);
     }
     Ok(())
 }
@@ -74,17 +117,13 @@ fn binary_parameters(rt: HostRuntime) -> Result<(), Fail> {
 fn text_parameters(rt: HostRuntime) -> Result<(), Fail> {
     let alloc = rt.alloc();
     for (codes, bytes, expected) in [
-        ([].as_slice(), b"1 day".as_slice(), "0 1 0"),
-        ([0].as_slice(), b"1 day".as_slice(), "0 1 0"),
-        ([1, 0].as_slice(), b"1 day".as_slice(), "0 1 0"),
+        ([].as_slice(), b"1 day".as_slice(), "a day"),
+        ([0].as_slice(), b"1 day".as_slice(), "a day"),
+        ([1, 0].as_slice(), b"1 day".as_slice(), "a day"),
         ([1, 0].as_slice(), b"day".as_slice(), "shape"),
         ([1].as_slice(), b"1 day".as_slice(), "short"),
     ] {
-        let portal = portal_with(alloc, codes, bytes)?;
-        assert_eq!(rt;
-            told(&portal, alloc, 1, PgType::Interval)?.as_str(),
-            expected
-        );
+        assert_eq!(rt; second(alloc, codes, bytes)?, expected);
     }
     Ok(())
 }
@@ -92,12 +131,8 @@ fn text_parameters(rt: HostRuntime) -> Result<(), Fail> {
 #[test]
 fn parameters_past_the_codes(rt: HostRuntime) -> Result<(), Fail> {
     let alloc = rt.alloc();
-    let mut portal = portal_with(alloc, &[0, 0], b"1 day")?;
-    portal.parameters.push(None)?;
-    assert_eq!(rt;
-        told(&portal, alloc, 2, PgType::Interval)?.as_str(),
-        "past 2"
-    );
+    let portal = portal_with(alloc, &[0, 0], b"1 day")?;
+    assert_eq!(rt; parameter(&portal, alloc, 2, PgType::Interval), "past 2");
     assert_eq!(rt; portal.parameter_len(), 3);
     Ok(())
 }

@@ -1,23 +1,19 @@
 //! The store in memory.
 
-use crate::fixtures::{started, statement};
-use pg_messages::{PgList, PgStr};
-use pg_portal::{ListRows, MemPortalStore, Portal, PortalStore};
+use crate::fixtures::{cursor, statement};
+use pg_messages::PgStr;
+use pg_portal::{ListRows, MemPortalStore, PortalStore};
 use std::alloc::{AllocError, Global};
 use std::test::Fail;
 
 type Store = MemPortalStore<PgStr, ListRows>;
 
-/// A store of the statement `s1` and the portals `p` and `c`, and of an empty statement and portal without a name.
-fn filled(alloc: Global) -> Result<Store, AllocError> {
-    let mut store = MemPortalStore::new(alloc);
+/// Puts the statement `s1` and the portal `p`, and an empty statement and portal without a name.
+fn fill(store: &mut Store, alloc: Global) -> Result<(), AllocError> {
     store.put_statement(alloc, statement(alloc)?)?;
     store.put_empty_statement(alloc, "")?;
-    store.put_portal(alloc, started(alloc, PgList::new(alloc))?)?;
-    let name = PgStr::copy_of(alloc, "c")?;
-    store.put_portal(alloc, Portal::new_cursor(alloc, name, statement(alloc)?))?;
-    store.put_empty_portal(alloc, "")?;
-    Ok(store)
+    store.put_portal(alloc, cursor(alloc)?)?;
+    store.put_empty_portal(alloc, "")
 }
 
 /// Whether a statement's entry is empty; None where there is none.
@@ -36,56 +32,34 @@ fn is_empty_portal(store: &Store, name: &str) -> Option<bool> {
     }
 }
 
-/// Whether a portal is lent, after its rows were fetched.
-fn is_lent(store: &mut Store, alloc: Global, name: &str) -> bool {
-    match store.portal_mut(name) {
-        Some(portal) => portal.fetch(alloc, 0).is_ok(),
-        None => false,
-    }
+/// Whether the statements are these, and no other.
+fn has_statements(store: &Store) -> bool {
+    is_empty_statement(store, "s1") == Some(false)
+        && is_empty_statement(store, "") == Some(true)
+        && is_empty_statement(store, "p").is_none()
+        && is_empty_statement(store, "S1").is_none()
+}
+
+/// Whether the portals are these, and no other.
+fn has_portals(store: &Store) -> bool {
+    is_empty_portal(store, "p") == Some(false)
+        && is_empty_portal(store, "") == Some(true)
+        && is_empty_portal(store, "s1").is_none()
+        && is_empty_portal(store, "P").is_none()
+}
+
+/// Whether there is no portal.
+fn has_no_portal(store: &Store) -> bool {
+    is_empty_portal(store, "p").is_none() && is_empty_portal(store, "").is_none()
 }
 
 #[test]
-fn entries_are_found(rt: HostRuntime) -> Result<(), Fail> {
-    let store = filled(rt.alloc())?;
-    for (name, statement, portal) in [
-        ("s1", Some(false), None),
-        ("p", None, Some(false)),
-        ("c", None, Some(false)),
-        ("", Some(true), Some(true)),
-        ("P", None, None),
-    ] {
-        assert_eq!(rt; is_empty_statement(&store, name), statement, "{name}");
-        assert_eq!(rt; is_empty_portal(&store, name), portal, "{name}");
-    }
-    Ok(())
-}
-
-#[test]
-fn portals_are_lent(rt: HostRuntime) -> Result<(), Fail> {
+fn portals_are_cleared(rt: HostRuntime) -> Result<(), Fail> {
     let alloc = rt.alloc();
-    let mut store = filled(alloc)?;
-    for (name, lent) in [
-        ("p", true),
-        ("p", true),
-        ("c", false),
-        ("", false),
-        ("s1", false),
-    ] {
-        assert_eq!(rt; is_lent(&mut store, alloc, name), lent, "{name}");
-    }
-    Ok(())
-}
-
-#[test]
-fn entries_are_removed(rt: HostRuntime) -> Result<(), Fail> {
-    let mut store = filled(rt.alloc())?;
-    store.rm_statement("s1");
-    store.rm_portal("c");
-    assert_eq!(rt; is_empty_statement(&store, "s1"), None);
-    assert_eq!(rt; is_empty_portal(&store, "c"), None);
-    assert_eq!(rt; is_empty_portal(&store, "p"), Some(false));
+    let mut store = MemPortalStore::new(alloc);
+    fill(&mut store, alloc)?;
+    assert!(rt; has_statements(&store) && has_portals(&store));
     store.clear_portals();
-    assert_eq!(rt; is_empty_portal(&store, "p"), None);
-    assert_eq!(rt; is_empty_statement(&store, ""), Some(true));
+    assert!(rt; has_statements(&store) && has_no_portal(&store));
     Ok(())
 }

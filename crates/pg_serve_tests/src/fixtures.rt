@@ -3,13 +3,12 @@
 ghost use Rattle.std.specs.Prelude.{List, ℕ, IfOk};
 ghost use Rattle.std.specs.List.{AllByRecursion};
 ghost use Rattle.pg_messages.specs.Frames.{IsFrame};
-ghost use Rattle.pg_portal.specs.Copying.{IsSendableCopy};
 ghost use Rattle.pg_portal.specs.Rows.{IsSendable};
 
 use bytes::BytesMut;
 use pg_messages::{
-    CopyData, DataRow, DecodeContext, PgBytes, PgList, PgWireFrontendMessage,
-    PgWireMessageServerCodec, ProtocolVersion,
+    DataRow, DecodeContext, PgBytes, PgList, PgWireFrontendMessage, PgWireMessageServerCodec,
+    ProtocolVersion,
 };
 use pg_portal::PgWireError;
 use pg_session::ScriptDesk;
@@ -80,16 +79,4 @@ pub(crate) fn push_row(alloc: Global, items: &mut Items) -> Result<(), AllocErro
         payload,
         field_count: 0,
     }))
-}
-
-/// Data of a COPY, or errors in their place.
-pub(crate) type CopyItems = PgList<Result<CopyData, PgWireError>>;
-
-/// Appends data of one byte.
-pub(crate) fn push_data(alloc: Global, items: &mut CopyItems, byte: u8) -> Result<(), AllocError>
-    requires { AllByRecursion IsSendableCopy items.old }
-    ensures { AllByRecursion IsSendableCopy items.new }
-{
-    let payload = PgBytes::copy_of(alloc, &[byte])?;
-    items.push(Ok(CopyData { payload }))
 }

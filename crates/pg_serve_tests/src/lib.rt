@@ -3,6 +3,8 @@
 #![tactic(auto)]
 
 #[cfg(test)]
+mod acceptor_tests;
+#[cfg(test)]
 mod fixtures;
 #[cfg(test)]
 mod held_tests;

@@ -2,37 +2,12 @@
 
 ghost use Rattle.std.specs.Prelude.{◌≤◌, IfOk};
 
-use pg_messages::{PgBytes, PgList};
-use pg_serve::{MemorySink, MemorySource, ReaderSource, WriterSink};
+use pg_messages::PgList;
+use pg_serve::{MemorySink, ReaderSource, WriterSink};
 use pg_session::{Sink, SinkError, Source};
 use std::io;
 use std::io::{Read, Write};
 use std::test::Fail;
-
-#[test]
-fn a_source_in_memory_cuts_and_fails(rt: HostRuntime) -> Result<(), Fail> {
-    let alloc = rt.alloc();
-    let mut pieces = PgList::new(alloc);
-    pieces.push(2)?;
-    pieces.push(1)?;
-    pieces.push(0)?;
-    let mut fails = PgList::new(alloc);
-    fails.push(1)?;
-    let mut source = MemorySource::new(PgBytes::copy_of(alloc, b"abcdefg")?, pieces, fails);
-    for (expected, front) in [
-        (Some(2), b"ab".as_slice()),
-        (None, b"".as_slice()),
-        (Some(1), b"c".as_slice()),
-        (Some(3), b"def".as_slice()),
-        (Some(1), b"g".as_slice()),
-        (Some(0), b"".as_slice()),
-    ] {
-        let mut into = [0u8; 3];
-        assert_eq!(rt; source.receive(&mut into).ok(), expected);
-        assert!(rt; into.starts_with(front));
-    }
-    Ok(())
-}
 
 #[test]
 fn a_sink_in_memory_takes_a_front_and_fails(rt: HostRuntime) -> Result<(), Fail> {

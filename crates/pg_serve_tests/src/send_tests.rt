@@ -1,22 +1,14 @@
-//! Replies that are sent one by one.
+//! Rows that are sent page by page.
 
 ghost use Rattle.std.specs.Prelude.{◌≡◌, [], codes, IfOk};
 ghost use Rattle.std.specs.Arc.{arc_value};
 ghost use Rattle.pg_portal.specs.Told.{stage_of};
 ghost use Rattle.pg_handlers.specs.Good.{HasGoodTag};
 
-use crate::fixtures::{push_data, push_row};
-use pg_messages::{ParseComplete, PgList, PgStr, PgWireBackendMessage, TransactionStatus};
-use pg_portal::{
-    CopyResponse, DescribePortalResponse, DescribeResponse, DescribeStatementResponse, ListCopy,
-    ListRows, Portal, PortalExecutionState, QueryResponse, StoredStatement, Tag,
-};
-use pg_session::{
-    Outbox, send_copy_both_response, send_copy_in_response, send_copy_out_response,
-    send_describe_response, send_execution_response, send_partial_query_response,
-    send_query_response, send_ready_for_query,
-};
-use pg_text::PgType;
+use crate::fixtures::push_row;
+use pg_messages::{PgList, PgStr};
+use pg_portal::{ListRows, Portal, PortalExecutionState, QueryResponse, StoredStatement};
+use pg_session::{Outbox, send_partial_query_response};
 use std::alloc::{AllocError, Global};
 use std::sync::Arc;
 use std::test::Fail;
@@ -65,77 +57,6 @@ fn a_cursor_tells_its_own_tag(rt: HostRuntime) -> Result<(), Fail> {
     assert_eq!(rt;
         outbox.as_slice(),
         b"D\0\0\0\x06\0\0s\0\0\0\x04D\0\0\0\x06\0\0C\0\0\0\x0cFETCH 1\0".as_slice()
-    );
-    Ok(())
-}
-
-#[test]
-fn a_binary_copy_ends_with_its_trailer(rt: HostRuntime) -> Result<(), Fail> {
-    let alloc = rt.alloc();
-    let mut items = PgList::new(alloc);
-    push_data(alloc, &mut items, 5)?;
-    push_data(alloc, &mut items, 6)?;
-    let mut outbox = Outbox::new(alloc)?;
-    let copy = CopyResponse::new(1, 2, ListCopy::new(items));
-    assert!(rt; send_copy_out_response(alloc, &mut outbox, copy).is_ok());
-    assert_eq!(rt;
-        outbox.as_slice(),
-        b"H\0\0\0\x0b\x01\0\x02\0\x01\0\x01d\0\0\0\x05\x05d\0\0\0\x05\x06d\0\0\0\x06\xff\xff\
-c\0\0\0\x04C\0\0\0\x0bCOPY 2\0"
-            .as_slice()
-    );
-    Ok(())
-}
-
-#[test]
-fn other_copies_have_no_trailer(rt: HostRuntime) -> Result<(), Fail> {
-    let alloc = rt.alloc();
-    let mut items = PgList::new(alloc);
-    push_data(alloc, &mut items, 7)?;
-    let mut outbox = Outbox::new(alloc)?;
-    let copy = CopyResponse::new(0, 1, ListCopy::new(items));
-    send_copy_in_response(alloc, &mut outbox, &copy)?;
-    assert!(rt; send_copy_both_response(alloc, &mut outbox, copy).is_ok());
-    assert_eq!(rt;
-        outbox.as_slice(),
-        b"G\0\0\0\x09\0\0\x01\0\0W\0\0\0\x09\0\0\x01\0\0d\0\0\0\x05\x07\
-c\0\0\0\x04C\0\0\0\x0bCOPY 1\0"
-            .as_slice()
-    );
-    Ok(())
-}
-
-#[test]
-fn rows_and_commands(rt: HostRuntime) -> Result<(), Fail> {
-    let alloc = rt.alloc();
-    let mut outbox = Outbox::new(alloc)?;
-    outbox.push(&PgWireBackendMessage::ParseComplete(ParseComplete {}))?;
-    assert!(rt; send_query_response(alloc, &mut outbox, rows(alloc)?, true).is_ok());
-    let tag = Tag::new(alloc, "INSERT")?.with_oid(0).with_rows(1);
-    send_execution_response(alloc, &mut outbox, tag)?;
-    send_ready_for_query(&mut outbox, TransactionStatus::Transaction)?;
-    assert_eq!(rt;
-        outbox.as_slice(),
-        b"1\0\0\0\x04T\0\0\0\x06\0\0D\0\0\0\x06\0\0D\0\0\0\x06\0\0C\0\0\0\x0dSELECT 2\0\
-C\0\0\0\x0fINSERT 0 1\0Z\0\0\0\x05T"
-            .as_slice()
-    );
-    Ok(())
-}
-
-#[test]
-fn descriptions(rt: HostRuntime) -> Result<(), Fail> {
-    let alloc = rt.alloc();
-    let mut types = PgList::new(alloc);
-    types.push(PgType::Unknown)?;
-    let one = DescribeStatementResponse::new(types, PgList::new(alloc));
-    let none = DescribePortalResponse::no_data(alloc);
-    let mut outbox = Outbox::new(alloc)?;
-    send_describe_response(alloc, &mut outbox, &one)?;
-    send_describe_response(alloc, &mut outbox, &none)?;
-    assert_eq!(rt;
-        outbox.as_slice(),
-        b"t\0\0\0\x0a\0\x01\0\0\x02\xc1T\0\0\0\x06\0\0n\0\0\0\x04".as_slice()
     );
     Ok(())
 }

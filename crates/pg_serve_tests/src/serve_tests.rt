@@ -1,11 +1,10 @@
 //! Clients that are served.
 
 use crate::fixtures::{STARTED, STARTUP, desk, joined};
-use pg_handlers::NoopHandler;
 use pg_messages::{PgBytes, PgList};
 use pg_portal::MemPortalStore;
 use pg_serve::{MemorySink, MemorySource, serve_connection};
-use pg_session::{EndKind, PgWireServerHandlers, Sink, SinkError, Source, SourceFailed};
+use pg_session::{EndKind, Sink, SinkError, Source, SourceFailed};
 use sample_handlers::SampleHandler;
 use std::alloc::{AllocError, Global};
 use std::cell::Cell;
@@ -99,57 +98,5 @@ fn replies_are_prompt(rt: HostRuntime) -> Result<(), Fail> {
     assert_eq!(rt; answer, Ok(EndKind::Terminate));
     let expected = joined(alloc, &[STARTED, PAIR])?;
     assert_eq!(rt; sink.sink.bytes(), expected.as_slice());
-    Ok(())
-}
-
-/// Handlers that implement nothing.
-#[derive(Drop)]
-struct NoHandlers {
-    noop: NoopHandler,
-}
-
-impl PgWireServerHandlers for NoHandlers {
-    type Simple = NoopHandler;
-
-    type Extended = NoopHandler;
-
-    type Copying = NoopHandler;
-
-    ghost simple = { λ handlers. handlers.noop };
-
-    ghost extended = { λ handlers. handlers.noop };
-
-    ghost copying = { λ handlers. handlers.noop };
-
-    fn simple_query_handler(&self) -> &NoopHandler {
-        &self.noop
-    }
-
-    fn extended_query_handler(&self) -> &NoopHandler {
-        &self.noop
-    }
-
-    fn copy_handler(&self) -> &NoopHandler {
-        &self.noop
-    }
-}
-
-/// FATAL 08P01 `This feature is not implemented.`
-const NOT_IMPLEMENTED: &[u8] =
-    b"E\0\0\0\x3cSFATAL\0VFATAL\0C08P01\0MThis feature is not implemented.\0\0";
-
-#[test]
-fn what_is_not_implemented_is_fatal(rt: HostRuntime) -> Result<(), Fail> {
-    let alloc = rt.alloc();
-    let client = joined(alloc, &[STARTUP, b"Q\0\0\0\x09pair\0"])?;
-    let mut source = source(alloc, client)?;
-    let mut sink = MemorySink::new(alloc, PgList::new(alloc));
-    let handlers = Arc::new(alloc, NoHandlers { noop: NoopHandler })?;
-    let store = MemPortalStore::new(alloc);
-    let mut desk = desk(alloc);
-    let answer = serve_connection(alloc, handlers, store, &mut desk, &mut source, &mut sink, 9);
-    assert_eq!(rt; answer, Ok(EndKind::Fatal));
-    let expected = joined(alloc, &[STARTED, NOT_IMPLEMENTED])?;
-    assert_eq!(rt; sink.bytes(), expected.as_slice());
     Ok(())
 }

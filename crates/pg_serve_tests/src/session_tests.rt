@@ -2,6 +2,7 @@
 
 ghost use Rattle.std.specs.Prelude.{◌≡◌, true, IfOk};
 ghost use Rattle.std.specs.FinMap as fin;
+ghost use Rattle.pg_portal.specs.Maps.{no_maps};
 ghost use Rattle.pg_portal.specs.Errors.{info_of};
 ghost use Rattle.pg_portal.specs.Rows.{IsTellable};
 ghost use Rattle.pg_handlers.specs.Errors.{is_fatal};
@@ -78,9 +79,8 @@ fn awaiting_sync<St: PortalStore<Statement = SampleStatement>>(
     alloc: Global,
     store: St,
 ) -> Result<Client<St>, AllocError>
-    requires statements { St.statements store ≡ fin.empty }
-    requires portals { St.portals store ≡ fin.empty }
-    ensures { IfOk result (λ client. IsGoodState told_parser (state_of St.statements St.portals client)) }
+    requires empty { St.maps store ≡ no_maps }
+    ensures { IfOk result (λ client. IsGoodState told_parser (state_of St.maps client)) }
 {
     let info = ClientInfo {
         pid: 7,

@@ -1,4 +1,5 @@
 use pg_cancel::RegisterError;
+use relation_server::TableError;
 use std::alloc::{AllocError, AllocFailed};
 
 /// Why a row could not be judged.
@@ -27,6 +28,15 @@ impl<'t> From<RegisterError> for Fault<'t> {
         match error {
             RegisterError::NoMemory => Fault::NoMemory,
             RegisterError::PidTaken(_) => Fault::Line("a pid that is live already"),
+        }
+    }
+}
+
+impl<'t> From<TableError> for Fault<'t> {
+    fn from(error: TableError) -> Fault<'t> {
+        match error {
+            TableError::NoMemory => Fault::NoMemory,
+            _ => Fault::Line("a relation that is refused"),
         }
     }
 }

@@ -3,12 +3,13 @@
 use crate::fault::Fault;
 
 /// The words that lines begin with.
-const WORDS: [&str; 21] = [
+const WORDS: [&str; 24] = [
     "row",
     "define",
     "use",
     "live",
     "words",
+    "session",
     "file",
     "file_reads",
     "file_fails",
@@ -24,7 +25,9 @@ const WORDS: [&str; 21] = [
     "out",
     "out_text",
     "note",
-    "history",
+    "calls",
+    "free",
+    "taken",
 ];
 
 /// The name of a block that begins with this word, or None where it is no such block.

@@ -7,6 +7,7 @@ mod command;
 mod fault;
 mod lines;
 mod place;
+mod sessions;
 mod sink;
 mod source;
 mod verdict;
@@ -14,7 +15,8 @@ mod verdict;
 use crate::fault::Fault;
 use crate::lines::{Lines, name_of, told_by, unknown_line};
 use crate::place::Place;
-use crate::verdict::{command_difference, history_difference};
+use crate::sessions::sessions_difference;
+use crate::verdict::{command_difference, registry_difference};
 use std::alloc::Global;
 use std::io;
 use std::sync::Wait;
@@ -29,6 +31,10 @@ fn row_difference<'t, R: Wait>(
     if let Some(line) = unknown_line(text, block) {
         return Err(Fault::Line(line));
     }
+    let lines = Lines { text, own: block };
+    if let Some(word) = lines.told("session") {
+        return sessions_difference(rt, alloc, word, lines);
+    }
     let mut place = Place::new(alloc)?;
     for line in block.lines() {
         if let Some(pid) = told_by(line, "live") {
@@ -42,7 +48,7 @@ fn row_difference<'t, R: Wait>(
             return Ok(Some(difference));
         }
     }
-    history_difference(rt, alloc, place, Lines { text, own: block })
+    registry_difference(rt, alloc, &mut place, lines)
 }
 
 /// Prints the line of a row, and answers whether all was as expected.

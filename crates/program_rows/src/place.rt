@@ -3,10 +3,11 @@
 ghost use Rattle.std.specs.Prelude.{◌≡◌};
 
 use crate::fault::Fault;
-use pg_cancel::{ConnectionManager, Door, Entry, RegistryAnswer, RegistryCall};
+use crate::sessions::{Client, Ends};
+use pg_cancel::{ConnectionManager, Door, RegisterError};
 use pg_messages::PgStr;
 use pg_session::{Sink, Source};
-use relation_server::run;
+use relation_server::{RelationTable, run};
 use std::alloc::{AllocError, Global};
 use std::sync::Wait;
 
@@ -34,6 +35,21 @@ impl Place {
         Ok(())
     }
 
+    /// Serves two clients in turn through one connection of the pid 7 and the key 01020304.
+    pub fn serve_both<R: Wait>(
+        &mut self,
+        rt: &R,
+        alloc: Global,
+        table: &RelationTable,
+        first: &mut Client,
+        second: &mut Client,
+    ) -> Result<Ends, RegisterError> {
+        let mut handle = self.manager.register(rt, &mut self.door, 7, [1, 2, 3, 4])?;
+        let one = first.serve(rt, alloc, &self.manager, &mut handle, table);
+        let other = second.serve(rt, alloc, &self.manager, &mut handle, table);
+        Ok((one, other))
+    }
+
     /// Runs the words, and answers the status, and whether there is a note.
     pub fn run<R: Wait, F: Source, S: Source, K: Sink, E: Sink>(
         &mut self,
@@ -59,40 +75,21 @@ impl Place {
         (status, note.is_some())
     }
 
-    /// The calls of the registry, with commas between them.
-    pub fn history<R: Wait>(self, rt: &R, alloc: Global) -> Result<String, AllocError> {
-        let Place { manager, door } = self;
-        let registry = manager.close(rt, door);
-        let mut told = String::new(alloc);
-        for entry in registry.history() {
-            if !told.is_empty() {
-                told.push_str(", ")?;
-            }
-            push_entry(&mut told, entry)?;
+    /// How many calls the registry got so far, which is the number of a registration more, under the pid 0.
+    pub fn calls<R: Wait>(&mut self, rt: &R) -> Result<u64, RegisterError> {
+        let handle = self.manager.register(rt, &mut self.door, 0, [0; 4])?;
+        Ok(handle.number())
+    }
+
+    /// Whether somebody is registered under a pid. It is taken then in any case.
+    pub fn is_taken<'t, R: Wait>(&mut self, rt: &R, digits: &'t str) -> Result<bool, Fault<'t>> {
+        let Ok(pid) = digits.parse::<i32>() else {
+            return Err(Fault::Line(digits));
+        };
+        match self.manager.register(rt, &mut self.door, pid, [0; 4]) {
+            Ok(_) => Ok(false),
+            Err(RegisterError::PidTaken(_)) => Ok(true),
+            Err(RegisterError::NoMemory) => Err(Fault::NoMemory),
         }
-        Ok(told)
-    }
-}
-
-/// Appends a call: its name, the number of its registration, or of a Register the pid, and what was answered.
-fn push_entry(told: &mut String, entry: &Entry) -> Result<(), AllocError> {
-    let number = entry.number;
-    let answer = answer_word(&entry.answer);
-    match &entry.call {
-        RegistryCall::Register(pid, _) => write!(told, "register {pid}{answer}"),
-        RegistryCall::Start => write!(told, "start {number}"),
-        RegistryCall::Ask => write!(told, "ask {number}{answer}"),
-        RegistryCall::Cancel(pid, _) => write!(told, "cancel {number} {pid}{answer}"),
-        RegistryCall::Unregister => write!(told, "unregister {number}"),
-    }
-}
-
-/// The word for an answer.
-fn answer_word(answer: &RegistryAnswer) -> &'static str {
-    match answer {
-        RegistryAnswer::Registered | RegistryAnswer::Done => "",
-        RegistryAnswer::Taken(_) => " taken",
-        RegistryAnswer::Yes => " yes",
-        RegistryAnswer::No => " no",
     }
 }

@@ -78,16 +78,37 @@ fn common_len(one: &[u8], other: &[u8]) -> usize {
     len
 }
 
-/// What the registry's calls are, where the lines expect others.
-pub fn history_difference<'t, R: Wait>(
+/// What the registry has got otherwise than the lines expect, if anything is.
+pub fn registry_difference<'t, R: Wait>(
     rt: &R,
     alloc: Global,
-    place: Place,
+    place: &mut Place,
     lines: Lines<'t>,
 ) -> Result<Option<String>, Fault<'t>> {
-    let history = place.history(rt, alloc)?;
-    match lines.told("history") {
-        Some(told) if told != history.as_str() => Ok(Some(history)),
-        _ => Ok(None),
+    let calls = place.calls(rt)?;
+    if lines.number("calls")?.is_some_and(|told| told != calls) {
+        return Ok(Some(format!(in alloc; "{calls} calls")?));
     }
+    if let Some(pid) = pid_that_is(rt, place, lines.told("free").unwrap_or(""), true)? {
+        return Ok(Some(format!(in alloc; "the pid {pid} is taken")?));
+    }
+    if let Some(pid) = pid_that_is(rt, place, lines.told("taken").unwrap_or(""), false)? {
+        return Ok(Some(format!(in alloc; "the pid {pid} is free")?));
+    }
+    Ok(None)
+}
+
+/// The first of the pids that is taken, or that is free.
+fn pid_that_is<'t, R: Wait>(
+    rt: &R,
+    place: &mut Place,
+    pids: &'t str,
+    taken: bool,
+) -> Result<Option<&'t str>, Fault<'t>> {
+    for pid in pids.split(' ') {
+        if !pid.is_empty() && place.is_taken(rt, pid)? == taken {
+            return Ok(Some(pid));
+        }
+    }
+    Ok(None)
 }

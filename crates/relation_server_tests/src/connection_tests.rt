@@ -1,7 +1,7 @@
 //! A client served through the shared registry.
 
 use crate::clients::{FIRST_PATH, FIRST_REPLIES, KEY, source_of};
-use pg_cancel::{ConnectionManager, Entry, RegistryAnswer, RegistryCall};
+use pg_cancel::ConnectionManager;
 use pg_messages::PgList;
 use pg_serve::MemorySink;
 use pg_session::EndKind;
@@ -9,8 +9,8 @@ use relation_server::{built_in_table, serve_relations};
 use std::process::Abort;
 use std::test::Fail;
 
-/// A client that binds all rows of `shifts` as binary and reads them is answered, and its one query is started in the
-/// registry.
+/// A client that binds all rows of `shifts` as binary and reads them is answered. Its one query is started in the registry:
+/// that is one call behind its registration, and what a cancel by its pid and key then cancels.
 #[test]
 fn first_path_through_the_registry(rt: HostRuntime) -> Result<(), Fail> {
     let alloc = rt.alloc();
@@ -33,18 +33,11 @@ fn first_path_through_the_registry(rt: HostRuntime) -> Result<(), Fail> {
     );
     assert_eq!(rt; answer, Ok(EndKind::Terminate));
     assert_eq!(rt; sink.bytes(), FIRST_REPLIES);
-    drop(handle);
-    let registry = manager.close(&rt, door);
-    assert!(rt; is_registered_and_started(registry.history()));
-    Ok(())
-}
-
-/// Whether these are a registration under the pid 7 and one start.
-fn is_registered_and_started(entries: &[Entry]) -> bool {
-    let [registered, started] = entries else {
-        return false;
+    let Ok(mut other) = manager.register(&rt, &mut door, 8, KEY) else {
+        panic!(rt; "a second registration")
     };
-    registered.call == RegistryCall::Register(7, KEY)
-        && registered.answer == RegistryAnswer::Registered
-        && started.call == RegistryCall::Start
+    assert_eq!(rt; other.number(), 2);
+    assert!(rt; manager.cancel(&rt, &mut other, 7, KEY)?);
+    assert!(rt; manager.ask(&rt, &mut handle)?);
+    Ok(())
 }

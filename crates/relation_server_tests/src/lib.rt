@@ -7,14 +7,18 @@ mod examples;
 pub use examples::first_path_is_core;
 
 #[cfg(test)]
+mod cancel_tests;
+#[cfg(test)]
 mod clients;
 #[cfg(test)]
 mod connection_tests;
 #[cfg(test)]
+mod job_tests;
+#[cfg(test)]
 mod listening_tests;
 #[cfg(test)]
-mod run_tests;
-#[cfg(test)]
 mod socket_tests;
+#[cfg(test)]
+mod spawner_tests;
 #[cfg(test)]
 mod tests;

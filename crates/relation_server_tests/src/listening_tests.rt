@@ -1,18 +1,15 @@
 //! Connections are taken in from a list, and their jobs are kept.
 
-ghost use Rattle.std.specs.Prelude.{◌≡◌, ◌<◌, ◌^◌};
+ghost use Rattle.std.specs.Prelude.{◌≡◌, ◌<◌, ◌^◌, IfOk};
 ghost use Rattle.std.specs.Arc.{arc_value};
 
 use crate::clients::{KEY, source_of};
-use pg_cancel::{ConnectionHandle, ConnectionManager, Door, RegisterError};
+use pg_cancel::{ConnectionHandle, ConnectionManager, Door};
 use pg_messages::{PgBytes, PgList, PgStr};
 use pg_serve::{AcceptFailed, Acceptor, KeySource, MemorySink, MemorySource, SpawnFailed, Spawner};
 use pg_session::{Sink, Source};
-use relation_server::{
-    ConnectionJob, ListenError, RelationTable, built_in_table, listen, run_listen,
-};
+use relation_server::{ConnectionJob, ListenError, built_in_table, listen, run_listen};
 use std::alloc::{AllocError, Global};
-use std::process::Abort;
 use std::sync::{Arc, Wait};
 use std::test::Fail;
 
@@ -128,27 +125,23 @@ fn key_of(number: u8) -> [u8; 4] {
 /// The number of a call that is never made.
 const NEVER: u64 = 1000;
 
-/// Listens for three connections, each with 55 turns.
+/// Listens for three connections, of which the second can't be accepted, each with 55 turns.
 fn listen_for_three<R: Wait>(
     rt: &R,
-    acceptor: &mut Silent,
+    alloc: Global,
     spawner: &mut Keeping<MemorySource, MemorySink>,
     manager: &Arc<ConnectionManager>,
     door: &mut Door,
-    table: RelationTable,
-) -> Result<u64, ListenError>
+) -> Result<Result<u64, ListenError>, Fail>
     requires issued { door.old.issuer ≡ arc_value manager.now }
-    requires accepted { acceptor.old.accepted < 2 ^ 63 }
     requires started { spawner.old.started < 2 ^ 63 }
     ensures issued { door.new.issuer ≡ door.old.issuer }
 {
-    let Ok(table) = Arc::new(acceptor.alloc, table) else {
-        return Err(ListenError::NoMemory);
-    };
+    let table = Arc::new(alloc, built_in_table(alloc)?)?;
     let manager = Arc::try_clone(manager)?;
-    listen(
+    Ok(listen(
         rt,
-        acceptor,
+        &mut Silent::new(alloc, 1),
         spawner,
         &mut Keys { last: 0 },
         manager,
@@ -156,30 +149,17 @@ fn listen_for_three<R: Wait>(
         table,
         55,
         Some(3),
-    )
+    ))
 }
 
-/// Three connections are taken in, each under its pid and its key.
-#[test]
-fn three_connections_are_taken_in(rt: HostRuntime) -> Result<(), Fail> {
-    let alloc = rt.alloc();
-    let (manager, mut door) = ConnectionManager::new(alloc)?;
-    let manager = Arc::new(alloc, manager)?;
-    let mut acceptor = Silent::new(alloc, NEVER);
-    let mut spawner = Keeping::new(alloc, NEVER);
-    let table = built_in_table(alloc)?;
-    let answer = listen_for_three(&rt, &mut acceptor, &mut spawner, &manager, &mut door, table);
-    assert_eq!(rt; answer, Ok(3));
-    assert_eq!(rt; acceptor.accepted, 3);
-    assert_eq!(rt; spawner.jobs.len(), 3);
-    let mut number = 0u8;
-    for job in &spawner.jobs {
-        number = number.wrapping_add(1);
-        assert_eq!(rt; job.handle.pid(), i32::from(number));
-        assert_eq!(rt; job.handle.key(), key_of(number));
-        assert!(rt; job.sink.bytes().is_empty());
-    }
-    Ok(())
+/// Whether a job is that of the first connection, and has what it was given.
+fn is_first_job(job: &ConnectionJob<MemorySource, MemorySink>) -> bool {
+    job.handle.pid() == 1
+        && job.handle.key() == key_of(1)
+        && job.turn_limit == 55
+        && job.relations.find("shifts") == Some(0)
+        && job.relations.relations().len() == 4
+        && job.sink.bytes().is_empty()
 }
 
 /// A job has what it was given, and its registry is the given one: a cancel through that is heard.
@@ -188,20 +168,15 @@ fn a_failed_accept_leaves_one_job(rt: HostRuntime) -> Result<(), Fail> {
     let alloc = rt.alloc();
     let (manager, mut door) = ConnectionManager::new(alloc)?;
     let manager = Arc::new(alloc, manager)?;
-    let mut acceptor = Silent::new(alloc, 1);
     let mut spawner = Keeping::new(alloc, NEVER);
-    let table = built_in_table(alloc)?;
-    let answer = listen_for_three(&rt, &mut acceptor, &mut spawner, &manager, &mut door, table);
-    assert_eq!(rt; answer, Err(ListenError::AcceptFault));
+    let answer = listen_for_three(&rt, alloc, &mut spawner, &manager, &mut door)?;
+    assert!(rt; answer == Err(ListenError::AcceptFault) && spawner.jobs.len() == 1);
     let Some(job) = spawner.jobs.pop() else {
-        panic!(rt; "one job")
+        return Ok(());
     };
-    assert!(rt; spawner.jobs.is_empty());
-    assert!(rt; job.handle.pid() == 1 && job.handle.key() == key_of(1) && job.turn_limit == 55);
-    assert_eq!(rt; job.relations.find("shifts"), Some(0));
-    assert_eq!(rt; job.relations.relations().len(), 4);
+    assert!(rt; is_first_job(&job));
     let Ok(other) = manager.register(&rt, &mut door, 9, KEY) else {
-        panic!(rt; "a second registration")
+        return Err(Fail::from("no second registration"));
     };
     assert!(rt; is_heard(&rt, job, &manager, other)?);
     Ok(())
@@ -230,39 +205,6 @@ fn is_heard<R: Wait>(
     Ok(is_made && theirs.ask(rt, &mut handle)?)
 }
 
-/// A job that can't be started is dropped, and its registration stays.
-#[test]
-fn a_failed_start_leaves_a_registration(rt: HostRuntime) -> Result<(), Fail> {
-    let alloc = rt.alloc();
-    let (manager, mut door) = ConnectionManager::new(alloc)?;
-    let manager = Arc::new(alloc, manager)?;
-    let mut acceptor = Silent::new(alloc, NEVER);
-    let mut spawner = Keeping::new(alloc, 0);
-    let table = built_in_table(alloc)?;
-    let answer = listen_for_three(&rt, &mut acceptor, &mut spawner, &manager, &mut door, table);
-    assert_eq!(rt; answer, Err(ListenError::SpawnFault));
-    let again = manager.register(&rt, &mut door, 1, KEY);
-    assert!(rt; matches!(again, Err(RegisterError::PidTaken(0))));
-    Ok(())
-}
-
-/// A pid that is taken ends it.
-#[test]
-fn a_taken_pid_is_told(rt: HostRuntime) -> Result<(), Fail> {
-    let alloc = rt.alloc();
-    let (manager, mut door) = ConnectionManager::new(alloc)?;
-    let manager = Arc::new(alloc, manager)?;
-    let Ok(_first) = manager.register(&rt, &mut door, 1, KEY) else {
-        panic!(rt; "a first registration")
-    };
-    let mut acceptor = Silent::new(alloc, NEVER);
-    let mut spawner = Keeping::new(alloc, NEVER);
-    let table = built_in_table(alloc)?;
-    let answer = listen_for_three(&rt, &mut acceptor, &mut spawner, &manager, &mut door, table);
-    assert_eq!(rt; answer, Err(ListenError::PidTaken(0)));
-    Ok(())
-}
-
 /// What the program is given: its words, the relation file, who has which pid before, and the calls that fail.
 #[derive(Clone, Copy)]
 struct Given {
@@ -274,22 +216,13 @@ struct Given {
     start_fails_at: u64,
 }
 
-/// What comes of it: the status, the line, and how many connections were accepted and how many jobs started.
-#[derive(Drop)]
-struct Told {
-    status: u8,
-    line: MemorySink,
-    accepted: u64,
-    started: usize,
-    good: bool,
-}
-
 /// Whether a job has the program's turns, and serves the one relation of the file, of one row.
 fn is_good_job(job: &ConnectionJob<MemorySource, MemorySink>) -> bool {
     let [relation] = job.relations.relations() else {
         return false;
     };
-    job.turn_limit == 1_000_000_000
+    job.sink.bytes().is_empty()
+        && job.turn_limit == 1_000_000_000
         && relation.name.as_str() == "shifts"
         && relation.rows.len() == 1
 }
@@ -326,37 +259,89 @@ fn file_of(alloc: Global, given: &Given) -> Result<MemorySource, AllocError> {
     Ok(MemorySource::new(bytes, PgList::new(alloc), fails))
 }
 
-/// Runs the program that listens.
-fn answer_to<R: Wait>(rt: &R, alloc: Global, given: &Given) -> Result<Told, Fail> {
+/// What the program works with.
+#[derive(Drop)]
+struct Stage {
+    words: PgList<PgStr>,
+    file: MemorySource,
+    acceptor: Silent,
+    spawner: Keeping<MemorySource, MemorySink>,
+    line: MemorySink,
+}
+
+impl Stage {
+    fn new(alloc: Global, given: &Given) -> Result<Stage, AllocError>
+        ensures accepted { IfOk result (λ stage. stage.acceptor.accepted ≡ 0) }
+        ensures started { IfOk result (λ stage. stage.spawner.started ≡ 0) }
+    {
+        let words = words_of(alloc, given.words)?;
+        let file = file_of(alloc, given)?;
+        Ok(Stage {
+            words,
+            file,
+            acceptor: Silent::new(alloc, given.accept_fails_at),
+            spawner: Keeping::new(alloc, given.start_fails_at),
+            line: MemorySink::new(alloc, PgList::new(alloc)),
+        })
+    }
+
+    /// Runs the program that listens, and answers its status.
+    fn run<R: Wait>(
+        &mut self,
+        rt: &R,
+        alloc: Global,
+        manager: Arc<ConnectionManager>,
+        door: &mut Door,
+    ) -> u8
+        requires issued { door.old.issuer ≡ arc_value manager }
+        requires accepted { self.old.acceptor.accepted ≡ 0 }
+        requires started { self.old.spawner.started ≡ 0 }
+    {
+        run_listen(
+            rt,
+            alloc,
+            self.words.as_slice(),
+            manager,
+            door,
+            &mut self.file,
+            &mut self.acceptor,
+            &mut self.spawner,
+            &mut Keys { last: 0 },
+            &mut self.line,
+        )
+    }
+}
+
+/// The status of the program that listens, where somebody has the given pid.
+fn status_of<R: Wait>(rt: &R, alloc: Global, given: &Given, stage: &mut Stage) -> Result<u8, Fail>
+    requires accepted { stage.old.acceptor.accepted ≡ 0 }
+    requires started { stage.old.spawner.started ≡ 0 }
+{
     let (manager, mut door) = ConnectionManager::new(alloc)?;
     let Ok(_other) = manager.register(rt, &mut door, given.taken, KEY) else {
-        return Err(AllocError.into());
+        return Err(Fail::from("no first registration"));
     };
     let manager = Arc::new(alloc, manager)?;
-    let words = words_of(alloc, given.words)?;
-    let mut file = file_of(alloc, given)?;
-    let mut acceptor = Silent::new(alloc, given.accept_fails_at);
-    let mut spawner = Keeping::new(alloc, given.start_fails_at);
-    let mut line = MemorySink::new(alloc, PgList::new(alloc));
-    let status = run_listen(
-        rt,
-        alloc,
-        words.as_slice(),
-        manager,
-        &mut door,
-        &mut file,
-        &mut acceptor,
-        &mut spawner,
-        &mut Keys { last: 0 },
-        &mut line,
-    );
-    Ok(Told {
-        status,
-        line,
-        accepted: acceptor.accepted,
-        started: spawner.jobs.len(),
-        good: are_good_jobs(spawner.jobs.as_slice()),
-    })
+    Ok(stage.run(rt, alloc, manager, &mut door))
+}
+
+/// Whether the program answers so: the status, the line, and how many connections were accepted and good jobs started.
+fn is_answered<R: Wait>(
+    rt: &R,
+    alloc: Global,
+    given: &Given,
+    told: (u8, &str, u64, usize),
+) -> Result<bool, Fail> {
+    let (status, line, accepted, started) = told;
+    let mut stage = Stage::new(alloc, given)?;
+    let answer = status_of(rt, alloc, given, &mut stage)?;
+    Ok(
+        answer == status
+            && stage.line.bytes() == line.as_bytes()
+            && stage.acceptor.accepted == accepted
+            && stage.spawner.jobs.len() == started
+            && are_good_jobs(stage.spawner.jobs.as_slice()),
+    )
 }
 
 /// Words over a file of one relation, with somebody under this pid before, and the calls that fail.
@@ -375,31 +360,30 @@ fn listening(words: &'static str, taken: i32, accept_fails_at: u64, start_fails_
 #[test]
 fn the_program_takes_in_connections(rt: HostRuntime) -> Result<(), Fail> {
     let three = "listen tcp 5433 f 3";
-    for (given, status, line, accepted, started) in [
-        (listening(three, 9, NEVER, NEVER), 0, "", 3, 3),
-        (listening("listen unix p f 1", 9, NEVER, NEVER), 0, "", 1, 1),
-        (listening("listen unix p f 0", 9, 0, NEVER), 0, "", 0, 0),
-        (listening(three, 9, 0, NEVER), 12, "accept fault\n", 0, 0),
+    for (given, told) in [
+        (listening(three, 9, NEVER, NEVER), (0, "", 3, 3)),
+        (
+            listening("listen unix p f 1", 9, NEVER, NEVER),
+            (0, "", 1, 1),
+        ),
+        (listening("listen unix p f 0", 9, 0, NEVER), (0, "", 0, 0)),
+        (listening(three, 9, 0, NEVER), (12, "accept fault\n", 0, 0)),
         (
             listening("listen tcp 5433 f", 9, 2, NEVER),
-            12,
-            "accept fault\n",
-            2,
-            2,
+            (12, "accept fault\n", 2, 2),
         ),
-        (listening(three, 9, NEVER, 0), 13, "spawn fault\n", 1, 0),
-        (listening(three, 9, NEVER, 2), 13, "spawn fault\n", 3, 2),
-        (listening(three, 1, NEVER, NEVER), 8, "pid is taken\n", 1, 0),
-        (listening(three, 3, NEVER, NEVER), 8, "pid is taken\n", 3, 2),
+        (listening(three, 9, NEVER, 0), (13, "spawn fault\n", 1, 0)),
+        (listening(three, 9, NEVER, 2), (13, "spawn fault\n", 3, 2)),
+        (
+            listening(three, 1, NEVER, NEVER),
+            (8, "pid is taken\n", 1, 0),
+        ),
+        (
+            listening(three, 3, NEVER, NEVER),
+            (8, "pid is taken\n", 3, 2),
+        ),
     ] {
-        let told = answer_to(&rt, rt.alloc(), &given)?;
-        assert_eq!(rt; told.status, status);
-        assert_eq!(rt; told.line.bytes(), line.as_bytes());
-        assert!(rt; told.good);
-        assert!(rt;
-            told.accepted == accepted && told.started == started,
-            "{status}"
-        );
+        assert!(rt; is_answered(&rt, rt.alloc(), &given, told)?);
     }
     Ok(())
 }
@@ -424,22 +408,16 @@ fn refused(words: &'static str, file: &'static str, read_fails_at: u64) -> Given
 #[test]
 fn the_program_refuses_words_and_files(rt: HostRuntime) -> Result<(), Fail> {
     let three = "listen tcp 5433 f 3";
-    for (given, status, line) in [
-        (refused("listen tcp 0 f", "", NEVER), 2, USAGE),
-        (refused("listen tcp 5433 f 10001", "", 0), 2, USAGE),
-        (refused("serve f 7 01020304", "", NEVER), 2, USAGE),
-        (refused(three, "a\n", NEVER), 3, "line 1: header\n"),
-        (
-            refused(three, "a\t0\tx\n1 day\t2 days\n", NEVER),
-            3,
-            "line 2: width\n",
-        ),
-        (refused(three, "", 0), 9, "file fault\n"),
+    let wide = "a\t0\tx\n1 day\t2 days\n";
+    for (given, told) in [
+        (refused("listen tcp 0 f", "", NEVER), (2, USAGE, 0, 0)),
+        (refused("listen tcp 5433 f 10001", "", 0), (2, USAGE, 0, 0)),
+        (refused("serve f 7 01020304", "", NEVER), (2, USAGE, 0, 0)),
+        (refused(three, "a\n", NEVER), (3, "line 1: header\n", 0, 0)),
+        (refused(three, wide, NEVER), (3, "line 2: width\n", 0, 0)),
+        (refused(three, "", 0), (9, "file fault\n", 0, 0)),
     ] {
-        let told = answer_to(&rt, rt.alloc(), &given)?;
-        assert_eq!(rt; told.status, status);
-        assert_eq!(rt; told.line.bytes(), line.as_bytes());
-        assert!(rt; told.accepted == 0 && told.started == 0, "{status}");
+        assert!(rt; is_answered(&rt, rt.alloc(), &given, told)?);
     }
     Ok(())
 }

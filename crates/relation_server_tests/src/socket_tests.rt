@@ -22,6 +22,7 @@ use std::os::unix::net::{UnixListener, UnixStream};
 use std::process::Abort;
 use std::sync::{Arc, Wait};
 use std::test::Fail;
+use std::time::Clock;
 use std::{env, fs, io, process, thread};
 
 /// Whether a client that sends the first path reads its replies, byte for byte, and then the end.
@@ -61,7 +62,7 @@ fn serve<R: Wait>(
 }
 
 /// How the first connection to come is served, under the pid 7. It is ended then.
-fn serve_next<R: Wait>(
+fn serve_next<R: Wait + Clock>(
     rt: &R,
     alloc: Global,
     listening: Listening,
@@ -70,7 +71,7 @@ fn serve_next<R: Wait>(
     let Ok(mut handle) = manager.register(rt, &mut door, 7, KEY) else {
         return Err(Fail::from("no first registration"));
     };
-    let Ok((mut reader, mut writer)) = SocketAcceptor::new(listening).accept() else {
+    let Ok((mut reader, mut writer)) = SocketAcceptor::new(listening, rt).accept() else {
         return Err(Fail::from("no connection"));
     };
     let relations = built_in_table(alloc)?;
@@ -172,10 +173,10 @@ fn a_query_is_canceled_over_tcp(rt: HostRuntime) -> Result<(), Fail> {
     let table = Arc::new(alloc, endless(alloc)?)?;
     let listener = TcpListener::bind(&rt, "127.0.0.1:0")?;
     let server = listener.local_addr()?;
-    let mut acceptor = SocketAcceptor::new(Listening::Tcp(listener));
+    let mut acceptor = SocketAcceptor::new(Listening::Tcp(listener), rt);
     let threads = JobThreads::new(alloc)?;
     let theirs = threads.share()?;
-    let start: StartJob = Box::new(alloc, move |job| theirs.start(rt, job).is_ok())?;
+    let start: StartJob = Box::new(alloc, move |job| theirs.start(rt, job))?;
     let mut spawner = ThreadSpawner::new(threads, start);
     let mut keys = RandomKeys::new(rt)?;
     let client = thread::spawn(&rt, move || is_canceled(&rt, server).unwrap_or(false))?;

@@ -1,0 +1,197 @@
+//! A second client on one connection of the registry, behind one whose session failed.
+
+ghost use Rattle.std.specs.Prelude.{◌≡◌};
+
+use crate::bytes::message_bytes;
+use crate::fault::Fault;
+use crate::lines::Lines;
+use crate::place::Place;
+use pg_cancel::{ConnectionHandle, ConnectionManager};
+use pg_messages::{PgBytes, PgList};
+use pg_serve::{MemorySink, MemorySource};
+use pg_session::{EndKind, ServeError};
+use relation_server::{RelationTable, built_in_table, serve_relations};
+use std::alloc::{AllocError, Global};
+use std::sync::Wait;
+
+/// How two sessions end that one connection serves in turn.
+pub type Ends = (Result<EndKind, ServeError>, Result<EndKind, ServeError>);
+
+/// What fails in the first session, and differs from case to case.
+#[derive(Clone, Copy)]
+enum Failing {
+    /// The read of this number, where each gives one byte.
+    Reads,
+    /// The write, behind so many bytes.
+    Writes,
+    /// The turns: there are so many, where each read gives one byte.
+    Turns,
+}
+
+fn failing_of<'t>(word: &'t str) -> Result<Failing, Fault<'t>> {
+    match word {
+        "reads" => Ok(Failing::Reads),
+        "writes" => Ok(Failing::Writes),
+        "turns" => Ok(Failing::Turns),
+        _ => Err(Fault::Line(word)),
+    }
+}
+
+/// A client's bytes, the replies to them, and the relations.
+#[derive(Drop)]
+struct Example {
+    client: Vec<u8>,
+    replies: Vec<u8>,
+    table: RelationTable,
+}
+
+fn example_of<'t>(alloc: Global, lines: Lines<'t>) -> Result<Example, Fault<'t>> {
+    let client = message_bytes(alloc, lines.text, lines.told("client").unwrap_or(""))?;
+    let replies = message_bytes(alloc, lines.text, lines.told("out").unwrap_or(""))?;
+    let table = built_in_table(alloc)?;
+    Ok(Example {
+        client,
+        replies,
+        table,
+    })
+}
+
+/// A client that is served: what it sends, where the replies go, and the turns.
+#[derive(Drop)]
+pub struct Client {
+    source: MemorySource,
+    sink: MemorySink,
+    turns: u64,
+}
+
+impl Client {
+    /// Serves the client through a connection of the registry.
+    pub fn serve<R: Wait>(
+        &mut self,
+        rt: &R,
+        alloc: Global,
+        manager: &ConnectionManager,
+        handle: &mut ConnectionHandle,
+        table: &RelationTable,
+    ) -> Result<EndKind, ServeError>
+        requires issued { handle.old.issuer ≡ manager.now }
+        ensures issued { handle.new.issuer ≡ manager.now }
+    {
+        serve_relations(
+            rt,
+            alloc,
+            manager,
+            handle,
+            table,
+            &mut self.source,
+            &mut self.sink,
+            self.turns,
+        )
+    }
+}
+
+/// The client of an example that sends all at once, or single bytes, with this many turns; a read may fail, or a write.
+fn client_of(
+    alloc: Global,
+    bytes: &[u8],
+    is_single: bool,
+    turns: u64,
+    read_fails: Option<u64>,
+    write_fails: Option<usize>,
+) -> Result<Client, AllocError> {
+    let source = source_of(alloc, bytes, is_single, read_fails)?;
+    let mut failures = PgList::new(alloc);
+    if let Some(taken) = write_fails {
+        failures.push((0, taken))?;
+    }
+    Ok(Client {
+        source,
+        sink: MemorySink::new(alloc, failures),
+        turns,
+    })
+}
+
+fn source_of(
+    alloc: Global,
+    bytes: &[u8],
+    is_single: bool,
+    read_fails: Option<u64>,
+) -> Result<MemorySource, AllocError> {
+    let mut pieces = PgList::new(alloc);
+    if is_single {
+        for _ in bytes {
+            pieces.push(1)?;
+        }
+    }
+    let mut fails = PgList::new(alloc);
+    if let Some(call) = read_fails {
+        fails.push(call)?;
+    }
+    Ok(MemorySource::new(PgBytes::copy_of(alloc, bytes)?, pieces, fails))
+}
+
+/// The client whose session fails in this case.
+fn failing_client(
+    alloc: Global,
+    bytes: &[u8],
+    failing: Failing,
+    case: usize,
+) -> Result<Client, AllocError> {
+    match failing {
+        Failing::Reads => client_of(alloc, bytes, true, 1000, Some(case as u64), None),
+        Failing::Writes => client_of(alloc, bytes, false, 1000, None, Some(case)),
+        Failing::Turns => client_of(alloc, bytes, true, case as u64, None, None),
+    }
+}
+
+/// Why the first session fails.
+fn error_of(failing: Failing) -> ServeError {
+    match failing {
+        Failing::Reads => ServeError::ReadFault,
+        Failing::Writes => ServeError::WriteFault,
+        Failing::Turns => ServeError::TurnLimit,
+    }
+}
+
+/// Whether the first session fails, with a front of the replies, and the second one on the same connection is served whole.
+fn is_served_again<'t, R: Wait>(
+    rt: &R,
+    alloc: Global,
+    example: &Example,
+    failing: Failing,
+    case: usize,
+) -> Result<bool, Fault<'t>> {
+    let bytes = example.client.as_slice();
+    let mut first = failing_client(alloc, bytes, failing, case)?;
+    let mut second = client_of(alloc, bytes, false, 1000, None, None)?;
+    let mut place = Place::new(alloc)?;
+    let ends = place.serve_both(rt, alloc, &example.table, &mut first, &mut second)?;
+    let replies = example.replies.as_slice();
+    Ok(
+        ends == (Err(error_of(failing)), Ok(EndKind::Terminate))
+            && replies.starts_with(first.sink.bytes())
+            && replies == second.sink.bytes(),
+    )
+}
+
+/// Serves the client in each case of what the word names, and again on the same connection, and tells in which case that
+/// goes otherwise.
+pub fn sessions_difference<'t, R: Wait>(
+    rt: &R,
+    alloc: Global,
+    word: &'t str,
+    lines: Lines<'t>,
+) -> Result<Option<String>, Fault<'t>> {
+    let failing = failing_of(word)?;
+    let example = example_of(alloc, lines)?;
+    let count = match failing {
+        Failing::Writes => example.replies.len(),
+        _ => example.client.len(),
+    };
+    for case in 0..count {
+        if !is_served_again(rt, alloc, &example, failing, case)? {
+            return Ok(Some(format!(in alloc; "session {case}: another end or other replies")?));
+        }
+    }
+    Ok(None)
+}

@@ -1,0 +1,142 @@
+//! Queries of one connection, and cancels of them from another thread.
+
+ghost use Rattle.std.specs.Prelude.{◌≡◌};
+ghost use Rattle.std.specs.Arc.{arc_value};
+
+use crate::clients::{FIRST_REPLIES, KEY, STARTUP, source_of};
+use pg_cancel::{ConnectionHandle, ConnectionManager};
+use pg_messages::PgList;
+use pg_serve::MemorySink;
+use pg_session::EndKind;
+use relation_server::{built_in_table, serve_relations};
+use std::alloc::{AllocError, Global};
+use std::sync::atomic::{AtomicBool, Ordering};
+use std::sync::{Arc, Wait};
+use std::test::Fail;
+use std::thread;
+
+/// How many queries one thread makes, and how many cancels the other one.
+const ROUNDS: u32 = 100;
+
+/// A simple query of `slow`, which two polls find unready.
+const QUERY: &[u8] = b"Q\0\0\0\x09slow\0";
+
+/// Its replies where it isn't canceled: RowDescription, DataRow, CommandComplete, ReadyForQuery.
+const ANSWERED: &[u8] = b"T\0\0\0\x1d\0\x01span\0\0\0\0\0\0\0\0\0\x04\xa2\0\x10\xff\xff\xff\xff\0\0\
+D\0\0\0\x0f\0\x01\0\0\0\x051 day\
+C\0\0\0\x0dSELECT 1\0\
+Z\0\0\0\x05I";
+
+/// Its replies where it is canceled: ErrorResponse, ReadyForQuery.
+const CANCELED: &[u8] =
+    b"E\0\0\0\x43SERROR\0VERROR\0C57014\0Mcanceling statement due to user request\0\0\
+Z\0\0\0\x05I";
+
+/// A connection that cancels the queries of another one.
+#[derive(Drop)]
+struct Canceler {
+    manager: Arc<ConnectionManager>,
+    handle: ConnectionHandle,
+    begun: Arc<AtomicBool>,
+    met: u32,
+    ghost issued: { handle.issuer ≡ arc_value manager },
+}
+
+impl Canceler {
+    /// Cancels by the pid 7, again and again, and tells how often somebody had it.
+    fn run<R: Wait>(mut self, rt: &R) -> u32 {
+        self.begun.store(true, Ordering::SeqCst);
+        for _ in 0..ROUNDS {
+            self.cancel(rt);
+        }
+        self.met
+    }
+
+    /// Cancels once.
+    fn cancel<R: Wait>(&mut self, rt: &R) {
+        let made = self.manager.cancel(rt, &mut self.handle, 7, KEY);
+        if made.unwrap_or(false) {
+            self.met = self.met.saturating_add(1);
+        }
+    }
+}
+
+/// Waits until the other thread has begun.
+fn wait_for<R: Wait>(rt: &R, begun: &AtomicBool) {
+    for _ in rt.forever() {
+        if begun.load(Ordering::SeqCst) {
+            return;
+        }
+        thread::yield_now();
+    }
+}
+
+/// A client that makes all queries, and then terminates.
+fn queries(alloc: Global) -> Result<Vec<u8>, AllocError> {
+    let mut bytes = Vec::from_slice(alloc, STARTUP)?;
+    for _ in 0..ROUNDS {
+        bytes.extend_from_slice(QUERY)?;
+    }
+    bytes.extend_from_slice(b"X\0\0\0\x04")?;
+    Ok(bytes)
+}
+
+/// How many of the queries were canceled, where each was answered by its row or by that, and nothing else was written.
+fn canceled_among(replies: &[u8]) -> Option<u32> {
+    let mut rest = replies.strip_prefix(FIRST_REPLIES.get(..131)?)?;
+    let mut canceled = 0u32;
+    for _ in 0..ROUNDS {
+        rest = match rest.strip_prefix(ANSWERED) {
+            Some(behind) => behind,
+            None => {
+                canceled = canceled.saturating_add(1);
+                rest.strip_prefix(CANCELED)?
+            }
+        };
+    }
+    if rest.is_empty() {
+        Some(canceled)
+    } else {
+        None
+    }
+}
+
+/// A hundred queries meet a hundred cancels: each is answered by its row, or that it was canceled.
+#[test]
+fn a_hundred_cancels(rt: HostRuntime) -> Result<(), Fail> {
+    let alloc = rt.alloc();
+    let (manager, mut door) = ConnectionManager::new(alloc)?;
+    let Ok(mut handle) = manager.register(&rt, &mut door, 7, KEY) else {
+        return Err(Fail::from("no first registration"));
+    };
+    let Ok(other) = manager.register(&rt, &mut door, 8, KEY) else {
+        return Err(Fail::from("no second registration"));
+    };
+    let manager = Arc::new(alloc, manager)?;
+    let begun = Arc::new(alloc, AtomicBool::new(false))?;
+    let canceler = Canceler {
+        manager: Arc::try_clone(&manager)?,
+        handle: other,
+        begun: Arc::try_clone(&begun)?,
+        met: 0,
+    };
+    let canceler = thread::spawn(&rt, move || canceler.run(&rt))?;
+    let table = built_in_table(alloc)?;
+    let mut source = source_of(alloc, queries(alloc)?.as_slice())?;
+    let mut sink = MemorySink::new(alloc, PgList::new(alloc));
+    wait_for(&rt, &begun);
+    let answer = serve_relations(
+        &rt,
+        alloc,
+        &manager,
+        &mut handle,
+        &table,
+        &mut source,
+        &mut sink,
+        1000,
+    );
+    assert_eq!(rt; answer, Ok(EndKind::Terminate));
+    assert_eq!(rt; canceler.join(&rt), ROUNDS);
+    assert!(rt; canceled_among(sink.bytes()).is_some());
+    Ok(())
+}

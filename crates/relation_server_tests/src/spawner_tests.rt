@@ -1,0 +1,211 @@
+//! Jobs on threads: threads that can't be started, and who waits for their end.
+
+ghost use Rattle.std.specs.Prelude.{◌≡◌, ◌<◌, ◌^◌, IfOk};
+ghost use Rattle.std.specs.Arc.{arc_value};
+ghost use Rattle.relation_server.specs.Jobs.{IsFresh};
+ghost use Rattle.pg_serve.specs.Sockets.{reads_of};
+
+use crate::clients::KEY;
+use pg_cancel::{ConnectionManager, Door};
+use pg_serve::{Counted, MaybeTls, Spawner};
+use relation_server::{ConnectionJob, JobThreads, ThreadSpawner, Tries, built_in_table};
+use std::alloc::Global;
+use std::net::Net;
+use std::os::unix::net::UnixStream;
+use std::sync::atomic::{AtomicBool, Ordering};
+use std::sync::{Arc, Wait};
+use std::test::Fail;
+use std::thread;
+use std::time::{Clock, Duration};
+
+/// A job over a socket.
+type SocketJob = ConnectionJob<MaybeTls, MaybeTls>;
+
+/// A registry that is shared, and its door.
+#[derive(Drop)]
+struct Registry {
+    manager: Arc<ConnectionManager>,
+    door: Door,
+    ghost issued: { door.issuer ≡ arc_value manager },
+}
+
+impl Registry {
+    fn new(alloc: Global) -> Result<Registry, Fail> {
+        let (manager, door) = ConnectionManager::new(alloc)?;
+        let manager = Arc::new(alloc, manager)?;
+        Ok(Registry { manager, door })
+    }
+
+    /// Whether nobody has a pid, who is registered under it now.
+    fn is_free<R: Wait>(&mut self, rt: &R, pid: i32) -> bool {
+        self.manager.register(rt, &mut self.door, pid, KEY).is_ok()
+    }
+
+    /// The job of a client at a stream, under this pid.
+    fn job<R: Wait>(
+        &mut self,
+        rt: &R,
+        alloc: Global,
+        pid: i32,
+        stream: UnixStream,
+    ) -> Result<SocketJob, Fail>
+        ensures { IfOk result (λ job. IsFresh (reads_of job.source) job.handle) }
+    {
+        let relations = Arc::new(alloc, built_in_table(alloc)?)?;
+        let second = stream.try_clone()?;
+        let manager = Arc::try_clone(&self.manager)?;
+        let Ok(handle) = self.manager.register(rt, &mut self.door, pid, KEY) else {
+            return Err(Fail::from("no registration"));
+        };
+        Ok(ConnectionJob {
+            manager,
+            relations,
+            handle,
+            source: MaybeTls::Unix(Counted::new(stream)),
+            sink: MaybeTls::Unix(Counted::new(second)),
+            turn_limit: 100,
+        })
+    }
+}
+
+/// A client that sends nothing, and goes away some time after it is told to.
+#[derive(Drop)]
+struct Client {
+    stream: UnixStream,
+    may_leave: Arc<AtomicBool>,
+    has_left: Arc<AtomicBool>,
+}
+
+impl Client {
+    fn leave<R: Wait + Clock>(self, rt: &R) {
+        for _ in rt.forever() {
+            if self.may_leave.load(Ordering::SeqCst) {
+                break;
+            }
+            rt.sleep(Duration::from_millis(1));
+        }
+        rt.sleep(Duration::from_millis(100));
+        self.has_left.store(true, Ordering::SeqCst);
+    }
+}
+
+/// What is answered to a job, for whose thread there is no room, while another runs that ends after a while: how many
+/// tries failed, and whether the other had ended then.
+fn waited_for<R: thread::Threads + Wait + Clock + Net + Copy + Send + 'static>(
+    rt: R,
+    alloc: Global,
+    threads: &JobThreads,
+    registry: &mut Registry,
+) -> Result<(Tries, bool), Fail> {
+    let (stream, served) = UnixStream::pair(&rt)?;
+    let has_left = Arc::new(alloc, AtomicBool::new(false))?;
+    let client = Client {
+        stream,
+        may_leave: Arc::new(alloc, AtomicBool::new(true))?,
+        has_left: Arc::try_clone(&has_left)?,
+    };
+    let started = threads.start(rt, registry.job(&rt, alloc, 1, served)?);
+    let client = thread::spawn(&rt, move || client.leave(&rt))?;
+    let refused = refused(rt, alloc, threads, registry)?;
+    let is_ended = has_left.load(Ordering::SeqCst);
+    client.join(&rt);
+    Ok((
+        refused,
+        is_ended && started.is_started && started.failed == 0,
+    ))
+}
+
+/// What is answered to a job for whose thread there is no room.
+fn refused<R: thread::Threads + Wait + Clock + Net + Copy + Send + 'static>(
+    rt: R,
+    alloc: Global,
+    threads: &JobThreads,
+    registry: &mut Registry,
+) -> Result<Tries, Fail> {
+    let (_client, served) = UnixStream::pair(&rt)?;
+    let without_room = threads.share_with_stack(usize::MAX)?;
+    let job = registry.job(&rt, alloc, 2, served)?;
+    Ok(without_room.start(rt, job))
+}
+
+/// Where no thread can be started, a job that runs is waited for, and the job is refused where none runs any more.
+#[test]
+fn a_job_waits_for_room(rt: HostRuntime) -> Result<(), Fail> {
+    let alloc = rt.alloc();
+    let threads = JobThreads::new(alloc)?;
+    let mut registry = Registry::new(alloc)?;
+    let (tries, is_ended) = waited_for(rt, alloc, &threads, &mut registry)?;
+    assert!(rt; !tries.is_started && tries.failed == 2 && is_ended);
+    assert!(rt; registry.is_free(&rt, 1));
+    Ok(())
+}
+
+#[test]
+fn a_job_is_refused_where_none_runs(rt: HostRuntime) -> Result<(), Fail> {
+    let alloc = rt.alloc();
+    let threads = JobThreads::new(alloc)?;
+    let mut registry = Registry::new(alloc)?;
+    let tries = refused(rt, alloc, &threads, &mut registry)?;
+    assert!(rt; !tries.is_started && tries.failed == 1);
+    Ok(())
+}
+
+/// Starts a job whose client stays until it is waited for, and waits.
+fn finish_one<R: thread::Threads + Wait + Clock + Net + Copy + Send + 'static>(
+    rt: R,
+    alloc: Global,
+    threads: &JobThreads,
+    registry: &mut Registry,
+) -> Result<(), Fail> {
+    let (stream, served) = UnixStream::pair(&rt)?;
+    let may_leave = Arc::new(alloc, AtomicBool::new(false))?;
+    let client = Client {
+        stream,
+        may_leave: Arc::try_clone(&may_leave)?,
+        has_left: Arc::new(alloc, AtomicBool::new(false))?,
+    };
+    threads.start(rt, registry.job(&rt, alloc, 1, served)?);
+    let client = thread::spawn(&rt, move || client.leave(&rt))?;
+    may_leave.store(true, Ordering::SeqCst);
+    threads.finish(&rt);
+    client.join(&rt);
+    Ok(())
+}
+
+/// Behind `finish` a job has given its registration back, also one whose client stayed until then.
+#[test]
+fn finish_waits_for_a_client_that_stays(rt: HostRuntime) -> Result<(), Fail> {
+    let alloc = rt.alloc();
+    let threads = JobThreads::new(alloc)?;
+    let mut registry = Registry::new(alloc)?;
+    finish_one(rt, alloc, &threads, &mut registry)?;
+    assert!(rt; registry.is_free(&rt, 1));
+    Ok(())
+}
+
+/// The count of faults of a spawner whose one job is answered so, and whether that was taken as started.
+fn counted<T: Drop, R: Wait + Net>(
+    rt: &R,
+    alloc: Global,
+    mut spawner: ThreadSpawner<T>,
+) -> Result<(bool, u64), Fail>
+    requires { spawner.started ≡ 0 }
+{
+    let mut registry = Registry::new(alloc)?;
+    let (_client, served) = UnixStream::pair(rt)?;
+    let job = registry.job(rt, alloc, 1, served)?;
+    let is_started = spawner.start(job).is_ok();
+    Ok((is_started, spawner.faults()))
+}
+
+/// Each try that failed is counted, and a refusal is counted in any case.
+#[test]
+fn failed_tries_are_counted(rt: HostRuntime) -> Result<(), Fail> {
+    let alloc = rt.alloc();
+    for (is_started, failed, faults) in [(true, 0, 0), (true, 3, 3), (false, 0, 1), (false, 2, 2)] {
+        let start = Box::new(alloc, move |_job: SocketJob| Tries { is_started, failed })?;
+        let spawner = ThreadSpawner::new(rt, start);
+        assert!(rt; counted(&rt, alloc, spawner)? == (is_started, faults));
+    }
+    Ok(())
+}
