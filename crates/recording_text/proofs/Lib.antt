@@ -1,0 +1,4 @@
+pub mod Laws
+pub mod FieldLaws
+pub mod RecordingLaws
+pub mod Loops
