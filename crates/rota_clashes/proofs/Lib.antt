@@ -1,0 +1,3 @@
+mod GainLemmas
+mod ShiftLemmas
+mod PairLemmas

@@ -1,0 +1,3 @@
+pub mod Clashes
+pub mod Gains
+pub mod Shifts

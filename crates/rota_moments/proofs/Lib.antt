@@ -1,0 +1,3 @@
+mod CalendarLemmas
+mod MomentLemmas
+mod RotaLemmas
