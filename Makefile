@@ -5,7 +5,7 @@ ROSTERS = $(CURDIR)/data/rosters
 WORDS = serve $(ROSTERS) 7 01020304
 PORT = 5433
 # The programs that bench/ measures.
-MEASURED = $(notdir $(wildcard $(addprefix crates/,server serve_bench print_bench interval_rows read_bench file_bench message_rows cancel_stress)))
+MEASURED = $(notdir $(wildcard $(addprefix crates/,server print_bench interval_rows read_bench message_rows cancel_stress)))
 # Runs a command in a folder, and shows what it says only where it fails.
 QUIETLY = log=$$(mktemp) && if (cd $(1) && $(2)) >$$log 2>&1; then rm -f $$log; else cat $$log; rm -f $$log; exit 1; fi
 
@@ -19,9 +19,11 @@ serve:
 	@echo "Serves data/rosters at 127.0.0.1:$(PORT). Ctrl-C ends it. Ask it by: psql -h 127.0.0.1 -p $(PORT) -c shifts"
 	@tools/run_server listen tcp $(PORT) $(ROSTERS)
 
-# Runs psql over the sample relations, and compares what it prints: over the proved program where it was built.
+# Runs psql over the sample relations, and compares what it prints; then tries a server with few descriptors and threads,
+# large batches, and Unix sockets that were left over: by the proved program where it was built.
 try:
 	@tools/try_psql.sh
+	@tools/try_limits
 
 # Proves the program and all that it stands on, builds it, and shows the same frames from what was built.
 build:

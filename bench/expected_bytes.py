@@ -87,9 +87,21 @@ def sql(i):
     return f"{either(i[0] < 0)}{abs(y)}-{abs(m)} {either(d < 0)}{abs(d)} {either(i[2] < 0)}{time}"
 
 
-for size, interval in (("small", small), ("any size", any_size)):
+PRINTERS = {"postgres": postgres, "postgres_verbose": verbose, "iso_8601": iso, "sql_standard": sql}
+
+
+def drawn(count, interval=small):
+    """As many intervals from the seed."""
     draw = numbers(2026)
-    drawn = [interval(draw) for _ in range(int(sys.argv[1]))]
-    for name, text_of in (("postgres", postgres), ("postgres_verbose", verbose), ("iso_8601", iso), ("sql_standard", sql)):
-        total = sum(len(text_of(i)) for i in drawn)
-        print(f"{size}, {name}: {total}, {total}")
+    return [interval(draw) for _ in range(count)]
+
+
+def main():
+    for size, interval in (("small", small), ("any size", any_size)):
+        for name, text_of in PRINTERS.items():
+            total = sum(len(text_of(i)) for i in drawn(int(sys.argv[1]), interval))
+            print(f"{size}, {name}: {total}, {total}")
+
+
+if __name__ == "__main__":
+    main()
