@@ -8,8 +8,8 @@ from pathlib import Path
 
 TOP = Path(__file__).resolve().parent.parent
 CRATES = ["pg_interval", "pg_messages", "pg_text", "pg_portal", "pg_cancel", "pg_handlers", "pg_session", "pg_serve",
-          "conversation_laws", "relation_tables", "relation_handlers", "relation_serving", "relation_files", "relation_words",
-          "relation_demo", "relation_server"]
+          "conversation_laws", "relation_tables", "relation_laws", "relation_handlers", "relation_serving", "recording_text",
+          "rota_moments", "rota_clashes", "relation_files", "relation_words", "relation_demo", "relation_server"]
 ITEM = re.compile(r"^(?P<indent> *)(?P<public>pub )?(?P<kind>fn|struct|enum|trait|impl|const)\b(?P<rest>[^\n{]*)", re.M)
 
 
