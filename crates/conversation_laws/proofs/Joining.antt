@@ -28,13 +28,13 @@ joined_both (page ∷ first) others = ap (λ l. items_of page ++ l) (joined_both
 
 while_started : (st : Stage) (pages : List Taken) (later : Type 0) → HasStarted st → later → WhileStarted st pages later
 while_started Unstarted pages later k on = absurd k
-while_started (Started r) pages later k on = on
-while_started Ended pages later k on = on
+while_started (Started r d) pages later k on = on
+while_started (Ended d) pages later k on = on
 
 once_gone : (st : Stage) (later : Type 0) → IsUnstarted st → WhileStarted st [] later
 once_gone Unstarted later u = refl
-once_gone (Started r) later u = absurd u
-once_gone Ended later u = absurd u
+once_gone (Started r d) later u = absurd u
+once_gone (Ended d) later u = absurd u
 
 tells_page : (name : List ℕ) (m : Execute) (x : PgWireConnectionState) (replies : Replies) (page : Taken) → x ≡ phase.ReadyForQuery
     → m.name ≡ name → IsTold page replies → IsWithin m.max_rows (items_of page) → TellsPages name x (client.Execute m) replies (page ∷ [])

@@ -25,7 +25,7 @@ use Rattle.pg_portal.specs.Describing.{is_empty_list}
 use Rattle.pg_portal.specs.Errors.{info_of}
 use Rattle.pg_portal.specs.Fields.{Field}
 use Rattle.pg_portal.specs.Names.{NameMap}
-use Rattle.pg_portal.specs.Page.{PageEnd, AtLimit, AtEnd, AtError, item_page}
+use Rattle.pg_portal.specs.Page.{PageEnd, AtLimit, AtEnd, AtError, delivered_after, item_page}
 use Rattle.pg_portal.specs.Responses as response
 use Rattle.pg_portal.specs.Responses.{ToldResponse}
 use Rattle.pg_portal.specs.Statements.{prepared}
@@ -38,7 +38,8 @@ use Rattle.pg_handlers.specs.Answer.{Answer, Next, Goes, Ends, Stops}
 use Rattle.pg_handlers.specs.CopyRows.{copied, copy_row, stepped}
 use Rattle.pg_handlers.specs.Effect.{Effect, Called, Scope, UntilSync, AnswersReady, Outcome, Done, Failed, Over, Stopped, says, refuses, silent, settled, after_error}
 use Rattle.pg_handlers.specs.Errors.{is_fatal, unsupported_version, values_for_empty, too_few_codes}
-use Rattle.pg_handlers.specs.ExecuteRow.{at_stage, executed, executed_entry, executed_portal, execute_polled, page_effect, sent_in_execute, stage_after}
+use Rattle.pg_handlers.specs.ExecuteRow.{at_stage, executed, executed_entry, executed_portal, execute_polled, fetched, page_effect, sent_in_execute}
+use Rattle.pg_portal.specs.Fetching.{stage_after}
 use Rattle.pg_handlers.specs.ExtendedRows.{bind_complete, bound, bound_portal, bound_with_columns, described, described_portal, described_statement, on_close, on_describe, parsed, portal_description, statement_description}
 use Rattle.pg_handlers.specs.Handlers.{Handlers}
 use Rattle.pg_handlers.specs.Questions.{Verdict, Passed, Canceled, Unanswered, questioned}
@@ -222,17 +223,17 @@ module _ {S : Type 0} (h : Handlers S) (s : State S) (name : List ℕ) where
     other_keeps : (e : Entry (TablePortal S)) → KeepsMap R (fin.insert s.portals m.name e)
     other_keeps e = inl (get-other s.portals m.name e name ne)
 
-    page_keeps : (t : State S) → KeepsMap R t.portals → (tag : List ℕ) (rows : List DataRow) (ending : PageEnd DataRow)
-        → Keeps R (page_effect t tag rows ending).outcome
-    page_keeps t k tag rows (AtLimit items) = k
-    page_keeps t k tag rows AtEnd = k
-    page_keeps t k tag rows (AtError e items) = k
+    page_keeps : (t : State S) → KeepsMap R t.portals → (tag : List ℕ) (number : ℕ) (rows : List DataRow)
+        (ending : PageEnd DataRow) → Keeps R (page_effect t tag number rows ending).outcome
+    page_keeps t k tag number rows (AtLimit items) = k
+    page_keeps t k tag number rows AtEnd = k
+    page_keeps t k tag number rows (AtError e items) = k
 
-    fetched_keeps : (p : TablePortal S) (r : ToldRows) → Keeps R (executed s m p (response.Query r)).outcome
-    fetched_keeps p r =
+    fetched_keeps : (p : TablePortal S) (r : ToldRows) (delivered : ℕ) → Keeps R (fetched s m p r delivered).outcome
+    fetched_keeps p r delivered =
         let page = item_page m.max_rows r.items in
-        let e : Entry (TablePortal S) = entry.Value (at_stage p (stage_after r page.ending)) in
-        page_keeps (with_portal s m.name e) (other_keeps e) r.command_tag page.rows page.ending
+        let e : Entry (TablePortal S) = entry.Value (at_stage p (stage_after r delivered page.rows page.ending)) in
+        page_keeps (with_portal s m.name e) (other_keeps e) r.command_tag (delivered_after delivered (length page.rows)) page.rows page.ending
 
     sent_keeps : (t : State S) → KeepsMap R t.portals → (sent : Sent) (o : Option PgWireError) → Keeps R (sent_in_execute t sent o).outcome
     sent_keeps t k sent None = either_state R sent.copying (in_phase t (phase.CopyInProgress true)) t k k
@@ -243,7 +244,7 @@ module _ {S : Type 0} (h : Handlers S) (s : State S) (name : List ℕ) where
 
     executed_keeps : (p : TablePortal S) (r : ToldResponse) → ((tag : Tag) → r ≡ response.TransactionEnd tag → name ≡ [] → R)
         → Keeps R (executed s m p r).outcome
-    executed_keeps p (response.Query r) w = fetched_keeps p r
+    executed_keeps p (response.Query r) w = fetched_keeps p r 0
     executed_keeps p (response.Error info) w = stays R
     executed_keeps p (response.TransactionEnd tag) w = sync_keeps R (w tag refl)
     executed_keeps p response.EmptyQuery w = stays R
@@ -266,8 +267,8 @@ module _ {S : Type 0} (h : Handlers S) (s : State S) (name : List ℕ) where
     run_keeps answers p Unstarted w =
         let query = h.extended.query s.info p.bound m.max_rows in
         polled_keeps p (questioned query.owes answers).verdict query.outcome w
-    run_keeps answers p (Started r) w = fetched_keeps p r
-    run_keeps answers p Ended w = stays R
+    run_keeps answers p (Started r d) w = fetched_keeps p r d
+    run_keeps answers p (Ended d) w = stays R
 
     entry_keeps : (answers : List Bool) (x : Option (Entry (TablePortal S))) → fin.get s.portals m.name ≡ x
         → (EndsTransaction h s m → name ≡ [] → R) → Keeps R (executed_entry h.extended answers s m x).effect.outcome

@@ -1,5 +1,5 @@
 -- An Execute of a started portal, and one that starts it, takes a page of the items.
-use Rattle.std.proofs.Common.{◌≡◌, arith, ◌∙◌, ℤ, pos, negsuc, Bool, true, false, if◌then◌else◌, List, [], ◌∷◌, ◌++◌, Option, Some, None, refl, ap, sym, subst}
+use Rattle.std.proofs.Common.{◌≡◌, arith, ◌∙◌, ℤ, pos, negsuc, Bool, true, false, if◌then◌else◌, List, [], ◌∷◌, ◌++◌, Option, Some, None, ℕ, length, refl, ap, sym, subst}
 use Rattle.std.specs.FinMap as fin
 use Rattle.pg_messages.specs.declared.data.DataRow.{DataRow}
 use Rattle.pg_messages.specs.declared.extendedquery.Execute.{Execute}
@@ -11,8 +11,8 @@ use Rattle.pg_portal.specs.declared.error.PgWireError.{PgWireError}
 use Rattle.pg_portal.specs.declared.store.Entry.{Entry}
 use Rattle.pg_portal.specs.declared.store.Entry.TheVariants as entry
 use Rattle.pg_portal.specs.Errors.{info_of}
-use Rattle.pg_portal.specs.Fetching.{items_to_come, with_items}
-use Rattle.pg_portal.specs.Page.{ItemPage}
+use Rattle.pg_portal.specs.Fetching.{items_to_come, stage_after, with_items}
+use Rattle.pg_portal.specs.Page.{ItemPage, delivered_after}
 use Rattle.pg_portal.specs.Rows.{RowItem}
 use Rattle.pg_portal.specs.Told.{TablePortal, ToldRows, Stage, Unstarted, Started, Ended, value_under}
 use Rattle.pg_portal.proofs.NameMaps.{get-put}
@@ -21,7 +21,7 @@ use Rattle.pg_handlers.specs.declared.ends.EndKind.TheVariants as end
 use Rattle.pg_handlers.specs.Answer.{Answer, Goes, Ends}
 use Rattle.pg_handlers.specs.Effect.{Effect, UntilSync, settle, after_error}
 use Rattle.pg_handlers.specs.Errors.{is_fatal}
-use Rattle.pg_handlers.specs.ExecuteRow.{at_stage, execute_polled, executed_entry, executed_portal, fetched, page_effect, stage_after, told_number}
+use Rattle.pg_handlers.specs.ExecuteRow.{at_stage, execute_polled, executed_entry, executed_portal, fetched, page_effect}
 use Rattle.pg_handlers.specs.Handlers.{Handlers}
 use Rattle.pg_handlers.specs.Questions.{Verdict, Passed, started}
 use Rattle.pg_handlers.specs.Replies.{done_with, error_reply}
@@ -46,20 +46,21 @@ module _ {S : Type 0} (s : State S) (m : Execute) (p : TablePortal S) where
   leaves_at : (st : Stage) (left : List RowItem) → HasStarted st → items_to_come st ≡ left → Leaves m.name left (Goes (at st))
   leaves_at st left k e = (subst HasStarted (sym (stage_at st)) k, ap items_to_come (stage_at st) ∙ e)
 
-  module _ (calls : List DeskCall) (r : ToldRows) where
+  module _ (calls : List DeskCall) (r : ToldRows) (delivered : ℕ) where
     abbrev answer_of : Effect S → Answer (State S)
     answer_of effect = settle UntilSync (record { calls = calls; effect = effect })
 
     -- the answer with a page
     abbrev with_page : ItemPage DataRow → Answer (State S)
-    with_page page = answer_of (page_effect (at (stage_after r page.ending)) r.command_tag page.rows page.ending)
+    with_page page = answer_of (page_effect (at (stage_after r delivered page.rows page.ending)) r.command_tag
+        (delivered_after delivered (length page.rows)) page.rows page.ending)
 
     abbrev Takes : Answer (State S) → Type 0
     Takes a = TakesPage m.name m.max_rows r.items a
 
     broken : (rows : List DataRow) (e : PgWireError) (left : List RowItem) → r.items ≡ items_of (DroppedRows rows e) ++ left
         → IsWithin m.max_rows (items_of (DroppedRows rows e)) → (fatal : Bool)
-        → Takes (let t : State S = at (Started (with_items r left)) in
+        → Takes (let t : State S = at (Started (with_items r left) delivered) in
         if fatal then (let a : Answer (State S) = record { replies = [] ++ error_reply (info_of e) ∷ []; calls = calls; next = Ends end.Fatal } in a)
         else (record { replies = [] ++ error_reply (info_of e) ∷ (after_error UntilSync t).0; calls = calls; next = Goes (after_error UntilSync t).1 }))
     broken rows e left j w true = record { page = DroppedRows rows e; left = left; joined = j; told = refl; within = w; leaves = tt }
@@ -69,29 +70,29 @@ module _ {S : Type 0} (s : State S) (m : Execute) (p : TablePortal S) where
       joined = j;
       told = refl;
       within = w;
-      leaves = leaves_at (Started (with_items r left)) left tt refl;
+      leaves = leaves_at (Started (with_items r left) delivered) left tt refl;
     }
 
-    takes_parts : Parts m.max_rows r.items → Takes (answer_of (fetched s m p r))
+    takes_parts : Parts m.max_rows r.items → Takes (answer_of (fetched s m p r delivered))
     takes_parts (Reached rows left j w e) = subst (λ page. Takes (with_page page)) (sym e) (record {
       page = SentRows rows;
       left = left;
       joined = j;
       told = rows_before rows (server.PortalSuspended (record {})) refl;
       within = w;
-      leaves = leaves_at (Started (with_items r left)) left tt refl;
+      leaves = leaves_at (Started (with_items r left) (delivered_after delivered (length rows))) left tt refl;
     })
     takes_parts (Complete rows j w e) = subst (λ page. Takes (with_page page)) (sym e) (record {
       page = SentRows rows;
       left = [];
       joined = j;
-      told = rows_before rows (done_with r.command_tag (told_number rows)) refl;
+      told = rows_before rows (done_with r.command_tag (delivered_after delivered (length rows))) refl;
       within = w;
-      leaves = leaves_at Ended [] tt refl;
+      leaves = leaves_at (Ended (delivered_after delivered (length rows))) [] tt refl;
     })
     takes_parts (Broken rows e left j w is) = subst (λ page. Takes (with_page page)) (sym is) (broken rows e left j w (is_fatal (info_of e)))
 
-    pub takes : Takes (answer_of (fetched s m p r))
+    pub takes : Takes (answer_of (fetched s m p r delivered))
     takes = takes_parts (parts m.max_rows r.items)
 
 module _ {S : Type 0} (h : Handlers S) (answers : List Bool) (s : State S) (m : Execute) where
@@ -111,8 +112,8 @@ module _ {S : Type 0} (h : Handlers S) (answers : List Bool) (s : State S) (m : 
   portal_takes : (p : TablePortal S) (st : Stage) → stage_under s m.name ≡ st → HasStarted st
       → TakesOf (items_to_come st) (settle UntilSync (executed_portal h.extended answers s m p st))
   portal_takes p Unstarted e k = absurd k
-  portal_takes p (Started r) e k = takes s m p [] r
-  portal_takes p Ended e k = record {
+  portal_takes p (Started r d) e k = takes s m p [] r d
+  portal_takes p (Ended d) e k = record {
     page = SentRows [];
     left = [];
     joined = refl;
@@ -136,7 +137,7 @@ module _ {S : Type 0} (h : Handlers S) (answers : List Bool) (s : State S) (m : 
       calls = calls;
       effect = execute_polled s m k.portal v (h.extended.query s.info k.portal.bound m.max_rows).outcome;
     }))
-    polled v is calls = rw (is, k.answered) (takes s m k.portal calls r)
+    polled v is calls = rw (is, k.answered) (takes s m k.portal calls r 0)
 
     started_portal : (st : Stage) → st ≡ Unstarted → TakesOf r.items (settle UntilSync (executed_portal h.extended answers s m k.portal st))
     started_portal st is = subst (λ (st : Stage). TakesOf r.items (settle UntilSync (executed_portal h.extended answers s m k.portal st))) (sym is)

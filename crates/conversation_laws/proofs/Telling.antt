@@ -23,7 +23,7 @@ use Rattle.pg_portal.specs.declared.store.Entry.TheVariants as entry
 use Rattle.pg_portal.specs.Describing.{is_empty_list, is_no_data}
 use Rattle.pg_portal.specs.Errors.{info_of}
 use Rattle.pg_portal.specs.Fields.{Field}
-use Rattle.pg_portal.specs.Page.{PageEnd, AtLimit, AtEnd, AtError, item_page, first_error}
+use Rattle.pg_portal.specs.Page.{PageEnd, AtLimit, AtEnd, AtError, delivered_after, item_page, first_error}
 use Rattle.pg_portal.specs.Responses as response
 use Rattle.pg_portal.specs.Responses.{ToldResponse, ToldCopy}
 use Rattle.pg_portal.specs.Statements.{prepared}
@@ -32,7 +32,8 @@ use Rattle.pg_handlers.specs.declared.desk.DeskCall.{DeskCall}
 use Rattle.pg_handlers.specs.Answer.{Answer}
 use Rattle.pg_handlers.specs.Effect.{Effect, Scope, UntilSync, Outcome, Done, Failed, Over, Stopped, says, refuses, settle, settled}
 use Rattle.pg_handlers.specs.Errors.{values_for_empty, too_few_codes}
-use Rattle.pg_handlers.specs.ExecuteRow.{at_stage, executed, executed_entry, executed_portal, execute_polled, page_effect, sent_in_execute, stage_after, told_number}
+use Rattle.pg_handlers.specs.ExecuteRow.{at_stage, executed, executed_entry, executed_portal, execute_polled, fetched, page_effect, sent_in_execute}
+use Rattle.pg_portal.specs.Fetching.{stage_after}
 use Rattle.pg_handlers.specs.ExtendedRows.{bind_complete, bound, bound_portal, bound_with_columns, described, described_portal, described_statement, on_describe, parsed, portal_description, statement_description}
 use Rattle.pg_handlers.specs.Handlers.{Handlers}
 use Rattle.pg_handlers.specs.Questions.{Verdict, Passed, Canceled, Unanswered, questioned}
@@ -138,11 +139,12 @@ module _ {S : Type 0} (h : Handlers S) (s : State S) where
 
   -- ---- Execute
 
-  page_quiet : (t : State S) (tag : List ℕ) (rows : List DataRow) (ending : PageEnd DataRow) → IsQuiet (page_effect t tag rows ending).replies
-  page_quiet t tag rows (AtLimit items) =
+  page_quiet : (t : State S) (tag : List ℕ) (number : ℕ) (rows : List DataRow) (ending : PageEnd DataRow)
+      → IsQuiet (page_effect t tag number rows ending).replies
+  page_quiet t tag number rows (AtLimit items) =
       both_quiet (row_replies rows) (server.PortalSuspended (record {}) ∷ []) (rows_quiet rows) refl
-  page_quiet t tag rows AtEnd = both_quiet (row_replies rows) (done_with tag (told_number rows) ∷ []) (rows_quiet rows) refl
-  page_quiet t tag rows (AtError e items) = refl
+  page_quiet t tag number rows AtEnd = both_quiet (row_replies rows) (done_with tag number ∷ []) (rows_quiet rows) refl
+  page_quiet t tag number rows (AtError e items) = refl
 
   sent_quiet : (t : State S) (sent : Sent) (o : Option PgWireError) → IsQuiet sent.replies → IsQuiet (sent_in_execute t sent o).replies
   sent_quiet t sent None q = q
@@ -151,13 +153,14 @@ module _ {S : Type 0} (h : Handlers S) (s : State S) where
   response_quiet : (sent : Sent) → IsQuiet sent.replies → IsQuiet (sent_in_execute s sent sent.refusal).replies
   response_quiet sent q = sent_quiet s sent sent.refusal q
 
-  fetched_quiet : (m : Execute) (p : TablePortal S) (r : ToldRows) → IsQuiet (executed s m p (response.Query r)).replies
-  fetched_quiet m p r =
+  fetched_quiet : (m : Execute) (p : TablePortal S) (r : ToldRows) (delivered : ℕ) → IsQuiet (fetched s m p r delivered).replies
+  fetched_quiet m p r delivered =
       let page = item_page m.max_rows r.items in
-      page_quiet (with_portal s m.name (entry.Value (at_stage p (stage_after r page.ending)))) r.command_tag page.rows page.ending
+      page_quiet (with_portal s m.name (entry.Value (at_stage p (stage_after r delivered page.rows page.ending)))) r.command_tag
+      (delivered_after delivered (length page.rows)) page.rows page.ending
 
   executed_quiet : (m : Execute) (p : TablePortal S) (r : ToldResponse) → IsQuiet (executed s m p r).replies
-  executed_quiet m p (response.Query r) = fetched_quiet m p r
+  executed_quiet m p (response.Query r) = fetched_quiet m p r 0
   executed_quiet m p (response.CopyOut c) = response_quiet (responded s.info.status (response.CopyOut c))
       (copy_quiet s.info.status false (copy_out_reply c) c (copied_quiet (copy_data c)))
   executed_quiet m p (response.CopyBoth c) = response_quiet (responded s.info.status (response.CopyBoth c))
@@ -181,8 +184,8 @@ module _ {S : Type 0} (h : Handlers S) (s : State S) where
   run_quiet answers m p Unstarted =
       let query = h.extended.query s.info p.bound m.max_rows in
       polled_quiet m p (questioned query.owes answers).verdict query.outcome
-  run_quiet answers m p (Started r) = fetched_quiet m p r
-  run_quiet answers m p Ended = refl
+  run_quiet answers m p (Started r d) = fetched_quiet m p r d
+  run_quiet answers m p (Ended d) = refl
 
   entry_quiet : (answers : List Bool) (m : Execute) (x : Option (Entry (TablePortal S)))
       → IsQuiet (executed_entry h.extended answers s m x).effect.replies

@@ -68,13 +68,13 @@ stage_under s name = stage_in (value_under (fin.get s.portals name))
 
 abbrev pub HasStarted : Stage → Type 0
 HasStarted Unstarted = ⊥
-HasStarted (Started r) = Unit {0}
-HasStarted Ended = Unit {0}
+HasStarted (Started r delivered) = Unit {0}
+HasStarted (Ended delivered) = Unit {0}
 
 abbrev pub IsUnstarted : Stage → Type 0
 IsUnstarted Unstarted = Unit {0}
-IsUnstarted (Started r) = ⊥
-IsUnstarted Ended = ⊥
+IsUnstarted (Started r delivered) = ⊥
+IsUnstarted (Ended delivered) = ⊥
 
 -- Where the conversation goes on, the portal of the name has started, and has these items to come.
 abbrev pub Leaves : {S : Type 0} → List ℕ → List RowItem → Next (State S) → Type 0
@@ -139,8 +139,8 @@ TellsPages name _ _ replies pages = pages ≡ []
 -- this of the pages that are still to be told, while the portal stands; else none are
 abbrev pub WhileStarted : Stage → List Taken → Type 0 → Type 0
 WhileStarted Unstarted pages later = pages ≡ []
-WhileStarted (Started r) pages later = later
-WhileStarted Ended pages later = later
+WhileStarted (Started r delivered) pages later = later
+WhileStarted (Ended delivered) pages later = later
 
 abbrev pub TellsLater : {S : Type 0} → List ℕ → Next (State S) → List Taken → (State S → Type 0) → Type 0
 TellsLater name (Goes t) pages later = WhileStarted (stage_under t name) pages (later t)

@@ -4,3 +4,4 @@ pub mod Paging
 pub mod Fetches
 pub mod TwoFetches
 pub mod SameColumns
+pub mod Taking

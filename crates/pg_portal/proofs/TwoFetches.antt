@@ -5,7 +5,7 @@ use Rattle.std.proofs.lemmas.List.{length-append, length-take-le, map-append, ap
 use Rattle.pg_messages.specs.declared.data.DataRow.{DataRow}
 use Rattle.pg_portal.specs.declared.error.PgWireError.{PgWireError}
 use Rattle.pg_portal.specs.Fetching.{Fetched, AreOneFetch, fetched, fetched_page, with_items}
-use Rattle.pg_portal.specs.Page.{AtLimit, AtEnd, AtError, is_reached, item_page, before_error}
+use Rattle.pg_portal.specs.Page.{AtLimit, AtEnd, AtError, delivered_after, is_reached, item_page, before_error}
 use Rattle.pg_portal.specs.Rows.{RowItem}
 use Rattle.pg_portal.specs.Told.{ToldRows, Stage, Unstarted, Started, Ended}
 use Rattle.pg_portal.proofs.Fetches.{ends_so}
@@ -33,18 +33,18 @@ reached_at a n h e = grind (arith, nat_tests)
 not_reached : (a n : ℕ) → n < a → is_reached (pos a) n ≡ false
 not_reached a n h = grind (arith, nat_tests)
 
-fetched_at_limit : (a : ℕ) (r : ToldRows) (x : List DataRow) (items : List RowItem) → 1 ≤ a → length x ≡ a → r.items ≡ map Ok x ++ items
-    → fetched (pos a) (Started r) ≡ fetched_page r x (AtLimit items)
-fetched_at_limit a r x items h len e =
-    ends_so (pos a) r x (AtLimit items) (ap (item_page (pos a)) e ∙ page_at_limit (pos a) x items (reached_at a (length x) h len) (sym len))
+fetched_at_limit : (a : ℕ) (r : ToldRows) (d : ℕ) (x : List DataRow) (items : List RowItem) → 1 ≤ a → length x ≡ a → r.items ≡ map Ok x ++ items
+    → fetched (pos a) (Started r d) ≡ fetched_page r d x (AtLimit items)
+fetched_at_limit a r d x items h len e =
+    ends_so (pos a) r d x (AtLimit items) (ap (item_page (pos a)) e ∙ page_at_limit (pos a) x items (reached_at a (length x) h len) (sym len))
 
-fetched_at_end : (a : ℕ) (r : ToldRows) (x : List DataRow) → length x < a → r.items ≡ map Ok x ++ [] → fetched (pos a) (Started r) ≡ fetched_page r x AtEnd
-fetched_at_end a r x h e = ends_so (pos a) r x AtEnd (ap (item_page (pos a)) e ∙ page_at_end (pos a) x [] refl (not_reached a (length x) h))
+fetched_at_end : (a : ℕ) (r : ToldRows) (d : ℕ) (x : List DataRow) → length x < a → r.items ≡ map Ok x ++ [] → fetched (pos a) (Started r d) ≡ fetched_page r d x AtEnd
+fetched_at_end a r d x h e = ends_so (pos a) r d x AtEnd (ap (item_page (pos a)) e ∙ page_at_end (pos a) x [] refl (not_reached a (length x) h))
 
-fetched_at_error : (a : ℕ) (r : ToldRows) (x : List DataRow) (error : PgWireError) (left : List RowItem) → length x < a → r.items ≡ map Ok x ++ Err error ∷ left
-    → fetched (pos a) (Started r) ≡ fetched_page r [] (AtError error left)
-fetched_at_error a r x error left h e =
-    ends_so (pos a) r [] (AtError error left) (ap (item_page (pos a)) e ∙ page_at_error (pos a) x error left (not_reached a (length x) h))
+fetched_at_error : (a : ℕ) (r : ToldRows) (d : ℕ) (x : List DataRow) (error : PgWireError) (left : List RowItem) → length x < a → r.items ≡ map Ok x ++ Err error ∷ left
+    → fetched (pos a) (Started r d) ≡ fetched_page r d [] (AtError error left)
+fetched_at_error a r d x error left h e =
+    ends_so (pos a) r d [] (AtError error left) (ap (item_page (pos a)) e ∙ page_at_error (pos a) x error left (not_reached a (length x) h))
 
 -- a fetch, and the next one where it leaves the portal, are one
 abbrev IsOne : ℕ → Fetched → Fetched → Type 0
@@ -54,46 +54,49 @@ one_from : (b : ℕ) (first both F1 F2 F3 : Fetched) → first ≡ F1 → fetche
     → (IsOk F1.answer → IsOk F2.answer → AreOneFetch F1 F2 F3) → IsOne b first both
 one_from b first both F1 F2 F3 f1 f2 f3 h = rw (f1, f3) (rw f2 h)
 
-module _ (a b : ℕ) (r : ToldRows) (ha : 1 ≤ a) (hb : 1 ≤ b) where
+module _ (a b : ℕ) (r : ToldRows) (d : ℕ) (ha : 1 ≤ a) (hb : 1 ≤ b) where
   joined : (x y : List DataRow) (t : List RowItem) → map Ok x ++ (map Ok y ++ t) ≡ map Ok (x ++ y) ++ t
   joined x y t = sym (ap (λ l. l ++ t) (map-append Ok x y) ∙ append_assoc (map Ok x) (map Ok y) t)
 
+  sum_after : (x y : List DataRow) → delivered_after d (length (x ++ y)) ≡ delivered_after (delivered_after d (length x)) (length y)
+  sum_after x y = grind (arith, length-append x y)
+
   both_full : (x y : List DataRow) (t : List RowItem) → length x ≡ a → length y ≡ b → r.items ≡ map Ok x ++ (map Ok y ++ t)
-      → IsOne b (fetched (pos a) (Started r)) (fetched (pos (a + b)) (Started r))
+      → IsOne b (fetched (pos a) (Started r d)) (fetched (pos (a + b)) (Started r d))
   both_full x y t lx ly e =
-      one_from b _ _ _ _ _ (fetched_at_limit a r x (map Ok y ++ t) ha lx e) (fetched_at_limit b (with_items r (map Ok y ++ t)) y t hb ly refl)
-      (fetched_at_limit (a + b) r (x ++ y) t (omega arith) (omega (arith, length-append x y)) (e ∙ joined x y t))
-      (λ p q. record { answered = refl; rows = refl; stage = refl })
+      one_from b _ _ _ _ _ (fetched_at_limit a r d x (map Ok y ++ t) ha lx e) (fetched_at_limit b (with_items r (map Ok y ++ t)) (delivered_after d (length x)) y t hb ly refl)
+      (fetched_at_limit (a + b) r d (x ++ y) t (omega arith) (omega (arith, length-append x y)) (e ∙ joined x y t))
+      (λ p q. record { answered = refl; rows = refl; stage = ap (Started (with_items r t)) (sum_after x y) })
 
   second_ends : (x y : List DataRow) (t : List RowItem) → length x ≡ a → length y < b → r.items ≡ map Ok x ++ (map Ok y ++ t)
       → (t ≡ []) ⊎ ((error : PgWireError) × (left : List RowItem) × (t ≡ Err error ∷ left))
-      → IsOne b (fetched (pos a) (Started r)) (fetched (pos (a + b)) (Started r))
+      → IsOne b (fetched (pos a) (Started r d)) (fetched (pos (a + b)) (Started r d))
   second_ends x y t lx ly e (inl none) =
       let at = e ∙ ap (λ t. map Ok x ++ (map Ok y ++ t)) none in
-      one_from b _ _ _ _ _ (fetched_at_limit a r x (map Ok y ++ []) ha lx at) (fetched_at_end b (with_items r (map Ok y ++ [])) y ly refl)
-      (fetched_at_end (a + b) r (x ++ y) (omega (arith, length-append x y)) (at ∙ joined x y []))
-      (λ p q. record { answered = refl; rows = refl; stage = refl })
+      one_from b _ _ _ _ _ (fetched_at_limit a r d x (map Ok y ++ []) ha lx at) (fetched_at_end b (with_items r (map Ok y ++ [])) (delivered_after d (length x)) y ly refl)
+      (fetched_at_end (a + b) r d (x ++ y) (omega (arith, length-append x y)) (at ∙ joined x y []))
+      (λ p q. record { answered = refl; rows = refl; stage = ap Ended (sum_after x y) })
   second_ends x y t lx ly e (inr met) =
       let at = e ∙ ap (λ t. map Ok x ++ (map Ok y ++ t)) met.2 in
-      one_from b _ _ _ _ _ (fetched_at_limit a r x (map Ok y ++ Err met.0 ∷ met.1) ha lx at) (fetched_at_error b (with_items r (map Ok y ++ Err met.0 ∷ met.1)) y met.0 met.1 ly refl)
+      one_from b _ _ _ _ _ (fetched_at_limit a r d x (map Ok y ++ Err met.0 ∷ met.1) ha lx at) (fetched_at_error b (with_items r (map Ok y ++ Err met.0 ∷ met.1)) (delivered_after d (length x)) y met.0 met.1 ly refl)
       refl (λ p q. cc)
 
   first_ends : (x : List DataRow) (t : List RowItem) → length x < a → r.items ≡ map Ok x ++ t
       → (t ≡ []) ⊎ ((error : PgWireError) × (left : List RowItem) × (t ≡ Err error ∷ left))
-      → IsOne b (fetched (pos a) (Started r)) (fetched (pos (a + b)) (Started r))
+      → IsOne b (fetched (pos a) (Started r d)) (fetched (pos (a + b)) (Started r d))
   first_ends x t lx e (inl none) =
       let at = e ∙ ap (λ t. map Ok x ++ t) none in
-      one_from b _ _ _ _ _ (fetched_at_end a r x lx at) refl (fetched_at_end (a + b) r x (omega arith) at)
+      one_from b _ _ _ _ _ (fetched_at_end a r d x lx at) refl (fetched_at_end (a + b) r d x (omega arith) at)
       (λ p q. record { answered = refl; rows = sym (append-nil x); stage = refl })
   first_ends x t lx e (inr met) =
-      one_from b _ _ _ _ _ (fetched_at_error a r x met.0 met.1 lx (e ∙ ap (λ t. map Ok x ++ t) met.2)) refl refl (λ p q. cc)
+      one_from b _ _ _ _ _ (fetched_at_error a r d x met.0 met.1 lx (e ∙ ap (λ t. map Ok x ++ t) met.2)) refl refl (λ p q. cc)
 
   parted : (n : ℕ) (rows : List DataRow) (t : List RowItem) → map Ok rows ++ t ≡ map Ok (take n rows) ++ (map Ok (drop n rows) ++ t)
   parted n rows t = ap (λ (l : List DataRow). map Ok l ++ t) (sym (take-append-drop n rows)) ∙ sym (joined (take n rows) (drop n rows) t)
 
   by_second : (rows : List DataRow) (t : List RowItem) → a ≤ length rows → r.items ≡ map Ok rows ++ t
       → (t ≡ []) ⊎ ((error : PgWireError) × (left : List RowItem) × (t ≡ Err error ∷ left))
-      → (p : Bool) → nat_le b (length (drop a rows)) ≡ p → IsOne b (fetched (pos a) (Started r)) (fetched (pos (a + b)) (Started r))
+      → (p : Bool) → nat_le b (length (drop a rows)) ≡ p → IsOne b (fetched (pos a) (Started r d)) (fetched (pos (a + b)) (Started r d))
   by_second rows t h e k true is =
       let more : b ≤ length (drop a rows) = grind (arith, nat_tests) in
       both_full (take a rows) (take b (drop a rows)) (map Ok (drop b (drop a rows)) ++ t) (length-take-le a rows h) (length-take-le b (drop a rows) more)
@@ -104,7 +107,7 @@ module _ (a b : ℕ) (r : ToldRows) (ha : 1 ≤ a) (hb : 1 ≤ b) where
 
   by_first : (rows : List DataRow) (t : List RowItem) → r.items ≡ map Ok rows ++ t
       → (t ≡ []) ⊎ ((error : PgWireError) × (left : List RowItem) × (t ≡ Err error ∷ left))
-      → (p : Bool) → nat_le a (length rows) ≡ p → IsOne b (fetched (pos a) (Started r)) (fetched (pos (a + b)) (Started r))
+      → (p : Bool) → nat_le a (length rows) ≡ p → IsOne b (fetched (pos a) (Started r d)) (fetched (pos (a + b)) (Started r d))
   by_first rows t e k true is =
       let enough : a ≤ length rows = grind (arith, nat_tests) in
       by_second rows t enough e k (nat_le b (length (drop a rows))) refl
@@ -112,10 +115,10 @@ module _ (a b : ℕ) (r : ToldRows) (ha : 1 ≤ a) (hb : 1 ≤ b) where
       let less : length rows < a = grind (arith, nat_tests) in
       first_ends rows t less e k
 
-  started : IsOne b (fetched (pos a) (Started r)) (fetched (pos (a + b)) (Started r))
+  started : IsOne b (fetched (pos a) (Started r d)) (fetched (pos (a + b)) (Started r d))
   started = by_first (before_error r.items) (tail_of r.items) (whole r.items) (tail_is r.items) (nat_le a (length (before_error r.items))) refl
 
 pub one_fetch : (a b : ℕ) (stage : Stage) → 1 ≤ a → 1 ≤ b → IsOne b (fetched (pos a) stage) (fetched (pos (a + b)) stage)
 one_fetch a b Unstarted ha hb = λ p q. cc
-one_fetch a b (Started r) ha hb = started a b r ha hb
-one_fetch a b Ended ha hb = λ p q. record { answered = refl; rows = refl; stage = refl }
+one_fetch a b (Started r d) ha hb = started a b r d ha hb
+one_fetch a b (Ended d) ha hb = λ p q. record { answered = refl; rows = refl; stage = refl }

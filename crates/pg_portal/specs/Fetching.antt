@@ -1,10 +1,10 @@
 -- What a fetch answers, and how far the portal has come then (protocol: Extended Query, Execute).
-use Rattle.std.specs.Prelude.{ℤ, Bool, true, false, List, [], ◌∷◌, ◌++◌, map, Result, Ok, Err, IsOk, ◌≡◌, ◌≢◌, ◌⊎◌, codes}
+use Rattle.std.specs.Prelude.{ℤ, Bool, true, false, List, [], ◌∷◌, ◌++◌, map, Result, Ok, Err, IsOk, ◌≡◌, ◌≢◌, ◌⊎◌, ℕ, length, codes}
 use Rattle.pg_messages.specs.declared.data.DataRow.{DataRow}
 use Rattle.pg_portal.specs.declared.error.PgWireError.{PgWireError}
 use Rattle.pg_portal.specs.declared.error.PgWireError.TheVariants.{PortalNotStarted, NoMemory}
 use Rattle.pg_portal.specs.declared.portal.FetchResult.{FetchResult}
-use Rattle.pg_portal.specs.Page.{PageEnd, AtLimit, AtEnd, AtError, item_page}
+use Rattle.pg_portal.specs.Page.{PageEnd, AtLimit, AtEnd, AtError, delivered_after, item_page}
 use Rattle.pg_portal.specs.Rows.{RowItem}
 use Rattle.pg_portal.specs.Told.{ToldRows, Stage, Unstarted, Started, Ended}
 
@@ -16,33 +16,55 @@ pub record Fetched : Type 0 where
 abbrev pub with_items : ToldRows → List RowItem → ToldRows
 with_items response items = record { command_tag = response.command_tag; fields = response.fields; items = items }
 
--- a page that ended so: at its limit the portal stays suspended, at the end it is finished, and at an error the page's rows are dropped
-abbrev pub fetched_page : ToldRows → List DataRow → PageEnd DataRow → Fetched
-fetched_page response rows (AtLimit items) = record {
-  answer = Ok (record { rows = rows; command_tag = response.command_tag; suspended = true });
-  stage = Started (with_items response items);
+-- How far a portal has come behind a page: suspended at its limit, finished at the end, and past an error, where the page's rows are
+-- dropped. So many rows were delivered before the page.
+abbrev pub stage_after : ToldRows → ℕ → List DataRow → PageEnd DataRow → Stage
+stage_after response delivered rows (AtLimit items) = Started (with_items response items) (delivered_after delivered (length rows))
+stage_after response delivered rows AtEnd = Ended (delivered_after delivered (length rows))
+stage_after response delivered rows (AtError error items) = Started (with_items response items) delivered
+
+-- the rows of a page, and the number delivered with them
+abbrev pub page_of : ToldRows → ℕ → List DataRow → Bool → FetchResult
+page_of response delivered rows suspended = record {
+  rows = rows;
+  command_tag = response.command_tag;
+  suspended = suspended;
+  delivered = delivered_after delivered (length rows);
 }
-fetched_page response rows AtEnd = record {
-  answer = Ok (record { rows = rows; command_tag = response.command_tag; suspended = false });
-  stage = Ended;
+
+-- what a page that ended so answers
+abbrev pub page_answer : ToldRows → ℕ → List DataRow → PageEnd DataRow → Result FetchResult PgWireError
+page_answer response delivered rows (AtLimit items) = Ok (page_of response delivered rows true)
+page_answer response delivered rows AtEnd = Ok (page_of response delivered rows false)
+page_answer response delivered rows (AtError error items) = Err error
+
+abbrev pub fetched_page : ToldRows → ℕ → List DataRow → PageEnd DataRow → Fetched
+fetched_page response delivered rows ending = record {
+  answer = page_answer response delivered rows ending;
+  stage = stage_after response delivered rows ending;
 }
-fetched_page response rows (AtError error items) = record { answer = Err error; stage = Started (with_items response items) }
 
 -- the page of a finished portal
-abbrev pub no_rows : FetchResult
-no_rows = record { rows = []; command_tag = codes "SELECT"; suspended = false }
+abbrev pub no_rows : ℕ → FetchResult
+no_rows delivered = record { rows = []; command_tag = codes "SELECT"; suspended = false; delivered = delivered }
 
 -- a fetch with a limit of rows, below 1 for all of them
 abbrev pub fetched : ℤ → Stage → Fetched
 fetched limit Unstarted = record { answer = Err PortalNotStarted; stage = Unstarted }
-fetched limit (Started response) = let page = item_page limit response.items in fetched_page response page.rows page.ending
-fetched limit Ended = record { answer = Ok no_rows; stage = Ended }
+fetched limit (Started response delivered) =
+    let page = item_page limit response.items in fetched_page response delivered page.rows page.ending
+fetched limit (Ended delivered) = record { answer = Ok (no_rows delivered); stage = Ended delivered }
 
--- What stands after want of memory: a started portal stays so, and its items are a suffix of those before. Any other stays as it is.
+-- some of the items were taken, and the rest is left
+abbrev pub IsRest : ToldRows → ToldRows → Type 0
+IsRest old new = (taken : List RowItem) × (left : List RowItem) × (old.items ≡ taken ++ left) × (new ≡ with_items old left)
+
+-- What stands after want of memory: a started portal stays so, with a rest of its items, and as many rows delivered. Any other stays as
+-- it is.
 abbrev pub IsKept : Stage → Stage → Type 0
-IsKept (Started old) new = (taken : List RowItem) × (left : List RowItem) × (old.items ≡ taken ++ left) × (new ≡ Started (with_items old left))
+IsKept (Started old delivered) new = (left : ToldRows) × IsRest old left × (new ≡ Started left delivered)
 IsKept Unstarted new = new ≡ Unstarted
-IsKept Ended new = new ≡ Ended
+IsKept (Ended delivered) new = new ≡ Ended delivered
 
 -- a refused fetch: memory is wanting, or the error is the one that is told
 abbrev pub IsRefusedFetch : ℤ → Stage → Stage → PgWireError → Type 0
@@ -57,14 +79,14 @@ AreTaken old (Err error) new = (dropped : List DataRow) × (old ≡ map Ok dropp
 -- the items to come of a portal
 abbrev pub items_to_come : Stage → List RowItem
 items_to_come Unstarted = []
-items_to_come (Started response) = response.items
-items_to_come Ended = []
+items_to_come (Started response delivered) = response.items
+items_to_come (Ended delivered) = []
 
 -- but where memory is wanting, a fetch of a started portal takes its items in their order, each once
 abbrev pub TakesInOrder : Stage → Stage → Result FetchResult PgWireError → Type 0
-TakesInOrder (Started old) new result = result ≢ Err NoMemory → AreTaken old.items result (items_to_come new)
+TakesInOrder (Started old delivered) new result = result ≢ Err NoMemory → AreTaken old.items result (items_to_come new)
 TakesInOrder Unstarted new result = Unit {0}
-TakesInOrder Ended new result = Unit {0}
+TakesInOrder (Ended delivered) new result = Unit {0}
 
 -- the rows of a page
 abbrev pub rows_of : Result FetchResult PgWireError → List DataRow
@@ -80,18 +102,18 @@ pub record AreOneFetch (first second both : Fetched) : Type 0 where
 -- ---- the page of a response
 
 -- how far a portal has come after a page
-abbrev pub after_page : Bool → ToldRows → Stage
-after_page true left = Started left
-after_page false left = Ended
+abbrev pub after_page : Bool → ToldRows → ℕ → Stage
+after_page true left delivered = Started left delivered
+after_page false left delivered = Ended delivered
 
 -- the page that is told, and what it leaves
-abbrev pub IsPage : ℤ → ToldRows → ToldRows → FetchResult → Type 0
-IsPage limit old new page = (Ok page ≡ (fetched limit (Started old)).answer)
-    × (after_page page.suspended new ≡ (fetched limit (Started old)).stage)
-    × (old.items ≡ map Ok page.rows ++ items_to_come (after_page page.suspended new))
+abbrev pub IsPage : ℤ → ToldRows → ℕ → ToldRows → FetchResult → Type 0
+IsPage limit old delivered new page = (Ok page ≡ (fetched limit (Started old delivered)).answer)
+    × (after_page page.suspended new page.delivered ≡ (fetched limit (Started old delivered)).stage)
+    × (old.items ≡ map Ok page.rows ++ items_to_come (after_page page.suspended new page.delivered))
 
 -- no page: memory is wanting, or an error stands in the place of a row
-abbrev pub IsRefusedPage : ℤ → ToldRows → ToldRows → PgWireError → Type 0
-IsRefusedPage limit old new error = ((error ≡ NoMemory) × IsKept (Started old) (Started new))
-    ⊎ ((Err error ≡ (fetched limit (Started old)).answer) × (Started new ≡ (fetched limit (Started old)).stage)
+abbrev pub IsRefusedPage : ℤ → ToldRows → ℕ → ToldRows → PgWireError → Type 0
+IsRefusedPage limit old delivered new error = ((error ≡ NoMemory) × IsKept (Started old delivered) (Started new delivered))
+    ⊎ ((Err error ≡ (fetched limit (Started old delivered)).answer) × (Started new delivered ≡ (fetched limit (Started old delivered)).stage)
     × AreTaken old.items (Err error) new.items)

@@ -12,6 +12,7 @@ pub mod Encoding
 pub mod Describing
 pub mod Page
 pub mod Told
+pub mod Making
 pub mod Maps
 pub mod Responses
 pub mod Noop

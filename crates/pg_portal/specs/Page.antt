@@ -1,5 +1,5 @@
 -- Page: the rows that one Execute sends (protocol: Extended Query, Execute with a limit of rows).
-use Rattle.std.specs.Prelude.{ℕ, ℤ, pos, negsuc, Bool, true, false, List, [], ◌∷◌, Option, Some, None, Result, Ok, Err, ◌&&◌, nat_le, if◌then◌else◌, length, take, drop, unsigned_abs}
+use Rattle.std.specs.Prelude.{ℕ, ℤ, pos, negsuc, Bool, true, false, List, [], ◌∷◌, Option, Some, None, Result, Ok, Err, ◌&&◌, ◌+◌, ◌-◌, ◌^◌, min, nat_le, if◌then◌else◌, length, take, drop, unsigned_abs}
 use Rattle.pg_portal.specs.declared.error.PgWireError.{PgWireError}
 
 -- a limit of at least 1 that so many rows reach
@@ -16,6 +16,10 @@ abbrev pub page : {A : Type 0} → ℤ → List A → Page A
 page limit rows = if is_reached limit (length rows)
     then (record { rows = take (unsigned_abs limit) rows; suspended = true })
     else (record { rows = rows; suspended = false })
+
+-- Rows delivered since a portal was started: those before a page, and those of it. Their number stands still at the greatest u64.
+abbrev pub delivered_after : ℕ → ℕ → ℕ
+delivered_after before rows = min (before + rows) (2 ^ 64 - 1)
 
 -- ---- over items, which are rows or errors
 

@@ -49,21 +49,24 @@ pub record BoundPortal (S : Type 0) : Type 0 where
   pub parameters : List (Option (List ℕ))
   pub result_column_format : Format
 
--- how far a portal has come
+-- how far a portal has come: what is to come of its rows, and how many were delivered since it was started
 pub data Stage : Type 0 where
   Unstarted : Stage
-  Started : ToldRows → Stage
-  Ended : Stage
+  Started : ToldRows → ℕ → Stage
+  Ended : ℕ → Stage
 
 -- a portal of the table
 pub record TablePortal (S : Type 0) : Type 0 where
   pub bound : BoundPortal S
   pub stage : Stage
 
-abbrev pub stage_of : {R : Type 0} → (R → List RowItem) → PortalExecutionState R → Stage
-stage_of items Initial = Unstarted
-stage_of items (Suspended response) = Started (told_rows items response)
-stage_of items Finished = Ended
+abbrev pub stage_in : {R : Type 0} → (R → List RowItem) → PortalExecutionState R → ℕ → Stage
+stage_in items Initial delivered = Unstarted
+stage_in items (Suspended response) delivered = Started (told_rows items response) delivered
+stage_in items Finished delivered = Ended delivered
+
+abbrev pub stage_of : {S R : Type 0} → (R → List RowItem) → Portal S R → Stage
+stage_of items portal = stage_in items portal.state portal.delivered
 
 abbrev pub bound_of : {S R : Type 0} → Portal S R → BoundPortal S
 bound_of portal = record {
@@ -75,7 +78,7 @@ bound_of portal = record {
 }
 
 abbrev pub portal_of : {S R : Type 0} → (R → List RowItem) → Portal S R → TablePortal S
-portal_of items portal = record { bound = bound_of portal; stage = stage_of items portal.state }
+portal_of items portal = record { bound = bound_of portal; stage = stage_of items portal }
 
 -- the value of an entry that isn't empty
 abbrev pub value_of : {T : Type 0} → Entry T → Option T

@@ -4,7 +4,7 @@ ghost use Rattle.std.specs.Prelude.{◌≡◌, ◌↔◌, length, option_map, If
 ghost use Rattle.std.specs.Arc.{arc_value};
 ghost use Rattle.pg_portal.specs.Fetching.{IsRefusedFetch, TakesInOrder, IsPage, IsRefusedPage, fetched, no_rows};
 ghost use Rattle.pg_portal.specs.Formats.{format_of, format_for, unified, is_text, is_binary};
-ghost use Rattle.pg_portal.specs.Page.{is_reached};
+ghost use Rattle.pg_portal.specs.Page.{delivered_after, is_reached};
 ghost use Rattle.pg_portal.specs.Statements.{bound_by, cursor_of};
 ghost use Rattle.pg_portal.specs.Told.{Unstarted, Started, stage_of, bound_of, told_rows};
 ghost use Rattle.pg_portal.specs.Rows.{IsAnswerableItem};
@@ -137,6 +137,9 @@ pub struct FetchResult {
     pub command_tag: PgStr,
     /// Whether the page ended at its limit.
     pub suspended: bool,
+    /// How many rows were delivered since the portal was started, with those of this page. The number stands still at
+    /// the greatest u64.
+    pub delivered: u64,
 }
 
 /// A statement with its parameters and formats.
@@ -154,6 +157,9 @@ pub struct Portal<S, R> {
     pub result_column_format: Format,
     /// How far it has come.
     pub state: PortalExecutionState<R>,
+    /// How many rows were delivered since it was started. Rows of a page that an error cut short aren't counted. The
+    /// number stands still at the greatest u64, and tells nothing before the portal is started.
+    pub delivered: u64,
 }
 
 impl<S: Drop, R: RowSource> Portal<S, R> {
@@ -164,7 +170,8 @@ impl<S: Drop, R: RowSource> Portal<S, R> {
         statement: Arc<StoredStatement<S>>,
     ) -> Result<Portal<S, R>, PgWireError>
         ensures bound { IfOk result (λ portal. bound_of portal ≡ bound_by bind.now (arc_value statement)) }
-        ensures unstarted { IfOk result (λ portal. stage_of R.items portal.state ≡ Unstarted) }
+        ensures unstarted { IfOk result (λ portal. stage_of R.items portal ≡ Unstarted) }
+        ensures delivered { IfOk result (λ portal. portal.delivered ≡ 0) }
         ensures refusal { IfErr result (λ error. error ≡ PgWireError.NoMemory) }
     {
         Ok(Portal {
@@ -174,6 +181,7 @@ impl<S: Drop, R: RowSource> Portal<S, R> {
             parameters: copy_of_parameters(alloc, bind.parameters.as_slice())?,
             result_column_format: format_of(alloc, bind.result_column_format_codes.as_slice())?,
             state: PortalExecutionState::Initial,
+            delivered: 0,
         })
     }
 
@@ -184,7 +192,8 @@ impl<S: Drop, R: RowSource> Portal<S, R> {
         statement: Arc<StoredStatement<S>>,
     ) -> Portal<S, R>
         ensures bound { bound_of result ≡ cursor_of name (arc_value statement) }
-        ensures unstarted { stage_of R.items result.state ≡ Unstarted }
+        ensures unstarted { stage_of R.items result ≡ Unstarted }
+        ensures delivered { result.delivered ≡ 0 }
     {
         Portal {
             name,
@@ -193,6 +202,7 @@ impl<S: Drop, R: RowSource> Portal<S, R> {
             parameters: PgList::new(alloc),
             result_column_format: Format::UnifiedText,
             state: PortalExecutionState::Initial,
+            delivered: 0,
         }
     }
 
@@ -210,39 +220,44 @@ impl<S: Drop, R: RowSource> Portal<S, R> {
         &self.state
     }
 
-    /// Starts the portal with a response, whatever it was before. No memory is taken.
+    /// Starts the portal with a response, whatever it was before: no row of it is delivered yet. No memory is taken.
     pub fn start(&mut self, response: QueryResponse<R>)
-        ensures started { stage_of R.items self.new.state ≡ Started (told_rows R.items response) }
+        ensures started { stage_of R.items self.new ≡ Started (told_rows R.items response) 0 }
         ensures bound { bound_of self.new ≡ bound_of self.old }
     {
         self.state = PortalExecutionState::Suspended(response);
+        self.delivered = 0;
     }
 
     /// The next page: at most so many rows, and below 1 all of them. It is suspended where the limit was reached,
-    /// also where the last row reached it, and else complete. A finished portal has no further row, and the tag
-    /// `SELECT`.
+    /// also where the last row reached it, and else complete. `delivered` of the page and of the portal grow by its
+    /// rows. A finished portal has no further row, the tag `SELECT`, and the number that was delivered.
     ///
     /// `PortalNotStarted` comes exactly where the portal wasn't started. The error of an item is answered; then
-    /// the item and the rows of this page before it are gone. After `NoMemory` a started portal is still started,
-    /// and rows of this page may be gone; any other is as it was.
+    /// the item and the rows of this page before it are gone, and aren't counted. After `NoMemory` a started portal
+    /// is still started, and rows of this page may be gone; any other is as it was.
     pub fn fetch(&mut self, alloc: Global, max_rows: i32) -> Result<FetchResult, PgWireError>
         ensures page { IfOk result (λ page.
-            Ok page ≡ (fetched max_rows (stage_of R.items self.old.state)).answer) }
-        ensures stage { OnOk result (stage_of R.items self.new.state
-            ≡ (fetched max_rows (stage_of R.items self.old.state)).stage) }
+            Ok page ≡ (fetched max_rows (stage_of R.items self.old)).answer) }
+        ensures stage { OnOk result (stage_of R.items self.new
+            ≡ (fetched max_rows (stage_of R.items self.old)).stage) }
         ensures refusal { IfErr result (IsRefusedFetch max_rows
-            (stage_of R.items self.old.state) (stage_of R.items self.new.state)) }
+            (stage_of R.items self.old) (stage_of R.items self.new)) }
         ensures taken { TakesInOrder
-            (stage_of R.items self.old.state) (stage_of R.items self.new.state) result }
+            (stage_of R.items self.old) (stage_of R.items self.new) result }
         ensures not_started { IsErrOf result wire.PortalNotStarted
-            ↔ (stage_of R.items self.old.state ≡ Unstarted) }
+            ↔ (stage_of R.items self.old ≡ Unstarted) }
         ensures bound { bound_of self.new ≡ bound_of self.old }
     {
+        let delivered = self.delivered;
         let page = match &mut self.state {
             PortalExecutionState::Initial => return Err(PgWireError::PortalNotStarted),
-            PortalExecutionState::Finished => return Ok(no_rows(alloc)?),
-            PortalExecutionState::Suspended(response) => next_page(alloc, response, max_rows)?,
+            PortalExecutionState::Finished => return Ok(no_rows(alloc, delivered)?),
+            PortalExecutionState::Suspended(response) => {
+                next_page(alloc, response, delivered, max_rows)?
+            }
         };
+        self.delivered = page.delivered;
         if page.suspended {
             return Ok(page);
         }
@@ -252,13 +267,14 @@ impl<S: Drop, R: RowSource> Portal<S, R> {
 }
 
 /// The page of a finished portal.
-fn no_rows(alloc: Global) -> Result<FetchResult, AllocError>
-    ensures { IfOk result (λ page. page ≡ no_rows) }
+fn no_rows(alloc: Global, delivered: u64) -> Result<FetchResult, AllocError>
+    ensures { IfOk result (λ page. page ≡ no_rows delivered) }
 {
     Ok(FetchResult {
         rows: PgList::new(alloc),
         command_tag: PgStr::copy_of(alloc, "SELECT")?,
         suspended: false,
+        delivered,
     })
 }
 
@@ -270,16 +286,26 @@ pub fn is_reached(max_rows: i32, rows: usize) -> bool
     max_rows >= 1 && max_rows.cast_unsigned() as usize <= rows
 }
 
-/// The next page of a response.
+/// How many rows were delivered since a portal was started: so many before a page, and those of it. The number stands
+/// still at the greatest u64.
+#[inline(always)]
+pub fn delivered_after(before: u64, rows: usize) -> u64
+    ensures { result ≡ delivered_after before rows }
+{
+    before.saturating_add(rows as u64)
+}
+
+/// The next page of a response, of which so many rows were delivered.
 fn next_page<R: RowSource>(
     alloc: Global,
     response: &mut QueryResponse<R>,
+    delivered: u64,
     max_rows: i32,
 ) -> Result<FetchResult, PgWireError>
     ensures page { IfOk result (λ page. IsPage max_rows
-        (told_rows R.items response.old) (told_rows R.items response.new) page) }
+        (told_rows R.items response.old) delivered (told_rows R.items response.new) page) }
     ensures refusal { IfErr result (IsRefusedPage max_rows
-        (told_rows R.items response.old) (told_rows R.items response.new)) }
+        (told_rows R.items response.old) delivered (told_rows R.items response.new)) }
     ensures own { IfErr result IsAnswerableItem }
 {
     let command_tag = PgStr::copy_of(alloc, response.command_tag.as_str())?;
@@ -288,9 +314,10 @@ fn next_page<R: RowSource>(
         match response.data_rows.next()? {
             None => {
                 return Ok(FetchResult {
-                    rows,
                     command_tag,
                     suspended: false,
+                    delivered: delivered_after(delivered, rows.len()),
+                    rows,
                 });
             }
             Some(Err(error)) => return Err(error),
@@ -298,9 +325,10 @@ fn next_page<R: RowSource>(
         }
     }
     Ok(FetchResult {
-        rows,
         command_tag,
         suspended: true,
+        delivered: delivered_after(delivered, rows.len()),
+        rows,
     })
 }
 

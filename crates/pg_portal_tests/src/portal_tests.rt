@@ -10,14 +10,14 @@ use pg_portal::{FetchResult, ListRows, PgWireError, Portal, PortalExecutionState
 use std::alloc::{AllocError, Global};
 use std::test::Fail;
 
-/// Whether the next page has such rows, of one byte each, is suspended or not, and has this tag.
+/// Whether the next page has such rows, of one byte each, is suspended or not, and has this tag and number.
 fn is_next(
     portal: &mut Portal<PgStr, ListRows>,
     alloc: Global,
     limit: i32,
     bytes: &[u8],
     suspended: bool,
-    tag: &str,
+    tag: (&str, u64),
 ) -> bool {
     match portal.fetch(alloc, limit) {
         Ok(page) => is_page(&page, bytes, suspended, tag),
@@ -25,10 +25,11 @@ fn is_next(
     }
 }
 
-fn is_page(page: &FetchResult, bytes: &[u8], suspended: bool, tag: &str) -> bool {
+fn is_page(page: &FetchResult, bytes: &[u8], suspended: bool, tag: (&str, u64)) -> bool {
     are_rows(page.rows.as_slice(), bytes)
         && page.suspended == suspended
-        && page.command_tag.as_str() == tag
+        && page.command_tag.as_str() == tag.0
+        && page.delivered == tag.1
 }
 
 /// Whether rows are of these bytes, one each.
@@ -85,13 +86,24 @@ fn an_error_drops_its_page(rt: HostRuntime) -> Result<(), Fail> {
     let alloc = rt.alloc();
     let mut portal = cursor(alloc)?;
     start(alloc, &mut portal, all(alloc)?)?;
-    assert!(rt; is_next(&mut portal, alloc, 2, &[10, 11], true, "FETCH"));
+    assert!(rt; is_next(&mut portal, alloc, 2, &[10, 11], true, ("FETCH", 2)));
     assert_eq!(rt; refusal(&mut portal, alloc), "an item");
     assert_eq!(rt; stage(&portal), "suspended");
-    assert!(rt; is_next(&mut portal, alloc, 1, &[13], true, "FETCH"));
-    assert!(rt; is_next(&mut portal, alloc, i32::MIN, &[], false, "FETCH"));
-    assert!(rt; is_next(&mut portal, alloc, 2, &[], false, "SELECT"));
+    assert!(rt; is_next(&mut portal, alloc, 1, &[13], true, ("FETCH", 3)));
+    assert!(rt; is_next(&mut portal, alloc, i32::MIN, &[], false, ("FETCH", 3)));
+    assert!(rt; is_next(&mut portal, alloc, 2, &[], false, ("SELECT", 3)));
     assert_eq!(rt; stage(&portal), "finished");
+    Ok(())
+}
+
+#[test]
+fn the_count_stands_still(rt: HostRuntime) -> Result<(), Fail> {
+    let alloc = rt.alloc();
+    let mut portal = cursor(alloc)?;
+    start(alloc, &mut portal, all(alloc)?)?;
+    portal.delivered = u64::MAX - 1;
+    assert!(rt; is_next(&mut portal, alloc, 2, &[10, 11], true, ("FETCH", u64::MAX)));
+    assert_eq!(rt; portal.delivered, u64::MAX);
     Ok(())
 }
 

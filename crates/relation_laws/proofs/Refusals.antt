@@ -27,7 +27,8 @@ use Rattle.pg_portal.specs.declared.store.Entry.TheVariants as entry
 use Rattle.pg_portal.specs.Describing.{is_empty_list}
 use Rattle.pg_portal.specs.Errors.{info_of}
 use Rattle.pg_portal.specs.Fields.{Field}
-use Rattle.pg_portal.specs.Page.{AtError, item_page, page, before_error, first_error}
+use Rattle.pg_portal.specs.Fetching.{stage_after}
+use Rattle.pg_portal.specs.Page.{AtError, delivered_after, item_page, page, before_error, first_error}
 use Rattle.pg_portal.specs.Responses.{ToldCopy}
 use Rattle.pg_portal.specs.Rows.{RowItem}
 use Rattle.pg_portal.specs.Statements.{stored}
@@ -39,7 +40,7 @@ use Rattle.pg_handlers.specs.declared.ends.EndKind.TheVariants as end
 use Rattle.pg_handlers.specs.Answer.{Answer, Goes, Ends}
 use Rattle.pg_handlers.specs.Effect.{Effect, Called, Scope, UntilSync, AnswersReady, Outcome, Done, Failed, Over, Stopped, says, refuses, silent, settled, after_error}
 use Rattle.pg_handlers.specs.Errors.{is_fatal, unsupported_version, too_few_codes, values_for_empty}
-use Rattle.pg_handlers.specs.ExecuteRow.{at_stage, stage_after, page_effect, fetched, execute_polled, execute_run, executed_portal, executed_entry}
+use Rattle.pg_handlers.specs.ExecuteRow.{at_stage, page_effect, fetched, execute_polled, execute_run, executed_portal, executed_entry}
 use Rattle.pg_handlers.specs.ExtendedRows.{bind_complete, parsed, bound_portal, bound, described_statement, described_portal}
 use Rattle.pg_handlers.specs.Handlers.{Handlers}
 use Rattle.pg_messages.specs.declared.backend.PgWireBackendMessage.TheVariants as server
@@ -310,10 +311,10 @@ module _ (relations : List Relation) (answers : List Bool) (s : Talk) (g : IsSer
       abbrev made : List Interval → RowItem
       made = row_item (session_style s.info) (column_formats p.bound.result_column_format r.columns)
 
-      page_refused : (response : ToldRows) (rows : List (List Interval)) → response.items ≡ map made rows
+      page_refused : (response : ToldRows) (delivered : ℕ) (rows : List (List Interval)) → response.items ≡ map made rows
           → HasTextCell (column_formats p.bound.result_column_format r.columns) (page m.max_rows rows).rows
-          → Refused kind.Style (fetched s m p response).outcome
-      page_refused response rows e (row, at, text) =
+          → Refused kind.Style (fetched s m p response delivered).outcome
+      page_refused response delivered rows e (row, at, text) =
           let refused = row_is_refused (column_formats p.bound.result_column_format r.columns) row text in
           let met = page_meets made m.max_rows rows row (wire.InvalidOptionValue (style_text s.info)) at refused in
           let from = page_met made m.max_rows rows met.0 met.1 met.2 in
@@ -322,9 +323,10 @@ module _ (relations : List Relation) (answers : List Bool) (s : Talk) (g : IsSer
           let ends : (item_page m.max_rows response.items).ending ≡ AtError met.0 met.1 =
           ap (λ (items : List RowItem). (item_page m.max_rows items).ending) e ∙ met.2 in
           let page = item_page m.max_rows response.items in (
-            with_portal s m.name (entry.Value (at_stage p (stage_after response (AtError met.0 met.1)))),
+            with_portal s m.name (entry.Value (at_stage p (stage_after response delivered page.rows (AtError met.0 met.1)))),
             met.0,
-            ap (λ ending. (page_effect (with_portal s m.name (entry.Value (at_stage p (stage_after response ending)))) response.command_tag page.rows ending).outcome) ends,
+            ap (λ ending. (page_effect (with_portal s m.name (entry.Value (at_stage p (stage_after response delivered page.rows ending))))
+                response.command_tag (delivered_after delivered (length page.rows)) page.rows ending).outcome) ends,
             style_is met.0 why.0.tells,
           )
 
@@ -339,14 +341,14 @@ module _ (relations : List Relation) (answers : List Bool) (s : Talk) (g : IsSer
             command_tag = codes "SELECT";
             fields = columns_in p.bound.result_column_format r.columns;
             items = map made r.rows;
-          }) r.rows refl text))
-      stage_refused (Started response) means is came text =
+          }) 0 r.rows refl text))
+      stage_refused (Started response delivered) means is came text =
           let same : is.place ≡ place = (let e : statement.Relation is.place ≡ statement.Relation place = sym is.means ∙ means in cc) in
-          page_refused response (last_rows r.rows response.items)
+          page_refused response delivered (last_rows r.rows response.items)
           (subst (λ (n : ℕ). response.items
           ≡ map (row_item (session_style s.info) (column_formats p.bound.result_column_format (relation_at relations n).columns))
           (last_rows (relation_at relations n).rows response.items)) same is.items) text
-      stage_refused Ended means is came (row, at, text) = let inside = page_within made m.max_rows [] row at in absurd (omega (arith, inside.1))
+      stage_refused (Ended delivered) means is came (row, at, text) = let inside = page_within made m.max_rows [] row at in absurd (omega (arith, inside.1))
 
     -- a Query whose one response is cut short
     abbrev one_answer : {B : Type 0} → Replies → Replies → Option (PgWireError × B) → Effect RelationStatement

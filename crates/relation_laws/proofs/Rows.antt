@@ -38,8 +38,8 @@ use Rattle.pg_portal.specs.declared.results.describe.DescribePortalResponse.{Des
 use Rattle.pg_portal.specs.Describing.{is_empty_list, is_no_data}
 use Rattle.pg_portal.specs.Errors.{info_of}
 use Rattle.pg_portal.specs.Fields.{Field}
-use Rattle.pg_portal.specs.Fetching.{with_items}
-use Rattle.pg_portal.specs.Page.{PageEnd, AtLimit, AtEnd, AtError, item_page, page, before_error, first_error}
+use Rattle.pg_portal.specs.Fetching.{stage_after, with_items}
+use Rattle.pg_portal.specs.Page.{PageEnd, AtLimit, AtEnd, AtError, delivered_after, item_page, page, before_error, first_error}
 use Rattle.pg_portal.specs.Responses.{ToldResponse, ToldCopy}
 use Rattle.pg_portal.specs.Rows.{RowItem}
 use Rattle.pg_portal.specs.Statements.{stored, types_of}
@@ -51,7 +51,7 @@ use Rattle.pg_handlers.specs.declared.ends.EndKind.TheVariants as end
 use Rattle.pg_handlers.specs.CopyRows.{copy_row}
 use Rattle.pg_handlers.specs.Effect.{Effect, Called, Outcome, Done, Failed, Over, Stopped, says, refuses, silent}
 use Rattle.pg_handlers.specs.Errors.{values_for_empty, too_few_codes, unsupported_version}
-use Rattle.pg_handlers.specs.ExecuteRow.{at_stage, stage_after, page_effect, fetched, execute_polled, execute_run, executed_portal, executed_entry}
+use Rattle.pg_handlers.specs.ExecuteRow.{at_stage, page_effect, fetched, execute_polled, execute_run, executed_portal, executed_entry}
 use Rattle.pg_handlers.specs.ExtendedRows.{parse_complete, bind_complete, parsed, portal_bound, bound_portal, bound, described_statement, described_portal, statement_description, portal_description}
 use Rattle.pg_handlers.specs.Handlers.{Handlers}
 use Rattle.pg_handlers.specs.Questions.{Verdict, Passed, Canceled, Unanswered, questioned, started}
@@ -442,21 +442,24 @@ module _ (relations : List Relation) (answers : List Bool) (s : Talk) (g : IsSer
       paged calls replies stage is quiet heeds = put_is (client.Execute m) calls replies m.name (entry.Value (at_stage p stage))
           (one_value PortalIs (at_stage p stage) is) quiet heeds
 
-      page_is : (calls : List DeskCall) (r : ToldRows) (h : IsRest relations (session_style s.info) p.bound r)
+      page_is : (calls : List DeskCall) (r : ToldRows) (delivered : ℕ) (h : IsRest relations (session_style s.info) p.bound r)
           → CanCome relations answers h.place p.stage
           → rows_to_come (relation_at relations h.place).rows p.stage ≡ last_rows (relation_at relations h.place).rows r.items
           → ((o : Outcome RelationStatement) → Heeds calls o) → (ending : PageEnd DataRow) → (item_page m.max_rows r.items).ending ≡ ending
           → EffectIs calls (client.Execute m)
-          (page_effect (with_portal s m.name (entry.Value (at_stage p (stage_after r ending)))) r.command_tag (item_page m.max_rows r.items).rows ending)
-      page_is calls r h came same heeds (AtLimit left) e =
-          paged calls (row_replies (item_page m.max_rows r.items).rows ++ server.PortalSuspended (record {}) ∷ []) (Started (with_items r left)) (rest_is r h left (left_by_page m.max_rows r.items left e))
+          (page_effect (with_portal s m.name (entry.Value (at_stage p (stage_after r delivered (item_page m.max_rows r.items).rows ending)))) r.command_tag
+          (delivered_after delivered (length (item_page m.max_rows r.items).rows)) (item_page m.max_rows r.items).rows ending)
+      page_is calls r delivered h came same heeds (AtLimit left) e =
+          paged calls (row_replies (item_page m.max_rows r.items).rows ++ server.PortalSuspended (record {}) ∷ [])
+          (Started (with_items r left) (delivered_after delivered (length (item_page m.max_rows r.items).rows))) (rest_is r h left (left_by_page m.max_rows r.items left e))
           (quiet_append (row_replies (item_page m.max_rows r.items).rows) (server.PortalSuspended (record {}) ∷ [])
           (rows_quiet (item_page m.max_rows r.items).rows) refl) (heeds _)
-      page_is calls r h came same heeds AtEnd e = paged calls
-          (row_replies (item_page m.max_rows r.items).rows ++ done_with r.command_tag (length (item_page m.max_rows r.items).rows) ∷ []) Ended tt
+      page_is calls r delivered h came same heeds AtEnd e = paged calls
+          (row_replies (item_page m.max_rows r.items).rows ++ done_with r.command_tag (delivered_after delivered (length (item_page m.max_rows r.items).rows)) ∷ [])
+          (Ended (delivered_after delivered (length (item_page m.max_rows r.items).rows))) tt
           (quiet_append (row_replies (item_page m.max_rows r.items).rows)
-          (done_with r.command_tag (length (item_page m.max_rows r.items).rows) ∷ []) (rows_quiet (item_page m.max_rows r.items).rows) refl) (heeds _)
-      page_is calls r h came same heeds (AtError w left) e =
+          (done_with r.command_tag (delivered_after delivered (length (item_page m.max_rows r.items).rows)) ∷ []) (rows_quiet (item_page m.max_rows r.items).rows) refl) (heeds _)
+      page_is calls r delivered h came same heeds (AtError w left) e =
           let rows = last_rows (relation_at relations h.place).rows r.items in
           let formats = column_formats p.bound.result_column_format (relation_at relations h.place).columns in
           let met = page_met (made h.place) m.max_rows rows w left
@@ -464,22 +467,22 @@ module _ (relations : List Relation) (answers : List Bool) (s : Talk) (g : IsSer
           let why = row_refused (style_text s.info) (interval_style_of (style_text s.info)) formats met.0 w met.2 in
           let at : Contains (page m.max_rows (rows_to_come (relation_at relations h.place).rows p.stage)).rows met.0 =
           subst (λ (l : List (List Interval)). Contains (page m.max_rows l).rows met.0) (sym same) met.1 in
-          let t : Talk = with_portal s m.name (entry.Value (at_stage p (Started (with_items r left)))) in
+          let t : Talk = with_portal s m.name (entry.Value (at_stage p (Started (with_items r left) delivered))) in
           let is : IsOf kind.Style (info_of w) = subst (λ (w : PgWireError). IsOf kind.Style (info_of w)) (sym why.0.tells)
           (known _ _ refl) in (
             refl,
             (kind.Style, (q, why.0.no_style, (p, h.place, found, (h.means, came, (met.0, at, why.1)))), is),
             each_after_insert PortalIs s.portals m.name _
-                (one_value PortalIs (at_stage p (Started (with_items r left)))
+                (one_value PortalIs (at_stage p (Started (with_items r left) delivered))
                 (rest_is r h left (left_by_error m.max_rows r.items w left e))) g.portals,
             heeds (Failed t w),
           )
 
-      fetched_is : (calls : List DeskCall) (r : ToldRows) (h : IsRest relations (session_style s.info) p.bound r)
+      fetched_is : (calls : List DeskCall) (r : ToldRows) (delivered : ℕ) (h : IsRest relations (session_style s.info) p.bound r)
           → CanCome relations answers h.place p.stage
           → rows_to_come (relation_at relations h.place).rows p.stage ≡ last_rows (relation_at relations h.place).rows r.items
-          → ((o : Outcome RelationStatement) → Heeds calls o) → EffectIs calls (client.Execute m) (fetched s m p r)
-      fetched_is calls r h came same heeds = page_is calls r h came same heeds (item_page m.max_rows r.items).ending refl
+          → ((o : Outcome RelationStatement) → Heeds calls o) → EffectIs calls (client.Execute m) (fetched s m p r delivered)
+      fetched_is calls r delivered h came same heeds = page_is calls r delivered h came same heeds (item_page m.max_rows r.items).ending refl
 
       -- the whole response of a relation is a rest
       abbrev whole_rest : (place : ℕ) → p.bound.statement.statement ≡ statement.Relation place → (r : ToldRows)
@@ -526,7 +529,7 @@ module _ (relations : List Relation) (answers : List Bool) (s : Talk) (g : IsSer
           let came : CanCome relations answers place p.stage = subst (CanCome relations answers place) (sym stage) e in
           let same : rows_to_come (relation_at relations place).rows p.stage ≡ last_rows (relation_at relations place).rows r.items =
           ap (rows_to_come (relation_at relations place).rows) stage ∙ sym (all_are_last (made place) (relation_at relations place).rows) in
-          fetched_is (started (relation_at relations place).unready answers).calls r (whole_rest place means r refl) came same (passed_asks_none place e)
+          fetched_is (started (relation_at relations place).unready answers).calls r 0 (whole_rest place means r refl) came same (passed_asks_none place e)
 
       unstarted_is : p.stage ≡ Unstarted → (means : RelationStatement) → p.bound.statement.statement ≡ means
           → CalledIs (client.Execute m) (execute_run answers s m p (query_of relations s.info p.bound.result_column_format means))
@@ -543,12 +546,12 @@ module _ (relations : List Relation) (answers : List Bool) (s : Talk) (g : IsSer
 
       staged_is : (stage : Stage) → p.stage ≡ stage → CalledIs (client.Execute m) (executed_portal told.extended answers s m p stage)
       staged_is Unstarted e = unstarted_is e p.bound.statement.statement refl
-      staged_is (Started r) e =
+      staged_is (Started r delivered) e =
           let h : IsRest relations (session_style s.info) p.bound r =
           subst (IsStageOf relations (session_style s.info) p.bound) e (g.portals m.name p (ap value_under found)) in
-          fetched_is [] r h (subst (CanCome relations answers h.place) (sym e) tt) (ap (rows_to_come (relation_at relations h.place).rows) e)
+          fetched_is [] r delivered h (subst (CanCome relations answers h.place) (sym e) tt) (ap (rows_to_come (relation_at relations h.place).rows) e)
           (λ o. none_asked o)
-      staged_is Ended e = stays (client.Execute m) (done_with (codes "SELECT") 0 ∷ []) refl
+      staged_is (Ended delivered) e = stays (client.Execute m) (done_with (codes "SELECT") delivered ∷ []) refl
 
     execute_is : (m : Execute) (x : Option (Entry (TablePortal RelationStatement))) → fin.get s.portals m.name ≡ x
         → CalledIs (client.Execute m) (executed_entry told.extended answers s m x)

@@ -159,14 +159,14 @@ last_rows rows items = drop (length rows - length items) rows
 -- the rows of its relation that are to come of a portal
 abbrev pub rows_to_come : List (List Interval) → Stage → List (List Interval)
 rows_to_come rows Unstarted = rows
-rows_to_come rows (Started r) = last_rows rows r.items
-rows_to_come rows Ended = []
+rows_to_come rows (Started r delivered) = last_rows rows r.items
+rows_to_come rows (Ended delivered) = []
 
 -- A portal's rows can come: where it isn't started, the questions of its query were all answered false.
 abbrev pub CanCome : List Relation → List Bool → ℕ → Stage → Type 0
 CanCome relations answers place Unstarted = IsPassed relations answers place
-CanCome relations answers place (Started r) = Unit {0}
-CanCome relations answers place Ended = Unit {0}
+CanCome relations answers place (Started r delivered) = Unit {0}
+CanCome relations answers place (Ended delivered) = Unit {0}
 
 -- A portal of the relation at a place meets a text cell in the page of this limit.
 abbrev pub PageHasText : List Relation → List Bool → ℤ → TablePortal RelationStatement → ℕ → Type 0

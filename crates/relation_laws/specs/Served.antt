@@ -24,8 +24,8 @@ pub record IsRest (relations : List Relation) (style : Result IntervalStyle PgWi
 
 abbrev pub IsStageOf : List Relation → Result IntervalStyle PgWireError → BoundPortal RelationStatement → Stage → Type 0
 IsStageOf relations style p Unstarted = Unit {0}
-IsStageOf relations style p (Started r) = IsRest relations style p r
-IsStageOf relations style p Ended = Unit {0}
+IsStageOf relations style p (Started r delivered) = IsRest relations style p r
+IsStageOf relations style p (Ended delivered) = Unit {0}
 
 -- A state in which relations are served: what is to come of each started portal is a rest of its relation in the session's style, and before
 -- the startup packet no portal is stored.

@@ -34,7 +34,8 @@ use Rattle.pg_portal.specs.Describing.{Described, is_empty_list, is_no_data}
 use Rattle.pg_portal.specs.Errors.{info_of}
 use Rattle.pg_portal.specs.Fields.{Field}
 use Rattle.pg_portal.specs.Formats.{format_of}
-use Rattle.pg_portal.specs.Page.{PageEnd, AtLimit, AtEnd, AtError, item_page}
+use Rattle.pg_portal.specs.Fetching.{stage_after}
+use Rattle.pg_portal.specs.Page.{PageEnd, AtLimit, AtEnd, AtError, delivered_after, item_page}
 use Rattle.pg_portal.specs.Responses as response
 use Rattle.pg_portal.specs.Responses.{ToldResponse}
 use Rattle.pg_portal.specs.Statements.{prepared}
@@ -47,7 +48,7 @@ use Rattle.pg_handlers.specs.Answer.{Answer, Next, Goes, Ends, Stops, continued,
 use Rattle.pg_handlers.specs.CopyRows.{copy_row}
 use Rattle.pg_handlers.specs.Effect.{Effect, Called, Scope, UntilSync, AnswersReady, Outcome, Done, Failed, Over, Stopped, says, refuses, silent, after_error, settle, settled}
 use Rattle.pg_handlers.specs.Errors.{is_fatal, too_few_codes, values_for_empty}
-use Rattle.pg_handlers.specs.ExecuteRow.{at_stage, stage_after, page_effect, fetched, sent_in_execute, executed, execute_polled, executed_portal, executed_entry}
+use Rattle.pg_handlers.specs.ExecuteRow.{at_stage, page_effect, fetched, sent_in_execute, executed, execute_polled, executed_portal, executed_entry}
 use Rattle.pg_handlers.specs.ExtendedRows.{bind_complete, parsed, portal_bound, bound_portal, bound_with_columns, bound, described, described_statement, described_portal, statement_description, portal_description, on_describe, on_close}
 use Rattle.pg_handlers.specs.Handlers.{Handlers}
 use Rattle.pg_handlers.specs.Questions.{Verdict, Passed, Canceled, Unanswered, questioned}
@@ -130,8 +131,8 @@ module _ (relations : List Relation) (within : HoldIntervals relations) (even : 
 
   abbrev pub StageIs : Format → Stage → Type 0
   StageIs own Unstarted = Unit {0}
-  StageIs own (Started r) = ItemsAre (RowIn (Own own)) r.items
-  StageIs own Ended = Unit {0}
+  StageIs own (Started r delivered) = ItemsAre (RowIn (Own own)) r.items
+  StageIs own (Ended delivered) = Unit {0}
 
   -- what is left of a portal shows stored rows in the portal's format
   abbrev pub PortalIs : TablePortal RelationStatement → Type 0
@@ -331,30 +332,32 @@ module _ (relations : List Relation) (within : HoldIntervals relations) (even : 
 
     -- ---- Execute
 
-    page_effect_is : (F : Format → Type 0) (t : Talk) → Good t → (tag : List ℕ) (rows : List DataRow) (ending : PageEnd DataRow)
-        → AllByRecursion (RowIn F) rows → EffectIs F (page_effect t tag rows ending)
-    page_effect_is F t f tag rows (AtLimit items) h =
+    page_effect_is : (F : Format → Type 0) (t : Talk) → Good t → (tag : List ℕ) (number : ℕ) (rows : List DataRow) (ending : PageEnd DataRow)
+        → AllByRecursion (RowIn F) rows → EffectIs F (page_effect t tag number rows ending)
+    page_effect_is F t f tag number rows (AtLimit items) h =
         (shown_append F (row_replies rows) (server.PortalSuspended (record {}) ∷ []) (row_replies_are (RowIn F) IsLine rows h) (tt, tt), f)
-    page_effect_is F t f tag rows AtEnd h =
-        (shown_append F (row_replies rows) (done_with tag (length rows) ∷ []) (row_replies_are (RowIn F) IsLine rows h) (tt, tt), f)
-    page_effect_is F t f tag rows (AtError e items) h = (tt, f)
+    page_effect_is F t f tag number rows AtEnd h =
+        (shown_append F (row_replies rows) (done_with tag number ∷ []) (row_replies_are (RowIn F) IsLine rows h) (tt, tt), f)
+    page_effect_is F t f tag number rows (AtError e items) h = (tt, f)
 
-    stage_is : (own : Format) (r : ToldRows) (ending : PageEnd DataRow) → EndIs (RowIn (Own own)) ending → StageIs own (stage_after r ending)
-    stage_is own r (AtLimit items) h = h
-    stage_is own r AtEnd h = tt
-    stage_is own r (AtError e items) h = h
+    stage_is : (own : Format) (r : ToldRows) (delivered : ℕ) (rows : List DataRow) (ending : PageEnd DataRow) → EndIs (RowIn (Own own)) ending
+        → StageIs own (stage_after r delivered rows ending)
+    stage_is own r d rows (AtLimit items) h = h
+    stage_is own r d rows AtEnd h = tt
+    stage_is own r d rows (AtError e items) h = h
 
     module _ (m : Execute) (p : TablePortal RelationStatement) (is : IsFormat p.bound.result_column_format) where
       abbrev own : Format
       own = p.bound.result_column_format
 
-      fetched_is : (r : ToldRows) → ItemsAre (RowIn (Own own)) r.items → EffectIs (Own own) (fetched s m p r)
-      fetched_is r h =
+      fetched_is : (r : ToldRows) (delivered : ℕ) → ItemsAre (RowIn (Own own)) r.items → EffectIs (Own own) (fetched s m p r delivered)
+      fetched_is r delivered h =
           let page = item_page m.max_rows r.items in
           let shown = page_is (RowIn (Own own)) m.max_rows r.items h in
-          page_effect_is (Own own) (with_portal s m.name (entry.Value (at_stage p (stage_after r page.ending))))
-          (portal_is m.name (at_stage p (stage_after r page.ending)) (is, stage_is own r page.ending shown.1))
-          r.command_tag page.rows page.ending shown.0
+          page_effect_is (Own own) (with_portal s m.name (entry.Value (at_stage p (stage_after r delivered page.rows page.ending))))
+          (portal_is m.name (at_stage p (stage_after r delivered page.rows page.ending))
+          (is, stage_is own r delivered page.rows page.ending shown.1))
+          r.command_tag (delivered_after delivered (length page.rows)) page.rows page.ending shown.0
 
       behind_is : (b : Bool) (t : Talk) → Good t → (x : PgWireConnectionState) → Good (if b then in_phase t x else t)
       behind_is true t f x = f
@@ -372,7 +375,7 @@ module _ (relations : List Relation) (within : HoldIntervals relations) (even : 
           sent_is t f sent sent.refusal (responded_are (RowIn (Own own)) IsLine t.info.status r h)
 
       executed_is : (r : ToldResponse) → ResponseIs (RowIn (Own own)) IsLine r → EffectIs (Own own) (executed s m p r)
-      executed_is (response.Query r) h = fetched_is r h
+      executed_is (response.Query r) h = fetched_is r 0 h
       executed_is (response.Error info) h = (tt, g)
       executed_is (response.TransactionEnd tag) h = other_is (without_unnamed_portal s) (without_is []) (response.TransactionEnd tag) tt
       executed_is response.EmptyQuery h = other_is s g response.EmptyQuery tt
@@ -393,8 +396,8 @@ module _ (relations : List Relation) (within : HoldIntervals relations) (even : 
       staged_is answers Unstarted h =
           let query = told.extended.query s.info p.bound m.max_rows in
           polled_is (questioned query.owes answers).verdict query.outcome (query_is s.info g.0 own p.bound.statement.statement)
-      staged_is answers (Started r) h = fetched_is r h
-      staged_is answers Ended h = ((tt, tt), g)
+      staged_is answers (Started r delivered) h = fetched_is r delivered h
+      staged_is answers (Ended delivered) h = ((tt, tt), g)
 
     execute_is : (answers : List Bool) (m : Execute) (x : Option (Entry (TablePortal RelationStatement))) → fin.get s.portals m.name ≡ x
         → EffectIs (IsOwnFormat s (client.Execute m)) (executed_entry told.extended answers s m x).effect

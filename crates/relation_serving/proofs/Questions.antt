@@ -59,8 +59,8 @@ started_few most owed answers h = let p = questioned_few owed answers in omega (
 stage_few : {S : Type 0} (h : Handlers S) (most : ℕ) → OweAtMost h most → (answers : List Bool) (s : State S) (m : Execute) (p : TablePortal S) (stage : Stage)
     → questions (executed_portal h.extended answers s m p stage).calls ≤ most
 stage_few h most few answers s m p Unstarted = started_few most (h.extended.query s.info p.bound m.max_rows).owes answers (few.extended s.info p.bound m.max_rows)
-stage_few h most few answers s m p (Started r) = omega arith
-stage_few h most few answers s m p Ended = omega arith
+stage_few h most few answers s m p (Started r d) = omega arith
+stage_few h most few answers s m p (Ended d) = omega arith
 
 entry_few : {S : Type 0} (h : Handlers S) (most : ℕ) → OweAtMost h most → (answers : List Bool) (s : State S) (m : Execute) (e : Option (Entry (TablePortal S)))
     → questions (executed_entry h.extended answers s m e).calls ≤ most

@@ -1,5 +1,5 @@
 -- When a state of the whole table, served by the relation handlers, is one of the core table; and the rows that need no case by case.
-use Rattle.std.proofs.Common.{◌≡◌, ℕ, Bool, true, false, if◌then◌else◌, IsTrue, List, [], Some, Ok, codes, refl, ap, map, drop}
+use Rattle.std.proofs.Common.{◌≡◌, ◌≤◌, ◌-◌, ◌^◌, ℕ, Bool, true, false, if◌then◌else◌, IsTrue, List, [], Some, Ok, codes, refl, ap, map, drop}
 use Rattle.std.specs.FinMap as fin
 use Rattle.pg_interval.specs.declared.pg_interval.Interval.{Interval}
 use Rattle.pg_messages.specs.Status.{to_error_state}
@@ -46,18 +46,19 @@ IsBinaryIn formats names = column_formats formats names ≡ map (λ name. field.
 abbrev pub binary_item : List Interval → RowItem
 binary_item row = Ok (binary_row row)
 
--- A started portal's items are the binary rows from its position on.
-abbrev pub StageAgrees : List Relation → RelationStatement → Stage → ℕ → Bool → Type 0
-StageAgrees relations means Unstarted position false = position ≡ 0
-StageAgrees relations (statement.Relation place) (Started r) position true =
-    (r.command_tag ≡ codes "SELECT") × (r.items ≡ map binary_item (drop position (relation_at relations place).rows))
-StageAgrees relations (statement.Relation place) Ended position true = drop position (relation_at relations place).rows ≡ []
-StageAgrees relations _ _ _ _ = ⊥
+-- A started portal's items are the binary rows from its position on, and as many rows were delivered.
+abbrev pub StageAgrees : List Relation → RelationStatement → Stage → ℕ → ℕ → Bool → Type 0
+StageAgrees relations means Unstarted position delivered false = (position ≡ 0) × (delivered ≡ 0)
+StageAgrees relations (statement.Relation place) (Started r told) position delivered true = (r.command_tag ≡ codes "SELECT")
+    × (r.items ≡ map binary_item (drop position (relation_at relations place).rows)) × (told ≡ delivered)
+StageAgrees relations (statement.Relation place) (Ended told) position delivered true =
+    (drop position (relation_at relations place).rows ≡ []) × (told ≡ delivered) × (delivered ≤ 2 ^ 64 - 1)
+StageAgrees relations _ _ _ _ _ = ⊥
 
 pub record PortalAgrees (relations : List Relation) (p : TablePortal RelationStatement) (c : CorePortal) : Type 0 where
   pub meaning : p.bound.statement.statement ≡ c.means
   pub binary : IsBinaryIn p.bound.result_column_format (columns_of relations c.means)
-  pub come : StageAgrees relations c.means p.stage c.position c.is_started
+  pub come : StageAgrees relations c.means p.stage c.position c.delivered c.is_started
 
 pub record Agrees (waits : Bool) (setting : Setting) (s : State RelationStatement) (c : CoreState) : Type 0 where
   pub pid : s.info.pid ≡ setting.pid

@@ -31,10 +31,10 @@ abbrev setting : Setting
 setting = record { relations = relation (codes "shifts") 0 ∷ relation (codes "slow") 2 ∷ []; pid = pos 7; key = 1 ∷ 2 ∷ 3 ∷ 4 ∷ [] }
 
 abbrev portal : ℕ → ℕ → CorePortal
-portal place position = record { means = statement.Relation place; position = position; is_started = true }
+portal place position = record { means = statement.Relation place; position = position; delivered = position; is_started = true }
 
 abbrev unstarted : ℕ → CorePortal
-unstarted place = record { means = statement.Relation place; position = 0; is_started = false }
+unstarted place = record { means = statement.Relation place; position = 0; delivered = 0; is_started = false }
 
 abbrev error : List ℕ → List ℕ → PgWireBackendMessage
 error code message = server.ErrorResponse (record { info = record { severity = codes "ERROR"; code = code; message = message } })
@@ -65,7 +65,7 @@ module _ (s : CoreState) where
 
   -- the last row alone, which the limit doesn't end
   last_page : core_executed setting [] s (execute 2) (Some (entry.Value (portal 0 2)))
-      ≡ record { replies = row 3 ∷ done (codes "SELECT 1") ∷ []; calls = []; next = Goes (at_portal (portal 0 3)) }
+      ≡ record { replies = row 3 ∷ done (codes "SELECT 3") ∷ []; calls = []; next = Goes (at_portal (portal 0 3)) }
   unfolding digits
   last_page = refl
 
@@ -80,7 +80,7 @@ module _ (s : CoreState) where
 
   -- and then there is none
   empty_page : core_executed setting [] s (execute 0) (Some (entry.Value (portal 0 3)))
-      ≡ record { replies = done (codes "SELECT 0") ∷ []; calls = []; next = Goes (at_portal (portal 0 3)) }
+      ≡ record { replies = done (codes "SELECT 3") ∷ []; calls = []; next = Goes (at_portal (portal 0 3)) }
   unfolding digits
   empty_page = refl
 
@@ -113,7 +113,7 @@ module _ (s : CoreState) where
   empty_portal = refl
 
   committed : core_executed setting [] s (execute 0)
-      (Some (entry.Value (record { means = statement.Commit; position = 0; is_started = false })))
+      (Some (entry.Value (record { means = statement.Commit; position = 0; delivered = 0; is_started = false })))
       ≡ record {
         replies = done (codes "COMMIT") ∷ [];
         calls = desk.Start ∷ [];

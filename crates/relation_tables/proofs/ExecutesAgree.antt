@@ -1,5 +1,5 @@
 -- Execute is answered alike by both tables.
-use Rattle.std.proofs.Common.{◌≡◌, ◌+◌, ℕ, zero, suc, pos, negsuc, ℤ, Bool, true, false, cond, if◌then◌else◌, List, [], ◌∷◌, ◌++◌, Option, Some, None, Ok, codes, refl, ap, sym, subst, arith, append-nil, ◌∙◌, map, length, drop}
+use Rattle.std.proofs.Common.{◌≡◌, ◌≤◌, ◌+◌, ◌-◌, ◌^◌, ℕ, zero, suc, pos, negsuc, ℤ, Bool, true, false, cond, if◌then◌else◌, List, [], ◌∷◌, ◌++◌, Option, Some, None, Ok, codes, refl, ap, sym, subst, arith, append-nil, ◌∙◌, map, length, drop}
 use Rattle.std.proofs.Math.Path.{ap₂}
 use Rattle.std.proofs.lemmas.List.{length-map}
 use Rattle.std.proofs.lemmas.Slice.Eq.{bytes_eq-Decides}
@@ -15,14 +15,15 @@ use Rattle.pg_portal.specs.declared.error.PgWireError.TheVariants as wire
 use Rattle.pg_portal.specs.declared.store.Entry.{Entry}
 use Rattle.pg_portal.specs.declared.store.Entry.TheVariants as entry
 use Rattle.pg_portal.specs.Errors.{info_of}
-use Rattle.pg_portal.specs.Page.{Page, page, is_reached, item_page}
+use Rattle.pg_portal.specs.Page.{Page, delivered_after, page, is_reached, item_page}
+use Rattle.pg_portal.specs.Fetching.{stage_after}
 use Rattle.pg_portal.specs.Told.{TablePortal, Stage, Unstarted, Started, Ended, ToldRows}
 use Rattle.pg_handlers.specs.declared.desk.DeskCall.{DeskCall}
 use Rattle.pg_handlers.specs.declared.ends.EndKind.TheVariants as end
 use Rattle.pg_handlers.specs.Answer.{Answer, Goes, Ends}
 use Rattle.pg_handlers.specs.Effect.{Effect, settled, Outcome, Done, Failed, Over, Stopped, UntilSync}
 use Rattle.pg_handlers.specs.Errors.{is_fatal}
-use Rattle.pg_handlers.specs.ExecuteRow.{page_effect, at_stage, stage_after, fetched, fetched_nothing, execute_polled, execute_run, executed_portal, executed_entry, on_execute}
+use Rattle.pg_handlers.specs.ExecuteRow.{page_effect, at_stage, fetched, fetched_nothing, execute_polled, execute_run, executed_portal, executed_entry, on_execute}
 use Rattle.pg_handlers.specs.Questions.{Verdict, Passed, Canceled, Unanswered, started}
 use Rattle.pg_handlers.specs.Replies.{Replies, row_replies, done_with}
 use Rattle.pg_handlers.specs.State.{State, with_portal}
@@ -36,6 +37,13 @@ use Rattle.relation_tables.proofs.Agreement.{Agrees, AgreeRow, AgreeCall, StageA
 use Rattle.relation_tables.proofs.ItemsAgree.{even_at, binary_items, items_of_page, binary_page, drop-further, page_to_the_end}
 use Rattle.relation_tables.proofs.Runs.{Agree}
 
+-- the number of rows delivered is a u64, and stays where no row comes
+counted_within : (delivered rows : ℕ) → delivered_after delivered rows ≤ 2 ^ 64 - 1
+counted_within delivered rows = grind arith
+
+kept_count : (delivered : ℕ) → delivered ≤ 2 ^ 64 - 1 → delivered_after delivered 0 ≡ delivered
+kept_count delivered h = grind arith
+
 module _ (waits : Bool) (setting : Setting) (s : State RelationStatement) (c : CoreState) (h : Agrees waits setting s c) where
   -- the rest of a relation's rows from a portal's position on
   abbrev to_come : ℕ → CorePortal → List (List Interval)
@@ -46,49 +54,57 @@ module _ (waits : Bool) (setting : Setting) (s : State RelationStatement) (c : C
   further place q n = drop-further q.position n (relation_at setting.relations place).rows
 
   -- the whole table's effect of a page
-  abbrev page_told : Execute → TablePortal RelationStatement → CorePortal → ToldRows → ℕ → Page (List Interval) → Effect RelationStatement
-  page_told m p q r place pg =
+  abbrev page_told : Execute → TablePortal RelationStatement → CorePortal → ToldRows → ℕ → ℕ → Page (List Interval)
+      → Effect RelationStatement
+  page_told m p q r delivered place pg =
       let told = items_of_page pg (to_come place q) in
-      page_effect (with_portal s m.name (entry.Value (at_stage p (stage_after r told.ending)))) r.command_tag told.rows told.ending
+      page_effect (with_portal s m.name (entry.Value (at_stage p (stage_after r delivered told.rows told.ending)))) r.command_tag
+      (delivered_after delivered (length told.rows)) told.rows told.ending
+
+  -- as many rows are delivered behind a page
+  as_many : (told : ℕ) (q : CorePortal) → told ≡ q.delivered → (rows : List (List Interval))
+      → delivered_after told (length (map binary_row rows)) ≡ delivered_after q.delivered (length rows)
+  as_many told q same rows = ap₂ delivered_after same (length-map rows binary_row)
 
   -- a page that goes on to its end or is suspended
-  paged : (m : Execute) (p : TablePortal RelationStatement) (q : CorePortal) (r : ToldRows) (place : ℕ)
+  paged : (m : Execute) (p : TablePortal RelationStatement) (q : CorePortal) (r : ToldRows) (told place : ℕ) → told ≡ q.delivered
       → p.bound.statement.statement ≡ q.means
       → IsBinaryIn p.bound.result_column_format (columns_of setting.relations q.means) → q.means ≡ statement.Relation place
       → r.command_tag ≡ codes "SELECT"
       → (rows : List (List Interval)) (suspended : Bool) → (suspended ≡ false → drop (length rows) (to_come place q) ≡ [])
-      → AgreeRow waits setting (page_told m p q r place (record { rows = rows; suspended = suspended }))
+      → AgreeRow waits setting (page_told m p q r told place (record { rows = rows; suspended = suspended }))
       (core_paged c m (core_portal_after q (record { rows = rows; suspended = suspended })) (record { rows = rows; suspended = suspended }))
-  paged m p q r place e binary is tag rows true at_end = record {
+  paged m p q r told place same e binary is tag rows true at_end = record {
     replies = refl;
     calls = refl;
     next = with_portal_agrees waits setting s c h m.name _ _ (record {
       meaning = e;
       binary = binary;
-      come = rw is (tag, ap (λ xs. map binary_item xs) (sym (further place q (length rows))));
+      come = rw is (tag, ap (λ xs. map binary_item xs) (sym (further place q (length rows))), as_many told q same rows);
     });
   }
-  paged m p q r place e binary is tag rows false at_end = record {
-    replies = ap₂ (λ t n. row_replies (map binary_row rows) ++ done_with t n ∷ []) tag (length-map rows binary_row);
+  paged m p q r told place same e binary is tag rows false at_end = record {
+    replies = ap₂ (λ t n. row_replies (map binary_row rows) ++ done_with t n ∷ []) tag (as_many told q same rows);
     calls = refl;
     next = with_portal_agrees waits setting s c h m.name _ _ (record {
       meaning = e;
       binary = binary;
-      come = rw is (further place q (length rows) ∙ at_end refl);
+      come = rw is (further place q (length rows) ∙ at_end refl, as_many told q same rows, counted_within q.delivered (length rows));
     });
   }
 
   -- a page of a portal whose items are the binary rows from its position on
-  pub fetched_agrees : (m : Execute) (p : TablePortal RelationStatement) (q : CorePortal) (r : ToldRows) (place : ℕ)
+  pub fetched_agrees : (m : Execute) (p : TablePortal RelationStatement) (q : CorePortal) (r : ToldRows) (told place : ℕ)
+      → told ≡ q.delivered
       → p.bound.statement.statement ≡ q.means
       → IsBinaryIn p.bound.result_column_format (columns_of setting.relations q.means) → q.means ≡ statement.Relation place
       → r.command_tag ≡ codes "SELECT"
-      → r.items ≡ map binary_item (to_come place q) → AgreeRow waits setting (fetched s m p r) (core_fetched setting c m q place)
-  fetched_agrees m p q r place e binary is tag items =
+      → r.items ≡ map binary_item (to_come place q) → AgreeRow waits setting (fetched s m p r told) (core_fetched setting c m q place)
+  fetched_agrees m p q r told place same e binary is tag items =
       let pg = page m.max_rows (to_come place q) in
       let pages : item_page m.max_rows r.items ≡ items_of_page pg (to_come place q)
       = ap (λ xs. item_page m.max_rows xs) items ∙ binary_page m.max_rows (to_come place q) in
-      rw pages (paged m p q r place e binary is tag pg.rows pg.suspended (page_to_the_end m.max_rows (to_come place q)))
+      rw pages (paged m p q r told place same e binary is tag pg.rows pg.suspended (page_to_the_end m.max_rows (to_come place q)))
 
   -- ---- a portal that isn't started
 
@@ -131,21 +147,21 @@ module _ (waits : Bool) (setting : Setting) (s : State RelationStatement) (c : C
 
   polled_agrees : (m : Execute) (p : TablePortal RelationStatement) (q : CorePortal) (place : ℕ) → HaveEvenRows setting.relations
       → p.bound.statement.statement ≡ q.means → q.means ≡ statement.Relation place
-      → IsBinaryIn p.bound.result_column_format (columns_of setting.relations q.means) → q.position ≡ 0 → (v : Verdict)
+      → IsBinaryIn p.bound.result_column_format (columns_of setting.relations q.means) → q.position ≡ 0 → q.delivered ≡ 0 → (v : Verdict)
       → AgreeRow waits setting
       (execute_polled s m p v (Ok (rows_response s.info p.bound.result_column_format (relation_at setting.relations place))))
       (core_polled setting c m q place v)
-  polled_agrees m p q place even e is binary first Unanswered = record { replies = refl; calls = refl; next = tt }
-  polled_agrees m p q place even e is binary first Canceled = refuses_agree waits setting wire.QueryCanceled refl s c h
-  polled_agrees m p q place even e is binary first Passed =
-      fetched_agrees m p q _ place e binary is refl (items_at p q place even is binary first)
+  polled_agrees m p q place even e is binary first none Unanswered = record { replies = refl; calls = refl; next = tt }
+  polled_agrees m p q place even e is binary first none Canceled = refuses_agree waits setting wire.QueryCanceled refl s c h
+  polled_agrees m p q place even e is binary first none Passed =
+      fetched_agrees m p q _ 0 place (sym none) e binary is refl (items_at p q place even is binary first)
 
   run_agrees : (answers : List Bool) (m : Execute) (p : TablePortal RelationStatement) (q : CorePortal) (x : RelationStatement)
       → HaveEvenRows setting.relations → p.bound.statement.statement ≡ q.means → q.means ≡ x
-      → IsBinaryIn p.bound.result_column_format (columns_of setting.relations q.means) → q.position ≡ 0
+      → IsBinaryIn p.bound.result_column_format (columns_of setting.relations q.means) → q.position ≡ 0 → q.delivered ≡ 0
       → AgreeCall waits setting (execute_run answers s m p (query_of setting.relations s.info p.bound.result_column_format x))
       (core_run setting answers c m q x)
-  run_agrees answers m p q statement.Begin even e is binary first = record {
+  run_agrees answers m p q statement.Begin even e is binary first none = record {
     replies = refl;
     calls = refl;
     next = record {
@@ -157,7 +173,7 @@ module _ (waits : Bool) (setting : Setting) (s : State RelationStatement) (c : C
       portals = h.portals;
     };
   }
-  run_agrees answers m p q statement.Commit even e is binary first =
+  run_agrees answers m p q statement.Commit even e is binary first none =
       let gone = without_portal_agrees waits setting s c h [] in
       record {
         replies = refl;
@@ -171,11 +187,11 @@ module _ (waits : Bool) (setting : Setting) (s : State RelationStatement) (c : C
           portals = gone.portals;
         };
       }
-  run_agrees answers m p q (statement.Relation place) even e is binary first =
+  run_agrees answers m p q (statement.Relation place) even e is binary first none =
       let asked = started (relation_at setting.relations place).unready answers in
       calling_agrees asked.calls
       (execute_polled s m p asked.verdict (Ok (rows_response s.info p.bound.result_column_format (relation_at setting.relations place))))
-      (core_polled setting c m q place asked.verdict) (polled_agrees m p q place even e is binary first asked.verdict)
+      (core_polled setting c m q place asked.verdict) (polled_agrees m p q place even e is binary first none asked.verdict)
 
   -- ---- a finished portal
 
@@ -198,16 +214,17 @@ module _ (waits : Bool) (setting : Setting) (s : State RelationStatement) (c : C
           rw same k
       by_case false u = h.portals asked
 
-  finished_agrees : (m : Execute) (p : TablePortal RelationStatement) (q : CorePortal) (place : ℕ)
+  finished_agrees : (m : Execute) (p : TablePortal RelationStatement) (q : CorePortal) (told place : ℕ)
       → fin.get s.portals m.name ≡ Some (entry.Value p)
       → p.bound.statement.statement ≡ q.means → q.means ≡ statement.Relation place
-      → IsBinaryIn p.bound.result_column_format (columns_of setting.relations q.means) → p.stage ≡ Ended → to_come place q ≡ []
-      → AgreeRow waits setting (fetched_nothing s) (core_fetched setting c m q place)
-  finished_agrees m p q place stored e is binary ended none =
+      → IsBinaryIn p.bound.result_column_format (columns_of setting.relations q.means) → p.stage ≡ Ended told → to_come place q ≡ []
+      → told ≡ q.delivered → q.delivered ≤ 2 ^ 64 - 1
+      → AgreeRow waits setting (fetched_nothing s told) (core_fetched setting c m q place)
+  finished_agrees m p q told place stored e is binary ended none same within =
       let nothing_more : page m.max_rows (to_come place q) ≡ record { rows = []; suspended = false }
       = ap (λ xs. page m.max_rows xs) none ∙ page_of_nothing m.max_rows in
       rw nothing_more (record {
-        replies = refl;
+        replies = ap (λ d. done_with (codes "SELECT") d ∷ []) (same ∙ sym (kept_count q.delivered within));
         calls = refl;
         next = record {
           pid = h.pid;
@@ -218,7 +235,7 @@ module _ (waits : Bool) (setting : Setting) (s : State RelationStatement) (c : C
           portals = kept m.name (entry.Value p) _ stored (record {
             meaning = e;
             binary = binary;
-            come = rw (is, ended) (further place q 0 ∙ none);
+            come = rw (is, ended) (further place q 0 ∙ none, same ∙ sym (kept_count q.delivered within), counted_within q.delivered 0);
           });
         };
       })
@@ -228,17 +245,17 @@ module _ (waits : Bool) (setting : Setting) (s : State RelationStatement) (c : C
   staged : (answers : List Bool) (m : Execute) (p : TablePortal RelationStatement) (q : CorePortal) → HaveEvenRows setting.relations
       → fin.get s.portals m.name ≡ Some (entry.Value p) → p.bound.statement.statement ≡ q.means
       → IsBinaryIn p.bound.result_column_format (columns_of setting.relations q.means)
-      → (st : Stage) (x : RelationStatement) (b : Bool) → p.stage ≡ st → q.means ≡ x → StageAgrees setting.relations x st q.position b
+      → (st : Stage) (x : RelationStatement) (b : Bool) → p.stage ≡ st → q.means ≡ x → StageAgrees setting.relations x st q.position q.delivered b
       → AgreeCall waits setting (executed_portal (told_extended setting.relations) answers s m p st)
       (if b then core_executed_started setting c m q x else core_run setting answers c m q x)
   staged answers m p q even stored e binary Unstarted x false at is come =
       let told : p.bound.statement.statement ≡ x = e ∙ is in
       subst (λ y. AgreeCall waits setting (execute_run answers s m p (query_of setting.relations s.info p.bound.result_column_format y))
-      (core_run setting answers c m q x)) (sym told) (run_agrees answers m p q x even e is binary come)
-  staged answers m p q even stored e binary (Started r) (statement.Relation place) true at is come =
-      fetched_agrees m p q r place e binary is come.0 come.1
-  staged answers m p q even stored e binary Ended (statement.Relation place) true at is come =
-      finished_agrees m p q place stored e is binary at come
+      (core_run setting answers c m q x)) (sym told) (run_agrees answers m p q x even e is binary come.0 come.1)
+  staged answers m p q even stored e binary (Started r told) (statement.Relation place) true at is come =
+      fetched_agrees m p q r told place come.2 e binary is come.0 come.1
+  staged answers m p q even stored e binary (Ended told) (statement.Relation place) true at is come =
+      finished_agrees m p q told place stored e is binary at come.0 come.1 come.2
   staged answers m p q even stored e binary _ _ _ at is come = absurd come
 
   entry_agrees : (answers : List Bool) (m : Execute) → HaveEvenRows setting.relations

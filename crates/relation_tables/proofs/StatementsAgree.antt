@@ -94,10 +94,10 @@ module _ (waits : Bool) (setting : Setting) (s : State RelationStatement) (c : C
   portal_is_put : (m : Bind) (st : StoredStatement RelationStatement) (ct : CoreStatement) → StatementAgrees st ct
       → IsBinaryIn (format_of m.result_column_format_codes) (columns_of setting.relations ct.means)
       → AgreeRow waits setting (bound_portal s m st)
-      (core_put c m (entry.Value (record { means = ct.means; position = 0; is_started = false })))
+      (core_put c m (entry.Value (record { means = ct.means; position = 0; delivered = 0; is_started = false })))
   portal_is_put m st ct e binary =
       says_agree waits setting bind_complete _ _
-      (with_portal_agrees waits setting s c h m.portal_name _ _ (record { meaning = e.meaning; binary = binary; come = refl }))
+      (with_portal_agrees waits setting s c h m.portal_name _ _ (record { meaning = e.meaning; binary = binary; come = (refl, refl) }))
 
   -- the test of the codes, at once or in two steps
   by_count : (m : Bind) (st : StoredStatement RelationStatement) (ct : CoreStatement) → StatementAgrees st ct → (n k : ℕ) (a b : Bool)
@@ -105,7 +105,7 @@ module _ (waits : Bool) (setting : Setting) (s : State RelationStatement) (c : C
       → AgreeRow waits setting
       (if a then (if b then refuses s (wire.UserError (too_few_codes n k)) else bound_portal s m st) else bound_portal s m st)
       (if a && b then core_refuses c (wire.UserError (too_few_codes n k))
-      else core_put c m (entry.Value (record { means = ct.means; position = 0; is_started = false })))
+      else core_put c m (entry.Value (record { means = ct.means; position = 0; delivered = 0; is_started = false })))
   by_count m st ct e n k true true binary = refuses_agree waits setting (wire.UserError (too_few_codes n k)) refl s c h
   by_count m st ct e n k true false binary = portal_is_put m st ct e (binary refl)
   by_count m st ct e n k false b binary = portal_is_put m st ct e (binary refl)

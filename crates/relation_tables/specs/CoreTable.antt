@@ -25,7 +25,7 @@ use Rattle.pg_portal.specs.declared.store.Entry.TheVariants as entry
 use Rattle.pg_portal.specs.Describing.{is_empty_list}
 use Rattle.pg_portal.specs.Errors.{info_of}
 use Rattle.pg_portal.specs.Names.{NameMap}
-use Rattle.pg_portal.specs.Page.{Page, page}
+use Rattle.pg_portal.specs.Page.{Page, delivered_after, page}
 use Rattle.pg_portal.specs.Texts.{is_blank}
 use Rattle.pg_handlers.specs.declared.desk.DeskCall.{DeskCall}
 use Rattle.pg_handlers.specs.declared.desk.DeskCall.TheVariants as desk
@@ -54,10 +54,12 @@ pub record CoreStatement : Type 0 where
   pub means : RelationStatement
   pub oids : List ℕ
 
--- a portal: what its statement meant when it was bound, the position of the next row, and whether it was started
+-- a portal: what its statement meant when it was bound, the position of the next row, the number of rows delivered, and whether it was
+-- started
 pub record CorePortal : Type 0 where
   pub means : RelationStatement
   pub position : ℕ
+  pub delivered : ℕ
   pub is_started : Bool
 
 pub record CoreState : Type 0 where
@@ -128,7 +130,7 @@ core_bound setting s m (Some (entry.Value statement)) =
     let columns = length (columns_of setting.relations statement.means) in
     if nat_le 2 codes && nat_lt codes columns
     then core_refuses s (wire.UserError (too_few_codes codes columns))
-    else core_put s m (entry.Value (record { means = statement.means; position = 0; is_started = false }))
+    else core_put s m (entry.Value (record { means = statement.means; position = 0; delivered = 0; is_started = false }))
 
 -- Bind: a portal at its first row.
 abbrev pub core_bind : Setting → CoreState → Bind → Answer CoreState
@@ -168,14 +170,18 @@ core_describe setting s m =
 
 -- the portal behind a page
 abbrev pub core_portal_after : CorePortal → Page (List Interval) → CorePortal
-core_portal_after p page = record p { position = p.position + length page.rows; is_started = true }
+core_portal_after p page = record p {
+  position = p.position + length page.rows;
+  delivered = delivered_after p.delivered (length page.rows);
+  is_started = true;
+}
 
--- behind a page's rows: that the portal is suspended, or the tag with the number of these rows
-abbrev pub core_page_end : Page (List Interval) → PgWireBackendMessage
-core_page_end page = if page.suspended then server.PortalSuspended (record {}) else done_with (codes "SELECT") (length page.rows)
+-- behind a page's rows: that the portal is suspended, or the tag with the number of rows delivered
+abbrev pub core_page_end : CorePortal → Bool → PgWireBackendMessage
+core_page_end after suspended = if suspended then server.PortalSuspended (record {}) else done_with (codes "SELECT") after.delivered
 
 abbrev pub core_paged : CoreState → Execute → CorePortal → Page (List Interval) → Answer CoreState
-core_paged s m after page = core_says (row_replies (map binary_row page.rows) ++ core_page_end page ∷ [])
+core_paged s m after page = core_says (row_replies (map binary_row page.rows) ++ core_page_end after page.suspended ∷ [])
     (record s { portals = fin.insert s.portals m.name (entry.Value after) })
 
 -- a page of a relation from the portal's position on

@@ -71,7 +71,7 @@ abbrev pub division_by_zero : PgWireError
 division_by_zero = wire.UserError (error (codes "22012") (codes "division by zero"))
 
 abbrev pub broken_items : FieldFormat → List RowItem
-broken_items f = Ok (first_row f) ∷ Err division_by_zero ∷ Ok second_row ∷ []
+broken_items f = Ok (first_row f) ∷ Err division_by_zero ∷ Ok second_row ∷ Ok second_row ∷ []
 
 abbrev pub rows_told : Format → List RowItem → ToldRows
 rows_told formats items = record { command_tag = codes "SELECT"; fields = columns formats; items = items }

@@ -10,7 +10,7 @@ use crate::words::trimmed;
 pub enum SampleStatement {
     /// `pair`: two rows.
     Pair,
-    /// `broken`: two rows with an error between them.
+    /// `broken`: a row, an error, and another row twice.
     Broken,
     /// `in`: data from the client.
     CopyIn,

@@ -55,13 +55,14 @@ pub(crate) fn pair_rows(alloc: Global, format: FieldFormat) -> Result<ListRows, 
     Ok(ListRows::new(items))
 }
 
-/// Both rows, and an error between them.
+/// The first row, an error, and the second row twice.
 pub(crate) fn broken_rows(alloc: Global, format: FieldFormat) -> Result<ListRows, AllocError>
     ensures { IfOk result (λ rows. rows ≡ broken_items format) }
 {
     let mut items = PgList::new(alloc);
     items.push(Ok(first_row(alloc, format)?))?;
     items.push(Err(division_by_zero(alloc)?))?;
+    items.push(Ok(row(alloc, &NULL_ROW)?))?;
     items.push(Ok(row(alloc, &NULL_ROW)?))?;
     Ok(ListRows::new(items))
 }

@@ -1,0 +1,119 @@
+//! Rows, and data of a COPY, that are made at their turn.
+
+ghost use Rattle.std.specs.Prelude.{◌≡◌, ◌<◌, ◌+◌, ◌^◌, List, Some, IfOk, IfSome, OnErr, length, drop, slice_get};
+ghost use Rattle.std.specs.Result.{result_map_both};
+ghost use Rattle.pg_portal.specs.Making.{position_after};
+ghost use Rattle.pg_portal.specs.Copying.{CopyItem, IsNextCopy, IsSendableCopy};
+ghost use Rattle.pg_portal.specs.Rows.{RowItem, IsNext, IsSendable};
+
+use crate::error::PgWireError;
+use crate::results::copy::CopySource;
+use crate::rows::RowSource;
+use pg_messages::{CopyData, DataRow};
+use std::alloc::AllocError;
+
+/// What makes rows one at a time, each by its index: finitely many items, each a row or an error in its place.
+pub trait RowMaker: Drop {
+    // the items, in their order
+    ghost items: { Self → List RowItem };
+
+    /// How many items there are.
+    fn rows(&self) -> usize
+        ensures { result ≡ length (items self.now) };
+
+    /// The item at an index, made anew. It can be sent as a reply, and no error in the place of a row is one that the
+    /// session itself tells: `NoMemory`, `QueryCanceled`, `NotReadyForQuery`, `PortalNotStarted`.
+    fn make(&self, index: usize) -> Result<Result<DataRow, PgWireError>, AllocError>
+        requires { index < length (items self.now) }
+        ensures item { IfOk result (λ item. slice_get (items self.now) index ≡ Some item) }
+        ensures sendable { IfOk result IsSendable };
+}
+
+/// What makes data of a COPY one at a time, each by its index: finitely many items, each data or an error in its place.
+pub trait CopyMaker: Drop {
+    // the items, in their order
+    ghost items: { Self → List CopyItem };
+
+    /// How many items there are.
+    fn data_len(&self) -> usize
+        ensures { result ≡ length (items self.now) };
+
+    /// The item at an index, made anew. It can be sent as a reply, and no error in the place of data is one that the
+    /// session itself tells: `NoMemory`, `QueryCanceled`, `NotReadyForQuery`, `PortalNotStarted`.
+    fn make_data(&self, index: usize) -> Result<Result<CopyData, PgWireError>, AllocError>
+        requires { index < length (items self.now) }
+        ensures item { IfOk result (λ item. slice_get (items self.now) index ≡ Some item) }
+        ensures sendable { IfOk result IsSendableCopy };
+}
+
+/// The items of a maker from a position on, each made when it is asked for. No item is kept.
+#[derive(Drop)]
+pub struct OnDemand<M> {
+    /// What makes the items.
+    pub maker: M,
+    /// The index of the next item; past the last one there is none.
+    pub position: usize,
+}
+
+impl<M: RowMaker> OnDemand<M> {
+    /// The items of a maker from the first on. It takes no memory.
+    pub fn new(maker: M) -> OnDemand<M>
+        ensures maker { result.maker ≡ maker }
+        ensures position { result.position ≡ 0 }
+    {
+        OnDemand { maker, position: 0 }
+    }
+}
+
+impl<M: RowMaker> RowSource for OnDemand<M> {
+    ghost items = { λ source. drop source.position (M.items source.maker) };
+
+    /// One item is made, and the position moves by one. It stays at the end, and after want of memory.
+    #[inline(always)]
+    fn next(&mut self) -> Result<Option<Result<DataRow, PgWireError>>, AllocError>
+        ensures next { IsNext (drop self.old.position (M.items self.old.maker)) result
+            (drop self.new.position (M.items self.new.maker)) }
+        ensures sendable { IfOk result (λ found. IfSome found IsSendable) }
+        ensures position { self.new.position ≡ position_after self.old.position result }
+        ensures maker { self.new.maker ≡ self.old.maker }
+    {
+        if self.position < self.maker.rows() {
+            let made = self.maker.make(self.position);
+            given(&mut self.position, made)
+        } else {
+            Ok(None)
+        }
+    }
+}
+
+impl<M: CopyMaker> CopySource for OnDemand<M> {
+    ghost items = { λ source. drop source.position (M.items source.maker) };
+
+    /// One item is made, and the position moves by one. It stays at the end, and after want of memory.
+    fn next(&mut self) -> Result<Option<Result<CopyData, PgWireError>>, AllocError>
+        ensures next { IsNextCopy (drop self.old.position (M.items self.old.maker)) result
+            (drop self.new.position (M.items self.new.maker)) }
+        ensures sendable { IfOk result (λ found. IfSome found IsSendableCopy) }
+        ensures position { self.new.position ≡ position_after self.old.position result }
+        ensures maker { self.new.maker ≡ self.old.maker }
+    {
+        if self.position < self.maker.data_len() {
+            let made = self.maker.make_data(self.position);
+            given(&mut self.position, made)
+        } else {
+            Ok(None)
+        }
+    }
+}
+
+/// Gives what was made at a position, which moves on by one. Where nothing could be made it stays.
+#[inline(always)]
+fn given<T>(position: &mut usize, made: Result<T, AllocError>) -> Result<Option<T>, AllocError>
+    requires { position.old + 1 < 2 ^ 64 }
+    ensures given { result ≡ result_map_both Some (λ e. e) made }
+    ensures position { position.new ≡ position_after position.old result }
+{
+    let item = made?;
+    *position += 1;
+    Ok(Some(item))
+}
