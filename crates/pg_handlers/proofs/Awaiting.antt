@@ -24,7 +24,8 @@ use Rattle.pg_portal.specs.declared.store.Entry.TheVariants as entry
 use Rattle.pg_portal.specs.Describing.{is_empty_list}
 use Rattle.pg_portal.specs.Errors.{info_of}
 use Rattle.pg_portal.specs.Fields.{Field}
-use Rattle.pg_portal.specs.Page.{PageEnd, AtLimit, AtEnd, AtError, item_page}
+use Rattle.pg_portal.specs.Page.{PageEnd, AtLimit, AtEnd, AtError, delivered_after, item_page}
+use Rattle.pg_portal.specs.Fetching.{stage_after}
 use Rattle.pg_portal.specs.Responses as response
 use Rattle.pg_portal.specs.Responses.{ToldResponse}
 use Rattle.pg_portal.specs.Statements.{prepared}
@@ -37,7 +38,7 @@ use Rattle.pg_handlers.specs.Answer.{Answer, Next, Goes, Ends, Stops}
 use Rattle.pg_handlers.specs.CopyRows.{stepped, copied, copy_row}
 use Rattle.pg_handlers.specs.Effect.{Effect, Called, Scope, UntilSync, AnswersReady, Outcome, Done, Failed, Over, Stopped, says, refuses, silent, after_error, settle, settled}
 use Rattle.pg_handlers.specs.Errors.{is_fatal, unsupported_version, too_few_codes, values_for_empty}
-use Rattle.pg_handlers.specs.ExecuteRow.{at_stage, stage_after, page_effect, sent_in_execute, executed, execute_polled, executed_portal, executed_entry}
+use Rattle.pg_handlers.specs.ExecuteRow.{at_stage, page_effect, sent_in_execute, fetched, executed, execute_polled, executed_portal, executed_entry}
 use Rattle.pg_handlers.specs.ExtendedRows.{bind_complete, parsed, bound_portal, bound_with_columns, bound, described, described_statement, described_portal, statement_description, portal_description, on_describe, on_close}
 use Rattle.pg_handlers.specs.Handlers.{Handlers}
 use Rattle.pg_handlers.specs.Questions.{Verdict, Passed, Canceled, Unanswered, questioned}
@@ -190,16 +191,17 @@ module _ {S : Type 0} (h : Handlers S) (s : State S) (q : awaits s ≡ false) wh
 
   -- ---- Execute
 
-  page_starts : (t : State S) → awaits t ≡ false → (tag : List ℕ) (rows : List DataRow) (ending : PageEnd DataRow)
-      → HasStarted (page_effect t tag rows ending).outcome
-  page_starts t f tag rows (AtLimit items) = f
-  page_starts t f tag rows AtEnd = f
-  page_starts t f tag rows (AtError e items) = tt
+  page_starts : (t : State S) → awaits t ≡ false → (tag : List ℕ) (number : ℕ) (rows : List DataRow) (ending : PageEnd DataRow)
+      → HasStarted (page_effect t tag number rows ending).outcome
+  page_starts t f tag number rows (AtLimit items) = f
+  page_starts t f tag number rows AtEnd = f
+  page_starts t f tag number rows (AtError e items) = tt
 
-  fetched_starts : (m : Execute) (p : TablePortal S) (r : ToldRows) → HasStarted (executed s m p (response.Query r)).outcome
-  fetched_starts m p r =
+  fetched_starts : (m : Execute) (p : TablePortal S) (r : ToldRows) (delivered : ℕ) → HasStarted (fetched s m p r delivered).outcome
+  fetched_starts m p r delivered =
       let page = item_page m.max_rows r.items in
-      page_starts (with_portal s m.name (entry.Value (at_stage p (stage_after r page.ending)))) q r.command_tag page.rows page.ending
+      page_starts (with_portal s m.name (entry.Value (at_stage p (stage_after r delivered page.rows page.ending)))) q r.command_tag
+      (delivered_after delivered (length page.rows)) page.rows page.ending
 
   sent_starts : (t : State S) → awaits t ≡ false → (sent : Sent) (o : Option PgWireError) → HasStarted (sent_in_execute t sent o).outcome
   sent_starts t f sent None = either_awaits sent.copying (in_phase t (phase.CopyInProgress true)) t refl f
@@ -209,7 +211,7 @@ module _ {S : Type 0} (h : Handlers S) (s : State S) (q : awaits s ≡ false) wh
   other_starts t f sent = sent_starts t f sent sent.refusal
 
   executed_starts : (m : Execute) (p : TablePortal S) (r : ToldResponse) → HasStarted (executed s m p r).outcome
-  executed_starts m p (response.Query r) = fetched_starts m p r
+  executed_starts m p (response.Query r) = fetched_starts m p r 0
   executed_starts m p (response.Error info) = tt
   executed_starts m p (response.TransactionEnd tag) = q
   executed_starts m p response.EmptyQuery = q
@@ -231,8 +233,8 @@ module _ {S : Type 0} (h : Handlers S) (s : State S) (q : awaits s ≡ false) wh
   run_starts answers m p Unstarted =
       let query = h.extended.query s.info p.bound m.max_rows in
       execute_polled_starts m p (questioned query.owes answers).verdict query.outcome
-  run_starts answers m p (Started r) = fetched_starts m p r
-  run_starts answers m p Ended = q
+  run_starts answers m p (Started r delivered) = fetched_starts m p r delivered
+  run_starts answers m p (Ended delivered) = q
 
   execute_starts : (answers : List Bool) (m : Execute) (x : Option (Entry (TablePortal S)))
       → HasStarted (executed_entry h.extended answers s m x).effect.outcome

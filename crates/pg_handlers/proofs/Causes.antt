@@ -1,5 +1,5 @@
 -- The errors of a query that the session itself tells, and why they come.
-use Rattle.std.proofs.Common.{◌≡◌, ◌∙◌, ap, inl, inr, List, [], ◌∷◌, ◌++◌, true, false, append_assoc}
+use Rattle.std.proofs.Common.{◌≡◌, ◌∙◌, ap, inl, inr, List, [], ◌∷◌, ◌++◌, true, append_assoc}
 use Rattle.pg_portal.specs.declared.error.PgWireError.{PgWireError}
 use Rattle.pg_portal.specs.declared.error.PgWireError.TheVariants as wire
 use Rattle.pg_portal.specs.Rows.{IsAnswerable, IsAnswerableItem}

@@ -1,5 +1,5 @@
 -- What an Execute makes of the table, where the store lends the portal of its name.
-use Rattle.std.proofs.Common.{◌≡◌, ℕ, ℤ, inl, inr, Bool, true, false, List, [], ◌∷◌, ◌++◌, Option, Some, None, Result, Ok, Err, refl, ap, sym, subst, ◌∙◌}
+use Rattle.std.proofs.Common.{◌≡◌, ℕ, ℤ, inl, inr, Bool, true, false, List, [], ◌∷◌, ◌++◌, Option, Some, None, Result, Ok, Err, length, refl, ap, sym, subst, ◌∙◌}
 use Rattle.std.specs.FinMap as fin
 use Rattle.std.proofs.lemmas.List.{append-nil}
 use Rattle.pg_messages.specs.declared.data.DataRow.{DataRow}
@@ -9,7 +9,8 @@ use Rattle.pg_portal.specs.declared.client.ClientInfo.{ClientInfo}
 use Rattle.pg_portal.specs.declared.store.Entry.{Entry}
 use Rattle.pg_portal.specs.declared.store.Entry.TheVariants as entry
 use Rattle.pg_portal.specs.Maps.{Maps, maps_with_portal}
-use Rattle.pg_portal.specs.Page.{PageEnd, AtLimit, AtEnd, AtError, item_page}
+use Rattle.pg_portal.specs.Page.{PageEnd, AtLimit, AtEnd, AtError, delivered_after, item_page}
+use Rattle.pg_portal.specs.Fetching.{stage_after}
 use Rattle.pg_portal.specs.Responses as response
 use Rattle.pg_portal.specs.Responses.{ToldResponse}
 use Rattle.pg_portal.specs.Told.{BoundPortal, ParserTold, TablePortal, Stage, Unstarted, Started, Ended, ToldRows, value_under}
@@ -19,7 +20,7 @@ use Rattle.pg_handlers.specs.declared.desk.DeskCall.TheVariants as desk
 use Rattle.pg_handlers.specs.declared.ends.SessionError.{SessionError}
 use Rattle.pg_handlers.specs.declared.ends.SessionError.TheVariants as session
 use Rattle.pg_handlers.specs.Effect.{Effect, Outcome, Failed, Done, Stopped, IsEffect, IsRow, IsStoppedRow, IsCutRow, IsRefusedRow, IsRefusedEffect, silent}
-use Rattle.pg_handlers.specs.ExecuteRow.{at_stage, stage_after, page_effect, fetched, fetched_nothing, executed_portal, executed_entry, executed_without_rows, executed_nothing, execute_polled, on_execute}
+use Rattle.pg_handlers.specs.ExecuteRow.{at_stage, page_effect, fetched, fetched_nothing, executed_portal, executed_entry, executed_without_rows, executed_nothing, execute_polled, on_execute}
 use Rattle.pg_handlers.specs.Executing.{OnlyLosesUnnamed, HasComeTo, IsLeftBehind, is_unstarted, IsPageOf, IsPortalRun, page_result, response_page, portal_run}
 use Rattle.pg_handlers.specs.Handlers.{ExtendedTold}
 use Rattle.pg_handlers.specs.Questions.{Verdict, Passed, Canceled, Unanswered, IsAsked}
@@ -63,24 +64,28 @@ module _ {S : Type 0} (s : State S) (m : Execute) (p : TablePortal S) (out new_o
   written_at : (other : Stage) → stage ≡ other → with_portal s m.name (entry.Value (at_stage p other)) ≡ s'
   written_at other e = ap (λ (stage : Stage). with_portal s m.name (entry.Value (at_stage p stage))) (sym e) ∙ sym written
 
-  page_ok : (r : ToldRows) (rows : List DataRow) (ending : PageEnd DataRow) → IsPageOf {A = Unit {0}} (response_page r (record { rows = rows; ending = ending })) stage out new_out (Ok tt)
-      → IsEffect (page_effect (with_portal s m.name (entry.Value (at_stage p (stage_after r ending)))) r.command_tag rows ending) out new_out (Done s')
-  page_ok r rows (AtLimit items) x = record { replied = x.2; came = ap Done (written_at (stage_after r (AtLimit items)) x.1) }
-  page_ok r rows AtEnd x = record { replied = x.2; came = ap Done (written_at Ended x.1) }
-  page_ok r rows (AtError e items) x = cc
+  page_ok : (r : ToldRows) (delivered : ℕ) (rows : List DataRow) (ending : PageEnd DataRow)
+      → IsPageOf {A = Unit {0}} (response_page r delivered (record { rows = rows; ending = ending })) stage out new_out (Ok tt)
+      → IsEffect (page_effect (with_portal s m.name (entry.Value (at_stage p (stage_after r delivered rows ending)))) r.command_tag
+      (delivered_after delivered (length rows)) rows ending) out new_out (Done s')
+  page_ok r d rows (AtLimit items) x = record { replied = x.2; came = ap Done (written_at (stage_after r d rows (AtLimit items)) x.1) }
+  page_ok r d rows AtEnd x = record { replied = x.2; came = ap Done (written_at (stage_after r d rows AtEnd) x.1) }
+  page_ok r d rows (AtError e items) x = cc
 
   failed_as : (t : State S) (d e : PgWireError) → t ≡ s' → d ≡ e → Failed t d ≡ Failed s' e
   failed_as t d e i j = rw (i, j) refl
 
-  page_refused : (r : ToldRows) (rows : List DataRow) (ending : PageEnd DataRow) (e : PgWireError)
-      → IsPageOf {A = Unit {0}} (response_page r (record { rows = rows; ending = ending })) stage out new_out (Err e)
-      → IsRefusedEffect (page_effect (with_portal s m.name (entry.Value (at_stage p (stage_after r ending)))) r.command_tag rows ending) out new_out s' e
-  page_refused r rows ending e (inl none) = inl none
-  page_refused r rows (AtLimit items) e (inr x) = cc
-  page_refused r rows AtEnd e (inr x) = cc
-  page_refused r rows (AtError d items) e (inr x) = inr (record {
+  page_refused : (r : ToldRows) (delivered : ℕ) (rows : List DataRow) (ending : PageEnd DataRow) (e : PgWireError)
+      → IsPageOf {A = Unit {0}} (response_page r delivered (record { rows = rows; ending = ending })) stage out new_out (Err e)
+      → IsRefusedEffect (page_effect (with_portal s m.name (entry.Value (at_stage p (stage_after r delivered rows ending)))) r.command_tag
+      (delivered_after delivered (length rows)) rows ending) out new_out s' e
+  page_refused r dl rows ending e (inl none) = inl none
+  page_refused r dl rows (AtLimit items) e (inr x) = cc
+  page_refused r dl rows AtEnd e (inr x) = cc
+  page_refused r dl rows (AtError d items) e (inr x) = inr (record {
     replied = x.2;
-    came = failed_as (with_portal s m.name (entry.Value (at_stage p (stage_after r (AtError d items))))) d e (written_at (stage_after r (AtError d items)) x.1) (let same : d ≡ e = cc in same);
+    came = failed_as (with_portal s m.name (entry.Value (at_stage p (stage_after r dl rows (AtError d items))))) d e
+        (written_at (stage_after r dl rows (AtError d items)) x.1) (let same : d ≡ e = cc in same);
   })
 
   module _ (found : value_under (fin.get s.portals m.name) ≡ Some p) where
@@ -94,12 +99,12 @@ module _ {S : Type 0} (s : State S) (m : Execute) (p : TablePortal S) (out new_o
         → IsPageOf {A = Unit {0}} (page_result m.max_rows old) stage out new_out (Ok tt)
         → IsRow (λ answers. on_execute h answers s m) out new_out calls calls (Done s')
     started_ok h calls Unstarted is started x = cc
-    started_ok h calls (Started r) is started x =
-        silent_row (λ answers. on_execute h answers s m) (fetched s m p r) calls
+    started_ok h calls (Started r d) is started x =
+        silent_row (λ answers. on_execute h answers s m) (fetched s m p r d) calls
         (λ answers. executes_portal h s m p found answers ∙ ap (executed_portal h answers s m p) is)
-        (page_ok r (item_page m.max_rows r.items).rows (item_page m.max_rows r.items).ending x)
-    started_ok h calls Ended is started x =
-        silent_row (λ answers. on_execute h answers s m) (fetched_nothing s) calls
+        (page_ok r d (item_page m.max_rows r.items).rows (item_page m.max_rows r.items).ending x)
+    started_ok h calls (Ended d) is started x =
+        silent_row (λ answers. on_execute h answers s m) (fetched_nothing s d) calls
         (λ answers. executes_portal h s m p found answers ∙ ap (executed_portal h answers s m p) is)
         (record { replied = x.2; came = ap Done (sym (same_if (x.1 ∙ sym is))) })
 
@@ -107,14 +112,14 @@ module _ {S : Type 0} (s : State S) (m : Execute) (p : TablePortal S) (out new_o
         → IsPageOf {A = Unit {0}} (page_result m.max_rows old) stage out new_out (Err e)
         → IsRefusedRow (λ answers. on_execute h answers s m) out new_out calls calls s' (session.Wire e)
     started_refused h calls Unstarted e is started x = cc
-    started_refused h calls (Started r) e is started x =
-        silent_refused (λ answers. on_execute h answers s m) (fetched s m p r) calls e
+    started_refused h calls (Started r d) e is started x =
+        silent_refused (λ answers. on_execute h answers s m) (fetched s m p r d) calls e
         (λ answers. executes_portal h s m p found answers ∙ ap (executed_portal h answers s m p) is)
-        (page_refused r (item_page m.max_rows r.items).rows (item_page m.max_rows r.items).ending e x)
-    started_refused h calls Ended e is started (inl none) =
-        silent_refused (λ answers. on_execute h answers s m) (fetched_nothing s) calls e
+        (page_refused r d (item_page m.max_rows r.items).rows (item_page m.max_rows r.items).ending e x)
+    started_refused h calls (Ended d) e is started (inl none) =
+        silent_refused (λ answers. on_execute h answers s m) (fetched_nothing s d) calls e
         (λ answers. executes_portal h s m p found answers ∙ ap (executed_portal h answers s m p) is) (inl none)
-    started_refused h calls Ended e is started (inr x) = cc
+    started_refused h calls (Ended d) e is started (inr x) = cc
 
     -- ---- a query of a portal
 
@@ -128,7 +133,7 @@ module _ {S : Type 0} (s : State S) (m : Execute) (p : TablePortal S) (out new_o
       run_paged Unanswered outcome x = absurd x
       run_paged Canceled outcome x = cc
       run_paged Passed (Err e) x = cc
-      run_paged Passed (Ok (response.Query r)) x = page_ok r (item_page m.max_rows r.items).rows (item_page m.max_rows r.items).ending x
+      run_paged Passed (Ok (response.Query r)) x = page_ok r 0 (item_page m.max_rows r.items).rows (item_page m.max_rows r.items).ending x
       run_paged Passed (Ok _) x = absurd x
 
       -- a response without rows was handed on
@@ -150,7 +155,7 @@ module _ {S : Type 0} (s : State S) (m : Execute) (p : TablePortal S) (out new_o
       run_wire Canceled outcome e (inr x) = inr (record { replied = x.2; came = failed_as s _ e (unchanged x.1) (let same = x.0 in cc) })
       run_wire Passed (Err d) e (inl none) = inl none
       run_wire Passed (Err d) e (inr x) = inr (record { replied = x.2; came = failed_as s d e (unchanged x.1) (let same : d ≡ e = cc in same) })
-      run_wire Passed (Ok (response.Query r)) e x = page_refused r (item_page m.max_rows r.items).rows (item_page m.max_rows r.items).ending e x
+      run_wire Passed (Ok (response.Query r)) e x = page_refused r 0 (item_page m.max_rows r.items).rows (item_page m.max_rows r.items).ending e x
       run_wire Passed (Ok _) e x = inl x
 
       pub run_waits : (verdict : Verdict) (outcome : Result ToldResponse PgWireError)
@@ -193,8 +198,8 @@ no_portal h answers s m (Some (entry.Value p)) e = cc
 
 pub unstarted_is : (stage : Stage) → is_unstarted stage ≡ true → stage ≡ Unstarted
 unstarted_is Unstarted e = refl
-unstarted_is (Started r) e = cc
-unstarted_is Ended e = cc
+unstarted_is (Started r d) e = cc
+unstarted_is (Ended d) e = cc
 
 -- the state where a portal was written back
 pub written_state : {S : Type 0} (info : ClientInfo) (old new : Maps S) (name shown : List ℕ) (p w : TablePortal S)

@@ -1,5 +1,5 @@
 -- What was sent of a response, as it is sent reply by reply.
-use Rattle.std.proofs.Common.{arith, ◌≡◌, ◌++◌, ◌≤◌, ◌+◌, List, [], ◌∷◌, ℕ, ℤ, true, false, Ok, Err, map, length, take, drop, refl, sym, ap, ◌∙◌, append_assoc}
+use Rattle.std.proofs.Common.{arith, ◌≡◌, ◌++◌, ◌≤◌, ◌<◌, ◌+◌, ◌^◌, List, [], ◌∷◌, ℕ, ℤ, true, false, Ok, Err, map, length, take, drop, refl, sym, ap, subst, ◌∙◌, append_assoc}
 use Rattle.std.proofs.lemmas.List.{length-append, append-nil, map-append, take-append-drop}
 use Rattle.std.proofs.Math.Seq.{take-append_seam}
 use Rattle.std.proofs.lemmas.Grind.{flat_map-append}
@@ -8,10 +8,10 @@ use Rattle.pg_messages.specs.declared.backend.PgWireBackendMessage.{PgWireBacken
 use Rattle.pg_messages.specs.declared.backend.PgWireBackendMessage.TheVariants as server
 use Rattle.pg_messages.specs.Replies.{reply_bytes, replies_bytes}
 use Rattle.pg_portal.specs.declared.error.PgWireError.{PgWireError}
-use Rattle.pg_portal.specs.Fetching.{IsKept, with_items}
-use Rattle.pg_portal.specs.Page.{ItemPage, AtLimit, AtEnd, AtError, is_reached, item_page, before_error}
+use Rattle.pg_portal.specs.Fetching.{IsRest, with_items}
+use Rattle.pg_portal.specs.Page.{ItemPage, AtLimit, AtEnd, AtError, delivered_after, is_reached, item_page, before_error}
 use Rattle.pg_portal.specs.Rows.{RowItem}
-use Rattle.pg_portal.specs.Told.{ToldRows, Started}
+use Rattle.pg_portal.specs.Told.{ToldRows}
 use Rattle.pg_portal.proofs.Paging.{GoesOn, begins, goes_on, page_at_limit, page_at_end, page_at_error}
 use Rattle.pg_handlers.specs.Replies.{row_replies, done_with}
 use Rattle.pg_handlers.specs.ExecuteRow.{page_replies}
@@ -111,9 +111,9 @@ module _ (limit : ℤ) (old : ToldRows) (out : List ℕ) (items : List RowItem) 
       → IsSentPage old (item_page limit old.items).ending true left
   sent_suspended e left is = rw (page_limit e) (refl, is)
 
-  pub replied_suspended : is_reached limit count ≡ true → (tag now : List ℕ) → now ≡ new ++ reply_bytes (server.PortalSuspended (record {}))
-      → now ≡ out ++ replies_bytes (page_replies tag (item_page limit old.items).rows (item_page limit old.items).ending)
-  replied_suspended e tag now pushed = rw (page_limit e)
+  pub replied_suspended : is_reached limit count ≡ true → (tag : List ℕ) (number : ℕ) (now : List ℕ) → now ≡ new ++ reply_bytes (server.PortalSuspended (record {}))
+      → now ≡ out ++ replies_bytes (page_replies tag number (item_page limit old.items).rows (item_page limit old.items).ending)
+  replied_suspended e tag number now pushed = rw (page_limit e)
       (sent_behind out new now (row_replies p.rows) (server.PortalSuspended (record {}) ∷ []) p.replied
       (pushed ∙ ap (λ l. new ++ l) (one_reply (server.PortalSuspended (record {})))))
 
@@ -121,12 +121,28 @@ module _ (limit : ℤ) (old : ToldRows) (out : List ℕ) (items : List RowItem) 
       → IsSentPage old (item_page limit old.items).ending false left
   sent_complete e none left = rw (page_end e none) refl
 
-  pub replied_complete : is_reached limit count ≡ false → items ≡ [] → (tag now : List ℕ)
-      → now ≡ new ++ replies_bytes (done_with tag count ∷ [])
-      → now ≡ out ++ replies_bytes (page_replies tag (item_page limit old.items).rows (item_page limit old.items).ending)
-  replied_complete e none tag now pushed = rw (page_end e none)
-      (sent_behind out new now (row_replies p.rows) (done_with tag (length p.rows) ∷ []) p.replied
-      (pushed ∙ ap (λ n. new ++ replies_bytes (done_with tag n ∷ [])) p.counted))
+  pub replied_complete : is_reached limit count ≡ false → items ≡ [] → (tag : List ℕ) (delivered number : ℕ) (now : List ℕ)
+      → number ≡ delivered_after delivered count → now ≡ new ++ replies_bytes (done_with tag number ∷ [])
+      → now ≡ out ++ replies_bytes (page_replies tag (delivered_after delivered (length (item_page limit old.items).rows))
+      (item_page limit old.items).rows (item_page limit old.items).ending)
+  replied_complete e none tag delivered number now told pushed = rw (page_end e none)
+      (sent_behind out new now (row_replies p.rows) (done_with tag (delivered_after delivered (length p.rows)) ∷ []) p.replied
+      (pushed ∙ ap (λ n. new ++ replies_bytes (done_with tag n ∷ [])) (told ∙ ap (delivered_after delivered) p.counted)))
+
+  -- so many rows were delivered, and they are no more than the bytes that wait
+  pub delivered_at_limit : is_reached limit count ≡ true → (delivered number : ℕ) → number ≡ delivered_after delivered count
+      → number ≡ delivered_after delivered (length (item_page limit old.items).rows)
+  delivered_at_limit e delivered number told = rw (page_limit e) (told ∙ ap (delivered_after delivered) p.counted)
+
+  pub delivered_at_end : is_reached limit count ≡ false → items ≡ [] → (delivered number : ℕ) → number ≡ delivered_after delivered count
+      → number ≡ delivered_after delivered (length (item_page limit old.items).rows)
+  delivered_at_end e none delivered number told = rw (page_end e none) (told ∙ ap (delivered_after delivered) p.counted)
+
+  pub fewer_at_limit : is_reached limit count ≡ true → count < 2 ^ 64 → length (item_page limit old.items).rows < 2 ^ 64
+  fewer_at_limit e h = rw (page_limit e) (subst (λ n. n < 2 ^ 64) p.counted h)
+
+  pub fewer_at_end : is_reached limit count ≡ false → items ≡ [] → count < 2 ^ 64 → length (item_page limit old.items).rows < 2 ^ 64
+  fewer_at_end e none h = rw (page_end e none) (subst (λ n. n < 2 ^ 64) p.counted h)
 
   pub met_error : is_reached limit count ≡ false → (error : PgWireError) (left : List RowItem) → items ≡ Err error ∷ left
       → (told : ToldRows) → told ≡ with_items old left
@@ -142,10 +158,10 @@ module _ (limit : ℤ) (old : ToldRows) (out : List ℕ) (items : List RowItem) 
 
   -- one more item was taken
   pub kept_at : (item : RowItem) (left : List RowItem) → items ≡ item ∷ left → (told : ToldRows) → told ≡ with_items old left
-      → IsKept (Started old) (Started told)
+      → IsRest old told
   kept_at item left is told t = (
     map Ok p.rows ++ item ∷ [],
     left,
     p.going.taken ∙ ap (λ l. map Ok p.rows ++ l) is ∙ sym (append_assoc (map Ok p.rows) (item ∷ []) left),
-    ap Started t,
+    t,
   )

@@ -103,8 +103,8 @@ module _ {S : Type 0} (h : Handlers S) (answers more : List Bool) (s : State S) 
   portal_same scope m p Unstarted made =
       let q = h.extended.query s.info p.bound m.max_rows in
       asking_same scope (λ v. execute_polled s m p v q.outcome) refl q.owes answers more made
-  portal_same scope m p (Started r) made = refl
-  portal_same scope m p Ended made = refl
+  portal_same scope m p (Started r delivered) made = refl
+  portal_same scope m p (Ended delivered) made = refl
 
   entry_same : (scope : Scope) (m : Execute) (x : Option (Entry (TablePortal S))) → IsSame scope (λ xs. executed_entry h.extended xs s m x)
   entry_same scope m None made = refl
@@ -113,8 +113,8 @@ module _ {S : Type 0} (h : Handlers S) (answers more : List Bool) (s : State S) 
 
   portal_takes : (m : Execute) (p : TablePortal S) (st : Stage) → TakesFront (executed_portal h.extended answers s m p st).calls answers
   portal_takes m p Unstarted = questioned_takes (h.extended.query s.info p.bound m.max_rows).owes answers
-  portal_takes m p (Started r) = refl
-  portal_takes m p Ended = refl
+  portal_takes m p (Started r delivered) = refl
+  portal_takes m p (Ended delivered) = refl
 
   entry_takes : (m : Execute) (x : Option (Entry (TablePortal S))) → TakesFront (executed_entry h.extended answers s m x).calls answers
   entry_takes m None = refl

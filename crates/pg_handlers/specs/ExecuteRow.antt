@@ -9,8 +9,8 @@ use Rattle.pg_portal.specs.declared.error.PgWireError.TheVariants as wire
 use Rattle.pg_portal.specs.declared.client.PgWireConnectionState.TheVariants as phase
 use Rattle.pg_portal.specs.declared.store.Entry.{Entry}
 use Rattle.pg_portal.specs.declared.store.Entry.TheVariants as entry
-use Rattle.pg_portal.specs.Fetching.{with_items}
-use Rattle.pg_portal.specs.Page.{PageEnd, AtLimit, AtEnd, AtError, item_page}
+use Rattle.pg_portal.specs.Fetching.{stage_after}
+use Rattle.pg_portal.specs.Page.{PageEnd, AtLimit, AtEnd, AtError, delivered_after, item_page}
 use Rattle.pg_portal.specs.Told.{TablePortal, Stage, Unstarted, Started, Ended, ToldRows}
 use Rattle.pg_portal.specs.Responses as response
 use Rattle.pg_portal.specs.Responses.{ToldResponse}
@@ -23,40 +23,32 @@ use Rattle.pg_handlers.specs.Effect.{Effect, Called, says, refuses, stopped, sil
 
 -- ---- a started portal
 
--- how far a portal has come behind a page; an error is consumed, and the rows before it are dropped
-abbrev pub stage_after : ToldRows → PageEnd DataRow → Stage
-stage_after r (AtLimit items) = Started (with_items r items)
-stage_after r AtEnd = Ended
-stage_after r (AtError e items) = Started (with_items r items)
-
 abbrev pub at_stage : {S : Type 0} → TablePortal S → Stage → TablePortal S
 at_stage p stage = record { bound = p.bound; stage = stage }
 
--- the number that a page's tag tells: that of its rows
-abbrev pub told_number : List DataRow → ℕ
-told_number rows = length rows
-
--- what a page replies: its rows, and that the portal is suspended or the tag; nothing where an error is met
-abbrev pub page_replies : List ℕ → List DataRow → PageEnd DataRow → Replies
-page_replies tag rows (AtLimit items) = row_replies rows ++ server.PortalSuspended (record {}) ∷ []
-page_replies tag rows AtEnd = row_replies rows ++ done_with tag (told_number rows) ∷ []
-page_replies tag rows (AtError e items) = []
+-- what a page replies: its rows, and that the portal is suspended or the tag with a number; nothing where an error is met
+abbrev pub page_replies : List ℕ → ℕ → List DataRow → PageEnd DataRow → Replies
+page_replies tag number rows (AtLimit items) = row_replies rows ++ server.PortalSuspended (record {}) ∷ []
+page_replies tag number rows AtEnd = row_replies rows ++ done_with tag number ∷ []
+page_replies tag number rows (AtError e items) = []
 
 -- A page at its limit leaves the portal suspended, one at the end is told by the tag, and one at an error is answered by the error alone.
-abbrev pub page_effect : {S : Type 0} → State S → List ℕ → List DataRow → PageEnd DataRow → Effect S
-page_effect s tag rows (AtLimit items) = says (page_replies tag rows (AtLimit items)) s
-page_effect s tag rows AtEnd = says (page_replies tag rows AtEnd) s
-page_effect s tag rows (AtError e items) = refuses s e
+abbrev pub page_effect : {S : Type 0} → State S → List ℕ → ℕ → List DataRow → PageEnd DataRow → Effect S
+page_effect s tag number rows (AtLimit items) = says (page_replies tag number rows (AtLimit items)) s
+page_effect s tag number rows AtEnd = says (page_replies tag number rows AtEnd) s
+page_effect s tag number rows (AtError e items) = refuses s e
 
--- a page of the response, and the portal behind it under its name
-abbrev pub fetched : {S : Type 0} → State S → Execute → TablePortal S → ToldRows → Effect S
-fetched s m p r =
+-- A page of the response, and the portal behind it under its name. The tag tells the number of rows delivered since the portal was
+-- started, with those of the page.
+abbrev pub fetched : {S : Type 0} → State S → Execute → TablePortal S → ToldRows → ℕ → Effect S
+fetched s m p r delivered =
     let page = item_page m.max_rows r.items in
-    page_effect (with_portal s m.name (entry.Value (at_stage p (stage_after r page.ending)))) r.command_tag page.rows page.ending
+    page_effect (with_portal s m.name (entry.Value (at_stage p (stage_after r delivered page.rows page.ending)))) r.command_tag
+    (delivered_after delivered (length page.rows)) page.rows page.ending
 
--- a page of a finished portal has no row
-abbrev pub fetched_nothing : {S : Type 0} → State S → Effect S
-fetched_nothing s = says (done_with (codes "SELECT") (told_number []) ∷ []) s
+-- a page of a finished portal has no row, and tells how many rows were delivered
+abbrev pub fetched_nothing : {S : Type 0} → State S → ℕ → Effect S
+fetched_nothing s delivered = says (done_with (codes "SELECT") delivered ∷ []) s
 
 -- ---- a portal that isn't started
 
@@ -81,9 +73,9 @@ executed_without_rows s (response.Error info) = refuses s (wire.UserError info)
 executed_without_rows s (response.TransactionEnd tag) = executed_other (without_unnamed_portal s) (response.TransactionEnd tag)
 executed_without_rows s r = executed_other s r
 
--- A response with rows starts the portal.
+-- A response with rows starts the portal, of which no row is delivered yet.
 abbrev pub executed : {S : Type 0} → State S → Execute → TablePortal S → ToldResponse → Effect S
-executed s m p (response.Query r) = fetched s m p r
+executed s m p (response.Query r) = fetched s m p r 0
 executed s m p r = executed_without_rows s r
 
 abbrev pub execute_polled : {S : Type 0} → State S → Execute → TablePortal S → Verdict → Result ToldResponse PgWireError → Effect S
@@ -102,8 +94,8 @@ execute_run answers s m p query =
 
 abbrev pub executed_portal : {S : Type 0} → ExtendedTold S → List Bool → State S → Execute → TablePortal S → Stage → Called S
 executed_portal h answers s m p Unstarted = execute_run answers s m p (h.query s.info p.bound m.max_rows)
-executed_portal h answers s m p (Started r) = silent (fetched s m p r)
-executed_portal h answers s m p Ended = silent (fetched_nothing s)
+executed_portal h answers s m p (Started r delivered) = silent (fetched s m p r delivered)
+executed_portal h answers s m p (Ended delivered) = silent (fetched_nothing s delivered)
 
 -- where there is no portal to run: none of this name, or an empty one
 abbrev pub executed_nothing : {S : Type 0} → State S → List ℕ → Option (Entry (TablePortal S)) → Effect S

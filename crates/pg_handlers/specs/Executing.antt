@@ -1,14 +1,14 @@
 -- What an Execute makes of a portal while it is lent.
-use Rattle.std.specs.Prelude.{ℕ, ℤ, Bool, true, false, List, [], ◌∷◌, ◌++◌, Option, Some, None, Result, Ok, Err, ◌≡◌, ◌⊎◌, codes}
+use Rattle.std.specs.Prelude.{ℕ, ℤ, Bool, true, false, List, [], ◌∷◌, ◌++◌, Option, Some, None, Result, Ok, Err, ◌≡◌, ◌⊎◌, length, codes}
 use Rattle.std.specs.FinMap as fin
 use Rattle.pg_messages.specs.declared.data.DataRow.{DataRow}
 use Rattle.pg_messages.specs.Replies.{replies_bytes}
 use Rattle.pg_portal.specs.declared.error.PgWireError.{PgWireError}
 use Rattle.pg_portal.specs.declared.error.PgWireError.TheVariants as wire
 use Rattle.pg_portal.specs.declared.store.Entry.TheVariants as entry
-use Rattle.pg_portal.specs.Fetching.{IsKept}
+use Rattle.pg_portal.specs.Fetching.{IsKept, stage_after}
 use Rattle.pg_portal.specs.Maps.{Maps, maps_with_portal, maps_without_portal}
-use Rattle.pg_portal.specs.Page.{ItemPage, PageEnd, AtLimit, AtEnd, AtError, item_page}
+use Rattle.pg_portal.specs.Page.{ItemPage, PageEnd, AtLimit, AtEnd, AtError, delivered_after, item_page}
 use Rattle.pg_portal.specs.Told.{Stage, Unstarted, Started, Ended, ToldRows, TablePortal, value_under}
 use Rattle.pg_portal.specs.Responses as response
 use Rattle.pg_portal.specs.Responses.{ToldResponse}
@@ -16,12 +16,12 @@ use Rattle.pg_handlers.specs.declared.ends.SessionError.{SessionError}
 use Rattle.pg_handlers.specs.declared.ends.SessionError.TheVariants as session
 use Rattle.pg_handlers.specs.Replies.{Replies, done_with}
 use Rattle.pg_handlers.specs.Questions.{Verdict, Passed, Canceled, Unanswered}
-use Rattle.pg_handlers.specs.ExecuteRow.{at_stage, stage_after, page_replies, told_number}
+use Rattle.pg_handlers.specs.ExecuteRow.{at_stage, page_replies}
 
 abbrev pub is_unstarted : Stage → Bool
 is_unstarted Unstarted = true
-is_unstarted (Started r) = false
-is_unstarted Ended = false
+is_unstarted (Started r delivered) = false
+is_unstarted (Ended delivered) = false
 
 -- whether a response has rows, and so starts its portal
 abbrev pub has_rows : ToldResponse → Bool
@@ -39,10 +39,10 @@ error_at (AtLimit items) = None
 error_at AtEnd = None
 error_at (AtError e items) = Some e
 
-abbrev pub response_page : ToldRows → ItemPage DataRow → StagePage
-response_page r page = record {
-  replies = page_replies r.command_tag page.rows page.ending;
-  stage = stage_after r page.ending;
+abbrev pub response_page : ToldRows → ℕ → ItemPage DataRow → StagePage
+response_page r delivered page = record {
+  replies = page_replies r.command_tag (delivered_after delivered (length page.rows)) page.rows page.ending;
+  stage = stage_after r delivered page.rows page.ending;
   refusal = error_at page.ending;
 }
 
@@ -52,8 +52,8 @@ refused_page stage e = record { replies = []; stage = stage; refusal = Some e }
 
 -- the page of a portal that has come so far
 abbrev pub page_result : ℤ → Stage → StagePage
-page_result limit (Started r) = response_page r (item_page limit r.items)
-page_result limit Ended = record { replies = done_with (codes "SELECT") (told_number []) ∷ []; stage = Ended; refusal = None }
+page_result limit (Started r delivered) = response_page r delivered (item_page limit r.items)
+page_result limit (Ended delivered) = record { replies = done_with (codes "SELECT") delivered ∷ []; stage = Ended delivered; refusal = None }
 page_result limit Unstarted = refused_page Unstarted wire.PortalNotStarted
 
 -- the page was sent, or met its error; or memory is wanting
@@ -69,7 +69,7 @@ pub data PortalRun : Type 0 where
   Waits : PortalRun
 
 abbrev pub run_of_response : ℤ → ToldResponse → PortalRun
-run_of_response limit (response.Query r) = Paged (page_result limit (Started r))
+run_of_response limit (response.Query r) = Paged (page_result limit (Started r 0))
 run_of_response limit r = Responded r
 
 -- the query of a portal at a stage, by the verdict of its questions and its outcome
@@ -102,8 +102,8 @@ OnlyLosesUnnamed old new = (new ≡ old) ⊎ (new ≡ maps_without_portal old []
 -- rest of its items
 abbrev pub HasComeTo : Stage → Stage → Type 0
 HasComeTo Unstarted new = Unit {0}
-HasComeTo (Started r) new = IsKept (Started r) new
-HasComeTo Ended new = new ≡ Ended
+HasComeTo (Started r delivered) new = IsKept (Started r delivered) new
+HasComeTo (Ended delivered) new = new ≡ Ended delivered
 
 -- What a refused Execute leaves: the statements and portals are as they were, but that the portal of its name may have come further.
 abbrev pub IsLeftBehind : {S : Type 0} → Maps S → List ℕ → Maps S → Type 0

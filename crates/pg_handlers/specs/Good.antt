@@ -74,8 +74,8 @@ HasCodes format.UnifiedBinary columns = Unit {0}
 -- the tag of a started portal can be sent with any number of rows
 abbrev pub HasGoodTag : Stage → Type 0
 HasGoodTag Unstarted = Unit {0}
-HasGoodTag (Started r) = IsTag r.command_tag
-HasGoodTag Ended = Unit {0}
+HasGoodTag (Started r delivered) = IsTag r.command_tag
+HasGoodTag (Ended delivered) = Unit {0}
 
 pub record IsGoodPortal {S : Type 0} (parser : ParserTold S) (p : TablePortal S) : Type 0 where
   pub statement : IsGoodStatement parser p.bound.statement

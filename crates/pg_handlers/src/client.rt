@@ -1,6 +1,6 @@
 //! What handlers have of a client.
 
-use crate::outbox::Outbox;
+use pg_outbox::Outbox;
 use pg_portal::ClientInfo;
 
 /// A client, the store of its session, and the replies that wait for it.

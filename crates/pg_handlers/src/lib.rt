@@ -9,7 +9,6 @@ mod ends;
 mod handlers;
 mod laws;
 mod noop;
-mod outbox;
 mod query;
 
 pub use client::Client;
@@ -19,7 +18,7 @@ pub use ends::{EndKind, SessionError, Turns};
 pub use handlers::PgWireServerHandlers;
 pub use laws::whole_table_is_lawful;
 pub use noop::{NoRows, NoopExtendedQuery, NoopHandler, NoopSimpleQuery};
-pub use outbox::{CHUNK, Outbox};
+pub use pg_outbox::{CHUNK, Outbox};
 pub use query::extended::ExtendedQueryHandler;
 pub use query::send::{
     send_copy_both_response, send_copy_in_response, send_copy_out_response, send_describe_response,

@@ -27,7 +27,7 @@ fn rows(alloc: Global) -> Result<QueryResponse<ListRows>, AllocError>
 
 /// A portal of rows that were begun under the tag FETCH.
 fn cursor(alloc: Global) -> Result<Portal<PgStr, ListRows>, AllocError>
-    ensures { IfOk result (λ portal. HasGoodTag (stage_of (λ rows. rows) portal.state)) }
+    ensures { IfOk result (λ portal. HasGoodTag (stage_of (λ rows. rows) portal)) }
 {
     let mut response = rows(alloc)?;
     response.set_command_tag(alloc, "FETCH")?;
@@ -55,8 +55,8 @@ fn a_cursor_tells_its_own_tag(rt: HostRuntime) -> Result<(), Fail> {
         );
     }
     assert_eq!(rt;
-        outbox.as_slice(),
-        b"D\0\0\0\x06\0\0s\0\0\0\x04D\0\0\0\x06\0\0C\0\0\0\x0cFETCH 1\0".as_slice()
+        outbox.front(),
+        Some(b"D\0\0\0\x06\0\0s\0\0\0\x04D\0\0\0\x06\0\0C\0\0\0\x0cFETCH 1\0".as_slice())
     );
     Ok(())
 }

@@ -1,5 +1,6 @@
 -- Bytes that went through an outbox, and then more.
-use Rattle.std.proofs.Common.{◌≡◌, ℕ, List, [], ◌++◌, Option, Some, None, refl, sym, ap, subst, ◌∙◌, append_assoc, append-nil}
+use Rattle.std.proofs.Common.{◌≡◌, ℕ, List, [], ◌++◌, Option, Some, None, refl, sym, ap, subst, ◌∙◌, append_assoc, append-nil, take, drop}
+use Rattle.std.proofs.lemmas.List.{take-append-drop}
 use Rattle.pg_handlers.specs.Answer.{BeginsWith}
 use Rattle.pg_session.specs.Streams.{GrowsBy, GrowsByFront}
 use Rattle.pg_session.specs.Steps.{Flows}
@@ -51,3 +52,26 @@ cut_after {w} {v} {o} {p} {a} u x g = subst (λ l. GrowsByFront w u l) x.same (G
 pub cut_at_once : (w : Option (List ℕ)) (bytes : List ℕ) → GrowsByFront w w bytes
 cut_at_once None bytes = tt
 cut_at_once (Some x) bytes = ([], (bytes, refl), ap Some (sym (append-nil x)))
+
+-- a chunk of what waited is sent
+pub Flows-chunk : (w v : Option (List ℕ)) (o q : List ℕ) (n : ℕ) → GrowsBy w v (take n o) → q ≡ drop n o → Flows w v o q []
+Flows-chunk w v o q n g e = record {
+  sent = take n o;
+  grown = g;
+  same = ap (λ l. take n o ++ l) e ∙ take-append-drop n o ∙ sym (append-nil o);
+}
+
+-- nothing waits any more
+pub all_sent : {w v : Option (List ℕ)} {o p : List ℕ} → Flows w v o p [] → p ≡ [] → GrowsBy w v o
+all_sent {w} {v} {o} {p} x e = subst (λ l. GrowsBy w v l)
+    (sym (append-nil x.sent) ∙ ap (λ l. x.sent ++ l) (sym e) ∙ x.same ∙ append-nil o) x.grown
+
+-- the sending of a chunk was cut off
+pub cut_in_chunk : {w v : Option (List ℕ)} {o p : List ℕ} (u : Option (List ℕ)) (n : ℕ) → Flows w v o p [] → GrowsByFront v u (take n p)
+    → GrowsByFront w u o
+cut_in_chunk {w} {v} {o} {p} u n x g = subst (λ l. GrowsByFront w u l) (append-nil o)
+    (cut_after u x (subst (λ l. GrowsByFront v u l) (take-append-drop n p) (front_grows v u (take n p) (drop n p) g)))
+  where
+    front_grows : (v u : Option (List ℕ)) (a b : List ℕ) → GrowsByFront v u a → GrowsByFront v u (a ++ b)
+    front_grows None u a b g = tt
+    front_grows (Some x) u a b g = (g.0, front_of_more a b g.0 g.1, g.2)

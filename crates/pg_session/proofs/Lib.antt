@@ -1,5 +1,6 @@
 pub mod Answering
 pub mod BadFrames
+pub mod Feeding
 pub mod Flowing
 pub mod GoodStates
 pub mod Held

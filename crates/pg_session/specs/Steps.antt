@@ -1,5 +1,5 @@
 -- What messages do to a session: the outbox and the registry's calls grow by their answer, and the state is the next one.
-use Rattle.std.specs.Prelude.{ℕ, Bool, List, ◌++◌, ◌≡◌, ◌≢◌, Option, Some, None}
+use Rattle.std.specs.Prelude.{ℕ, Bool, List, [], ◌++◌, ◌≡◌, ◌≢◌, Option, Some, None, Result, Ok, Err}
 use Rattle.pg_messages.specs.declared.frontend.PgWireFrontendMessage.{PgWireFrontendMessage}
 use Rattle.pg_messages.specs.declared.backend.PgWireBackendMessage.{PgWireBackendMessage}
 use Rattle.pg_messages.specs.Frames.{IsUnfinished, DividesInto}
@@ -8,6 +8,8 @@ use Rattle.pg_handlers.specs.declared.desk.DeskCall.{DeskCall}
 use Rattle.pg_handlers.specs.declared.ends.EndKind.TheVariants as end
 use Rattle.pg_session.specs.declared.ends.Progress.{Progress}
 use Rattle.pg_session.specs.declared.ends.Progress.TheVariants as progress
+use Rattle.pg_session.specs.declared.ends.ServeError.{ServeError}
+use Rattle.pg_session.specs.declared.ends.ServeError.TheVariants as serve
 use Rattle.pg_handlers.specs.Answer.{Answer, Table, Next, Goes, Stops, answers_of, conversation}
 use Rattle.pg_handlers.specs.Answer.{BeginsWith, AsksNext}
 use Rattle.pg_session.specs.Streams.{GrowsBy, GrowsByFront}
@@ -102,3 +104,14 @@ Stands awaits next s rest (progress.Ended kind) = (kind ≢ end.InputEnd) × ((m
 abbrev pub StandsAfterStep : {T : Type 0} → (T → Bool) → Next T → T → List ℕ → Option Progress → Type 0
 StandsAfterStep awaits next s rest None = next ≡ Goes s
 StandsAfterStep awaits next s rest (Some told) = Stands awaits next s rest told
+
+-- What became of a text that a session was fed with: it was served as far as it goes, no reply waits, and the conversation stands so; or its
+-- serving was cut off, which for want of a turn is a stop at a question.
+abbrev pub WasFed : {T : Type 0} → Rules T → T → List ℕ → T → List ℕ → Option (List ℕ) → Option (List ℕ) → List ℕ → List DeskCall
+    → List DeskCall → Result Progress ServeError → Type 0
+WasFed {T} rules s text new_s rest written new_written out calls new_calls (Ok told) = (next : Next T)
+    × IsServed rules s text rest next written new_written out [] calls new_calls × Stands rules.awaits next new_s rest told
+WasFed rules s text new_s rest written new_written out calls new_calls (Err serve.TurnLimit) =
+    IsStopped rules s text written new_written out calls new_calls
+WasFed rules s text new_s rest written new_written out calls new_calls (Err e) =
+    IsCutOff rules s text written new_written out calls new_calls

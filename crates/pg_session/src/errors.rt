@@ -17,7 +17,7 @@ use std::alloc::{AllocError, Global};
 
 /// Tells the client an error: ErrorResponse; where it is fatal, the end; else the status of a failed transaction, and the
 /// wait for Sync or ReadyForQuery.
-pub fn tell_error<St: PortalStore>(
+pub(crate) fn tell_error<St: PortalStore>(
     alloc: Global,
     client: &mut Client<St>,
     error: PgWireError,

@@ -4,6 +4,7 @@
 
 mod ends;
 mod errors;
+mod laws;
 mod messages;
 mod server;
 mod session;
@@ -11,8 +12,7 @@ mod startup;
 mod streams;
 
 pub use ends::{Progress, ServeError};
-pub use errors::tell_error;
-pub use messages::on_message;
+pub use laws::pieces_join;
 pub use pg_handlers::{
     CancelDesk, Client, CopyHandler, DeskCall, EndKind, ExtendedQueryHandler, NoopHandler, Outbox,
     PgWireServerHandlers, QueryState, ScriptDesk, SessionError, SimpleQueryHandler, Turn, Turns,

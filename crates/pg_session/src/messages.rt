@@ -25,7 +25,7 @@ use pg_portal::{PgWireConnectionState, PgWireError, PortalStore};
 use std::alloc::Global;
 
 /// Answers a message.
-pub fn on_message<
+pub(crate) fn on_message<
     H: PgWireServerHandlers,
     St: PortalStore<
         Statement = <H::Extended as ExtendedQueryHandler>::Statement,

@@ -283,7 +283,7 @@ pub trait ExtendedQueryHandler {
         let Some(portal) = client.store.portal_mut(message.name.as_str()) else {
             return Ok(execute_no_portal(client, message.name)?);
         };
-        if !is_unstarted(&portal.state) {
+        if !is_unstarted(&*portal) {
             return Ok(send_page(alloc, &mut client.outbox, portal, message.max_rows)?);
         }
         desk.start()?;

@@ -21,14 +21,14 @@ ghost use Rattle.pg_handlers.specs.Sending.{IsAllSent, behind};
 ghost use Rattle.pg_handlers.specs.State.{state_of};
 
 use crate::client::Client;
-use crate::outbox::Outbox;
 use crate::query::send::{
     send_copy_both_response, send_copy_in_response, send_copy_out_response, send_done,
-    send_execution_response, send_partial_query_response, send_query_response,
+    send_execution_response, send_next_page, send_query_response,
 };
 use pg_messages::{
     EmptyQueryResponse, ErrorInfo, ErrorResponse, PgList, PgWireBackendMessage, TransactionStatus,
 };
+use pg_outbox::Outbox;
 use pg_portal::{
     CopySource, PgWireConnectionState, PgWireError, Portal, PortalExecutionState, PortalStore,
     Response, RowSource,
@@ -150,46 +150,51 @@ pub(crate) fn send_responses<R: RowSource, C: CopySource>(
 }
 
 /// Whether a portal isn't started.
-pub(crate) fn is_unstarted<R: RowSource>(state: &PortalExecutionState<R>) -> bool
-    ensures { result ≡ is_unstarted (stage_of R.items state.now) }
+pub(crate) fn is_unstarted<S: Drop, R: RowSource>(portal: &Portal<S, R>) -> bool
+    ensures { result ≡ is_unstarted (stage_of R.items portal.now) }
 {
-    matches!(state, PortalExecutionState::Initial)
+    matches!(portal.state, PortalExecutionState::Initial)
 }
 
-/// Appends the next page of a started portal. The error of an item is answered, and the rows before it are taken back.
+/// Appends the next page of a started portal, and counts its rows. The error of an item is answered, and the rows before
+/// it are taken back and not counted.
 pub(crate) fn send_page<S: Drop, R: RowSource>(
     alloc: Global,
     outbox: &mut Outbox,
     portal: &mut Portal<S, R>,
     max_rows: i32,
 ) -> Result<(), PgWireError>
-    requires started { is_unstarted (stage_of R.items portal.old.state) ≡ false }
-    requires tag { HasGoodTag (stage_of R.items portal.old.state) }
-    ensures page { IsPageOf (page_result max_rows (stage_of R.items portal.old.state))
-        (stage_of R.items portal.new.state) outbox.old outbox.new result }
+    requires started { is_unstarted (stage_of R.items portal.old) ≡ false }
+    requires tag { HasGoodTag (stage_of R.items portal.old) }
+    ensures page { IsPageOf (page_result max_rows (stage_of R.items portal.old))
+        (stage_of R.items portal.new) outbox.old outbox.new result }
     ensures answerable { IfErr result IsAnswerableItem }
     ensures stays { OnErr result
-        (HasComeTo (stage_of R.items portal.old.state) (stage_of R.items portal.new.state)) }
+        (HasComeTo (stage_of R.items portal.old) (stage_of R.items portal.new)) }
     ensures kept { take (length outbox.old) outbox.new ≡ outbox.old }
     ensures bound { bound_of portal.new ≡ bound_of portal.old }
-    ensures tag { HasGoodTag (stage_of R.items portal.new.state) }
+    ensures tag { HasGoodTag (stage_of R.items portal.new) }
 {
-    match &mut portal.state {
+    let delivered = portal.delivered;
+    let page = match &mut portal.state {
         PortalExecutionState::Initial => return Err(PgWireError::PortalNotStarted),
         PortalExecutionState::Finished => {
-            return Ok(send_done(alloc, outbox, "SELECT", 0)?);
+            return Ok(send_done(alloc, outbox, "SELECT", delivered)?);
         }
         PortalExecutionState::Suspended(response) => {
             let start = outbox.len();
-            match send_partial_query_response(alloc, outbox, response, max_rows) {
-                Ok(true) => return Ok(()),
-                Ok(false) => {}
+            match send_next_page(alloc, outbox, response, delivered, max_rows) {
+                Ok(page) => page,
                 Err(error) => {
                     outbox.truncate(start);
                     return Err(error);
                 }
             }
         }
+    };
+    portal.delivered = page.delivered;
+    if page.suspended {
+        return Ok(());
     }
     portal.state = PortalExecutionState::Finished;
     Ok(())

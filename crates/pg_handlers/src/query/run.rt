@@ -12,9 +12,9 @@ ghost use Rattle.pg_handlers.specs.Sending.{IsAnswerableError};
 
 use crate::desk::CancelDesk;
 use crate::ends::{SessionError, Turns};
-use crate::outbox::Outbox;
 use crate::query::respond::send_page;
 use crate::query::{QueryState, wait};
+use pg_outbox::Outbox;
 use pg_portal::{CopySource, PgWireError, Portal, Response, RowSource};
 use std::alloc::Global;
 
@@ -37,13 +37,13 @@ pub(crate) fn run_portal<
 ) -> Result<Option<Response<R, C>>, SessionError>
     requires unspent { (Q.told query.old).is_spent ≡ false }
     requires sendable { IsSendableOutcome (told_one R.items C.items (Q.told query.old).outcome) }
-    requires tag { HasGoodTag (stage_of R.items portal.old.state) }
+    requires tag { HasGoodTag (stage_of R.items portal.old) }
     ensures ran { (verdict : Verdict)
         × IsAsked (Q.told query.old).owes (D.told desk.old).calls (D.told desk.new).calls verdict
         × IsPortalRun (told_response R.items C.items)
-        (portal_run max_rows (stage_of R.items portal.old.state) verdict
+        (portal_run max_rows (stage_of R.items portal.old) verdict
         (told_one R.items C.items (Q.told query.old).outcome))
-        (stage_of R.items portal.old.state) (stage_of R.items portal.new.state)
+        (stage_of R.items portal.old) (stage_of R.items portal.new)
         outbox.old outbox.new result }
     ensures without_rows { IfOk result (λ left. IfSome left (λ response.
         has_rows (told_response R.items C.items response) ≡ false)) }
@@ -53,7 +53,7 @@ pub(crate) fn run_portal<
     ensures caused { IfErr result (IsCausedSo (D.told desk.old).calls (D.told desk.new).calls) }
     ensures kept { take (length outbox.old) outbox.new ≡ outbox.old }
     ensures bound { bound_of portal.new ≡ bound_of portal.old }
-    ensures tag { HasGoodTag (stage_of R.items portal.new.state) }
+    ensures tag { HasGoodTag (stage_of R.items portal.new) }
     ensures turns { HasSpent turns.old turns.new
         (questions_since (D.told desk.old).calls (D.told desk.new).calls) result }
     ensures bounded { turns.old.spent ≤ turns.old.limit → turns.new.spent ≤ turns.new.limit }

@@ -1,6 +1,6 @@
 //! Replies to queries, appended to the outbox.
 
-ghost use Rattle.std.specs.Prelude.{◌≡◌, ◌≤◌, ◌+◌, ◌++◌, ◌⊎◌, [], ◌∷◌, Some, None, true, false, length, map, take, Bool, codes, IfOk, IfErr, IfSome, OnOk, OnErr};
+ghost use Rattle.std.specs.Prelude.{◌≡◌, ◌≤◌, ◌<◌, ◌+◌, ◌^◌, ◌++◌, ◌⊎◌, [], ◌∷◌, Some, None, true, false, length, map, take, Bool, codes, IfOk, IfErr, IfSome, OnOk, OnErr};
 ghost use Rattle.pg_messages.specs.Replies.{IsEncodable, replies_bytes, reply_bytes};
 ghost use Rattle.std.specs.Arc.{arc_value};
 ghost use Rattle.pg_messages.specs.declared.response.TransactionStatus.{TransactionStatus};
@@ -10,10 +10,10 @@ ghost use Rattle.pg_portal.specs.Fields.{description_of};
 ghost use Rattle.pg_portal.specs.Responses.{told_copy};
 ghost use Rattle.pg_portal.specs.Copying.{IsNextCopy, IsSendableCopy};
 ghost use Rattle.pg_portal.specs.Rows.{IsAnswerableItem};
-ghost use Rattle.pg_portal.specs.Page.{item_page, before_error};
+ghost use Rattle.pg_portal.specs.Page.{delivered_after, item_page, before_error};
 ghost use Rattle.pg_portal.specs.Tags.{spaced, tag_text};
-ghost use Rattle.pg_portal.specs.Fetching.{IsKept};
-ghost use Rattle.pg_portal.specs.Told.{Started, told_rows};
+ghost use Rattle.pg_portal.specs.Fetching.{IsRest};
+ghost use Rattle.pg_portal.specs.Told.{told_rows};
 ghost use Rattle.pg_portal.specs.declared.error.PgWireError.{PgWireError};
 ghost use Rattle.pg_handlers.specs.Good.{IsTag};
 ghost use Rattle.pg_handlers.specs.Replies.{ready, done, done_with, row_description, parameter_description};
@@ -22,16 +22,16 @@ ghost use Rattle.pg_handlers.specs.ExecuteRow.{page_replies};
 ghost use Rattle.pg_handlers.specs.ResponseRows.{sent_rows_behind, rows_front, sent_copy, copy_in_reply, copy_out_reply, copy_both_reply, copy_items, copy_count, copy_replies, copy_end, not_empty};
 ghost use Rattle.pg_handlers.specs.Sending.{IsSentPage, IsMetError, IsSentData, IsRefusedData, IsAllSent};
 
-use crate::outbox::Outbox;
 use itoa::Buffer;
 use pg_messages::{
     CommandComplete, CopyBothResponse, CopyData, CopyDone, CopyInResponse, CopyOutResponse,
     DataRow, FieldDescription, NoData, ParameterDescription, PgList, PgStr, PgWireBackendMessage,
     PortalSuspended, ReadyForQuery, RowDescription, TransactionStatus,
 };
+use pg_outbox::Outbox;
 use pg_portal::{
     CopyResponse, CopySource, DescribeResponse, FieldInfo, PgWireError, QueryResponse, RowSource,
-    Tag, finish_copy_binary, is_reached,
+    Tag, delivered_after, finish_copy_binary, is_reached,
 };
 use pg_text::PgType;
 use std::alloc::{AllocError, Global};
@@ -70,7 +70,7 @@ pub(crate) fn send_done(
     alloc: Global,
     outbox: &mut Outbox,
     command: &str,
-    rows: usize,
+    rows: u64,
 ) -> Result<(), AllocError>
     requires { IsTag command.now }
     ensures ok { OnOk result
@@ -82,14 +82,14 @@ pub(crate) fn send_done(
 }
 
 /// The text of a command's tag with so many rows. Its room is made at once.
-fn tag_with_rows(alloc: Global, command: &str, rows: usize) -> Result<PgStr, AllocError>
+fn tag_with_rows(alloc: Global, command: &str, rows: u64) -> Result<PgStr, AllocError>
     ensures { IfOk result (λ tag. tag ≡ command.now ++ spaced rows) }
 {
     let mut digits = Buffer::new();
     let mut text = String::with_capacity(alloc, command.len().saturating_add(21))?;
     text.push_str(command)?;
     text.push_str(" ")?;
-    text.push_str(digits.format(rows as u64))?;
+    text.push_str(digits.format(rows))?;
     PgStr::copy_of(alloc, text.as_str())
 }
 
@@ -204,6 +204,73 @@ fn push_row(outbox: &mut Outbox, row: DataRow, rows: usize) -> Result<usize, All
     Ok(rows + 1)
 }
 
+/// How a page ended, and how many rows were delivered since its portal was started.
+#[derive(Clone, Copy)]
+pub(crate) struct PageSent {
+    pub suspended: bool,
+    pub delivered: u64,
+}
+
+/// Appends the next page of a response, of which so many rows were delivered: at most so many DataRows, and below 1 all
+/// of them; then PortalSuspended where the limit was reached, or else CommandComplete with the tag and the number of
+/// rows delivered. The error of an item is answered as by `send_partial_query_response`.
+pub(crate) fn send_next_page<R: RowSource>(
+    alloc: Global,
+    outbox: &mut Outbox,
+    results: &mut QueryResponse<R>,
+    delivered: u64,
+    max_rows: i32,
+) -> Result<PageSent, PgWireError>
+    requires { IsTag results.old.command_tag }
+    ensures page { IfOk result (λ page. IsSentPage (told_rows R.items results.old)
+        (item_page max_rows (R.items results.old.data_rows)).ending
+        page.suspended (told_rows R.items results.new)) }
+    ensures delivered { IfOk result (λ page. page.delivered ≡ delivered_after delivered
+        (length (item_page max_rows (R.items results.old.data_rows)).rows)) }
+    ensures replied { OnOk result (outbox.new ≡ outbox.old ++ replies_bytes
+        (page_replies results.old.command_tag
+        (delivered_after delivered
+        (length (item_page max_rows (R.items results.old.data_rows)).rows))
+        (item_page max_rows (R.items results.old.data_rows)).rows
+        (item_page max_rows (R.items results.old.data_rows)).ending)) }
+    ensures fewer { OnOk result
+        (length (item_page max_rows (R.items results.old.data_rows)).rows < 2 ^ 64) }
+    ensures refused { IfErr result (λ e. (e ≡ PgWireError.NoMemory)
+        ⊎ IsMetError (told_rows R.items results.old)
+        (item_page max_rows (R.items results.old.data_rows)).ending
+        e (told_rows R.items results.new) outbox.old outbox.new) }
+    ensures answerable { IfErr result IsAnswerableItem }
+    ensures tag { results.new.command_tag ≡ results.old.command_tag }
+    ensures fields { arc_value results.new.row_schema ≡ arc_value results.old.row_schema }
+    ensures left { OnErr result
+        (IsRest (told_rows R.items results.old) (told_rows R.items results.new)) }
+    ensures begins { length outbox.old ≤ length outbox.new }
+    ensures kept { take (length outbox.old) outbox.new ≡ outbox.old }
+{
+    let mut rows = 0;
+    while !is_reached(max_rows, rows) {
+        match results.data_rows.next()? {
+            None => {
+                // A length is a usize, so that the count, which is no larger, is that of all rows.
+                let _waiting = outbox.len();
+                let delivered = delivered_after(delivered, rows);
+                send_done(alloc, outbox, results.command_tag.as_str(), delivered)?;
+                return Ok(PageSent {
+                    suspended: false,
+                    delivered,
+                });
+            }
+            Some(Err(error)) => return Err(error),
+            Some(Ok(row)) => rows = push_row(outbox, row, rows)?,
+        }
+    }
+    outbox.push(&PgWireBackendMessage::PortalSuspended(PortalSuspended {}))?;
+    Ok(PageSent {
+        suspended: true,
+        delivered: delivered_after(delivered, rows),
+    })
+}
+
 /// Appends a page of rows: at most so many DataRows, and below 1 all of them; then PortalSuspended where the limit was
 /// reached, which is answered by true, or else CommandComplete with the tag and the number of these rows. The error of
 /// an item is answered and the item consumed; the rows before it stay in the outbox. After NoMemory some of the rows may
@@ -220,6 +287,7 @@ pub fn send_partial_query_response<R: RowSource>(
         suspended (told_rows R.items results.new)) }
     ensures replied { OnOk result (outbox.new ≡ outbox.old ++ replies_bytes
         (page_replies results.old.command_tag
+        (length (item_page max_rows (R.items results.old.data_rows)).rows)
         (item_page max_rows (R.items results.old.data_rows)).rows
         (item_page max_rows (R.items results.old.data_rows)).ending)) }
     ensures refused { IfErr result (λ e. (e ≡ PgWireError.NoMemory)
@@ -229,24 +297,12 @@ pub fn send_partial_query_response<R: RowSource>(
     ensures answerable { IfErr result IsAnswerableItem }
     ensures tag { results.new.command_tag ≡ results.old.command_tag }
     ensures fields { arc_value results.new.row_schema ≡ arc_value results.old.row_schema }
-    ensures left { OnErr result (IsKept (Started (told_rows R.items results.old))
-        (Started (told_rows R.items results.new))) }
+    ensures left { OnErr result
+        (IsRest (told_rows R.items results.old) (told_rows R.items results.new)) }
     ensures begins { length outbox.old ≤ length outbox.new }
     ensures kept { take (length outbox.old) outbox.new ≡ outbox.old }
 {
-    let mut rows = 0;
-    while !is_reached(max_rows, rows) {
-        match results.data_rows.next()? {
-            None => {
-                send_done(alloc, outbox, results.command_tag.as_str(), rows)?;
-                return Ok(false);
-            }
-            Some(Err(error)) => return Err(error),
-            Some(Ok(row)) => rows = push_row(outbox, row, rows)?,
-        }
-    }
-    outbox.push(&PgWireBackendMessage::PortalSuspended(PortalSuspended {}))?;
-    Ok(true)
+    Ok(send_next_page(alloc, outbox, results, 0, max_rows)?.suspended)
 }
 
 /// Appends all rows of a query: RowDescription where it is wanted, a DataRow for each row, CommandComplete with the tag
@@ -347,7 +403,7 @@ fn send_copy_end(alloc: Global, outbox: &mut Outbox, count: usize) -> Result<(),
     ensures kept { take (length outbox.old) outbox.new ≡ outbox.old }
 {
     outbox.push(&PgWireBackendMessage::CopyDone(CopyDone {}))?;
-    send_done(alloc, outbox, "COPY", count)?;
+    send_done(alloc, outbox, "COPY", count as u64)?;
     Ok(())
 }
 

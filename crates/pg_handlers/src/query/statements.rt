@@ -21,12 +21,12 @@ ghost use Rattle.pg_handlers.specs.Good.{IsGiven, IsGoodStatement, IsGoodState};
 ghost use Rattle.pg_handlers.specs.State.{state_of, with_portal, with_statement};
 
 use crate::client::Client;
-use crate::outbox::Outbox;
 use crate::query::respond::send_empty_query_response;
 use pg_messages::{
     Bind, BindComplete, Close, ErrorInfo, ParseComplete, PgStr, PgWireBackendMessage,
     TARGET_TYPE_BYTE_PORTAL, TARGET_TYPE_BYTE_STATEMENT,
 };
+use pg_outbox::Outbox;
 use pg_portal::{Entry, PgWireError, Portal, PortalStore, QueryParser, StoredStatement};
 use std::alloc::{AllocError, Global};
 use std::sync::Arc;

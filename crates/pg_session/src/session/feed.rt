@@ -1,15 +1,14 @@
 //! What the session makes of the client's bytes.
 
-ghost use Rattle.std.specs.Prelude.{◌≡◌, ◌≤◌, ◌<◌, ◌++◌, [], true, ℕ, List, Option, Some, None, length, IfOk, IfNone, OnOk, OnErr, Ok, IsErrOf};
+ghost use Rattle.std.specs.Prelude.{◌≡◌, ◌≤◌, ◌<◌, ◌++◌, [], true, Option, Some, None, length, IfOk, IfNone, OnOk, OnErr, Ok, IsErrOf};
 ghost use Rattle.std.specs.Option.{option_map};
 ghost use Rattle.pg_handlers.specs.Desk.{KeepsDesk};
-ghost use Rattle.pg_handlers.specs.Answer.{Next, Goes};
+ghost use Rattle.pg_handlers.specs.Answer.{Next};
 ghost use Rattle.pg_handlers.specs.Questions.{questions_since};
 ghost use Rattle.pg_handlers.specs.State.{State};
 ghost use Rattle.pg_handlers.specs.Table.{awaits, is_startup_phase};
-ghost use Rattle.pg_handlers.specs.declared.desk.DeskCall.{DeskCall};
 ghost use Rattle.pg_session.specs.Session.{whole_rules, HasFed, is_going, is_more, most_held};
-ghost use Rattle.pg_session.specs.Steps.{IsServed, IsCutOff, IsStopped, Flows, Stands, StandsAfterStep};
+ghost use Rattle.pg_session.specs.Steps.{IsServed, IsCutOff, IsStopped, Flows, Stands, StandsAfterStep, WasFed};
 ghost use Rattle.pg_session.specs.Streams.{GrowsBy, GrowsByFront, HasSinkCause, HasFlushed};
 ghost use Rattle.pg_session.specs.declared.ends.Progress.TheVariants.{More};
 ghost use Rattle.pg_session.specs.declared.ends.ServeError.TheVariants as serve;
@@ -24,18 +23,17 @@ use pg_messages::FrameError;
 use pg_portal::{PgWireConnectionState, PortalStore};
 use std::alloc::Global;
 
-/// Sends what waits in the outbox.
+/// Sends what waits in the outbox, each chunk by one call.
 fn flush<K: Sink>(outbox: &mut Outbox, sink: &mut K) -> Result<(), ServeError>
     ensures empty { OnOk result (outbox.new ≡ []) }
     ensures ok { OnOk result (GrowsBy (K.written sink.old) (K.written sink.new) outbox.old) }
     ensures err { OnErr result (GrowsByFront (K.written sink.old) (K.written sink.new) outbox.old) }
     ensures cause { HasFlushed (K.faults sink.old) (K.faults sink.new) result }
 {
-    if outbox.len() == 0 {
-        return Ok(());
+    'chunks: while let Some(front) = outbox.front() {
+        sink.send(front)?;
+        outbox.drop_front();
     }
-    sink.send(outbox.as_slice())?;
-    outbox.clear();
     Ok(())
 }
 
@@ -225,52 +223,12 @@ impl<
         requires { self.old.is_open ≡ true }
 
         // The frames of the rest and the piece are answered by the conversation table.
-        ensures served { IfOk result (λ told. (next : Next (State H.Extended.Statement)) × IsServed
+        ensures fed { WasFed
             (whole_rules
             (H.told self.old.handlers))
-            self.old.state (self.old.rest ++ piece.now) self.new.rest next (K.written sink.old) (K.written sink.new)
-            self.old.unsent [] (D.told desk.old).calls (D.told desk.new).calls
-            × Stands awaits next self.new.state self.new.rest told) }
-        ensures cut_off { OnErr result (IsCutOff
-            (whole_rules
-            (H.told self.old.handlers))
-            self.old.state (self.old.rest ++ piece.now) (K.written sink.old) (K.written sink.new) self.old.unsent
-            (D.told desk.old).calls (D.told desk.new).calls) }
-        ensures stopped { IsErrOf result serve.TurnLimit → IsStopped
-            (whole_rules
-            (H.told self.old.handlers))
-            self.old.state (self.old.rest ++ piece.now) (K.written sink.old) (K.written sink.new) self.old.unsent
-            (D.told desk.old).calls (D.told desk.new).calls }
-
-        // So are those of all that came before, and of this piece.
-        ensures continues { (s : State H.Extended.Statement) (text : List ℕ) (written : Option (List ℕ)) (out : List ℕ) (calls : List DeskCall)
-            → IsServed
-            (whole_rules
-            (H.told self.old.handlers))
-            s text self.old.rest (Goes self.old.state) written (K.written sink.old) out self.old.unsent calls (D.told desk.old).calls
-            → IfOk result (λ told. (next : Next (State H.Extended.Statement)) × IsServed
-            (whole_rules
-            (H.told self.old.handlers))
-            s (text ++ piece.now) self.new.rest next written (K.written sink.new) out [] calls (D.told desk.new).calls
-            × Stands awaits next self.new.state self.new.rest told) }
-        ensures continues_cut { (s : State H.Extended.Statement) (text : List ℕ) (written : Option (List ℕ)) (out : List ℕ) (calls : List DeskCall)
-            → IsServed
-            (whole_rules
-            (H.told self.old.handlers))
-            s text self.old.rest (Goes self.old.state) written (K.written sink.old) out self.old.unsent calls (D.told desk.old).calls
-            → OnErr result (IsCutOff
-            (whole_rules
-            (H.told self.old.handlers))
-            s (text ++ piece.now) written (K.written sink.new) out calls (D.told desk.new).calls) }
-        ensures continues_stopped { (s : State H.Extended.Statement) (text : List ℕ) (written : Option (List ℕ)) (out : List ℕ) (calls : List DeskCall)
-            → IsServed
-            (whole_rules
-            (H.told self.old.handlers))
-            s text self.old.rest (Goes self.old.state) written (K.written sink.old) out self.old.unsent calls (D.told desk.old).calls
-            → IsErrOf result serve.TurnLimit → IsStopped
-            (whole_rules
-            (H.told self.old.handlers))
-            s (text ++ piece.now) written (K.written sink.new) out calls (D.told desk.new).calls }
+            self.old.state (self.old.rest ++ piece.now) self.new.state self.new.rest
+            (K.written sink.old) (K.written sink.new) self.old.unsent
+            (D.told desk.old).calls (D.told desk.new).calls result }
         ensures sent { OnOk result (self.new.unsent ≡ []) }
         ensures held { result ≡ Ok More → length self.new.rest ≤ most_held (awaits self.new.state) }
         ensures open { self.new.is_open ≡ is_more result }

@@ -1,4 +1,4 @@
-use Rattle.std.proofs.Common.{◌≡◌, ◌≤◌}
+use Rattle.std.proofs.Common.{◌≤◌}
 use Rattle.pg_handlers.specs.Desk.{KeepsDesk}
 use Rattle.pg_handlers.proofs.Asking.{IsWaiting}
 use Rattle.pg_handlers.proofs.query.wait.Given as goal

@@ -4,7 +4,9 @@ use Rattle.pg_handlers.proofs.Desks.{keeps_none, keeps_then}
 use Rattle.pg_handlers.specs.Questions.{questions_since}
 use Rattle.pg_handlers.specs.Table.{awaits}
 use Rattle.pg_session.specs.Session.{whole_rules, HasFed, is_more}
-use Rattle.pg_session.specs.Steps.{Stands}
+use Rattle.pg_session.specs.Steps.{Stands, WasFed}
+use Rattle.pg_session.proofs.Answering.{whole_lawful}
+use Rattle.pg_session.proofs.Feeding.{fed_then, cut_by_error}
 use Rattle.pg_session.specs.declared.ends.Progress.{Progress}
 use Rattle.pg_serve.specs.Serving.{TakesFrom, IsStoppedRunOfTaken, counts_of}
 use Rattle.pg_serve.proofs.Serving.{run_of_taken, served_run, ended_run, takes_more, takes_none, served_none, short_none, none_asked, cut_run_of_taken, stopped_run_of_taken, went_by_error, caused_by, serves_in, cut_in, stopped_in, waits_in, goes_to, counted_more, questions_over, gave_none, gave_more, gave_unread, risen_since, all_spent, no_end_turn, ends_with_input, ends_at_last, within_all}
@@ -37,8 +39,11 @@ pub turns-preserved : goal.turns-preserved
 turns-preserved g c =
     let i = c.turns.invariant in
     let before = serves_in (λ h. whole_rules (g.H.PgWireServerHandlers.told h)) (sym i.handlers) (waits_in (whole_rules (g.H.PgWireServerHandlers.told c.args.session.now.handlers)) (sym i.unsent) i.served) in
-    let fed = c.in-Ok-More.ensures.continues c.args.session.now.state i.taken (g.K.Sink.written c.args.sink.now) [] (g.D.CancelDesk.told c.args.desk.now).calls before in
-    let piece = c.in-Ok-More.ensures.served in
+    let h = g.H.PgWireServerHandlers.told c.turns.session.handlers in
+    let fed = fed_then (whole_rules h) (whole_lawful h) c.args.session.now.state c.turns.session.state c.feed.new.self.state i.taken c.turns.session.rest c.front_of.result.now c.feed.new.self.rest
+    (g.K.Sink.written c.args.sink.now) (g.K.Sink.written c.turns.sink) (g.K.Sink.written c.feed.new.sink) [] c.turns.session.unsent
+    (g.D.CancelDesk.told c.args.desk.now).calls (g.D.CancelDesk.told c.turns.desk).calls (g.D.CancelDesk.told c.feed.new.desk).calls (Ok c.in-Ok-More.field-0) before c.in-Ok-More.ensures.fed in
+    let piece = c.in-Ok-More.ensures.fed in
     let stands = subst (λ o. Stands awaits fed.0 c.feed.new.self.state c.feed.new.self.rest o) c.in-Ok-More.field-0-is fed.2 in
     let asked = questions_since (g.D.CancelDesk.told c.turns.desk).calls (g.D.CancelDesk.told c.feed.new.desk).calls in
     let spent_is : c.feed.new.turns.spent ≡ c.turns.turns.spent + 1 + asked = ap (λ t. t.spent) c.in-Ok-More.ensures.turns ∙ ap (λ n. n + asked) c.if-not-spend.ensures.spent in
@@ -72,7 +77,10 @@ pub returns-in-Ok-Ended-clause-went : goal.returns-in-Ok-Ended-clause-went
 returns-in-Ok-Ended-clause-went g c =
     let i = c.turns.invariant in
     let before = serves_in (λ h. whole_rules (g.H.PgWireServerHandlers.told h)) (sym i.handlers) (waits_in (whole_rules (g.H.PgWireServerHandlers.told c.args.session.now.handlers)) (sym i.unsent) i.served) in
-    let fed = c.in-Ok-Ended.ensures.continues c.args.session.now.state i.taken (g.K.Sink.written c.args.sink.now) [] (g.D.CancelDesk.told c.args.desk.now).calls before in
+    let h = g.H.PgWireServerHandlers.told c.turns.session.handlers in
+    let fed = fed_then (whole_rules h) (whole_lawful h) c.args.session.now.state c.turns.session.state c.feed.new.self.state i.taken c.turns.session.rest c.front_of.result.now c.feed.new.self.rest
+    (g.K.Sink.written c.args.sink.now) (g.K.Sink.written c.turns.sink) (g.K.Sink.written c.feed.new.sink) [] c.turns.session.unsent
+    (g.D.CancelDesk.told c.args.desk.now).calls (g.D.CancelDesk.told c.turns.desk).calls (g.D.CancelDesk.told c.feed.new.desk).calls (Ok c.in-Ok-Ended.field-0) before c.in-Ok-Ended.ensures.fed in
     let stands = subst (λ o. Stands awaits fed.0 c.feed.new.self.state c.feed.new.self.rest o) c.in-Ok-Ended.field-0-is fed.2 in
     let takes = subst (λ p. TakesFrom (g.S.Source.left c.args.source.now) (g.S.Source.left c.receive.new.self) (i.taken ++ p)) (sym c.front_of.ensures)
     (takes_more (g.S.Source.left c.args.source.now) (g.S.Source.left c.turns.source) (g.S.Source.left c.receive.new.self) i.taken c.in-Ok.n c.receive.new.into i.takes c.in-Ok.ensures.bytes) in
@@ -83,7 +91,11 @@ pub returns-in-Err-clause-went : goal.returns-in-Err-clause-went
 returns-in-Err-clause-went g c =
     let i = c.turns.invariant in
     let before = serves_in (λ h. whole_rules (g.H.PgWireServerHandlers.told h)) (sym i.handlers) (waits_in (whole_rules (g.H.PgWireServerHandlers.told c.args.session.now.handlers)) (sym i.unsent) i.served) in
-    let cut = cut_in (λ h. whole_rules (g.H.PgWireServerHandlers.told h)) i.handlers (c.in-Err.ensures.continues_cut c.args.session.now.state i.taken (g.K.Sink.written c.args.sink.now) [] (g.D.CancelDesk.told c.args.desk.now).calls before) in
+    let h = g.H.PgWireServerHandlers.told c.turns.session.handlers in
+    let fed = fed_then (whole_rules h) (whole_lawful h) c.args.session.now.state c.turns.session.state c.feed.new.self.state i.taken c.turns.session.rest c.front_of.result.now c.feed.new.self.rest
+    (g.K.Sink.written c.args.sink.now) (g.K.Sink.written c.turns.sink) (g.K.Sink.written c.feed.new.sink) [] c.turns.session.unsent
+    (g.D.CancelDesk.told c.args.desk.now).calls (g.D.CancelDesk.told c.turns.desk).calls (g.D.CancelDesk.told c.feed.new.desk).calls (Err c.in-Err.error) before c.in-Err.ensures.fed in
+    let cut = cut_in (λ h. whole_rules (g.H.PgWireServerHandlers.told h)) i.handlers (cut_by_error (whole_rules h) _ _ c.feed.new.self.state c.feed.new.self.rest _ _ _ _ _ c.in-Err.error fed) in
     let takes = subst (λ p. TakesFrom (g.S.Source.left c.args.source.now) (g.S.Source.left c.receive.new.self) (i.taken ++ p)) (sym c.front_of.ensures)
     (takes_more (g.S.Source.left c.args.source.now) (g.S.Source.left c.turns.source) (g.S.Source.left c.receive.new.self) i.taken c.in-Ok.n c.receive.new.into i.takes c.in-Ok.ensures.bytes) in (
       cut.made,
@@ -91,7 +103,8 @@ returns-in-Err-clause-went g c =
       went_by_error (whole_rules (g.H.PgWireServerHandlers.told c.args.session.now.handlers)) c.args.session.now.state c.in-Err.error (g.S.Source.left c.args.source.now) (g.S.Source.left c.receive.new.self) _ _ _ (λ q. c.in-Err.ensures.cause.no_read_fault (ap Err q))
           (cut_run_of_taken (whole_rules (g.H.PgWireServerHandlers.told c.args.session.now.handlers)) c.args.session.now.state (g.S.Source.left c.args.source.now) (g.S.Source.left c.receive.new.self) takes cut)
           (λ q.
-          let stopped = stopped_in (λ h. whole_rules (g.H.PgWireServerHandlers.told h)) i.handlers (c.in-Err.ensures.continues_stopped c.args.session.now.state i.taken (g.K.Sink.written c.args.sink.now) [] (g.D.CancelDesk.told c.args.desk.now).calls before (ap Err q)) in
+          let stopped = stopped_in (λ h. whole_rules (g.H.PgWireServerHandlers.told h)) i.handlers (subst (λ e. WasFed (whole_rules h) c.args.session.now.state (i.taken ++ c.front_of.result.now) c.feed.new.self.state c.feed.new.self.rest
+          (g.K.Sink.written c.args.sink.now) (g.K.Sink.written c.feed.new.sink) [] (g.D.CancelDesk.told c.args.desk.now).calls (g.D.CancelDesk.told c.feed.new.desk).calls (Err e)) q fed) in
           subst (λ k. IsStoppedRunOfTaken (whole_rules (g.H.PgWireServerHandlers.told c.args.session.now.handlers)) c.args.session.now.state (g.S.Source.left c.args.source.now) (g.S.Source.left c.receive.new.self) (g.K.Sink.written c.args.sink.now) (g.K.Sink.written c.feed.new.sink) k) (append_cancel_left (g.D.CancelDesk.told c.args.desk.now).calls stopped.made cut.made (sym stopped.grown ∙ cut.grown))
           (stopped_run_of_taken (whole_rules (g.H.PgWireServerHandlers.told c.args.session.now.handlers)) c.args.session.now.state (g.S.Source.left c.args.source.now) (g.S.Source.left c.receive.new.self) takes stopped)),
     )
@@ -105,7 +118,8 @@ returns-in-Err-clause-cause g c =
     let below_limit : c.turns.turns.spent < c.args.turns.now.limit = omega (arith, below, same_limit) in
     let once = c.if-not-spend.ensures.spent in
     let kept_limit = c.if-not-spend.ensures.limit in
-    let over = questions_over (g.D.CancelDesk.told c.args.desk.now).calls (g.D.CancelDesk.told c.turns.desk).calls (g.D.CancelDesk.told c.feed.new.desk).calls i.served.called c.in-Err.ensures.cut_off.made i.served.grown c.in-Err.ensures.cut_off.grown in
+    let off = cut_by_error (whole_rules (g.H.PgWireServerHandlers.told c.turns.session.handlers)) _ _ c.feed.new.self.state c.feed.new.self.rest _ _ _ _ _ c.in-Err.error c.in-Err.ensures.fed in
+    let over = questions_over (g.D.CancelDesk.told c.args.desk.now).calls (g.D.CancelDesk.told c.turns.desk).calls (g.D.CancelDesk.told c.feed.new.desk).calls i.served.called off.made i.served.grown off.grown in
     caused_by c.in-Err.error c.args.turns.now.limit (questions_since (g.D.CancelDesk.told c.args.desk.now).calls (g.D.CancelDesk.told c.feed.new.desk).calls)
     (counts_of g.S.Source.reads g.S.Source.faults g.K.Sink.faults c.args.source.now c.args.sink.now) (counts_of g.S.Source.reads g.S.Source.faults g.K.Sink.faults c.receive.new.self c.feed.new.sink)
     (λ q. c.in-Err.ensures.cause.no_read_fault (ap Err q))
@@ -125,7 +139,7 @@ returns-in-Ok-Ended-clause-cause g c = λ fits.
     let below_limit : c.turns.turns.spent < c.args.turns.now.limit = omega (arith, below, same_limit) in
     let once = c.if-not-spend.ensures.spent in
     let kept_limit = c.if-not-spend.ensures.limit in
-    let served = c.in-Ok-Ended.ensures.served in
+    let served = c.in-Ok-Ended.ensures.fed in
     let over = questions_over (g.D.CancelDesk.told c.args.desk.now).calls (g.D.CancelDesk.told c.turns.desk).calls (g.D.CancelDesk.told c.feed.new.desk).calls i.served.called served.1.called i.served.grown served.1.grown in
     let stands = subst (λ o. Stands awaits served.0 c.feed.new.self.state c.feed.new.self.rest o) c.in-Ok-Ended.field-0-is served.2 in
     let more = counted_more c.in-Ok.n (g.S.Source.reads c.turns.source) (g.S.Source.reads c.receive.new.self) (g.S.Source.reads c.args.source.now) (questions_since (g.D.CancelDesk.told c.args.desk.now).calls (g.D.CancelDesk.told c.turns.desk).calls) c.turns.turns.spent c.args.turns.now.limit c.in-Ok.ensures.counts c.if-n-eq0.false (i.counted fits) below_limit fits in

@@ -1,11 +1,11 @@
-use Rattle.std.proofs.Common.{rules, inr, refl, Ok, Err}
+use Rattle.std.proofs.Common.{arith, rules, inr, refl, Ok, Err}
 use Rattle.std.proofs.lemmas.Int.{to_z-of_z}
 use Rattle.std.proofs.lemmas.Result.{err_from_is_err_and}
 use Rattle.pg_portal.specs.Told.{told_rows}
 use Rattle.pg_portal.proofs.Fetches.{told_later}
 use Rattle.pg_portal.proofs.Paging.{test_is}
-use Rattle.pg_handlers.proofs.Sent.{paging_goes_on, sent_suspended, replied_suspended, sent_complete, replied_complete, met_error, kept_at}
-use Rattle.pg_handlers.proofs.query.send.send_partial_query_response.Goals as goal
+use Rattle.pg_handlers.proofs.Sent.{paging_goes_on, sent_suspended, replied_suspended, sent_complete, replied_complete, delivered_at_limit, delivered_at_end, fewer_at_end, met_error, kept_at}
+use Rattle.pg_handlers.proofs.query.send.send_next_page.Goals as goal
 
 pub returns-in-None-clause-page : goal.returns-in-None-clause-page
 returns-in-None-clause-page g c =
@@ -25,8 +25,28 @@ returns-in-None-clause-replied g c =
     let old = told_rows g.R.RowSource.items c.args.results.now in
     replied_complete c.args.max_rows old _ _ _ c.loop-alloc.rows paged
     (test_is c.args.max_rows _ _ _ _ fits c.is_reached.ensures refl c.loop-alloc-test.true)
-    (let taken = c.in_ok-next.ensures.next in search rules) _ _
+    (let taken = c.in_ok-next.ensures.next in search rules) _ c.args.delivered _ _ c.delivered_after-delivered.ensures
     (let said = c.in_ok-send_done-in-None.ensures.ok in let read = c.as_str.ensures in search rules)
+
+pub returns-in-None-clause-delivered : goal.returns-in-None-clause-delivered
+returns-in-None-clause-delivered g c =
+    let l = c.loop-alloc.invariant in
+    let fits = c.ranges.max_rows in
+    let paged = simp to_z-of_z at l.paged in
+    let old = told_rows g.R.RowSource.items c.args.results.now in
+    delivered_at_end c.args.max_rows old _ _ _ c.loop-alloc.rows paged
+    (test_is c.args.max_rows _ _ _ _ fits c.is_reached.ensures refl c.loop-alloc-test.true)
+    (let taken = c.in_ok-next.ensures.next in search rules) c.args.delivered _ c.delivered_after-delivered.ensures
+
+pub returns-in-None-clause-fewer : goal.returns-in-None-clause-fewer
+returns-in-None-clause-fewer g c =
+    let l = c.loop-alloc.invariant in
+    let fits = c.ranges.max_rows in
+    let paged = simp to_z-of_z at l.paged in
+    let old = told_rows g.R.RowSource.items c.args.results.now in
+    fewer_at_end c.args.max_rows old _ _ _ c.loop-alloc.rows paged
+    (test_is c.args.max_rows _ _ _ _ fits c.is_reached.ensures refl c.loop-alloc-test.true)
+    (let taken = c.in_ok-next.ensures.next in search rules) (let few = paged.fewer in let waiting = c.len-waiting.ensures in omega (arith, few, waiting))
 
 pub returns-in-Some-Err-clause-refused : goal.returns-in-Some-Err-clause-refused
 returns-in-Some-Err-clause-refused g c =
@@ -79,6 +99,16 @@ returns-clause-page g c =
     (test_is c.args.max_rows _ _ _ _ fits c.is_reached.ensures refl c.loop-alloc-test.false)
     _ (told_later g.R.RowSource.items c.args.results.now c.loop-alloc.results l.same_tag l.same_schema)
 
+pub returns-clause-delivered : goal.returns-clause-delivered
+returns-clause-delivered g c =
+    let l = c.loop-alloc.invariant in
+    let fits = c.ranges.max_rows in
+    let paged = simp to_z-of_z at l.paged in
+    let old = told_rows g.R.RowSource.items c.args.results.now in
+    delivered_at_limit c.args.max_rows old _ _ _ c.loop-alloc.rows paged
+    (test_is c.args.max_rows _ _ _ _ fits c.is_reached.ensures refl c.loop-alloc-test.false)
+    c.args.delivered _ c.delivered_after.ensures
+
 pub returns-clause-replied : goal.returns-clause-replied
 returns-clause-replied g c =
     let l = c.loop-alloc.invariant in
@@ -87,7 +117,7 @@ returns-clause-replied g c =
     let old = told_rows g.R.RowSource.items c.args.results.now in
     replied_suspended c.args.max_rows old _ _ _ c.loop-alloc.rows paged
     (test_is c.args.max_rows _ _ _ _ fits c.is_reached.ensures refl c.loop-alloc-test.false)
-    _ _ c.in_ok-push.ensures.ok
+    _ _ _ c.in_ok-push.ensures.ok
 
 pub loop-alloc-preserved : goal.loop-alloc-preserved
 loop-alloc-preserved g c =

@@ -1,6 +1,6 @@
 use Rattle.std.proofs.Common.{◌≡◌, length}
 use Rattle.pg_handlers.proofs.Sent.{IsPaged}
-use Rattle.pg_handlers.proofs.query.send.send_partial_query_response.Given as goal
+use Rattle.pg_handlers.proofs.query.send.send_next_page.Given as goal
 
 -- the rows so far were taken of the items and appended, and the response is else as it was
 abbrev pub invariant-loop-alloc : goal.invariant-loop-alloc

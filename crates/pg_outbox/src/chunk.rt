@@ -1,0 +1,46 @@
+//! Chunks, and how long a reply is.
+
+ghost use Rattle.std.specs.Prelude.{◌≡◌, ◌≤◌, length, IfOk};
+ghost use Rattle.pg_messages.specs.Replies.{IsEncodable, reply_bytes};
+
+use bytes::BytesMut;
+use pg_messages::PgWireBackendMessage;
+use std::alloc::{AllocError, Global};
+use std::collections::VecDeque;
+
+/// How many bytes a chunk has. A session sends what waits as soon as it is so many bytes or more after a message.
+pub const CHUNK: usize = 65536;
+
+// So many chunks are more than any machine has memory for, and their bytes can be counted.
+pub const MOST_CHUNKS: usize = 4294967296;
+
+// A chunk that begins with these bytes. Its room is reserved, and touched where it is written.
+pub fn chunk_of(alloc: Global, bytes: &[u8]) -> Result<BytesMut, AllocError>
+    ensures { IfOk result (λ chunk. chunk.items ≡ bytes.now) }
+{
+    let mut room = Vec::with_capacity(alloc, CHUNK)?;
+    room.extend_from_slice(bytes)?;
+    Ok(BytesMut::from_vec(room))
+}
+
+// Gives back the memory of a list of chunks that is empty again.
+pub fn settle(alloc: Global, chunks: &mut VecDeque<BytesMut>)
+    ensures { chunks.new.items ≡ chunks.old.items }
+{
+    if chunks.is_empty() {
+        *chunks = VecDeque::new(alloc);
+    }
+}
+
+// At least as many bytes as the reply has. What is sent most is measured in place.
+#[inline(always)]
+pub fn reply_len(message: &PgWireBackendMessage) -> u64
+    requires { IsEncodable message.now }
+    ensures { length (reply_bytes message.now) ≤ result }
+{
+    match message {
+        PgWireBackendMessage::DataRow(row) => row.payload.len() as u64 + 7,
+        PgWireBackendMessage::CopyData(copied) => copied.payload.len() as u64 + 5,
+        _ => message.body_len() + 5,
+    }
+}

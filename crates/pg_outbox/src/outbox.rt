@@ -1,0 +1,165 @@
+//! The outbox, seen as its bytes.
+
+ghost use Rattle.std.specs.Prelude.{◌≡◌, ◌≤◌, ◌<◌, ◌++◌, [], length, take, drop, IfOk, OnOk, OnErr, IfSome, IfNone, OnSome};
+ghost use Rattle.pg_messages.specs.Replies.{IsEncodable, reply_bytes};
+
+use crate::chunk::{CHUNK, MOST_CHUNKS, chunk_of, reply_len, settle};
+use bytes::BytesMut;
+use pg_messages::{PgWireBackendMessage, PgWireMessageServerCodec};
+use std::alloc::{AllocError, Global};
+use std::collections::VecDeque;
+use std::marker::Model;
+use std::mem;
+
+/// Replies that wait to be sent, as their bytes. They are kept in chunks of 65,536 bytes, of which only the last may be
+/// shorter.
+#[derive(Drop)]
+pub struct Outbox {
+    // the chunks before the last
+    whole: VecDeque<BytesMut>,
+    last: BytesMut,
+    alloc: Global,
+}
+
+impl Model for Outbox {
+    ghost use Rattle.std.specs.Prelude.{ℕ, List, ◌++◌};
+    ghost use Rattle.pg_outbox.specs.Chunks.{chunk_bytes, IsCut};
+
+    ghost Value = { List ℕ };
+
+    ghost view = { λ o. chunk_bytes o.whole.items ++ o.last.items };
+
+    ghost invariant = { λ o. IsCut o.whole.items o.last.items };
+}
+
+impl Outbox {
+    /// An empty outbox with the first chunk reserved, or AllocError where there is no memory for it.
+    pub fn new(alloc: Global) -> Result<Outbox, AllocError>
+        ensures { IfOk result (λ outbox. outbox ≡ []) }
+    {
+        Ok(Outbox {
+            whole: VecDeque::new(alloc),
+            last: chunk_of(alloc, &[])?,
+            alloc,
+        })
+    }
+
+    /// Appends the bytes of a reply. After an error the outbox is as it was.
+    #[inline(always)]
+    pub fn push(&mut self, message: &PgWireBackendMessage) -> Result<(), AllocError>
+        requires { IsEncodable message.now }
+        ensures ok { OnOk result (self.new ≡ self.old ++ reply_bytes message.now) }
+        ensures err { OnErr result (self.new ≡ self.old) }
+    {
+        if reply_len(message) <= (CHUNK - self.last.len()) as u64 {
+            let mut codec = PgWireMessageServerCodec::new();
+            return codec.encode(message, &mut self.last);
+        }
+        self.spill(message)
+    }
+
+    /// How many bytes wait.
+    pub fn len(&self) -> usize
+        ensures { result ≡ length self.now }
+    {
+        self.whole.len() * CHUNK + self.last.len()
+    }
+
+    /// The first chunk: the bytes that are sent next, in one piece. None where no byte waits.
+    pub fn front(&self) -> Option<&[u8]>
+        ensures none { IfNone result (self.now ≡ []) }
+        ensures some { OnSome result (0 < length self.now) }
+        ensures front { IfSome result (λ front. front.now ≡ take 65536 self.now) }
+    {
+        if let Some(chunk) = self.whole.front() {
+            return Some(chunk.as_slice());
+        }
+        if self.last.is_empty() {
+            return None;
+        }
+        Some(self.last.as_slice())
+    }
+
+    /// Forgets the first chunk, which was sent. The memory of a last chunk is kept.
+    pub fn drop_front(&mut self)
+        requires { 0 < length self.old }
+        ensures { self.new ≡ drop 65536 self.old }
+    {
+        match self.whole.pop_front() {
+            Some(_sent) => settle(self.alloc, &mut self.whole),
+            None => self.last.clear(),
+        }
+    }
+
+    /// Takes back what was appended since so many bytes waited.
+    pub fn truncate(&mut self, len: usize)
+        ensures { self.new ≡ take len self.old }
+    {
+        let before = self.whole.len() * CHUNK;
+        if before <= len {
+            self.last.truncate(len - before);
+            return;
+        }
+        self.whole.truncate(len / CHUNK + 1);
+        if let Some(chunk) = self.whole.pop_back() {
+            self.last = chunk;
+        }
+        self.last.truncate(len % CHUNK);
+        settle(self.alloc, &mut self.whole);
+    }
+
+    // Appends a reply that reaches behind the end of the chunk.
+    #[cold]
+    #[inline(never)]
+    fn spill(&mut self, message: &PgWireBackendMessage) -> Result<(), AllocError>
+        requires { IsEncodable message.now }
+        ensures ok { OnOk result (self.new ≡ self.old ++ reply_bytes message.now) }
+        ensures err { OnErr result (self.new ≡ self.old) }
+    {
+        let mut reply = BytesMut::new(self.alloc);
+        let mut codec = PgWireMessageServerCodec::new();
+        codec.encode(message, &mut reply)?;
+        let len = self.len();
+        let appended = self.append(reply.as_slice());
+        if appended.is_err() {
+            self.truncate(len);
+        }
+        appended
+    }
+
+    // Appends bytes; after an error some of them.
+    fn append(&mut self, bytes: &[u8]) -> Result<(), AllocError>
+        ensures ok { OnOk result (self.new ≡ self.old ++ bytes.now) }
+        ensures err { OnErr result (take (length self.old) self.new ≡ self.old) }
+    {
+        let mut rest = bytes;
+        while rest.len() > CHUNK {
+            let (piece, back) = rest.split_at(CHUNK);
+            self.append_piece(piece)?;
+            rest = back;
+        }
+        self.append_piece(rest)
+    }
+
+    // Appends bytes that reach behind the end of one chunk at most.
+    fn append_piece(&mut self, piece: &[u8]) -> Result<(), AllocError>
+        requires { length piece.now ≤ 65536 }
+        ensures ok { OnOk result (self.new ≡ self.old ++ piece.now) }
+        ensures err { OnErr result (self.new ≡ self.old) }
+    {
+        let room = CHUNK - self.last.len();
+        if piece.len() <= room {
+            return self.last.extend_from_slice(piece);
+        }
+        if self.whole.len() == MOST_CHUNKS {
+            return Err(AllocError);
+        }
+        let (front, back) = piece.split_at(room);
+        let next = chunk_of(self.alloc, back)?;
+        self.whole.reserve(1)?;
+        self.last.extend_from_slice(front)?;
+        let filled = mem::replace(&mut self.last, next);
+        self.whole.push_back_reserved(filled);
+        Ok(())
+    }
+}

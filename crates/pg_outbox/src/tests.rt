@@ -1,0 +1,54 @@
+// That each call which takes memory succeeds where there is enough, with replies that reach over the ends of chunks.
+ghost use Rattle.std.specs.Prelude.{◌≤◌, IfOk};
+ghost use Rattle.pg_messages.specs.Replies.{IsEncodable};
+
+use super::*;
+use pg_messages::{CopyData, PgBytes, PgWireBackendMessage};
+use std::alloc::{AllocError, Global};
+use std::test::*;
+
+// A reply of so many bytes behind five.
+fn copied(alloc: Global, len: usize) -> Result<PgWireBackendMessage, AllocError>
+    requires { len ≤ 200000 }
+    ensures { IfOk result (λ reply. IsEncodable reply) }
+{
+    let mut bytes = Vec::new(alloc);
+    bytes.resize(len, 7)?;
+    Ok(PgWireBackendMessage::CopyData(CopyData {
+        payload: PgBytes::from_vec(bytes),
+    }))
+}
+
+// Takes the first chunk, and tells how long it was.
+fn taken(outbox: &mut Outbox) -> usize {
+    let Some(front) = outbox.front() else {
+        return 0;
+    };
+    let len = front.len();
+    outbox.drop_front();
+    len
+}
+
+#[test]
+fn a_reply_of_three_chunks(rt: HostRuntime) -> Result<(), Fail> {
+    let mut outbox = Outbox::new(rt.alloc())?;
+    outbox.push(&copied(rt.alloc(), 150000)?)?;
+    assert_eq!(rt; outbox.len(), 150005);
+    assert_eq!(rt; taken(&mut outbox), 65536);
+    assert_eq!(rt; taken(&mut outbox), 65536);
+    assert_eq!(rt; taken(&mut outbox), 18933);
+    assert_eq!(rt; taken(&mut outbox), 0);
+    Ok(())
+}
+
+#[test]
+fn what_was_appended_is_taken_back(rt: HostRuntime) -> Result<(), Fail> {
+    let mut outbox = Outbox::new(rt.alloc())?;
+    outbox.push(&copied(rt.alloc(), 65531)?)?;
+    assert_eq!(rt; outbox.len(), CHUNK);
+    outbox.push(&copied(rt.alloc(), 150000)?)?;
+    outbox.truncate(65530);
+    assert_eq!(rt; taken(&mut outbox), 65530);
+    assert_eq!(rt; taken(&mut outbox), 0);
+    Ok(())
+}

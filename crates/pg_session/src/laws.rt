@@ -1,0 +1,22 @@
+//! Laws of the session's run. The function takes nothing and does nothing: its contract is the law.
+
+ghost use Rattle.std.specs.Prelude.{ℕ, List, ◌++◌, Option, Result};
+ghost use Rattle.pg_handlers.specs.Answer.{Goes};
+ghost use Rattle.pg_handlers.specs.Handlers.{Handlers};
+ghost use Rattle.pg_handlers.specs.State.{State};
+ghost use Rattle.pg_handlers.specs.declared.desk.DeskCall.{DeskCall};
+ghost use Rattle.pg_session.specs.Session.{whole_rules};
+ghost use Rattle.pg_session.specs.Steps.{IsServed, WasFed};
+ghost use Rattle.pg_session.specs.declared.ends.Progress.{Progress};
+ghost use Rattle.pg_session.specs.declared.ends.ServeError.{ServeError};
+
+/// What was served of a text, and then fed with a piece, was fed with the text and the piece as one: bytes, calls, and
+/// where the conversation stands don't tell how the client's bytes were cut.
+pub fn pieces_join<S>()
+    ensures { (h : Handlers S) (s t u : State S) (text mid piece rest : List ℕ)
+        (first before after : Option (List ℕ)) (out waiting : List ℕ) (old calls new : List DeskCall)
+        (result : Result Progress ServeError)
+        → IsServed (whole_rules h) s text mid (Goes t) first before out waiting old calls
+        → WasFed (whole_rules h) t (mid ++ piece) u rest before after waiting calls new result
+        → WasFed (whole_rules h) s (text ++ piece) u rest first after out old new result }
+{}
