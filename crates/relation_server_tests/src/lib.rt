@@ -15,10 +15,6 @@ mod connection_tests;
 #[cfg(test)]
 mod job_tests;
 #[cfg(test)]
-mod listening_tests;
-#[cfg(test)]
 mod socket_tests;
-#[cfg(test)]
-mod spawner_tests;
 #[cfg(test)]
 mod tests;

@@ -25,13 +25,22 @@ use std::io::Input;
 use std::process::ExitCode;
 use std::sync::{Arc, Wait};
 use std::time::Clock;
-use std::{env, fs};
+use std::{env, fs, io};
+
+/// No words, or want of memory where that is why they weren't read.
+fn no_words(alloc: Global, error: io::Error) -> Result<PgList<PgStr>, AllocError> {
+    match error.kind() {
+        io::ErrorKind::OutOfMemory => Err(AllocError),
+        _ => Ok(PgList::new(alloc)),
+    }
+}
 
 /// The words of the command line, without the program's name. A word that isn't UTF-8 makes them no words at all.
 fn read_words(rt: &HostRuntime) -> Result<PgList<PgStr>, AllocError> {
     let mut words = PgList::new(rt.alloc());
-    let Ok(args) = env::args(rt) else {
-        return Ok(words);
+    let args = match env::args(rt) {
+        Ok(args) => args,
+        Err(error) => return no_words(rt.alloc(), error),
     };
     for word in args.skip(1) {
         words.push(PgStr::copy_of(rt.alloc(), word.as_str())?)?;
