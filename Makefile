@@ -1,4 +1,4 @@
-.PHONY: demo serve try build test bench docs
+.PHONY: demo serve try build test bench docs pages
 
 CLIENT = tools/demo_client.hex
 ROSTERS = $(CURDIR)/data/rosters
@@ -15,7 +15,9 @@ demo:
 	@python3 tools/show_frames.py $(CLIENT) tools/try_server $(WORDS)
 
 # Serves the sample relations at 127.0.0.1:5433, until it is interrupted: by the proved program where it was built.
+# make serve PORT=5434 takes another port.
 serve:
+	@python3 -B tools/port_is_free.py $(PORT)
 	@echo "Serves data/rosters at 127.0.0.1:$(PORT). Ctrl-C ends it. Ask it by: psql -h 127.0.0.1 -p $(PORT) -c shifts"
 	@tools/run_server listen tcp $(PORT) $(ROSTERS)
 
@@ -43,6 +45,11 @@ bench:
 	bench/tcp_memory
 	@for times in $(wildcard bench/*_times); do echo $$times; $$times || exit 1; done
 
-# Compares docs/DEFINITIONS.md with what the public clauses cite, and docs/WRONG_BODIES.md with the edits and tests.
+# Compares docs/DEFINITIONS.md and docs/CONTRACTS.md with the crates that they are made from, and docs/WRONG_BODIES.md with the
+# edits and tests that it names.
 docs:
-	@status=0; for check in definitions wrong_bodies; do python3 -B tools/check_$$check.py || status=1; done; exit $$status
+	@status=0; for page in definitions contracts check_wrong_bodies; do python3 -B tools/$$page.py || status=1; done; exit $$status
+
+# Makes the two pages from the crates anew.
+pages:
+	@for page in definitions contracts; do python3 -B tools/$$page.py --write || exit 1; done

@@ -2,13 +2,13 @@
 """Checks docs/WRONG_BODIES.md against the crates: usage: check_wrong_bodies.py
 
 Every row of a table headed "Wrong body | Refused by" names in backticks the edits and tests that refuse it. The check
-asks that each is there (an edit under some crate's must-fail/ or in docs/edits/, a test function, a row of a table program), and that each
+asks that each is there (an edit under some crate's must-fail/, a test function, a row of a table program), and that each
 edit of the crates is named. It prints what is missing, and its status is then 1.
 """
 import re
 import sys
 
-from check_definitions import TOP, known_examples, listed_crates
+from sources import TOP, known_examples, listed_crates
 
 PAGE = TOP / "docs" / "WRONG_BODIES.md"
 
@@ -30,8 +30,6 @@ def main():
     crates = listed_crates()
     tests, told = known_examples(crates)
     edits = {path.stem: path.relative_to(TOP) for crate in crates for path in (TOP / "crates" / crate).glob("must-fail/*.edit")}
-    waiting = {path.stem: path.relative_to(TOP) for path in (TOP / "docs" / "edits").glob("*/*.edit")}
-    edits.update(waiting)
     named, problems = set(), []
     for number, cells in rows():
         place = f"docs/WRONG_BODIES.md:{number}"
@@ -45,7 +43,7 @@ def main():
     problems += [f"docs/WRONG_BODIES.md: no row names {path}" for name, path in sorted(edits.items()) if name not in named]
     for problem in problems:
         print(problem)
-    print(f"{len(edits)} must-fail edits, {len(waiting)} of them waiting in docs/edits, {len(problems)} problems")
+    print(f"{len(edits)} must-fail edits, {len(problems)} problems")
     return 1 if problems else 0
 
 

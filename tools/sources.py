@@ -1,24 +1,12 @@
-#!/usr/bin/env python3
-"""Checks docs/DEFINITIONS.md against the crates: usage: check_definitions.py [--list]
+"""Reads the sources of the crates: the definitions under specs/, the public clauses that cite them, tests and rows.
 
-What has to be believed is every definition under specs/ that a public clause cites, and those which it stands on. A
-public clause is a `requires`, `ensures` or `ghost` of a public function, of a public trait, or of an implementation for
-a public type; what a type keeps in itself (an invariant) is none. The check reads crates.txt, finds these definitions,
-and compares them with the rows of docs/DEFINITIONS.md, both ways: each that a clause cites is named in a row, each that
-those stand on is named in a row or stands in a row's file below a definition whose row says `with those below it`, and
-no row names any other. It also asks that every row has the one form, that its file defines what the row names, and that
-its worked examples exist: a name in backticks is a test function, a row of a table program, or a file. A row that has none
-yet says `none yet`, and is counted.
-
-It prints what is missing or too much, and its status is then 1. With --list it prints the definitions by their files.
+The pages and checks of tools/ stand on it. A public clause is a `requires`, `ensures` or `ghost` of a public function, of a
+public trait, or of an implementation for a public type; what a type keeps in itself (an invariant) is none.
 """
 import re
-import sys
 from pathlib import Path
 
 TOP = Path(__file__).resolve().parent.parent
-PAGE = TOP / "docs" / "DEFINITIONS.md"
-HEADER = ["Definition", "Sentence", "File", "Source", "Worked example"]
 NAME = r"[^\W\d][\w']*"
 
 
@@ -349,37 +337,12 @@ def public_citations(crate, definitions):
     return cited
 
 
-# The page.
+# The repository.
 
-class Row:
-    def __init__(self, line, cells):
-        self.line, self.cells = line, cells
-        self.names = re.findall(r"`([^`]+)`", cells[0])
-        self.covers_below = "with those below it" in cells[0]
-        self.files = re.findall(r"`([^`]+)`", cells[2])
-        self.examples = re.findall(r"`([^`]+)`", cells[4])
-        self.lacks_example = cells[4] == "none yet"
-
-
-def rows_of_page(problems):
-    """The rows of the page, whose tables all have one header."""
-    rows, columns = [], None
-    for number, line in enumerate(PAGE.read_text().split("\n"), 1):
-        if not line.startswith("|"):
-            columns = None
-            continue
-        cells = [cell.strip() for cell in re.split(r"(?<!\\)\|", line.strip().strip("|"))]
-        if columns is None:
-            columns = cells
-            if cells != HEADER:
-                problems.append(f"docs/DEFINITIONS.md:{number}: the header isn't | {' | '.join(HEADER)} |")
-        elif set("".join(cells)) <= set("-: "):
-            continue
-        elif len(cells) != len(HEADER):
-            problems.append(f"docs/DEFINITIONS.md:{number}: {len(cells)} columns in place of {len(HEADER)}")
-        else:
-            rows.append(Row(number, cells))
-    return rows
+def listed_crates():
+    """The crates of crates.txt."""
+    return [line.split(":")[0].split()[0] for line in (TOP / "crates.txt").read_text().split("\n")
+            if line.strip() and not line.startswith("#")]
 
 
 def known_examples(crates):
@@ -400,41 +363,6 @@ def known_examples(crates):
     return tests, {text.strip() for text in told}
 
 
-def check_rows(rows, definitions, below, needed, crates, problems):
-    """What the rows say, against the sources. Answers the definitions that are named, and those that are covered."""
-    tests, told = known_examples(crates)
-    named, covered = {}, set()
-    for row in rows:
-        place = f"docs/DEFINITIONS.md:{row.line}"
-        if not row.names:
-            problems.append(f"{place}: names no definition in backticks")
-        if len(row.files) != 1 or not (TOP / row.files[0]).is_file():
-            problems.append(f"{place}: the file isn't one path in backticks that exists: {row.cells[2]}")
-            continue
-        inside = {d.name: d for d in definitions.values() if d.path == row.files[0]}
-        for d in list(inside.values()):
-            inside.update({constructor: d for constructor in d.constructors})
-        for name in row.names:
-            if name not in inside:
-                problems.append(f"{place}: {row.files[0]} has no definition `{name}`")
-                continue
-            key = inside[name].key
-            if key not in needed:
-                problems.append(f"{place}: no public clause needs `{name}` of {row.files[0]}")
-            elif key in named and name == inside[name].name:
-                problems.append(f"{place}: `{name}` of {row.files[0]} has a row before, at line {named[key]}")
-            if name == inside[name].name:
-                named[key] = row.line
-            if row.covers_below:
-                covered |= {other for other in closure([key], below) if other[:2] == key[:2]}
-        if not row.examples and not row.lacks_example:
-            problems.append(f"{place}: names no worked example in backticks")
-        for example in row.examples:
-            if example not in tests and example not in told and not (TOP / example).exists():
-                problems.append(f"{place}: no test, row or file is called `{example}`")
-    return named, covered
-
-
 def closure(roots, below):
     """Those definitions, and all that they stand on."""
     found, todo = set(), list(roots)
@@ -444,47 +372,3 @@ def closure(roots, below):
             found.add(key)
             todo += below[key]
     return found
-
-
-def listed_crates():
-    """The crates of crates.txt."""
-    return [line.split(":")[0].split()[0] for line in (TOP / "crates.txt").read_text().split("\n")
-            if line.strip() and not line.startswith("#")]
-
-
-def main():
-    crates = listed_crates()
-    definitions = {}
-    for crate in crates:
-        definitions.update(specs_of(crate))
-    parents = {(d.crate, d.file, name): d.key for d in definitions.values() for name in d.constructors}
-    below = {key: {parents.get(k, k) for k in keys} for key, keys in stands_on(definitions).items()}
-    cited, problems = {}, []
-    for crate in crates:
-        if (TOP / "crates" / crate / "src" / "lib.rt").is_file():
-            for key, where in public_citations(crate, {**definitions, **{k: None for k in parents}}).items():
-                key = parents.get(key, key)
-                if key in definitions:
-                    cited.setdefault(key, where)
-                else:
-                    problems.append(f"{where}: {'.'.join(key)} isn't a definition that this check can find")
-    needed = closure(cited, below)
-    if "--list" in sys.argv[1:]:
-        for key in [k for k in definitions if k in needed]:
-            print(definitions[key].path, key[2], "" if key in cited else "(below another)")
-        return 0
-    rows = rows_of_page(problems)
-    named, covered = check_rows(rows, definitions, below, needed, crates, problems)
-    for key in [k for k in definitions if k in needed and k not in named and (k in cited or k not in covered)]:
-        why = cited.get(key) or "stands below " + next(f"`{k[2]}`" for k in definitions if k in needed and key in below[k])
-        problems.append(f"docs/DEFINITIONS.md: no row names `{key[2]}` of {definitions[key].path} ({why})")
-    for problem in problems:
-        print(problem)
-    print(f"{len(cited)} definitions in public clauses, {len(needed)} with those that they stand on, {len(problems)} problems")
-    if lacking := sum(row.lacks_example for row in rows):
-        print(f"{lacking} rows of {len(rows)} have no worked example yet")
-    return 1 if problems else 0
-
-
-if __name__ == "__main__":
-    sys.exit(main())
