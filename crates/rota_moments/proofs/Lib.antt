@@ -1,3 +1,6 @@
 mod CalendarLemmas
+mod DateLemmas
+pub mod DigitLemmas
 mod MomentLemmas
+mod ReadingLemmas
 mod RotaLemmas

@@ -1,29 +1,29 @@
 -- Adding months and days to a date of `jiff` is adding them here.
-use Rattle.std.proofs.Common.{◌≡◌, ◌↔◌, ◌&&◌, ℕ, ◌+◌, ◌-◌, ◌*◌, ◌<◌, ◌≤◌, Bool, true, false, true≢false, min, if◌then◌else◌, refl, sym, ap, subst, ◌∙◌, arith, ℤ, pos, negsuc, ◌+ℤ◌, ◌*ℤ◌, ◌<ℤ◌, ◌≤ℤ◌, int_le, unsigned_abs, Option, Some, None}
+use Rattle.std.proofs.Common.{◌≡◌, ◌&&◌, ℕ, ◌+◌, ◌-◌, ◌*◌, ◌<◌, ◌≤◌, Bool, true, false, true≢false, min, if◌then◌else◌, refl, sym, ap, subst, ◌∙◌, arith, ℤ, pos, negsuc, ◌+ℤ◌, ◌<ℤ◌, ◌≤ℤ◌, int_le, unsigned_abs, Some, None}
 use Rattle.std.proofs.lemmas.Int.{by_lt_z, ints}
 use Rattle.std.specs.Int.{IsInRange, int_div_euclid, int_rem_euclid}
 use Rattle.jiff_core.specs.declared.civil.date.Date.{Date}
 use Rattle.jiff_core.specs.declared.span.Span.{Span}
-use Rattle.jiff_core.specs.declared.unit.Unit.TheVariants.{Month, Day, Hour, Minute, Second, Millisecond, Microsecond, Nanosecond}
-use Rattle.jiff_core.specs.Calendar.{IsYear, IsEpochDay, IsCivilDate, days_from_civil, days_in_month}
+use Rattle.jiff_core.specs.declared.unit.Unit.TheVariants.{Month, Hour, Minute, Second, Millisecond, Microsecond, Nanosecond}
+use Rattle.jiff_core.specs.Calendar.{IsEpochDay, IsCivilDate, days_from_civil, days_in_month}
 use Rattle.jiff_core.specs.Date.{epoch_day}
 use Rattle.jiff_core.specs.Span.{IsOnly, magnitude, span_months, span_days, clock_days}
 use Rattle.jiff_core.proofs.SignedLemmas.{signed_arith}
 use Rattle.jiff_core.proofs.DateLemmas.{epoch_day_range}
 use Rattle.jiff_span.specs.Add.{date_add, CanAddToDate}
-use Rattle.jiff_span.specs.Months.{month_number, shifted_year, shifted_month, shifted_day, add_months, IsShiftable}
+use Rattle.jiff_span.specs.Months.{month_number, shifted_year, shifted_month, add_months, IsShiftable}
 use Rattle.jiff_span.proofs.DifferenceLemmas.{signed_zero}
-use Rattle.jiff_span.proofs.MonthLemmas.{shifted_month_in, shifted_civil}
+use Rattle.jiff_span.proofs.MonthLemmas.{shifted_civil}
 use Rattle.rota_moments.specs.Calendar.{civil_date, month_length, day_number, date_of}
 use Rattle.rota_moments.specs.Moments.{IsDay, is_day, day_if_any, day_in_month, day_of_month, after_months, after_days}
 use Rattle.rota_moments.proofs.CalendarLemmas.{abs_whole, number-kit, day-dated, date-parts, day-of_year, year-of_day}
 
 -- ---- tests
 
-day_test : (day : ℤ) → is_day day ≡ true → IsDay day
+pub day_test : (day : ℤ) → is_day day ≡ true → IsDay day
 day_test day e = grind (arith, ints)
 
-day_holds : (day : ℤ) → IsDay day → is_day day ≡ true
+pub day_holds : (day : ℤ) → IsDay day → is_day day ≡ true
 day_holds day h = grind (arith, ints)
 
 year_test : (year : ℤ) → (int_le (pos 1) year && int_le year (pos 9999)) ≡ true → (pos 1 ≤ℤ year) × (year ≤ℤ pos 9999)

@@ -1,5 +1,5 @@
 -- The moments of a rota, taken from the front; and the sums of its first steps.
-use Rattle.std.proofs.Common.{inl, inr, ◌≡◌, ◌≤◌, ℕ, zero, suc, ◌+◌, ◌<◌, List, [], ◌∷◌, ◌++◌, length, take, drop, get_or, Result, Ok, Err, refl, sym, ap, ◌∙◌, arith, ℤ, pos, ◌+ℤ◌, All, FitsSigned, w32, w64, subst, below_more}
+use Rattle.std.proofs.Common.{inl, inr, ◌≡◌, ℕ, zero, suc, ◌+◌, ◌<◌, List, [], ◌∷◌, ◌++◌, length, take, drop, get_or, Result, Ok, Err, refl, sym, ap, ◌∙◌, arith, ℤ, ◌+ℤ◌}
 use Rattle.std.proofs.lemmas.List.{append_assoc, length-append}
 use Rattle.std.proofs.Math.Seq.{drop-cons}
 use Rattle.std.proofs.lemmas.Bool.{cases_lt}
@@ -9,8 +9,8 @@ use Rattle.rota_moments.specs.declared.moment.Moment.{Moment}
 use Rattle.pg_interval.specs.Arithmetic.{interval_sum}
 use Rattle.pg_interval.specs.Cell.{IsInterval}
 use Rattle.rota_moments.specs.declared.moment.RangeError.{RangeError}
-use Rattle.rota_moments.specs.Moments.{IsMoment, moment_after}
-use Rattle.rota_moments.specs.Rotas.{Refusal, then_moments, then_from, moments_of, sum_of, months_of, days_of, micros_of, SumFits, SumsFit}
+use Rattle.rota_moments.specs.Moments.{moment_after}
+use Rattle.rota_moments.specs.Rotas.{Refusal, then_moments, moments_of, sum_of, months_of, days_of, micros_of, SumFits, SumsFit}
 
 -- what comes of steps behind these moments
 abbrev pub after_front : List Moment → Result (List Moment) Refusal → Result (List Moment) Refusal

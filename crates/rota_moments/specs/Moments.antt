@@ -6,7 +6,7 @@ use Rattle.pg_interval.specs.declared.pg_interval.Interval.{Interval}
 use Rattle.rota_moments.specs.declared.moment.Moment.{Moment}
 use Rattle.rota_moments.specs.declared.moment.RangeError.{RangeError}
 use Rattle.rota_moments.specs.declared.moment.RangeError.TheVariants.{Months, Days, Time}
-use Rattle.rota_moments.specs.Calendar.{CivilDate, civil_date, month_length, day_number, date_of}
+use Rattle.rota_moments.specs.Calendar.{civil_date, month_length, day_number, date_of}
 
 -- a day has as many microseconds
 abbrev pub day_micros : ℕ

@@ -1,12 +1,11 @@
 -- What `jiff` adds to a date, or refuses to, is what is added here.
-use Rattle.std.proofs.Common.{◌≡◌, ◌∙◌, ap, sym, refl, true≢false, to_z, of_z, w32, w64, ℤ, ◌+ℤ◌, arith, FitsSigned}
+use Rattle.std.proofs.Common.{◌∙◌, ap, sym, true≢false, w32, w64, arith, FitsSigned}
 use Rattle.std.specs.Option.{ok_or}
 use Rattle.std.proofs.lemmas.Int.{to_z-of_z}
 use Rattle.jiff_core.proofs.SignedLemmas.{signed_arith}
-use Rattle.jiff.specs.Words.{epoch_day, IsEpochDay}
 use Rattle.jiff.proofs.SpanFacts.{date_add-days, can_add-days}
 use Rattle.rota_moments.specs.declared.moment.RangeError.TheVariants.{Days}
-use Rattle.rota_moments.specs.Moments.{IsDay, day_if_any}
+use Rattle.rota_moments.specs.Moments.{day_if_any}
 use Rattle.rota_moments.proofs.MomentLemmas.{days_refused}
 use Rattle.rota_moments.proofs.calendar.days_later.Goals as goal
 

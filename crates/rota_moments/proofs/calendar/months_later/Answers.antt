@@ -1,5 +1,5 @@
 -- What `jiff` adds to a date, or refuses to, is what is added here.
-use Rattle.std.proofs.Common.{◌≡◌, ◌∙◌, ap, sym, refl, true≢false, to_z, of_z, w32, w64, ℤ, arith, FitsSigned}
+use Rattle.std.proofs.Common.{◌∙◌, ap, sym, refl, true≢false, w32, w64, arith, FitsSigned}
 use Rattle.std.specs.Option.{ok_or}
 use Rattle.std.proofs.lemmas.Int.{to_z-of_z}
 use Rattle.jiff_core.proofs.SignedLemmas.{signed_arith}

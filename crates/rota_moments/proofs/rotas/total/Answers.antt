@@ -1,5 +1,5 @@
 -- A step more is added, or its sum is no interval.
-use Rattle.std.proofs.Common.{◌≡◌, ◌+◌, sym, subst}
+use Rattle.std.proofs.Common.{◌+◌, sym, subst}
 use Rattle.pg_interval.specs.declared.pg_interval.Interval.{Interval}
 use Rattle.rota_moments.proofs.RotaLemmas.{AreSums, sums-more, no_sum, one_sum}
 use Rattle.rota_moments.proofs.rotas.total.Goals as goal
