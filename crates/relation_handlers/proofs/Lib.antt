@@ -7,3 +7,4 @@ pub mod AnswerLemmas
 pub mod WordLemmas
 pub mod SharedLemmas
 pub mod ReadSoFar
+pub mod EvenRows

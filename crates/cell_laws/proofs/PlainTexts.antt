@@ -10,7 +10,7 @@ use Rattle.pg_interval.specs.NormalForm.{normal_form}
 use Rattle.pg_interval.specs.Reading.{Style, Postgres, PostgresVerbose, Iso8601, SqlStandard}
 use Rattle.pg_interval.specs.declared.pg_interval.Interval.{Interval}
 use Rattle.pg_interval.specs.Printed.{printed}
-use Rattle.relation_serving.specs.Cells.{is_plain, IsPlain}
+use Rattle.cell_laws.specs.ShownCells.{is_plain, IsPlain}
 use Rattle.pg_interval.specs.Printed.{is_zero, minus_if, sign_of, digits_of, two_digits_of, two_digits, last_digits, six_digits}
 use Rattle.pg_interval.specs.Printed.{fraction_of, is_all_zero, is_time_zero, is_time_negative, is_second_zero, is_second_negative}
 use Rattle.pg_interval.specs.Printed.{after_hours, Part, part_of, word_end, part_text, own_text, date_parts, time_texts, postgres_text}

@@ -33,9 +33,9 @@ use Rattle.relation_tables.specs.RelationHandler.{or_refused, in_front, all_or_e
 use Rattle.relation_tables.proofs.ItemsAgree.{even_at}
 use Rattle.relation_handlers.specs.Tables.{HoldIntervals}
 use Rattle.relation_handlers.proofs.ColumnLemmas.{formats_len}
-use Rattle.relation_serving.specs.Cells.{TextStands, CellStands, CellsStand, as_value, ShowsRow, ShowsLine, IsRowAt, ShowsStoredRow, ShowsStoredLine, IsPlain}
-use Rattle.relation_serving.proofs.PlainTexts.{printed_plain}
-use Rattle.relation_serving.proofs.CellsPaged.{ItemIs, ItemsAre}
+use Rattle.cell_laws.specs.ShownCells.{TextStands, CellStands, CellsStand, as_value, ShowsRow, ShowsLine, IsRowAt, ShowsStoredRow, ShowsStoredLine, IsPlain}
+use Rattle.cell_laws.proofs.PlainTexts.{printed_plain}
+use Rattle.cell_laws.proofs.CellsPaged.{ItemIs, ItemsAre}
 
 -- ---- one interval
 

@@ -66,9 +66,9 @@ use Rattle.relation_tables.specs.Queries.{trimmed, words, copied_name}
 use Rattle.relation_tables.specs.Relations.{relation_at, HaveEvenRows, place_of, meaning}
 use Rattle.relation_tables.specs.RelationHandler.{style_text, or_refused, row_item, line_item, column_formats, query_of, simple_of, copy_of, copy_or_unknown, relation_handlers}
 use Rattle.relation_handlers.specs.Tables.{HoldIntervals}
-use Rattle.relation_serving.specs.Cells.{IsOwnFormat, ShowsStoredRow, ShowsStoredLine}
-use Rattle.relation_serving.proofs.CellsPaged.{ItemsAre, EndIs, page_is, all_append, ReplyIs, Are, row_replies_are, either_is, ResponseIs, responded_are, all_responded_are}
-use Rattle.relation_serving.proofs.CellsShown.{rows_show, lines_show}
+use Rattle.cell_laws.specs.ShownCells.{IsOwnFormat, ShowsStoredRow, ShowsStoredLine}
+use Rattle.cell_laws.proofs.CellsPaged.{ItemsAre, EndIs, page_is, all_append, ReplyIs, Are, row_replies_are, either_is, ResponseIs, responded_are, all_responded_are}
+use Rattle.cell_laws.proofs.CellsShown.{rows_show, lines_show}
 
 abbrev pub Talk : Type 0
 Talk = State RelationStatement

@@ -1,6 +1,6 @@
 //! Messages and errors, one by one.
 
-ghost use Rattle.std.specs.Prelude.{◌≡◌, ◌≢◌, ◌≤◌, ◌++◌, ◌⊎◌, [], Some, None, true, false, IfOk, IfErr, OnOk};
+ghost use Rattle.std.specs.Prelude.{◌≡◌, ◌≢◌, ◌≤◌, ◌++◌, ◌⊎◌, [], Some, None, false, true, IfOk, IfErr, OnOk};
 ghost use Rattle.pg_messages.specs.Replies.{replies_bytes};
 ghost use Rattle.pg_portal.specs.Errors.{info_of};
 ghost use Rattle.pg_portal.specs.Rows.{IsTellable};
@@ -14,6 +14,7 @@ ghost use Rattle.pg_handlers.specs.declared.ends.EndKind.TheVariants.{InputEnd, 
 ghost use Rattle.pg_session.specs.Messages.{IsGivenIn, outcome_of, scope_for, next_of};
 ghost use Rattle.pg_session.specs.Session.{stays_open, goes_on};
 
+use crate::messages::on_message;
 use crate::session::Session;
 use pg_handlers::{
     CancelDesk, EndKind, ExtendedQueryHandler, PgWireServerHandlers, SessionError, Turns,
@@ -21,6 +22,18 @@ use pg_handlers::{
 use pg_messages::PgWireFrontendMessage;
 use pg_portal::{PgWireError, PortalStore};
 use std::alloc::{AllocError, Global};
+
+/// Whether a session is open after a message.
+fn stays_open(outcome: &Result<Option<EndKind>, SessionError>) -> bool
+    ensures { result ≡ stays_open outcome.now }
+{
+    match outcome {
+        Ok(end) => end.is_none(),
+        Err(SessionError::Wire(PgWireError::NoMemory)) => false,
+        Err(SessionError::Wire(_)) => true,
+        Err(SessionError::TurnLimit) => false,
+    }
+}
 
 /// Answers a message, but for what follows an error. Its replies wait in the session's outbox, and are sent by the next
 /// `feed` before its own. Some(end) says that the conversation has ended. An error of the message leaves the session
@@ -64,7 +77,16 @@ pub fn process_message<
     ensures bounded { turns.old.spent ≤ turns.old.limit → turns.new.spent ≤ turns.new.limit }
     ensures keeps { KeepsDesk (D.told desk.old) (D.told desk.new) }
 {
-    session.answer(alloc, desk, turns, message)
+    let outcome = on_message(
+        alloc,
+        &*session.handlers,
+        &mut session.client,
+        desk,
+        turns,
+        message,
+    );
+    session.opened = stays_open(&outcome);
+    outcome
 }
 
 /// Tells the client an error of a message, and does what follows it: ErrorResponse, and where the error's severity is

@@ -32,10 +32,10 @@ use Rattle.relation_tables.specs.declared.Relation.{Relation}
 use Rattle.relation_tables.specs.Relations.{HaveEvenRows}
 use Rattle.relation_tables.specs.RelationHandler.{relation_handlers}
 use Rattle.relation_handlers.specs.Tables.{HoldIntervals}
-use Rattle.relation_serving.specs.Cells.{style_of, IsChosen, ShowsStoredRow, ShowsStoredLine, ShowsReply, ShowStored, IsOwnFormat, ShowInOwnFormat}
-use Rattle.relation_serving.proofs.CellsPaged.{ReplyIs, Are}
-use Rattle.relation_serving.proofs.CellsShown.{each_of}
-use Rattle.relation_serving.proofs.CellsKept.{Talk, Picks, PortalIs, Good, Shown, StartedIs, started_is, step_is}
+use Rattle.cell_laws.specs.ShownCells.{style_of, IsChosen, ShowsStoredRow, ShowsStoredLine, ShowsReply, ShowStored, IsOwnFormat, ShowInOwnFormat}
+use Rattle.cell_laws.proofs.CellsPaged.{ReplyIs, Are}
+use Rattle.cell_laws.proofs.CellsShown.{each_of}
+use Rattle.cell_laws.proofs.CellsKept.{Talk, Picks, PortalIs, Good, Shown, StartedIs, started_is, step_is}
 
 none_yet : {X : Type 0} (P : X → Type 0) → Each P fin.empty
 none_yet {X} P q x e = absurd (no (ap value_under (sym (fin.get-empty {X = Entry X} (slice_cmp nat_cmp) q)) ∙ e))
