@@ -1,54 +1,33 @@
-// Prints intervals drawn from a seed in each of the four styles, small ones and then ones of any size, each into a text
-// with memory of its own and then on the stack, appended to a buffer, and tells how many bytes that gave.
-// Words: COUNT, and `times` to tell the nanoseconds of a print as well.
-#![tactic(auto)]
-
-mod draw;
-
-use draw::Draw;
+use crate::draw::Draw;
+use crate::style::{STYLES, Style, name_of};
 use pg_interval::{Interval, IntervalText};
 use std::alloc::{AllocError, Global};
+use std::io;
 use std::time::{Clock, Instant};
-use std::{env, io};
-
-/// One of the four printers.
-#[derive(Clone, Copy)]
-enum Style {
-    Postgres,
-    PostgresVerbose,
-    Iso8601,
-    SqlStandard,
-}
-
-const STYLES: [Style; 4] = [
-    Style::Postgres,
-    Style::PostgresVerbose,
-    Style::Iso8601,
-    Style::SqlStandard,
-];
 
 /// Room for a text.
 const ROW: usize = 96;
 
-fn main(rt: HostRuntime) -> io::Result<()> {
-    let mut words = env::args(&rt)?;
-    let _program = words.next();
-    let mut count = 0;
-    if let Some(word) = words.next() {
-        count = word.as_str().parse::<u32>().unwrap_or(0);
-    }
-    let timed = words.next().is_some() && count > 0;
+/// Prints as many intervals, drawn from a seed, in each of the four styles, small ones and then ones of any size, each into
+/// a text with memory of its own and then on the stack, appended to a buffer. It tells how many bytes that gave, and the
+/// nanoseconds of a print where they are wanted.
+pub fn print_drawn<R: Print + Clock>(
+    rt: &R,
+    alloc: Global,
+    count: u32,
+    timed: bool,
+) -> io::Result<()> {
     for small in [true, false] {
-        let intervals = drawn(rt.alloc(), count, small)?;
+        let intervals = drawn(alloc, count, small)?;
         for style in STYLES {
-            let start = Instant::now(&rt)?;
-            let bytes = kept_bytes(rt.alloc(), style, intervals.as_slice())?;
-            let kept = start.elapsed(&rt)?.as_nanos();
-            let start = Instant::now(&rt)?;
-            let same = cell_bytes(rt.alloc(), style, intervals.as_slice())?;
-            let appended = start.elapsed(&rt)?.as_nanos();
+            let start = Instant::now(rt)?;
+            let bytes = kept_bytes(alloc, style, intervals.as_slice())?;
+            let kept = start.elapsed(rt)?.as_nanos();
+            let start = Instant::now(rt)?;
+            let same = cell_bytes(alloc, style, intervals.as_slice())?;
+            let appended = start.elapsed(rt)?.as_nanos();
             println!(rt; "{}, {}: {bytes}, {same}", size_name(small), name_of(style))?;
-            if timed {
+            if timed && count > 0 {
                 let each = u128::from(count);
                 println!(rt; "  {} ns, {} ns", kept / each, appended / each)?;
             }
@@ -60,16 +39,6 @@ fn main(rt: HostRuntime) -> io::Result<()> {
 /// The draw's name.
 fn size_name(small: bool) -> &'static str {
     if small { "small" } else { "any size" }
-}
-
-/// The style's name in PostgreSQL.
-fn name_of(style: Style) -> &'static str {
-    match style {
-        Style::Postgres => "postgres",
-        Style::PostgresVerbose => "postgres_verbose",
-        Style::Iso8601 => "iso_8601",
-        Style::SqlStandard => "sql_standard",
-    }
 }
 
 /// As many intervals as asked for.
