@@ -1,4 +1,4 @@
-pub mod AsciiTexts
+pub mod PrintedBytes
 pub mod CellLemmas
 pub mod DecimalsLemmas
 pub mod DigitTexts

@@ -1,6 +1,6 @@
 use Rattle.std.proofs.Common.{◌∙◌, sym, subst, refl}
 use Rattle.std.specs.Str.{IsUtf8}
-use Rattle.pg_interval.proofs.AsciiTexts.{postgres_utf8}
+use Rattle.pg_interval.proofs.PrintedBytes.{postgres_utf8}
 use Rattle.pg_interval.proofs.Widths.{normal_widths}
 use Rattle.pg_interval.proofs.PutDigits.{whole_put}
 use Rattle.pg_interval.proofs.interval_norm.IntervalNorm.postgres_text.Goals as goal

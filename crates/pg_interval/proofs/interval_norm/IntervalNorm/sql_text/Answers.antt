@@ -1,6 +1,6 @@
 use Rattle.std.proofs.Common.{◌∙◌, sym, subst, refl}
 use Rattle.std.specs.Str.{IsUtf8}
-use Rattle.pg_interval.proofs.AsciiTexts.{sql_utf8}
+use Rattle.pg_interval.proofs.PrintedBytes.{sql_utf8}
 use Rattle.pg_interval.proofs.Widths.{normal_widths}
 use Rattle.pg_interval.proofs.PutDigits.{whole_put}
 use Rattle.pg_interval.proofs.interval_norm.IntervalNorm.sql_text.Goals as goal
