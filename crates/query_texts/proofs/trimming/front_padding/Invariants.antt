@@ -1,7 +1,7 @@
 use Rattle.std.proofs.Common.{◌≡◌, ◌≤◌, ◌-◌, length, drop}
 use Rattle.std.specs.Str.{IsCharBoundary}
-use Rattle.relation_tables.specs.Queries.{without_front_padding}
-use Rattle.relation_handlers.proofs.words.front_padding.Given as goal
+use Rattle.query_texts.specs.QueryTexts.{without_front_padding}
+use Rattle.query_texts.proofs.trimming.front_padding.Given as goal
 
 abbrev pub invariant-loop-start : goal.invariant-loop-start
 invariant-loop-start l = record {

@@ -4,7 +4,7 @@ use Rattle.std.proofs.Common.{arith}
 use Rattle.std.proofs.lemmas.Bool.Decides.{nat_tests}
 use Rattle.std.proofs.Math.Seq.{drop-cons}
 use Rattle.pg_portal.specs.Texts.{is_padding}
-use Rattle.sample_handlers.specs.Meanings.{without_front_padding}
+use Rattle.query_texts.specs.QueryTexts.{without_front_padding}
 
 -- what remains of a byte and the bytes behind it
 front_of : (b : ℕ) (bs : List ℕ) (p : Bool) → is_padding b ≡ p → without_front_padding (b ∷ bs) ≡ cond p (without_front_padding bs) (b ∷ bs)

@@ -1,7 +1,7 @@
 use Rattle.std.proofs.Common.{◌≡◌, ◌≤◌, length, take}
 use Rattle.std.specs.Str.{IsCharBoundary}
-use Rattle.sample_handlers.specs.Meanings.{without_end_padding}
-use Rattle.sample_handlers.proofs.words.end_padding.Given as goal
+use Rattle.query_texts.specs.QueryTexts.{without_end_padding}
+use Rattle.query_texts.proofs.trimming.end_padding.Given as goal
 
 abbrev pub invariant-loop-end : goal.invariant-loop-end
 invariant-loop-end l = record {

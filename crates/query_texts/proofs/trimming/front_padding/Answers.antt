@@ -1,8 +1,8 @@
 use Rattle.std.proofs.Common.{refl, ◌∙◌, sym, arith, ◌<◌, length, get_or, ◌≡◌, true}
 use Rattle.std.proofs.lemmas.Str.{IsCharBoundary-start, IsCharBoundary-after_ascii}
-use Rattle.relation_handlers.proofs.Padding.{front_step, padding_below_128}
+use Rattle.query_texts.proofs.Padding.{front_step, padding_below_128}
 use Rattle.pg_portal.specs.Texts.{is_padding}
-use Rattle.relation_handlers.proofs.words.front_padding.Goals as goal
+use Rattle.query_texts.proofs.trimming.front_padding.Goals as goal
 
 pub loop-start-init : goal.loop-start-init
 loop-start-init c = record { within = omega arith; boundary = IsCharBoundary-start _ c.as_bytes-bytes.ensures.utf8; same = refl }

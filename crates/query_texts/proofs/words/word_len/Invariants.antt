@@ -1,8 +1,8 @@
 use Rattle.std.proofs.Common.{◌≡◌, ◌≤◌, ◌-◌, length, take, drop}
 use Rattle.std.specs.List.{slice_split}
 use Rattle.pg_portal.specs.Texts.{is_whitespace}
-use Rattle.relation_handlers.proofs.WordLemmas.{prepend}
-use Rattle.relation_handlers.proofs.words.word_len.Given as goal
+use Rattle.query_texts.proofs.WordLemmas.{prepend}
+use Rattle.query_texts.proofs.words.word_len.Given as goal
 
 abbrev pub invariant-loop-len : goal.invariant-loop-len
 invariant-loop-len l = record {

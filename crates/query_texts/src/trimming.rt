@@ -3,10 +3,10 @@
 ghost use Rattle.std.specs.Prelude.{◌≡◌, take, drop};
 ghost use Rattle.std.specs.Str.{IsCharBoundary};
 ghost use Rattle.pg_portal.specs.Texts.{is_padding};
-ghost use Rattle.sample_handlers.specs.Meanings.{without_front_padding, without_end_padding, trimmed};
+ghost use Rattle.query_texts.specs.QueryTexts.{without_front_padding, without_end_padding, trimmed};
 
 /// The query without the whitespace and semicolons at both ends.
-pub(crate) fn trimmed(query: &str) -> &str
+pub fn trimmed(query: &str) -> &str
     ensures { result.now ≡ trimmed query.now }
 {
     let rest = &query[front_padding(query)..];

@@ -6,7 +6,7 @@ use Rattle.std.proofs.lemmas.List.Splits.{slice_split-cons_yes}
 use Rattle.std.proofs.lemmas.Bool.Decides.{nat_tests}
 use Rattle.pg_portal.specs.Describing.{is_empty_list}
 use Rattle.pg_portal.specs.Texts.{is_whitespace}
-use Rattle.relation_tables.specs.Queries.{words}
+use Rattle.query_texts.specs.QueryTexts.{words}
 
 abbrev nonblank : List (List ℕ) → List (List ℕ)
 nonblank parts = filter (λ word. not (is_empty_list word)) parts

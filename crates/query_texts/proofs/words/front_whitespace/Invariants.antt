@@ -1,13 +1,13 @@
 use Rattle.std.proofs.Common.{◌≡◌, ◌≤◌, ◌-◌, length, drop}
 use Rattle.std.specs.Str.{IsCharBoundary}
-use Rattle.sample_handlers.specs.Meanings.{without_front_padding}
-use Rattle.sample_handlers.proofs.words.front_padding.Given as goal
+use Rattle.query_texts.specs.QueryTexts.{words}
+use Rattle.query_texts.proofs.words.front_whitespace.Given as goal
 
 abbrev pub invariant-loop-start : goal.invariant-loop-start
 invariant-loop-start l = record {
   within : l.start ≤ length l.bytes;
   boundary : IsCharBoundary l.bytes l.start;
-  same : without_front_padding (drop l.start l.bytes) ≡ without_front_padding l.bytes;
+  same : words (drop l.start l.bytes) ≡ words l.bytes;
 }
 
 abbrev pub decreases-loop-start : goal.decreases-loop-start
