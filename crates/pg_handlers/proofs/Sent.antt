@@ -10,7 +10,7 @@ use Rattle.pg_messages.specs.Replies.{reply_bytes, replies_bytes}
 use Rattle.pg_portal.specs.declared.error.PgWireError.{PgWireError}
 use Rattle.pg_portal.specs.declared.error.PgWireError.TheVariants as wire
 use Rattle.pg_portal.specs.Fetching.{IsRest, with_items}
-use Rattle.pg_portal.specs.Page.{IsCutShort, item_page, before_error}
+use Rattle.pg_portal.specs.Page.{CutsPage, item_page, before_error}
 use Rattle.pg_portal.specs.Rows.{RowItem}
 use Rattle.pg_portal.specs.Told.{ToldRows}
 use Rattle.pg_handlers.specs.Replies.{row_replies}
@@ -78,7 +78,7 @@ module _ (old : ToldRows) (left : List RowItem) (new : ToldRows) (is : new ≡ w
   rest_left taken e = (taken, left, e, is)
 
   -- a page that was cut short met its error, or memory was wanting
-  pub cut_met : (limit : ℤ) (rows : List DataRow) (e : PgWireError) → IsCutShort limit old.items rows e left
+  pub cut_met : (limit : ℤ) (rows : List DataRow) (e : PgWireError) → CutsPage limit old.items rows e left
       → (out new_out : List ℕ) → new_out ≡ out ++ replies_bytes (row_replies rows)
       → (e ≡ wire.NoMemory) ⊎ IsMetError old (item_page limit old.items).ending e new out new_out
   cut_met limit rows e (inl want) out new_out sent = inl want.0
@@ -90,7 +90,7 @@ module _ (old : ToldRows) (left : List RowItem) (new : ToldRows) (is : new ≡ w
         (sym (ap (λ (l : List RowItem). before_error l) met.1 ∙ before_rows rows (Err e ∷ left) ∙ append-nil rows));
   })
 
-  pub cut_left : (limit : ℤ) (rows : List DataRow) (e : PgWireError) → IsCutShort limit old.items rows e left → IsRest old new
+  pub cut_left : (limit : ℤ) (rows : List DataRow) (e : PgWireError) → CutsPage limit old.items rows e left → IsRest old new
   cut_left limit rows e (inl want) = rest_left (map Ok (rows ++ want.1.0)) want.1.2
   cut_left limit rows e (inr met) =
       rest_left (map Ok rows ++ Err e ∷ []) (met.1 ∙ sym (append_assoc (map Ok rows) (Err e ∷ []) left))

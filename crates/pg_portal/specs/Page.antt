@@ -92,13 +92,13 @@ item_page limit items =
 -- ---- a page that was delivered
 
 -- How a page ended is told: suspended at its limit with these items left, or complete with none left. One at an error isn't delivered.
-abbrev pub EndsSo : {A : Type 0} → PageEnd A → Bool → List (Result A PgWireError) → Type 0
-EndsSo (AtLimit items) suspended left = (suspended ≡ true) × (left ≡ items)
-EndsSo AtEnd suspended left = (suspended ≡ false) × (left ≡ [])
-EndsSo (AtError error items) suspended left = ⊥
+abbrev pub EndsPage : {A : Type 0} → PageEnd A → Bool → List (Result A PgWireError) → Type 0
+EndsPage (AtLimit items) suspended left = (suspended ≡ true) × (left ≡ items)
+EndsPage AtEnd suspended left = (suspended ≡ false) × (left ≡ [])
+EndsPage (AtError error items) suspended left = ⊥
 
 -- A page was cut short behind these rows: by an error that stood there, or because memory was wanting, where one more row may be lost.
-abbrev pub IsCutShort : {A : Type 0} → ℤ → List (Result A PgWireError) → List A → PgWireError → List (Result A PgWireError) → Type 0
-IsCutShort {A} limit old rows error left =
+abbrev pub CutsPage : {A : Type 0} → ℤ → List (Result A PgWireError) → List A → PgWireError → List (Result A PgWireError) → Type 0
+CutsPage {A} limit old rows error left =
     ((error ≡ NoMemory) × ((lost : List A) × (length lost ≤ 1) × (old ≡ map Ok (rows ++ lost) ++ left)))
     ⊎ (((item_page limit old).ending ≡ AtError error left) × (old ≡ map Ok rows ++ Err error ∷ left))

@@ -5,7 +5,7 @@ ghost use Rattle.std.proofs.Common.{append-nil, append_assoc};
 ghost use Rattle.pg_messages.specs.declared.backend.PgWireBackendMessage.TheVariants as server;
 ghost use Rattle.pg_messages.specs.declared.data.DataRow.{DataRow};
 ghost use Rattle.pg_messages.specs.Replies.{IsEncodable};
-ghost use Rattle.pg_portal.specs.Page.{EndsSo, IsCutShort, delivered_after, is_reached, item_page};
+ghost use Rattle.pg_portal.specs.Page.{EndsPage, CutsPage, delivered_after, is_reached, item_page};
 ghost use Rattle.pg_portal.specs.Rows.{IsAnswerableItem};
 
 use crate::error::PgWireError;
@@ -83,7 +83,7 @@ pub fn deliver_page<R: RowSource, T: RowReceiver>(
     delivered: u64,
     max_rows: i32,
 ) -> Result<DeliveredPage, PgWireError>
-    ensures ended { IfOk result (λ page. EndsSo (item_page max_rows (R.items rows.old)).ending
+    ensures ended { IfOk result (λ page. EndsPage (item_page max_rows (R.items rows.old)).ending
         page.suspended (R.items rows.new)) }
     ensures delivered { IfOk result (λ page. page.delivered
         ≡ delivered_after delivered (length (item_page max_rows (R.items rows.old)).rows)) }
@@ -92,7 +92,7 @@ pub fn deliver_page<R: RowSource, T: RowReceiver>(
     ensures taken { OnOk result (R.items rows.old
         ≡ map Ok (item_page max_rows (R.items rows.old)).rows ++ R.items rows.new) }
     ensures cut_short { IfErr result (λ error. (received : List DataRow)
-        × IsCutShort max_rows (R.items rows.old) received error (R.items rows.new)
+        × CutsPage max_rows (R.items rows.old) received error (R.items rows.new)
         × (receiver.new ≡ T.with_rows receiver.old received)) }
     ensures own { IfErr result IsAnswerableItem }
 {
