@@ -22,7 +22,7 @@ use Rattle.pg_handlers.specs.declared.ends.SessionError.TheVariants as session
 use Rattle.pg_handlers.specs.Effect.{Effect, Outcome, Failed, Done, Stopped, IsEffect, IsRow, IsStoppedRow, IsCutRow, IsRefusedRow, IsRefusedEffect, silent}
 use Rattle.pg_handlers.specs.ExecuteRow.{at_stage, page_effect, fetched, fetched_nothing, executed_portal, executed_entry, executed_without_rows, executed_nothing, execute_polled, on_execute}
 use Rattle.pg_handlers.specs.Executing.{OnlyLosesUnnamed, HasComeTo, IsLeftBehind, is_unstarted, IsPageOf, IsPortalRun, page_result, response_page, portal_run}
-use Rattle.pg_handlers.specs.Handlers.{ExtendedTold}
+use Rattle.pg_handlers.specs.Handlers.{ExtendedTold, ToldQuery}
 use Rattle.pg_handlers.specs.Questions.{Verdict, Passed, Canceled, Unanswered, IsAsked}
 use Rattle.pg_handlers.specs.Good.{IsGoodState, IsGoodPortal, HasGoodTag}
 use Rattle.pg_handlers.specs.Sending.{AtTurnLimit}
@@ -231,15 +231,6 @@ module _ {S : Type 0} (parser : ParserTold S) (s : State S) (good : IsGoodState 
 
 -- ---- a portal that isn't started, as a row
 
--- the run of a portal's query at its own stage and outcome
-pub run_as : {A : Type 0} (told : A → ToldResponse) (given limit : ℤ) (old stage : Stage) (verdict : Verdict) (shown outcome : Result ToldResponse PgWireError) (out new_out : List ℕ)
-    (result : Result (Option A) SessionError) → given ≡ limit → old ≡ Unstarted → shown ≡ outcome → IsPortalRun told (portal_run given old verdict shown) old stage out new_out result
-    → IsPortalRun told (portal_run limit Unstarted verdict outcome) Unstarted stage out new_out result
-run_as told given limit old stage verdict shown outcome out new_out result d e f x =
-    subst (λ (o : Result ToldResponse PgWireError). IsPortalRun told (portal_run limit Unstarted verdict o) Unstarted stage out new_out result) f
-    (subst (λ (st : Stage). IsPortalRun told (portal_run limit st verdict shown) st stage out new_out result) e
-    (subst (λ (l : ℤ). IsPortalRun told (portal_run l old verdict shown) old stage out new_out result) d x))
-
 module _ {S A : Type 0} (told : A → ToldResponse) (h : ExtendedTold S) (s : State S) (m : Execute) (p : TablePortal S) (found : value_under (fin.get s.portals m.name) ≡ Some p)
     (fresh : p.stage ≡ Unstarted) (calls begun : List DeskCall) (starts : begun ≡ calls ++ desk.Start ∷ []) where
   abbrev effect_by : Verdict → Effect S
@@ -303,23 +294,77 @@ module _ {S A : Type 0} (told : A → ToldResponse) (h : ExtendedTold S) (s : St
         handed_refused last t e y = row_refused out last t e
             (subst (λ o. IsRefusedEffect (effect_by verdict) o last t e) handed.2 (subst (λ effect. IsRefusedEffect effect new_out last t e) (sym effect_is) y))
 
--- ---- what a refused Execute leaves
+-- ---- a portal that was lent
 
-pub left_as : {S : Type 0} (old new : Maps S) (name : List ℕ) → new ≡ old → IsLeftBehind old name new
-left_as old new name e = inl e
+-- The portal of this name was lent, and written back when it had come so far.
+pub record IsLent {S : Type 0} (s : State S) (name : List ℕ) (p : TablePortal S) (stage : Stage) (s' : State S) : Type 0 where
+  pub found : value_under (fin.get s.portals name) ≡ Some p
+  pub written : s' ≡ with_portal s name (entry.Value (at_stage p stage))
 
--- the portal of its name was written back, and may have come further
-pub left_written : {S : Type 0} (old new : Maps S) (name shown : List ℕ) (p w : TablePortal S) → value_under (fin.get old.portals name) ≡ Some p
-    → shown ≡ name → new ≡ maps_with_portal old shown (entry.Value w) → w.bound ≡ p.bound → HasComeTo p.stage w.stage → IsLeftBehind old name new
-left_written {S} old new name shown p w found e f b come = inr (
-  p,
-  w.stage,
-  found,
-  come,
-  f ∙ ap (λ n. maps_with_portal old n (entry.Value w)) e
-      ∙ ap (λ (bound : BoundPortal S). maps_with_portal old name (entry.Value (record { bound = bound; stage = w.stage }))) b,
-)
+pub lent : {S : Type 0} (info : ClientInfo) (old new : Maps S) (name shown : List ℕ) (p w : TablePortal S) → shown ≡ name
+    → Some p ≡ value_under (fin.get old.portals shown) → new ≡ maps_with_portal old shown (entry.Value w) → w.bound ≡ p.bound
+    → IsLent (state_in info old) name p w.stage (state_in info new)
+lent info old new name shown p w e is f b = record {
+  found = ap (λ n. value_under (fin.get old.portals n)) (sym e) ∙ sym is;
+  written = written_state info old new name shown p w e f b;
+}
+
+-- the statements and portals of a state
+abbrev maps_of : {S : Type 0} → State S → Maps S
+maps_of s = record { statements = s.statements; portals = s.portals }
+
+-- what a refused Execute leaves: the portal may have come further
+pub left_lent : {S : Type 0} (info : ClientInfo) (old new : Maps S) (name : List ℕ) (p : TablePortal S) (stage : Stage)
+    → IsLent (state_in info old) name p stage (state_in info new) → HasComeTo p.stage stage → IsLeftBehind old name new
+left_lent info old new name p stage l come = inr (p, stage, l.found, come, ap maps_of l.written)
 
 -- a portal that isn't started may come anywhere
 pub comes_from_unstarted : (old new : Stage) → old ≡ Unstarted → HasComeTo old new
 comes_from_unstarted old new e = subst (λ (st : Stage). HasComeTo st new) (sym e) tt
+
+-- A portal was lent that isn't started, and its query was begun, behind one start, and ran.
+module _ {S A : Type 0} (told : A → ToldResponse) (h : ExtendedTold S) (s : State S) (m : Execute) (p : TablePortal S) (stage : Stage)
+    (s' : State S) (l : IsLent s m.name p stage s') (fresh : p.stage ≡ Unstarted) (calls begun done : List DeskCall)
+    (starts : begun ≡ calls ++ desk.Start ∷ []) (out new_out : List ℕ) (limit : ℤ) (limit_is : limit ≡ m.max_rows)
+    (query : ToldQuery ToldResponse) (query_is : query ≡ h.query s.info p.bound limit) where
+  abbrev HasRun : ToldQuery ToldResponse → ℤ → Stage → Result (Option A) SessionError → Type 0
+  HasRun q z old result = (verdict : Verdict) × IsAsked q.owes begun done verdict
+      × IsPortalRun told (portal_run z old verdict q.outcome) old stage out new_out result
+
+  ran_so : (result : Result (Option A) SessionError) → HasRun query limit p.stage result
+      → HasRun (h.query s.info p.bound m.max_rows) m.max_rows Unstarted result
+  ran_so result x =
+      subst (λ (q : ToldQuery ToldResponse). HasRun q m.max_rows Unstarted result) (query_is ∙ ap (h.query s.info p.bound) limit_is)
+      (subst (λ (z : ℤ). HasRun query z Unstarted result) limit_is (subst (λ (old : Stage). HasRun query limit old result) fresh x))
+
+  pub start_refused : (e : SessionError) → HasRun query limit p.stage (Err e)
+      → IsRefusedRow (λ answers. on_execute h answers s m) out new_out calls done s' e
+  start_refused e x = let r = ran_so (Err e) x in
+      portal_refused told h s m p l.found fresh calls begun starts done r.0 r.1 out new_out stage s' l.written e r.2
+
+  pub start_stays : (e : SessionError) → HasRun query limit p.stage (Err e) → AtTurnLimit e ((s' ≡ s) × (new_out ≡ out))
+  start_stays e x = let r = ran_so (Err e) x in
+      portal_stays told h s m p l.found fresh calls begun starts done r.0 r.1 out new_out stage s' l.written e r.2
+
+  pub start_paged : (o : Option A) → o ≡ None → HasRun query limit p.stage (Ok o)
+      → IsRow (λ answers. on_execute h answers s m) out new_out calls done (Done s')
+  start_paged o e x = let r = ran_so (Ok None) (subst (λ (o : Option A). HasRun query limit p.stage (Ok o)) e x) in
+      portal_paged told h s m p l.found fresh calls begun starts done r.0 r.1 out new_out stage s' l.written r.2
+
+  -- a response without rows was handed on, and answered
+  pub record IsHanded (answered : A) : Type 0 where
+    pub same : s' ≡ s
+    pub ok : (last : List ℕ) (t : State S) → IsEffect (executed_without_rows s' (told answered)) new_out last (Done t)
+        → IsRow (λ answers. on_execute h answers s m) out last calls done (Done t)
+    pub refused : (last : List ℕ) (t : State S) (e : PgWireError)
+        → IsRefusedEffect (executed_without_rows s' (told answered)) new_out last t e
+        → IsRefusedRow (λ answers. on_execute h answers s m) out last calls done t (session.Wire e)
+
+  pub start_handed : (answered : A) (o : Option A) → o ≡ Some answered → HasRun query limit p.stage (Ok o) → IsHanded answered
+  start_handed answered o e x =
+      let r = ran_so (Ok (Some answered)) (subst (λ (o : Option A). HasRun query limit p.stage (Ok o)) e x) in
+      record {
+        same = handed_same told h s m p l.found fresh calls begun starts done r.0 r.1 out new_out stage s' l.written answered r.2;
+        ok = handed_ok told h s m p l.found fresh calls begun starts done r.0 r.1 out new_out stage s' l.written answered r.2;
+        refused = handed_refused told h s m p l.found fresh calls begun starts done r.0 r.1 out new_out stage s' l.written answered r.2;
+      }

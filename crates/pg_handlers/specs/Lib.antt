@@ -4,6 +4,7 @@ pub mod Script
 pub mod Questions
 pub mod Errors
 pub mod Replies
+pub mod RowSending
 pub mod Handlers
 pub mod State
 pub mod Effect

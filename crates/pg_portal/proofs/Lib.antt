@@ -1,6 +1,7 @@
 pub mod NameMaps
 pub mod StoreMaps
 pub mod Paging
+pub mod Delivering
 pub mod Fetches
 pub mod TwoFetches
 pub mod SameColumns

@@ -1,6 +1,40 @@
 -- Page: the rows that one Execute sends (protocol: Extended Query, Execute with a limit of rows).
-use Rattle.std.specs.Prelude.{ℕ, ℤ, pos, negsuc, Bool, true, false, List, [], ◌∷◌, Option, Some, None, Result, Ok, Err, ◌&&◌, ◌+◌, ◌-◌, ◌^◌, min, nat_le, if◌then◌else◌, length, take, drop, unsigned_abs}
+use Rattle.std.specs.Prelude.{
+  ℕ,
+  ℤ,
+  pos,
+  negsuc,
+  Bool,
+  true,
+  false,
+  List,
+  [],
+  ◌∷◌,
+  Option,
+  Some,
+  None,
+  Result,
+  Ok,
+  Err,
+  ◌≡◌,
+  ◌≤◌,
+  ◌⊎◌,
+  ◌++◌,
+  ◌&&◌,
+  ◌+◌,
+  ◌-◌,
+  ◌^◌,
+  map,
+  min,
+  nat_le,
+  if◌then◌else◌,
+  length,
+  take,
+  drop,
+  unsigned_abs,
+}
 use Rattle.pg_portal.specs.declared.error.PgWireError.{PgWireError}
+use Rattle.pg_portal.specs.declared.error.PgWireError.TheVariants.{NoMemory}
 
 -- a limit of at least 1 that so many rows reach
 abbrev pub is_reached : ℤ → ℕ → Bool
@@ -54,3 +88,17 @@ abbrev pub item_page : {A : Type 0} → ℤ → List (Result A PgWireError) → 
 item_page limit items =
     let p = page limit (before_error items) in
     if p.suspended then (record { rows = p.rows; ending = AtLimit (drop (length p.rows) items) }) else ended_page p.rows (first_error items)
+
+-- ---- a page that was delivered
+
+-- How a page ended is told: suspended at its limit with these items left, or complete with none left. One at an error isn't delivered.
+abbrev pub EndsPage : {A : Type 0} → PageEnd A → Bool → List (Result A PgWireError) → Type 0
+EndsPage (AtLimit items) suspended left = (suspended ≡ true) × (left ≡ items)
+EndsPage AtEnd suspended left = (suspended ≡ false) × (left ≡ [])
+EndsPage (AtError error items) suspended left = ⊥
+
+-- A page was cut short behind these rows: by an error that stood there, or because memory was wanting, where one more row may be lost.
+abbrev pub CutsPage : {A : Type 0} → ℤ → List (Result A PgWireError) → List A → PgWireError → List (Result A PgWireError) → Type 0
+CutsPage {A} limit old rows error left =
+    ((error ≡ NoMemory) × ((lost : List A) × (length lost ≤ 1) × (old ≡ map Ok (rows ++ lost) ++ left)))
+    ⊎ (((item_page limit old).ending ≡ AtError error left) × (old ≡ map Ok rows ++ Err error ∷ left))

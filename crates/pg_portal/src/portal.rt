@@ -4,7 +4,6 @@ ghost use Rattle.std.specs.Prelude.{◌≡◌, ◌↔◌, length, option_map, If
 ghost use Rattle.std.specs.Arc.{arc_value};
 ghost use Rattle.pg_portal.specs.Fetching.{IsRefusedFetch, TakesInOrder, IsPage, IsRefusedPage, fetched, no_rows};
 ghost use Rattle.pg_portal.specs.Formats.{format_of, format_for, unified, is_text, is_binary};
-ghost use Rattle.pg_portal.specs.Page.{delivered_after, is_reached};
 ghost use Rattle.pg_portal.specs.Statements.{bound_by, cursor_of};
 ghost use Rattle.pg_portal.specs.Told.{Unstarted, Started, stage_of, bound_of, told_rows};
 ghost use Rattle.pg_portal.specs.Rows.{IsAnswerableItem};
@@ -12,6 +11,7 @@ ghost use Rattle.pg_portal.specs.declared.error.PgWireError.{PgWireError};
 ghost use Rattle.pg_portal.specs.declared.error.PgWireError.TheVariants as wire;
 
 use crate::error::PgWireError;
+use crate::page::deliver_page;
 use crate::results::response::QueryResponse;
 use crate::rows::RowSource;
 use crate::stmt::StoredStatement;
@@ -278,24 +278,7 @@ fn no_rows(alloc: Global, delivered: u64) -> Result<FetchResult, AllocError>
     })
 }
 
-/// Whether a page of so many rows has reached its limit. A limit below 1 is never reached.
-#[inline(always)]
-pub fn is_reached(max_rows: i32, rows: usize) -> bool
-    ensures { result ≡ is_reached max_rows rows }
-{
-    max_rows >= 1 && max_rows.cast_unsigned() as usize <= rows
-}
-
-/// How many rows were delivered since a portal was started: so many before a page, and those of it. The number stands
-/// still at the greatest u64.
-#[inline(always)]
-pub fn delivered_after(before: u64, rows: usize) -> u64
-    ensures { result ≡ delivered_after before rows }
-{
-    before.saturating_add(rows as u64)
-}
-
-/// The next page of a response, of which so many rows were delivered.
+/// The next page of a response, of which so many rows were delivered, as a list.
 fn next_page<R: RowSource>(
     alloc: Global,
     response: &mut QueryResponse<R>,
@@ -310,25 +293,12 @@ fn next_page<R: RowSource>(
 {
     let command_tag = PgStr::copy_of(alloc, response.command_tag.as_str())?;
     let mut rows = PgList::new(alloc);
-    while !is_reached(max_rows, rows.len()) {
-        match response.data_rows.next()? {
-            None => {
-                return Ok(FetchResult {
-                    command_tag,
-                    suspended: false,
-                    delivered: delivered_after(delivered, rows.len()),
-                    rows,
-                });
-            }
-            Some(Err(error)) => return Err(error),
-            Some(Ok(row)) => rows.push(row)?,
-        }
-    }
+    let page = deliver_page(&mut response.data_rows, &mut rows, delivered, max_rows)?;
     Ok(FetchResult {
-        command_tag,
-        suspended: true,
-        delivered: delivered_after(delivered, rows.len()),
         rows,
+        command_tag,
+        suspended: page.suspended,
+        delivered: page.delivered,
     })
 }
 

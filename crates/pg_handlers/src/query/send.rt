@@ -1,8 +1,9 @@
 //! Replies to queries, appended to the outbox.
 
 ghost use Rattle.std.specs.Prelude.{◌≡◌, ◌≤◌, ◌<◌, ◌+◌, ◌^◌, ◌++◌, ◌⊎◌, [], ◌∷◌, Some, None, true, false, length, map, take, Bool, codes, IfOk, IfErr, IfSome, OnOk, OnErr};
-ghost use Rattle.pg_messages.specs.Replies.{IsEncodable, replies_bytes, reply_bytes};
+ghost use Rattle.pg_messages.specs.Replies.{IsEncodable, replies_bytes};
 ghost use Rattle.std.specs.Arc.{arc_value};
+ghost use Rattle.std.proofs.Common.{ap, append-nil};
 ghost use Rattle.pg_messages.specs.declared.response.TransactionStatus.{TransactionStatus};
 ghost use Rattle.pg_text.specs.Types.{oid_of};
 ghost use Rattle.pg_messages.specs.declared.backend.PgWireBackendMessage.TheVariants as server;
@@ -16,11 +17,12 @@ ghost use Rattle.pg_portal.specs.Fetching.{IsRest};
 ghost use Rattle.pg_portal.specs.Told.{told_rows};
 ghost use Rattle.pg_portal.specs.declared.error.PgWireError.{PgWireError};
 ghost use Rattle.pg_handlers.specs.Good.{IsTag};
-ghost use Rattle.pg_handlers.specs.Replies.{ready, done, done_with, row_description, parameter_description};
+ghost use Rattle.pg_handlers.specs.Replies.{ready, done, done_with, row_description, row_replies, parameter_description};
 ghost use Rattle.pg_handlers.specs.ExtendedRows.{columns_reply, description};
 ghost use Rattle.pg_handlers.specs.ExecuteRow.{page_replies};
 ghost use Rattle.pg_handlers.specs.ResponseRows.{sent_rows_behind, rows_front, sent_copy, copy_in_reply, copy_out_reply, copy_both_reply, copy_items, copy_count, copy_replies, copy_end, not_empty};
 ghost use Rattle.pg_handlers.specs.Sending.{IsSentPage, IsMetError, IsSentData, IsRefusedData, IsAllSent};
+ghost use Rattle.pg_handlers.specs.RowSending.{rows_behind};
 
 use itoa::Buffer;
 use pg_messages::{
@@ -30,8 +32,8 @@ use pg_messages::{
 };
 use pg_outbox::Outbox;
 use pg_portal::{
-    CopyResponse, CopySource, DescribeResponse, FieldInfo, PgWireError, QueryResponse, RowSource,
-    Tag, delivered_after, finish_copy_binary, is_reached,
+    CopyResponse, CopySource, DeliveredPage, DescribeResponse, FieldInfo, PgWireError,
+    QueryResponse, RowReceiver, RowSource, Tag, deliver_page, finish_copy_binary,
 };
 use pg_text::PgType;
 use std::alloc::{AllocError, Global};
@@ -187,28 +189,31 @@ pub fn send_describe_response<DR: DescribeResponse>(
     Ok(())
 }
 
-/// Appends a row, and counts it.
-#[inline(always)]
-fn push_row(outbox: &mut Outbox, row: DataRow, rows: usize) -> Result<usize, AllocError>
-    requires encodable { IsEncodable (server.DataRow row) }
-    requires fewer { rows ≤ length outbox.old }
-    ensures pushed { OnOk result
-        (outbox.new ≡ outbox.old ++ reply_bytes (server.DataRow row)) }
-    ensures err { OnErr result (outbox.new ≡ outbox.old) }
-    ensures counted { IfOk result (λ count. count ≡ rows + 1) }
-    ensures fewer { IfOk result (λ count. count ≤ length outbox.new) }
-{
-    outbox.push(&PgWireBackendMessage::DataRow(row))?;
-    // A length is a usize, so that the count, which is no larger, doesn't wrap.
-    let _waiting = outbox.len();
-    Ok(rows + 1)
+/// Sends the rows that it receives, each as a reply.
+#[derive(Drop)]
+struct RowSender<'a> {
+    outbox: &'a mut Outbox,
 }
 
-/// How a page ended, and how many rows were delivered since its portal was started.
-#[derive(Clone, Copy)]
-pub(crate) struct PageSent {
-    pub suspended: bool,
-    pub delivered: u64,
+impl<'a> RowReceiver for RowSender<'a> {
+    ghost with_rows = { λ sender rows. record sender {
+      outbox = record sender.outbox {
+        now = sender.outbox.now ++ replies_bytes (row_replies rows);
+      };
+    } };
+
+    /// Appends DataRow.
+    #[inline(always)]
+    fn receive(&mut self, row: DataRow) -> Result<(), AllocError> {
+        self.outbox.push(&PgWireBackendMessage::DataRow(row))
+    }
+
+    ghost none = { λ sender. ap (λ now. record sender { outbox = record sender.outbox { now = now } })
+        (append-nil sender.outbox.now) };
+
+    ghost more = { λ sender rows behind. ap
+        (λ now. record sender { outbox = record sender.outbox { now = now } })
+        (rows_behind sender.outbox.now rows behind) };
 }
 
 /// Appends the next page of a response, of which so many rows were delivered: at most so many DataRows, and below 1 all
@@ -220,7 +225,7 @@ pub(crate) fn send_next_page<R: RowSource>(
     results: &mut QueryResponse<R>,
     delivered: u64,
     max_rows: i32,
-) -> Result<PageSent, PgWireError>
+) -> Result<DeliveredPage, PgWireError>
     requires { IsTag results.old.command_tag }
     ensures page { IfOk result (λ page. IsSentPage (told_rows R.items results.old)
         (item_page max_rows (R.items results.old.data_rows)).ending
@@ -247,28 +252,16 @@ pub(crate) fn send_next_page<R: RowSource>(
     ensures begins { length outbox.old ≤ length outbox.new }
     ensures kept { take (length outbox.old) outbox.new ≡ outbox.old }
 {
-    let mut rows = 0;
-    while !is_reached(max_rows, rows) {
-        match results.data_rows.next()? {
-            None => {
-                // A length is a usize, so that the count, which is no larger, is that of all rows.
-                let _waiting = outbox.len();
-                let delivered = delivered_after(delivered, rows);
-                send_done(alloc, outbox, results.command_tag.as_str(), delivered)?;
-                return Ok(PageSent {
-                    suspended: false,
-                    delivered,
-                });
-            }
-            Some(Err(error)) => return Err(error),
-            Some(Ok(row)) => rows = push_row(outbox, row, rows)?,
-        }
+    let mut sender = RowSender { outbox };
+    let page = deliver_page(&mut results.data_rows, &mut sender, delivered, max_rows)?;
+    // A length is a usize, and the rows are no more than their bytes, so that their number doesn't stand still.
+    let _waiting = outbox.len();
+    if page.suspended {
+        outbox.push(&PgWireBackendMessage::PortalSuspended(PortalSuspended {}))?;
+    } else {
+        send_done(alloc, outbox, results.command_tag.as_str(), page.delivered)?;
     }
-    outbox.push(&PgWireBackendMessage::PortalSuspended(PortalSuspended {}))?;
-    Ok(PageSent {
-        suspended: true,
-        delivered: delivered_after(delivered, rows),
-    })
+    Ok(page)
 }
 
 /// Appends a page of rows: at most so many DataRows, and below 1 all of them; then PortalSuspended where the limit was
