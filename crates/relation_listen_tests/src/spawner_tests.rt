@@ -68,51 +68,39 @@ impl Registry {
     }
 }
 
-/// A client that sends nothing, and goes away some time after it is told to.
+/// A client that sends nothing, and goes away after a while. It tells that it has.
 #[derive(Drop)]
 struct Client {
     stream: UnixStream,
-    may_leave: Arc<AtomicBool>,
     has_left: Arc<AtomicBool>,
 }
 
 impl Client {
-    fn leave<R: Wait + Clock>(self, rt: &R) {
-        for _ in rt.forever() {
-            if self.may_leave.load(Ordering::SeqCst) {
-                break;
-            }
-            rt.sleep(Duration::from_millis(1));
-        }
-        rt.sleep(Duration::from_millis(100));
+    fn new(alloc: Global, stream: UnixStream) -> Result<Client, Fail> {
+        let has_left = Arc::new(alloc, AtomicBool::new(false))?;
+        Ok(Client { stream, has_left })
+    }
+
+    fn leave<R: Clock>(self, rt: &R) {
+        rt.sleep(Duration::from_millis(300));
         self.has_left.store(true, Ordering::SeqCst);
     }
 }
 
-/// What is answered to a job, for whose thread there is no room, while another runs that ends after a while: how many
-/// tries failed, and whether the other had ended then.
-fn waited_for<R: thread::Threads + Wait + Clock + Net + Copy + Send + 'static>(
+/// Starts the job of a client under this pid. It answers the client.
+fn start_one<R: thread::Threads + Wait + Clock + Net + Copy + Send + 'static>(
     rt: R,
     alloc: Global,
     threads: &JobThreads,
     registry: &mut Registry,
-) -> Result<(Tries, bool), Fail> {
+    pid: i32,
+) -> Result<Client, Fail> {
     let (stream, served) = UnixStream::pair(&rt)?;
-    let has_left = Arc::new(alloc, AtomicBool::new(false))?;
-    let client = Client {
-        stream,
-        may_leave: Arc::new(alloc, AtomicBool::new(true))?,
-        has_left: Arc::try_clone(&has_left)?,
-    };
-    let started = threads.start(rt, registry.job(&rt, alloc, 1, served)?);
-    let client = thread::spawn(&rt, move || client.leave(&rt))?;
-    let refused = refused(rt, alloc, threads, registry)?;
-    let is_ended = has_left.load(Ordering::SeqCst);
-    client.join(&rt);
-    Ok((
-        refused,
-        is_ended && started.is_started && started.failed == 0,
-    ))
+    let tries = threads.start(rt, registry.job(&rt, alloc, pid, served)?);
+    if !tries.is_started || tries.failed != 0 {
+        return Err(Fail::from("no thread"));
+    }
+    Client::new(alloc, stream)
 }
 
 /// What is answered to a job for whose thread there is no room.
@@ -128,15 +116,32 @@ fn refused<R: thread::Threads + Wait + Clock + Net + Copy + Send + 'static>(
     Ok(without_room.start(rt, job))
 }
 
-/// Where no thread can be started, a job that runs is waited for, and the job is refused where none runs any more.
+/// What is answered to a job, for whose thread there is no room, while another runs that ends after a while: how many
+/// tries failed, and whether the other's client had left then.
+fn waited_for<R: thread::Threads + Wait + Clock + Net + Copy + Send + 'static>(
+    rt: R,
+    alloc: Global,
+    threads: &JobThreads,
+    registry: &mut Registry,
+) -> Result<(Tries, bool), Fail> {
+    let client = start_one(rt, alloc, threads, registry, 1)?;
+    let has_left = Arc::try_clone(&client.has_left)?;
+    let client = thread::spawn(&rt, move || client.leave(&rt))?;
+    let tries = refused(rt, alloc, threads, registry)?;
+    let is_ended = has_left.load(Ordering::SeqCst);
+    client.join(&rt);
+    Ok((tries, is_ended))
+}
+
+/// Where no thread can be started, a job that runs is waited for, and the job is refused behind five tries while none
+/// runs.
 #[test]
 fn a_job_waits_for_room(rt: HostRuntime) -> Result<(), Fail> {
     let alloc = rt.alloc();
     let threads = JobThreads::new(alloc)?;
     let mut registry = Registry::new(alloc)?;
     let (tries, is_ended) = waited_for(rt, alloc, &threads, &mut registry)?;
-    assert!(rt; !tries.is_started && tries.failed == 2 && is_ended);
-    assert!(rt; registry.is_free(&rt, 1));
+    assert!(rt; !tries.is_started && tries.failed == 6 && is_ended && registry.is_free(&rt, 1));
     Ok(())
 }
 
@@ -146,40 +151,61 @@ fn a_job_is_refused_where_none_runs(rt: HostRuntime) -> Result<(), Fail> {
     let threads = JobThreads::new(alloc)?;
     let mut registry = Registry::new(alloc)?;
     let tries = refused(rt, alloc, &threads, &mut registry)?;
-    assert!(rt; !tries.is_started && tries.failed == 1);
+    assert!(rt; !tries.is_started && tries.failed == 5);
     Ok(())
 }
 
-/// Starts a job whose client stays until it is waited for, and waits.
-fn finish_one<R: thread::Threads + Wait + Clock + Net + Copy + Send + 'static>(
+/// Two clients that go away one after the other.
+#[derive(Drop)]
+struct Clients {
+    first: Client,
+    last: Client,
+}
+
+impl Clients {
+    /// Starts the jobs of two clients, under the pids 1 and 2.
+    fn start<R: thread::Threads + Wait + Clock + Net + Copy + Send + 'static>(
+        rt: R,
+        alloc: Global,
+        threads: &JobThreads,
+        registry: &mut Registry,
+    ) -> Result<Clients, Fail> {
+        let first = start_one(rt, alloc, threads, registry, 1)?;
+        let last = start_one(rt, alloc, threads, registry, 2)?;
+        Ok(Clients { first, last })
+    }
+
+    fn leave<R: Clock>(self, rt: &R) {
+        let Clients { first, last } = self;
+        first.leave(rt);
+        last.leave(rt);
+    }
+}
+
+/// Waits for the jobs of two clients. It answers whether the last of them had left by then.
+fn finish_two<R: thread::Threads + Wait + Clock + Net + Copy + Send + 'static>(
     rt: R,
     alloc: Global,
     threads: &JobThreads,
     registry: &mut Registry,
-) -> Result<(), Fail> {
-    let (stream, served) = UnixStream::pair(&rt)?;
-    let may_leave = Arc::new(alloc, AtomicBool::new(false))?;
-    let client = Client {
-        stream,
-        may_leave: Arc::try_clone(&may_leave)?,
-        has_left: Arc::new(alloc, AtomicBool::new(false))?,
-    };
-    threads.start(rt, registry.job(&rt, alloc, 1, served)?);
-    let client = thread::spawn(&rt, move || client.leave(&rt))?;
-    may_leave.store(true, Ordering::SeqCst);
+) -> Result<bool, Fail> {
+    let clients = Clients::start(rt, alloc, threads, registry)?;
+    let has_left = Arc::try_clone(&clients.last.has_left)?;
+    let clients = thread::spawn(&rt, move || clients.leave(&rt))?;
     threads.finish(&rt);
-    client.join(&rt);
-    Ok(())
+    let is_over = has_left.load(Ordering::SeqCst);
+    clients.join(&rt);
+    Ok(is_over)
 }
 
-/// Behind `finish` a job has given its registration back, also one whose client stayed until then.
+/// `finish` waits for each client that stays, and behind it the jobs have given their registrations back.
 #[test]
 fn finish_waits_for_a_client_that_stays(rt: HostRuntime) -> Result<(), Fail> {
     let alloc = rt.alloc();
     let threads = JobThreads::new(alloc)?;
     let mut registry = Registry::new(alloc)?;
-    finish_one(rt, alloc, &threads, &mut registry)?;
-    assert!(rt; registry.is_free(&rt, 1));
+    let is_over = finish_two(rt, alloc, &threads, &mut registry)?;
+    assert!(rt; is_over && registry.is_free(&rt, 1) && registry.is_free(&rt, 2));
     Ok(())
 }
 

@@ -14,8 +14,13 @@ use std::time::{Clock, Duration};
 /// The bytes of a thread's stack. Without a size a thread would reserve what the C library gives, mostly 8 MiB.
 const STACK: usize = 512 * 1024;
 
-/// How many milliseconds are waited behind a job's end until its thread is gone too.
+/// How many milliseconds are waited before a thread is tried again. Meanwhile the thread of a job that has ended goes too,
+/// and a want of memory may pass.
 const PAUSE: u64 = 100;
+
+/// How many tries in turn fail while no job runs, until a job is dropped. So one refused allocation is waited out, and a
+/// failure that stays is told.
+const TRIES: u64 = 5;
 
 /// How many jobs run, and how many have ended, wrapping.
 #[derive(Clone, Copy)]
@@ -120,8 +125,9 @@ impl JobThreads {
     }
 
     /// Starts a thread that runs a job, and doesn't wait for it. Where no thread can be made, it waits until one of the
-    /// jobs that run has ended and tries again. The answer tells how many tries failed, and where none runs any more
-    /// that the job was dropped.
+    /// jobs that run has ended and tries again. Where none runs, it tries again every 100 milliseconds, and drops the
+    /// job behind the fifth such try in turn that fails. The answer tells how many tries failed, and whether the job
+    /// was dropped.
     ///
     /// A job that has ended leaves nothing behind: its sockets, its buffers and what its service came to are dropped on
     /// its thread, which then ends. Nobody joins it.
@@ -150,6 +156,7 @@ impl JobThreads {
     {
         let mut work = work;
         let mut failed = 0u64;
+        let mut alone = 0u64;
         for _ in rt.forever() {
             let ended = self.running.enter(rt);
             let thread = Builder::new().stack_size(self.stack);
@@ -164,7 +171,13 @@ impl JobThreads {
             }
             failed = failed.saturating_add(1);
             self.running.withdraw(rt);
-            if !self.running.wait_for_end(rt, ended) {
+            let has_ended = self.running.wait_for_end(rt, ended);
+            alone = if has_ended {
+                0
+            } else {
+                alone.saturating_add(1)
+            };
+            if alone >= TRIES {
                 break;
             }
             rt.sleep(Duration::from_millis(PAUSE));
