@@ -227,4 +227,5 @@ def main():
         print("|".join((name, kind, given, told)))
 
 
-main()
+if __name__ == "__main__":
+    main()

@@ -1,25 +1,25 @@
-//! Rows of relation files, as data on standard input: each is read, and a line tells whether the answer is the one that
-//! the row expects. The head of `stdin` has the format.
+//! Rows of the program that tells rotas, as data on standard input: each runs the program over memory, and a line tells
+//! whether it ends as the row expects. The head of `stdin` has the format.
 #![tactic(auto)]
 
-mod bytes;
-mod row;
-mod told;
+mod answers;
+mod parts;
 
-use crate::row::{Fault, answer_of, expected_of, name_of};
+use crate::answers::answer_of;
+use crate::parts::{Fault, part};
 use std::alloc::Global;
 use std::io;
 
 /// What came of a row: whether the answer is as expected, and the answer.
 fn verdict_of(alloc: Global, row: &str) -> Result<(bool, String), Fault> {
-    let expected = expected_of(alloc, row)?;
+    let expected = part(row, 5)?;
     let answer = answer_of(alloc, row)?;
-    Ok((answer.as_bytes() == expected.as_slice(), answer))
+    Ok((answer.as_str() == expected, answer))
 }
 
 /// Prints the line of a row, and answers whether all was as expected.
 fn print_row(rt: &impl Print, alloc: Global, row: &str) -> io::Result<bool> {
-    let name = name_of(row);
+    let name = part(row, 0).unwrap_or("");
     match verdict_of(alloc, row) {
         Ok((true, _)) => {
             println!(rt; "{name}: ok")?;

@@ -1,6 +1,6 @@
 -- A text that is on its way to a sink.
 use Rattle.std.proofs.Common.{◌≡◌, ℕ, List, [], ◌∷◌, ◌++◌, Option, Some, None, refl, sym, ap, subst, ◌∙◌, append_assoc, append-nil}
-use Rattle.std.proofs.Common.{Result, Ok, Err}
+use Rattle.std.proofs.Common.{Result, Ok, Err, OnOk}
 use Rattle.pg_session.specs.declared.streams.SinkError.{SinkError}
 use Rattle.pg_session.specs.Streams.{GrowsBy, GrowsByFront}
 use Rattle.rota_writing.specs.Writing.{IsOnItsWay, IsSinkCause, HasWritten, GoesOn}
@@ -100,3 +100,8 @@ pub cause_as : (error : SinkError) (first faults new_faults : ℕ) → faults �
 cause_as error first faults new_faults same h =
     let Q : ℕ → Type 0 = λ k. IsSinkCause error k new_faults in
     subst Q same h
+
+-- what holds in any case holds of an Ok
+pub is_ok_with : {P : Type 0} (r : Result (Unit {0}) SinkError) → P → OnOk r P
+is_ok_with (Ok done) p = p
+is_ok_with (Err e) p = tt

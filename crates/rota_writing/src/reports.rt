@@ -1,8 +1,11 @@
 //! The report of a rota.
 
-ghost use Rattle.std.specs.Prelude.{◌≡◌, ◌≤◌};
+ghost use Rattle.std.specs.Prelude.{◌≤◌, All, Ok, OnOk};
 ghost use Rattle.pg_text.specs.Words.{printed_style};
 ghost use Rattle.rota_moments.specs.Moments.{IsMoment};
+ghost use Rattle.rota_moments.specs.Rotas.{IsTotal};
+ghost use Rattle.rota_lines.specs.Lines.{Stands};
+ghost use Rattle.pg_interval.specs.declared.pg_interval.Interval.{Interval};
 ghost use Rattle.rota_writing.specs.Report.{HasReported};
 
 use crate::writing::write_rota;
@@ -42,6 +45,10 @@ pub fn report<K: Sink>(
     requires { IsMoment start }
     ensures reported { HasReported start steps.now (printed_style style) result
         (K.written sink.old) (K.written sink.new) (K.faults sink.old) (K.faults sink.new) }
+    // Each interval's text stands for it, and for no other; and so does the total's.
+    ensures stand { OnOk result (All (Stands (printed_style style)) steps.now) }
+    ensures total_stands { OnOk result ((total : Interval) × IsTotal steps.now (Ok total)
+        × Stands (printed_style style) total) }
     ensures never_falls { K.faults sink.old ≤ K.faults sink.new }
 {
     let moments = match rota(alloc, start, steps) {

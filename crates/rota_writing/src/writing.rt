@@ -3,7 +3,7 @@
 ghost use Rattle.std.specs.Prelude.{◌≡◌, ◌≤◌, ◌<◌, ◌+◌, ◌^◌, ◌++◌, [], ℕ, List, Option, All, OnOk, IfOk, codes, decimal, length, string_bytes};
 ghost use Rattle.pg_text.specs.Words.{printed_style};
 ghost use Rattle.rota_moments.specs.Moments.{IsMoment};
-ghost use Rattle.rota_lines.specs.Lines.{line, clash_line, rota_text, clash_text};
+ghost use Rattle.rota_lines.specs.Lines.{line, clash_line, rota_text, clash_text, Stands};
 ghost use Rattle.rota_writing.specs.Writing.{IsOnItsWay, HasWritten, GoesOn};
 
 use pg_interval::Interval;
@@ -29,6 +29,8 @@ pub(crate) fn write_rota<K: Sink>(
     requires one_more { length moments.now ≡ length steps.now + 1 }
     ensures written { HasWritten result (rota_text (printed_style style) steps.now moments.now total.now)
         (K.written sink.old) (K.written sink.new) (K.faults sink.old) (K.faults sink.new) }
+    ensures stand { OnOk result (All (Stands (printed_style style)) steps.now) }
+    ensures total_stands { OnOk result (Stands (printed_style style) total.now) }
     ensures never_falls { K.faults sink.old ≤ K.faults sink.new }
 {
     let mut text = String::new(alloc);
@@ -74,6 +76,7 @@ fn write_step<K: Sink>(
     requires { IsMoment moment.now }
     ensures on { GoesOn result (line (printed_style style) (decimal number) moment.now step.now)
         (string_bytes text.old) (string_bytes text.new) (K.written sink.old) (K.written sink.new) (K.faults sink.old) (K.faults sink.new) }
+    ensures stands { OnOk result (Stands (printed_style style) step.now) }
     ensures never_falls { K.faults sink.old ≤ K.faults sink.new }
 {
     match put_step(text, number, moment, step, style) {
@@ -94,6 +97,7 @@ fn write_end<K: Sink>(
     ensures written { (first : Option (List ℕ)) (whole : List ℕ) → IsOnItsWay first (K.written sink.old) whole (string_bytes text.old)
         → HasWritten result (whole ++ line (printed_style style) (codes "end") moment.now total.now)
         first (K.written sink.new) (K.faults sink.old) (K.faults sink.new) }
+    ensures stands { OnOk result (Stands (printed_style style) total.now) }
     ensures never_falls { K.faults sink.old ≤ K.faults sink.new }
 {
     match put_end(text, moment, total, style) {

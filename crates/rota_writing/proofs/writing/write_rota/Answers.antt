@@ -1,10 +1,13 @@
 -- A line more.
-use Rattle.std.proofs.Common.{◌≡◌, ◌∙◌, ℕ, ◌+◌, List, ◌++◌, sym, ap, subst, drop, length, string_bytes, append_assoc, arith}
+use Rattle.std.proofs.Common.{◌≡◌, ◌∙◌, ℕ, ◌+◌, List, ◌++◌, sym, ap, subst, drop, length, All, ◌≤◌, string_bytes, append_assoc, arith}
+use Rattle.pg_interval.specs.declared.pg_interval.Interval.{Interval}
 use Rattle.pg_text.specs.Words.{printed_style}
 use Rattle.pg_session.specs.Streams.{GrowsByFront}
-use Rattle.rota_lines.specs.Lines.{rota_text, lines_from}
+use Rattle.rota_lines.specs.Lines.{rota_text, lines_from, Stands}
+use Rattle.std.proofs.lemmas.List.{take_all}
+use Rattle.std.proofs.lemmas.List.Elements.{All-more}
 use Rattle.rota_writing.proofs.LineLemmas.{lines_step, lines_end}
-use Rattle.rota_writing.proofs.WritingLemmas.{front_more, cause_as, written_as}
+use Rattle.rota_writing.proofs.WritingLemmas.{front_more, cause_as, written_as, is_ok_with}
 use Rattle.rota_writing.proofs.writing.write_rota.Goals as goal
 
 pub loop-place-preserved : goal.loop-place-preserved
@@ -19,6 +22,7 @@ loop-place-preserved g c =
       before.1 ∙ ap (λ l. lines ++ l) next ∙ sym (append_assoc lines _ _),
       on.0 first lines before.2,
       on.1 ∙ before.3,
+      All-more (Stands (printed_style c.args.style)) c.args.steps.now c.loop-place.place _ c.loop-place-test.true before.4 c.in-Ok.ensures.stands,
     )
 
 pub returns-in-Err-clause-written : goal.returns-in-Err-clause-written
@@ -46,3 +50,9 @@ returns-clause-written g c =
       ≡ lines ++ lines_from (printed_style c.args.style) c.args.total.now k (drop k c.args.steps.now) (drop k c.args.moments.now) in
     written_as c.write_end.result _ _ _ _ _ _ _ (subst Q n before.1 ∙ ap (λ l. lines ++ l) last) before.3
     (c.write_end.ensures.written first lines before.2)
+
+pub returns-clause-stand : goal.returns-clause-stand
+returns-clause-stand g c =
+    let n : length c.args.steps.now ≤ c.loop-place.place = omega arith in
+    let P : List Interval → Type 0 = λ l. All (Stands (printed_style c.args.style)) l in
+    is_ok_with c.write_end.result (subst P (take_all c.loop-place.place c.args.steps.now n) c.loop-place.invariant.4)
