@@ -1,4 +1,4 @@
-"""The bytes that crates/print_bench must count: the same intervals, printed by the rules of docs/FORMATS.md, apart from the program.
+"""The bytes that crates/interval_bench must count: the same intervals, printed by the rules of docs/FORMATS.md, apart from the program.
 
 usage: expected_bytes.py COUNT"""
 import sys

@@ -1,5 +1,5 @@
 -- A conversation that was served piece by piece is a run over the bytes that were taken.
-use Rattle.std.proofs.Common.{◌≡◌, ◌≢◌, ℕ, ⊎_elim, cond, ◌+◌, ◌≤◌, ◌<◌, ◌^◌, min, arith, Bool, List, [], ◌∷◌, ◌++◌, Option, Some, None, Err, IfSome, take, drop, refl, sym, ap, subst, ◌∙◌, append-nil, append_assoc}
+use Rattle.std.proofs.Common.{◌≡◌, ◌≢◌, ℕ, ⊎_elim, cond, ◌+◌, ◌≤◌, ◌<◌, ◌^◌, min, arith, Bool, List, [], ◌∷◌, ◌++◌, Option, Some, None, Result, Err, IfSome, take, drop, refl, sym, ap, subst, ◌∙◌, append-nil, append_assoc}
 use Rattle.std.specs.Prelude.{◌==◌, if◌then◌else◌}
 use Rattle.std.proofs.lemmas.List.{take-append-drop, length-take}
 use Rattle.std.proofs.lemmas.Bool.Decides.{eqb_tells}
@@ -17,9 +17,12 @@ use Rattle.pg_handlers.specs.Questions.{questions, questions_since}
 use Rattle.std.proofs.Math.Seq.{drop-append_seam}
 use Rattle.pg_session.proofs.Pieces.{IsFed-none}
 use Rattle.std.proofs.Common.{true, inl, inr, IsTrue, false, length, length-drop, ◌⊎◌}
-use Rattle.pg_session.specs.Session.{HasFed, most_held}
+use Rattle.pg_session.specs.Session.{HasFed}
 use Rattle.pg_session.specs.declared.ends.Progress.{Progress}
 use Rattle.pg_session.specs.Streams.{HasRisen}
+use Rattle.pg_handlers.specs.Lawful.{IsLawful}
+use Rattle.pg_session.proofs.Feeding.{fed_then}
+use Rattle.pg_serve.specs.Conversing.{Talk, TakesPiece}
 use Rattle.pg_serve.specs.Serving.{Counts, HasCause, end_turn}
 use Rattle.pg_session.specs.Run.{Rules, IsRun, IsCutRun, IsFed, EndsWith}
 use Rattle.pg_session.specs.Streams.{GrowsBy, GrowsByFront, GivesFront}
@@ -138,11 +141,6 @@ ends_at_last rules first {taken = taken} left mid new_left n into t g ne x short
   λ other. last_is_some left mid new_left taken n into t g ne,
 )
 
--- what a session holds before its startup packet or behind it
-pub within_all : (awaiting : Bool) (rest : List ℕ) → length rest ≤ most_held awaiting → length rest ≤ 1048576
-within_all true rest h = omega arith
-within_all false rest h = h
-
 cut_grows : (w v : Option (List ℕ)) (bytes : List ℕ) (P : List ℕ → Type 0) → GrowsByFront w v bytes → ((front : List ℕ) → BeginsWith bytes front → P front) → (front : List ℕ) × GrowsBy w v front × P front
 cut_grows None v bytes P g p = ([], tt, p [] (bytes, refl))
 cut_grows (Some x) v bytes P g p = (g.0, g.2, p g.0 g.1)
@@ -233,27 +231,19 @@ cut_at_start rules first left w = ([], takes_none left, at w)
 pub none_went : {T : Type 0} (rules : Rules T) (first : T) (left w : Option (List ℕ)) (error : ServeError) → error ≡ fault.NoMemory → WentSo rules first (Err error) left left w w []
 none_went rules first left w error e = subst (λ x. WentSo rules first (Err x) left left w w []) (sym e) (cut_at_start rules first left w)
 
--- the same by equal handlers
-pub serves_in : {T H : Type 0} (rules : H → Rules T) {a b : H} {s : T} {text rest : List ℕ} {next : Next T} {w v : Option (List ℕ)} {o q : List ℕ} {k l : List DeskCall} → a ≡ b
-    → steps.IsServed (rules a) s text rest next w v o q k l → steps.IsServed (rules b) s text rest next w v o q k l
-serves_in rules {s = s} {text = text} {rest = rest} {next = next} {w = w} {v = v} {o = o} {q = q} {k = k} {l = l} e x = subst (λ c. steps.IsServed (rules c) s text rest next w v o q k l) e x
-
-pub cut_in : {T H : Type 0} (rules : H → Rules T) {a b : H} {s : T} {text : List ℕ} {w v : Option (List ℕ)} {o : List ℕ} {k l : List DeskCall} → a ≡ b
-    → steps.IsCutOff (rules a) s text w v o k l → steps.IsCutOff (rules b) s text w v o k l
-cut_in rules {s = s} {text = text} {w = w} {v = v} {o = o} {k = k} {l = l} e x = subst (λ c. steps.IsCutOff (rules c) s text w v o k l) e x
-
-pub stopped_in : {T H : Type 0} (rules : H → Rules T) {a b : H} {s : T} {text : List ℕ} {w v : Option (List ℕ)} {o : List ℕ} {k l : List DeskCall} → a ≡ b
-    → steps.IsStopped (rules a) s text w v o k l → steps.IsStopped (rules b) s text w v o k l
-stopped_in rules {s = s} {text = text} {w = w} {v = v} {o = o} {k = k} {l = l} e x = subst (λ c. steps.IsStopped (rules c) s text w v o k l) e x
+-- What was served of the bytes taken, and then took a piece, took the bytes and the piece as one.
+pub conversed : {T : Type 0} (first now new : Talk T) → IsLawful first.rules.table first.rules.awaits → now.rules ≡ first.rules → now.unsent ≡ []
+    → (taken piece : List ℕ) (result : Result Progress ServeError) {a w v : Option (List ℕ)} {j k l : List DeskCall}
+    → steps.IsServed first.rules first.state taken now.rest (Goes now.state) a w [] [] j k → (t : TakesPiece now new piece w v k l result)
+    → steps.WasFed first.rules first.state (taken ++ piece) new.state t.0 a v [] j l result
+conversed first now new lawful same sent taken piece result {a} {w} {v} {j} {k} {l} x t =
+    fed_then first.rules lawful first.state now.state new.state taken now.rest piece t.0 a w v [] [] j k l result x
+    (subst (λ o. steps.WasFed first.rules now.state (now.rest ++ piece) new.state t.0 w v o k l result) sent
+    (subst (λ r. steps.WasFed r now.state (now.rest ++ piece) new.state t.0 w v now.unsent k l result) same t.1))
 
 pub goes_to : {T : Type 0} (rules : Rules T) (first : T) {s t : T} {text rest : List ℕ} {next : Next T} {w v : Option (List ℕ)} {o q : List ℕ} {k l : List DeskCall} → next ≡ Goes t
     → steps.IsServed rules s text rest next w v o q k l → steps.IsServed rules s text rest (Goes t) w v o q k l
 goes_to rules first {s} {t} {text} {rest} {next} {w} {v} {o} {q} {k} {l} e x = subst (λ n. steps.IsServed rules s text rest n w v o q k l) e x
-
--- the same by equal waiting bytes
-pub waits_in : {T : Type 0} (rules : Rules T) {s : T} {text rest : List ℕ} {next : Next T} {w v : Option (List ℕ)} {o q p : List ℕ} {k l : List DeskCall} → q ≡ p
-    → steps.IsServed rules s text rest next w v o q k l → steps.IsServed rules s text rest next w v o p k l
-waits_in rules {s = s} {text = text} {rest = rest} {next = next} {w = w} {v = v} {o = o} {k = k} {l = l} e x = subst (λ b. steps.IsServed rules s text rest next w v o b k l) e x
 
 -- a read that gave a byte counts
 pub counted_more : (n r new_r first asked spent limit : ℕ) → new_r ≡ (if n == 0 then r else min (r + 1) 18446744073709551615) → n ≢ 0 → r + asked ≡ first + spent → spent < limit → first + limit < 2 ^ 64

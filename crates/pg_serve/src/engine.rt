@@ -1,18 +1,16 @@
-//! The engine: it reads the client's bytes, feeds a session with them, and counts turns.
+//! The engine: it reads the client's bytes, feeds a conversation with them, and counts turns.
 
 ghost use Rattle.std.specs.Prelude.{◌≡◌, ◌++◌, ◌≤◌, ◌<◌, List, [], length, take, true, IfOk, OnOk};
 ghost use Rattle.std.specs.Arc.{arc_value};
-ghost use Rattle.std.specs.FinMap as fin;
-ghost use Rattle.pg_messages.specs.Frames.{IsUnfinished};
 ghost use Rattle.pg_portal.specs.Maps.{no_maps};
 ghost use Rattle.pg_handlers.specs.Desk.{KeepsDesk};
 ghost use Rattle.pg_handlers.specs.declared.desk.DeskCall.{DeskCall};
-ghost use Rattle.pg_handlers.specs.Answer.{Goes};
 ghost use Rattle.pg_handlers.specs.Questions.{questions_since};
 ghost use Rattle.pg_handlers.specs.State.{first_state};
 ghost use Rattle.pg_session.specs.Session.{whole_rules};
 ghost use Rattle.pg_serve.specs.Serving.{WentSo, HasCause, EndsAtLast, FaultsNeverFall, IsCalm, ReadsGaveBytes, counts_of};
 
+use crate::conversation::Conversation;
 use pg_portal::PortalStore;
 use pg_session::{
     CancelDesk, EndKind, ExtendedQueryHandler, PgWireServerHandlers, Progress, ServeError, Session,
@@ -67,17 +65,51 @@ pub fn serve_connection<
         (counts_of S.reads S.faults K.faults source.new sink.new) }
     ensures reads { ReadsGaveBytes (S.left source.old) (S.left source.new) (S.reads source.old) (S.reads source.new) }
     ensures keeps { KeepsDesk (D.told desk.old) (D.told desk.new) }
+    ensures source { S.origin source.new ≡ S.origin source.old }
+    ensures sink { K.origin sink.new ≡ K.origin sink.old }
 {
     let (pid, key) = desk.identity();
     let mut session = Session::new(alloc, handlers, store, pid, key)?;
+    serve(alloc, &mut session, desk, source, sink, turn_limit)
+}
+
+/// Serves a client by any conversation that has taken nothing yet, as [`serve_connection`] does by a session.
+pub fn serve<C: Conversation, D: CancelDesk, S: Source, K: Sink>(
+    alloc: Global,
+    conversation: &mut C,
+    desk: &mut D,
+    source: &mut S,
+    sink: &mut K,
+    turn_limit: u64,
+) -> Result<EndKind, ServeError>
+    requires open { (C.told conversation.old).is_open ≡ true }
+    requires rest { (C.told conversation.old).rest ≡ [] }
+    requires unsent { (C.told conversation.old).unsent ≡ [] }
+    ensures went { (calls : List DeskCall) × ((D.told desk.new).calls ≡ (D.told desk.old).calls ++ calls)
+        × WentSo (C.told conversation.old).rules (C.told conversation.old).state
+        result (S.left source.old) (S.left source.new) (K.written sink.old) (K.written sink.new) calls }
+    ensures cause { HasCause result turn_limit (questions_since (D.told desk.old).calls (D.told desk.new).calls)
+        (counts_of S.reads S.faults K.faults source.old sink.old)
+        (counts_of S.reads S.faults K.faults source.new sink.new) }
+    ensures last { IfOk result (EndsAtLast (C.told conversation.old).rules (C.told conversation.old).state
+        (S.left source.old) (S.left source.new)) }
+    ensures calm { OnOk result (IsCalm (counts_of S.reads S.faults K.faults source.old sink.old)
+        (counts_of S.reads S.faults K.faults source.new sink.new)) }
+    ensures never_falls { FaultsNeverFall (counts_of S.reads S.faults K.faults source.old sink.old)
+        (counts_of S.reads S.faults K.faults source.new sink.new) }
+    ensures reads { ReadsGaveBytes (S.left source.old) (S.left source.new) (S.reads source.old) (S.reads source.new) }
+    ensures keeps { KeepsDesk (D.told desk.old) (D.told desk.new) }
+    ensures source { S.origin source.new ≡ S.origin source.old }
+    ensures sink { K.origin sink.new ≡ K.origin sink.old }
+{
     let mut turns = Turns {
         spent: 0,
         limit: turn_limit,
     };
     let mut buffer = [0u8; READ_LEN];
-    serve_session(
+    serve_pieces(
         alloc,
-        &mut session,
+        conversation,
         desk,
         source,
         sink,
@@ -86,39 +118,28 @@ pub fn serve_connection<
     )
 }
 
-/// Feeds a session with what the source gives, until the conversation ends.
-fn serve_session<
-    H: PgWireServerHandlers,
-    St: PortalStore<
-        Statement = <H::Extended as ExtendedQueryHandler>::Statement,
-        Rows = <H::Extended as ExtendedQueryHandler>::Rows,
-    >,
-    D: CancelDesk,
-    S: Source,
-    K: Sink,
->(
+/// Feeds a conversation with what the source gives, until it ends.
+fn serve_pieces<C: Conversation, D: CancelDesk, S: Source, K: Sink>(
     alloc: Global,
-    session: &mut Session<H, St>,
+    conversation: &mut C,
     desk: &mut D,
     source: &mut S,
     sink: &mut K,
     turns: &mut Turns,
     buffer: &mut [u8],
 ) -> Result<EndKind, ServeError>
-    requires open { session.old.is_open ≡ true }
-    requires rest { session.old.rest ≡ [] }
-    requires unsent { session.old.unsent ≡ [] }
+    requires open { (C.told conversation.old).is_open ≡ true }
+    requires rest { (C.told conversation.old).rest ≡ [] }
+    requires unsent { (C.told conversation.old).unsent ≡ [] }
     requires fresh { turns.old.spent ≡ 0 }
     requires room { 0 < length buffer.old }
     ensures went { (calls : List DeskCall) × ((D.told desk.new).calls ≡ (D.told desk.old).calls ++ calls)
-        × WentSo (whole_rules (H.told session.old.handlers))
-        session.old.state
+        × WentSo (C.told conversation.old).rules (C.told conversation.old).state
         result (S.left source.old) (S.left source.new) (K.written sink.old) (K.written sink.new) calls }
     ensures cause { HasCause result turns.old.limit (questions_since (D.told desk.old).calls (D.told desk.new).calls)
         (counts_of S.reads S.faults K.faults source.old sink.old)
         (counts_of S.reads S.faults K.faults source.new sink.new) }
-    ensures last { IfOk result (EndsAtLast (whole_rules (H.told session.old.handlers))
-        session.old.state
+    ensures last { IfOk result (EndsAtLast (C.told conversation.old).rules (C.told conversation.old).state
         (S.left source.old) (S.left source.new)) }
     ensures calm { OnOk result (IsCalm (counts_of S.reads S.faults K.faults source.old sink.old)
         (counts_of S.reads S.faults K.faults source.new sink.new)) }
@@ -126,6 +147,8 @@ fn serve_session<
         (counts_of S.reads S.faults K.faults source.new sink.new) }
     ensures reads { ReadsGaveBytes (S.left source.old) (S.left source.new) (S.reads source.old) (S.reads source.new) }
     ensures keeps { KeepsDesk (D.told desk.old) (D.told desk.new) }
+    ensures source { S.origin source.new ≡ S.origin source.old }
+    ensures sink { K.origin sink.new ≡ K.origin sink.old }
 {
     'turns: loop {
         if !turns.spend() {
@@ -137,7 +160,7 @@ fn serve_session<
         if n == 0 {
             return Ok(EndKind::InputEnd);
         }
-        match session.feed(alloc, desk, front_of(buffer, n), sink, turns) {
+        match conversation.feed(alloc, desk, front_of(buffer, n), sink, turns) {
             Ok(Progress::More) => {}
             Ok(Progress::Ended(kind)) => return Ok(kind),
             Err(error) => return Err(error),

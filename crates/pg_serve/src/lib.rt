@@ -5,6 +5,7 @@
 mod accept;
 mod acceptor;
 mod adapters;
+mod conversation;
 mod desk;
 mod engine;
 mod flaky;
@@ -16,8 +17,9 @@ mod socket;
 pub use accept::{AcceptFailed, Acceptor, Job, KeySource, SpawnFailed, Spawner};
 pub use acceptor::{Listener, Listening, SocketAcceptor};
 pub use adapters::{ReaderSource, WriterSink};
+pub use conversation::Conversation;
 pub use desk::HandleDesk;
-pub use engine::serve_connection;
+pub use engine::{serve, serve_connection};
 pub use flaky::FlakyDesk;
 pub use keys::RandomKeys;
 pub use memory::{MemorySink, MemorySource};

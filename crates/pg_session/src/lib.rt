@@ -6,7 +6,6 @@ mod ends;
 mod errors;
 mod laws;
 mod messages;
-mod server;
 mod session;
 mod startup;
 mod streams;
@@ -20,6 +19,5 @@ pub use pg_handlers::{
     send_execution_response, send_partial_query_response, send_query_response,
     send_ready_for_query,
 };
-pub use server::{process_error, process_message};
-pub use session::Session;
+pub use session::{Session, process_error, process_message};
 pub use streams::{Sink, SinkError, Source, SourceFailed};

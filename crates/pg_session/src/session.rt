@@ -8,20 +8,18 @@ ghost use Rattle.pg_portal.specs.Maps.{no_maps};
 ghost use Rattle.pg_portal.specs.Errors.{info_of};
 ghost use Rattle.pg_portal.specs.Rows.{IsTellable};
 ghost use Rattle.pg_handlers.specs.Desk.{KeepsDesk};
-ghost use Rattle.pg_handlers.specs.Effect.{IsRow, IsRefusedRow, failed};
+ghost use Rattle.pg_handlers.specs.Effect.{failed};
 ghost use Rattle.pg_handlers.specs.Questions.{HasSpent, questions_since};
-ghost use Rattle.pg_handlers.specs.Sending.{IsAnswerableError};
 ghost use Rattle.pg_handlers.specs.State.{first_info, first_state};
-ghost use Rattle.pg_handlers.specs.Table.{message_row, whole_table, scope_in};
+ghost use Rattle.pg_handlers.specs.Table.{whole_table, scope_in};
 ghost use Rattle.pg_handlers.specs.declared.ends.EndKind.TheVariants.{InputEnd, Fatal};
-ghost use Rattle.pg_session.specs.Messages.{IsGivenIn, outcome_of, scope_for, next_of};
-ghost use Rattle.pg_session.specs.Session.{stays_open, goes_on, HasFed};
+ghost use Rattle.pg_session.specs.Messages.{IsGivenIn, scope_for, next_of};
+ghost use Rattle.pg_session.specs.Session.{goes_on, HasFed};
 ghost use Rattle.pg_session.specs.Steps.{IsAnswered, IsCutAnswer, IsStoppedAnswer};
 ghost use Rattle.pg_session.specs.declared.ends.ServeError.TheVariants as serve;
 
 use crate::ends::ServeError;
 use crate::errors::tell_error;
-use crate::messages::on_message;
 use bytes::BytesMut;
 use pg_handlers::{
     CancelDesk, Client, EndKind, ExtendedQueryHandler, Outbox, PgWireServerHandlers, SessionError,
@@ -131,6 +129,13 @@ impl<
         self.rest.len()
     }
 
+    /// The phase of the conversation: whether the startup packet, the next query, a Sync or data of a COPY is awaited.
+    pub fn state(&self) -> PgWireConnectionState
+        ensures { result ≡ self.now.state.info.state }
+    {
+        self.client.info.state
+    }
+
     /// Whether the session takes more bytes: until it ends or fails.
     pub fn is_open(&self) -> bool
         ensures { result ≡ self.now.is_open }
@@ -140,6 +145,9 @@ impl<
 }
 
 mod feed;
+mod server;
+
+pub use server::{process_error, process_message};
 
 /// Whether an error of a message waits for Sync: in an extended message, and in a COPY of one.
 fn waits_for_sync(state: PgWireConnectionState, message: &PgWireFrontendMessage) -> bool
@@ -154,18 +162,6 @@ fn waits_for_sync(state: PgWireConnectionState, message: &PgWireFrontendMessage)
     }
 }
 
-/// Whether a session is open after a message.
-fn stays_open(outcome: &Result<Option<EndKind>, SessionError>) -> bool
-    ensures { result ≡ stays_open outcome.now }
-{
-    match outcome {
-        Ok(end) => end.is_none(),
-        Err(SessionError::Wire(PgWireError::NoMemory)) => false,
-        Err(SessionError::Wire(_)) => true,
-        Err(SessionError::TurnLimit) => false,
-    }
-}
-
 impl<
     H: PgWireServerHandlers,
     St: PortalStore<
@@ -173,50 +169,6 @@ impl<
         Rows = <H::Extended as ExtendedQueryHandler>::Rows,
     >,
 > Session<H, St> {
-    /// Answers a message, but for what follows an error.
-    pub(crate) fn answer<D: CancelDesk>(
-        &mut self,
-        alloc: Global,
-        desk: &mut D,
-        turns: &mut Turns,
-        message: PgWireFrontendMessage,
-    ) -> Result<Option<EndKind>, SessionError>
-        requires open { self.old.is_open ≡ true }
-        requires given { IsGivenIn self.old.state message }
-        ensures ok { IfOk result (λ end. IsRow
-            (λ answers. message_row
-            (H.told self.old.handlers)
-            answers self.old.state message)
-            self.old.unsent self.new.unsent (D.told desk.old).calls (D.told desk.new).calls
-            (outcome_of end self.new.state)) }
-        ensures refused { IfErr result (IsRefusedRow
-            (λ answers. message_row
-            (H.told self.old.handlers)
-            answers self.old.state message)
-            self.old.unsent self.new.unsent (D.told desk.old).calls (D.told desk.new).calls
-            self.new.state) }
-        ensures answerable { IfErr result IsAnswerableError }
-        ensures ends { IfOk result (λ end. end ≢ Some InputEnd) }
-        ensures open { self.new.is_open ≡ stays_open result }
-        ensures handlers { self.new.handlers ≡ self.old.handlers }
-        ensures rest { self.new.rest ≡ self.old.rest }
-        ensures turns { HasSpent turns.old turns.new
-            (questions_since (D.told desk.old).calls (D.told desk.new).calls) result }
-        ensures bounded { turns.old.spent ≤ turns.old.limit → turns.new.spent ≤ turns.new.limit }
-        ensures keeps { KeepsDesk (D.told desk.old) (D.told desk.new) }
-    {
-        let outcome = on_message(
-            alloc,
-            &*self.handlers,
-            &mut self.client,
-            desk,
-            turns,
-            message,
-        );
-        self.opened = stays_open(&outcome);
-        outcome
-    }
-
     /// Tells the client an error, and does what follows it.
     pub(crate) fn tell(
         &mut self,
@@ -275,7 +227,7 @@ impl<
         ensures keeps { KeepsDesk (D.told desk.old) (D.told desk.new) }
     {
         let wait_for_sync = waits_for_sync(self.client.info.state, &message);
-        match self.answer(alloc, desk, turns, message) {
+        match process_message(alloc, self, desk, turns, message) {
             Ok(end) => Ok(end),
             Err(SessionError::TurnLimit) => Err(ServeError::TurnLimit),
             Err(SessionError::Wire(error)) => match error {

@@ -1,6 +1,6 @@
 //! What is outside: where a client's bytes come from, and where the replies go.
 
-ghost use Rattle.std.specs.Prelude.{◌≡◌, ℕ, List, Option, ◌≤◌, ◌<◌, length, IfOk, IfSome, OnOk, OnErr, IsErrOf};
+ghost use Rattle.std.specs.Prelude.{◌≡◌, ℕ, List, [], Option, ◌≤◌, ◌<◌, length, IfOk, IfSome, OnOk, OnErr, IsErrOf};
 ghost use Rattle.pg_session.specs.Streams.{GivesFront, GrowsBy, GrowsByFront, HasRisen, reads_after};
 
 /// A read failed.
@@ -15,6 +15,8 @@ pub trait Source {
     ghost reads: { Self → ℕ };
     // the number of reads that failed
     ghost faults: { Self → ℕ };
+    // what it was made over, as numbers, so that a caller who lent something to it knows it again
+    ghost origin: { Self → List ℕ } = { λ _. [] };
 
     /// Reads at least one byte and at most as many as fit, or answers 0 where no byte is left for ever. SourceFailed
     /// comes only where the count of faults rose; then nothing was taken. An Ok leaves the count.
@@ -27,7 +29,8 @@ pub trait Source {
         ensures failed { OnErr result (HasRisen (faults self.old) (faults self.new)) }
         ensures untouched { OnErr result (left self.new ≡ left self.old) }
         ensures calm { OnOk result (faults self.new ≡ faults self.old) }
-        ensures never_falls { faults self.old ≤ faults self.new };
+        ensures never_falls { faults self.old ≤ faults self.new }
+        ensures origin { origin self.new ≡ origin self.old };
 }
 
 /// Why bytes were not all written.
@@ -45,6 +48,8 @@ pub trait Sink {
     ghost written: { Self → Option (List ℕ) };
     // the number of writes that failed
     ghost faults: { Self → ℕ };
+    // what it was made over, as numbers, so that a caller who lent something to it knows it again
+    ghost origin: { Self → List ℕ } = { λ _. [] };
 
     /// Writes all bytes. Failed comes only where the count of faults rose; Ok and NoMemory leave it. After an error a front
     /// of the bytes was written.
@@ -55,5 +60,6 @@ pub trait Sink {
             → HasRisen (faults self.old) (faults self.new) }
         ensures no_memory { IsErrOf result SinkError.NoMemory → faults self.new ≡ faults self.old }
         ensures calm { OnOk result (faults self.new ≡ faults self.old) }
-        ensures never_falls { faults self.old ≤ faults self.new };
+        ensures never_falls { faults self.old ≤ faults self.new }
+        ensures origin { origin self.new ≡ origin self.old };
 }

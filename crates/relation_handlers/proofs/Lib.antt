@@ -1,9 +1,8 @@
 pub mod TableLemmas
-pub mod Padding
 pub mod ColumnLemmas
 pub mod ValueLemmas
 pub mod LineLemmas
 pub mod AnswerLemmas
-pub mod WordLemmas
 pub mod SharedLemmas
 pub mod ReadSoFar
+pub mod EvenRows

@@ -14,7 +14,6 @@ use crate::query::RelationQuery;
 use crate::rows::RelationRows;
 use crate::simple::{SimpleQuery, other_query, statement_query};
 use crate::table::RelationTable;
-use crate::words::trimmed;
 use pg_handlers::{ExtendedQueryHandler, NoopHandler, PgWireServerHandlers, SimpleQueryHandler};
 use pg_messages::PgList;
 use pg_portal::{
@@ -22,6 +21,7 @@ use pg_portal::{
     Response, StoredStatement,
 };
 use pg_text::PgType;
+use query_texts::trimmed;
 use relation_tables::RelationStatement;
 use std::alloc::{AllocError, Global};
 use std::sync::Arc;

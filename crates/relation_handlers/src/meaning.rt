@@ -5,7 +5,7 @@ ghost use Rattle.relation_tables.specs.RelationHandler.{is_statement_of};
 ghost use Rattle.relation_tables.specs.Relations.{meaning, meaning_of};
 
 use crate::table::RelationTable;
-use crate::words::trimmed;
+use query_texts::trimmed;
 use relation_tables::RelationStatement;
 
 /// What a query means, whose whitespace and semicolons at both ends count for nothing.

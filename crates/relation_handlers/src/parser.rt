@@ -10,10 +10,10 @@ use crate::columns::fields_of;
 use crate::errors::unknown_relation;
 use crate::meaning::meaning;
 use crate::table::RelationTable;
-use crate::words::trimmed;
 use pg_messages::PgList;
 use pg_portal::{ClientInfo, FieldInfo, Format, PgWireError, QueryParser};
 use pg_text::PgType;
+use query_texts::trimmed;
 use relation_tables::RelationStatement;
 use std::alloc::Global;
 

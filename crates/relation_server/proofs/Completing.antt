@@ -27,7 +27,8 @@ use Rattle.relation_words.specs.declared.commands.Load.{Load}
 use Rattle.relation_words.specs.declared.commands.Service.{Service}
 use Rattle.relation_server.specs.declared.outcome.Outcome.{Outcome}
 use Rattle.relation_server.specs.declared.outcome.Outcome.TheVariants as out
-use Rattle.relation_server.specs.Outcomes.{status_of, status_of_conversation, status_of_file, IsReported}
+use Rattle.relation_server.specs.Outcomes.{status_of}
+use Rattle.status_lines.specs.StatusLines.{status_of_conversation, status_of_file, IsReported}
 use Rattle.relation_server.specs.Program.{Surroundings, WasServed, newcomer, IsFree, HasServed, HasServedFile, HasShown, HasRun, IsServeEnd, IsServeComplete, IsRunComplete}
 
 -- ---- a connection that has just been registered

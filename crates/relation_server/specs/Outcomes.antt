@@ -1,37 +1,10 @@
 -- What the program tells of a command: a status, and a line on its error output.
-use Rattle.std.specs.Prelude.{ℕ, List, [], ◌++◌, ◌∷◌, ◌≡◌, ◌≢◌, ◌⊎◌, Option, Result, Ok, Err, codes, decimal}
-use Rattle.pg_handlers.specs.declared.ends.EndKind.{EndKind}
-use Rattle.pg_handlers.specs.declared.ends.EndKind.TheVariants.{Terminate, InputEnd, BadFrame, Fatal, CancelServed}
-use Rattle.pg_session.specs.declared.ends.ServeError.{ServeError}
-use Rattle.pg_session.specs.declared.ends.ServeError.TheVariants.{ReadFault, WriteFault, TurnLimit, NoMemory}
-use Rattle.pg_session.specs.Streams.{GrowsBy, GrowsByFront, HasRisen}
-use Rattle.relation_files.specs.declared.errors.FileError.{FileError}
-use Rattle.relation_files.specs.declared.errors.FileError.TheVariants as file
-use Rattle.relation_files.specs.declared.errors.LineReason.{LineReason}
-use Rattle.relation_files.specs.declared.errors.LineReason.TheVariants as reason
+use Rattle.std.specs.Prelude.{ℕ, List, [], codes}
 use Rattle.relation_server.specs.declared.outcome.Outcome.{Outcome}
 use Rattle.relation_server.specs.declared.outcome.Outcome.TheVariants.{Done, Usage, File, PidTaken, Conversation, AcceptFault, SpawnFault}
+use Rattle.status_lines.specs.StatusLines.{line, line_of_conversation, line_of_file, status_of_conversation, status_of_file}
 
 -- ---- the status
-
--- of a conversation's end, or of what it was given up for
-abbrev pub status_of_conversation : Result EndKind ServeError → ℕ
-status_of_conversation (Ok Terminate) = 0
-status_of_conversation (Ok InputEnd) = 0
-status_of_conversation (Ok CancelServed) = 0
-status_of_conversation (Ok BadFrame) = 10
-status_of_conversation (Ok Fatal) = 11
-status_of_conversation (Err ReadFault) = 4
-status_of_conversation (Err WriteFault) = 5
-status_of_conversation (Err TurnLimit) = 6
-status_of_conversation (Err NoMemory) = 7
-
--- of a relation file that was refused
-abbrev pub status_of_file : FileError → ℕ
-status_of_file (file.BadLine number reason) = 3
-status_of_file file.TooLong = 3
-status_of_file file.FileFault = 9
-status_of_file file.NoMemory = 7
 
 -- of a command
 abbrev pub status_of : Outcome → ℕ
@@ -45,40 +18,6 @@ status_of SpawnFault = 13
 
 -- ---- the line, where there is one
 
--- a line of text
-abbrev pub line : List ℕ → List ℕ
-line text = text ++ 10 ∷ []
-
-abbrev pub line_of_conversation : Result EndKind ServeError → List ℕ
-line_of_conversation (Ok Terminate) = []
-line_of_conversation (Ok InputEnd) = []
-line_of_conversation (Ok CancelServed) = []
-line_of_conversation (Ok BadFrame) = line (codes "bad frame")
-line_of_conversation (Ok Fatal) = line (codes "fatal")
-line_of_conversation (Err ReadFault) = line (codes "read fault")
-line_of_conversation (Err WriteFault) = line (codes "write fault")
-line_of_conversation (Err TurnLimit) = line (codes "turn limit")
-line_of_conversation (Err NoMemory) = line (codes "out of memory")
-
--- the word for what is wrong with a line of a relation file
-abbrev pub reason_text : LineReason → List ℕ
-reason_text reason.Text = codes "text"
-reason_text reason.Header = codes "header"
-reason_text reason.Name = codes "name"
-reason_text reason.Column = codes "column"
-reason_text reason.Width = codes "width"
-reason_text (reason.Cell e) = codes "cell"
-
--- the line of a bad line, by its number
-abbrev pub bad_line : ℕ → LineReason → List ℕ
-bad_line number reason = codes "line " ++ decimal number ++ codes ": " ++ reason_text reason ++ 10 ∷ []
-
-abbrev pub line_of_file : FileError → List ℕ
-line_of_file (file.BadLine number reason) = bad_line number reason
-line_of_file file.TooLong = line (codes "file too long")
-line_of_file file.FileFault = line (codes "file fault")
-line_of_file file.NoMemory = line (codes "out of memory")
-
 -- the line for words that are no command
 abbrev pub usage : List ℕ
 usage = line (codes "usage: relation_server serve FILE PID KEY [TURNS], demo SEED N, listen tcp PORT FILE [COUNT], listen unix PATH FILE [COUNT]")
@@ -91,10 +30,3 @@ line_of PidTaken = line (codes "pid is taken")
 line_of (Conversation answer) = line_of_conversation answer
 line_of AcceptFault = line (codes "accept fault")
 line_of SpawnFault = line (codes "spawn fault")
-
--- What came of writing a line as errors. With this status, all of it was written, or a front of it where the count of faults has risen.
--- With status 7, where there is a line, a front of it was written, no memory was found, and no fault was counted.
-abbrev pub IsReported : ℕ → List ℕ → ℕ → Option (List ℕ) → Option (List ℕ) → ℕ → ℕ → Type 0
-IsReported status text ended old new faults new_faults =
-    (((ended ≡ status) × GrowsBy old new text) ⊎ ((ended ≡ status) × GrowsByFront old new text × HasRisen faults new_faults))
-    ⊎ ((ended ≡ 7) × (text ≢ []) × GrowsByFront old new text × (new_faults ≡ faults))

@@ -1,22 +1,17 @@
 //! A client of relations is served through its connection to the shared registry.
 
-ghost use Rattle.std.specs.Prelude.{◌≡◌, ◌++◌, Bool, List, IfOk, OnOk};
+ghost use Rattle.std.specs.Prelude.{◌≡◌, ◌++◌, List, IfOk, OnOk};
 ghost use mathlib.Core.List.{IsPrefix};
 ghost use Rattle.pg_cancel.specs.Connections.{IsSameConnection, calls_of};
 ghost use Rattle.pg_cancel.specs.LegalHistory.{IsLegal};
 ghost use Rattle.pg_cancel.specs.declared.entries.Entry.{Entry};
-ghost use Rattle.pg_messages.specs.declared.frontend.PgWireFrontendMessage.{PgWireFrontendMessage};
-ghost use Rattle.pg_handlers.specs.Answer.{Goes, conversation};
 ghost use Rattle.pg_handlers.specs.Questions.{questions_since};
-ghost use Rattle.pg_handlers.specs.State.{State, first_state};
-ghost use Rattle.pg_handlers.specs.Table.{whole_table};
+ghost use Rattle.pg_handlers.specs.State.{first_state};
 ghost use Rattle.pg_handlers.specs.declared.desk.DeskCall.{DeskCall};
 ghost use Rattle.pg_serve.specs.Desk.{desk_calls};
 ghost use Rattle.pg_session.specs.Session.{whole_rules};
 ghost use Rattle.pg_serve.specs.Serving.{HasCause, EndsAtLast, FaultsNeverFall, IsCalm, ReadsGaveBytes, counts_of};
-ghost use Rattle.relation_tables.specs.declared.RelationStatement.{RelationStatement};
 ghost use Rattle.relation_tables.specs.RelationHandler.{relation_handlers};
-ghost use Rattle.relation_serving.specs.Cells.{ShowInOwnFormat, ShowStored, style_of};
 ghost use Rattle.relation_serving.specs.Completeness.{IsComplete};
 ghost use Rattle.relation_serving.specs.Serving.{WentByTables};
 
@@ -68,21 +63,6 @@ pub fn serve_relations<R: Wait, S: Source, K: Sink>(
     // Each read that was counted gave a byte.
     ensures reads { ReadsGaveBytes (S.left source.old) (S.left source.new) (S.reads source.old) (S.reads source.new) }
 
-    // Whatever messages come and whatever the registry answers, each cell of the table's replies stands for a stored
-    // interval: in the session's style, and in a format that a Bind among the messages chose, or in text.
-    ensures cells { (answers : List Bool) (messages : List PgWireFrontendMessage)
-        → ShowStored relations.now messages (conversation (whole_table (relation_handlers relations.now)) answers
-        (first_state handle.old.pid handle.old.key) messages).replies }
-
-    // Wherever the messages lead, a message behind them is answered so too: an Execute in the format that its own
-    // portal's Bind chose, and every other message in text.
-    ensures formats { (answers more : List Bool)
-        (messages : List PgWireFrontendMessage) (s : State RelationStatement) (m : PgWireFrontendMessage)
-        → (conversation (whole_table (relation_handlers relations.now)) answers
-        (first_state handle.old.pid handle.old.key) messages).next ≡ Goes s
-        → ShowInOwnFormat relations.now (style_of messages) s m
-        (whole_table (relation_handlers relations.now) more s m).replies }
-
     // What the connection has seen of the one history goes on, and is legal, and has just its own calls under its
     // number.
     ensures same { IsSameConnection handle.old handle.new }
@@ -126,15 +106,6 @@ fn serve_at_desk<R: Wait, S: Source, K: Sink>(
         (counts_of S.reads S.faults K.faults source.old sink.old)
         (counts_of S.reads S.faults K.faults source.new sink.new) }
     ensures reads { ReadsGaveBytes (S.left source.old) (S.left source.new) (S.reads source.old) (S.reads source.new) }
-    ensures cells { (answers : List Bool) (messages : List PgWireFrontendMessage)
-        → ShowStored relations.now messages (conversation (whole_table (relation_handlers relations.now)) answers
-        (first_state handle.old.pid handle.old.key) messages).replies }
-    ensures formats { (answers more : List Bool)
-        (messages : List PgWireFrontendMessage) (s : State RelationStatement) (m : PgWireFrontendMessage)
-        → (conversation (whole_table (relation_handlers relations.now)) answers
-        (first_state handle.old.pid handle.old.key) messages).next ≡ Goes s
-        → ShowInOwnFormat relations.now (style_of messages) s m
-        (whole_table (relation_handlers relations.now) more s m).replies }
     ensures same { IsSameConnection handle.old handle.new }
 {
     let mut desk = HandleDesk {

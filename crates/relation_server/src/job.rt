@@ -1,21 +1,15 @@
 //! The service of one connection, as a value that a thread may take.
 
-ghost use Rattle.std.specs.Prelude.{◌≡◌, ◌++◌, [], Bool, List, OnOk};
+ghost use Rattle.std.specs.Prelude.{◌≡◌, ◌++◌, [], List, OnOk};
 ghost use Rattle.std.specs.Arc.{arc_value};
 ghost use mathlib.Core.List.{IsPrefix};
 ghost use Rattle.pg_cancel.specs.Connections.{IsSameConnection, calls_of};
 ghost use Rattle.pg_cancel.specs.LegalHistory.{IsLegal};
 ghost use Rattle.pg_cancel.specs.declared.entries.Entry.{Entry};
-ghost use Rattle.pg_messages.specs.declared.frontend.PgWireFrontendMessage.{PgWireFrontendMessage};
-ghost use Rattle.pg_handlers.specs.Answer.{Goes, conversation};
 ghost use Rattle.pg_handlers.specs.Questions.{questions_since};
-ghost use Rattle.pg_handlers.specs.State.{State, first_state};
-ghost use Rattle.pg_handlers.specs.Table.{whole_table};
 ghost use Rattle.pg_serve.specs.Desk.{desk_calls};
 ghost use Rattle.pg_serve.specs.Serving.{HasCause, FaultsNeverFall, IsCalm, ReadsGaveBytes, counts_of};
-ghost use Rattle.relation_tables.specs.declared.RelationStatement.{RelationStatement};
 ghost use Rattle.relation_tables.specs.RelationHandler.{relation_handlers};
-ghost use Rattle.relation_serving.specs.Cells.{ShowInOwnFormat, ShowStored, style_of};
 ghost use Rattle.relation_serving.specs.Completeness.{IsComplete};
 ghost use Rattle.relation_serving.specs.Serving.{WentByTables};
 ghost use Rattle.relation_server.specs.Jobs.{HasConversed, IsLeftBehind};
@@ -67,15 +61,6 @@ impl<S: Source, K: Sink> ConnectionJob<S, K> {
             (counts_of S.reads S.faults K.faults self.new.source self.new.sink) }
         ensures reads { ReadsGaveBytes (S.left self.old.source) (S.left self.new.source) (S.reads self.old.source)
             (S.reads self.new.source) }
-        ensures cells { (answers : List Bool) (messages : List PgWireFrontendMessage)
-            → ShowStored (arc_value self.old.relations) messages (conversation (whole_table (relation_handlers (arc_value self.old.relations))) answers
-            (first_state self.old.handle.pid self.old.handle.key) messages).replies }
-        ensures formats { (answers more : List Bool)
-            (messages : List PgWireFrontendMessage) (s : State RelationStatement) (m : PgWireFrontendMessage)
-            → (conversation (whole_table (relation_handlers (arc_value self.old.relations))) answers
-            (first_state self.old.handle.pid self.old.handle.key) messages).next ≡ Goes s
-            → ShowInOwnFormat (arc_value self.old.relations) (style_of messages) s m
-            (whole_table (relation_handlers (arc_value self.old.relations)) more s m).replies }
         ensures kept { (self.new.relations ≡ self.old.relations) × (self.new.turn_limit ≡ self.old.turn_limit) }
         ensures same { IsSameConnection self.old.handle self.new.handle }
         ensures seen { IsPrefix self.old.handle.seen self.new.handle.seen }
@@ -102,15 +87,6 @@ impl<S: Source, K: Sink> ConnectionJob<S, K> {
             (S.left self.source) (S.left result.1) (K.written self.sink) (K.written result.2)
             (counts_of S.reads S.faults K.faults self.source self.sink)
             (counts_of S.reads S.faults K.faults result.1 result.2) result.3 }
-        ensures cells { (answers : List Bool) (messages : List PgWireFrontendMessage)
-            → ShowStored (arc_value self.relations) messages (conversation (whole_table (relation_handlers (arc_value self.relations))) answers
-            (first_state self.handle.pid self.handle.key) messages).replies }
-        ensures formats { (answers more : List Bool)
-            (messages : List PgWireFrontendMessage) (s : State RelationStatement) (m : PgWireFrontendMessage)
-            → (conversation (whole_table (relation_handlers (arc_value self.relations))) answers
-            (first_state self.handle.pid self.handle.key) messages).next ≡ Goes s
-            → ShowInOwnFormat (arc_value self.relations) (style_of messages) s m
-            (whole_table (relation_handlers (arc_value self.relations)) more s m).replies }
     {
         let ConnectionJob {
             manager,
@@ -151,15 +127,6 @@ pub(crate) fn serve_and_leave<R: Wait, S: Source, K: Sink>(
         (S.left source.old) (S.left source.new) (K.written sink.old) (K.written sink.new)
         (counts_of S.reads S.faults K.faults source.old sink.old)
         (counts_of S.reads S.faults K.faults source.new sink.new) result.1 }
-    ensures cells { (answers : List Bool) (messages : List PgWireFrontendMessage)
-        → ShowStored relations.now messages (conversation (whole_table (relation_handlers relations.now)) answers
-        (first_state handle.pid handle.key) messages).replies }
-    ensures formats { (answers more : List Bool)
-        (messages : List PgWireFrontendMessage) (s : State RelationStatement) (m : PgWireFrontendMessage)
-        → (conversation (whole_table (relation_handlers relations.now)) answers
-        (first_state handle.pid handle.key) messages).next ≡ Goes s
-        → ShowInOwnFormat relations.now (style_of messages) s m
-        (whole_table (relation_handlers relations.now) more s m).replies }
 {
     let mut handle = handle;
     let answer = serve_relations(

@@ -2,7 +2,8 @@
 
 ghost use Rattle.std.specs.Prelude.{◌≡◌, ◌≤◌, List, ℕ, Option};
 ghost use Rattle.pg_serve.specs.Serving.{FaultsNeverFall, counts_of};
-ghost use Rattle.relation_server.specs.Outcomes.{status_of, line_of, IsReported};
+ghost use Rattle.relation_server.specs.Outcomes.{status_of, line_of};
+ghost use Rattle.status_lines.specs.StatusLines.{IsReported};
 ghost use Rattle.relation_server.specs.Program.{HasRun, HasServed, HasServedFile, IsRunComplete, surroundings, surroundings_of};
 ghost use Rattle.relation_server.specs.declared.outcome.Outcome.{Outcome};
 ghost use Rattle.relation_words.specs.Commands.{command_of};

@@ -6,7 +6,8 @@ ghost use Rattle.relation_words.specs.Listening.{listen_count_of};
 ghost use Rattle.relation_server.specs.declared.outcome.Outcome.{Outcome};
 ghost use mathlib.Core.List.{IsPrefix};
 ghost use Rattle.relation_server.specs.Listening.{NeverFalls, taking_of};
-ghost use Rattle.relation_server.specs.Outcomes.{status_of, line_of, IsReported};
+ghost use Rattle.relation_server.specs.Outcomes.{status_of, line_of};
+ghost use Rattle.status_lines.specs.StatusLines.{IsReported};
 ghost use Rattle.relation_server.specs.Program.{HasListened, HasRunListening, listen_surroundings, outcome_of};
 
 use crate::job::ConnectionJob;

@@ -1,4 +1,3 @@
 pub mod BuiltIn
-pub mod Cells
 pub mod Completeness
 pub mod Serving

@@ -1,28 +1,6 @@
--- Texts of queries: what counts for nothing round them, and their words.
-use Rattle.std.specs.Prelude.{ℕ, Bool, List, [], ◌∷◌, ◌&&◌, Option, Some, None, if◌then◌else◌, reverse, not, filter, codes}
-use Rattle.std.specs.List.{slice_split}
-use Rattle.std.specs.Str.{str_eq_ignore_ascii_case}
-use Rattle.pg_portal.specs.Describing.{is_empty_list}
-use Rattle.pg_portal.specs.Texts.{is_whitespace, is_padding}
-
--- the text behind the whitespace and semicolons at its front
-abbrev pub without_front_padding : List ℕ → List ℕ
-without_front_padding [] = []
-without_front_padding (byte ∷ bytes) = if is_padding byte then without_front_padding bytes else (byte ∷ bytes)
-
-abbrev pub without_end_padding : List ℕ → List ℕ
-without_end_padding bytes = reverse (without_front_padding (reverse bytes))
-
--- the query without whitespace and semicolons at both ends
-abbrev pub trimmed : List ℕ → List ℕ
-trimmed query = without_end_padding (without_front_padding query)
-
--- the words between whitespace
-abbrev pub words : List ℕ → List (List ℕ)
-words text = filter (λ word. not (is_empty_list word)) (slice_split is_whitespace text)
-
-abbrev pub is_word : List ℕ → List ℕ → Bool
-is_word text word = str_eq_ignore_ascii_case text word
+-- The words of a COPY; and, for those who name them from here, what counts for nothing round a query, and the words of a text.
+use Rattle.std.specs.Prelude.{ℕ, List, [], ◌∷◌, ◌&&◌, Option, Some, None, if◌then◌else◌, codes}
+pub use Rattle.query_texts.specs.QueryTexts.{without_front_padding, without_end_padding, trimmed, words, is_word}
 
 -- the name in `COPY name TO STDOUT`, whose other words are in any ASCII case
 abbrev pub copied_name : List (List ℕ) → Option (List ℕ)

@@ -1,20 +1,8 @@
 -- What the texts of sample queries mean.
-use Rattle.std.specs.Prelude.{ℕ, List, [], ◌∷◌, Option, Some, None, if◌then◌else◌, reverse, codes, bytes_eq}
-use Rattle.pg_portal.specs.Texts.{is_padding}
+use Rattle.std.specs.Prelude.{ℕ, List, [], ◌∷◌, Option, Some, None, if◌then◌else◌, codes, bytes_eq}
+pub use Rattle.query_texts.specs.QueryTexts.{trimmed}
 use Rattle.sample_handlers.specs.declared.meaning.SampleStatement.{SampleStatement}
 use Rattle.sample_handlers.specs.declared.meaning.SampleStatement.TheVariants as statement
-
--- the text behind the whitespace and semicolons at its front
-abbrev pub without_front_padding : List ℕ → List ℕ
-without_front_padding [] = []
-without_front_padding (byte ∷ bytes) = if is_padding byte then without_front_padding bytes else (byte ∷ bytes)
-
-abbrev pub without_end_padding : List ℕ → List ℕ
-without_end_padding bytes = reverse (without_front_padding (reverse bytes))
-
--- the query without whitespace and semicolons at both ends
-abbrev pub trimmed : List ℕ → List ℕ
-trimmed query = without_end_padding (without_front_padding query)
 
 -- what a trimmed text means
 abbrev pub meaning_of : List ℕ → Option SampleStatement

@@ -13,7 +13,6 @@ use crate::errors::not_known;
 use crate::meaning::{SampleStatement, meaning_of};
 use crate::parser::SampleParser;
 use crate::query::SampleQuery;
-use crate::words::trimmed;
 use pg_handlers::{
     Client, CopyHandler, ExtendedQueryHandler, PgWireServerHandlers, SimpleQueryHandler,
     copy_given_up,
@@ -23,6 +22,7 @@ use pg_portal::{
     ClientInfo, DescribePortalResponse, DescribeStatementResponse, Format, ListRows, PgWireError,
     Portal, PortalStore, StoredStatement,
 };
+use query_texts::trimmed;
 use std::alloc::{AllocError, Global};
 use std::sync::Arc;
 

@@ -11,7 +11,6 @@ mod meaning;
 mod parser;
 mod query;
 mod rows;
-mod words;
 
 pub use copy::SampleCopy;
 pub use handler::SampleHandler;

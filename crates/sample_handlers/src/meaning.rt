@@ -3,7 +3,7 @@
 ghost use Rattle.std.specs.Prelude.{◌≡◌};
 ghost use Rattle.sample_handlers.specs.Meanings.{meaning, meaning_of};
 
-use crate::words::trimmed;
+use query_texts::trimmed;
 
 /// What a query means.
 #[derive(Clone, Copy, Debug, PartialEq, Eq)]

@@ -29,6 +29,7 @@ fn flush<K: Sink>(outbox: &mut Outbox, sink: &mut K) -> Result<(), ServeError>
     ensures ok { OnOk result (GrowsBy (K.written sink.old) (K.written sink.new) outbox.old) }
     ensures err { OnErr result (GrowsByFront (K.written sink.old) (K.written sink.new) outbox.old) }
     ensures cause { HasFlushed (K.faults sink.old) (K.faults sink.new) result }
+    ensures sink { K.origin sink.new ≡ K.origin sink.old }
 {
     'chunks: while let Some(front) = outbox.front() {
         sink.send(front)?;
@@ -42,6 +43,7 @@ fn flush_if_full<K: Sink>(outbox: &mut Outbox, sink: &mut K) -> Result<(), Serve
     ensures ok { OnOk result (Flows (K.written sink.old) (K.written sink.new) outbox.old outbox.new []) }
     ensures err { OnErr result (GrowsByFront (K.written sink.old) (K.written sink.new) outbox.old) }
     ensures cause { HasFlushed (K.faults sink.old) (K.faults sink.new) result }
+    ensures sink { K.origin sink.new ≡ K.origin sink.old }
 {
     if outbox.len() < CHUNK {
         return Ok(());
@@ -110,6 +112,7 @@ impl<
             (questions_since (D.told desk.old).calls (D.told desk.new).calls) result }
         ensures bounded { turns.old.spent ≤ turns.old.limit → turns.new.spent ≤ turns.new.limit }
         ensures keeps { KeepsDesk (D.told desk.old) (D.told desk.new) }
+        ensures sink { K.origin sink.new ≡ K.origin sink.old }
     {
         self.codec.context.awaiting_startup = awaits_startup(self.client.info.state);
         let message = match self.codec.decode(alloc, &mut self.rest) {
@@ -156,6 +159,7 @@ impl<
             (questions_since (D.told desk.old).calls (D.told desk.new).calls) result }
         ensures bounded { turns.old.spent ≤ turns.old.limit → turns.new.spent ≤ turns.new.limit }
         ensures keeps { KeepsDesk (D.told desk.old) (D.told desk.new) }
+        ensures sink { K.origin sink.new ≡ K.origin sink.old }
     {
         'messages: loop {
             match self.step(alloc, desk, sink, turns)? {
@@ -202,6 +206,7 @@ impl<
             (questions_since (D.told desk.old).calls (D.told desk.new).calls) result }
         ensures bounded { turns.old.spent ≤ turns.old.limit → turns.new.spent ≤ turns.new.limit }
         ensures keeps { KeepsDesk (D.told desk.old) (D.told desk.new) }
+        ensures sink { K.origin sink.new ≡ K.origin sink.old }
     {
         self.rest.extend_from_slice(piece)?;
         self.run(alloc, desk, sink, turns)
@@ -240,6 +245,7 @@ impl<
             (questions_since (D.told desk.old).calls (D.told desk.new).calls) result }
         ensures bounded { turns.old.spent ≤ turns.old.limit → turns.new.spent ≤ turns.new.limit }
         ensures keeps { KeepsDesk (D.told desk.old) (D.told desk.new) }
+        ensures sink { K.origin sink.new ≡ K.origin sink.old }
     {
         let outcome = self.take(alloc, desk, piece, sink, turns);
         self.opened = self.opened && is_more(&outcome);

@@ -1,11 +1,6 @@
-use Rattle.std.proofs.Common.{◌≡◌, ◌++◌, ◌∙◌, Bool, List, sym, ap, subst}
-use Rattle.pg_messages.specs.declared.frontend.PgWireFrontendMessage.{PgWireFrontendMessage}
-use Rattle.pg_handlers.specs.Answer.{Goes, conversation}
-use Rattle.pg_handlers.specs.State.{State, first_state}
-use Rattle.pg_handlers.specs.Table.{whole_table}
-use Rattle.relation_tables.specs.declared.RelationStatement.{RelationStatement}
+use Rattle.std.proofs.Common.{◌≡◌, ◌++◌, ◌∙◌, List, sym, ap, subst}
+use Rattle.pg_handlers.specs.State.{first_state}
 use Rattle.relation_tables.specs.RelationHandler.{relation_handlers}
-use Rattle.relation_serving.specs.Cells.{ShowInOwnFormat, style_of}
 use Rattle.pg_cancel.specs.declared.entries.Entry.{Entry}
 use Rattle.pg_cancel.specs.Connections.{calls_of}
 use Rattle.std.specs.Prelude.{IfOk}
@@ -38,13 +33,6 @@ returns-clause-went g c =
           (g.S.Source.left c.serve_at_desk-answer.new.source) (g.K.Sink.written c.args.sink.now)
           (g.K.Sink.written c.serve_at_desk-answer.new.sink) calls) made.2 went.2,
     )
-
-pub returns-clause-formats : goal.returns-clause-formats
-returns-clause-formats g c = subst (λ h. (answers more : List Bool) (messages : List PgWireFrontendMessage) (s : State RelationStatement)
-    (m : PgWireFrontendMessage) → (conversation (whole_table (relation_handlers c.args.relations.now)) answers
-    (first_state h.pid h.key) messages).next ≡ Goes s → ShowInOwnFormat c.args.relations.now (style_of messages) s m
-    (whole_table (relation_handlers c.args.relations.now) more s m).replies)
-    c.note-before.ensures.same c.serve_at_desk-answer.ensures.formats
 
 pub returns-clause-last : goal.returns-clause-last
 returns-clause-last g c = subst (λ h. IfOk c.serve_at_desk-answer.result (EndsAtLast (whole_rules (relation_handlers c.args.relations.now))

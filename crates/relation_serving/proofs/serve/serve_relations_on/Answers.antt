@@ -4,12 +4,11 @@ use Rattle.pg_handlers.specs.State.{first_state}
 use Rattle.pg_session.specs.Session.{whole_rules}
 use Rattle.pg_session.specs.declared.ends.ServeError.TheVariants as fault
 use Rattle.relation_tables.specs.RelationHandler.{relation_handlers}
+use Rattle.relation_handlers.proofs.EvenRows.{even}
 use Rattle.pg_serve.specs.Serving.{WentSo, EndsAtLast, counts_of}
 use Rattle.pg_serve.proofs.Serving.{none_went}
 use Rattle.relation_serving.proofs.CoreServing.{went_by_tables}
-use Rattle.relation_serving.proofs.EvenRows.{even}
 use Rattle.relation_serving.proofs.Complete.{complete_serving, complete_at_want, cause_of_calls, none_gave}
-use Rattle.relation_serving.proofs.CellsWhole.{stored_shown, shown_in_own_format}
 use Rattle.relation_serving.proofs.serve.serve_relations_on.Goals as goal
 
 pub returns-in_default-clause-went : goal.returns-in_default-clause-went
@@ -60,24 +59,6 @@ returns-clause-complete g c =
     c.serve_connection.result (g.S.Source.left c.args.source.now) (g.S.Source.left c.serve_connection.new.source)
     (g.K.Sink.written c.args.sink.now) (g.K.Sink.written c.serve_connection.new.sink) went.0)
     (ap (λ h. h.relations.now) c.in-Ok.ensures.ok) went.2)
-
-pub returns-in_default-clause-cells : goal.returns-in_default-clause-cells
-returns-in_default-clause-cells g c = stored_shown c.args.relations.now c.relations-valid.ensures.within (even c.args.relations.now c.relations-valid.ensures.valid)
-    (g.D.CancelDesk.told c.args.desk.now).registration.0 (g.D.CancelDesk.told c.args.desk.now).registration.1
-
-pub returns-clause-cells : goal.returns-clause-cells
-returns-clause-cells g c = stored_shown c.args.relations.now c.relations-valid.ensures.within (even c.args.relations.now c.relations-valid.ensures.valid)
-    (g.D.CancelDesk.told c.args.desk.now).registration.0 (g.D.CancelDesk.told c.args.desk.now).registration.1
-
-pub returns-in_default-clause-formats : goal.returns-in_default-clause-formats
-returns-in_default-clause-formats g c = shown_in_own_format c.args.relations.now c.relations-valid.ensures.within
-    (even c.args.relations.now c.relations-valid.ensures.valid) (g.D.CancelDesk.told c.args.desk.now).registration.0
-    (g.D.CancelDesk.told c.args.desk.now).registration.1
-
-pub returns-clause-formats : goal.returns-clause-formats
-returns-clause-formats g c = shown_in_own_format c.args.relations.now c.relations-valid.ensures.within
-    (even c.args.relations.now c.relations-valid.ensures.valid) (g.D.CancelDesk.told c.args.desk.now).registration.0
-    (g.D.CancelDesk.told c.args.desk.now).registration.1
 
 pub returns-in_default-clause-reads : goal.returns-in_default-clause-reads
 returns-in_default-clause-reads g c = none_gave (g.S.Source.left c.args.source.now) (g.S.Source.reads c.args.source.now)

@@ -13,31 +13,31 @@ returns-in-Err-TurnLimit-clause-err g c =
     let session = c.args.self.now in
     let h = g.H.PgWireServerHandlers.told session.handlers in
     let refused = rw c.in-Err-TurnLimit.field-0-is at c.in-Err-TurnLimit.ensures.refused in
-    cut_behind_stopped h session.state c.args.message (g.D.CancelDesk.told c.args.desk.now).calls (g.D.CancelDesk.told c.answer.new.desk).calls
-    session.unsent c.answer.new.self.unsent refused
+    cut_behind_stopped h session.state c.args.message (g.D.CancelDesk.told c.args.desk.now).calls (g.D.CancelDesk.told c.process_message.new.desk).calls
+    session.unsent c.process_message.new.session.unsent refused
 
 pub returns-in-Err-TurnLimit-clause-stopped : goal.returns-in-Err-TurnLimit-clause-stopped
 returns-in-Err-TurnLimit-clause-stopped g c = λ limit.
     let session = c.args.self.now in
     let h = g.H.PgWireServerHandlers.told session.handlers in
     let refused = rw c.in-Err-TurnLimit.field-0-is at c.in-Err-TurnLimit.ensures.refused in
-    stopped_row h session.state c.args.message (g.D.CancelDesk.told c.args.desk.now).calls (g.D.CancelDesk.told c.answer.new.desk).calls
-    session.unsent c.answer.new.self.unsent refused
+    stopped_row h session.state c.args.message (g.D.CancelDesk.told c.args.desk.now).calls (g.D.CancelDesk.told c.process_message.new.desk).calls
+    session.unsent c.process_message.new.session.unsent refused
 
 pub returns-in-NoMemory-clause-err : goal.returns-in-NoMemory-clause-err
 returns-in-NoMemory-clause-err g c =
     let session = c.args.self.now in
     let h = g.H.PgWireServerHandlers.told session.handlers in
     let refused = rw c.in-Err-Wire.field-0-is at c.in-Err-Wire.ensures.refused in
-    cut_refused h session.state c.args.message (g.D.CancelDesk.told c.args.desk.now).calls (g.D.CancelDesk.told c.answer.new.desk).calls
-    session.unsent c.answer.new.self.unsent c.answer.new.self.state c.in-Err-Wire.error refused
+    cut_refused h session.state c.args.message (g.D.CancelDesk.told c.args.desk.now).calls (g.D.CancelDesk.told c.process_message.new.desk).calls
+    session.unsent c.process_message.new.session.unsent c.process_message.new.session.state c.in-Err-Wire.error refused
 
 pub returns-in-Ok-tell : goal.returns-in-Ok-tell
 returns-in-Ok-tell g c =
     let session = c.args.self.now in
     let h = g.H.PgWireServerHandlers.told session.handlers in
-    let calls = (g.D.CancelDesk.told c.args.desk.now).calls in let new_calls = (g.D.CancelDesk.told c.answer.new.desk).calls in
-    let mid = c.answer.new.self in
+    let calls = (g.D.CancelDesk.told c.args.desk.now).calls in let new_calls = (g.D.CancelDesk.told c.process_message.new.desk).calls in
+    let mid = c.process_message.new.session in
     let refused = rw c.in-Err-Wire.field-0-is at c.in-Err-Wire.ensures.refused in
     let turns = rw c.in-Err-Wire.field-0-is at c.in-Err-Wire.ensures.turns in
     let row = row_where_told h session.state c.args.message calls new_calls session.unsent mid.unsent mid.state c.in-Err-Wire.error
@@ -53,32 +53,32 @@ returns-in-Ok-tell g c =
       only = tt;
       ends = none_or_fatal c.in-Ok-tell.end c.in-Ok-tell.ensures.ends;
       «open» = c.in-Ok-tell.ensures.«open» ∙ goes_on_alike AllocError ServeError c.in-Ok-tell.end;
-      handlers = c.in-Ok-tell.ensures.handlers ∙ c.answer.ensures.handlers;
-      rest = c.in-Ok-tell.ensures.rest ∙ c.answer.ensures.rest;
-      turns = fed_where_told c.args.turns.now c.answer.new.turns
+      handlers = c.in-Ok-tell.ensures.handlers ∙ c.process_message.ensures.handlers;
+      rest = c.in-Ok-tell.ensures.rest ∙ c.process_message.ensures.rest;
+      turns = fed_where_told c.args.turns.now c.process_message.new.turns
           (questions_since calls new_calls) c.in-Err-Wire.error c.in_default.not-NoMemory turns;
-      bounded = c.answer.ensures.bounded;
-      keeps = c.answer.ensures.keeps;
+      bounded = c.process_message.ensures.bounded;
+      keeps = c.process_message.ensures.keeps;
     }
 
 pub returns-in-Err : goal.returns-in-Err
 returns-in-Err g c =
     let session = c.args.self.now in
     let h = g.H.PgWireServerHandlers.told session.handlers in
-    let calls = (g.D.CancelDesk.told c.args.desk.now).calls in let new_calls = (g.D.CancelDesk.told c.answer.new.desk).calls in
+    let calls = (g.D.CancelDesk.told c.args.desk.now).calls in let new_calls = (g.D.CancelDesk.told c.process_message.new.desk).calls in
     let refused = rw c.in-Err-Wire.field-0-is at c.in-Err-Wire.ensures.refused in
     let turns = rw c.in-Err-Wire.field-0-is at c.in-Err-Wire.ensures.turns in
     record {
       answer = tt;
-      err = cut_refused h session.state c.args.message calls new_calls session.unsent c.answer.new.self.unsent c.answer.new.self.state
+      err = cut_refused h session.state c.args.message calls new_calls session.unsent c.process_message.new.session.unsent c.process_message.new.session.state
           c.in-Err-Wire.error refused;
       stopped = search rules;
       only = inl refl;
       ends = tt;
       «open» = c.in-Err.ensures.«open»;
-      handlers = c.in-Err.ensures.handlers ∙ c.answer.ensures.handlers;
-      rest = c.in-Err.ensures.rest ∙ c.answer.ensures.rest;
-      turns = fed_no_memory c.args.turns.now c.answer.new.turns (questions_since calls new_calls) c.in-Err-Wire.error turns;
-      bounded = c.answer.ensures.bounded;
-      keeps = c.answer.ensures.keeps;
+      handlers = c.in-Err.ensures.handlers ∙ c.process_message.ensures.handlers;
+      rest = c.in-Err.ensures.rest ∙ c.process_message.ensures.rest;
+      turns = fed_no_memory c.args.turns.now c.process_message.new.turns (questions_since calls new_calls) c.in-Err-Wire.error turns;
+      bounded = c.process_message.ensures.bounded;
+      keeps = c.process_message.ensures.keeps;
     }

@@ -27,6 +27,7 @@ messages-init g c =
       turns = no_turn c.args.turns.now (g.D.CancelDesk.told c.args.desk.now).calls;
       bounded = λ h. h;
       keeps = keeps_none _;
+      origin = refl;
     }
 
 pub returns-in_err-step-clause-cut_off : goal.returns-in_err-step-clause-cut_off
@@ -177,4 +178,5 @@ messages-preserved g c =
       turns = spent;
       bounded = λ within. c.in_ok-step.ensures.bounded (so_far.bounded within);
       keeps = keeps_then _ _ _ so_far.keeps c.in_ok-step.ensures.keeps;
+      origin = c.in_ok-step.ensures.sink ∙ so_far.origin;
     }

@@ -20,6 +20,7 @@ invariant-messages g l = record {
   turns : l.turns ≡ spent_more l.fn.turns (questions_since (g.D.CancelDesk.told l.fn.desk).calls (g.D.CancelDesk.told l.desk).calls);
   bounded : l.fn.turns.spent ≤ l.fn.turns.limit → l.turns.spent ≤ l.turns.limit;
   keeps : KeepsDesk (g.D.CancelDesk.told l.fn.desk) (g.D.CancelDesk.told l.desk);
+  origin : g.K.Sink.origin l.sink ≡ g.K.Sink.origin l.fn.sink;
 }
 
 abbrev pub decreases-messages : goal.decreases-messages

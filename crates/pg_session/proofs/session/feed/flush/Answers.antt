@@ -23,6 +23,7 @@ chunks-preserved g c =
           (Flows-chunk (g.K.Sink.written c.chunks.sink) (g.K.Sink.written c.send.new.self) c.chunks.outbox c.drop_front.new.self
           65536 grown c.drop_front.ensures);
       faults = c.in_ok-send.ensures.calm ∙ c.chunks.invariant.faults;
+      origin = c.in_ok-send.ensures.origin ∙ c.chunks.invariant.origin;
     }
 
 pub returns-clause-ok : goal.returns-clause-ok

@@ -7,6 +7,7 @@ abbrev pub invariant-chunks : goal.invariant-chunks
 invariant-chunks g l = record {
   flows : Flows (g.K.Sink.written l.fn.sink) (g.K.Sink.written l.sink) l.fn.outbox l.outbox [];
   faults : g.K.Sink.faults l.sink ≡ g.K.Sink.faults l.fn.sink;
+  origin : g.K.Sink.origin l.sink ≡ g.K.Sink.origin l.fn.sink;
 }
 
 abbrev pub decreases-chunks : goal.decreases-chunks

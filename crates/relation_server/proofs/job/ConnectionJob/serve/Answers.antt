@@ -3,9 +3,3 @@ use Rattle.relation_server.proofs.job.ConnectionJob.serve.Goals as goal
 
 pub returns-clause-went : goal.returns-clause-went
 returns-clause-went g c = rw (sym c.deref-2.ensures) c.serve_relations.ensures.went
-
-pub returns-clause-cells : goal.returns-clause-cells
-returns-clause-cells g c = rw (sym c.deref-2.ensures) c.serve_relations.ensures.cells
-
-pub returns-clause-formats : goal.returns-clause-formats
-returns-clause-formats g c = rw (sym c.deref-2.ensures) c.serve_relations.ensures.formats

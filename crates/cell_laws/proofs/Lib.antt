@@ -1,0 +1,5 @@
+mod CellsKept
+mod CellsPaged
+mod CellsShown
+mod CellsWhole
+mod PlainTexts

@@ -1,0 +1,98 @@
+use crate::draw::Draw;
+use crate::style::{STYLES, Style, name_of};
+use pg_interval::{Interval, IntervalText};
+use std::alloc::{AllocError, Global};
+use std::io;
+use std::time::{Clock, Instant};
+
+/// Room for a text.
+const ROW: usize = 96;
+
+/// Prints as many intervals, drawn from a seed, in each of the four styles, small ones and then ones of any size, each into
+/// a text with memory of its own and then on the stack, appended to a buffer. It tells how many bytes that gave, and the
+/// nanoseconds of a print where they are wanted.
+pub fn print_drawn<R: Print + Clock>(
+    rt: &R,
+    alloc: Global,
+    count: u32,
+    timed: bool,
+) -> io::Result<()> {
+    for small in [true, false] {
+        let intervals = drawn(alloc, count, small)?;
+        for style in STYLES {
+            let start = Instant::now(rt)?;
+            let bytes = kept_bytes(alloc, style, intervals.as_slice())?;
+            let kept = start.elapsed(rt)?.as_nanos();
+            let start = Instant::now(rt)?;
+            let same = cell_bytes(alloc, style, intervals.as_slice())?;
+            let appended = start.elapsed(rt)?.as_nanos();
+            println!(rt; "{}, {}: {bytes}, {same}", size_name(small), name_of(style))?;
+            if timed && count > 0 {
+                let each = u128::from(count);
+                println!(rt; "  {} ns, {} ns", kept / each, appended / each)?;
+            }
+        }
+    }
+    Ok(())
+}
+
+/// The draw's name.
+fn size_name(small: bool) -> &'static str {
+    if small { "small" } else { "any size" }
+}
+
+/// As many intervals as asked for.
+fn drawn(alloc: Global, count: u32, small: bool) -> Result<Vec<Interval>, AllocError> {
+    let mut intervals = Vec::new(alloc);
+    let mut draw = Draw::new(2026);
+    for _ in 0..count {
+        intervals.push(if small {
+            draw.small_interval()
+        } else {
+            draw.interval()
+        })?;
+    }
+    Ok(intervals)
+}
+
+/// The bytes of all texts, each in memory of its own.
+fn kept_bytes(alloc: Global, style: Style, intervals: &[Interval]) -> Result<u64, AllocError> {
+    let mut bytes = 0u64;
+    for interval in intervals {
+        let text = text_of(alloc, style, interval)?;
+        bytes = bytes.wrapping_add(text.len() as u64);
+    }
+    Ok(bytes)
+}
+
+/// The interval's text.
+fn text_of(alloc: Global, style: Style, interval: &Interval) -> Result<String, AllocError> {
+    match style {
+        Style::Postgres => interval.to_postgres(alloc),
+        Style::PostgresVerbose => interval.to_postgres_verbose(alloc),
+        Style::Iso8601 => interval.to_iso_8601(alloc),
+        Style::SqlStandard => interval.to_sql(alloc),
+    }
+}
+
+/// The bytes of all texts, each on the stack and from there behind the others in a buffer, as into a row's cell.
+fn cell_bytes(alloc: Global, style: Style, intervals: &[Interval]) -> Result<u64, AllocError> {
+    let mut row = Vec::with_capacity(alloc, ROW)?;
+    let mut bytes = 0u64;
+    for interval in intervals {
+        row.clear();
+        row.extend_from_slice(stack_text(style, interval).as_bytes())?;
+        bytes = bytes.wrapping_add(row.len() as u64);
+    }
+    Ok(bytes)
+}
+
+/// The interval's text, on the stack.
+fn stack_text(style: Style, interval: &Interval) -> IntervalText {
+    match style {
+        Style::Postgres => interval.postgres_text(),
+        Style::PostgresVerbose => interval.postgres_verbose_text(),
+        Style::Iso8601 => interval.iso_8601_text(),
+        Style::SqlStandard => interval.sql_text(),
+    }
+}

@@ -1,0 +1,125 @@
+//! Messages and errors, one by one.
+
+ghost use Rattle.std.specs.Prelude.{◌≡◌, ◌≢◌, ◌≤◌, ◌++◌, ◌⊎◌, [], Some, None, false, true, IfOk, IfErr, OnOk};
+ghost use Rattle.pg_messages.specs.Replies.{replies_bytes};
+ghost use Rattle.pg_portal.specs.Errors.{info_of};
+ghost use Rattle.pg_portal.specs.Rows.{IsTellable};
+ghost use Rattle.pg_handlers.specs.Desk.{KeepsDesk};
+ghost use Rattle.pg_handlers.specs.Effect.{IsRow, IsRefusedRow, failed};
+ghost use Rattle.pg_handlers.specs.Errors.{is_fatal};
+ghost use Rattle.pg_handlers.specs.Questions.{HasSpent, questions_since};
+ghost use Rattle.pg_handlers.specs.Sending.{IsAnswerableError};
+ghost use Rattle.pg_handlers.specs.Table.{message_row, awaits};
+ghost use Rattle.pg_handlers.specs.declared.ends.EndKind.TheVariants.{InputEnd, Fatal};
+ghost use Rattle.pg_session.specs.Messages.{IsGivenIn, outcome_of, scope_for, next_of};
+ghost use Rattle.pg_session.specs.Session.{stays_open, goes_on};
+
+use crate::messages::on_message;
+use crate::session::Session;
+use pg_handlers::{
+    CancelDesk, EndKind, ExtendedQueryHandler, PgWireServerHandlers, SessionError, Turns,
+};
+use pg_messages::PgWireFrontendMessage;
+use pg_portal::{PgWireError, PortalStore};
+use std::alloc::{AllocError, Global};
+
+/// Whether a session is open after a message.
+fn stays_open(outcome: &Result<Option<EndKind>, SessionError>) -> bool
+    ensures { result ≡ stays_open outcome.now }
+{
+    match outcome {
+        Ok(end) => end.is_none(),
+        Err(SessionError::Wire(PgWireError::NoMemory)) => false,
+        Err(SessionError::Wire(_)) => true,
+        Err(SessionError::TurnLimit) => false,
+    }
+}
+
+/// Answers a message, but for what follows an error. Its replies wait in the session's outbox, and are sent by the next
+/// `feed` before its own. Some(end) says that the conversation has ended. An error of the message leaves the session
+/// open, without its ErrorResponse and all that follows it: `process_error` does that. TurnLimit comes where a query
+/// wants a turn and none is left. An end, want of memory and TurnLimit close the session.
+pub fn process_message<
+    H: PgWireServerHandlers,
+    St: PortalStore<
+        Statement = <H::Extended as ExtendedQueryHandler>::Statement,
+        Rows = <H::Extended as ExtendedQueryHandler>::Rows,
+    >,
+    D: CancelDesk,
+>(
+    alloc: Global,
+    session: &mut Session<H, St>,
+    desk: &mut D,
+    turns: &mut Turns,
+    message: PgWireFrontendMessage,
+) -> Result<Option<EndKind>, SessionError>
+    requires open { session.old.is_open ≡ true }
+    requires given { IsGivenIn session.old.state message }
+    ensures ok { IfOk result (λ end. IsRow
+        (λ answers. message_row
+        (H.told session.old.handlers)
+        answers session.old.state message)
+        session.old.unsent session.new.unsent (D.told desk.old).calls (D.told desk.new).calls
+        (outcome_of end session.new.state)) }
+    ensures refused { IfErr result (IsRefusedRow
+        (λ answers. message_row
+        (H.told session.old.handlers)
+        answers session.old.state message)
+        session.old.unsent session.new.unsent (D.told desk.old).calls (D.told desk.new).calls
+        session.new.state) }
+    ensures answerable { IfErr result IsAnswerableError }
+    ensures ends { IfOk result (λ end. end ≢ Some InputEnd) }
+    ensures open { session.new.is_open ≡ stays_open result }
+    ensures handlers { session.new.handlers ≡ session.old.handlers }
+    ensures rest { session.new.rest ≡ session.old.rest }
+    ensures turns { HasSpent turns.old turns.new
+        (questions_since (D.told desk.old).calls (D.told desk.new).calls) result }
+    ensures bounded { turns.old.spent ≤ turns.old.limit → turns.new.spent ≤ turns.new.limit }
+    ensures keeps { KeepsDesk (D.told desk.old) (D.told desk.new) }
+{
+    let outcome = on_message(
+        alloc,
+        &*session.handlers,
+        &mut session.client,
+        desk,
+        turns,
+        message,
+    );
+    session.opened = stays_open(&outcome);
+    outcome
+}
+
+/// Tells the client an error of a message, and does what follows it: ErrorResponse, and where the error's severity is
+/// FATAL the end; else the transaction status of an error, and the wait for Sync where that is wanted (after an extended
+/// message or in a COPY of one), or ReadyForQuery. The session is open, the error is no want of memory, and before the
+/// startup packet it is FATAL.
+///
+/// The replies wait for the next `feed`. An end closes the session, and so does AllocError, after which nothing more is
+/// said of what waits.
+pub fn process_error<
+    H: PgWireServerHandlers,
+    St: PortalStore<
+        Statement = <H::Extended as ExtendedQueryHandler>::Statement,
+        Rows = <H::Extended as ExtendedQueryHandler>::Rows,
+    >,
+>(
+    alloc: Global,
+    session: &mut Session<H, St>,
+    error: PgWireError,
+    wait_for_sync: bool,
+) -> Result<Option<EndKind>, AllocError>
+    requires open { session.old.is_open ≡ true }
+    requires tellable { IsTellable error }
+    requires begun { (awaits session.old.state ≡ false) ⊎ (is_fatal (info_of error) ≡ true) }
+    ensures replied { OnOk result (session.new.unsent ≡ session.old.unsent ++ replies_bytes
+        (failed (scope_for wait_for_sync) [] [] session.old.state (info_of error)).replies) }
+    ensures next { IfOk result (λ end.
+        (failed (scope_for wait_for_sync) [] [] session.old.state (info_of error)).next
+        ≡ next_of end session.new.state) }
+    ensures ends { IfOk result (λ end. (end ≡ None) ⊎ (end ≡ Some Fatal)) }
+    ensures open { session.new.is_open ≡ goes_on result }
+    ensures handlers { session.new.handlers ≡ session.old.handlers }
+    ensures rest { session.new.rest ≡ session.old.rest }
+{
+    session.tell(alloc, error, wait_for_sync)
+}

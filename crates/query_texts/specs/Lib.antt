@@ -1,0 +1,2 @@
+pub mod QueryTexts
+pub mod Stops

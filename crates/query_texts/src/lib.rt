@@ -1,0 +1,8 @@
+//! Texts of queries: what counts for nothing round them, and their words. Whitespace is the bytes 09 to 0D and 20.
+#![tactic(auto)]
+
+mod trimming;
+mod words;
+
+pub use trimming::trimmed;
+pub use words::first_word;
