@@ -28,11 +28,7 @@ fn file_of(alloc: Global, text: &str, fails: &str) -> Result<MemorySource, Fault
     if fails != "-" {
         failures.push(number(fails)?)?;
     }
-    Ok(MemorySource::new(
-        PgBytes::from_vec(bytes),
-        PgList::new(alloc),
-        failures,
-    ))
+    Ok(MemorySource::new(PgBytes::from_vec(bytes), PgList::new(alloc), failures))
 }
 
 /// A sink, whose first write fails behind a number of bytes, if one is told.

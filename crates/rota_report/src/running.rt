@@ -4,7 +4,8 @@ ghost use Rattle.std.specs.Prelude.{◌≤◌, Result};
 ghost use Rattle.rota_words.specs.Orders.{lines, clashes, told_words};
 ghost use Rattle.rota_report.specs.declared.failure.Failure.{Failure};
 ghost use Rattle.rota_report.specs.Program.{HasRun, HasCarriedOut, surroundings};
-ghost use Rattle.rota_report.specs.Statuses.{status_of, line_of, IsReported};
+ghost use Rattle.rota_report.specs.Statuses.{status_of, line_of};
+ghost use Rattle.status_lines.specs.StatusLines.{IsReported};
 
 use crate::comparing::write_comparison;
 use crate::failure::Failure;

@@ -1,5 +1,5 @@
 -- What the words of a command line order of rotas.
-use Rattle.std.specs.Prelude.{ℕ, ◌≡◌, List, [], ◌∷◌, Option, Some, None, Result, Ok, codes}
+use Rattle.std.specs.Prelude.{ℕ, ◌≡◌, List, [], ◌∷◌, Some, Ok, codes}
 use Rattle.pg_text.specs.Words.{interval_style_of}
 use Rattle.pg_text.specs.declared.format.interval_style.IntervalStyle.{IntervalStyle}
 use Rattle.rota_moments.specs.declared.moment.Moment.{Moment}

@@ -1,6 +1,6 @@
 -- The lines of a rota, one by one.
 use Rattle.std.proofs.Common.{◌≡◌, ℕ, ◌+◌, ◌<◌, suc, List, [], ◌∷◌, ◌++◌, length, drop, get_or, Result, Ok, Err, refl, sym, ap, subst, ◌∙◌, arith}
-use Rattle.std.proofs.Common.{take, append_assoc, append-nil}
+use Rattle.std.proofs.Common.{take, append-nil}
 use Rattle.std.proofs.lemmas.Grind.{flat_map-append}
 use Rattle.std.proofs.lemmas.List.{take_more, take-append-drop}
 use Rattle.std.specs.Prelude.{decimal, codes}

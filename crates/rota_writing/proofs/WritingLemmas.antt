@@ -1,5 +1,5 @@
 -- A text that is on its way to a sink.
-use Rattle.std.proofs.Common.{◌≡◌, ℕ, List, [], ◌∷◌, ◌++◌, Option, Some, None, refl, sym, ap, subst, ◌∙◌, append_assoc, append-nil}
+use Rattle.std.proofs.Common.{◌≡◌, ℕ, List, [], ◌++◌, Option, Some, None, refl, sym, ap, subst, ◌∙◌, append_assoc, append-nil}
 use Rattle.std.proofs.Common.{Result, Ok, Err, OnOk}
 use Rattle.pg_session.specs.declared.streams.SinkError.{SinkError}
 use Rattle.pg_session.specs.Streams.{GrowsBy, GrowsByFront}
@@ -16,8 +16,7 @@ front_on None b c x y h k = tt
 front_on (Some s) b c x y h k =
     let then_by = subst (λ o. GrowsByFront o c y) h k in
     let front = then_by.0 in
-    let others = then_by.1.0 in
-    (
+    let others = then_by.1.0 in (
       x ++ front,
       (others, ap (λ l. x ++ l) then_by.1.1 ∙ sym (append_assoc x front others)),
       then_by.2 ∙ ap Some (append_assoc s x front),
@@ -77,14 +76,14 @@ pub goes_on_with : (r : Result (Unit {0}) SinkError) (piece waiting more new_wai
     → more ≡ waiting ++ piece → GoesOn r [] more new_waiting old new faults new_faults → GoesOn r piece waiting new_waiting old new faults new_faults
 goes_on_with (Ok done) piece waiting more new_waiting old new faults new_faults e h = (
   λ first text way.
-    let P : List ℕ → Type 0 = λ t. IsOnItsWay first new t new_waiting in
-    subst P (append-nil (text ++ piece)) (h.0 first (text ++ piece) (waits_more first old text waiting piece more way e)),
+      let P : List ℕ → Type 0 = λ t. IsOnItsWay first new t new_waiting in
+      subst P (append-nil (text ++ piece)) (h.0 first (text ++ piece) (waits_more first old text waiting piece more way e)),
   h.1,
 )
 goes_on_with (Err error) piece waiting more new_waiting old new faults new_faults e h = (
   λ first text way.
-    let P : List ℕ → Type 0 = λ t. GrowsByFront first new t in
-    subst P (append-nil (text ++ piece)) (h.0 first (text ++ piece) (waits_more first old text waiting piece more way e)),
+      let P : List ℕ → Type 0 = λ t. GrowsByFront first new t in
+      subst P (append-nil (text ++ piece)) (h.0 first (text ++ piece) (waits_more first old text waiting piece more way e)),
   h.1,
 )
 

@@ -4,9 +4,8 @@ use Rattle.pg_interval.specs.declared.pg_interval.Interval.{Interval}
 use Rattle.pg_interval.specs.Reading.{Style}
 use Rattle.pg_session.specs.Streams.{GrowsBy, GrowsByFront, HasRisen}
 use Rattle.rota_moments.specs.declared.moment.Moment.{Moment}
-use Rattle.rota_moments.specs.declared.rotas.RotaError.{RotaError}
 use Rattle.rota_moments.specs.declared.rotas.RotaError.TheVariants as rota
-use Rattle.rota_moments.specs.Rotas.{Refusal, moments_of, IsTotal}
+use Rattle.rota_moments.specs.Rotas.{moments_of, IsTotal}
 use Rattle.rota_lines.specs.Lines.{rota_text}
 use Rattle.rota_writing.specs.declared.reports.ReportError.{ReportError}
 use Rattle.rota_writing.specs.declared.reports.ReportError.TheVariants.{Rota, TotalOverflow, WriteFault, NoMemory}

@@ -1,4 +1,4 @@
-use Rattle.std.proofs.Common.{◌≡◌, ℕ, List, take, string_bytes}
+use Rattle.std.proofs.Common.{◌≡◌, take, string_bytes}
 use Rattle.rota_lines.specs.Lines.{clash_text}
 use Rattle.rota_writing.specs.Writing.{IsOnItsWay}
 use Rattle.rota_writing.proofs.writing.write_clashes.Given as goal

@@ -1,5 +1,5 @@
 -- A line more.
-use Rattle.std.proofs.Common.{◌≡◌, ◌∙◌, ℕ, ◌+◌, List, ◌++◌, sym, ap, subst, drop, length, All, ◌≤◌, string_bytes, append_assoc, arith}
+use Rattle.std.proofs.Common.{◌≡◌, ◌∙◌, ℕ, List, ◌++◌, sym, ap, subst, drop, length, All, ◌≤◌, append_assoc, arith}
 use Rattle.pg_interval.specs.declared.pg_interval.Interval.{Interval}
 use Rattle.pg_text.specs.Words.{printed_style}
 use Rattle.pg_session.specs.Streams.{GrowsByFront}
@@ -16,8 +16,7 @@ loop-place-preserved g c =
     let before = c.loop-place.invariant in
     let first = g.K.Sink.written c.args.sink.now in
     let lines = before.0 in
-    let next = lines_step (printed_style c.args.style) c.args.total.now c.args.steps.now c.args.moments.now c.loop-place.place _ _ c.loop-place-test.true c.requires.one_more in
-    (
+    let next = lines_step (printed_style c.args.style) c.args.total.now c.args.steps.now c.args.moments.now c.loop-place.place _ _ c.loop-place-test.true c.requires.one_more in (
       _,
       before.1 ∙ ap (λ l. lines ++ l) next ∙ sym (append_assoc lines _ _),
       on.0 first lines before.2,
@@ -33,8 +32,7 @@ returns-in-Err-clause-written g c =
     let new = g.K.Sink.written c.write_step.new.sink in
     let lines = before.0 in
     let next = lines_step (printed_style c.args.style) c.args.total.now c.args.steps.now c.args.moments.now c.loop-place.place _ _ c.loop-place-test.true c.requires.one_more in
-    let P : List ℕ → Type 0 = λ t. GrowsByFront first new t in
-    (
+    let P : List ℕ → Type 0 = λ t. GrowsByFront first new t in (
       subst P (sym (before.1 ∙ ap (λ l. lines ++ l) next ∙ sym (append_assoc lines _ _))) (front_more first new _ _ (on.0 first lines before.2)),
       cause_as c.in-Err.error _ _ _ before.3 on.1,
     )
@@ -47,7 +45,7 @@ returns-clause-written g c =
     let n : c.loop-place.place ≡ length c.args.steps.now = omega arith in
     let last = lines_end (printed_style c.args.style) c.args.total.now c.args.steps.now c.args.moments.now _ c.requires.one_more in
     let Q : ℕ → Type 0 = λ k. rota_text (printed_style c.args.style) c.args.steps.now c.args.moments.now c.args.total.now
-      ≡ lines ++ lines_from (printed_style c.args.style) c.args.total.now k (drop k c.args.steps.now) (drop k c.args.moments.now) in
+    ≡ lines ++ lines_from (printed_style c.args.style) c.args.total.now k (drop k c.args.steps.now) (drop k c.args.moments.now) in
     written_as c.write_end.result _ _ _ _ _ _ _ (subst Q n before.1 ∙ ap (λ l. lines ++ l) last) before.3
     (c.write_end.ensures.written first lines before.2)
 

@@ -9,7 +9,7 @@ abbrev pub invariant-loop-place : goal.invariant-loop-place
 invariant-loop-place g l =
     (lines : List ℕ)
     × (rota_text (printed_style l.style) l.steps l.moments l.total
-      ≡ lines ++ lines_from (printed_style l.style) l.total l.place (drop l.place l.steps) (drop l.place l.moments))
+    ≡ lines ++ lines_from (printed_style l.style) l.total l.place (drop l.place l.steps) (drop l.place l.moments))
     × IsOnItsWay (g.K.Sink.written l.fn.sink) (g.K.Sink.written l.sink) lines (string_bytes l.text)
     × (g.K.Sink.faults l.sink ≡ g.K.Sink.faults l.fn.sink)
     × All (Stands (printed_style l.style)) (take l.place l.steps)
