@@ -18,8 +18,10 @@ pub record Surroundings : Type 0 where
   pub out : Option (List ℕ)
   pub out_faults : ℕ
 
-abbrev pub surroundings : Option (List ℕ) → ℕ → Option (List ℕ) → ℕ → Surroundings
-surroundings file file_faults out out_faults = record { file = file; file_faults = file_faults; out = out; out_faults = out_faults }
+-- the surroundings by what their traits tell
+abbrev pub surroundings : {F K : Type 0} → (F → Option (List ℕ)) → (F → ℕ) → (K → Option (List ℕ)) → (K → ℕ) → F → K → Surroundings
+surroundings left faults written write_faults file out =
+    record { file = left file; file_faults = faults file; out = written out; out_faults = write_faults out }
 
 -- the intervals of the column that a rota names
 abbrev pub steps_of : List Relation → Named → Option (List Interval)

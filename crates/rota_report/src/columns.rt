@@ -18,8 +18,10 @@ pub(crate) fn named_column(
     relation: &str,
     column: &str,
 ) -> Result<PgList<Interval>, Failure>
-    ensures found { IfOk result (λ steps. column_of relations.now relation.now column.now ≡ Some steps) }
-    ensures refused { IfErr result (λ failure. IsNoColumn failure (column_of relations.now relation.now column.now)) }
+    ensures found { IfOk result (λ steps. column_of relations.now relation.now column.now
+        ≡ Some steps) }
+    ensures refused { IfErr result (λ failure. IsNoColumn failure
+        (column_of relations.now relation.now column.now)) }
 {
     let Some(place) = relations.find(relation) else {
         return Err(Failure::NoColumn);

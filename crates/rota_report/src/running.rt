@@ -43,10 +43,10 @@ pub fn run_rota<F: Source, K: Sink, E: Sink>(
     err: &mut E,
 ) -> u8
     ensures ran { (answer : Result (Unit {0}) Failure) × HasRun words.now answer
-        (surroundings (F.left file.old) (F.faults file.old) (K.written out.old) (K.faults out.old))
-        (surroundings (F.left file.new) (F.faults file.new) (K.written out.new) (K.faults out.new))
-        × IsReported (status_of answer) (line_of answer) result (E.written err.old) (E.written err.new)
-        (E.faults err.old) (E.faults err.new) }
+        (surroundings F.left F.faults K.written K.faults file.old out.old)
+        (surroundings F.left F.faults K.written K.faults file.new out.new)
+        × IsReported (status_of answer) (line_of answer) result
+        (E.written err.old) (E.written err.new) (E.faults err.old) (E.faults err.new) }
     ensures file_never_falls { F.faults file.old ≤ F.faults file.new }
     ensures out_never_falls { K.faults out.old ≤ K.faults out.new }
     ensures err_never_falls { E.faults err.old ≤ E.faults err.new }
@@ -63,8 +63,8 @@ fn carry_out<F: Source, K: Sink>(
     out: &mut K,
 ) -> Result<(), Failure>
     ensures ran { HasRun words.now result
-        (surroundings (F.left file.old) (F.faults file.old) (K.written out.old) (K.faults out.old))
-        (surroundings (F.left file.new) (F.faults file.new) (K.written out.new) (K.faults out.new)) }
+        (surroundings F.left F.faults K.written K.faults file.old out.old)
+        (surroundings F.left F.faults K.written K.faults file.new out.new) }
     ensures file_never_falls { F.faults file.old ≤ F.faults file.new }
     ensures out_never_falls { K.faults out.old ≤ K.faults out.new }
 {
@@ -84,8 +84,8 @@ fn list<F: Source, K: Sink>(
     out: &mut K,
 ) -> Result<(), Failure>
     ensures done { HasCarriedOut (lines (told_words rota.entry) style) result
-        (surroundings (F.left file.old) (F.faults file.old) (K.written out.old) (K.faults out.old))
-        (surroundings (F.left file.new) (F.faults file.new) (K.written out.new) (K.faults out.new)) }
+        (surroundings F.left F.faults K.written K.faults file.old out.old)
+        (surroundings F.left F.faults K.written K.faults file.new out.new) }
     ensures file_never_falls { F.faults file.old ≤ F.faults file.new }
     ensures out_never_falls { K.faults out.old ≤ K.faults out.new }
 {
@@ -104,8 +104,8 @@ fn compare<F: Source, K: Sink>(
     out: &mut K,
 ) -> Result<(), Failure>
     ensures done { HasCarriedOut (clashes (told_words first.entry) (told_words second.entry)) result
-        (surroundings (F.left file.old) (F.faults file.old) (K.written out.old) (K.faults out.old))
-        (surroundings (F.left file.new) (F.faults file.new) (K.written out.new) (K.faults out.new)) }
+        (surroundings F.left F.faults K.written K.faults file.old out.old)
+        (surroundings F.left F.faults K.written K.faults file.new out.new) }
     ensures file_never_falls { F.faults file.old ≤ F.faults file.new }
     ensures out_never_falls { K.faults out.old ≤ K.faults out.new }
 {

@@ -27,7 +27,8 @@ pub(crate) fn write_rota<K: Sink>(
 ) -> Result<(), SinkError>
     requires valid { All IsMoment moments.now }
     requires one_more { length moments.now ≡ length steps.now + 1 }
-    ensures written { HasWritten result (rota_text (printed_style style) steps.now moments.now total.now)
+    ensures written { HasWritten result
+        (rota_text (printed_style style) steps.now moments.now total.now)
         (K.written sink.old) (K.written sink.new) (K.faults sink.old) (K.faults sink.new) }
     ensures stand { OnOk result (All (Stands (printed_style style)) steps.now) }
     ensures total_stands { OnOk result (Stands (printed_style style) total.now) }
@@ -75,7 +76,8 @@ fn write_step<K: Sink>(
 ) -> Result<(), SinkError>
     requires { IsMoment moment.now }
     ensures on { GoesOn result (line (printed_style style) (decimal number) moment.now step.now)
-        (string_bytes text.old) (string_bytes text.new) (K.written sink.old) (K.written sink.new) (K.faults sink.old) (K.faults sink.new) }
+        (string_bytes text.old) (string_bytes text.new)
+        (K.written sink.old) (K.written sink.new) (K.faults sink.old) (K.faults sink.new) }
     ensures stands { OnOk result (Stands (printed_style style) step.now) }
     ensures never_falls { K.faults sink.old ≤ K.faults sink.new }
 {
@@ -94,7 +96,8 @@ fn write_end<K: Sink>(
     sink: &mut K,
 ) -> Result<(), SinkError>
     requires { IsMoment moment.now }
-    ensures written { (first : Option (List ℕ)) (whole : List ℕ) → IsOnItsWay first (K.written sink.old) whole (string_bytes text.old)
+    ensures written { (first : Option (List ℕ)) (whole : List ℕ)
+        → IsOnItsWay first (K.written sink.old) whole (string_bytes text.old)
         → HasWritten result (whole ++ line (printed_style style) (codes "end") moment.now total.now)
         first (K.written sink.new) (K.faults sink.old) (K.faults sink.new) }
     ensures stands { OnOk result (Stands (printed_style style) total.now) }
@@ -114,7 +117,8 @@ fn write_clash<K: Sink>(
     sink: &mut K,
 ) -> Result<(), SinkError>
     ensures on { GoesOn result (clash_line (first, second))
-        (string_bytes text.old) (string_bytes text.new) (K.written sink.old) (K.written sink.new) (K.faults sink.old) (K.faults sink.new) }
+        (string_bytes text.old) (string_bytes text.new)
+        (K.written sink.old) (K.written sink.new) (K.faults sink.old) (K.faults sink.new) }
     ensures never_falls { K.faults sink.old ≤ K.faults sink.new }
 {
     match put_clash(text, first, second) {
@@ -126,7 +130,8 @@ fn write_clash<K: Sink>(
 /// Sends a text where it is full, and empties it.
 fn send_full<K: Sink>(text: &mut String, sink: &mut K) -> Result<(), SinkError>
     ensures on { GoesOn result []
-        (string_bytes text.old) (string_bytes text.new) (K.written sink.old) (K.written sink.new) (K.faults sink.old) (K.faults sink.new) }
+        (string_bytes text.old) (string_bytes text.new)
+        (K.written sink.old) (K.written sink.new) (K.faults sink.old) (K.faults sink.new) }
     ensures never_falls { K.faults sink.old ≤ K.faults sink.new }
 {
     if text.len() < FULL {
@@ -143,8 +148,10 @@ fn send_full<K: Sink>(text: &mut String, sink: &mut K) -> Result<(), SinkError>
 
 /// Sends what waits.
 fn write_rest<K: Sink>(text: &String, sink: &mut K) -> Result<(), SinkError>
-    ensures written { (first : Option (List ℕ)) (whole : List ℕ) → IsOnItsWay first (K.written sink.old) whole (string_bytes text.now)
-        → HasWritten result whole first (K.written sink.new) (K.faults sink.old) (K.faults sink.new) }
+    ensures written { (first : Option (List ℕ)) (whole : List ℕ)
+        → IsOnItsWay first (K.written sink.old) whole (string_bytes text.now)
+        → HasWritten result whole first
+        (K.written sink.new) (K.faults sink.old) (K.faults sink.new) }
     ensures never_falls { K.faults sink.old ≤ K.faults sink.new }
 {
     sink.send(text.as_bytes())
