@@ -84,6 +84,6 @@ few_steps left new_left relations told relation column steps e =
     let text = told.0 in
     let lines = lines_of text in
     let few : (place : ℕ) → length (relation_at relations place).rows ≤ length lines =
-    subst (λ rs. (place : ℕ) → length (relation_at rs place).rows ≤ length lines) (sym told.1.3) (rows_few lines) in
-    let short : length text ≤ 67108864 = told.1.1 in
+    subst (λ rs. (place : ℕ) → length (relation_at rs place).rows ≤ length lines) (sym told.4) (rows_few lines) in
+    let short : length text ≤ 67108864 = told.2 in
     omega (arith, length-lines text, column_in-few relations (length lines) few column (place_of relations relation) steps e)

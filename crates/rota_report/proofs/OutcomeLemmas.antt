@@ -1,44 +1,29 @@
--- What comes of a report and of clashes, by what their parts answer.
-use Rattle.std.proofs.Common.{◌≡◌, ◌⊎◌, inl, inr, ℕ, List, Option, Some, None, Result, Ok, Err, refl, sym, ap, subst, ◌∙◌}
+-- What comes of an order comes of the words that order it.
+use Rattle.std.proofs.Common.{◌≡◌, ℕ, List, Option, Some, None, Result, Ok, Err}
 use Rattle.pg_interval.specs.declared.pg_interval.Interval.{Interval}
 use Rattle.pg_interval.specs.Reading.{Style}
-use Rattle.pg_session.specs.declared.streams.SinkError.{SinkError}
-use Rattle.pg_session.specs.declared.streams.SinkError.TheVariants as sink
+use Rattle.pg_text.specs.declared.format.interval_style.IntervalStyle.{IntervalStyle}
+use Rattle.pg_text.specs.Words.{printed_style}
 use Rattle.rota_moments.specs.declared.moment.Moment.{Moment}
-use Rattle.rota_moments.specs.declared.rotas.RotaError.TheVariants as rota
-use Rattle.rota_moments.specs.Rotas.{moments_of}
-use Rattle.rota_clashes.specs.Clashes.{AreClashes}
-use Rattle.rota_lines.specs.Lines.{clash_text}
-use Rattle.rota_writing.specs.Report.{HasReported}
-use Rattle.rota_writing.specs.Writing.{HasWritten}
-use Rattle.rota_writing.specs.declared.reports.ReportError.{ReportError}
-use Rattle.rota_writing.specs.declared.reports.ReportError.TheVariants as report
+use Rattle.rota_words.specs.Orders.{Named, lines, Orders}
 use Rattle.rota_report.specs.declared.failure.Failure.{Failure}
-use Rattle.rota_report.specs.Outcomes.{HasListed, HasCompared, IsClashText, failure_of_report, failure_of_sink}
+use Rattle.rota_report.specs.declared.failure.Failure.TheVariants.{Usage, File, NoColumn, OutOfRange, TotalOverflow, WriteFault, NoMemory}
+use Rattle.rota_report.specs.Outcomes.{HasListed}
+use Rattle.rota_report.specs.Program.{Surroundings, HasCarriedOut, HasRun, steps_of}
 
--- a report that failed, as the failure of an order
-pub listed_error : (start : Moment) (steps : List Interval) (style : Style) (e : ReportError) (old new : Option (List ℕ)) (faults new_faults : ℕ)
-    → HasReported start steps style (Err e) old new faults new_faults
-    → HasListed start style (Some steps) (Err (failure_of_report e)) old new faults new_faults
-listed_error start steps style (report.Rota (rota.OutOfRange place reason)) old new faults new_faults h = ((_, h.0), (h.1, h.2))
-listed_error start steps style (report.Rota rota.NoMemory) old new faults new_faults h = absurd h
-listed_error start steps style (report.TotalOverflow place) old new faults new_faults h = ((h.0, (place, h.1)), (h.2, h.3))
-listed_error start steps style report.WriteFault old new faults new_faults h = h
-listed_error start steps style report.NoMemory old new faults new_faults h = h
+no_usage : (start : Moment) (style : Style) (column : Option (List Interval)) (old new : Option (List ℕ)) (faults new_faults : ℕ)
+    → HasListed start style column (Err Usage) old new faults new_faults → ⊥
+no_usage start style None old new faults new_faults h = h
+no_usage start style (Some steps) old new faults new_faults h = h
 
--- the clashes of two rotas were written, or failed to be
-pub compared : (start other : Moment) (steps others : List Interval) (first second : List Moment) (pairs : List (ℕ × ℕ))
-    → moments_of steps start ≡ Ok first → moments_of others other ≡ Ok second → AreClashes first second pairs
-    → (old new : Option (List ℕ)) (faults new_faults : ℕ) → HasWritten (Ok tt) (clash_text pairs) old new faults new_faults
-    → HasCompared start other (Some steps) (Some others) (Ok tt) old new faults new_faults
-compared start other steps others first second pairs a b all old new faults new_faults h =
-    ((clash_text pairs, (first, (second, (pairs, a, b, all, refl))), h.0), h.1)
-
-pub compared_error : (start other : Moment) (steps others : List Interval) (first second : List Moment) (pairs : List (ℕ × ℕ))
-    → moments_of steps start ≡ Ok first → moments_of others other ≡ Ok second → AreClashes first second pairs
-    → (e : SinkError) (old new : Option (List ℕ)) (faults new_faults : ℕ) → HasWritten (Err e) (clash_text pairs) old new faults new_faults
-    → HasCompared start other (Some steps) (Some others) (Err (failure_of_sink e)) old new faults new_faults
-compared_error start other steps others first second pairs a b all sink.Failed old new faults new_faults h =
-    ((clash_text pairs, (first, (second, (pairs, a, b, all, refl))), h.0), h.1)
-compared_error start other steps others first second pairs a b all sink.NoMemory old new faults new_faults h =
-    (inr (clash_text pairs, (first, (second, (pairs, a, b, all, refl))), h.0), h.1)
+pub run_listed : (words : List (List ℕ)) (n : Named) (style : IntervalStyle) (r : Result (Unit {0}) Failure) (old new : Surroundings)
+    → Orders words (lines n style) → HasCarriedOut (lines n style) r old new → HasRun words r old new
+run_listed words n style (Ok done) old new o h = (lines n style, o, h)
+run_listed words n style (Err Usage) old new o h =
+    absurd (no_usage n.start (printed_style style) (steps_of h.0 n) old.out new.out old.out_faults new.out_faults h.2)
+run_listed words n style (Err (File e)) old new o h = (lines n style, o, h)
+run_listed words n style (Err NoColumn) old new o h = (lines n style, o, h)
+run_listed words n style (Err OutOfRange) old new o h = (lines n style, o, h)
+run_listed words n style (Err TotalOverflow) old new o h = (lines n style, o, h)
+run_listed words n style (Err WriteFault) old new o h = (lines n style, o, h)
+run_listed words n style (Err NoMemory) old new o h = (lines n style, o, h)

@@ -1,2 +1,2 @@
 mod WritingLemmas
-mod LineLemmas
+pub mod LineLemmas
