@@ -233,10 +233,11 @@ none_went rules first left w error e = subst (λ x. WentSo rules first (Err x) l
 
 -- What was served of the bytes taken, and then took a piece, took the bytes and the piece as one.
 pub conversed : {T : Type 0} (first now new : Talk T) → IsLawful first.rules.table first.rules.awaits → now.rules ≡ first.rules → now.unsent ≡ []
-    → (taken piece : List ℕ) (result : Result Progress ServeError) {a w v : Option (List ℕ)} {j k l : List DeskCall}
+    → (taken piece : List ℕ) (v : Option (List ℕ)) (l : List DeskCall) (result : Result Progress ServeError)
+    → {a w : Option (List ℕ)} {j k : List DeskCall}
     → steps.IsServed first.rules first.state taken now.rest (Goes now.state) a w [] [] j k → (t : TakesPiece now new piece w v k l result)
     → steps.WasFed first.rules first.state (taken ++ piece) new.state t.0 a v [] j l result
-conversed first now new lawful same sent taken piece result {a} {w} {v} {j} {k} {l} x t =
+conversed first now new lawful same sent taken piece v l result {a} {w} {j} {k} x t =
     fed_then first.rules lawful first.state now.state new.state taken now.rest piece t.0 a w v [] [] j k l result x
     (subst (λ o. steps.WasFed first.rules now.state (now.rest ++ piece) new.state t.0 w v o k l result) sent
     (subst (λ r. steps.WasFed r now.state (now.rest ++ piece) new.state t.0 w v now.unsent k l result) same t.1))

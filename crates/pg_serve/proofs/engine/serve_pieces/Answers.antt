@@ -42,7 +42,7 @@ turns-preserved g c =
     let new = g.C.Conversation.told c.feed.new.self in
     let took = c.in-Ok-More.ensures.fed in
     let fed = conversed first now new (g.met.C.Conversation.lawful c.args.conversation.now) i.rules i.unsent
-    i.taken c.front_of.result.now (Ok c.in-Ok-More.field-0) i.served took in
+    i.taken c.front_of.result.now (g.K.Sink.written c.feed.new.sink) (g.D.CancelDesk.told c.feed.new.desk).calls (Ok c.in-Ok-More.field-0) i.served took in
     let piece = took.1 in
     let stands = subst (λ o. Stands first.rules.awaits fed.0 new.state took.0 o) c.in-Ok-More.field-0-is fed.2 in
     let kept = took.2 (ap Ok c.in-Ok-More.field-0-is) in
@@ -95,7 +95,7 @@ returns-in-Ok-Ended-clause-went g c =
     let new = g.C.Conversation.told c.feed.new.self in
     let took = c.in-Ok-Ended.ensures.fed in
     let fed = conversed first now new (g.met.C.Conversation.lawful c.args.conversation.now) i.rules i.unsent
-    i.taken c.front_of.result.now (Ok c.in-Ok-Ended.field-0) i.served took in
+    i.taken c.front_of.result.now (g.K.Sink.written c.feed.new.sink) (g.D.CancelDesk.told c.feed.new.desk).calls (Ok c.in-Ok-Ended.field-0) i.served took in
     let stands = subst (λ o. Stands first.rules.awaits fed.0 new.state took.0 o) c.in-Ok-Ended.field-0-is fed.2 in
     let takes = subst (λ p. TakesFrom (g.S.Source.left c.args.source.now) (g.S.Source.left c.receive.new.self) (i.taken ++ p))
     (sym c.front_of.ensures)
@@ -118,7 +118,7 @@ returns-in-Err-clause-went g c =
     let written = g.K.Sink.written c.args.sink.now in let new_written = g.K.Sink.written c.feed.new.sink in
     let calls = (g.D.CancelDesk.told c.args.desk.now).calls in let new_calls = (g.D.CancelDesk.told c.feed.new.desk).calls in
     let fed = conversed first now new (g.met.C.Conversation.lawful c.args.conversation.now) i.rules i.unsent
-    i.taken c.front_of.result.now (Err c.in-Err.error) i.served took in
+    i.taken c.front_of.result.now (g.K.Sink.written c.feed.new.sink) (g.D.CancelDesk.told c.feed.new.desk).calls (Err c.in-Err.error) i.served took in
     let cut = cut_by_error first.rules _ _ new.state took.0 _ _ _ _ _ c.in-Err.error fed in
     let takes = subst (λ p. TakesFrom old_left left (i.taken ++ p)) (sym c.front_of.ensures)
     (takes_more old_left (g.S.Source.left c.turns.source) left i.taken c.in-Ok.n c.receive.new.into i.takes c.in-Ok.ensures.bytes) in (
