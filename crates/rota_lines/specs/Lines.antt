@@ -1,10 +1,14 @@
 -- The text that tells a rota, and the text that tells its clashes with another.
 use Rattle.std.specs.Prelude.{ℕ, ◌+◌, List, [], ◌∷◌, ◌++◌, flat_map, codes, decimal}
 use Rattle.pg_interval.specs.declared.pg_interval.Interval.{Interval}
-use Rattle.pg_interval.specs.Reading.{Style}
+use Rattle.pg_interval.specs.Reading.{Style, StandsForOnly}
 use Rattle.pg_interval.specs.Printed.{printed}
 use Rattle.rota_moments.specs.declared.moment.Moment.{Moment}
 use Rattle.rota_moments.specs.Texts.{moment_text}
+
+-- an interval's text in a style stands for it, and for no other interval
+abbrev pub Stands : Style → Interval → Type 0
+Stands style interval = StandsForOnly style (printed style interval) interval
 
 -- what stands behind a line's label: a moment and an interval in a style, a tab before each
 unfoldable pub line_rest : Style → Moment → Interval → List ℕ

@@ -4,7 +4,7 @@
 ghost use Rattle.std.specs.Prelude.{◌≡◌, ◌++◌, OnOk, codes, decimal, string_bytes};
 ghost use Rattle.pg_text.specs.Words.{printed_style};
 ghost use Rattle.rota_moments.specs.Moments.{IsMoment};
-ghost use Rattle.rota_lines.specs.Lines.{line, line_rest, clash_line};
+ghost use Rattle.rota_lines.specs.Lines.{line, line_rest, clash_line, Stands};
 
 use pg_interval::Interval;
 use pg_text::IntervalStyle;
@@ -22,8 +22,9 @@ pub fn put_step(
     style: IntervalStyle,
 ) -> Result<(), AllocError>
     requires { IsMoment moment.now }
-    ensures { OnOk result (string_bytes text.new
+    ensures line { OnOk result (string_bytes text.new
         ≡ string_bytes text.old ++ line (printed_style style) (decimal number) moment.now step.now) }
+    ensures stands { OnOk result (Stands (printed_style style) step.now) }
 {
     write!(text, "{number}")?;
     put_rest(text, moment, step, style)
@@ -38,8 +39,9 @@ pub fn put_end(
     style: IntervalStyle,
 ) -> Result<(), AllocError>
     requires { IsMoment moment.now }
-    ensures { OnOk result (string_bytes text.new
+    ensures line { OnOk result (string_bytes text.new
         ≡ string_bytes text.old ++ line (printed_style style) (codes "end") moment.now total.now) }
+    ensures stands { OnOk result (Stands (printed_style style) total.now) }
 {
     text.push_str("end")?;
     put_rest(text, moment, total, style)
@@ -54,8 +56,9 @@ fn put_rest(
     style: IntervalStyle,
 ) -> Result<(), AllocError>
     requires { IsMoment moment.now }
-    ensures { OnOk result (string_bytes text.new
+    ensures rest { OnOk result (string_bytes text.new
         ≡ string_bytes text.old ++ line_rest (printed_style style) moment.now interval.now) }
+    ensures stands { OnOk result (Stands (printed_style style) interval.now) }
 {
     text.push('\t')?;
     moment.put(text)?;

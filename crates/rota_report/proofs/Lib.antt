@@ -1,0 +1,3 @@
+mod FewRows
+mod ColumnLemmas
+mod OutcomeLemmas

@@ -1,0 +1,8 @@
+//! The words of the program that tells rotas.
+#![tactic(auto)]
+
+mod orders;
+mod words;
+
+pub use orders::{Order, RotaWords};
+pub use words::{file_word, read_order};

@@ -1,0 +1,2 @@
+mod WritingLemmas
+pub mod LineLemmas
