@@ -1,5 +1,5 @@
 -- Rows that run a query: one start, its questions, and what it answers.
-use Rattle.std.proofs.Common.{◌≡◌, ℕ, ◌+◌, inl, inr, Bool, false, List, [], ◌∷◌, ◌++◌, Result, Ok, Err, length, drop, refl, ap, sym, subst, ◌∙◌, append_assoc}
+use Rattle.std.proofs.Common.{arith, ◌≡◌, ℕ, ◌+◌, inl, inr, Bool, false, List, [], ◌∷◌, ◌++◌, Result, Ok, Err, length, drop, refl, ap, sym, subst, ◌∙◌, append_assoc}
 use Rattle.std.proofs.lemmas.List.{append-nil}
 use Rattle.std.proofs.Math.Seq.{drop-append_seam}
 use Rattle.pg_messages.specs.declared.simplequery.Query.{Query}
@@ -142,6 +142,15 @@ asked_since owes calls started_calls starts new_calls verdict asked =
     ap (λ l. questions (drop (length started_calls) l)) asked.grown ∙ ap questions (drop-append_seam started_calls asked.made)
     ∙ sym (ap (λ l. questions (drop (length calls) l)) (asked.grown ∙ ap (λ l. l ++ asked.made) starts ∙ append_assoc calls (desk.Start ∷ []) asked.made)
     ∙ ap questions (drop-append_seam calls (desk.Start ∷ asked.made)))
+
+-- a start is no question, and spends no turn
+pub no_turn_started : (turns : Turns) (calls begun : List DeskCall) → begun ≡ calls ++ desk.Start ∷ []
+    → turns ≡ record { spent = turns.spent + questions_since calls begun; limit = turns.limit }
+no_turn_started turns calls begun starts =
+    let none : questions_since calls begun ≡ 0 =
+    ap (λ l. questions (drop (length calls) l)) starts ∙ ap questions (drop-append_seam calls (desk.Start ∷ [])) in
+    let same : turns.spent ≡ turns.spent + questions_since calls begun = omega (arith, none) in
+    ap (λ (n : ℕ). let t : Turns = record { spent = n; limit = turns.limit } in t) same
 
 pub spent_ok : (old new : Turns) (m n : ℕ) → m ≡ n → new ≡ record { spent = old.spent + m; limit = old.limit } → new ≡ record { spent = old.spent + n; limit = old.limit }
 spent_ok old new m n same h = h ∙ ap (λ (k : ℕ). let t : Turns = record { spent = old.spent + k; limit = old.limit } in t) same

@@ -1,38 +1,5 @@
 -- Page: the rows that one Execute sends (protocol: Extended Query, Execute with a limit of rows).
-use Rattle.std.specs.Prelude.{
-  ℕ,
-  ℤ,
-  pos,
-  negsuc,
-  Bool,
-  true,
-  false,
-  List,
-  [],
-  ◌∷◌,
-  Option,
-  Some,
-  None,
-  Result,
-  Ok,
-  Err,
-  ◌≡◌,
-  ◌≤◌,
-  ◌⊎◌,
-  ◌++◌,
-  ◌&&◌,
-  ◌+◌,
-  ◌-◌,
-  ◌^◌,
-  map,
-  min,
-  nat_le,
-  if◌then◌else◌,
-  length,
-  take,
-  drop,
-  unsigned_abs,
-}
+use Rattle.std.specs.Prelude.{ℕ, ℤ, pos, negsuc, Bool, true, false, List, [], ◌∷◌, Option, Some, None, Result, Ok, Err, ◌≡◌, ◌≤◌, ◌⊎◌, ◌++◌, ◌&&◌, ◌+◌, ◌-◌, ◌^◌, map, min, nat_le, if◌then◌else◌, length, take, drop, unsigned_abs}
 use Rattle.pg_portal.specs.declared.error.PgWireError.{PgWireError}
 use Rattle.pg_portal.specs.declared.error.PgWireError.TheVariants.{NoMemory}
 
