@@ -4,6 +4,7 @@ use Rattle.status_lines.specs.StatusLines.{status_of_file, line_of_file, line}
 use Rattle.rota_report.specs.declared.failure.Failure.{Failure}
 use Rattle.rota_report.specs.declared.failure.Failure.TheVariants.{Usage, File, NoColumn, OutOfRange, TotalOverflow, WriteFault, NoMemory}
 
+-- of an order that was carried out, or of why it wasn't
 abbrev pub status_of : Result (Unit {0}) Failure → ℕ
 status_of (Ok done) = 0
 status_of (Err Usage) = 2
