@@ -154,8 +154,11 @@ returns-in_err-query g c =
     let fresh : p.stage ≡ Unstarted = unstarted_is p.stage (sym c.is_unstarted.ensures ∙ c.if-not-is_unstarted.false) in
     record {
       ok = search rules;
-      refused = rw (u.1, u.2) (inl (refl, refused_begun (told_response R g.Self.CopyRows.CopySource.items) h s m p l.found fresh (g.D.CancelDesk.told c.args.desk.now).calls
-          (g.D.CancelDesk.told c.start.new.self).calls (ap (λ d. d.calls) c.in_ok-start.ensures.ok)));
+      refused = rw (u.1, u.2) (inl (
+        refl,
+        refused_begun (told_response R g.Self.CopyRows.CopySource.items) h s m p l.found fresh (g.D.CancelDesk.told c.args.desk.now).calls
+            (g.D.CancelDesk.told c.start.new.self).calls (ap (λ d. d.calls) c.in_ok-start.ensures.ok),
+      ));
       answerable = search rules;
       caused = search rules;
       limit = search rules;
