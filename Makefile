@@ -5,7 +5,7 @@ ROSTERS = $(CURDIR)/data/rosters
 WORDS = serve $(ROSTERS) 7 01020304
 PORT = 5433
 # The programs that bench/ measures.
-MEASURED = $(notdir $(wildcard $(addprefix crates/,server interval_bench interval_rows message_rows cancel_stress)))
+MEASURED = $(notdir $(wildcard $(addprefix crates/,server interval_bench interval_rows message_rows cancel_stress rota)))
 # Runs a command in a folder, and shows what it says only where it fails.
 QUIETLY = log=$$(mktemp) && if (cd $(1) && $(2)) >$$log 2>&1; then rm -f $$log; else cat $$log; rm -f $$log; exit 1; fi
 
