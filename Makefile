@@ -5,7 +5,7 @@ ROSTERS = $(CURDIR)/data/rosters
 WORDS = serve $(ROSTERS) 7 01020304
 PORT = 5433
 # The programs that bench/ measures.
-MEASURED = $(notdir $(wildcard $(addprefix crates/,server interval_bench interval_rows message_rows cancel_stress rota)))
+MEASURED = $(notdir $(wildcard $(addprefix crates/,server interval_bench interval_rows message_rows cancel_stress)))
 # Runs a command in a folder, and shows what it says only where it fails.
 QUIETLY = log=$$(mktemp) && if (cd $(1) && $(2)) >$$log 2>&1; then rm -f $$log; else cat $$log; rm -f $$log; exit 1; fi
 
@@ -42,6 +42,7 @@ test:
 # Times queries, printers, readers, the codec and the registry, on programs that are proved and built first.
 bench:
 	@echo "The programs are proved and built: from nothing up to two hours of processor time, later only what changed."
+	@$(call QUIETLY,crates/rota,rt run -- --version)
 	@for program in $(MEASURED); do $(call QUIETLY,crates/$$program,rt run -- $$(cat args 2>/dev/null) < stdin); done
 	python3 bench/serve_loop.py crates/server/out/server
 	bench/tcp_memory
