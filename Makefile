@@ -42,6 +42,7 @@ test:
 # Times queries, printers, readers, the codec and the registry, on programs that are proved and built first.
 bench:
 	@echo "The programs are proved and built: from nothing up to two hours of processor time, later only what changed."
+	@$(call QUIETLY,crates/rota,rt run -- --version)
 	@for program in $(MEASURED); do $(call QUIETLY,crates/$$program,rt run -- $$(cat args 2>/dev/null) < stdin); done
 	python3 bench/serve_loop.py crates/server/out/server
 	bench/tcp_memory

@@ -1,23 +1,41 @@
 //! The answers of rows.
 
-use crate::parts::{Fault, bytes_of, number, part, words_of};
-use pg_messages::{PgBytes, PgList};
+use crate::parts::{Fault, bytes_of, next_part, number, words_of};
+use pg_messages::{PgBytes, PgList, PgStr};
 use pg_serve::{MemorySink, MemorySource};
 use rota_report::run_rota;
 use std::alloc::{AllocError, Global};
 use std::fmt::Write;
 
 /// What the program tells of a row's words and file: its status, what it wrote, and the line of errors.
-pub fn answer_of(alloc: Global, row: &str) -> Result<String, Fault> {
-    let words = words_of(alloc, part(row, 1)?)?;
-    let mut file = file_of(alloc, part(row, 2)?, part(row, 3)?)?;
-    let mut out = sink_of(alloc, part(row, 4)?)?;
+pub fn answer_of(alloc: Global, given: &str) -> Result<String, Fault> {
+    let (words, given) = next_part(given)?;
+    let (file, given) = next_part(given)?;
+    let (file_fails, out_fails) = next_part(given)?;
+    let words = words_of(alloc, words)?;
+    let file = file_of(alloc, file, file_fails)?;
+    let out = sink_of(alloc, out_fails)?;
+    Ok(told(alloc, words.as_slice(), file, out)?)
+}
+
+/// What the program tells of these words.
+fn told(
+    alloc: Global,
+    words: &[PgStr],
+    mut file: MemorySource,
+    mut out: MemorySink,
+) -> Result<String, AllocError> {
     let mut err = MemorySink::new(alloc, PgList::new(alloc));
-    let status = run_rota(alloc, words.as_slice(), &mut file, &mut out, &mut err);
+    let status = run_rota(alloc, words, &mut file, &mut out, &mut err);
+    answer(alloc, status, out.bytes(), err.bytes())
+}
+
+/// A status, what was written, and the line of errors.
+fn answer(alloc: Global, status: u8, out: &[u8], err: &[u8]) -> Result<String, AllocError> {
     let mut answer = String::new(alloc);
     write!(answer, "{status}")?;
-    put_labelled(&mut answer, " out ", out.bytes())?;
-    put_labelled(&mut answer, " err ", err.bytes())?;
+    put_labelled(&mut answer, " out ", out)?;
+    put_labelled(&mut answer, " err ", err)?;
     Ok(answer)
 }
 

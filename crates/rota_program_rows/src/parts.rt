@@ -18,14 +18,17 @@ impl From<AllocError> for Fault {
     }
 }
 
-/// The part of a row at this place, from 0.
-pub fn part(row: &str, place: usize) -> Result<&str, Fault> {
-    row.split('|').nth(place).ok_or(Fault::Row)
+/// The next part of a row, and those behind it.
+pub fn next_part(row: &str) -> Result<(&str, &str), Fault> {
+    row.split_once('|').ok_or(Fault::Row)
 }
 
 /// A number in decimal.
 pub fn number(text: &str) -> Result<u64, Fault> {
-    text.parse::<u64>().map_err(|_| Fault::Row)
+    match text.parse::<u64>() {
+        Ok(number) => Ok(number),
+        Err(_) => Err(Fault::Row),
+    }
 }
 
 /// The words, split by spaces: `~` is a space within one, and `-` is no word.
@@ -35,10 +38,18 @@ pub fn words_of(alloc: Global, text: &str) -> Result<PgList<PgStr>, Fault> {
         return Ok(words);
     }
     for word in text.split(' ') {
-        let word = word.replace(alloc, "~", " ")?;
-        words.push(PgStr::copy_of(alloc, word.as_str())?)?;
+        words.push(word_of(alloc, word)?)?;
     }
     Ok(words)
+}
+
+/// A word, in which `~` is a space.
+fn word_of(alloc: Global, text: &str) -> Result<PgStr, AllocError> {
+    let mut word = String::new(alloc);
+    for c in text.chars() {
+        word.push(if c == '~' { ' ' } else { c })?;
+    }
+    PgStr::copy_of(alloc, word.as_str())
 }
 
 /// The bytes of a text, in which `\t`, `\n` and `\r` are these bytes and `\x` is the byte 255; `*N TEXT` is a text N times.

@@ -4,7 +4,7 @@ use Rattle.status_lines.specs.StatusLines.{status_of_file, line_of_file, line}
 use Rattle.rota_report.specs.declared.failure.Failure.{Failure}
 use Rattle.rota_report.specs.declared.failure.Failure.TheVariants.{Usage, File, NoColumn, OutOfRange, TotalOverflow, WriteFault, NoMemory}
 
--- of an order that was carried out, or of why it wasn't
+-- the status of an order's answer
 abbrev pub status_of : Result (Unit {0}) Failure → ℕ
 status_of (Ok done) = 0
 status_of (Err Usage) = 2
@@ -19,6 +19,7 @@ status_of (Err NoMemory) = 7
 abbrev pub usage : List ℕ
 usage = line (codes "usage: rota_report lines FILE RELATION COLUMN START STYLE, clashes FILE RELATION COLUMN START RELATION COLUMN START")
 
+-- the line of an order's answer, which is empty where all is well
 abbrev pub line_of : Result (Unit {0}) Failure → List ℕ
 line_of (Ok done) = []
 line_of (Err Usage) = usage
