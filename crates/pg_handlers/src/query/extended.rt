@@ -246,7 +246,7 @@ pub trait ExtendedQueryHandler {
     /// The other errors are the query's own, after which the client is as it was; that of an item in the place of a row or
     /// of data; and NoMemory. The error of a row is consumed with the rows before it, which are taken back from the outbox;
     /// the data before an error stay there. After NoMemory the rows that were read are consumed, the portal may be started,
-    /// the unnamed one may be gone, and the outbox may hold a part of the replies.
+    /// and the outbox may hold a part of the replies.
     fn _on_execute<St: PortalStore<Statement = Self::Statement, Rows = Self::Rows>, D: CancelDesk>(
         &self,
         alloc: Global,
