@@ -23,6 +23,23 @@ pub fn chunk_of(alloc: Global, bytes: &[u8]) -> Result<BytesMut, AllocError>
     Ok(BytesMut::from_vec(room))
 }
 
+// A chunk that begins with these bytes: the spare one where there is one, or else a new one.
+pub fn next_chunk(
+    alloc: Global,
+    spare: &mut Option<BytesMut>,
+    bytes: &[u8],
+) -> Result<BytesMut, AllocError>
+    ensures { IfOk result (λ chunk. chunk.items ≡ bytes.now) }
+{
+    let Some(sent) = spare.take() else {
+        return chunk_of(alloc, bytes);
+    };
+    let mut chunk = sent;
+    chunk.clear();
+    chunk.extend_from_slice(bytes)?;
+    Ok(chunk)
+}
+
 // Gives back the memory of a list of chunks that is empty again.
 pub fn settle(alloc: Global, chunks: &mut VecDeque<BytesMut>)
     ensures { chunks.new.items ≡ chunks.old.items }

@@ -3,7 +3,7 @@
 ghost use Rattle.std.specs.Prelude.{◌≡◌, ◌≤◌, ◌<◌, ◌++◌, [], length, take, drop, IfOk, OnOk, OnErr, IfSome, IfNone, OnSome};
 ghost use Rattle.pg_messages.specs.Replies.{IsEncodable, reply_bytes};
 
-use crate::chunk::{CHUNK, MOST_CHUNKS, chunk_of, reply_len, settle};
+use crate::chunk::{CHUNK, MOST_CHUNKS, chunk_of, next_chunk, reply_len, settle};
 use bytes::BytesMut;
 use pg_messages::{PgWireBackendMessage, PgWireMessageServerCodec};
 use std::alloc::{AllocError, Global};
@@ -18,6 +18,8 @@ pub struct Outbox {
     // the chunks before the last
     whole: VecDeque<BytesMut>,
     last: BytesMut,
+    // a chunk that was sent and is to be written again
+    spare: Option<BytesMut>,
     alloc: Global,
 }
 
@@ -40,6 +42,7 @@ impl Outbox {
         Ok(Outbox {
             whole: VecDeque::new(alloc),
             last: chunk_of(alloc, &[])?,
+            spare: None,
             alloc,
         })
     }
@@ -80,14 +83,22 @@ impl Outbox {
         Some(self.last.as_slice())
     }
 
-    /// Forgets the first chunk, which was sent. The memory of a last chunk is kept.
+    /// Forgets the first chunk, which was sent. Its memory is kept for the next chunk; where no byte is left to send, that
+    /// of one chunk is kept.
     pub fn drop_front(&mut self)
         requires { 0 < length self.old }
         ensures { self.new ≡ drop 65536 self.old }
     {
         match self.whole.pop_front() {
-            Some(_sent) => settle(self.alloc, &mut self.whole),
-            None => self.last.clear(),
+            Some(sent) => {
+                let is_more = !self.last.is_empty();
+                self.spare = is_more.then_some(sent);
+                settle(self.alloc, &mut self.whole);
+            }
+            None => {
+                self.spare = None;
+                self.last.clear();
+            }
         }
     }
 
@@ -155,7 +166,7 @@ impl Outbox {
             return Err(AllocError);
         }
         let (front, back) = piece.split_at(room);
-        let next = chunk_of(self.alloc, back)?;
+        let next = next_chunk(self.alloc, &mut self.spare, back)?;
         self.whole.reserve(1)?;
         self.last.extend_from_slice(front)?;
         let filled = mem::replace(&mut self.last, next);

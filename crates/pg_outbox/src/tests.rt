@@ -52,3 +52,18 @@ fn what_was_appended_is_taken_back(rt: HostRuntime) -> Result<(), Fail> {
     assert_eq!(rt; taken(&mut outbox), 0);
     Ok(())
 }
+
+#[test]
+fn a_sent_chunk_is_written_again(rt: HostRuntime) -> Result<(), Fail> {
+    let mut outbox = Outbox::new(rt.alloc())?;
+    outbox.push(&copied(rt.alloc(), 150000)?)?;
+    assert_eq!(rt; taken(&mut outbox), 65536);
+    outbox.push(&copied(rt.alloc(), 150000)?)?;
+    assert_eq!(rt; outbox.len(), 234474);
+    assert_eq!(rt; taken(&mut outbox), 65536);
+    assert_eq!(rt; taken(&mut outbox), 65536);
+    assert_eq!(rt; taken(&mut outbox), 65536);
+    assert_eq!(rt; taken(&mut outbox), 37866);
+    assert_eq!(rt; taken(&mut outbox), 0);
+    Ok(())
+}
