@@ -5,7 +5,6 @@ use pg_portal::{FieldInfo, Format, Tag};
 use pg_text::{FieldFormat, FormatOptions, PgType};
 use std::alloc::{AllocError, Global};
 use std::sync::Arc;
-use std::test::Fail;
 
 /// A column of a table, with a size and a modifier.
 fn column(alloc: Global) -> Result<FieldInfo, AllocError> {
@@ -59,11 +58,56 @@ fn read_back(alloc: Global, field: &FieldInfo) -> Result<FieldInfo, AllocError> 
     FieldInfo::from_description(alloc, field.to_description(alloc)?)
 }
 
+/// Whether two columns are equal.
+fn is_equal(field: &FieldInfo, other: FieldInfo) -> bool {
+    *field == other
+}
+
 /// Whether a column is equal to its copy, and to what is read of what is told of it.
 fn is_read_back(alloc: Global, field: &FieldInfo) -> Result<(bool, bool), AllocError> {
-    let copied = *field == field.copy_of(alloc)?;
-    let read = *field == read_back(alloc, field)?;
+    let copied = is_equal(field, field.copy_of(alloc)?);
+    let read = is_equal(field, read_back(alloc, field)?);
     Ok((copied, read))
+}
+
+/// Whether the column of a table is told as it is, and read back as it was.
+fn column_is_told(alloc: Global) -> Result<bool, AllocError> {
+    let field = column(alloc)?;
+    let told = field.to_description(alloc)?;
+    Ok(
+        is_told(&told, "span", (7, 2), (1186, 16, 5), 1)
+            && is_read_back(alloc, &field) == Ok((true, true)),
+    )
+}
+
+/// Whether a column of no table is told as it is, and read back as another.
+fn plain_column_is_told(alloc: Global) -> Result<bool, AllocError> {
+    let field = plain(alloc)?;
+    let told = field.to_description(alloc)?;
+    Ok(
+        is_told(&told, "a", (0, 0), (705, 0, -1), 0)
+            && is_read_back(alloc, &field) == Ok((true, false)),
+    )
+}
+
+/// Whether a column of a type and a format that aren't known is read.
+fn unknown_is_read(alloc: Global) -> Result<bool, AllocError> {
+    let read = FieldInfo::from_description(alloc, unknown(alloc)?)?;
+    Ok(
+        read.table_id() == Some(1)
+            && read.column_id() == Some(2)
+            && read.datatype() == PgType::Unknown
+            && read.format() == FieldFormat::Text,
+    )
+}
+
+/// Whether columns are equal that have the same modifier and options, and no others.
+fn are_compared(alloc: Global) -> Result<bool, AllocError> {
+    let field = column(alloc)?;
+    let modified = is_equal(&field, column(alloc)?.with_type_modifier(6));
+    let same = is_equal(&field, styled(alloc, "postgres")?);
+    let other = is_equal(&field, styled(alloc, "iso_8601")?);
+    Ok(!modified && same && !other)
 }
 
 /// What is told of a column of a type that isn't known, in a format that isn't.
@@ -99,61 +143,45 @@ fn has_codes(format: &Format, expected: &[i16]) -> bool {
     }
 }
 
-#[test]
-fn a_column_is_told(rt: HostRuntime) -> Result<(), Fail> {
-    let alloc = rt.alloc();
-    let field = column(alloc)?;
-    let told = field.to_description(alloc)?;
-    assert!(rt; is_told(&told, "span", (7, 2), (1186, 16, 5), 1));
-    assert_eq!(rt; is_read_back(alloc, &field)?, (true, true));
-    Ok(())
+/// Whether tags with rows, and with an oid alone, have their texts.
+fn have_texts(alloc: Global) -> Result<bool, AllocError> {
+    let insert = is_tag(
+        alloc,
+        Tag::new(alloc, "INSERT")?.with_oid(0).with_rows(1),
+        "INSERT 0 1",
+    )?;
+    let select = is_tag(alloc, Tag::new(alloc, "SELECT")?.with_rows(3), "SELECT 3")?;
+    let begin = is_tag(alloc, Tag::new(alloc, "BEGIN")?.with_oid(4), "BEGIN")?;
+    Ok(insert && select && begin)
 }
 
 #[test]
-fn a_plain_column_is_told(rt: HostRuntime) -> Result<(), Fail> {
-    let alloc = rt.alloc();
-    let field = plain(alloc)?;
-    let told = field.to_description(alloc)?;
-    assert!(rt; is_told(&told, "a", (0, 0), (705, 0, -1), 0));
-    assert_eq!(rt; is_read_back(alloc, &field)?, (true, false));
-    Ok(())
+fn a_column_is_told(rt: HostRuntime) {
+    assert!(rt; column_is_told(rt.alloc()) == Ok(true));
 }
 
 #[test]
-fn an_unknown_oid(rt: HostRuntime) -> Result<(), Fail> {
-    let alloc = rt.alloc();
-    let read = FieldInfo::from_description(alloc, unknown(alloc)?)?;
-    assert_eq!(rt; (read.table_id(), read.column_id()), (Some(1), Some(2)));
-    assert_eq!(rt; read.datatype(), PgType::Unknown);
-    assert_eq!(rt; read.format(), FieldFormat::Text);
-    Ok(())
+fn a_plain_column_is_told(rt: HostRuntime) {
+    assert!(rt; plain_column_is_told(rt.alloc()) == Ok(true));
 }
 
 #[test]
-fn columns_are_compared(rt: HostRuntime) -> Result<(), Fail> {
-    let alloc = rt.alloc();
-    let field = column(alloc)?;
-    assert!(rt; field != column(alloc)?.with_type_modifier(6));
-    assert!(rt; field == styled(alloc, "postgres")?);
-    assert!(rt; field != styled(alloc, "iso_8601")?);
-    Ok(())
+fn an_unknown_oid(rt: HostRuntime) {
+    assert!(rt; unknown_is_read(rt.alloc()) == Ok(true));
 }
 
 #[test]
-fn tags_have_texts(rt: HostRuntime) -> Result<(), Fail> {
-    let alloc = rt.alloc();
-    let insert = Tag::new(alloc, "INSERT")?.with_oid(0).with_rows(1);
-    assert!(rt; is_tag(alloc, insert, "INSERT 0 1")?);
-    let select = Tag::new(alloc, "SELECT")?.with_rows(3);
-    assert!(rt; is_tag(alloc, select, "SELECT 3")?);
-    let begin = Tag::new(alloc, "BEGIN")?.with_oid(4);
-    assert!(rt; is_tag(alloc, begin, "BEGIN")?);
-    Ok(())
+fn columns_are_compared(rt: HostRuntime) {
+    assert!(rt; are_compared(rt.alloc()) == Ok(true));
 }
 
 #[test]
-fn formats_are_copied(rt: HostRuntime) -> Result<(), Fail> {
-    assert!(rt; are_codes_copied(rt.alloc())?);
+fn tags_have_texts(rt: HostRuntime) {
+    assert!(rt; have_texts(rt.alloc()) == Ok(true));
+}
+
+#[test]
+fn formats_are_copied(rt: HostRuntime) {
+    assert!(rt; are_codes_copied(rt.alloc()) == Ok(true));
     assert!(rt; matches!(Format::default(), Format::UnifiedText));
-    Ok(())
 }

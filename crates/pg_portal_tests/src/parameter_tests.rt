@@ -6,7 +6,6 @@ use pg_messages::{Bind, PgBytes, PgList, PgStr};
 use pg_portal::{ListRows, PgWireError, Portal};
 use pg_text::{CellError, PgType};
 use std::alloc::{AllocError, Global};
-use std::test::Fail;
 
 /// A Bind of the statement `s1`, without parameters.
 fn bind(alloc: Global) -> Result<Bind, AllocError> {
@@ -55,7 +54,7 @@ fn portal_with(
     bytes: &[u8],
 ) -> Result<Portal<PgStr, ListRows>, AllocError> {
     let bind = bind_with(alloc, codes, bytes)?;
-    Portal::try_new(alloc, &bind, statement(alloc)?).map_err(|_| AllocError)
+    Portal::try_new(alloc, &bind, statement(alloc)?).or(Err(AllocError))
 }
 
 /// What a parameter tells, in a word.
@@ -97,25 +96,36 @@ fn second(alloc: Global, codes: &[i16], bytes: &[u8]) -> Result<&'static str, Al
     Ok(parameter(&portal, alloc, 1, PgType::Interval))
 }
 
-#[test]
-fn binary_parameters(rt: HostRuntime) -> Result<(), Fail> {
-    let alloc = rt.alloc();
+/// Whether parameters with binary format codes tell what is expected.
+fn are_told(alloc: Global, cases: &[(usize, PgType, &str)]) -> Result<bool, AllocError> {
     let portal = portal_with(alloc, &[1], &[0, 0, 0, 1])?;
-    for (idx, pg_type, expected) in [
+    let mut told = true;
+    for (idx, pg_type, expected) in cases {
+        told = told && parameter(&portal, alloc, *idx, *pg_type) == *expected;
+    }
+    Ok(told)
+}
+
+/// Whether the third of three parameters is past the two codes.
+fn third_is_past(alloc: Global) -> Result<bool, AllocError> {
+    let portal = portal_with(alloc, &[0, 0], b"1 day")?;
+    Ok(parameter(&portal, alloc, 2, PgType::Interval) == "past 2" && portal.parameter_len() == 3)
+}
+
+#[test]
+fn binary_parameters(rt: HostRuntime) {
+    let cases = [
         (0, PgType::Interval, "null"),
         (1, PgType::Interval, "short"),
         (3, PgType::Interval, "past 3"),
         (0, PgType::Int4, "not int4"),
         (3, PgType::Int4, "not int4"),
-    ] {
-        assert_eq!(rt; parameter(&portal, alloc, idx, pg_type), expected);
-    }
-    Ok(())
+    ];
+    assert!(rt; are_told(rt.alloc(), &cases) == Ok(true));
 }
 
 #[test]
-fn text_parameters(rt: HostRuntime) -> Result<(), Fail> {
-    let alloc = rt.alloc();
+fn text_parameters(rt: HostRuntime) {
     for (codes, bytes, expected) in [
         ([].as_slice(), b"1 day".as_slice(), "a day"),
         ([0].as_slice(), b"1 day".as_slice(), "a day"),
@@ -123,16 +133,11 @@ fn text_parameters(rt: HostRuntime) -> Result<(), Fail> {
         ([1, 0].as_slice(), b"day".as_slice(), "shape"),
         ([1].as_slice(), b"1 day".as_slice(), "short"),
     ] {
-        assert_eq!(rt; second(alloc, codes, bytes)?, expected);
+        assert!(rt; second(rt.alloc(), codes, bytes) == Ok(expected));
     }
-    Ok(())
 }
 
 #[test]
-fn parameters_past_the_codes(rt: HostRuntime) -> Result<(), Fail> {
-    let alloc = rt.alloc();
-    let portal = portal_with(alloc, &[0, 0], b"1 day")?;
-    assert_eq!(rt; parameter(&portal, alloc, 2, PgType::Interval), "past 2");
-    assert_eq!(rt; portal.parameter_len(), 3);
-    Ok(())
+fn parameters_past_the_codes(rt: HostRuntime) {
+    assert!(rt; third_is_past(rt.alloc()) == Ok(true));
 }

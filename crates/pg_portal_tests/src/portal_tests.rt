@@ -8,7 +8,6 @@ use crate::fixtures::{Items, cursor, push_error, push_row, start};
 use pg_messages::{DataRow, PgList, PgStr};
 use pg_portal::{FetchResult, ListRows, PgWireError, Portal, PortalExecutionState};
 use std::alloc::{AllocError, Global};
-use std::test::Fail;
 
 /// Whether the next page has such rows, of one byte each, is suspended or not, and has this tag and number.
 fn is_next(
@@ -19,10 +18,10 @@ fn is_next(
     suspended: bool,
     tag: (&str, u64),
 ) -> bool {
-    match portal.fetch(alloc, limit) {
-        Ok(page) => is_page(&page, bytes, suspended, tag),
-        Err(_) => false,
-    }
+    let answer = portal.fetch(alloc, limit);
+    answer
+        .as_ref()
+        .is_ok_and(|page| is_page(page, bytes, suspended, tag))
 }
 
 fn is_page(page: &FetchResult, bytes: &[u8], suspended: bool, tag: (&str, u64)) -> bool {
@@ -43,11 +42,17 @@ fn are_rows(rows: &[DataRow], bytes: &[u8]) -> bool {
 
 /// What refuses the next page, in a word.
 fn refusal(portal: &mut Portal<PgStr, ListRows>, alloc: Global) -> &'static str {
-    match portal.fetch(alloc, 0) {
-        Ok(_) => "none",
-        Err(PgWireError::FailedToParseParameter(_)) => "an item",
-        Err(PgWireError::PortalNotStarted) => "not started",
-        Err(_) => "another",
+    let answer = portal.fetch(alloc, 0);
+    word_of(answer.as_ref().err())
+}
+
+/// An error, in a word.
+fn word_of(error: Option<&PgWireError>) -> &'static str {
+    match error {
+        None => "none",
+        Some(PgWireError::FailedToParseParameter(_)) => "an item",
+        Some(PgWireError::PortalNotStarted) => "not started",
+        Some(_) => "another",
     }
 }
 
@@ -81,39 +86,67 @@ fn all(alloc: Global) -> Result<Items, AllocError>
     Ok(items)
 }
 
-#[test]
-fn an_error_drops_its_page(rt: HostRuntime) -> Result<(), Fail> {
-    let alloc = rt.alloc();
+/// A portal that has all of these.
+fn started(alloc: Global) -> Result<Portal<PgStr, ListRows>, AllocError> {
     let mut portal = cursor(alloc)?;
     start(alloc, &mut portal, all(alloc)?)?;
-    assert!(rt; is_next(&mut portal, alloc, 2, &[10, 11], true, ("FETCH", 2)));
-    assert_eq!(rt; refusal(&mut portal, alloc), "an item");
-    assert_eq!(rt; stage(&portal), "suspended");
-    assert!(rt; is_next(&mut portal, alloc, 1, &[13], true, ("FETCH", 3)));
-    assert!(rt; is_next(&mut portal, alloc, i32::MIN, &[], false, ("FETCH", 3)));
-    assert!(rt; is_next(&mut portal, alloc, 2, &[], false, ("SELECT", 3)));
-    assert_eq!(rt; stage(&portal), "finished");
-    Ok(())
+    Ok(portal)
 }
 
-#[test]
-fn the_count_stands_still(rt: HostRuntime) -> Result<(), Fail> {
-    let alloc = rt.alloc();
-    let mut portal = cursor(alloc)?;
-    start(alloc, &mut portal, all(alloc)?)?;
+/// Whether the error drops the rows of its own page alone, up to the portal's end.
+fn drops_a_page(portal: &mut Portal<PgStr, ListRows>, alloc: Global) -> bool {
+    is_next(portal, alloc, 2, &[10, 11], true, ("FETCH", 2))
+        && refusal(portal, alloc) == "an item"
+        && stage(portal) == "suspended"
+        && is_next(portal, alloc, 1, &[13], true, ("FETCH", 3))
+        && is_next(portal, alloc, i32::MIN, &[], false, ("FETCH", 3))
+        && is_next(portal, alloc, 2, &[], false, ("SELECT", 3))
+        && stage(portal) == "finished"
+}
+
+/// Whether a count stays at its greatest number.
+fn stands_still(portal: &mut Portal<PgStr, ListRows>, alloc: Global) -> bool {
     portal.delivered = u64::MAX - 1;
-    assert!(rt; is_next(&mut portal, alloc, 2, &[10, 11], true, ("FETCH", u64::MAX)));
-    assert_eq!(rt; portal.delivered, u64::MAX);
-    Ok(())
+    is_next(portal, alloc, 2, &[10, 11], true, ("FETCH", u64::MAX)) && portal.delivered == u64::MAX
+}
+
+/// Whether a portal that wasn't started has no page.
+fn is_unstarted(portal: &mut Portal<PgStr, ListRows>, alloc: Global) -> bool {
+    portal.name.as_str() == "p"
+        && portal.parameter_len() == 0
+        && refusal(portal, alloc) == "not started"
+        && stage(portal) == "initial"
+}
+
+/// Whether that is so of a portal that was started.
+fn started_drops_a_page(alloc: Global) -> Result<bool, AllocError> {
+    let mut portal = started(alloc)?;
+    Ok(drops_a_page(&mut portal, alloc))
+}
+
+/// Whether the count of a portal that was started stays so.
+fn count_stands_still(alloc: Global) -> Result<bool, AllocError> {
+    let mut portal = started(alloc)?;
+    Ok(stands_still(&mut portal, alloc))
+}
+
+/// Whether a cursor that wasn't started has no page.
+fn cursor_is_unstarted(alloc: Global) -> Result<bool, AllocError> {
+    let mut portal = cursor(alloc)?;
+    Ok(is_unstarted(&mut portal, alloc))
 }
 
 #[test]
-fn an_unstarted_portal(rt: HostRuntime) -> Result<(), Fail> {
-    let alloc = rt.alloc();
-    let mut portal = cursor(alloc)?;
-    assert_eq!(rt; portal.name.as_str(), "p");
-    assert_eq!(rt; portal.parameter_len(), 0);
-    assert_eq!(rt; refusal(&mut portal, alloc), "not started");
-    assert_eq!(rt; stage(&portal), "initial");
-    Ok(())
+fn an_error_drops_its_page(rt: HostRuntime) {
+    assert!(rt; started_drops_a_page(rt.alloc()) == Ok(true));
+}
+
+#[test]
+fn the_count_stands_still(rt: HostRuntime) {
+    assert!(rt; count_stands_still(rt.alloc()) == Ok(true));
+}
+
+#[test]
+fn an_unstarted_portal(rt: HostRuntime) {
+    assert!(rt; cursor_is_unstarted(rt.alloc()) == Ok(true));
 }

@@ -4,7 +4,6 @@ use crate::fixtures::{cursor, statement};
 use pg_messages::PgStr;
 use pg_portal::{ListRows, MemPortalStore, PortalStore};
 use std::alloc::{AllocError, Global};
-use std::test::Fail;
 
 type Store = MemPortalStore<PgStr, ListRows>;
 
@@ -53,13 +52,17 @@ fn has_no_portal(store: &Store) -> bool {
     is_empty_portal(store, "p").is_none() && is_empty_portal(store, "").is_none()
 }
 
+/// Whether a store has what was put, and loses its portals alone.
+fn are_cleared(alloc: Global, store: &mut Store) -> Result<bool, AllocError> {
+    fill(store, alloc)?;
+    let is_full = has_statements(store) && has_portals(store);
+    store.clear_portals();
+    Ok(is_full && has_statements(store) && has_no_portal(store))
+}
+
 #[test]
-fn portals_are_cleared(rt: HostRuntime) -> Result<(), Fail> {
+fn portals_are_cleared(rt: HostRuntime) {
     let alloc = rt.alloc();
     let mut store = MemPortalStore::new(alloc);
-    fill(&mut store, alloc)?;
-    assert!(rt; has_statements(&store) && has_portals(&store));
-    store.clear_portals();
-    assert!(rt; has_statements(&store) && has_no_portal(&store));
-    Ok(())
+    assert!(rt; are_cleared(alloc, &mut store) == Ok(true));
 }
