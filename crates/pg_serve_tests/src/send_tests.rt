@@ -11,6 +11,7 @@ use pg_portal::{ListRows, Portal, PortalExecutionState, QueryResponse, StoredSta
 use pg_session::{Outbox, send_partial_query_response};
 use std::alloc::{AllocError, Global};
 use std::sync::Arc;
+use std::test::Fail;
 
 /// Two rows without a column.
 fn rows(alloc: Global) -> Result<QueryResponse<ListRows>, AllocError>
@@ -38,23 +39,24 @@ fn cursor(alloc: Global) -> Result<Portal<PgStr, ListRows>, AllocError>
     Ok(portal)
 }
 
-/// Whether a page of one row and then all rows that are left are sent, with the tag of the cursor behind them.
-fn are_sent(alloc: Global) -> Result<bool, AllocError> {
+#[test]
+fn a_cursor_tells_its_own_tag(rt: HostRuntime) -> Result<(), Fail> {
+    let alloc = rt.alloc();
     let mut portal = cursor(alloc)?;
     let mut outbox = Outbox::new(alloc)?;
-    let mut sent = false;
     if let PortalExecutionState::Suspended(response) = &mut portal.state {
-        let page = send_partial_query_response(alloc, &mut outbox, response, 1).ok();
-        let rest = send_partial_query_response(alloc, &mut outbox, response, 0).ok();
-        sent = page == Some(true) && rest == Some(false);
+        assert_eq!(rt;
+            send_partial_query_response(alloc, &mut outbox, response, 1).ok(),
+            Some(true)
+        );
+        assert_eq!(rt;
+            send_partial_query_response(alloc, &mut outbox, response, 0).ok(),
+            Some(false)
+        );
     }
-    Ok(sent && outbox.front() == Some(PAGES))
-}
-
-/// A row and PortalSuspended; a row and CommandComplete.
-const PAGES: &[u8] = b"D\0\0\0\x06\0\0s\0\0\0\x04D\0\0\0\x06\0\0C\0\0\0\x0cFETCH 1\0";
-
-#[test]
-fn a_cursor_tells_its_own_tag(rt: HostRuntime) {
-    assert!(rt; are_sent(rt.alloc()) == Ok(true));
+    assert_eq!(rt;
+        outbox.front(),
+        Some(b"D\0\0\0\x06\0\0s\0\0\0\x04D\0\0\0\x06\0\0C\0\0\0\x0cFETCH 1\0".as_slice())
+    );
+    Ok(())
 }
