@@ -1,10 +1,10 @@
 //! A cancel from another thread, while a query is being made or polled.
 
-ghost use Rattle.std.specs.Prelude.{◌≡◌};
+ghost use Rattle.std.specs.Prelude.{◌≡◌, IfOk};
 ghost use Rattle.std.specs.Arc.{arc_value};
 
 use crate::fixtures::{KEY, STARTED, STARTUP, joined};
-use pg_cancel::{ConnectionHandle, ConnectionManager};
+use pg_cancel::{ConnectionHandle, ConnectionManager, Door};
 use pg_handlers::{NoRows, NoopHandler, QueryState, SimpleQueryHandler, Turn};
 use pg_messages::PgList;
 use pg_portal::{ClientInfo, MemPortalStore, PgWireError, Response};
@@ -217,43 +217,111 @@ impl Served {
     }
 }
 
-/// Two connections of one registry, under the pids 7 and 8.
-fn connections<R: Wait>(
-    rt: &R,
-    alloc: Global,
-    flags: Arc<Flags>,
-) -> Result<(Served, Canceler), Fail> {
-    let (manager, mut door) = ConnectionManager::new(alloc)?;
-    let Ok(handle) = manager.register(rt, &mut door, 7, KEY) else {
-        return Err(Fail::from("no first registration"));
-    };
-    let Ok(other) = manager.register(rt, &mut door, 8, KEY) else {
-        return Err(Fail::from("no second registration"));
-    };
-    let manager = Arc::new(alloc, manager)?;
-    let shared = Arc::try_clone(&manager)?;
-    let canceler = Canceler {
-        manager: shared,
-        handle: other,
-        flags,
-    };
-    Ok((Served { manager, handle }, canceler))
+/// A registry that is shared, and its door.
+#[derive(Drop)]
+struct Registry {
+    manager: Arc<ConnectionManager>,
+    door: Door,
+    ghost issued: { door.issuer ≡ arc_value manager },
 }
 
-/// Whether a client is told that its one query was canceled.
-fn is_told<R: Wait>(
-    rt: &R,
-    alloc: Global,
-    mut served: Served,
-    handlers: Arc<Held>,
-) -> Result<bool, AllocError> {
+impl Registry {
+    fn new(alloc: Global) -> Result<Registry, Fail> {
+        let (manager, door) = ConnectionManager::new(alloc)?;
+        let manager = Arc::new(alloc, manager)?;
+        Ok(Registry { manager, door })
+    }
+
+    /// The connection of a pid.
+    fn register<R: Wait>(&mut self, rt: &R, pid: i32) -> Result<ConnectionHandle, Fail>
+        ensures manager { self.new.manager ≡ self.old.manager }
+        ensures issued { IfOk result (λ handle. handle.issuer ≡ arc_value self.old.manager) }
+    {
+        match self.manager.register(rt, &mut self.door, pid, KEY) {
+            Ok(handle) => Ok(handle),
+            Err(_) => Err(Fail::from("no registration")),
+        }
+    }
+
+    /// The connection of pid 7, whose client is served.
+    fn served<R: Wait>(&mut self, rt: &R) -> Result<Served, Fail> {
+        let manager = Arc::try_clone(&self.manager)?;
+        let handle = self.register(rt, 7)?;
+        Ok(Served { manager, handle })
+    }
+
+    /// The connection of pid 8, which cancels.
+    fn canceler<R: Wait>(&mut self, rt: &R, flags: &Arc<Flags>) -> Result<Canceler, Fail> {
+        let manager = Arc::try_clone(&self.manager)?;
+        let flags = Arc::try_clone(flags)?;
+        let handle = self.register(rt, 8)?;
+        Ok(Canceler {
+            manager,
+            handle,
+            flags,
+        })
+    }
+}
+
+/// Handlers that tell the moment.
+fn handlers(alloc: Global, flags: &Arc<Flags>) -> Result<Arc<Held>, AllocError> {
+    let held = Held {
+        flags: Arc::try_clone(flags)?,
+        noop: NoopHandler,
+    };
+    Ok(Arc::new(alloc, held)?)
+}
+
+/// Whether replies tell that the one query was canceled.
+fn is_told(replies: &[u8]) -> bool {
+    let told = replies.strip_prefix(STARTED).unwrap_or(&[]);
+    told.get(5..)
+        .unwrap_or(&[])
+        .starts_with(b"SERROR\0VERROR\0C57014\0")
+}
+
+/// A client that asks one query.
+fn client(alloc: Global) -> Result<MemorySource, AllocError> {
     let client = joined(alloc, &[STARTUP, b"Q\0\0\0\x06x\0X\0\0\0\x04"])?;
-    let mut source = MemorySource::new(client, PgList::new(alloc), PgList::new(alloc));
-    let mut sink = MemorySink::new(alloc, PgList::new(alloc));
-    let answer = served.serve(rt, alloc, handlers, &mut source, &mut sink);
-    let replies = sink.bytes().strip_prefix(STARTED).unwrap_or(&[]);
-    let error = replies.get(5..).unwrap_or(&[]);
-    Ok(answer == Ok(EndKind::Terminate) && error.starts_with(b"SERROR\0VERROR\0C57014\0"))
+    Ok(MemorySource::new(client, PgList::new(alloc), PgList::new(alloc)))
+}
+
+impl Served {
+    /// Whether a client is told that its one query was canceled.
+    fn is_canceled<R: Wait>(
+        &mut self,
+        rt: &R,
+        alloc: Global,
+        handlers: Arc<Held>,
+    ) -> Result<bool, AllocError> {
+        let mut source = client(alloc)?;
+        let mut sink = MemorySink::new(alloc, PgList::new(alloc));
+        let answer = self.serve(rt, alloc, handlers, &mut source, &mut sink);
+        Ok(answer == Ok(EndKind::Terminate) && is_told(sink.bytes()))
+    }
+}
+
+/// A thread that cancels at the moment.
+fn start<R: Wait + Threads + Copy + Send + 'static>(
+    rt: R,
+    registry: &mut Registry,
+    flags: &Arc<Flags>,
+) -> Result<thread::JoinHandle<bool>, Fail> {
+    let canceler = registry.canceler(&rt, flags)?;
+    Ok(thread::spawn(&rt, move || canceler.run(&rt))?)
+}
+
+/// Whether a cancel is made at the moment, and heard by the one query.
+fn is_heard<R: Wait + Threads + Copy + Send + 'static>(
+    rt: R,
+    alloc: Global,
+    registry: &mut Registry,
+    flags: &Arc<Flags>,
+) -> Result<bool, Fail> {
+    let mut served = registry.served(&rt)?;
+    let canceler = start(rt, registry, flags)?;
+    let told = served.is_canceled(&rt, alloc, handlers(alloc, flags)?)?;
+    Ok(canceler.join(&rt) && told)
 }
 
 /// Whether a cancel is made at this moment, and heard by the one query that the handler was asked for.
@@ -263,16 +331,9 @@ fn is_canceled<R: Wait + Threads + Copy + Send + 'static>(
     moment: Moment,
 ) -> Result<bool, Fail> {
     let flags = Arc::new(alloc, Flags::new(moment))?;
-    let noop = NoopHandler;
-    let held = Held {
-        flags: Arc::try_clone(&flags)?,
-        noop,
-    };
-    let handlers = Arc::new(alloc, held)?;
-    let (served, canceler) = connections(&rt, alloc, Arc::try_clone(&flags)?)?;
-    let canceler = thread::spawn(&rt, move || canceler.run(&rt))?;
-    let told = is_told(&rt, alloc, served, handlers)?;
-    Ok(canceler.join(&rt) && told && flags.queries.load(Ordering::SeqCst) == 1)
+    let mut registry = Registry::new(alloc)?;
+    let heard = is_heard(rt, alloc, &mut registry, &flags)?;
+    Ok(heard && flags.queries.load(Ordering::SeqCst) == 1)
 }
 
 /// A cancel is made and heard while the query is being polled.

@@ -2,16 +2,14 @@
 
 ghost use Rattle.std.specs.Prelude.{◌≡◌, [], codes, IfOk};
 ghost use Rattle.std.specs.Arc.{arc_value};
-ghost use Rattle.pg_portal.specs.Told.{stage_of};
-ghost use Rattle.pg_handlers.specs.Good.{HasGoodTag};
+ghost use Rattle.pg_handlers.specs.Good.{IsTag};
 
 use crate::fixtures::push_row;
-use pg_messages::{PgList, PgStr};
-use pg_portal::{ListRows, Portal, PortalExecutionState, QueryResponse, StoredStatement};
+use pg_messages::PgList;
+use pg_portal::{ListRows, QueryResponse};
 use pg_session::{Outbox, send_partial_query_response};
 use std::alloc::{AllocError, Global};
 use std::sync::Arc;
-use std::test::Fail;
 
 /// Two rows without a column.
 fn rows(alloc: Global) -> Result<QueryResponse<ListRows>, AllocError>
@@ -25,38 +23,40 @@ fn rows(alloc: Global) -> Result<QueryResponse<ListRows>, AllocError>
     QueryResponse::new(alloc, columns, ListRows::new(items))
 }
 
-/// A portal of rows that were begun under the tag FETCH.
-fn cursor(alloc: Global) -> Result<Portal<PgStr, ListRows>, AllocError>
-    ensures { IfOk result (λ portal. HasGoodTag (stage_of (λ rows. rows) portal)) }
+/// The rows of a cursor, under the tag FETCH.
+fn fetched(alloc: Global) -> Result<QueryResponse<ListRows>, AllocError>
+    ensures { IfOk result (λ response. IsTag response.command_tag) }
 {
     let mut response = rows(alloc)?;
     response.set_command_tag(alloc, "FETCH")?;
-    let query = PgStr::copy_of(alloc, "pair")?;
-    let statement = StoredStatement::new(PgStr::copy_of(alloc, "")?, query, PgList::new(alloc));
-    let name = PgStr::copy_of(alloc, "c")?;
-    let mut portal = Portal::new_cursor(alloc, name, Arc::new(alloc, statement)?);
-    portal.start(response);
-    Ok(portal)
+    Ok(response)
 }
 
-#[test]
-fn a_cursor_tells_its_own_tag(rt: HostRuntime) -> Result<(), Fail> {
-    let alloc = rt.alloc();
-    let mut portal = cursor(alloc)?;
+/// Whether a page of one row is sent, and then all rows that are left.
+fn are_pages_sent(
+    alloc: Global,
+    outbox: &mut Outbox,
+    response: &mut QueryResponse<ListRows>,
+) -> bool
+    requires { IsTag response.old.command_tag }
+{
+    let page = send_partial_query_response(alloc, outbox, response, 1).ok();
+    let rest = send_partial_query_response(alloc, outbox, response, 0).ok();
+    page == Some(true) && rest == Some(false)
+}
+
+/// Whether the rows of a cursor are sent so, with its own tag behind them.
+fn are_sent(alloc: Global) -> Result<bool, AllocError> {
+    let mut response = fetched(alloc)?;
     let mut outbox = Outbox::new(alloc)?;
-    if let PortalExecutionState::Suspended(response) = &mut portal.state {
-        assert_eq!(rt;
-            send_partial_query_response(alloc, &mut outbox, response, 1).ok(),
-            Some(true)
-        );
-        assert_eq!(rt;
-            send_partial_query_response(alloc, &mut outbox, response, 0).ok(),
-            Some(false)
-        );
-    }
-    assert_eq!(rt;
-        outbox.front(),
-        Some(b"D\0\0\0\x06\0\0s\0\0\0\x04D\0\0\0\x06\0\0C\0\0\0\x0cFETCH 1\0".as_slice())
-    );
-    Ok(())
+    let sent = are_pages_sent(alloc, &mut outbox, &mut response);
+    Ok(sent && outbox.front() == Some(PAGES))
+}
+
+/// A row and PortalSuspended; a row and CommandComplete.
+const PAGES: &[u8] = b"D\0\0\0\x06\0\0s\0\0\0\x04D\0\0\0\x06\0\0C\0\0\0\x0cFETCH 1\0";
+
+#[test]
+fn a_cursor_tells_its_own_tag(rt: HostRuntime) {
+    assert!(rt; are_sent(rt.alloc()) == Ok(true));
 }

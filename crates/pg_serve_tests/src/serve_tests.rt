@@ -1,7 +1,7 @@
 //! Clients that are served.
 
 use crate::fixtures::{STARTED, STARTUP, desk, joined};
-use pg_messages::{PgBytes, PgList};
+use pg_messages::PgList;
 use pg_portal::MemPortalStore;
 use pg_serve::{MemorySink, MemorySource, serve_connection};
 use pg_session::{EndKind, Sink, SinkError, Source, SourceFailed};
@@ -9,7 +9,6 @@ use sample_handlers::SampleHandler;
 use std::alloc::{AllocError, Global};
 use std::cell::Cell;
 use std::sync::Arc;
-use std::test::Fail;
 
 /// The reply to a startup packet and to a Query, at which a client sends more.
 const READY: &[u8] = b"Z\0\0\0\x05I";
@@ -70,33 +69,43 @@ D\0\0\0\x0f\0\x02\0\0\0\x01b\xff\xff\xff\xff\
 C\0\0\0\x0dSELECT 2\0\
 Z\0\0\0\x05I";
 
-/// A source of these bytes, of which the first read gives the startup packet alone.
-fn source(alloc: Global, bytes: PgBytes) -> Result<MemorySource, AllocError> {
+/// A source of a Query of `pair`, of which the first read gives the startup packet alone.
+fn source(alloc: Global) -> Result<MemorySource, AllocError> {
     let mut pieces = PgList::new(alloc);
     pieces.push(STARTUP.len())?;
-    Ok(MemorySource::new(bytes, pieces, PgList::new(alloc)))
+    let client = joined(alloc, &[STARTUP, b"Q\0\0\0\x09pair\0X\0\0\0\x04"])?;
+    Ok(MemorySource::new(client, pieces, PgList::new(alloc)))
 }
 
-#[test]
-fn replies_are_prompt(rt: HostRuntime) -> Result<(), Fail> {
-    let alloc = rt.alloc();
-    let ready = Cell::new(false);
-    let client = joined(alloc, &[STARTUP, b"Q\0\0\0\x09pair\0X\0\0\0\x04"])?;
+/// Whether a client is served up to its Terminate.
+fn is_served(
+    alloc: Global,
+    source: &mut PatientSource<'_>,
+    sink: &mut NotingSink<'_>,
+) -> Result<bool, AllocError> {
+    let handlers = Arc::new(alloc, SampleHandler)?;
+    let store = MemPortalStore::new(alloc);
+    let mut desk = desk(alloc);
+    let answer = serve_connection(alloc, handlers, store, &mut desk, source, sink, 9);
+    Ok(answer == Ok(EndKind::Terminate))
+}
+
+/// Whether the replies are written before the client sends more.
+fn are_prompt(alloc: Global, ready: &Cell<bool>) -> Result<bool, AllocError> {
     let mut source = PatientSource {
-        source: source(alloc, client)?,
-        ready: &ready,
+        source: source(alloc)?,
+        ready,
         began: false,
     };
     let mut sink = NotingSink {
         sink: MemorySink::new(alloc, PgList::new(alloc)),
-        ready: &ready,
+        ready,
     };
-    let handlers = Arc::new(alloc, SampleHandler)?;
-    let store = MemPortalStore::new(alloc);
-    let mut desk = desk(alloc);
-    let answer = serve_connection(alloc, handlers, store, &mut desk, &mut source, &mut sink, 9);
-    assert_eq!(rt; answer, Ok(EndKind::Terminate));
-    let expected = joined(alloc, &[STARTED, PAIR])?;
-    assert_eq!(rt; sink.sink.bytes(), expected.as_slice());
-    Ok(())
+    let served = is_served(alloc, &mut source, &mut sink);
+    Ok(served == Ok(true) && sink.sink.bytes().strip_prefix(STARTED) == Some(PAIR))
+}
+
+#[test]
+fn replies_are_prompt(rt: HostRuntime) {
+    assert!(rt; are_prompt(rt.alloc(), &Cell::new(false)) == Ok(true));
 }

@@ -6,21 +6,22 @@ ghost use Rattle.pg_portal.specs.Maps.{no_maps};
 ghost use Rattle.pg_portal.specs.Errors.{info_of};
 ghost use Rattle.pg_portal.specs.Rows.{IsTellable};
 ghost use Rattle.pg_handlers.specs.Errors.{is_fatal};
-ghost use Rattle.pg_handlers.specs.Good.{IsGoodState};
+ghost use Rattle.pg_handlers.specs.Good.{IsGoodState, IsGiven};
 ghost use Rattle.pg_handlers.specs.State.{state_of};
+ghost use Rattle.pg_messages.specs.declared.frontend.PgWireFrontendMessage.TheVariants as frontend;
 ghost use Rattle.sample_handlers.specs.Told.{told_parser};
 
 use crate::fixtures::{KEY, STARTED, STARTUP, desk, message};
 use pg_messages::{
-    ErrorInfo, PgList, PgStr, PgWireFrontendMessage, ProtocolVersion, TransactionStatus,
+    ErrorInfo, Execute, PgList, PgStr, PgWireFrontendMessage, ProtocolVersion, TransactionStatus,
 };
 use pg_portal::{
     ClientInfo, ListRows, MemPortalStore, Metadata, PgWireConnectionState, PgWireError, PortalStore,
 };
 use pg_serve::MemorySink;
 use pg_session::{
-    Client, EndKind, ExtendedQueryHandler, Outbox, Progress, Session, SessionError, Turns,
-    process_error, process_message,
+    Client, EndKind, ExtendedQueryHandler, Outbox, PgWireServerHandlers, Progress, ScriptDesk,
+    Session, SessionError, Turns, process_error, process_message,
 };
 use sample_handlers::{SampleHandler, SampleStatement};
 use std::alloc::{AllocError, Global};
@@ -30,23 +31,49 @@ use std::test::Fail;
 /// The store of a session.
 type Store = MemPortalStore<SampleStatement, ListRows>;
 
+/// Whether the replies to a startup packet are sent by the next feed, and not before.
+fn wait_for_a_feed<
+    H: PgWireServerHandlers + Drop,
+    St: PortalStore<
+        Statement = <H::Extended as ExtendedQueryHandler>::Statement,
+        Rows = <H::Extended as ExtendedQueryHandler>::Rows,
+    >
+        + Drop,
+>(
+    alloc: Global,
+    handlers: Arc<H>,
+    store: St,
+    desk: &mut ScriptDesk,
+    sink: &mut MemorySink,
+) -> Result<bool, Fail>
+    requires empty { St.maps store ≡ no_maps }
+{
+    let mut session = Session::new(alloc, handlers, store, 7, KEY)?;
+    let mut turns = Turns { spent: 0, limit: 9 };
+    let startup = message(alloc, true, STARTUP)?;
+    let answer = process_message(alloc, &mut session, desk, &mut turns, startup);
+    let mut sent = is_taken(answer);
+    if session.is_open() {
+        let progress = session.feed(alloc, desk, &[], sink, &mut turns);
+        sent = sent && matches!(progress, Ok(Progress::More));
+    }
+    Ok(sent)
+}
+
+/// Whether a message was answered without an end.
+fn is_taken(answer: Result<Option<EndKind>, SessionError>) -> bool {
+    matches!(answer, Ok(None))
+}
+
 #[test]
 fn replies_wait_for_the_next_feed(rt: HostRuntime) -> Result<(), Fail> {
     let alloc = rt.alloc();
+    let mut desk = desk(alloc);
+    let mut sink = MemorySink::new(alloc, PgList::new(alloc));
     let handlers = Arc::new(alloc, SampleHandler)?;
     let store: Store = MemPortalStore::new(alloc);
-    let mut session = Session::new(alloc, handlers, store, 7, KEY)?;
-    let mut desk = desk(alloc);
-    let mut turns = Turns { spent: 0, limit: 9 };
-    let startup = message(alloc, true, STARTUP)?;
-    let answer = process_message(alloc, &mut session, &mut desk, &mut turns, startup);
-    assert!(rt; matches!(answer, Ok(None)));
-    let mut sink = MemorySink::new(alloc, PgList::new(alloc));
-    if session.is_open() {
-        let progress = session.feed(alloc, &mut desk, &[], &mut sink, &mut turns);
-        assert!(rt; matches!(progress, Ok(Progress::More)));
-    }
-    assert_eq!(rt; sink.bytes(), STARTED);
+    let sent = wait_for_a_feed(alloc, handlers, store, &mut desk, &mut sink)?;
+    assert!(rt; sent && sink.bytes() == STARTED);
     Ok(())
 }
 
@@ -62,15 +89,27 @@ fn fatal(alloc: Global) -> Result<PgWireError, AllocError>
     )))
 }
 
+/// Whether an error that ends a session closes it.
+fn is_closed<
+    H: PgWireServerHandlers + Drop,
+    St: PortalStore<
+        Statement = <H::Extended as ExtendedQueryHandler>::Statement,
+        Rows = <H::Extended as ExtendedQueryHandler>::Rows,
+    >
+        + Drop,
+>(alloc: Global, handlers: Arc<H>, store: St) -> Result<bool, AllocError>
+    requires empty { St.maps store ≡ no_maps }
+{
+    let mut session = Session::new(alloc, handlers, store, 7, KEY)?;
+    let end = process_error(alloc, &mut session, fatal(alloc)?, false)?;
+    Ok(end == Some(EndKind::Fatal) && !session.is_open())
+}
+
 #[test]
 fn a_fatal_error_closes_the_session(rt: HostRuntime) -> Result<(), Fail> {
     let alloc = rt.alloc();
-    let handlers = Arc::new(alloc, SampleHandler)?;
     let store: Store = MemPortalStore::new(alloc);
-    let mut session = Session::new(alloc, handlers, store, 7, KEY)?;
-    let end = process_error(alloc, &mut session, fatal(alloc)?, false)?;
-    assert_eq!(rt; end, Some(EndKind::Fatal));
-    assert!(rt; !session.is_open());
+    assert!(rt; is_closed(alloc, Arc::new(alloc, SampleHandler)?, store)?);
     Ok(())
 }
 
@@ -97,25 +136,43 @@ fn awaiting_sync<St: PortalStore<Statement = SampleStatement>>(
     })
 }
 
+/// An Execute of the unnamed portal.
+fn execute(alloc: Global) -> Result<Execute, Fail>
+    ensures { IfOk result (λ execute. IsGiven (frontend.Execute execute)) }
+{
+    match message(alloc, false, b"E\0\0\0\x09\0\0\0\0\0")? {
+        PgWireFrontendMessage::Execute(execute) => Ok(execute),
+        _ => Err(Fail::from("no Execute")),
+    }
+}
+
+/// Whether an Execute is refused before Sync, and answered nothing.
+fn is_refused<St: PortalStore<Statement = SampleStatement, Rows = ListRows>>(
+    alloc: Global,
+    client: &mut Client<St>,
+    desk: &mut ScriptDesk,
+    execute: Execute,
+) -> bool
+    requires given { IsGiven (frontend.Execute execute) }
+    requires good { IsGoodState told_parser (state_of St.maps client.old) }
+{
+    let mut turns = Turns { spent: 0, limit: 9 };
+    let handler = SampleHandler;
+    let answer = handler.on_execute(alloc, client, desk, &mut turns, execute);
+    let refused = matches!(
+        answer,
+        Err(SessionError::Wire(PgWireError::NotReadyForQuery))
+    );
+    refused && client.outbox.len() == 0
+}
+
 #[test]
 fn nothing_is_executed_before_sync(rt: HostRuntime) -> Result<(), Fail> {
     let alloc = rt.alloc();
+    let execute = execute(alloc)?;
     let store: Store = MemPortalStore::new(alloc);
     let mut client = awaiting_sync(alloc, store)?;
     let mut desk = desk(alloc);
-    let mut turns = Turns { spent: 0, limit: 9 };
-    let PgWireFrontendMessage::Execute(execute) = message(alloc, false, b"E\0\0\0\x09\0\0\0\0\0")?
-    else {
-        return Err(Fail::from("no Execute"));
-    };
-    let handler = SampleHandler;
-    let answer = handler.on_execute(alloc, &mut client, &mut desk, &mut turns, execute);
-    assert!(rt;
-        matches!(
-            answer,
-            Err(SessionError::Wire(PgWireError::NotReadyForQuery))
-        )
-    );
-    assert_eq!(rt; client.outbox.len(), 0);
+    assert!(rt; is_refused(alloc, &mut client, &mut desk, execute));
     Ok(())
 }
