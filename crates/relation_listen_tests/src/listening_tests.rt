@@ -1,10 +1,8 @@
 //! Connections are taken in from a list, and their jobs are kept.
 
 ghost use Rattle.std.specs.Prelude.{◌≡◌, ◌<◌, ◌^◌, IfOk};
-ghost use Rattle.std.specs.Arc.{arc_value};
 
-use crate::clients::{KEY, source_of};
-use pg_cancel::{ConnectionHandle, ConnectionManager, Door};
+use crate::clients::{KEY, Registry, source_of};
 use pg_messages::{PgBytes, PgList, PgStr};
 use pg_serve::{AcceptFailed, Acceptor, KeySource, MemorySink, MemorySource, SpawnFailed, Spawner};
 use pg_session::{Sink, Source};
@@ -125,27 +123,27 @@ fn key_of(number: u8) -> [u8; 4] {
 /// The number of a call that is never made.
 const NEVER: u64 = 1000;
 
+/// The jobs over memory.
+type Jobs = Keeping<MemorySource, MemorySink>;
+
 /// Listens for three connections, of which the second can't be accepted, each with 55 turns.
 fn listen_for_three<R: Wait>(
     rt: &R,
     alloc: Global,
-    spawner: &mut Keeping<MemorySource, MemorySink>,
-    manager: &Arc<ConnectionManager>,
-    door: &mut Door,
+    registry: &mut Registry,
+    spawner: &mut Jobs,
 ) -> Result<Result<u64, ListenError>, Fail>
-    requires issued { door.old.issuer ≡ arc_value manager.now }
     requires started { spawner.old.started < 2 ^ 63 }
-    ensures issued { door.new.issuer ≡ door.old.issuer }
 {
     let table = Arc::new(alloc, built_in_table(alloc)?)?;
-    let manager = Arc::try_clone(manager)?;
+    let manager = Arc::try_clone(&registry.manager)?;
     Ok(listen(
         rt,
         &mut Silent::new(alloc, 1),
         spawner,
         &mut Keys { last: 0 },
         manager,
-        door,
+        &mut registry.door,
         table,
         55,
         Some(3),
@@ -162,47 +160,38 @@ fn is_first_job(job: &ConnectionJob<MemorySource, MemorySink>) -> bool {
         && job.sink.bytes().is_empty()
 }
 
-/// A job has what it was given, and its registry is the given one: a cancel through that is heard.
-#[test]
-fn a_failed_accept_leaves_one_job(rt: HostRuntime) -> Result<(), Fail> {
-    let alloc = rt.alloc();
-    let (manager, mut door) = ConnectionManager::new(alloc)?;
-    let manager = Arc::new(alloc, manager)?;
-    let mut spawner = Keeping::new(alloc, NEVER);
-    let answer = listen_for_three(&rt, alloc, &mut spawner, &manager, &mut door)?;
-    assert!(rt; answer == Err(ListenError::AcceptFault) && spawner.jobs.len() == 1);
-    let Some(job) = spawner.jobs.pop() else {
-        return Ok(());
-    };
-    assert!(rt; is_first_job(&job));
-    let Ok(other) = manager.register(&rt, &mut door, 9, KEY) else {
-        return Err(Fail::from("no second registration"));
-    };
-    assert!(rt; is_heard(&rt, job, &manager, other)?);
-    Ok(())
-}
-
 /// Whether a cancel of pid 1 through this registry is heard by the job's connection.
 fn is_heard<R: Wait>(
     rt: &R,
-    job: ConnectionJob<MemorySource, MemorySink>,
-    manager: &ConnectionManager,
-    other: ConnectionHandle,
-) -> Result<bool, AllocError>
-    requires issued { other.issuer ≡ manager.now }
-{
-    let ConnectionJob {
-        manager: theirs,
-        relations: _relations,
-        handle,
-        source: _source,
-        sink: _sink,
-        turn_limit: _turn_limit,
-    } = job;
-    let (mut handle, mut other) = (handle, other);
-    theirs.start_query(rt, &mut handle)?;
-    let is_made = manager.cancel(rt, &mut other, 1, key_of(1))?;
-    Ok(is_made && theirs.ask(rt, &mut handle)?)
+    registry: &mut Registry,
+    job: &mut ConnectionJob<MemorySource, MemorySink>,
+) -> Result<bool, Fail> {
+    let mut other = registry.register(rt, 9)?;
+    job.manager.start_query(rt, &mut job.handle)?;
+    let is_made = registry.manager.cancel(rt, &mut other, 1, key_of(1))?;
+    Ok(is_made && job.manager.ask(rt, &mut job.handle)?)
+}
+
+/// Whether there is one job alone, which has what it was given, and hears a cancel.
+fn is_one_job<R: Wait>(rt: &R, registry: &mut Registry, spawner: &mut Jobs) -> Result<bool, Fail> {
+    if spawner.jobs.len() != 1 {
+        return Ok(false);
+    }
+    match spawner.jobs.first_mut() {
+        Some(job) => Ok(is_first_job(job) && is_heard(rt, registry, job)?),
+        None => Ok(false),
+    }
+}
+
+/// A job has what it was given, and its registry is the given one: a cancel through that is heard.
+#[test]
+fn a_failed_accept_leaves_one_job(rt: HostRuntime) -> Result<(), Fail> {
+    let mut registry = Registry::new(rt.alloc())?;
+    let mut spawner = Keeping::new(rt.alloc(), NEVER);
+    let answer = listen_for_three(&rt, rt.alloc(), &mut registry, &mut spawner)?;
+    assert!(rt; answer == Err(ListenError::AcceptFault));
+    assert!(rt; is_one_job(&rt, &mut registry, &mut spawner)?);
+    Ok(())
 }
 
 /// What the program is given: its words, the relation file, who has which pid before, and the calls that fail.
@@ -286,29 +275,31 @@ impl Stage {
     }
 
     /// Runs the program that listens, and answers its status.
-    fn run<R: Wait>(
-        &mut self,
-        rt: &R,
-        alloc: Global,
-        manager: Arc<ConnectionManager>,
-        door: &mut Door,
-    ) -> u8
-        requires issued { door.old.issuer ≡ arc_value manager }
+    fn run<R: Wait>(&mut self, rt: &R, alloc: Global, registry: &mut Registry) -> Result<u8, Fail>
         requires accepted { self.old.acceptor.accepted ≡ 0 }
         requires started { self.old.spawner.started ≡ 0 }
     {
-        run_listen(
+        let manager = Arc::try_clone(&registry.manager)?;
+        Ok(run_listen(
             rt,
             alloc,
             self.words.as_slice(),
             manager,
-            door,
+            &mut registry.door,
             &mut self.file,
             &mut self.acceptor,
             &mut self.spawner,
             &mut Keys { last: 0 },
             &mut self.line,
-        )
+        ))
+    }
+
+    /// Whether this line was written, and so many connections were accepted and good jobs started.
+    fn has(&self, line: &str, accepted: u64, started: usize) -> bool {
+        self.line.bytes() == line.as_bytes()
+            && self.acceptor.accepted == accepted
+            && self.spawner.jobs.len() == started
+            && are_good_jobs(self.spawner.jobs.as_slice())
     }
 }
 
@@ -317,31 +308,32 @@ fn status_of<R: Wait>(rt: &R, alloc: Global, given: &Given, stage: &mut Stage) -
     requires accepted { stage.old.acceptor.accepted ≡ 0 }
     requires started { stage.old.spawner.started ≡ 0 }
 {
-    let (manager, mut door) = ConnectionManager::new(alloc)?;
-    let Ok(_other) = manager.register(rt, &mut door, given.taken, KEY) else {
+    let mut registry = Registry::new(alloc)?;
+    if !registry.is_free(rt, given.taken) {
         return Err(Fail::from("no first registration"));
-    };
-    let manager = Arc::new(alloc, manager)?;
-    Ok(stage.run(rt, alloc, manager, &mut door))
+    }
+    stage.run(rt, alloc, &mut registry)
 }
 
-/// Whether the program answers so: the status, the line, and how many connections were accepted and good jobs started.
-fn is_answered<R: Wait>(
-    rt: &R,
-    alloc: Global,
-    given: &Given,
-    told: (u8, &str, u64, usize),
-) -> Result<bool, Fail> {
+/// What a program tells: its status and its line, and how many connections were accepted and good jobs started.
+type Told = (u8, &'static str, u64, usize);
+
+/// Whether the program answers so.
+fn is_answered<R: Wait>(rt: &R, alloc: Global, given: &Given, told: Told) -> Result<bool, Fail> {
     let (status, line, accepted, started) = told;
     let mut stage = Stage::new(alloc, given)?;
     let answer = status_of(rt, alloc, given, &mut stage)?;
-    Ok(
-        answer == status
-            && stage.line.bytes() == line.as_bytes()
-            && stage.acceptor.accepted == accepted
-            && stage.spawner.jobs.len() == started
-            && are_good_jobs(stage.spawner.jobs.as_slice()),
-    )
+    Ok(answer == status && stage.has(line, accepted, started))
+}
+
+/// Whether the program answers so each time.
+fn are_answered<R: Wait>(rt: &R, alloc: Global, cases: &[(Given, Told)]) -> Result<bool, Fail> {
+    for (given, told) in cases {
+        if !is_answered(rt, alloc, given, *told)? {
+            return Ok(false);
+        }
+    }
+    Ok(true)
 }
 
 /// Words over a file of one relation, with somebody under this pid before, and the calls that fail.
@@ -356,35 +348,41 @@ fn listening(words: &'static str, taken: i32, accept_fails_at: u64, start_fails_
     }
 }
 
+/// Three connections over TCP.
+const THREE: &str = "listen tcp 5433 f 3";
+
 /// Connections are taken in, until all are or a call fails.
 #[test]
 fn the_program_takes_in_connections(rt: HostRuntime) -> Result<(), Fail> {
-    let three = "listen tcp 5433 f 3";
-    for (given, told) in [
-        (listening(three, 9, NEVER, NEVER), (0, "", 3, 3)),
-        (
-            listening("listen unix p f 1", 9, NEVER, NEVER),
-            (0, "", 1, 1),
-        ),
-        (listening("listen unix p f 0", 9, 0, NEVER), (0, "", 0, 0)),
-        (listening(three, 9, 0, NEVER), (12, "accept fault\n", 0, 0)),
-        (
-            listening("listen tcp 5433 f", 9, 2, NEVER),
-            (12, "accept fault\n", 2, 2),
-        ),
-        (listening(three, 9, NEVER, 0), (13, "spawn fault\n", 1, 0)),
-        (listening(three, 9, NEVER, 2), (13, "spawn fault\n", 3, 2)),
-        (
-            listening(three, 1, NEVER, NEVER),
-            (8, "pid is taken\n", 1, 0),
-        ),
-        (
-            listening(three, 3, NEVER, NEVER),
-            (8, "pid is taken\n", 3, 2),
-        ),
-    ] {
-        assert!(rt; is_answered(&rt, rt.alloc(), &given, told)?);
-    }
+    assert!(rt;
+        are_answered(
+            &rt,
+            rt.alloc(),
+            &[
+                (listening(THREE, 9, NEVER, NEVER), (0, "", 3, 3)),
+                (
+                    listening("listen unix p f 1", 9, NEVER, NEVER),
+                    (0, "", 1, 1)
+                ),
+                (listening("listen unix p f 0", 9, 0, NEVER), (0, "", 0, 0)),
+                (listening(THREE, 9, 0, NEVER), (12, "accept fault\n", 0, 0)),
+                (
+                    listening("listen tcp 5433 f", 9, 2, NEVER),
+                    (12, "accept fault\n", 2, 2)
+                ),
+                (listening(THREE, 9, NEVER, 0), (13, "spawn fault\n", 1, 0)),
+                (listening(THREE, 9, NEVER, 2), (13, "spawn fault\n", 3, 2)),
+                (
+                    listening(THREE, 1, NEVER, NEVER),
+                    (8, "pid is taken\n", 1, 0)
+                ),
+                (
+                    listening(THREE, 3, NEVER, NEVER),
+                    (8, "pid is taken\n", 3, 2)
+                ),
+            ]
+        )?
+    );
     Ok(())
 }
 
@@ -407,17 +405,22 @@ fn refused(words: &'static str, file: &'static str, read_fails_at: u64) -> Given
 /// No connection is accepted where the words or the file are refused.
 #[test]
 fn the_program_refuses_words_and_files(rt: HostRuntime) -> Result<(), Fail> {
-    let three = "listen tcp 5433 f 3";
-    let wide = "a\t0\tx\n1 day\t2 days\n";
-    for (given, told) in [
-        (refused("listen tcp 0 f", "", NEVER), (2, USAGE, 0, 0)),
-        (refused("listen tcp 5433 f 10001", "", 0), (2, USAGE, 0, 0)),
-        (refused("serve f 7 01020304", "", NEVER), (2, USAGE, 0, 0)),
-        (refused(three, "a\n", NEVER), (3, "line 1: header\n", 0, 0)),
-        (refused(three, wide, NEVER), (3, "line 2: width\n", 0, 0)),
-        (refused(three, "", 0), (9, "file fault\n", 0, 0)),
-    ] {
-        assert!(rt; is_answered(&rt, rt.alloc(), &given, told)?);
-    }
+    assert!(rt;
+        are_answered(
+            &rt,
+            rt.alloc(),
+            &[
+                (refused("listen tcp 0 f", "", NEVER), (2, USAGE, 0, 0)),
+                (refused("listen tcp 5433 f 10001", "", 0), (2, USAGE, 0, 0)),
+                (refused("serve f 7 01020304", "", NEVER), (2, USAGE, 0, 0)),
+                (refused(THREE, "a\n", NEVER), (3, "line 1: header\n", 0, 0)),
+                (
+                    refused(THREE, "a\t0\tx\n1 day\t2 days\n", NEVER),
+                    (3, "line 2: width\n", 0, 0)
+                ),
+                (refused(THREE, "", 0), (9, "file fault\n", 0, 0)),
+            ]
+        )?
+    );
     Ok(())
 }

@@ -1,12 +1,10 @@
 //! Jobs on threads: threads that can't be started, and who waits for their end.
 
 ghost use Rattle.std.specs.Prelude.{◌≡◌, ◌<◌, ◌^◌, IfOk};
-ghost use Rattle.std.specs.Arc.{arc_value};
 ghost use Rattle.relation_server.specs.Jobs.{IsFresh};
 ghost use Rattle.pg_serve.specs.Sockets.{reads_of};
 
-use crate::clients::KEY;
-use pg_cancel::{ConnectionManager, Door};
+use crate::clients::Registry;
 use pg_serve::{Counted, MaybeTls, Spawner};
 use relation_server::{ConnectionJob, JobThreads, ThreadSpawner, Tries, built_in_table};
 use std::alloc::Global;
@@ -21,26 +19,18 @@ use std::time::{Clock, Duration};
 /// A job over a socket.
 type SocketJob = ConnectionJob<MaybeTls, MaybeTls>;
 
-/// A registry that is shared, and its door.
-#[derive(Drop)]
-struct Registry {
-    manager: Arc<ConnectionManager>,
-    door: Door,
-    ghost issued: { door.issuer ≡ arc_value manager },
+/// The two ends of a stream at the server.
+fn ends_of(stream: UnixStream) -> Result<(MaybeTls, MaybeTls), Fail>
+    ensures { IfOk result (λ ends. reads_of ends.0 ≡ 0) }
+{
+    let second = stream.try_clone()?;
+    Ok((
+        MaybeTls::Unix(Counted::new(stream)),
+        MaybeTls::Unix(Counted::new(second)),
+    ))
 }
 
 impl Registry {
-    fn new(alloc: Global) -> Result<Registry, Fail> {
-        let (manager, door) = ConnectionManager::new(alloc)?;
-        let manager = Arc::new(alloc, manager)?;
-        Ok(Registry { manager, door })
-    }
-
-    /// Whether nobody has a pid, who is registered under it now.
-    fn is_free<R: Wait>(&mut self, rt: &R, pid: i32) -> bool {
-        self.manager.register(rt, &mut self.door, pid, KEY).is_ok()
-    }
-
     /// The job of a client at a stream, under this pid.
     fn job<R: Wait>(
         &mut self,
@@ -51,18 +41,16 @@ impl Registry {
     ) -> Result<SocketJob, Fail>
         ensures { IfOk result (λ job. IsFresh (reads_of job.source) job.handle) }
     {
+        let (source, sink) = ends_of(stream)?;
         let relations = Arc::new(alloc, built_in_table(alloc)?)?;
-        let second = stream.try_clone()?;
         let manager = Arc::try_clone(&self.manager)?;
-        let Ok(handle) = self.manager.register(rt, &mut self.door, pid, KEY) else {
-            return Err(Fail::from("no registration"));
-        };
+        let handle = self.register(rt, pid)?;
         Ok(ConnectionJob {
             manager,
             relations,
             handle,
-            source: MaybeTls::Unix(Counted::new(stream)),
-            sink: MaybeTls::Unix(Counted::new(second)),
+            source,
+            sink,
             turn_limit: 100,
         })
     }
