@@ -30,7 +30,8 @@ unless : {A : Type 0} (b : Bool) (x : A) → (b ≡ true → ⊥) → ◌≡◌ 
 unless true x h = absurd (h refl)
 unless false x h = refl
 
-and_where : {A : Type 0} (b c : Bool) (x : A) (o : Option A) → b ≡ true → o ≡ (if c then Some x else None) → o ≡ (if b && c then Some x else None)
+and_where : {A : Type 0} (b c : Bool) (x : A) (o : Option A) → b ≡ true → o ≡ (if c then Some x else None)
+    → o ≡ (if b && c then Some x else None)
 and_where true c x o h e = e
 and_where false c x o h e = cc
 
@@ -40,7 +41,8 @@ below P top value (Ok x) p h = rw (lt-ltb value top h.0.1) (ap Some h.1)
 below P top value (Err e) p h = unless (nat_lt value top) (pos value) (λ lt. h (p, ltb-true value top lt))
 
 -- `parse` reads the number of a count
-pub result_ok-count : {E : Type 0} (word : List ℕ) (r : Result ℤ E) → ParsesSigned w32 10 word r → is_count word ≡ true → result_ok r ≡ count_of word
+pub result_ok-count : {E : Type 0} (word : List ℕ) (r : Result ℤ E) → ParsesSigned w32 10 word r → is_count word ≡ true
+    → result_ok r ≡ count_of word
 result_ok-count word r parses count =
     let front = and_left (not (length word == 0) && list_all is_ascii_digit word) (not (slice_index word 0 == 48)) count in
     let some = filled word (and_left (not (length word == 0)) (list_all is_ascii_digit word) front) in

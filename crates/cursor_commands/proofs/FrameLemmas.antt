@@ -20,7 +20,8 @@ regroup old head before text zero behind =
     ∙ (append_assoc (old ++ head) (before ++ (text ++ zero)) behind ∙ append_assoc old head ((before ++ (text ++ zero)) ++ behind))
 
 pub framed : {E : Type 0} (r : Result (Unit {0}) E) (kind len : ℕ) (before text behind old a b c d e f : List ℕ)
-    → len ≡ length before + length text + length behind + 5 → a ≡ old ++ (kind ∷ []) → b ≡ a ++ count32 len → c ≡ b ++ before → d ≡ c ++ text
+    → len ≡ length before + length text + length behind + 5 → a ≡ old ++ (kind ∷ []) → b ≡ a ++ count32 len → c ≡ b ++ before
+    → d ≡ c ++ text
     → e ≡ d ++ (0 ∷ []) → OnOk r (f ≡ e ++ behind) → OnOk r (f ≡ old ++ frame_bytes false kind ((before ++ string text) ++ behind))
 framed (Ok u) kind len before text behind old a b c d e f l pa pb pc pd pe pf =
     let body = (before ++ string text) ++ behind in
@@ -38,7 +39,8 @@ awaits_none : (m : PgWireFrontendMessage) → awaits_startup_after m false ≡ f
 awaits_none (client.Startup m) = refl
 awaits_none _ = refl
 
-pub joined : (before : List PgWireFrontendMessage) (old new : List ℕ) (m : PgWireFrontendMessage) → DividesInto false old before [] → AppendsFrame old new m
+pub joined : (before : List PgWireFrontendMessage) (old new : List ℕ) (m : PgWireFrontendMessage) → DividesInto false old before []
+    → AppendsFrame old new m
     → DividesInto false new (before ++ m ∷ []) []
 joined [] old new m e a =
     (a.frame, [], a.grown ∙ (ap (λ x. x ++ a.frame) e ∙ sym (append-nil a.frame)), a.carries, refl)
@@ -63,31 +65,39 @@ sync_frame = record {
   carries = (refl, refl);
 }
 
-pub synced : (before : List PgWireFrontendMessage) (old new : List ℕ) → DividesInto false old before [] → new ≡ old ++ 83 ∷ 0 ∷ 0 ∷ 0 ∷ 4 ∷ []
+pub synced : (before : List PgWireFrontendMessage) (old new : List ℕ) → DividesInto false old before []
+    → new ≡ old ++ 83 ∷ 0 ∷ 0 ∷ 0 ∷ 4 ∷ []
     → DividesInto false new (before ++ sync ∷ []) []
 synced before old new d e = joined before old new sync d (record { frame = 83 ∷ 0 ∷ 0 ∷ 0 ∷ 4 ∷ []; grown = e; carries = sync_frame })
 
 -- ---- the frames of a command
 
-pub declare_frames : (command : CursorCommand) (name relation name' relation' a b c d e f : List ℕ) → command ≡ Declare name relation → relation' ≡ relation
-    → name' ≡ name → a ≡ [] → AppendsFrame a b (parsing relation') → AppendsFrame b c (binding name') → AppendsFrame c d (closing 83 []) → e ≡ d
+pub declare_frames : (command : CursorCommand) (name relation name' relation' a b c d e f : List ℕ) → command ≡ Declare name relation
+    → relation' ≡ relation
+    → name' ≡ name → a ≡ [] → AppendsFrame a b (parsing relation') → AppendsFrame b c (binding name')
+    → AppendsFrame c d (closing 83 []) → e ≡ d
     → f ≡ e ++ 83 ∷ 0 ∷ 0 ∷ 0 ∷ 4 ∷ [] → DividesInto false f (messages_of command) []
 declare_frames command name relation name' relation' a b c d e f is same_relation same_name none first second third same last =
     let one = joined [] a b (parsing relation') none first in
     let two = joined (parsing relation' ∷ []) b c (binding name') one second in
     let three = joined (parsing relation' ∷ binding name' ∷ []) c d (closing 83 []) two third in
-    let four = synced (parsing relation' ∷ binding name' ∷ closing 83 [] ∷ []) d f three (last ∙ ap (λ l. l ++ 83 ∷ 0 ∷ 0 ∷ 0 ∷ 4 ∷ []) same) in
-    subst (λ k. DividesInto false f (messages_of k) []) (ap (λ n. Declare n relation') same_name ∙ (ap (λ r. Declare name r) same_relation ∙ sym is)) four
+    let four = synced (parsing relation' ∷ binding name' ∷ closing 83 [] ∷ []) d f three (last
+        ∙ ap (λ l. l ++ 83 ∷ 0 ∷ 0 ∷ 0 ∷ 4 ∷ []) same) in
+    subst (λ k. DividesInto false f (messages_of k) []) (ap (λ n. Declare n relation') same_name
+        ∙ (ap (λ r. Declare name r) same_relation ∙ sym is)) four
 
 -- the limit of a FETCH that can be asked fits
-pub fitting : (command : CursorCommand) (limit : ℤ) (name : List ℕ) → command ≡ Fetch limit name → AllByRecursion CanBeSent (messages_of command)
+pub fitting : (command : CursorCommand) (limit : ℤ) (name : List ℕ) → command ≡ Fetch limit name
+    → AllByRecursion CanBeSent (messages_of command)
     → to_z w32 (of_z w32 limit) ≡ limit
 fitting command limit name is sent =
     let all : AllByRecursion CanBeSent (messages_of (Fetch limit name)) = subst (λ k. AllByRecursion CanBeSent (messages_of k)) is sent in
     to_z-of_z {w = w32} {z = limit} all.1.0.1.carries.2.max_rows
 
-pub fetch_frames : (command : CursorCommand) (limit limit' : ℤ) (name name' name'' a b c d e : List ℕ) → command ≡ Fetch limit name → limit' ≡ limit
-    → name' ≡ name → name'' ≡ name → a ≡ [] → AppendsFrame a b (describing 80 name') → AppendsFrame b c (executing name'' limit') → d ≡ c → e ≡ d ++ 83 ∷ 0 ∷ 0 ∷ 0 ∷ 4 ∷ []
+pub fetch_frames : (command : CursorCommand) (limit limit' : ℤ) (name name' name'' a b c d e : List ℕ) → command ≡ Fetch limit name
+    → limit' ≡ limit
+    → name' ≡ name → name'' ≡ name → a ≡ [] → AppendsFrame a b (describing 80 name') → AppendsFrame b c (executing name'' limit')
+    → d ≡ c → e ≡ d ++ 83 ∷ 0 ∷ 0 ∷ 0 ∷ 4 ∷ []
     → DividesInto false e (messages_of command) []
 fetch_frames command limit limit' name name' name'' a b c d e is same_limit same_first same_second none first second same last =
     let one = joined [] a b (describing 80 name') none first in

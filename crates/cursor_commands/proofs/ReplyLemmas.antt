@@ -34,9 +34,11 @@ apart : (m : PgWireBackendMessage) → is_one_byte m ≡ false → reply_type m 
 apart m one h = false≢true (sym one ∙ (one_by_type m ∙ eq-eqb (reply_type m) 78 h))
 
 long : (m : PgWireBackendMessage) (others : List ℕ) → is_one_byte m ≡ false → 5 ≤ length (reply_bytes m ++ others)
-long m others one = rw one (omega (arith, length-append (count32 (4 + length (reply_body m)) ++ reply_body m) others, length-append (count32 (4 + length (reply_body m))) (reply_body m)))
+long m others one = rw one (omega (arith, length-append (count32 (4 + length (reply_body m)) ++ reply_body m) others, length-append
+    (count32 (4 + length (reply_body m))) (reply_body m)))
 
-by_one : (m : PgWireBackendMessage) (others : List ℕ) (n : ℕ) (one : Bool) → is_one_byte m ≡ one → IsEncodable m → TellsLen (reply_bytes m ++ others) n
+by_one : (m : PgWireBackendMessage) (others : List ℕ) (n : ℕ) (one : Bool) → is_one_byte m ≡ one → IsEncodable m
+    → TellsLen (reply_bytes m ++ others) n
     → n ≡ length (reply_bytes m)
 by_one m others n true one can tells =
     tells.one (eqb-true (reply_type m) 78 (sym (one_by_type m) ∙ one)) ∙ sym (len_by_type m others true one can)
@@ -46,7 +48,8 @@ by_one m others n false one can tells =
     omega (arith, len, length-append (reply_bytes m) others) in
     tells.told (apart m one) (long m others one) within ∙ sym len
 
-pub is_len : (bytes : List ℕ) (n : ℕ) (m : PgWireBackendMessage) (others : List ℕ) → TellsLen bytes n → IsEncodable m → bytes ≡ reply_bytes m ++ others
+pub is_len : (bytes : List ℕ) (n : ℕ) (m : PgWireBackendMessage) (others : List ℕ) → TellsLen bytes n → IsEncodable m
+    → bytes ≡ reply_bytes m ++ others
     → n ≡ length (reply_bytes m)
 is_len bytes n m others tells can e = by_one m others n (is_one_byte m) refl can (subst (λ b. TellsLen b n) e tells)
 
@@ -75,8 +78,10 @@ front bytes n (m ∷ others) some tells can e =
       encodable = can.0;
       others_encodable = can.1;
       kind = ap (λ b. slice_index b 0) e;
-      reply = ap (λ k. take k bytes) len ∙ (ap (λ b. take (length (reply_bytes m)) b) e ∙ take-append_seam (reply_bytes m) (replies_bytes others));
-      behind = ap (λ k. drop k bytes) len ∙ (ap (λ b. drop (length (reply_bytes m)) b) e ∙ drop-append_seam (reply_bytes m) (replies_bytes others));
+      reply = ap (λ k. take k bytes) len ∙ (ap (λ b. take (length (reply_bytes m)) b) e
+          ∙ take-append_seam (reply_bytes m) (replies_bytes others));
+      behind = ap (λ k. drop k bytes) len ∙ (ap (λ b. drop (length (reply_bytes m)) b) e
+          ∙ drop-append_seam (reply_bytes m) (replies_bytes others));
     }
 
 -- ---- what replies tell
@@ -98,7 +103,8 @@ pub record IsSeen (replies : Replies) (rest : List ℕ) (failed : Bool) (rows : 
   pub counted : count_by is_row replies ≡ rows + count_by is_row left
 
 abbrev pub AreSeen : List ℕ → List ℕ → Bool → ℕ → Type 0
-AreSeen bytes rest failed rows = (replies : Replies) → AllByRecursion IsEncodable replies → bytes ≡ replies_bytes replies → IsSeen replies rest failed rows
+AreSeen bytes rest failed rows = (replies : Replies) → AllByRecursion IsEncodable replies → bytes ≡ replies_bytes replies
+    → IsSeen replies rest failed rows
 
 pub none_seen : (bytes : List ℕ) → AreSeen bytes bytes false 0
 none_seen bytes replies can e = record { left = replies; encodable = can; bytes = e; errors = refl; counted = omega arith }
@@ -107,7 +113,8 @@ or_assoc : (a b c : Bool) → (a || (b || c)) ≡ ((a || b) || c)
 or_assoc true b c = refl
 or_assoc false b c = refl
 
-pub one_seen : (bytes rest behind : List ℕ) (n : ℕ) (failed new_failed : Bool) (rows new_rows : ℕ) → AreSeen bytes rest failed rows → 0 < length rest → TellsLen rest n
+pub one_seen : (bytes rest behind : List ℕ) (n : ℕ) (failed new_failed : Bool) (rows new_rows : ℕ) → AreSeen bytes rest failed rows
+    → 0 < length rest → TellsLen rest n
     → new_failed ≡ (failed || slice_index rest 0 == 69) → new_rows ≡ rows + (if slice_index rest 0 == 68 then 1 else 0)
     → behind ≡ drop n rest → AreSeen bytes behind new_failed new_rows
 one_seen bytes rest behind n failed new_failed rows new_rows seen some tells f r is replies can e =
@@ -118,8 +125,10 @@ one_seen bytes rest behind n failed new_failed rows new_rows seen some tells f r
       encodable = at.others_encodable;
       bytes = is ∙ at.behind;
       errors =
-          was.errors ∙ (ap (λ l. failed || list_any is_error l) at.split ∙ (ap (λ b. failed || (b || list_any is_error at.others)) (error_by_type at.first
-          ∙ ap (λ k. k == 69) (sym at.kind)) ∙ (or_assoc failed (slice_index rest 0 == 69) (list_any is_error at.others) ∙ ap (λ b. b || list_any is_error at.others) (sym f))));
+          was.errors ∙ (ap (λ l. failed || list_any is_error l) at.split
+              ∙ (ap (λ b. failed || (b || list_any is_error at.others)) (error_by_type at.first
+          ∙ ap (λ k. k == 69) (sym at.kind)) ∙ (or_assoc failed (slice_index rest 0 == 69) (list_any is_error at.others)
+              ∙ ap (λ b. b || list_any is_error at.others) (sym f))));
       counted =
           let step : count_by is_row was.left ≡ (if slice_index rest 0 == 68 then 1 else 0) + count_by is_row at.others =
           ap (λ l. count_by is_row l) at.split ∙ (sum_by-cons (λ m. cond (is_row m) 1 0) at.first at.others
@@ -133,12 +142,15 @@ or_false false = refl
 
 -- no byte is left, so no reply is
 ends : (replies : Replies) (rest : List ℕ) (failed : Bool) (rows : ℕ) → length rest ≡ 0 → (left : Replies) → AllByRecursion IsEncodable left
-    → rest ≡ replies_bytes left → list_any is_error replies ≡ (failed || list_any is_error left) → count_by is_row replies ≡ rows + count_by is_row left
+    → rest ≡ replies_bytes left → list_any is_error replies ≡ (failed || list_any is_error left)
+    → count_by is_row replies ≡ rows + count_by is_row left
     → (failed ≡ list_any is_error replies) × (rows ≡ count_by is_row replies)
 ends replies rest failed rows none [] can e f r = (sym (f ∙ or_false failed), omega (arith, r))
-ends replies rest failed rows none (m ∷ left) can e f r = absurd (omega (arith, none, ap length e, length-append (reply_bytes m) (replies_bytes left)))
+ends replies rest failed rows none (m ∷ left) can e f r = absurd (omega (arith, none, ap length e, length-append (reply_bytes m)
+    (replies_bytes left)))
 
-pub all_seen : (bytes rest : List ℕ) (failed : Bool) (rows : ℕ) → AreSeen bytes rest failed rows → length rest ≡ 0 → IsSurvey bytes failed rows
+pub all_seen : (bytes rest : List ℕ) (failed : Bool) (rows : ℕ) → AreSeen bytes rest failed rows → length rest ≡ 0
+    → IsSurvey bytes failed rows
 all_seen bytes rest failed rows seen none replies can e =
     let was = seen replies can e in
     ends replies rest failed rows none was.left was.encodable was.bytes was.errors was.counted

@@ -32,7 +32,8 @@ AreWritten change bytes rest old out = (replies : Replies) → AllByRecursion Is
 pub none_written : (change : Change') (bytes old : List ℕ) → AreWritten change bytes bytes old old
 none_written change bytes old replies can e = record { left = replies; encodable = can; bytes = e; written = refl }
 
-pub one_written : (change : Change') (bytes rest reply behind : List ℕ) (n : ℕ) (old out new : List ℕ) → AreWritten change bytes rest old out
+pub one_written : (change : Change') (bytes rest reply behind : List ℕ) (n : ℕ) (old out new : List ℕ)
+    → AreWritten change bytes rest old out
     → 0 < length rest → TellsLen rest n → reply ≡ take n rest → behind ≡ drop n rest → AppendsReply change reply out new
     → AreWritten change bytes behind old new
 one_written change bytes rest reply behind n old out new written some tells is_front is_behind appends replies can e =
@@ -50,10 +51,13 @@ one_written change bytes rest reply behind n old out new written some tells is_f
           ∙ ap (λ b. b ++ replies_bytes (flat_map change at.others)) (sym grown))));
     }
 
-written_out : (change : Change') (replies : Replies) (rest old out : List ℕ) → length rest ≡ 0 → (left : Replies) → rest ≡ replies_bytes left
-    → old ++ replies_bytes (flat_map change replies) ≡ out ++ replies_bytes (flat_map change left) → out ≡ old ++ replies_bytes (flat_map change replies)
+written_out : (change : Change') (replies : Replies) (rest old out : List ℕ) → length rest ≡ 0 → (left : Replies)
+    → rest ≡ replies_bytes left
+    → old ++ replies_bytes (flat_map change replies) ≡ out ++ replies_bytes (flat_map change left)
+    → out ≡ old ++ replies_bytes (flat_map change replies)
 written_out change replies rest old out none [] e written = sym (written ∙ append-nil out)
-written_out change replies rest old out none (m ∷ left) e written = absurd (omega (arith, none, ap length e, length-append (reply_bytes m) (replies_bytes left)))
+written_out change replies rest old out none (m ∷ left) e written = absurd (omega (arith, none, ap length e, length-append
+    (reply_bytes m) (replies_bytes left)))
 
 pub all_written : (change : Change') (bytes rest old out : List ℕ) → AreWritten change bytes rest old out → length rest ≡ 0
     → AppendsReplies (λ replies. flat_map change replies) bytes old out
@@ -71,14 +75,16 @@ pub filter_kept : (p : PgWireBackendMessage → Bool) (replies : Replies) → fi
 filter_kept p [] = refl
 filter_kept p (m ∷ replies) = kept_onto (p m) m (filter p replies) ∙ ap (λ l. kept (p m) m ++ l) (filter_kept p replies)
 
-pub failed_replies : (command : CursorCommand) (bytes old new : List ℕ) (failed : Bool) (rows : ℕ) → IsSurvey bytes failed rows → failed ≡ true
+pub failed_replies : (command : CursorCommand) (bytes old new : List ℕ) (failed : Bool) (rows : ℕ) → IsSurvey bytes failed rows
+    → failed ≡ true
     → AppendsReplies (λ replies. flat_map (changed Failed) replies) bytes old new → AppendsReplies (replies_of command) bytes old new
 failed_replies command bytes old new failed rows survey is appends replies can e =
     let any : list_any is_error replies ≡ true = sym (survey replies can e).0 ∙ is in
     appends replies can e ∙ ap (λ l. old ++ replies_bytes l) (sym (filter_kept is_left_by_error replies)
     ∙ sym (ap (λ b. if b then filter is_left_by_error replies else success_replies command replies) any))
 
-pub good_replies : (command : CursorCommand) (bytes old new : List ℕ) (failed : Bool) (rows : ℕ) → IsSurvey bytes failed rows → failed ≡ false
+pub good_replies : (command : CursorCommand) (bytes old new : List ℕ) (failed : Bool) (rows : ℕ) → IsSurvey bytes failed rows
+    → failed ≡ false
     → AppendsReplies (success_replies command) bytes old new → AppendsReplies (replies_of command) bytes old new
 good_replies command bytes old new failed rows survey is appends replies can e =
     let any : list_any is_error replies ≡ false = sym (survey replies can e).0 ∙ is in
@@ -92,7 +98,8 @@ failed_on_ok command bytes old new failed rows (Ok u) survey is appends = failed
 failed_on_ok command bytes old new failed rows (Err x) survey is appends = appends
 
 pub done_on_ok : {E : Type 0} (command : CursorCommand) (tag bytes old new : List ℕ) (failed : Bool) (rows : ℕ) (r : Result (Unit {0}) E)
-    → ((replies : Replies) → success_replies command replies ≡ done tag ∷ filter is_ready replies) → IsSurvey bytes failed rows → failed ≡ false
+    → ((replies : Replies) → success_replies command replies ≡ done tag ∷ filter is_ready replies) → IsSurvey bytes failed rows
+    → failed ≡ false
     → OnOk r (AppendsReplies (λ replies. done tag ∷ flat_map (changed Ready) replies) bytes old new)
     → OnOk r (AppendsReplies (replies_of command) bytes old new)
 done_on_ok command tag bytes old new failed rows (Ok u) told survey is appends =
@@ -108,13 +115,15 @@ pub close_told : (command : CursorCommand) (name : List ℕ) (replies : Replies)
     → success_replies command replies ≡ done (codes "CLOSE CURSOR") ∷ filter is_ready replies
 close_told command name replies is = ap (λ k. success_replies k replies) is
 
-pub fetch_on_ok : {E : Type 0} (command : CursorCommand) (limit : ℤ) (name bytes old new : List ℕ) (failed : Bool) (rows : ℕ) (r : Result (Unit {0}) E)
+pub fetch_on_ok : {E : Type 0} (command : CursorCommand) (limit : ℤ) (name bytes old new : List ℕ) (failed : Bool) (rows : ℕ)
+    (r : Result (Unit {0}) E)
     → command ≡ Fetch limit name → IsSurvey bytes failed rows → failed ≡ false
     → OnOk r (AppendsReplies (λ replies. flat_map (changed (Fetched rows)) replies) bytes old new)
     → OnOk r (AppendsReplies (replies_of command) bytes old new)
 fetch_on_ok command limit name bytes old new failed rows (Ok u) cmd survey is appends =
     good_replies command bytes old new failed rows survey is (λ replies can e. appends replies can e
-    ∙ ap (λ l. old ++ replies_bytes l) (ap (λ n. flat_map (fetch_reply n) replies) (survey replies can e).1 ∙ ap (λ k. success_replies k replies) (sym cmd)))
+    ∙ ap (λ l. old ++ replies_bytes l) (ap (λ n. flat_map (fetch_reply n) replies) (survey replies can e).1
+        ∙ ap (λ k. success_replies k replies) (sym cmd)))
 fetch_on_ok command limit name bytes old new failed rows (Err x) cmd survey is appends = appends
 
 -- ---- one reply
@@ -165,7 +174,8 @@ select_before_zero (a ∷ b ∷ c ∷ d ∷ e ∷ []) = refl
 select_before_zero (a ∷ b ∷ c ∷ d ∷ e ∷ f ∷ []) = refl
 select_before_zero (a ∷ b ∷ c ∷ d ∷ e ∷ f ∷ g ∷ rest) = refl
 
-choose_tag : (b c : Bool) (m n : PgWireBackendMessage) → c ≡ b → ◌≡◌ {A = Replies} ((if b then m else n) ∷ []) (if c then m ∷ [] else n ∷ [])
+choose_tag : (b c : Bool) (m n : PgWireBackendMessage) → c ≡ b
+    → ◌≡◌ {A = Replies} ((if b then m else n) ∷ []) (if c then m ∷ [] else n ∷ [])
 choose_tag true c m n e = rw e refl
 choose_tag false c m n e = rw e refl
 
@@ -184,13 +194,16 @@ by_type_of : (rows : ℕ) (reply : List ℕ) (m : PgWireBackendMessage) → repl
 by_type_of rows reply m e =
     fetch_by_type rows m ∙ ap (λ b. if slice_index b 0 == 110 then [] else (if ends_rows b then fetched rows ∷ [] else m ∷ [])) (sym e)
 
-pub fetch_nothing : (rows : ℕ) (reply old new : List ℕ) → slice_index reply 0 ≡ 110 → new ≡ old → AppendsReply (fetch_reply rows) reply old new
+pub fetch_nothing : (rows : ℕ) (reply old new : List ℕ) → slice_index reply 0 ≡ 110 → new ≡ old
+    → AppendsReply (fetch_reply rows) reply old new
 fetch_nothing rows reply old new is same m can e =
     let none : fetch_reply rows m ≡ [] =
-    by_type_of rows reply m e ∙ ap (λ b. if b then [] else (if ends_rows reply then fetched rows ∷ [] else m ∷ [])) (eq-eqb (slice_index reply 0) 110 is) in
+    by_type_of rows reply m e ∙ ap (λ b. if b then [] else (if ends_rows reply then fetched rows ∷ [] else m ∷ [])) (eq-eqb
+        (slice_index reply 0) 110 is) in
     same ∙ (sym (append-nil old) ∙ ap (λ l. old ++ replies_bytes l) (sym none))
 
-pub fetch_tag : (rows : ℕ) (reply old new tag : List ℕ) → slice_index reply 0 == 110 ≡ false → ends_rows reply ≡ true → tag ≡ codes "FETCH" ++ spaced rows
+pub fetch_tag : (rows : ℕ) (reply old new tag : List ℕ) → slice_index reply 0 == 110 ≡ false → ends_rows reply ≡ true
+    → tag ≡ codes "FETCH" ++ spaced rows
     → new ≡ old ++ reply_bytes (done tag) → AppendsReply (fetch_reply rows) reply old new
 fetch_tag rows reply old new tag other is told grown m can e =
     let one : fetch_reply rows m ≡ fetched rows ∷ [] =
@@ -207,12 +220,16 @@ fetch_same rows reply old new other is grown m can e =
     ∙ ap (λ b. if b then fetched rows ∷ [] else m ∷ []) is) in
     grown ∙ (ap (λ l. old ++ l) (e ∙ sym (append-nil (reply_bytes m))) ∙ ap (λ l. old ++ replies_bytes l) (sym one))
 
-pub tag_on_ok : {E : Type 0} (rows : ℕ) (reply old new tag : List ℕ) (r : Result (Unit {0}) E) → slice_index reply 0 ≢ 110 → ends_rows reply ≡ true
-    → tag ≡ codes "FETCH" ++ spaced rows → OnOk r (new ≡ old ++ reply_bytes (done tag)) → OnOk r (AppendsReply (fetch_reply rows) reply old new)
-tag_on_ok rows reply old new tag (Ok u) other is told grown = fetch_tag rows reply old new tag (eqb-apart (slice_index reply 0) 110 other) is told grown
+pub tag_on_ok : {E : Type 0} (rows : ℕ) (reply old new tag : List ℕ) (r : Result (Unit {0}) E) → slice_index reply 0 ≢ 110
+    → ends_rows reply ≡ true
+    → tag ≡ codes "FETCH" ++ spaced rows → OnOk r (new ≡ old ++ reply_bytes (done tag))
+    → OnOk r (AppendsReply (fetch_reply rows) reply old new)
+tag_on_ok rows reply old new tag (Ok u) other is told grown = fetch_tag rows reply old new tag (eqb-apart
+    (slice_index reply 0) 110 other) is told grown
 tag_on_ok rows reply old new tag (Err x) other is told grown = grown
 
-pub same_on_ok : {E : Type 0} (rows : ℕ) (reply old new : List ℕ) (r : Result (Unit {0}) E) → slice_index reply 0 ≢ 110 → ends_rows reply ≡ false
+pub same_on_ok : {E : Type 0} (rows : ℕ) (reply old new : List ℕ) (r : Result (Unit {0}) E) → slice_index reply 0 ≢ 110
+    → ends_rows reply ≡ false
     → OnOk r (new ≡ old ++ reply) → OnOk r (AppendsReply (fetch_reply rows) reply old new)
 same_on_ok rows reply old new (Ok u) other is grown = fetch_same rows reply old new (eqb-apart (slice_index reply 0) 110 other) is grown
 same_on_ok rows reply old new (Err x) other is grown = grown

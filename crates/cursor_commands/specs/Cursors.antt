@@ -1,4 +1,5 @@
--- What a cursor command is answered: the replies to the messages that it asks of the session, changed (protocol: Message Flow, Extended Query).
+-- What a cursor command is answered: the replies to the messages that it asks of the session, changed (protocol: Message Flow, Extended
+-- Query).
 use Rattle.std.specs.Prelude.{ℕ, Bool, true, false, List, [], ◌∷◌, ◌++◌, if◌then◌else◌, nat_eq, codes, filter, count_by}
 use Rattle.std.specs.List.{list_any, flat_map, starts_with}
 use Rattle.pg_messages.specs.declared.frontend.PgWireFrontendMessage.{PgWireFrontendMessage}

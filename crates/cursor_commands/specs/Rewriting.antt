@@ -18,14 +18,16 @@ changed Ready m = kept (is_ready m) m
 changed Failed m = kept (is_left_by_error m) m
 changed (Fetched rows) m = fetch_reply rows m
 
--- This is the length that the bytes tell of the reply in front: one byte that refuses to encrypt, 78, stands alone; every other has a header.
+-- This is the length that the bytes tell of the reply in front: the byte that refuses to encrypt, 78, stands alone; every other reply has a
+-- header.
 pub record TellsLen (bytes : List ℕ) (len : ℕ) : Type 0 where
   pub one : slice_index bytes 0 ≡ 78 → len ≡ 1
   pub told : slice_index bytes 0 ≢ 78 → 5 ≤ length bytes → told_len false bytes ≤ length bytes → len ≡ told_len false bytes
 
 -- Bytes have grown by what becomes of the reply that these bytes are.
 abbrev pub AppendsReply : (PgWireBackendMessage → Replies) → List ℕ → List ℕ → List ℕ → Type 0
-AppendsReply change reply old new = (m : PgWireBackendMessage) → IsEncodable m → reply ≡ reply_bytes m → new ≡ old ++ replies_bytes (change m)
+AppendsReply change reply old new = (m : PgWireBackendMessage) → IsEncodable m → reply ≡ reply_bytes m
+    → new ≡ old ++ replies_bytes (change m)
 
 -- Bytes have grown by what becomes of the replies that these bytes are.
 abbrev pub AppendsReplies : (Replies → Replies) → List ℕ → List ℕ → List ℕ → Type 0

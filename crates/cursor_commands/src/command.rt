@@ -45,7 +45,8 @@ pub fn read_cursor(alloc: Global, query: &str) -> Result<Option<CursorCommand>, 
 
 /// The names in `DECLARE name CURSOR FOR relation`. None is any other text.
 fn read_declare(text: &str) -> Option<(&str, &str)>
-    ensures { option_map (λ names. (names.0.now, names.1.now)) result ≡ declared_by (words text.now) }
+    ensures { option_map (λ names. (names.0.now, names.1.now)) result
+        ≡ declared_by (words text.now) }
 {
     let (declare, rest) = first_word(text)?;
     let (name, rest) = first_word(rest)?;

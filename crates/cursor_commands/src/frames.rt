@@ -52,7 +52,8 @@ fn put_bind(portal: &str, frames: &mut BytesMut) -> Result<(), AllocError>
 /// Close of a statement or a portal.
 fn put_close(target: u8, name: &str, frames: &mut BytesMut) -> Result<(), AllocError>
     requires { CanBeSent (closing target name.now) }
-    ensures { OnOk result (AppendsFrame frames.old.items frames.new.items (closing target name.now)) }
+    ensures { OnOk result (AppendsFrame frames.old.items frames.new.items
+        (closing target name.now)) }
 {
     put_frame(b'C', &[target], name, &[], frames)
 }
@@ -60,7 +61,8 @@ fn put_close(target: u8, name: &str, frames: &mut BytesMut) -> Result<(), AllocE
 /// Describe of a statement or a portal.
 fn put_describe(target: u8, name: &str, frames: &mut BytesMut) -> Result<(), AllocError>
     requires { CanBeSent (describing target name.now) }
-    ensures { OnOk result (AppendsFrame frames.old.items frames.new.items (describing target name.now)) }
+    ensures { OnOk result (AppendsFrame frames.old.items frames.new.items
+        (describing target name.now)) }
 {
     put_frame(b'D', &[target], name, &[], frames)
 }
@@ -68,7 +70,8 @@ fn put_describe(target: u8, name: &str, frames: &mut BytesMut) -> Result<(), All
 /// Execute of a portal, with a limit of rows.
 fn put_execute(portal: &str, limit: i32, frames: &mut BytesMut) -> Result<(), AllocError>
     requires { CanBeSent (executing portal.now limit) }
-    ensures { OnOk result (AppendsFrame frames.old.items frames.new.items (executing portal.now limit)) }
+    ensures { OnOk result (AppendsFrame frames.old.items frames.new.items
+        (executing portal.now limit)) }
 {
     put_frame(b'E', &[], portal, &limit.to_be_bytes(), frames)
 }

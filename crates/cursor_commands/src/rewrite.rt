@@ -39,7 +39,8 @@ pub fn put_replies(
     replies: &[u8],
     out: &mut BytesMut,
 ) -> Result<(), AllocError>
-    ensures { OnOk result (AppendsReplies (replies_of command.now) replies.now out.old.items out.new.items) }
+    ensures { OnOk result (AppendsReplies (replies_of command.now) replies.now
+        out.old.items out.new.items) }
 {
     let survey = survey_of(replies);
     if survey.failed {
@@ -60,7 +61,8 @@ pub fn put_replies(
 /// Appends CommandComplete with this tag, and of the replies ReadyForQuery.
 fn put_done(alloc: Global, tag: &str, replies: &[u8], out: &mut BytesMut) -> Result<(), AllocError>
     requires { IsEncodable (done tag.now) }
-    ensures { OnOk result (AppendsReplies (λ told. done tag.now ∷ flat_map (changed Change.Ready) told)
+    ensures { OnOk result (AppendsReplies
+        (λ told. done tag.now ∷ flat_map (changed Change.Ready) told)
         replies.now out.old.items out.new.items) }
 {
     put_complete(Tag::new(alloc, tag)?.into_command_complete(alloc)?, out)?;

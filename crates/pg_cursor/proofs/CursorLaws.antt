@@ -45,7 +45,8 @@ module _ {T : Type 0} (ready awaits : T → Bool) (table : Table T) (lawful : Is
   stays_past (Close name) b = refl
 
   query_follows : (answers : List Bool) (s t : T) (m : PgWireFrontendMessage) (command : Option CursorCommand)
-      → ((b : Bool) → awaits_startup_after m b ≡ b) → (row_by table answers s m command).next ≡ Goes t → awaits t ≡ awaits_startup_after m (awaits s)
+      → ((b : Bool) → awaits_startup_after m b ≡ b) → (row_by table answers s m command).next ≡ Goes t
+      → awaits t ≡ awaits_startup_after m (awaits s)
   query_follows answers s t m (Some command) stays e =
       conversation_awaits (record { table = table; awaits = awaits }) lawful answers s t (messages_of command) e
       ∙ (stays_past command (awaits s) ∙ sym (stays (awaits s)))
@@ -57,7 +58,8 @@ module _ {T : Type 0} (ready awaits : T → Bool) (table : Table T) (lawful : Is
   row_follows answers s t m e = lawful.follows answers s t m e
 
   follows_when : (answers : List Bool) (s t : T) (m : PgWireFrontendMessage) (b : Bool)
-      → (if b then row_by table answers s m (asked_command m) else table answers s m).next ≡ Goes t → awaits t ≡ awaits_startup_after m (awaits s)
+      → (if b then row_by table answers s m (asked_command m) else table answers s m).next ≡ Goes t
+      → awaits t ≡ awaits_startup_after m (awaits s)
   follows_when answers s t m true e = row_follows answers s t m e
   follows_when answers s t m false e = lawful.follows answers s t m e
 

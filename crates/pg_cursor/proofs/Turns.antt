@@ -25,11 +25,14 @@ left_with_more calls answers more e =
     ∙ drop-append_seam (answers_of calls) (left_by calls answers ++ more)
 
 module _ {T : Type 0} (table : Table T) (awaits : T → Bool) (lawful : IsLawful table awaits) where
-  same_by : (messages : List PgWireFrontendMessage) (answers more : List Bool) (s : T) (m : PgWireFrontendMessage) (n : Next T) → (table answers s m).next ≡ n
+  same_by : (messages : List PgWireFrontendMessage) (answers more : List Bool) (s : T) (m : PgWireFrontendMessage) (n : Next T)
+      → (table answers s m).next ≡ n
       → ((u : T) → IsMade (conversation table (left_by (table answers s m).calls answers) u messages).next
-      → conversation table (left_by (table answers s m).calls answers ++ more) u messages ≡ conversation table (left_by (table answers s m).calls answers) u messages)
+      → conversation table (left_by (table answers s m).calls answers ++ more) u messages
+      ≡ conversation table (left_by (table answers s m).calls answers) u messages)
       → IsMade (continued (table answers s m) n (λ t. conversation table (left_by (table answers s m).calls answers) t messages)).next
-      → continued (table (answers ++ more) s m) (table (answers ++ more) s m).next (λ t. conversation table (left_by (table (answers ++ more) s m).calls (answers ++ more)) t messages)
+      → continued (table (answers ++ more) s m) (table (answers ++ more) s m).next (λ t. conversation table (left_by (table
+      (answers ++ more) s m).calls (answers ++ more)) t messages)
       ≡ continued (table answers s m) n (λ t. conversation table (left_by (table answers s m).calls answers) t messages)
   same_by messages answers more s m (Goes u) e ih made =
       let g = table answers s m in
@@ -46,7 +49,8 @@ module _ {T : Type 0} (table : Table T) (awaits : T → Bool) (lawful : IsLawful
   same_by messages answers more s m Stops e ih made = absurd (subst IsMade e made)
 
   -- more answers change nothing where none was wanting
-  pub turns_same : (messages : List PgWireFrontendMessage) (answers more : List Bool) (s : T) → IsMade (conversation table answers s messages).next
+  pub turns_same : (messages : List PgWireFrontendMessage) (answers more : List Bool) (s : T)
+      → IsMade (conversation table answers s messages).next
       → conversation table (answers ++ more) s messages ≡ conversation table answers s messages
   turns_same [] answers more s made = refl
   turns_same (m ∷ messages) answers more s made =
@@ -56,9 +60,12 @@ module _ {T : Type 0} (table : Table T) (awaits : T → Bool) (lawful : IsLawful
   taken_by : (messages : List PgWireFrontendMessage) (answers : List Bool) (s : T) (m : PgWireFrontendMessage) (n : Next T)
       → ((u : T) → left_by (table answers s m).calls answers
       ≡ answers_of (conversation table (left_by (table answers s m).calls answers) u messages).calls
-      ++ left_by (conversation table (left_by (table answers s m).calls answers) u messages).calls (left_by (table answers s m).calls answers))
-      → answers ≡ answers_of (continued (table answers s m) n (λ t. conversation table (left_by (table answers s m).calls answers) t messages)).calls
-      ++ left_by (continued (table answers s m) n (λ t. conversation table (left_by (table answers s m).calls answers) t messages)).calls answers
+      ++ left_by (conversation table (left_by (table answers s m).calls answers) u messages).calls (left_by
+          (table answers s m).calls answers))
+      → answers ≡ answers_of (continued (table answers s m) n (λ t. conversation table (left_by
+      (table answers s m).calls answers) t messages)).calls
+      ++ left_by (continued (table answers s m) n (λ t. conversation table (left_by
+          (table answers s m).calls answers) t messages)).calls answers
   taken_by messages answers s m (Goes u) ih =
       let g = table answers s m in
       let left = left_by g.calls answers in

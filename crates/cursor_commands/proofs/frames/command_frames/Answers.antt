@@ -15,7 +15,8 @@ returns c = elim c.match-command.branch [
       fetch_frames c.args.command.now w.in-Fetch.limit _ w.in-Fetch.name w.as_str-in-Fetch.result.now w.as_str-in-Fetch-2.result.now
       c.new-frames.result.items w.put_describe.new.frames.items w.put_execute.new.frames.items c.match-command.frames.items
       c.extend_from_slice.new.self.items w.in-Fetch.is
-      (fitting c.args.command.now w.in-Fetch.limit w.in-Fetch.name w.in-Fetch.is c.requires) w.as_str-in-Fetch.ensures w.as_str-in-Fetch-2.ensures c.new-frames.ensures.items
+      (fitting c.args.command.now w.in-Fetch.limit w.in-Fetch.name w.in-Fetch.is c.requires) w.as_str-in-Fetch.ensures
+      w.as_str-in-Fetch-2.ensures c.new-frames.ensures.items
       w.in_ok-put_describe-in-Fetch.ensures w.in_ok-put_execute-in-Fetch.ensures (ap (λ f. f.items) w.frames-is)
       c.in_ok-extend_from_slice.ensures.ok
   | in-Close+in_ok-put_close-in-Close w ↦

@@ -17,4 +17,5 @@ pub returns-in-Close : goal.returns-in-Close
 returns-in-Close c =
     done_on_ok c.args.command.now (codes "CLOSE CURSOR") c.args.replies.now c.args.out.now.items c.put_done-in-Close.new.out.items
     c.survey_of-survey.result.failed c.survey_of-survey.result.rows c.put_done-in-Close.result
-    (λ replies. close_told c.args.command.now _ replies c.in-Close.is) c.survey_of-survey.ensures c.if-survey.false c.put_done-in-Close.ensures
+    (λ replies. close_told c.args.command.now _ replies c.in-Close.is) c.survey_of-survey.ensures c.if-survey.false
+    c.put_done-in-Close.ensures
