@@ -3,7 +3,7 @@ use Rattle.std.proofs.Common.{◌≡◌, ℕ, zero, suc, ◌+◌, Bool, List, []
 use Rattle.std.proofs.Math.Seq.{drop-append_seam}
 use Rattle.pg_messages.specs.declared.frontend.PgWireFrontendMessage.{PgWireFrontendMessage}
 use Rattle.pg_handlers.specs.declared.desk.DeskCall.{DeskCall}
-use Rattle.pg_handlers.specs.Answer.{Answer, Table, Next, Goes, Ends, Stops, answers_of, left_by, conversation, continued, joined}
+use Rattle.pg_handlers.specs.Answer.{Table, Next, Goes, Ends, Stops, answers_of, left_by, conversation, continued, joined}
 use Rattle.pg_handlers.specs.Lawful.{IsMade, IsLawful}
 use Rattle.pg_session.proofs.Pieces.{answers_of-append}
 
@@ -61,11 +61,11 @@ module _ {T : Type 0} (table : Table T) (awaits : T → Bool) (lawful : IsLawful
       → ((u : T) → left_by (table answers s m).calls answers
       ≡ answers_of (conversation table (left_by (table answers s m).calls answers) u messages).calls
       ++ left_by (conversation table (left_by (table answers s m).calls answers) u messages).calls (left_by
-          (table answers s m).calls answers))
+      (table answers s m).calls answers))
       → answers ≡ answers_of (continued (table answers s m) n (λ t. conversation table (left_by
       (table answers s m).calls answers) t messages)).calls
       ++ left_by (continued (table answers s m) n (λ t. conversation table (left_by
-          (table answers s m).calls answers) t messages)).calls answers
+      (table answers s m).calls answers) t messages)).calls answers
   taken_by messages answers s m (Goes u) ih =
       let g = table answers s m in
       let left = left_by g.calls answers in

@@ -4,4 +4,4 @@
 mod laws;
 
 pub use cursor_commands::{CursorCommand, command_frames, put_replies, read_cursor};
-pub use laws::cursor_table_is_lawful;
+pub use laws::{cursor_table_is_lawful, frames_answer_commands};
