@@ -1,5 +1,5 @@
 -- Frames that are put together, and frames one behind another.
-use Rattle.std.proofs.Common.{◌≡◌, ℕ, ℤ, to_z, of_z, w32, ◌+◌, ◌≤◌, Bool, false, List, [], ◌∷◌, ◌++◌, length, Result, Ok, Err, OnOk, sym, ap, subst, ◌∙◌, refl, arith, length-append, append_assoc, append-nil}
+use Rattle.std.proofs.Common.{◌≡◌, ℕ, ℤ, to_z, of_z, w32, ◌+◌, Bool, false, List, [], ◌∷◌, ◌++◌, length, Result, Ok, Err, OnOk, sym, ap, subst, ◌∙◌, refl, arith, length-append, append_assoc, append-nil}
 use Rattle.std.specs.List.{AllByRecursion}
 use Rattle.std.proofs.Math.Facts.{to_z-of_z}
 use Rattle.pg_messages.specs.declared.frontend.PgWireFrontendMessage.{PgWireFrontendMessage}
@@ -82,9 +82,9 @@ declare_frames command name relation name' relation' a b c d e f is same_relatio
     let two = joined (parsing relation' ∷ []) b c (binding name') one second in
     let three = joined (parsing relation' ∷ binding name' ∷ []) c d (closing 83 []) two third in
     let four = synced (parsing relation' ∷ binding name' ∷ closing 83 [] ∷ []) d f three (last
-        ∙ ap (λ l. l ++ 83 ∷ 0 ∷ 0 ∷ 0 ∷ 4 ∷ []) same) in
+    ∙ ap (λ l. l ++ 83 ∷ 0 ∷ 0 ∷ 0 ∷ 4 ∷ []) same) in
     subst (λ k. DividesInto false f (messages_of k) []) (ap (λ n. Declare n relation') same_name
-        ∙ (ap (λ r. Declare name r) same_relation ∙ sym is)) four
+    ∙ (ap (λ r. Declare name r) same_relation ∙ sym is)) four
 
 -- the limit of a FETCH that can be asked fits
 pub fitting : (command : CursorCommand) (limit : ℤ) (name : List ℕ) → command ≡ Fetch limit name

@@ -1,7 +1,7 @@
 -- The reply in front of the bytes of replies.
-use Rattle.std.proofs.Common.{◌≡◌, ◌≢◌, ℕ, ◌+◌, ◌*◌, ◌^◌, ◌<◌, ◌≤◌, ◌==◌, Bool, true, false, ◌||◌, if◌then◌else◌, List, [], ◌∷◌, ◌++◌, length, take, drop, slice_index, cond, eq-eqb, sym, ap, subst, ◌∙◌, refl, arith, count_by, append_assoc, length-append}
+use Rattle.std.proofs.Common.{◌≡◌, ◌≢◌, ℕ, ◌+◌, ◌<◌, ◌≤◌, ◌==◌, Bool, true, false, ◌||◌, if◌then◌else◌, List, [], ◌∷◌, ◌++◌, length, take, drop, slice_index, cond, eq-eqb, sym, ap, subst, ◌∙◌, refl, arith, count_by, length-append}
 use Rattle.std.specs.Int.{w32, from_be_bytes}
-use Rattle.std.specs.List.{AllByRecursion, list_any, flat_map}
+use Rattle.std.specs.List.{AllByRecursion, list_any}
 use Rattle.std.proofs.Math.Seq.{take-append_seam, drop-append_seam}
 use Rattle.std.proofs.lemmas.Bool.{false≢true, eqb-true}
 use Rattle.std.proofs.lemmas.List.Sums.{sum_by-cons}
@@ -11,7 +11,7 @@ use Rattle.pg_messages.specs.Frames.{told_len}
 use Rattle.pg_messages.specs.declared.backend.PgWireBackendMessage.{PgWireBackendMessage}
 use Rattle.pg_messages.specs.declared.backend.PgWireBackendMessage.TheVariants as server
 use Rattle.pg_messages.specs.Replies.{IsEncodable, is_one_byte, reply_type, reply_body, reply_bytes, replies_bytes}
-use Rattle.cursor_commands.specs.Cursors.{Replies, is_error, is_ready, is_row, is_left_by_error}
+use Rattle.cursor_commands.specs.Cursors.{Replies, is_error, is_row}
 use Rattle.cursor_commands.specs.Rewriting.{TellsLen, IsSurvey}
 
 -- ---- the length of a reply
@@ -34,8 +34,12 @@ apart : (m : PgWireBackendMessage) → is_one_byte m ≡ false → reply_type m 
 apart m one h = false≢true (sym one ∙ (one_by_type m ∙ eq-eqb (reply_type m) 78 h))
 
 long : (m : PgWireBackendMessage) (others : List ℕ) → is_one_byte m ≡ false → 5 ≤ length (reply_bytes m ++ others)
-long m others one = rw one (omega (arith, length-append (count32 (4 + length (reply_body m)) ++ reply_body m) others, length-append
-    (count32 (4 + length (reply_body m))) (reply_body m)))
+long m others one = rw one (omega (
+  arith,
+  length-append (count32 (4 + length (reply_body m)) ++ reply_body m) others,
+  length-append
+      (count32 (4 + length (reply_body m))) (reply_body m),
+))
 
 by_one : (m : PgWireBackendMessage) (others : List ℕ) (n : ℕ) (one : Bool) → is_one_byte m ≡ one → IsEncodable m
     → TellsLen (reply_bytes m ++ others) n
@@ -126,9 +130,9 @@ one_seen bytes rest behind n failed new_failed rows new_rows seen some tells f r
       bytes = is ∙ at.behind;
       errors =
           was.errors ∙ (ap (λ l. failed || list_any is_error l) at.split
-              ∙ (ap (λ b. failed || (b || list_any is_error at.others)) (error_by_type at.first
+          ∙ (ap (λ b. failed || (b || list_any is_error at.others)) (error_by_type at.first
           ∙ ap (λ k. k == 69) (sym at.kind)) ∙ (or_assoc failed (slice_index rest 0 == 69) (list_any is_error at.others)
-              ∙ ap (λ b. b || list_any is_error at.others) (sym f))));
+          ∙ ap (λ b. b || list_any is_error at.others) (sym f))));
       counted =
           let step : count_by is_row was.left ≡ (if slice_index rest 0 == 68 then 1 else 0) + count_by is_row at.others =
           ap (λ l. count_by is_row l) at.split ∙ (sum_by-cons (λ m. cond (is_row m) 1 0) at.first at.others
@@ -146,8 +150,13 @@ ends : (replies : Replies) (rest : List ℕ) (failed : Bool) (rows : ℕ) → le
     → count_by is_row replies ≡ rows + count_by is_row left
     → (failed ≡ list_any is_error replies) × (rows ≡ count_by is_row replies)
 ends replies rest failed rows none [] can e f r = (sym (f ∙ or_false failed), omega (arith, r))
-ends replies rest failed rows none (m ∷ left) can e f r = absurd (omega (arith, none, ap length e, length-append (reply_bytes m)
-    (replies_bytes left)))
+ends replies rest failed rows none (m ∷ left) can e f r = absurd (omega (
+  arith,
+  none,
+  ap length e,
+  length-append (reply_bytes m)
+      (replies_bytes left),
+))
 
 pub all_seen : (bytes rest : List ℕ) (failed : Bool) (rows : ℕ) → AreSeen bytes rest failed rows → length rest ≡ 0
     → IsSurvey bytes failed rows

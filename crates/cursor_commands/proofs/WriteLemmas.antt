@@ -1,5 +1,5 @@
 -- What becomes of replies, one after another.
-use Rattle.std.proofs.Common.{◌≡◌, ◌≢◌, ℕ, ℤ, ◌+◌, ◌<◌, ◌==◌, Bool, true, false, ◌||◌, ◌&&◌, if◌then◌else◌, List, [], ◌∷◌, ◌++◌, length, take, drop, slice_index, nat_eq, eq-eqb, Result, Ok, Err, OnOk, sym, ap, subst, ◌∙◌, refl, arith, count_by, filter, codes, append_assoc, append-nil, length-append}
+use Rattle.std.proofs.Common.{◌≡◌, ◌≢◌, ℕ, ℤ, ◌<◌, ◌==◌, Bool, true, false, ◌||◌, if◌then◌else◌, List, [], ◌∷◌, ◌++◌, length, take, drop, slice_index, nat_eq, eq-eqb, Result, Ok, Err, OnOk, sym, ap, ◌∙◌, refl, arith, filter, codes, append_assoc, append-nil, length-append}
 use Rattle.std.specs.List.{AllByRecursion, list_any, flat_map, starts_with}
 use Rattle.std.proofs.lemmas.Grind.{flat_map-append}
 use Rattle.pg_messages.specs.declared.backend.PgWireBackendMessage.{PgWireBackendMessage}
@@ -11,7 +11,7 @@ use Rattle.pg_portal.specs.Tags.{spaced, tag_of, tag_with_rows, tag_text}
 use Rattle.cursor_commands.specs.declared.command.CursorCommand.{CursorCommand}
 use Rattle.cursor_commands.specs.declared.command.CursorCommand.TheVariants.{Declare, Fetch, Close}
 use Rattle.cursor_commands.specs.declared.rewrite.Change.TheVariants.{Ready, Failed, Fetched}
-use Rattle.cursor_commands.specs.Cursors.{Replies, done, fetched, is_error, is_row, is_ready, is_left_by_error, fetch_reply, success_replies, replies_of}
+use Rattle.cursor_commands.specs.Cursors.{Replies, done, fetched, is_error, is_ready, is_left_by_error, fetch_reply, success_replies, replies_of}
 use Rattle.cursor_commands.specs.Rewriting.{TellsLen, IsSurvey, AppendsReply, AppendsReplies, kept, changed, ends_rows}
 use Rattle.cursor_commands.proofs.ReplyLemmas.{front}
 
@@ -56,8 +56,13 @@ written_out : (change : Change') (replies : Replies) (rest old out : List ℕ) �
     → old ++ replies_bytes (flat_map change replies) ≡ out ++ replies_bytes (flat_map change left)
     → out ≡ old ++ replies_bytes (flat_map change replies)
 written_out change replies rest old out none [] e written = sym (written ∙ append-nil out)
-written_out change replies rest old out none (m ∷ left) e written = absurd (omega (arith, none, ap length e, length-append
-    (reply_bytes m) (replies_bytes left)))
+written_out change replies rest old out none (m ∷ left) e written = absurd (omega (
+  arith,
+  none,
+  ap length e,
+  length-append
+      (reply_bytes m) (replies_bytes left),
+))
 
 pub all_written : (change : Change') (bytes rest old out : List ℕ) → AreWritten change bytes rest old out → length rest ≡ 0
     → AppendsReplies (λ replies. flat_map change replies) bytes old out
@@ -123,7 +128,7 @@ pub fetch_on_ok : {E : Type 0} (command : CursorCommand) (limit : ℤ) (name byt
 fetch_on_ok command limit name bytes old new failed rows (Ok u) cmd survey is appends =
     good_replies command bytes old new failed rows survey is (λ replies can e. appends replies can e
     ∙ ap (λ l. old ++ replies_bytes l) (ap (λ n. flat_map (fetch_reply n) replies) (survey replies can e).1
-        ∙ ap (λ k. success_replies k replies) (sym cmd)))
+    ∙ ap (λ k. success_replies k replies) (sym cmd)))
 fetch_on_ok command limit name bytes old new failed rows (Err x) cmd survey is appends = appends
 
 -- ---- one reply
@@ -199,7 +204,7 @@ pub fetch_nothing : (rows : ℕ) (reply old new : List ℕ) → slice_index repl
 fetch_nothing rows reply old new is same m can e =
     let none : fetch_reply rows m ≡ [] =
     by_type_of rows reply m e ∙ ap (λ b. if b then [] else (if ends_rows reply then fetched rows ∷ [] else m ∷ [])) (eq-eqb
-        (slice_index reply 0) 110 is) in
+    (slice_index reply 0) 110 is) in
     same ∙ (sym (append-nil old) ∙ ap (λ l. old ++ replies_bytes l) (sym none))
 
 pub fetch_tag : (rows : ℕ) (reply old new tag : List ℕ) → slice_index reply 0 == 110 ≡ false → ends_rows reply ≡ true

@@ -10,7 +10,7 @@ use Rattle.cursor_commands.specs.declared.command.CursorCommand.TheVariants.{Dec
 abbrev pub declared_by : List (List ℕ) → Option (List ℕ × List ℕ)
 declared_by (declare ∷ name ∷ cursor ∷ over ∷ relation ∷ []) =
     if is_word declare (codes "DECLARE") && is_word cursor (codes "CURSOR") && is_word over (codes "FOR") then Some
-        (name, relation) else None
+    (name, relation) else None
 declared_by _ = None
 
 -- the limit and the name in `FETCH limit FROM name`
