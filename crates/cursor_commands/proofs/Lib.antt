@@ -1,0 +1,5 @@
+pub mod CountLemmas
+pub mod FrameLemmas
+pub mod ReplyLemmas
+pub mod TagLemmas
+pub mod WriteLemmas

@@ -1,0 +1,5 @@
+pub mod Limits
+pub mod Commands
+pub mod Asking
+pub mod Cursors
+pub mod Rewriting

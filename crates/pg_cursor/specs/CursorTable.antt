@@ -1,0 +1,57 @@
+-- Cursor table: a conversation table in which a Query that is a cursor command is answered as a few extended messages are, with their
+-- replies changed (protocol: Message Flow, Extended Query). Every other message is answered as before.
+use Rattle.std.specs.Prelude.{ℕ, Bool, true, false, List, [], ◌≡◌, Option, Some, None, if◌then◌else◌}
+use Rattle.pg_messages.specs.declared.frontend.PgWireFrontendMessage.{PgWireFrontendMessage}
+use Rattle.pg_messages.specs.declared.frontend.PgWireFrontendMessage.TheVariants as client
+use Rattle.pg_messages.specs.Replies.{replies_bytes}
+use Rattle.pg_portal.specs.declared.client.PgWireConnectionState.{PgWireConnectionState}
+use Rattle.pg_portal.specs.declared.client.PgWireConnectionState.TheVariants as phase
+use Rattle.pg_handlers.specs.declared.desk.DeskCall.{DeskCall}
+use Rattle.pg_handlers.specs.Answer.{Answer, Table, Next, answers_of, conversation}
+use Rattle.pg_handlers.specs.Handlers.{Handlers}
+use Rattle.pg_handlers.specs.State.{State}
+use Rattle.pg_handlers.specs.Table.{whole_table, awaits}
+use Rattle.pg_session.specs.Run.{Rules}
+use Rattle.cursor_commands.specs.declared.command.CursorCommand.{CursorCommand}
+use Rattle.cursor_commands.specs.Commands.{command_of}
+use Rattle.cursor_commands.specs.Cursors.{Replies, messages_of, replies_of}
+
+-- The answer to a command: that to its messages in turn, with its replies changed. State and registry calls are theirs.
+abbrev pub command_row : {T : Type 0} → Table T → List Bool → T → CursorCommand → Answer T
+command_row table answers s command =
+    let given = conversation table answers s (messages_of command) in
+    record { replies = replies_of command given.replies; calls = given.calls; next = given.next }
+
+-- the command that a message is
+abbrev pub asked_command : PgWireFrontendMessage → Option CursorCommand
+asked_command (client.Query m) = command_of m.query
+asked_command _ = None
+
+abbrev pub row_by : {T : Type 0} → Table T → List Bool → T → PgWireFrontendMessage → Option CursorCommand → Answer T
+row_by table answers s m (Some command) = command_row table answers s command
+row_by table answers s m None = table answers s m
+
+-- A Query is a command only while the server is ready for one.
+abbrev pub cursor_table : {T : Type 0} → (T → Bool) → Table T → Table T
+cursor_table ready table answers s m = if ready s then row_by table answers s m (asked_command m) else table answers s m
+
+abbrev pub is_ready_phase : PgWireConnectionState → Bool
+is_ready_phase phase.ReadyForQuery = true
+is_ready_phase _ = false
+
+-- the server is ready for a query
+abbrev pub is_ready : {S : Type 0} → State S → Bool
+is_ready s = is_ready_phase s.info.state
+
+-- the conversation with cursors by what handlers tell
+abbrev pub cursor_rules : {S : Type 0} → Handlers S → Rules (State S)
+cursor_rules h = record { table = cursor_table is_ready (whole_table h); awaits = awaits }
+
+-- What the frames of a command were answered: none of their bytes is left, these are the bytes of the replies to its messages, and with
+-- those changed the answer is the row of the command, under the very answers that the calls tell.
+pub record IsCommanded {T : Type 0} (table : Table T) (s : T) (command : CursorCommand) (rest bytes : List ℕ) (calls : List DeskCall)
+    (next : Next T) : Type 0 where
+  pub replies : Replies
+  pub whole : rest ≡ []
+  pub replied : bytes ≡ replies_bytes replies
+  pub row : command_row table (answers_of calls) s command ≡ record { replies = replies_of command replies; calls = calls; next = next }
