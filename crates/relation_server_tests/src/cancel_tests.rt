@@ -3,10 +3,10 @@
 ghost use Rattle.std.specs.Prelude.{◌≡◌};
 ghost use Rattle.std.specs.Arc.{arc_value};
 
-use crate::clients::{FIRST_REPLIES, KEY, STARTUP, source_of};
+use crate::clients::{FIRST_REPLIES, KEY, Registry, STARTUP, source_of};
 use pg_cancel::{ConnectionHandle, ConnectionManager};
 use pg_messages::PgList;
-use pg_serve::MemorySink;
+use pg_serve::{MemorySink, MemorySource};
 use pg_session::EndKind;
 use relation_server::{built_in_table, serve_relations};
 use std::alloc::{AllocError, Global};
@@ -14,6 +14,7 @@ use std::sync::atomic::{AtomicBool, Ordering};
 use std::sync::{Arc, Wait};
 use std::test::Fail;
 use std::thread;
+use std::thread::Threads;
 
 /// How many queries one thread makes, and how many cancels the other one.
 const ROUNDS: u32 = 100;
@@ -81,6 +82,12 @@ fn queries(alloc: Global) -> Result<Vec<u8>, AllocError> {
     Ok(bytes)
 }
 
+/// The source of that client.
+fn source(alloc: Global) -> Result<MemorySource, AllocError> {
+    let bytes = queries(alloc)?;
+    source_of(alloc, bytes.as_slice())
+}
+
 /// How many of the queries were canceled, where each was answered by its row or by that, and nothing else was written.
 fn canceled_among(replies: &[u8]) -> Option<u32> {
     let mut rest = replies.strip_prefix(FIRST_REPLIES.get(..131)?)?;
@@ -101,42 +108,81 @@ fn canceled_among(replies: &[u8]) -> Option<u32> {
     }
 }
 
-/// A hundred queries meet a hundred cancels: each is answered by its row, or that it was canceled.
-#[test]
-fn a_hundred_cancels(rt: HostRuntime) -> Result<(), Fail> {
-    let alloc = rt.alloc();
-    let (manager, mut door) = ConnectionManager::new(alloc)?;
-    let Ok(mut handle) = manager.register(&rt, &mut door, 7, KEY) else {
-        return Err(Fail::from("no first registration"));
-    };
-    let Ok(other) = manager.register(&rt, &mut door, 8, KEY) else {
-        return Err(Fail::from("no second registration"));
-    };
-    let manager = Arc::new(alloc, manager)?;
-    let begun = Arc::new(alloc, AtomicBool::new(false))?;
-    let canceler = Canceler {
-        manager: Arc::try_clone(&manager)?,
-        handle: other,
-        begun: Arc::try_clone(&begun)?,
-        met: 0,
-    };
-    let canceler = thread::spawn(&rt, move || canceler.run(&rt))?;
+/// Whether each of the queries is answered by its row, or that it was canceled.
+fn are_answered<R: Wait>(
+    rt: &R,
+    alloc: Global,
+    manager: &ConnectionManager,
+    handle: &mut ConnectionHandle,
+) -> Result<bool, Fail>
+    requires issued { handle.old.issuer ≡ manager.now }
+{
     let table = built_in_table(alloc)?;
-    let mut source = source_of(alloc, queries(alloc)?.as_slice())?;
+    let mut source = source(alloc)?;
     let mut sink = MemorySink::new(alloc, PgList::new(alloc));
-    wait_for(&rt, &begun);
     let answer = serve_relations(
-        &rt,
+        rt,
         alloc,
-        &manager,
-        &mut handle,
+        manager,
+        handle,
         &table,
         &mut source,
         &mut sink,
         1000,
     );
-    assert_eq!(rt; answer, Ok(EndKind::Terminate));
-    assert_eq!(rt; canceler.join(&rt), ROUNDS);
-    assert!(rt; canceled_among(sink.bytes()).is_some());
+    Ok(answer == Ok(EndKind::Terminate) && canceled_among(sink.bytes()).is_some())
+}
+
+/// The connection of pid 8, which cancels.
+fn new_canceler<R: Wait>(
+    rt: &R,
+    registry: &mut Registry,
+    begun: &Arc<AtomicBool>,
+) -> Result<Canceler, Fail>
+    ensures manager { registry.new.manager ≡ registry.old.manager }
+{
+    let manager = Arc::try_clone(&registry.manager)?;
+    let begun = Arc::try_clone(begun)?;
+    let handle = registry.register(rt, 8)?;
+    Ok(Canceler {
+        manager,
+        handle,
+        begun,
+        met: 0,
+    })
+}
+
+/// A thread that cancels, once it has begun.
+fn begin<R: Wait + Threads + Copy + Send + 'static>(
+    rt: R,
+    alloc: Global,
+    registry: &mut Registry,
+) -> Result<thread::JoinHandle<u32>, Fail>
+    ensures manager { registry.new.manager ≡ registry.old.manager }
+{
+    let begun = Arc::new(alloc, AtomicBool::new(false))?;
+    let canceler = new_canceler(&rt, registry, &begun)?;
+    let canceler = thread::spawn(&rt, move || canceler.run(&rt))?;
+    wait_for(&rt, &begun);
+    Ok(canceler)
+}
+
+/// Whether that is so while cancels come beside the queries, and each cancel meets the connection.
+fn are_answered_beside<R: Wait + Threads + Copy + Send + 'static>(
+    rt: R,
+    alloc: Global,
+    registry: &mut Registry,
+) -> Result<bool, Fail> {
+    let mut handle = registry.register(&rt, 7)?;
+    let canceler = begin(rt, alloc, registry)?;
+    let answered = are_answered(&rt, alloc, &registry.manager, &mut handle)?;
+    Ok(canceler.join(&rt) == ROUNDS && answered)
+}
+
+/// A hundred queries meet a hundred cancels: each is answered by its row, or that it was canceled.
+#[test]
+fn a_hundred_cancels(rt: HostRuntime) -> Result<(), Fail> {
+    let mut registry = Registry::new(rt.alloc())?;
+    assert!(rt; are_answered_beside(rt, rt.alloc(), &mut registry)?);
     Ok(())
 }

@@ -1,10 +1,14 @@
-//! What clients send, and what they are answered.
+//! What clients send, and what they are answered; and a registry.
 
 ghost use Rattle.std.specs.Prelude.{◌≡◌, IfOk};
+ghost use Rattle.std.specs.Arc.{arc_value};
 
+use pg_cancel::{ConnectionHandle, ConnectionManager, Door};
 use pg_messages::{PgBytes, PgList};
 use pg_serve::MemorySource;
 use std::alloc::{AllocError, Global};
+use std::sync::{Arc, Wait};
+use std::test::Fail;
 
 /// The key of a registration.
 pub(crate) const KEY: [u8; 4] = [1, 2, 3, 4];
@@ -44,4 +48,39 @@ pub(crate) fn source_of(alloc: Global, bytes: &[u8]) -> Result<MemorySource, All
     let bytes = PgBytes::copy_of(alloc, bytes)?;
     let (pieces, fails) = (PgList::new(alloc), PgList::new(alloc));
     Ok(MemorySource::new(bytes, pieces, fails))
+}
+
+/// A registry that is shared, and its door.
+#[derive(Drop)]
+pub(crate) struct Registry {
+    /// The registry.
+    pub(crate) manager: Arc<ConnectionManager>,
+    /// Its door.
+    pub(crate) door: Door,
+    ghost issued: { door.issuer ≡ arc_value manager },
+}
+
+impl Registry {
+    /// A registry at which nobody is registered.
+    pub(crate) fn new(alloc: Global) -> Result<Registry, Fail> {
+        let (manager, door) = ConnectionManager::new(alloc)?;
+        let manager = Arc::new(alloc, manager)?;
+        Ok(Registry { manager, door })
+    }
+
+    /// The connection of a pid.
+    pub(crate) fn register<R: Wait>(&mut self, rt: &R, pid: i32) -> Result<ConnectionHandle, Fail>
+        ensures manager { self.new.manager ≡ self.old.manager }
+        ensures issued { IfOk result (λ handle. handle.issuer ≡ arc_value self.old.manager) }
+    {
+        match self.manager.register(rt, &mut self.door, pid, KEY) {
+            Ok(handle) => Ok(handle),
+            Err(_) => Err(Fail::from("no registration")),
+        }
+    }
+
+    /// Whether nobody has a pid, who is registered under it now.
+    pub(crate) fn is_free<R: Wait>(&mut self, rt: &R, pid: i32) -> bool {
+        self.manager.register(rt, &mut self.door, pid, KEY).is_ok()
+    }
 }

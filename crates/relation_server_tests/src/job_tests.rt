@@ -1,10 +1,6 @@
 //! The service of a connection as a value, over memory.
 
-ghost use Rattle.std.specs.Prelude.{◌≡◌, IfOk};
-ghost use Rattle.std.specs.Arc.{arc_value};
-
-use crate::clients::{FIRST_PATH, FIRST_REPLIES, KEY, source_of};
-use pg_cancel::{ConnectionManager, Door};
+use crate::clients::{FIRST_PATH, FIRST_REPLIES, Registry, source_of};
 use pg_messages::PgList;
 use pg_serve::{MemorySink, MemorySource};
 use pg_session::{EndKind, Source};
@@ -17,21 +13,11 @@ use std::test::Fail;
 type MemoryJob = ConnectionJob<MemorySource, MemorySink>;
 
 /// The job of a client of the first path, under the pid 7, with 100 turns.
-fn first_path<R: Wait>(
-    rt: &R,
-    alloc: Global,
-    manager: Arc<ConnectionManager>,
-    door: &mut Door,
-) -> Result<MemoryJob, Fail>
-    requires issued { door.old.issuer ≡ arc_value manager }
-    ensures issued { door.new.issuer ≡ door.old.issuer }
-    ensures manager { IfOk result (λ job. job.manager ≡ manager) }
-{
-    let relations = Arc::new(alloc, built_in_table(alloc)?)?;
+fn first_path<R: Wait>(rt: &R, alloc: Global, registry: &mut Registry) -> Result<MemoryJob, Fail> {
     let source = source_of(alloc, FIRST_PATH)?;
-    let Ok(handle) = manager.register(rt, door, 7, KEY) else {
-        return Err(Fail::from("no registration"));
-    };
+    let relations = Arc::new(alloc, built_in_table(alloc)?)?;
+    let manager = Arc::try_clone(&registry.manager)?;
+    let handle = registry.register(rt, 7)?;
     Ok(ConnectionJob {
         manager,
         relations,
@@ -43,23 +29,31 @@ fn first_path<R: Wait>(
 }
 
 /// Whether nothing is left of a source.
-fn is_read(mut source: MemorySource) -> bool {
+fn is_read(source: &mut MemorySource) -> bool {
     source.receive(&mut [0u8; 1]) == Ok(0)
+}
+
+/// Whether a job that is served ends so, with all replies of the first path written then.
+fn is_served<R: Wait>(rt: &R, alloc: Global, job: &mut MemoryJob, end: EndKind) -> bool {
+    job.serve(rt, alloc) == Ok(end) && job.sink.bytes() == FIRST_REPLIES
 }
 
 /// A job is served, and then once more: its client's bytes were read, and its handle is still registered.
 #[test]
 fn a_job_is_served(rt: HostRuntime) -> Result<(), Fail> {
     let alloc = rt.alloc();
-    let (manager, mut door) = ConnectionManager::new(alloc)?;
-    let manager = Arc::new(alloc, manager)?;
-    let mut job = first_path(&rt, alloc, Arc::try_clone(&manager)?, &mut door)?;
-    assert_eq!(rt; job.serve(&rt, alloc), Ok(EndKind::Terminate));
-    assert_eq!(rt; job.sink.bytes(), FIRST_REPLIES);
-    assert_eq!(rt; job.serve(&rt, alloc), Ok(EndKind::InputEnd));
-    assert_eq!(rt; job.sink.bytes(), FIRST_REPLIES);
-    assert!(rt; manager.register(&rt, &mut door, 7, KEY).is_err());
+    let mut registry = Registry::new(alloc)?;
+    let mut job = first_path(&rt, alloc, &mut registry)?;
+    assert!(rt; is_served(&rt, alloc, &mut job, EndKind::Terminate));
+    assert!(rt; is_served(&rt, alloc, &mut job, EndKind::InputEnd));
+    assert!(rt; !registry.is_free(&rt, 7));
     Ok(())
+}
+
+/// Whether a job that is run answers the replies of the first path, and has read all of its client.
+fn is_run<R: Wait>(rt: &R, alloc: Global, job: MemoryJob) -> bool {
+    let (answer, mut source, sink, _note) = job.run(rt, alloc);
+    answer == Ok(EndKind::Terminate) && sink.bytes() == FIRST_REPLIES && is_read(&mut source)
 }
 
 /// A job is run to its end: it hands back the source, of which all was read, and the sink with the replies, and its
@@ -67,13 +61,8 @@ fn a_job_is_served(rt: HostRuntime) -> Result<(), Fail> {
 #[test]
 fn a_job_is_run(rt: HostRuntime) -> Result<(), Fail> {
     let alloc = rt.alloc();
-    let (manager, mut door) = ConnectionManager::new(alloc)?;
-    let manager = Arc::new(alloc, manager)?;
-    let job = first_path(&rt, alloc, Arc::try_clone(&manager)?, &mut door)?;
-    let (answer, source, sink, _note) = job.run(&rt, alloc);
-    assert_eq!(rt; answer, Ok(EndKind::Terminate));
-    assert_eq!(rt; sink.bytes(), FIRST_REPLIES);
-    assert!(rt; is_read(source));
-    assert!(rt; manager.register(&rt, &mut door, 7, KEY).is_ok());
+    let mut registry = Registry::new(alloc)?;
+    let job = first_path(&rt, alloc, &mut registry)?;
+    assert!(rt; is_run(&rt, alloc, job) && registry.is_free(&rt, 7));
     Ok(())
 }

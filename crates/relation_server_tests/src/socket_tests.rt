@@ -1,9 +1,9 @@
 //! Clients over TCP and over a Unix socket.
 
-ghost use Rattle.std.specs.Prelude.{◌≡◌};
+ghost use Rattle.std.specs.Prelude.{◌≡◌, IfOk};
 
-use crate::clients::{FIRST_PATH, FIRST_REPLIES, KEY, STARTUP};
-use pg_cancel::{ConnectionHandle, ConnectionManager, Door};
+use crate::clients::{FIRST_PATH, FIRST_REPLIES, Registry, STARTUP};
+use pg_cancel::{ConnectionHandle, ConnectionManager};
 use pg_interval::Interval;
 use pg_messages::{PgList, PgStr};
 use pg_portal::MemPortalStore;
@@ -19,9 +19,10 @@ use std::alloc::{AllocError, Global};
 use std::io::{Read, Write};
 use std::net::{Net, SocketAddr, TcpListener, TcpStream};
 use std::os::unix::net::{UnixListener, UnixStream};
-use std::process::Abort;
+use std::random::RandomSource;
 use std::sync::{Arc, Wait};
 use std::test::Fail;
+use std::thread::Threads;
 use std::time::Clock;
 use std::{env, fs, io, process, thread};
 
@@ -61,72 +62,107 @@ fn serve<R: Wait>(
     }
 }
 
-/// How the first connection to come is served, under the pid 7. It is ended then.
-fn serve_next<R: Wait + Clock>(
+/// The first connection to come.
+fn accepted<R: Clock + Drop>(rt: R, listening: Listening) -> Result<(MaybeTls, MaybeTls), Fail> {
+    match SocketAcceptor::new(listening, rt).accept() {
+        Ok(ends) => Ok(ends),
+        Err(_) => Err(Fail::from("no connection")),
+    }
+}
+
+/// How a connection is served, under the pid 7, up to its Terminate.
+fn is_served<R: Wait>(
     rt: &R,
     alloc: Global,
-    listening: Listening,
-) -> Result<Result<EndKind, ServeError>, Fail> {
-    let (manager, mut door) = ConnectionManager::new(alloc)?;
-    let Ok(mut handle) = manager.register(rt, &mut door, 7, KEY) else {
-        return Err(Fail::from("no first registration"));
-    };
-    let Ok((mut reader, mut writer)) = SocketAcceptor::new(listening, rt).accept() else {
-        return Err(Fail::from("no connection"));
-    };
+    reader: &mut MaybeTls,
+    writer: &mut MaybeTls,
+) -> Result<bool, Fail> {
     let relations = built_in_table(alloc)?;
-    Ok(serve(
+    let mut registry = Registry::new(alloc)?;
+    let mut handle = registry.register(rt, 7)?;
+    let end = serve(
         rt,
         alloc,
         &relations,
-        &manager,
+        &registry.manager,
         &mut handle,
-        &mut reader,
-        &mut writer,
-    ))
+        reader,
+        writer,
+    );
+    Ok(end == Ok(EndKind::Terminate))
+}
+
+/// Whether the first connection to come is served so. It is ended then.
+fn is_next_served<R: Wait + Clock + Copy + Drop>(
+    rt: R,
+    alloc: Global,
+    listening: Listening,
+) -> Result<bool, Fail> {
+    let (mut reader, mut writer) = accepted(rt, listening)?;
+    is_served(&rt, alloc, &mut reader, &mut writer)
+}
+
+/// A thread that reads the replies to the first path.
+fn client_at<R: Threads, S: Read + Write + Drop + Send + 'static>(
+    rt: &R,
+    stream: S,
+) -> io::Result<thread::JoinHandle<bool>> {
+    Ok(thread::spawn(rt, move || is_answered(stream).unwrap_or(false))?)
 }
 
 #[test]
 fn first_path_over_tcp(rt: HostRuntime) -> Result<(), Fail> {
     let listener = TcpListener::bind(&rt, "127.0.0.1:0")?;
-    let stream = TcpStream::connect(&rt, listener.local_addr()?)?;
-    let client = thread::spawn(&rt, move || is_answered(stream).unwrap_or(false))?;
-    let answer = serve_next(&rt, rt.alloc(), Listening::Tcp(listener))?;
-    assert_eq!(rt; answer, Ok(EndKind::Terminate));
-    assert!(rt; client.join(&rt));
+    let client = client_at(&rt, TcpStream::connect(&rt, listener.local_addr()?)?)?;
+    let served = is_next_served(rt, rt.alloc(), Listening::Tcp(listener))?;
+    assert!(rt; client.join(&rt) && served);
     Ok(())
+}
+
+/// A Unix socket that is listened at and a client of it. Its file is removed.
+fn at_unix_socket(rt: &HostRuntime) -> Result<(UnixListener, UnixStream), Fail> {
+    let name = format!(in rt.alloc(); "relations-{}.socket", process::id(rt.process()))?;
+    let path = env::temp_dir(rt)?.join(rt.alloc(), name.as_str())?;
+    let listener = UnixListener::bind(rt, path.as_path())?;
+    let stream = UnixStream::connect(rt, path.as_path());
+    fs::remove_file(rt, path.as_path())?;
+    Ok((listener, stream?))
 }
 
 #[test]
 fn first_path_over_a_unix_socket(rt: HostRuntime) -> Result<(), Fail> {
-    let name = format!(in rt.alloc(); "relations-{}.socket", process::id(rt.process()))?;
-    let path = env::temp_dir(&rt)?.join(rt.alloc(), name.as_str())?;
-    let listener = UnixListener::bind(&rt, path.as_path())?;
-    let stream = UnixStream::connect(&rt, path.as_path());
-    fs::remove_file(&rt, path.as_path())?;
-    let stream = stream?;
-    let client = thread::spawn(&rt, move || is_answered(stream).unwrap_or(false))?;
-    let answer = serve_next(&rt, rt.alloc(), Listening::Unix(listener))?;
-    assert_eq!(rt; answer, Ok(EndKind::Terminate));
-    assert!(rt; client.join(&rt));
+    let (listener, stream) = at_unix_socket(&rt)?;
+    let client = client_at(&rt, stream)?;
+    let served = is_next_served(rt, rt.alloc(), Listening::Unix(listener))?;
+    assert!(rt; client.join(&rt) && served);
     Ok(())
 }
 
-/// A relation of one row, whose query finds as many polls unready as there can be.
-fn endless(alloc: Global) -> Result<RelationTable, AllocError> {
-    let mut columns = PgList::new(alloc);
-    columns.push(PgStr::copy_of(alloc, "span")?)?;
+/// Rows of one interval.
+fn one_row(alloc: Global) -> Result<PgList<PgList<Interval>>, AllocError> {
     let mut row = PgList::new(alloc);
     row.push(Interval::new(0, 1, 0))?;
     let mut rows = PgList::new(alloc);
     rows.push(row)?;
-    let mut relations = PgList::new(alloc);
-    relations.push(Relation {
+    Ok(rows)
+}
+
+/// A relation of one row, whose query finds as many polls unready as there can be.
+fn endless_relation(alloc: Global) -> Result<Relation, AllocError> {
+    let mut columns = PgList::new(alloc);
+    columns.push(PgStr::copy_of(alloc, "span")?)?;
+    Ok(Relation {
         name: PgStr::copy_of(alloc, "endless")?,
         unready: 4_294_967_295,
         columns,
-        rows,
-    })?;
+        rows: one_row(alloc)?,
+    })
+}
+
+/// A table of that relation.
+fn endless(alloc: Global) -> Result<RelationTable, AllocError> {
+    let mut relations = PgList::new(alloc);
+    relations.push(endless_relation(alloc)?)?;
     RelationTable::try_new(alloc, relations).or(Err(AllocError))
 }
 
@@ -161,49 +197,55 @@ fn is_canceled<R: Net<Stream = TcpStream>>(rt: &R, server: SocketAddr) -> io::Re
     Ok(reply[5..].starts_with(b"SERROR\0VERROR\0C57014\0"))
 }
 
+/// Whether 51 connections are taken in.
+fn are_taken_in<R: Wait + Clock + RandomSource + Copy + Drop>(
+    rt: R,
+    alloc: Global,
+    registry: &mut Registry,
+    acceptor: &mut SocketAcceptor<Listening, R>,
+    spawner: &mut ThreadSpawner<JobThreads>,
+) -> Result<bool, Fail>
+    requires accepted { acceptor.old.accepted ≡ 0 }
+    requires started { spawner.old.started ≡ 0 }
+{
+    let table = Arc::new(alloc, endless(alloc)?)?;
+    let mut keys = RandomKeys::new(rt)?;
+    let manager = Arc::try_clone(&registry.manager)?;
+    let answer = listen(
+        &rt,
+        acceptor,
+        spawner,
+        &mut keys,
+        manager,
+        &mut registry.door,
+        table,
+        5_000_000,
+        Some(51),
+    );
+    Ok(answer == Ok(51))
+}
+
+/// Whether the first two pids and the last are free.
+fn are_free<R: Wait>(rt: &R, registry: &mut Registry) -> bool {
+    registry.is_free(rt, 1) && registry.is_free(rt, 2) && registry.is_free(rt, 51)
+}
+
 /// A query that never ends is canceled while its connection is being served and others come. Each job then ends, and
 /// gives its registration back.
 #[test]
 fn a_query_is_canceled_over_tcp(rt: HostRuntime) -> Result<(), Fail> {
     jobs_cross_threads();
-    let alloc = rt.alloc();
-    let (manager, mut door) = ConnectionManager::new(alloc)?;
-    let manager = Arc::new(alloc, manager)?;
-    let shared = Arc::try_clone(&manager)?;
-    let table = Arc::new(alloc, endless(alloc)?)?;
+    let mut registry = Registry::new(rt.alloc())?;
+    let threads = JobThreads::new(rt.alloc())?;
+    let theirs = threads.share()?;
+    let start: StartJob = Box::new(rt.alloc(), move |job| theirs.start(rt, job))?;
+    let mut spawner = ThreadSpawner::new(threads, start);
     let listener = TcpListener::bind(&rt, "127.0.0.1:0")?;
     let server = listener.local_addr()?;
     let mut acceptor = SocketAcceptor::new(Listening::Tcp(listener), rt);
-    let threads = JobThreads::new(alloc)?;
-    let theirs = threads.share()?;
-    let start: StartJob = Box::new(alloc, move |job| theirs.start(rt, job))?;
-    let mut spawner = ThreadSpawner::new(threads, start);
-    let mut keys = RandomKeys::new(rt)?;
     let client = thread::spawn(&rt, move || is_canceled(&rt, server).unwrap_or(false))?;
-    let answer = listen(
-        &rt,
-        &mut acceptor,
-        &mut spawner,
-        &mut keys,
-        shared,
-        &mut door,
-        table,
-        5_000_000,
-        Some(51),
-    );
-    assert_eq!(rt; answer, Ok(51));
-    assert!(rt; client.join(&rt));
+    let taken = are_taken_in(rt, rt.alloc(), &mut registry, &mut acceptor, &mut spawner)?;
     spawner.threads.finish(&rt);
-    assert!(rt; is_free(&rt, &manager, &mut door, 1));
-    assert!(rt; is_free(&rt, &manager, &mut door, 2));
-    assert!(rt; is_free(&rt, &manager, &mut door, 51));
+    assert!(rt; client.join(&rt) && taken && are_free(&rt, &mut registry));
     Ok(())
-}
-
-/// Whether nobody has a pid.
-fn is_free<R: Wait>(rt: &R, manager: &ConnectionManager, door: &mut Door, pid: i32) -> bool
-    requires issued { door.old.issuer ≡ manager.now }
-    ensures issued { door.new.issuer ≡ door.old.issuer }
-{
-    manager.register(rt, door, pid, KEY).is_ok()
 }

@@ -4,7 +4,6 @@ use pg_interval::Interval;
 use pg_messages::{PgList, PgStr};
 use relation_server::{Relation, RelationTable, TableError, built_in_table};
 use std::alloc::{AllocError, Global};
-use std::test::Fail;
 
 /// A table of relations, each of a name, one column of a name, and one row of so many intervals.
 fn table_of(alloc: Global, parts: &[(&str, &str, usize)]) -> Result<RelationTable, TableError> {
@@ -18,26 +17,41 @@ fn table_of(alloc: Global, parts: &[(&str, &str, usize)]) -> Result<RelationTabl
     RelationTable::try_new(alloc, relations)
 }
 
+/// One column of a name.
+fn column_of(alloc: Global, name: &str) -> Result<PgList<PgStr>, AllocError> {
+    let mut columns = PgList::new(alloc);
+    columns.push(PgStr::copy_of(alloc, name)?)?;
+    Ok(columns)
+}
+
+/// A row of so many intervals.
+fn row_of(alloc: Global, width: usize) -> Result<PgList<Interval>, AllocError> {
+    let mut row = PgList::new(alloc);
+    for _ in 0..width {
+        row.push(Interval::new(0, 1, 0))?;
+    }
+    Ok(row)
+}
+
 fn relation_of(
     alloc: Global,
     name: &str,
     column: &str,
     width: usize,
 ) -> Result<Relation, AllocError> {
-    let mut columns = PgList::new(alloc);
-    columns.push(PgStr::copy_of(alloc, column)?)?;
-    let mut row = PgList::new(alloc);
-    for _ in 0..width {
-        row.push(Interval::new(0, 1, 0))?;
-    }
     let mut rows = PgList::new(alloc);
-    rows.push(row)?;
+    rows.push(row_of(alloc, width)?)?;
     Ok(Relation {
         name: PgStr::copy_of(alloc, name)?,
         unready: 0,
-        columns,
+        columns: column_of(alloc, column)?,
         rows,
     })
+}
+
+/// Why relations are no table, if they are none.
+fn refusal(alloc: Global, parts: &[(&str, &str, usize)]) -> Option<TableError> {
+    table_of(alloc, parts).err()
 }
 
 /// A name of 64 bytes.
@@ -75,37 +89,50 @@ fn tables_are_judged(rt: HostRuntime) {
             Some(TableError::BadName(0)),
         ),
     ] {
-        assert_eq!(rt; table_of(alloc, parts).err(), refused);
+        assert!(rt; refusal(alloc, parts) == refused);
     }
 }
 
-#[test]
-fn relations_are_found(rt: HostRuntime) -> Result<(), Fail> {
-    let alloc = rt.alloc();
-    let table = table_of(alloc, &[("a", "span", 1), ("b", "span", 1)])?;
-    for (name, place) in [("a", Some(0)), ("b", Some(1)), ("B", None), ("", None)] {
-        assert_eq!(rt; table.find(name), place, "{name}");
-    }
-    assert_eq!(rt; table.relations().len(), 2);
-    Ok(())
+/// Whether the relations of a table are found, and no other.
+fn are_found(table: &RelationTable) -> bool {
+    table.find("a") == Some(0)
+        && table.find("b") == Some(1)
+        && table.find("B").is_none()
+        && table.find("").is_none()
+        && table.relations().len() == 2
 }
 
 #[test]
-fn relations_are_built_in(rt: HostRuntime) -> Result<(), Fail> {
-    let alloc = rt.alloc();
-    let table = built_in_table(alloc)?;
+fn relations_are_found(rt: HostRuntime) {
+    let table = table_of(rt.alloc(), &[("a", "span", 1), ("b", "span", 1)]);
+    assert!(rt; table.is_ok_and(|table| are_found(&table)));
+}
+
+/// Whether a relation has this name, and so many unready polls, columns and rows.
+fn is_so(relation: &Relation, told: (&str, u32, usize, usize)) -> bool {
+    relation.name.as_str() == told.0
+        && relation.unready == told.1
+        && relation.columns.len() == told.2
+        && relation.rows.len() == told.3
+}
+
+/// Whether relations are so, each.
+fn are_so(relations: &[Relation], told: &[(&str, u32, usize, usize)]) -> bool {
+    let mut same = relations.len() == told.len();
+    for (relation, told) in relations.iter().zip(told) {
+        same = same && is_so(relation, *told);
+    }
+    same
+}
+
+#[test]
+fn relations_are_built_in(rt: HostRuntime) {
     let told = [
         ("shifts", 0, 1, 3),
         ("slow", 2, 1, 1),
         ("wide", 0, 3, 1),
         ("none", 0, 1, 0),
     ];
-    assert_eq!(rt; table.relations().len(), told.len());
-    for (relation, (name, unready, columns, rows)) in table.relations().iter().zip(told) {
-        assert_eq!(rt; relation.name.as_str(), name);
-        assert_eq!(rt; relation.unready, unready, "{name}");
-        assert_eq!(rt; relation.columns.len(), columns, "{name}");
-        assert_eq!(rt; relation.rows.len(), rows, "{name}");
-    }
-    Ok(())
+    let table = built_in_table(rt.alloc());
+    assert!(rt; table.is_ok_and(|table| are_so(table.relations(), &told)));
 }
