@@ -29,8 +29,8 @@ pub struct Heard {
     pub within: bool,
 }
 
-/// So many calls of each thread, and then the end of each connection. The number of a registration after all of them is
-/// how many entries there were. None where there was no memory.
+/// So many calls of each thread, and then the end of each connection. The number of a registration
+/// after all of them is how many entries there were. None where there was no memory.
 pub fn stressed<R: Threads + Wait + Sync>(rt: &R, alloc: Global, calls: u64) -> Option<Told> {
     let (manager, mut door) = ConnectionManager::new(alloc).ok()?;
     let heard = called(rt, alloc, &manager, &mut door, calls)?;
@@ -43,8 +43,8 @@ pub fn stressed<R: Threads + Wait + Sync>(rt: &R, alloc: Global, calls: u64) -> 
     })
 }
 
-/// Whether connections that make so many calls each, in turn, are answered as a `Registry` beside them is, and whether its
-/// history is legal. None where there was no memory.
+/// Whether connections that make so many calls each, in turn, are answered as a `Registry` beside
+/// them is, and whether its history is legal. None where there was no memory.
 fn in_turn<R: Wait>(rt: &R, alloc: Global, calls: u64) -> Option<bool> {
     let (manager, mut door) = ConnectionManager::new(alloc).ok()?;
     let mut all = workers(rt, alloc, &manager, &mut door, THREADS)?;
@@ -82,8 +82,8 @@ fn called<R: Threads + Wait + Sync>(
     })
 }
 
-/// Nanoseconds of a start or a question, where so many threads make so many each, after so many entries. 0 where there was
-/// no memory or no call.
+/// Nanoseconds of a start or a question, where so many threads make so many each, after so many
+/// entries. 0 where there was no memory or no call.
 pub fn timed<R: Threads + Wait + Clock + Sync>(
     rt: &R,
     alloc: Global,

@@ -1,7 +1,7 @@
 //! Threads that share one cancel registry, each with a connection of its own, which they cancel
-//! among each other. Words: CALLS, the calls of each of eight threads, whose answers are checked, and
-//! then as many calls in turn, whose answers and history are. Or `0 ENTRIES CALLS`, which tells the
-//! nanoseconds of a call on 1, 2, 4 and 8 threads after so many entries.
+//! among each other. Words: CALLS, the calls of each of eight threads, whose answers are checked,
+//! and then as many calls in turn, whose answers and history are. Or `0 ENTRIES CALLS`, which tells
+//! the nanoseconds of a call on 1, 2, 4 and 8 threads after so many entries.
 #![tactic(auto)]
 
 mod crowd;

@@ -1,4 +1,5 @@
-//! Whether a list of entries is a legal history, by a walk over the list that knows nothing of the registry's index.
+//! Whether a list of entries is a legal history, by a walk over the list that knows nothing of the
+//! registry's index.
 use pg_cancel::{Entry, RegistryAnswer, RegistryCall};
 use std::alloc::{AllocError, Global};
 

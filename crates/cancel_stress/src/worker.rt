@@ -226,7 +226,8 @@ impl<'a> Worker<'a> {
     }
 }
 
-/// So many connections, with pids from 1 on, each of which cancels the next. None where there was no memory.
+/// So many connections, with pids from 1 on, each of which cancels the next. None where there was
+/// no memory.
 pub fn workers<'a, R: Wait>(
     rt: &R,
     alloc: Global,
@@ -247,12 +248,14 @@ pub fn workers<'a, R: Wait>(
     Some(all)
 }
 
-/// Whether each thread was answered in order: a query that was told to be canceled stays so until the next start.
+/// Whether each thread was answered in order: a query that was told to be canceled stays so until
+/// the next start.
 pub fn are_in_order(all: &[Worker<'_>]) -> bool {
     all.iter().all(|worker| !worker.wavers)
 }
 
-/// Whether no connection was told of more canceled queries than cancels of it were answered true. Each cancels the next.
+/// Whether no connection was told of more canceled queries than cancels of it were answered true.
+/// Each cancels the next.
 pub fn are_within_cancels(all: &[Worker<'_>]) -> bool {
     let mut hits = all.last().map_or(0, |worker| worker.counts.hits);
     let mut within = true;

@@ -84,7 +84,8 @@ started_stays (client.Startup m) = refl
 started_stays _ = refl
 
 -- what shows a stored row in some formats shows it in wider ones
-module _ (relations : List Relation) (style : Option IntervalStyle) (F G : Format → Type 0) (wider : (chosen : Format) → F chosen → G chosen) where
+module _ (relations : List Relation) (style : Option IntervalStyle) (F G : Format → Type 0) (wider : (chosen : Format) → F chosen
+    → G chosen) where
   row_wider : (d : DataRow) → ShowsStoredRow relations style F d → ShowsStoredRow relations style G d
   row_wider d x = record {
     place = x.place;
@@ -257,7 +258,8 @@ module _ (relations : List Relation) (within : HoldIntervals relations) (even : 
     without_is : (name : List ℕ) → Good (without_portal s name)
     without_is name = (g.0, each_after_remove PortalIs s.portals name g.1)
 
-    bound_portal_is : (m : Bind) → Picks IsFormat (client.Bind m) → (x : StoredStatement RelationStatement) → EffectIs IsText (bound_portal s m x)
+    bound_portal_is : (m : Bind) → Picks IsFormat (client.Bind m) → (x : StoredStatement RelationStatement)
+        → EffectIs IsText (bound_portal s m x)
     bound_portal_is m picked x = ((tt, tt), portal_is m.portal_name (portal_bound m x) (picked, tt))
 
     columns_is : (m : Bind) → Picks IsFormat (client.Bind m) → (x : StoredStatement RelationStatement) (r : Result (List Field) PgWireError)
@@ -278,7 +280,8 @@ module _ (relations : List Relation) (within : HoldIntervals relations) (even : 
         either_effect IsText (nat_le 2 (length m.result_column_format_codes)) (bound_with_columns s m x columns)
         (bound_portal s m x) (columns_is m picked x columns) (bound_portal_is m picked x)
 
-    columns_reply_is : (d : Described) → ReplyIs (RowIn IsText) IsLine (if is_no_data d then server.NoData (record {}) else row_description d.fields)
+    columns_reply_is : (d : Described) → ReplyIs (RowIn IsText) IsLine (if is_no_data d then server.NoData (record {})
+        else row_description d.fields)
     columns_reply_is d = either_is (RowIn IsText) IsLine (is_no_data d) (server.NoData (record {})) (row_description d.fields) tt tt
 
     statement_description_is : (d : DescribeStatementResponse) → Shown IsText (statement_description d)
@@ -287,7 +290,8 @@ module _ (relations : List Relation) (within : HoldIntervals relations) (even : 
     portal_description_is : (d : DescribePortalResponse) → Shown IsText (portal_description d)
     portal_description_is d = (columns_reply_is (record { parameters = None; fields = d.fields }), tt)
 
-    told_is : {D : Type 0} (shown : D → Replies) → ((d : D) → Shown IsText (shown d)) → (r : Result D PgWireError) → EffectIs IsText (described s shown r)
+    told_is : {D : Type 0} (shown : D → Replies) → ((d : D) → Shown IsText (shown d)) → (r : Result D PgWireError)
+        → EffectIs IsText (described s shown r)
     told_is shown h (Ok d) = (h d, g)
     told_is shown h (Err e) = (tt, g)
 
@@ -298,7 +302,8 @@ module _ (relations : List Relation) (within : HoldIntervals relations) (even : 
     statement_is name (Some (entry.Value x)) =
         told_is statement_description statement_description_is (told.extended.describe_statement s.info x)
 
-    portal_told_is : (name : List ℕ) (x : Option (Entry (TablePortal RelationStatement))) → EffectIs IsText (described_portal told.extended s name x)
+    portal_told_is : (name : List ℕ) (x : Option (Entry (TablePortal RelationStatement)))
+        → EffectIs IsText (described_portal told.extended s name x)
     portal_told_is name None = (tt, g)
     portal_told_is name (Some entry.Empty) = (portal_description_is (record { fields = [] }), g)
     portal_told_is name (Some (entry.Value p)) =
@@ -332,7 +337,8 @@ module _ (relations : List Relation) (within : HoldIntervals relations) (even : 
 
     -- ---- Execute
 
-    page_effect_is : (F : Format → Type 0) (t : Talk) → Good t → (tag : List ℕ) (number : ℕ) (rows : List DataRow) (ending : PageEnd DataRow)
+    page_effect_is : (F : Format → Type 0) (t : Talk) → Good t
+        → (tag : List ℕ) (number : ℕ) (rows : List DataRow) (ending : PageEnd DataRow)
         → AllByRecursion (RowIn F) rows → EffectIs F (page_effect t tag number rows ending)
     page_effect_is F t f tag number rows (AtLimit items) h =
         (shown_append F (row_replies rows) (server.PortalSuspended (record {}) ∷ []) (row_replies_are (RowIn F) IsLine rows h) (tt, tt), f)
@@ -340,7 +346,8 @@ module _ (relations : List Relation) (within : HoldIntervals relations) (even : 
         (shown_append F (row_replies rows) (done_with tag number ∷ []) (row_replies_are (RowIn F) IsLine rows h) (tt, tt), f)
     page_effect_is F t f tag number rows (AtError e items) h = (tt, f)
 
-    stage_is : (own : Format) (r : ToldRows) (delivered : ℕ) (rows : List DataRow) (ending : PageEnd DataRow) → EndIs (RowIn (Own own)) ending
+    stage_is : (own : Format) (r : ToldRows) (delivered : ℕ) (rows : List DataRow) (ending : PageEnd DataRow)
+        → EndIs (RowIn (Own own)) ending
         → StageIs own (stage_after r delivered rows ending)
     stage_is own r d rows (AtLimit items) h = h
     stage_is own r d rows AtEnd h = tt
@@ -407,7 +414,11 @@ module _ (relations : List Relation) (within : HoldIntervals relations) (even : 
         let found = ap value_under e in
         let is = g.1 m.name p found in
         let done = staged_is m p is.0 answers p.stage is.1 in (
-          replies_wider relations style (Own p.bound.result_column_format) (IsOwnFormat s (client.Execute m)) (λ chosen same. (p, found, same))
+          replies_wider relations style (Own p.bound.result_column_format) (IsOwnFormat s (client.Execute m)) (λ chosen same. (
+            p,
+            found,
+            same,
+          ))
               (executed_portal told.extended answers s m p p.stage).effect.replies done.0,
           done.1,
         )
@@ -450,7 +461,8 @@ module _ (relations : List Relation) (within : HoldIntervals relations) (even : 
     waiting_is F (client.Terminate m) = (tt, tt)
     waiting_is F _ = (tt, g)
 
-    copy_row_is : (F : Format → Type 0) (is_extended : Bool) (m : PgWireFrontendMessage) → EffectIs F (copy_row told.copying is_extended s m)
+    copy_row_is : (F : Format → Type 0) (is_extended : Bool) (m : PgWireFrontendMessage)
+        → EffectIs F (copy_row told.copying is_extended s m)
     copy_row_is F is_extended (client.CopyData m) = (tt, g)
     copy_row_is F is_extended (client.CopyDone m) = (tt, g)
     copy_row_is F is_extended (client.CopyFail m) = (tt, g)

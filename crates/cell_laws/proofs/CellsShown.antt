@@ -114,7 +114,8 @@ row_from style formats row (Ok values) h = record { cells = h.0; count = refl; p
 row_from style formats row (Err e) h = tt
 
 row_shown : (named : List ℕ) (style : Option IntervalStyle) (formats : List FieldFormat) (row : List Interval)
-    → length formats ≡ length row → AllByRecursion IsInterval row → RowShown style formats row (row_item (or_refused named style) formats row)
+    → length formats ≡ length row → AllByRecursion IsInterval row
+    → RowShown style formats row (row_item (or_refused named style) formats row)
 row_shown named style formats row e is = row_from style formats row _ (values_shown named style formats row e is)
 
 -- ---- a line
@@ -214,7 +215,8 @@ module _ (relations : List Relation) (within : HoldIntervals relations) (even : 
 
   pub rows_show : (place : ℕ) (chosen : Format) → IsFormat chosen
       → ItemsAre IsRow
-      (map (row_item (or_refused named style) (column_formats chosen (relation_at relations place).columns)) (relation_at relations place).rows)
+      (map (row_item (or_refused named style) (column_formats chosen (relation_at relations place).columns))
+      (relation_at relations place).rows)
   rows_show place chosen is =
       let r = relation_at relations place in
       let formats = column_formats chosen r.columns in

@@ -84,7 +84,11 @@ module _ (relations : List Relation) (within : HoldIntervals relations) (even : 
   accepted_is : (answers : List Bool) (m : Startup) (messages : List PgWireFrontendMessage) (version : ProtocolVersion)
       → AllByRecursion (Picks IsFormat) messages
       → let behind = conversation table answers (started_session first version m) messages in
-      RunIs (client.Startup m ∷ messages) (record { replies = startup_replies pid key ++ behind.replies; calls = behind.calls; next = behind.next })
+      RunIs (client.Startup m ∷ messages) (record {
+        replies = startup_replies pid key ++ behind.replies;
+        calls = behind.calls;
+        next = behind.next;
+      })
   accepted_is answers m messages version picked =
       let style = style_of (client.Startup m ∷ messages) in
       let run = started_is relations within even IsFormat text_is style answers (started_session first version m) messages refl
@@ -163,7 +167,8 @@ module _ (relations : List Relation) (style : Option IntervalStyle) (IsFormat : 
 
 pub stored_shown : (relations : List Relation) → HoldIntervals relations → HaveEvenRows relations → (pid : ℤ) (key : List ℕ)
     → (answers : List Bool) (messages : List PgWireFrontendMessage)
-    → ShowStored relations messages (conversation (whole_table (relation_handlers relations)) answers (first_state pid key) messages).replies
+    → ShowStored relations messages (conversation (whole_table (relation_handlers relations)) answers (first_state pid key)
+    messages).replies
 stored_shown relations within even pid key answers messages =
     same_replies relations (style_of messages) (IsChosen messages) _
     (conversation_is relations within even (IsChosen messages) (inl refl) pid key answers messages

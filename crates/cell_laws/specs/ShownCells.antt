@@ -101,7 +101,8 @@ abbrev pub IsRowAt : List Relation → ℕ → List Interval → Type 0
 IsRowAt relations place row = Contains (relation_at relations place).rows row
 
 -- the DataRow shows a row of one of the relations, in chosen formats of its columns
-pub record ShowsStoredRow (relations : List Relation) (style : Option IntervalStyle) (IsFormat : Format → Type 0) (d : DataRow) : Type 0 where
+pub record ShowsStoredRow (relations : List Relation) (style : Option IntervalStyle) (IsFormat : Format
+    → Type 0) (d : DataRow) : Type 0 where
   pub place : ℕ
   pub row : List Interval
   pub stored : IsRowAt relations place row
@@ -128,6 +129,7 @@ abbrev pub ShowStored : List Relation → List PgWireFrontendMessage → List Pg
 ShowStored relations messages replies = AllByRecursion (ShowsReply relations (style_of messages) (IsChosen messages)) replies
 
 -- Each row and line among the replies to a message in a state shows a stored row, in the format of this message's own results.
-abbrev pub ShowInOwnFormat : List Relation → Option IntervalStyle → State RelationStatement → PgWireFrontendMessage → List PgWireBackendMessage
+abbrev pub ShowInOwnFormat : List Relation → Option IntervalStyle → State RelationStatement → PgWireFrontendMessage
+    → List PgWireBackendMessage
     → Type 0
 ShowInOwnFormat relations style s m replies = AllByRecursion (ShowsReply relations style (IsOwnFormat s m)) replies

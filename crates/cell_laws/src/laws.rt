@@ -1,4 +1,5 @@
-//! What each row and each line shows. The function does nothing: its contract is the law, of every table of relations.
+//! What each row and each line shows. The function does nothing: its contract is the law, of every
+//! table of relations.
 
 ghost use Rattle.std.specs.Prelude.{◌≡◌, Bool, ℕ, ℤ, List};
 ghost use Rattle.pg_messages.specs.declared.frontend.PgWireFrontendMessage.{PgWireFrontendMessage};
@@ -11,18 +12,22 @@ ghost use Rattle.cell_laws.specs.ShownCells.{ShowInOwnFormat, ShowStored, style_
 
 use relation_handlers::RelationTable;
 
-/// Whatever messages come and whatever the registry answers, each cell of the conversation table's replies stands for a
-/// stored interval, and for no other. Every conversation that is served over these relations is answered by this table.
+/// Whatever messages come and whatever the registry answers, each cell of the conversation table's
+/// replies stands for a stored interval, and for no other. Every conversation that is served over
+/// these relations is answered by this table.
 pub fn shown_cells_stand(relations: &RelationTable)
     // In the session's style, and in a format that a Bind among the messages chose, or in text.
-    ensures cells { (registration : ℤ × List ℕ) (answers : List Bool) (messages : List PgWireFrontendMessage)
-        → ShowStored relations.now messages (conversation (whole_table (relation_handlers relations.now)) answers
+    ensures cells { (registration : ℤ
+        × List ℕ) (answers : List Bool) (messages : List PgWireFrontendMessage)
+        → ShowStored relations.now messages
+        (conversation (whole_table (relation_handlers relations.now)) answers
         (first_state registration.0 registration.1) messages).replies }
 
-    // Wherever the messages lead, a message behind them is answered so too: an Execute in the format that its own
-    // portal's Bind chose, and every other message in text.
+    // Wherever the messages lead, a message behind them is answered so too: an Execute in the
+    // format that its own portal's Bind chose, and every other message in text.
     ensures formats { (registration : ℤ × List ℕ) (answers more : List Bool)
-        (messages : List PgWireFrontendMessage) (s : State RelationStatement) (m : PgWireFrontendMessage)
+        (messages : List PgWireFrontendMessage) (s : State RelationStatement)
+        (m : PgWireFrontendMessage)
         → (conversation (whole_table (relation_handlers relations.now)) answers
         (first_state registration.0 registration.1) messages).next ≡ Goes s
         → ShowInOwnFormat relations.now (style_of messages) s m

@@ -23,7 +23,11 @@ use Rattle.conversation_laws.specs.Discarding.{IsDiscarded, IsOfExtendedQuery, I
 told_error : {S : Type 0} (replies : Replies) (calls : List DeskCall) (t : State S) (e : PgWireError) (fatal : Bool)
     → is_fatal (info_of e) ≡ fatal
     → EndsWithError (info_of e) (if fatal
-    then (let a : Answer (State S) = record { replies = replies ++ error_reply (info_of e) ∷ []; calls = calls; next = Ends end.Fatal } in a)
+    then (let a : Answer (State S) = record {
+      replies = replies ++ error_reply (info_of e) ∷ [];
+      calls = calls;
+      next = Ends end.Fatal;
+    } in a)
     else (record {
       replies = replies ++ error_reply (info_of e) ∷ (after_error UntilSync t).0;
       calls = calls;
@@ -80,7 +84,8 @@ module _ {S : Type 0} (h : Handlers S) where
       ≡ conversation (whole_table h) answers s messages
   goes_on answers s messages a is = rw is refl
 
-  pub all_dropped_before : (answers : List Bool) (s : State S) (messages others : List PgWireFrontendMessage) → s.info.state ≡ phase.AwaitingSync
+  pub all_dropped_before : (answers : List Bool) (s : State S) (messages others : List PgWireFrontendMessage)
+      → s.info.state ≡ phase.AwaitingSync
       → AllByRecursion IsDiscarded messages
       → conversation (whole_table h) answers s (messages ++ others) ≡ conversation (whole_table h) answers s others
   all_dropped_before answers s [] others q d = refl

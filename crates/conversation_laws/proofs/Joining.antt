@@ -55,7 +55,8 @@ tells_none name (phase.CopyInProgress is_extended) _ replies e = refl
 module _ {S : Type 0} (h : Handlers S) (name : List ℕ) where
   -- what a message leaves: the portal with these items to come, or it is gone, or the conversation is over
   abbrev LeavesOrGone : List RowItem → Next (State S) → Type 0
-  LeavesOrGone left (Goes t) = (HasStarted (stage_under t name) × (items_to_come (stage_under t name) ≡ left)) ⊎ IsUnstarted (stage_under t name)
+  LeavesOrGone left (Goes t) = (HasStarted (stage_under t name) × (items_to_come (stage_under t name) ≡ left))
+      ⊎ IsUnstarted (stage_under t name)
   LeavesOrGone left (Ends kind) = Unit {0}
   LeavesOrGone left Stops = Unit {0}
 
@@ -90,7 +91,8 @@ module _ {S : Type 0} (h : Handlers S) (name : List ℕ) where
   later messages on answers (Ends kind) items k = ([], items, refl, refl)
   later messages on answers Stops items k = ([], items, refl, refl)
 
-  step_joins : (answers : List Bool) (s : State S) (m : PgWireFrontendMessage) (messages : List PgWireFrontendMessage) (items : List RowItem)
+  step_joins : (answers : List Bool) (s : State S) (m : PgWireFrontendMessage) (messages : List PgWireFrontendMessage)
+      (items : List RowItem)
       → Follows messages → Step answers s m items → Joins answers s (m ∷ messages) items
   step_joins answers s m messages items on k =
       let given = whole_table h answers s m in
@@ -170,7 +172,8 @@ module _ {S : Type 0} (h : Handlers S) (name : List ℕ) where
       step_joins answers s m messages (items_to_come (stage_under s name)) (follows messages) (step answers s s.info.state refl m k)
 
 -- a portal that stands
-pub pages_join_later : {S : Type 0} (h : Handlers S) (answers : List Bool) (s : State S) (name : List ℕ) (messages : List PgWireFrontendMessage)
+pub pages_join_later : {S : Type 0} (h : Handlers S) (answers : List Bool) (s : State S) (name : List ℕ)
+    (messages : List PgWireFrontendMessage)
     → HasStarted (stage_under s name) → PagesJoin (whole_table h) name answers s messages (items_to_come (stage_under s name))
 pages_join_later h answers s name messages k = follows h name messages answers s k
 

@@ -124,7 +124,8 @@ module _ {S : Type 0} (h : Handlers S) (s : State S) (name : List ℕ) where
   either_called R true x y f g = f
   either_called R false x y f g = g
 
-  either_state : (R : Type 0) (b : Bool) (x y : State S) → KeepsMap R x.portals → KeepsMap R y.portals → KeepsMap R (if b then x else y).portals
+  either_state : (R : Type 0) (b : Bool) (x y : State S) → KeepsMap R x.portals → KeepsMap R y.portals
+      → KeepsMap R (if b then x else y).portals
   either_state R true x y f g = f
   either_state R false x y f g = g
 
@@ -177,7 +178,8 @@ module _ {S : Type 0} (h : Handlers S) (s : State S) (name : List ℕ) where
   told_keeps R shown (Ok d) = stays R
   told_keeps R shown (Err e) = stays R
 
-  statement_keeps : (R : Type 0) (k : List ℕ) (x : Option (Entry (StoredStatement S))) → Keeps R (described_statement h.extended s k x).outcome
+  statement_keeps : (R : Type 0) (k : List ℕ) (x : Option (Entry (StoredStatement S)))
+      → Keeps R (described_statement h.extended s k x).outcome
   statement_keeps R k None = stays R
   statement_keeps R k (Some entry.Empty) = stays R
   statement_keeps R k (Some (entry.Value statement)) = told_keeps R statement_description (h.extended.describe_statement s.info statement)
@@ -233,7 +235,8 @@ module _ {S : Type 0} (h : Handlers S) (s : State S) (name : List ℕ) where
     fetched_keeps p r delivered =
         let page = item_page m.max_rows r.items in
         let e : Entry (TablePortal S) = entry.Value (at_stage p (stage_after r delivered page.rows page.ending)) in
-        page_keeps (with_portal s m.name e) (other_keeps e) r.command_tag (delivered_after delivered (length page.rows)) page.rows page.ending
+        page_keeps (with_portal s m.name e) (other_keeps e) r.command_tag (delivered_after delivered (length page.rows)) page.rows
+        page.ending
 
     sent_keeps : (t : State S) → KeepsMap R t.portals → (sent : Sent) (o : Option PgWireError) → Keeps R (sent_in_execute t sent o).outcome
     sent_keeps t k sent None = either_state R sent.copying (in_phase t (phase.CopyInProgress true)) t k k

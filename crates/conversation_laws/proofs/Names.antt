@@ -12,7 +12,8 @@ use Rattle.std.proofs.lemmas.Slice.Eq.{bytes_eq-Decides}
 use Rattle.pg_portal.specs.Names.{NameMap}
 
 pub get-removed : {X : Type 0} (m : NameMap X) (k : List ℕ) → fin.get (fin.remove m k) k ≡ None
-get-removed m k = fin.get-remove nat_list_cmp_total m k k ∙ ap (λ b. cond b None (fin.get m k)) ((eq_by_cmp_equiv nat_list_cmp_total).refl k)
+get-removed m k = fin.get-remove nat_list_cmp_total m k k
+    ∙ ap (λ b. cond b None (fin.get m k)) ((eq_by_cmp_equiv nat_list_cmp_total).refl k)
 
 pub get-left : {X : Type 0} (m : NameMap X) (k q : List ℕ) → (q ≡ k → ⊥) → fin.get (fin.remove m k) q ≡ fin.get m q
 get-left m k q ne = fin.get-remove nat_list_cmp_total m k q ∙ other (slice_cmp nat_cmp q k) refl

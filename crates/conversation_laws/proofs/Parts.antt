@@ -22,19 +22,22 @@ whole [] = refl
 whole (Ok row ∷ items) = ap (λ items. Ok row ∷ items) (whole items)
 whole (Err error ∷ items) = refl
 
-tail_is : (items : List RowItem) → (tail_of items ≡ []) ⊎ ((error : PgWireError) × (left : List RowItem) × (tail_of items ≡ Err error ∷ left))
+tail_is : (items : List RowItem) → (tail_of items ≡ [])
+    ⊎ ((error : PgWireError) × (left : List RowItem) × (tail_of items ≡ Err error ∷ left))
 tail_is [] = inl refl
 tail_is (Ok row ∷ items) = tail_is items
 tail_is (Err error ∷ items) = inr (error, items, refl)
 
 -- how a page over items comes out
 pub data Parts (limit : ℤ) (items : List RowItem) : Type 0 where
-  Reached : (rows : List DataRow) → (left : List RowItem) → items ≡ items_of (SentRows rows) ++ left → IsWithin limit (items_of (SentRows rows))
+  Reached : (rows : List DataRow) → (left : List RowItem) → items ≡ items_of (SentRows rows) ++ left
+      → IsWithin limit (items_of (SentRows rows))
       → item_page limit items ≡ record { rows = rows; ending = AtLimit left } → Parts limit items
   Complete : (rows : List DataRow) → items ≡ items_of (SentRows rows) ++ [] → IsWithin limit (items_of (SentRows rows))
       → item_page limit items ≡ record { rows = rows; ending = AtEnd } → Parts limit items
   Broken : (rows : List DataRow) → (e : PgWireError) → (left : List RowItem) → items ≡ items_of (DroppedRows rows e) ++ left
-      → IsWithin limit (items_of (DroppedRows rows e)) → item_page limit items ≡ record { rows = []; ending = AtError e left } → Parts limit items
+      → IsWithin limit (items_of (DroppedRows rows e)) → item_page limit items ≡ record { rows = []; ending = AtError e left }
+      → Parts limit items
 
 within_less : (limit : ℤ) (n : ℕ) (items : List RowItem) → is_reached limit n ≡ false → length items ≤ n + 1 → IsWithin limit items
 within_less (pos l) n items e h = λ one. grind (arith, nat_tests)
@@ -99,5 +102,6 @@ rows_among-rows [] others = refl
 rows_among-rows (row ∷ rows) others = ap (λ l. row ∷ l) (rows_among-rows rows others)
 
 -- rows, and a reply that is no DataRow
-pub rows_before : (rows : List DataRow) (reply : PgWireBackendMessage) → rows_among (reply ∷ []) ≡ [] → rows_among (row_replies rows ++ reply ∷ []) ≡ rows
+pub rows_before : (rows : List DataRow) (reply : PgWireBackendMessage) → rows_among (reply ∷ []) ≡ []
+    → rows_among (row_replies rows ++ reply ∷ []) ≡ rows
 rows_before rows reply e = rows_among-rows rows (reply ∷ []) ∙ ap (λ l. rows ++ l) e ∙ append-nil rows

@@ -61,8 +61,16 @@ module _ {S : Type 0} (s : State S) (m : Execute) (p : TablePortal S) where
     broken : (rows : List DataRow) (e : PgWireError) (left : List RowItem) → r.items ≡ items_of (DroppedRows rows e) ++ left
         → IsWithin m.max_rows (items_of (DroppedRows rows e)) → (fatal : Bool)
         → Takes (let t : State S = at (Started (with_items r left) delivered) in
-        if fatal then (let a : Answer (State S) = record { replies = [] ++ error_reply (info_of e) ∷ []; calls = calls; next = Ends end.Fatal } in a)
-        else (record { replies = [] ++ error_reply (info_of e) ∷ (after_error UntilSync t).0; calls = calls; next = Goes (after_error UntilSync t).1 }))
+        if fatal then (let a : Answer (State S) = record {
+          replies = [] ++ error_reply (info_of e) ∷ [];
+          calls = calls;
+          next = Ends end.Fatal;
+        } in a)
+        else (record {
+          replies = [] ++ error_reply (info_of e) ∷ (after_error UntilSync t).0;
+          calls = calls;
+          next = Goes (after_error UntilSync t).1;
+        }))
     broken rows e left j w true = record { page = DroppedRows rows e; left = left; joined = j; told = refl; within = w; leaves = tt }
     broken rows e left j w false = record {
       page = DroppedRows rows e;
@@ -90,7 +98,8 @@ module _ {S : Type 0} (s : State S) (m : Execute) (p : TablePortal S) where
       within = w;
       leaves = leaves_at (Ended (delivered_after delivered (length rows))) [] tt refl;
     })
-    takes_parts (Broken rows e left j w is) = subst (λ page. Takes (with_page page)) (sym is) (broken rows e left j w (is_fatal (info_of e)))
+    takes_parts (Broken rows e left j w is) = subst (λ page. Takes (with_page page)) (sym is)
+        (broken rows e left j w (is_fatal (info_of e)))
 
     pub takes : Takes (answer_of (fetched s m p r delivered))
     takes = takes_parts (parts m.max_rows r.items)
@@ -122,7 +131,8 @@ module _ {S : Type 0} (h : Handlers S) (answers : List Bool) (s : State S) (m : 
     leaves = (subst HasStarted (sym e) tt, ap items_to_come e);
   }
 
-  entry_takes : (o : Option (Entry (TablePortal S))) → stage_under s m.name ≡ stage_in (value_under o) → HasStarted (stage_in (value_under o))
+  entry_takes : (o : Option (Entry (TablePortal S))) → stage_under s m.name ≡ stage_in (value_under o)
+      → HasStarted (stage_in (value_under o))
       → TakesOf (items_to_come (stage_in (value_under o))) (answer_at o)
   entry_takes None e k = absurd k
   entry_takes (Some entry.Empty) e k = absurd k
@@ -140,7 +150,8 @@ module _ {S : Type 0} (h : Handlers S) (answers : List Bool) (s : State S) (m : 
     polled v is calls = rw (is, k.answered) (takes s m k.portal calls r 0)
 
     started_portal : (st : Stage) → st ≡ Unstarted → TakesOf r.items (settle UntilSync (executed_portal h.extended answers s m k.portal st))
-    started_portal st is = subst (λ (st : Stage). TakesOf r.items (settle UntilSync (executed_portal h.extended answers s m k.portal st))) (sym is)
+    started_portal st is = subst (λ (st : Stage). TakesOf r.items (settle UntilSync (executed_portal h.extended answers s m k.portal st)))
+        (sym is)
         (let asked = started (h.extended.query s.info k.portal.bound m.max_rows).owes answers in
         polled asked.verdict k.passed asked.calls)
 

@@ -76,7 +76,8 @@ unless_quiet status copying replies others (Some e) a b = a
 copy_quiet : (status : TransactionStatus) (copying : Bool) (head : PgWireBackendMessage) (c : ToldCopy)
     → IsQuiet (head ∷ copy_replies (copy_data c)) → IsQuiet (sent_copy status copying head c).replies
 copy_quiet status copying head c q =
-    unless_quiet status copying (head ∷ copy_replies (copy_data c)) (copy_end (copy_count (copy_data c))) (first_error (copy_items c)) q refl
+    unless_quiet status copying (head ∷ copy_replies (copy_data c)) (copy_end (copy_count (copy_data c))) (first_error (copy_items c)) q
+    refl
 
 module _ {S : Type 0} (h : Handlers S) (s : State S) where
   either_quiet : (b : Bool) (x y : Effect S) → IsQuiet x.replies → IsQuiet y.replies → IsQuiet (if b then x else y).replies
@@ -91,7 +92,8 @@ module _ {S : Type 0} (h : Handlers S) (s : State S) where
       → IsQuiet (bound_with_columns s m statement r).replies
   with_columns_quiet m statement (Err e) = refl
   with_columns_quiet m statement (Ok columns) = either_quiet (nat_lt (length m.result_column_format_codes) (length columns))
-      (refuses s (wire.UserError (too_few_codes (length m.result_column_format_codes) (length columns)))) (bound_portal s m statement) refl refl
+      (refuses s (wire.UserError (too_few_codes (length m.result_column_format_codes) (length columns)))) (bound_portal s m statement) refl
+      refl
 
   bound_quiet : (m : Bind) (x : Option (Entry (StoredStatement S))) → IsQuiet (bound h.extended s m x).replies
   bound_quiet m None = refl
@@ -112,7 +114,10 @@ module _ {S : Type 0} (h : Handlers S) (s : State S) where
   statement_quiet k None = refl
   statement_quiet k (Some entry.Empty) = refl
   statement_quiet k (Some (entry.Value statement)) =
-      described_quiet statement_description (λ d. columns_quiet d.fields (is_no_data (record { parameters = Some d.parameters; fields = d.fields })))
+      described_quiet statement_description (λ d. columns_quiet d.fields (is_no_data (record {
+        parameters = Some d.parameters;
+        fields = d.fields;
+      })))
       (h.extended.describe_statement s.info statement)
 
   portal_quiet : (k : List ℕ) (x : Option (Entry (TablePortal S))) → IsQuiet (described_portal h.extended s k x).replies
@@ -208,7 +213,8 @@ module _ {S : Type 0} (h : Handlers S) (s : State S) where
   not_both : {A : Type 0} (b : Bool) → b ≡ false → b ≡ true → A
   not_both b f t = let contradiction : ⊥ = cc in absurd contradiction
 
-  settled_ends : (replies : Replies) (calls : List DeskCall) (o : Outcome S) → IsQuiet replies → EndsWhereTold (settled UntilSync replies calls o)
+  settled_ends : (replies : Replies) (calls : List DeskCall) (o : Outcome S) → IsQuiet replies
+      → EndsWhereTold (settled UntilSync replies calls o)
   settled_ends replies calls (Done t) q e = not_both (has_error replies) q e
   settled_ends replies calls (Failed t w) q e = (info_of w, error_ends replies calls t w)
   settled_ends replies calls (Over kind) q e = not_both (has_error replies) q e
@@ -221,7 +227,8 @@ module _ {S : Type 0} (h : Handlers S) (s : State S) where
       subst (λ (scope : Scope). EndsWhereTold (settle scope c)) (sym (extended_scope h phase.ReadyForQuery m k))
       (settled_ends c.effect.replies c.calls c.effect.outcome (ready_quiet answers m k))
 
-pub response_ends : {S : Type 0} (h : Handlers S) (answers : List Bool) (s : State S) (m : PgWireFrontendMessage) → s.info.state ≡ phase.ReadyForQuery
+pub response_ends : {S : Type 0} (h : Handlers S) (answers : List Bool) (s : State S) (m : PgWireFrontendMessage)
+    → s.info.state ≡ phase.ReadyForQuery
     → IsOfExtendedQuery s.info.state m → has_error (whole_table h answers s m).replies ≡ true
     → (info : ErrorInfo) × EndsWithError info (whole_table h answers s m)
 response_ends h answers s m q k =

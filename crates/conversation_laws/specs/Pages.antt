@@ -147,8 +147,8 @@ TellsLater name (Goes t) pages later = WhileStarted (stage_under t name) pages (
 TellsLater name (Ends kind) pages later = pages ≡ []
 TellsLater name Stops pages later = pages ≡ []
 
--- These pages of the portal of a name are told by a conversation, in order, up to where the portal is replaced or removed; and where it still
--- stands at the end, these items are left of it.
+-- These pages of the portal of a name are told by a conversation, in order, up to where the portal is replaced or removed; and where it
+-- still stands at the end, these items are left of it.
 abbrev pub TellsPagesInTurn : {S : Type 0} → Table (State S) → List ℕ → List Bool → State S → List PgWireFrontendMessage → List Taken
     → List RowItem → Type 0
 TellsPagesInTurn table name answers s [] pages left = (pages ≡ []) × (left ≡ items_to_come (stage_under s name))

@@ -37,19 +37,24 @@ ghost use Rattle.conversation_laws.specs.Pages.{
   stage_under,
 };
 
-/// After an error in an extended message, discarding lasts until Sync and no longer: the error is the last that is told,
-/// and unless it is fatal, each message but Terminate is dropped up to the next Sync, which is answered.
+/// After an error in an extended message, discarding lasts until Sync and no longer: the error is
+/// the last that is told, and unless it is fatal, each message but Terminate is dropped up to the
+/// next Sync, which is answered.
 pub fn discards_until_sync<S>()
-    ensures error { (h : Handlers S) (answers : List Bool) (s t : State S) (m : PgWireFrontendMessage) (e : PgWireError)
+    ensures error { (h : Handlers S) (answers : List Bool) (s t : State S)
+        (m : PgWireFrontendMessage) (e : PgWireError)
         → IsOfExtendedQuery s.info.state m → (message_row h answers s m).effect.outcome ≡ Failed t e
         → EndsWithError (info_of e) (whole_table h answers s m) }
-    ensures error_response { (h : Handlers S) (answers : List Bool) (s : State S) (m : PgWireFrontendMessage)
+    ensures error_response { (h : Handlers S) (answers : List Bool) (s : State S)
+        (m : PgWireFrontendMessage)
         → s.info.state ≡ phase.ReadyForQuery → IsOfExtendedQuery s.info.state m
         → has_error (whole_table h answers s m).replies ≡ true
         → (info : ErrorInfo) × EndsWithError info (whole_table h answers s m) }
     ensures each { (h : Handlers S) (answers : List Bool) (s : State S) (m : PgWireFrontendMessage)
-        → s.info.state ≡ phase.AwaitingSync → IsDiscarded m → whole_table h answers s m ≡ unchanged s }
-    ensures all { (h : Handlers S) (answers : List Bool) (s : State S) (messages : List PgWireFrontendMessage)
+        → s.info.state ≡ phase.AwaitingSync → IsDiscarded m
+        → whole_table h answers s m ≡ unchanged s }
+    ensures all { (h : Handlers S) (answers : List Bool) (s : State S)
+        (messages : List PgWireFrontendMessage)
         → s.info.state ≡ phase.AwaitingSync → AllByRecursion IsDiscarded messages
         → conversation (whole_table h) answers s messages ≡ unchanged s }
     ensures sync { (h : Handlers S) (answers : List Bool) (s : State S) (m : PgSync)
@@ -61,37 +66,43 @@ pub fn discards_until_sync<S>()
         ≡ joined (synced s) (conversation (whole_table h) answers (behind_sync s) others) }
 {}
 
-/// Each Sync that is taken outside COPY in a started session is answered by one ReadyForQuery, which tells the status of
-/// the transaction; nothing is called, and the server is ready. Inside COPY it is dropped.
+/// Each Sync that is taken outside COPY in a started session is answered by one ReadyForQuery,
+/// which tells the status of the transaction; nothing is called, and the server is ready. Inside
+/// COPY it is dropped.
 pub fn sync_is_answered_once<S>()
     ensures outside { (h : Handlers S) (answers : List Bool) (s : State S) (m : PgSync)
         → IsOutsideCopy s.info.state → whole_table h answers s (client.PgSync m) ≡ synced s }
-    ensures inside { (h : Handlers S) (answers : List Bool) (s : State S) (m : PgSync) (is_extended : Bool)
+    ensures inside { (h : Handlers S) (answers : List Bool) (s : State S) (m : PgSync)
+        (is_extended : Bool)
         → s.info.state ≡ phase.CopyInProgress is_extended
         → whole_table h answers s (client.PgSync m) ≡ unchanged s }
 {}
 
-/// For each portal, the pages sent, the pages dropped and the failed items, joined in order, are a front of its source's
-/// items; and no page passes a positive limit.
+/// For each portal, the pages sent, the pages dropped and the failed items, joined in order, are a
+/// front of its source's items; and no page passes a positive limit.
 ///
-/// An Execute takes a page of the items that are to come of a started portal, or of the response that starts it, and
-/// leaves the others. Each other message leaves them as they are, or the portal is removed or replaced.
+/// An Execute takes a page of the items that are to come of a started portal, or of the response
+/// that starts it, and leaves the others. Each other message leaves them as they are, or the portal
+/// is removed or replaced.
 pub fn pages_join<S>()
     ensures page { (h : Handlers S) (answers : List Bool) (s : State S) (m : Execute)
         → s.info.state ≡ phase.ReadyForQuery → HasStarted (stage_under s m.name)
         → TakesPage m.name m.max_rows (items_to_come (stage_under s m.name))
         (whole_table h answers s (client.Execute m)) }
-    ensures first_page { (h : Handlers S) (answers : List Bool) (s : State S) (m : Execute) (r : ToldRows)
+    ensures first_page { (h : Handlers S) (answers : List Bool) (s : State S) (m : Execute)
+        (r : ToldRows)
         → Starts h answers s m r
         → TakesPage m.name m.max_rows r.items (whole_table h answers s (client.Execute m)) }
-    ensures other { (h : Handlers S) (answers : List Bool) (s t : State S) (name : List ℕ) (m : PgWireFrontendMessage)
+    ensures other { (h : Handlers S) (answers : List Bool) (s t : State S) (name : List ℕ)
+        (m : PgWireFrontendMessage)
         → is_execute_of name s.info.state m ≡ false → (whole_table h answers s m).next ≡ Goes t
         → KeepsPortal h name m s t }
     ensures in_turn { (h : Handlers S) (answers : List Bool) (s : State S) (name : List ℕ)
         (messages : List PgWireFrontendMessage)
         → HasStarted (stage_under s name)
         → PagesJoin (whole_table h) name answers s messages (items_to_come (stage_under s name)) }
-    ensures from_the_start { (h : Handlers S) (answers : List Bool) (s : State S) (m : Execute) (r : ToldRows)
+    ensures from_the_start { (h : Handlers S) (answers : List Bool) (s : State S) (m : Execute)
+        (r : ToldRows)
         (messages : List PgWireFrontendMessage)
         → Starts h answers s m r
         → PagesJoin (whole_table h) m.name answers s (client.Execute m ∷ messages) r.items }

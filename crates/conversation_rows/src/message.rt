@@ -2,12 +2,14 @@ use crate::fault::Fault;
 use crate::row::told_by;
 use std::alloc::Global;
 
-/// The layout of each message: its name, its type byte (`-` for the first packets of a client), and its fields
-/// (protocol: Message Formats). `i` is an Int32 in decimal, `w` an Int16, `y` an Int8, `b` a byte by its character, `s` a
-/// text with a zero behind it, `h` bytes in hexadecimal or `text` and their text, `c` a count and so many Int16, `o` a
-/// count and so many Int32, `v` a count and so many values, `f` a count and so many columns of a row description, `r` a
-/// count and all further fields as cells, `l` all further fields as the cells of a line, `S` all further fields as texts
-/// and then a zero, `E` the same where each text follows a byte. `alone` is the type byte without a length.
+/// The layout of each message: its name, its type byte (`-` for the first packets of a client), and
+/// its fields (protocol: Message Formats). `i` is an Int32 in decimal, `w` an Int16, `y` an Int8,
+/// `b` a byte by its character, `s` a text with a zero behind it, `h` bytes in hexadecimal or
+/// `text` and their text, `c` a count and so many Int16, `o` a count and so many Int32, `v` a count
+/// and so many values, `f` a count and so many columns of a row description, `r` a count and all
+/// further fields as cells, `l` all further fields as the cells of a line, `S` all further fields
+/// as texts and then a zero, `E` the same where each text follows a byte. `alone` is the type byte
+/// without a length.
 const LAYOUTS: &str = "# the client's
 Startup - iS
 SSLRequest - i
@@ -59,7 +61,8 @@ fn layout_of(name: &str) -> Option<(&'static str, &'static str)> {
     None
 }
 
-/// Appends the bytes of a message: its name and its fields, with a bar before each field; or `hex` and its bytes.
+/// Appends the bytes of a message: its name and its fields, with a bar before each field; or `hex`
+/// and its bytes.
 pub fn put_message<'t>(alloc: Global, bytes: &mut Vec<u8>, line: &'t str) -> Result<(), Fault<'t>> {
     if let Some(digits) = line.strip_prefix("hex ") {
         return put_hex(alloc, bytes, digits, line);
@@ -129,8 +132,8 @@ fn put_texts<'t>(
     Ok(())
 }
 
-/// Appends the number of fields, and each as a cell: `null`, `hex` and its bytes, or its text. A line without a bar has
-/// none.
+/// Appends the number of fields, and each as a cell: `null`, `hex` and its bytes, or its text. A
+/// line without a bar has none.
 fn put_cells<'t>(
     alloc: Global,
     body: &mut Vec<u8>,

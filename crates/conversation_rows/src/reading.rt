@@ -6,8 +6,9 @@ use crate::row::{told, told_by};
 use pg_interval::{Interval, ParseError};
 use std::alloc::Global;
 
-/// Whether the cells of each row that the lines expect are read back, in the style that they tell, as the intervals of
-/// the row of the same place among the lines that tell rows. Lines that tell no style have no such cells.
+/// Whether the cells of each row that the lines expect are read back, in the style that they tell,
+/// as the intervals of the row of the same place among the lines that tell rows. Lines that tell no
+/// style have no such cells.
 pub fn is_read_back<'t>(alloc: Global, lines: &[&'t str]) -> Result<bool, Fault<'t>> {
     let Some(style) = told(lines, "read_back") else {
         return Ok(true);

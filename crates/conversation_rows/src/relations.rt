@@ -30,7 +30,8 @@ fn relations_of<'t>(alloc: Global, lines: &[&'t str]) -> Result<Vec<Relation>, F
     Ok(relations)
 }
 
-/// A relation: its name, how many polls find it unready, and its columns; its rows stand behind its place.
+/// A relation: its name, how many polls find it unready, and its columns; its rows stand behind its
+/// place.
 fn relation_of<'t>(
     alloc: Global,
     head: &'t str,
@@ -88,7 +89,8 @@ fn push_rows<'t>(
     Ok(())
 }
 
-/// Intervals with a bar between them, each by its months, days and microseconds. No words tell no interval.
+/// Intervals with a bar between them, each by its months, days and microseconds. No words tell no
+/// interval.
 pub fn intervals_of<'t>(alloc: Global, words: &'t str) -> Result<Vec<Interval>, Fault<'t>> {
     let mut intervals = Vec::new(alloc);
     if words.is_empty() {

@@ -20,9 +20,9 @@ pub enum CursorCommand {
     Close(PgStr),
 }
 
-/// The command that a query is: `DECLARE c CURSOR FOR r`, `FETCH n FROM c`, `FETCH ALL FROM c` or `CLOSE c`, with key
-/// words in any ASCII case. Whitespace and semicolons at both ends count for nothing, and whitespace parts the words.
-/// None is any other query.
+/// The command that a query is: `DECLARE c CURSOR FOR r`, `FETCH n FROM c`, `FETCH ALL FROM c` or
+/// `CLOSE c`, with key words in any ASCII case. Whitespace and semicolons at both ends count for
+/// nothing, and whitespace parts the words. None is any other query.
 pub fn read_cursor(alloc: Global, query: &str) -> Result<Option<CursorCommand>, AllocError>
     ensures { IfOk result (λ command. command ≡ command_of query.now) }
 {

@@ -1,5 +1,5 @@
-//! The commands of cursors in simple queries: their texts, the messages that they ask of a session, and the replies to
-//! them.
+//! The commands of cursors in simple queries: their texts, the messages that they ask of a session,
+//! and the replies to them.
 #![tactic(auto)]
 
 mod command;

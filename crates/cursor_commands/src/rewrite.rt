@@ -114,7 +114,8 @@ fn put_reply(
     }
 }
 
-/// Whether a reply of this type is left by an error: the columns, the error, and that the server is ready.
+/// Whether a reply of this type is left by an error: the columns, the error, and that the server is
+/// ready.
 fn is_left_by_error(kind: u8) -> bool
     ensures { result ≡ (kind == 84 || kind == 69 || kind == 90) }
 {
@@ -151,7 +152,8 @@ fn put_fetched(
     out.extend_from_slice(reply)
 }
 
-/// Whether a reply ends or suspends rows: PortalSuspended, or CommandComplete whose tag begins with `SELECT `.
+/// Whether a reply ends or suspends rows: PortalSuspended, or CommandComplete whose tag begins with
+/// `SELECT `.
 fn ends_rows(reply: &[u8]) -> bool
     requires { 0 < length reply.now }
     ensures { result ≡ ends_rows reply.now }

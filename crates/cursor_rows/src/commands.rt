@@ -7,7 +7,8 @@ use bytes::BytesMut;
 use cursor_commands::{CursorCommand, put_replies, read_cursor};
 use std::alloc::Global;
 
-/// The command that the query is: `declare NAME RELATION`, `fetch LIMIT NAME`, `close NAME`; `none` where it is none.
+/// The command that the query is: `declare NAME RELATION`, `fetch LIMIT NAME`, `close NAME`; `none`
+/// where it is none.
 pub fn command_answer(alloc: Global, query: &str) -> Result<String, Fault> {
     match read_cursor(alloc, query)? {
         None => Ok(String::from_str(alloc, "none")?),

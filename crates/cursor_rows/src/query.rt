@@ -3,7 +3,8 @@
 use crate::fault::Fault;
 use std::alloc::Global;
 
-/// The query of a row: `\s`, `\t`, `\n`, `\v`, `\f` and `\r` are whitespace, the bytes 20 and 09 to 0D.
+/// The query of a row: `\s`, `\t`, `\n`, `\v`, `\f` and `\r` are whitespace, the bytes 20 and 09 to
+/// 0D.
 pub fn query_of(alloc: Global, text: &str) -> Result<String, Fault> {
     let mut query = String::new(alloc);
     let mut escaped = false;

@@ -3,8 +3,8 @@
 use crate::row::Fault;
 use std::alloc::{AllocError, Global};
 
-/// Appends the bytes that a text writes. `{3*ab}` is `ababab`; `\t`, `\n` and `\r` are these bytes, and `\x7c` is the
-/// byte of that hexadecimal number.
+/// Appends the bytes that a text writes. `{3*ab}` is `ababab`; `\t`, `\n` and `\r` are these bytes,
+/// and `\x7c` is the byte of that hexadecimal number.
 pub fn push_bytes(alloc: Global, bytes: &mut Vec<u8>, text: &str) -> Result<(), Fault> {
     for part in text.split("{") {
         match part.split_once("}") {

@@ -45,8 +45,8 @@ impl Draw {
         (self.number() % 2001) as i32 - 1000
     }
 
-    /// The next small interval: months and days within a thousand, and a time within 2 ^ 30 microseconds, which are
-    /// 18 minutes.
+    /// The next small interval: months and days within a thousand, and a time within 2 ^ 30
+    /// microseconds, which are 18 minutes.
     pub fn small_interval(&mut self) -> Interval {
         let months = self.thousand();
         let days = self.thousand();

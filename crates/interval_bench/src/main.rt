@@ -1,6 +1,7 @@
 // Prints and reads interval texts, many of them, and tells what came of it and how long it took.
-// Words: `print COUNT`, and `times` to tell the nanoseconds of a print as well; or `read STYLE [ROUNDS]`, which reads the
-// texts of standard input, one a line, and with ROUNDS reads them so often again and tells the nanoseconds of a read.
+// Words: `print COUNT`, and `times` to tell the nanoseconds of a print as well; or `read STYLE
+// [ROUNDS]`, which reads the texts of standard input, one a line, and with ROUNDS reads them so
+// often again and tells the nanoseconds of a read.
 #![tactic(auto)]
 
 mod draw;

@@ -8,9 +8,9 @@ use std::time::{Clock, Instant};
 /// Room for a text.
 const ROW: usize = 96;
 
-/// Prints as many intervals, drawn from a seed, in each of the four styles, small ones and then ones of any size, each into
-/// a text with memory of its own and then on the stack, appended to a buffer. It tells how many bytes that gave, and the
-/// nanoseconds of a print where they are wanted.
+/// Prints as many intervals, drawn from a seed, in each of the four styles, small ones and then
+/// ones of any size, each into a text with memory of its own and then on the stack, appended to a
+/// buffer. It tells how many bytes that gave, and the nanoseconds of a print where they are wanted.
 pub fn print_drawn<R: Print + Clock>(
     rt: &R,
     alloc: Global,
@@ -75,7 +75,8 @@ fn text_of(alloc: Global, style: Style, interval: &Interval) -> Result<String, A
     }
 }
 
-/// The bytes of all texts, each on the stack and from there behind the others in a buffer, as into a row's cell.
+/// The bytes of all texts, each on the stack and from there behind the others in a buffer, as into
+/// a row's cell.
 fn cell_bytes(alloc: Global, style: Style, intervals: &[Interval]) -> Result<u64, AllocError> {
     let mut row = Vec::with_capacity(alloc, ROW)?;
     let mut bytes = 0u64;

@@ -3,8 +3,8 @@ use pg_interval::{Interval, ParseError};
 use std::io;
 use std::time::{Clock, Instant};
 
-/// Reads the texts in a style, and tells how many are good; and, where they are read again so many times, the nanoseconds
-/// of a read.
+/// Reads the texts in a style, and tells how many are good; and, where they are read again so many
+/// times, the nanoseconds of a read.
 pub fn read_texts<R: Print + Clock>(
     rt: &R,
     style: Style,

@@ -1,6 +1,7 @@
 //! Bytes, texts and numbers from the words of a row.
 //!
-//! - `xHEX`: these bytes; `'TEXT`: the text, where `_` is a space; `h:N` and `i:N`: Int16 and Int32.
+//! - `xHEX`: these bytes; `'TEXT`: the text, where `_` is a space; `h:N` and `i:N`: Int16 and
+//!   Int32.
 //! - `N*PART`: the part N times.
 
 use pg_messages::{PgList, PgStr};

@@ -181,7 +181,8 @@ lives h n c a told same =
     let here = registered_lives h n c (subst (λ x. IsAnswer h n c x) same told) in
     subst (λ x. IsLive (h ++ entry_of h n c x ∷ []) (length h)) (sym same) here
 
-pub answered : (h : List Entry) (n : ℕ) (pid : ℤ) (c : RegistryCall) (a : RegistryAnswer) → IsLegal h → IsCaller h n pid c → IsAnswer h n c a
+pub answered : (h : List Entry) (n : ℕ) (pid : ℤ) (c : RegistryCall) (a : RegistryAnswer) → IsLegal h → IsCaller h n pid c
+    → IsAnswer h n c a
     → Answered h n c a
 answered h n pid c a legal is told = record {
   legal = IsLegal-push h (entry_of h n c a) legal (entry_follows h n c a (caller_may h n pid c is) told);

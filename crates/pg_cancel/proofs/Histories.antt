@@ -25,7 +25,8 @@ Cancels pid key entry = entry.call ≡ Cancel pid key
 -- ---- determined
 
 -- a place was registered with one pid and key
-pub registered_once : (h : List Entry) (n : ℕ) (p q : ℤ) (j k : List ℕ) → IsRegisteredAt h n p j → IsRegisteredAt h n q k → (p ≡ q) × (j ≡ k)
+pub registered_once : (h : List Entry) (n : ℕ) (p q : ℤ) (j k : List ℕ) → IsRegisteredAt h n p j → IsRegisteredAt h n q k
+    → (p ≡ q) × (j ≡ k)
 registered_once h n p q j k a b =
     let t = the_value (λ e. Registers p j e × Registers q k e) (slice_get h n) (both (Registers p j) (Registers q k) (slice_get h n) a b) in
     let same : ◌≡◌ {A = RegistryCall} (Register p j) (Register q k) = cc (t.2.0.0, t.2.1.0) in
@@ -55,7 +56,8 @@ one_holder h m n pid j k legal first second =
     omega (arith, no, on)
 
 -- the answer to a call is determined
-pub determined : (h : List Entry) (n : ℕ) (c : RegistryCall) (a b : RegistryAnswer) → IsLegal h → IsAnswer h n c a → IsAnswer h n c b → a ≡ b
+pub determined : (h : List Entry) (n : ℕ) (c : RegistryCall) (a b : RegistryAnswer) → IsLegal h → IsAnswer h n c a → IsAnswer h n c b
+    → a ≡ b
 determined h n (Register pid key) Registered Registered legal x y = refl
 determined h n (Register pid key) Registered (Taken m) legal x y = absurd (x (m, y))
 determined h n (Register pid key) Registered _ legal x y = absurd y
@@ -103,7 +105,8 @@ IsLegal-push h e legal follows = λ k entry at.
     (at_either (λ x. x ≡ entry) h e k (some_and (slice_get (h ++ e ∷ []) k) entry at))
 
 -- the entry of a call with the answer that the call has may follow
-pub entry_follows : (h : List Entry) (n : ℕ) (c : RegistryCall) (a : RegistryAnswer) → MayCall h n c → IsAnswer h n c a → MayFollow h (entry_of h n c a)
+pub entry_follows : (h : List Entry) (n : ℕ) (c : RegistryCall) (a : RegistryAnswer) → MayCall h n c → IsAnswer h n c a
+    → MayFollow h (entry_of h n c a)
 entry_follows h n (Register pid key) Registered may x = record { number = refl; answer = x }
 entry_follows h n (Register pid key) (Taken m) may x = record { number = refl; answer = x }
 entry_follows h n (Register pid key) _ may x = absurd x
@@ -126,14 +129,16 @@ start_within h k n legal at =
     omega (arith, t.2.0)
 
 -- a registration stays live but for its Unregister
-pub live_keeps : (h : List Entry) (e : Entry) (n : ℕ) (pid : ℤ) (key : List ℕ) → (Calls n Unregister e → ⊥) → IsLiveAs h n pid key → IsLiveAs (h ++ e ∷ []) n pid key
+pub live_keeps : (h : List Entry) (e : Entry) (n : ℕ) (pid : ℤ) (key : List ℕ) → (Calls n Unregister e → ⊥) → IsLiveAs h n pid key
+    → IsLiveAs (h ++ e ∷ []) n pid key
 live_keeps h e n pid key stays live = record {
   registered = at_old (Registers pid key) h e n live.registered;
   not_ended = λ k less at. ⊎_elim (λ old. live.not_ended k less old) (λ new. stays new.1) (at_either (Calls n Unregister) h e k at);
 }
 
 -- a registration that is live was live, or is the new entry
-pub live_was : (h : List Entry) (e : Entry) (n : ℕ) (pid : ℤ) (key : List ℕ) → IsLiveAs (h ++ e ∷ []) n pid key → IsLiveAs h n pid key ⊎ ((n ≡ length h) × Registers pid key e)
+pub live_was : (h : List Entry) (e : Entry) (n : ℕ) (pid : ℤ) (key : List ℕ) → IsLiveAs (h ++ e ∷ []) n pid key
+    → IsLiveAs h n pid key ⊎ ((n ≡ length h) × Registers pid key e)
 live_was h e n pid key live =
     ⊎_elim
     (λ old. inl record {
@@ -152,7 +157,8 @@ live_new h e pid key registers = record {
       absurd (omega arith);
 }
 
-pub live_ended : (h : List Entry) (e : Entry) (n : ℕ) (pid : ℤ) (key : List ℕ) → n < length h → Calls n Unregister e → IsLiveAs (h ++ e ∷ []) n pid key → ⊥
+pub live_ended : (h : List Entry) (e : Entry) (n : ℕ) (pid : ℤ) (key : List ℕ) → n < length h → Calls n Unregister e
+    → IsLiveAs (h ++ e ∷ []) n pid key → ⊥
 live_ended h e n pid key less ends live =
     live.not_ended (length h) less (at_new (Calls n Unregister) h e ends)
 
@@ -182,12 +188,14 @@ last_new h e n starts = record {
 -- ---- who is live after one more entry
 
 -- an answer is the right one exactly where it was given
-pub answered_when : (h : List Entry) (n : ℕ) (c d : RegistryCall) (a b : RegistryAnswer) → IsLegal h → IsAnswer h n c a → c ≡ d → (a ≡ b) ↔ IsAnswer h n d b
+pub answered_when : (h : List Entry) (n : ℕ) (c d : RegistryCall) (a b : RegistryAnswer) → IsLegal h → IsAnswer h n c a → c ≡ d
+    → (a ≡ b) ↔ IsAnswer h n d b
 answered_when h n c d a b legal told same =
     let x : IsAnswer h n d a = subst (λ y. IsAnswer h n y a) same told in
     (λ is. subst (λ y. IsAnswer h n d y) is x, λ right. determined h n d a b legal x right)
 
-pub registered_lives : (h : List Entry) (n : ℕ) (c : RegistryCall) → IsAnswer h n c Registered → IsLive (h ++ entry_of h n c Registered ∷ []) (length h)
+pub registered_lives : (h : List Entry) (n : ℕ) (c : RegistryCall) → IsAnswer h n c Registered
+    → IsLive (h ++ entry_of h n c Registered ∷ []) (length h)
 registered_lives h n (Register pid key) x =
     (pid, key, live_new h (record { number = length h; call = Register pid key; answer = Registered }) pid key (refl, refl))
 registered_lives h n Start x = absurd x
@@ -196,14 +204,16 @@ registered_lives h n (Cancel pid key) x = absurd x
 registered_lives h n Unregister x = absurd x
 
 -- what is no Unregister of k leaves k live
-no_end : (h : List Entry) (n k : ℕ) (c : RegistryCall) (a : RegistryAnswer) → ((c ≡ Unregister) × (n ≡ k) → ⊥) → Calls k Unregister (entry_of h n c a) → ⊥
+no_end : (h : List Entry) (n k : ℕ) (c : RegistryCall) (a : RegistryAnswer) → ((c ≡ Unregister) × (n ≡ k) → ⊥)
+    → Calls k Unregister (entry_of h n c a) → ⊥
 no_end h n k (Register pid key) a other ends = let same : ◌≡◌ {A = RegistryCall} (Register pid key) Unregister = ends.1 in cc (same)
 no_end h n k Start a other ends = let same : ◌≡◌ {A = RegistryCall} Start Unregister = ends.1 in cc (same)
 no_end h n k Ask a other ends = let same : ◌≡◌ {A = RegistryCall} Ask Unregister = ends.1 in cc (same)
 no_end h n k (Cancel pid key) a other ends = let same : ◌≡◌ {A = RegistryCall} (Cancel pid key) Unregister = ends.1 in cc (same)
 no_end h n k Unregister a other ends = other (refl, ends.0)
 
-pub stays_live : (h : List Entry) (n k : ℕ) (c : RegistryCall) (a : RegistryAnswer) → ((c ≡ Unregister) × (n ≡ k) → ⊥) → IsLive h k → IsLive (h ++ entry_of h n c a ∷ []) k
+pub stays_live : (h : List Entry) (n k : ℕ) (c : RegistryCall) (a : RegistryAnswer) → ((c ≡ Unregister) × (n ≡ k) → ⊥) → IsLive h k
+    → IsLive (h ++ entry_of h n c a ∷ []) k
 stays_live h n k c a other live =
     (live.0, live.1, live_keeps h (entry_of h n c a) k live.0 live.1 (no_end h n k c a other) live.2)
 

@@ -18,7 +18,8 @@ use Rattle.pg_cancel.proofs.Histories.{Registers, Calls, Cancels, registered_onc
 
 -- ---- a query, and what an Ask is told
 
-pub IsCanceled-from_query : (h : List Entry) (n : ℕ) (pid : ℤ) (key : List ℕ) → IsRegisteredAt h n pid key → IsQuery h n pid key Canceled → IsCanceled h n
+pub IsCanceled-from_query : (h : List Entry) (n : ℕ) (pid : ℤ) (key : List ℕ) → IsRegisteredAt h n pid key → IsQuery h n pid key Canceled
+    → IsCanceled h n
 IsCanceled-from_query h n pid key registered q = record {
   start = q.0;
   cancel = q.2;
@@ -30,21 +31,28 @@ IsCanceled-from_query h n pid key registered q = record {
 pub not_canceled_unstarted : (h : List Entry) (n : ℕ) (pid : ℤ) (key : List ℕ) → IsQuery h n pid key Unstarted → IsCanceled h n → ⊥
 not_canceled_unstarted h n pid key q c = q c.start c.last_start.started
 
-pub not_canceled_running : (h : List Entry) (n : ℕ) (pid : ℤ) (key : List ℕ) → IsRegisteredAt h n pid key → IsQuery h n pid key Running → IsCanceled h n → ⊥
+pub not_canceled_running : (h : List Entry) (n : ℕ) (pid : ℤ) (key : List ℕ) → IsRegisteredAt h n pid key → IsQuery h n pid key Running
+    → IsCanceled h n → ⊥
 not_canceled_running h n pid key registered q c =
     let same = registered_once h n c.cancel_of_n.0 pid c.cancel_of_n.1 key c.cancel_of_n.2 registered in
     let start : c.start ≡ q.0 = last_once h n c.start q.0 c.last_start q.1 in
-    let at : IsCancelAt h c.cancel pid key = subst (λ p. IsCancelAt h c.cancel p key) same.0 (subst (λ k. IsCancelAt h c.cancel c.cancel_of_n.0 k) same.1 c.cancel_of_n.3) in
+    let at : IsCancelAt h c.cancel pid key = subst (λ p. IsCancelAt h c.cancel p key) same.0
+    (subst (λ k. IsCancelAt h c.cancel c.cancel_of_n.0 k) same.1 c.cancel_of_n.3) in
     let after : c.start < c.cancel = c.after in
     q.2 c.cancel (omega arith) at
 
 -- ---- one more entry at a query
 
-pub query_keeps : (h : List Entry) (e : Entry) (n : ℕ) (pid : ℤ) (key : List ℕ) (q : Query) → (Calls n Start e → ⊥) → (Cancels pid key e → ⊥) → IsQuery h n pid key q → IsQuery (h ++ e ∷ []) n pid key q
+pub query_keeps : (h : List Entry) (e : Entry) (n : ℕ) (pid : ℤ) (key : List ℕ) (q : Query) → (Calls n Start e → ⊥)
+    → (Cancels pid key e → ⊥) → IsQuery h n pid key q → IsQuery (h ++ e ∷ []) n pid key q
 query_keeps h e n pid key Unstarted starts cancels x = λ k at.
     ⊎_elim (λ old. x k old) (λ new. starts new.1) (at_either (Calls n Start) h e k at)
-query_keeps h e n pid key Running starts cancels x =
-    (x.0, last_keeps h e n x.0 starts x.1, λ k less at. ⊎_elim (λ old. x.2 k less old) (λ new. cancels new.1) (at_either (Cancels pid key) h e k at))
+query_keeps h e n pid key Running starts cancels x = (
+  x.0,
+  last_keeps h e n x.0 starts x.1,
+  λ k less at. ⊎_elim (λ old. x.2 k less old) (λ new. cancels new.1)
+      (at_either (Cancels pid key) h e k at),
+)
 query_keeps h e n pid key Canceled starts cancels x =
     (x.0, last_keeps h e n x.0 starts x.1, x.2, x.3, at_old (Cancels pid key) h e x.2 x.4)
 
@@ -61,7 +69,8 @@ cancel_starts_none : (e : Entry) (n : ℕ) (pid : ℤ) (key : List ℕ) → Canc
 cancel_starts_none e n pid key cancels starts =
     let same : ◌≡◌ {A = RegistryCall} (Cancel pid key) Start = cc (cancels, starts.1) in cc (same)
 
-pub query_canceled : (h : List Entry) (e : Entry) (n : ℕ) (pid : ℤ) (key : List ℕ) (q : Query) → Cancels pid key e → IsQuery h n pid key q → IsQuery (h ++ e ∷ []) n pid key (canceled q)
+pub query_canceled : (h : List Entry) (e : Entry) (n : ℕ) (pid : ℤ) (key : List ℕ) (q : Query) → Cancels pid key e → IsQuery h n pid key q
+    → IsQuery (h ++ e ∷ []) n pid key (canceled q)
 query_canceled h e n pid key Unstarted cancels x = λ k at.
     ⊎_elim (λ old. x k old) (λ new. cancel_starts_none e n pid key cancels new.1) (at_either (Calls n Start) h e k at)
 query_canceled h e n pid key Running cancels x =
@@ -79,7 +88,8 @@ pub record Quiet (h : List Entry) (e : Entry) (pid : ℤ) : Type 0 where
   pub ends : (n : ℕ) (key : List ℕ) → IsLiveAs h n pid key → Calls n Unregister e → ⊥
   pub cancels : (n : ℕ) (key : List ℕ) → IsLiveAs h n pid key → Cancels pid key e → ⊥
 
-pub quiet_at : (h : List Entry) (e : Entry) (pid : ℤ) (o : Option Holder) → Quiet h e pid → IsEntryAt h pid o → IsEntryAt (h ++ e ∷ []) pid o
+pub quiet_at : (h : List Entry) (e : Entry) (pid : ℤ) (o : Option Holder) → Quiet h e pid → IsEntryAt h pid o
+    → IsEntryAt (h ++ e ∷ []) pid o
 quiet_at h e pid None quiet x = λ taken.
     ⊎_elim
     (λ was. x (taken.0, (taken.1.0, was)))
@@ -91,7 +101,9 @@ quiet_at h e pid (Some holder) quiet x = record {
       (quiet.cancels holder.number holder.key x.live) x.query;
 }
 
-updated_by : (P : ℤ → Option Holder → Type 0) (m n : BTreeMap ℤ Holder) (pid : ℤ) (w : Option Holder) (q : ℤ) (b : Bool) → is_at (int_cmp pid) q ≡ b → get int_cmp n q ≡ cond b w (get int_cmp m q) → P pid w → ((q : ℤ) → q ≢ pid → P q (get int_cmp m q)) → P q (get int_cmp n q)
+updated_by : (P : ℤ → Option Holder → Type 0) (m n : BTreeMap ℤ Holder) (pid : ℤ) (w : Option Holder) (q : ℤ) (b : Bool)
+    → is_at (int_cmp pid) q ≡ b → get int_cmp n q ≡ cond b w (get int_cmp m q) → P pid w → ((q : ℤ) → q ≢ pid → P q (get int_cmp m q))
+    → P q (get int_cmp n q)
 updated_by P m n pid w q true is changes here others =
     let same : pid ≡ q = (Decides-int_eq pid q).0 is in
     subst (λ o. P q o) (sym changes) (subst (λ p. P p w) same here)
@@ -100,5 +112,7 @@ updated_by P m n pid w q false is changes here others =
     subst (λ o. P q o) (sym changes) (others q apart)
 
 -- a map with one pid changed has what it should at each pid
-pub updated : (P : ℤ → Option Holder → Type 0) (m n : BTreeMap ℤ Holder) (pid : ℤ) (w : Option Holder) → ((q : ℤ) → get int_cmp n q ≡ cond (is_at (int_cmp pid) q) w (get int_cmp m q)) → P pid w → ((q : ℤ) → q ≢ pid → P q (get int_cmp m q)) → (q : ℤ) → P q (get int_cmp n q)
+pub updated : (P : ℤ → Option Holder → Type 0) (m n : BTreeMap ℤ Holder) (pid : ℤ) (w : Option Holder)
+    → ((q : ℤ) → get int_cmp n q ≡ cond (is_at (int_cmp pid) q) w (get int_cmp m q)) → P pid w → ((q : ℤ) → q ≢ pid → P q (get int_cmp m q))
+    → (q : ℤ) → P q (get int_cmp n q)
 updated P m n pid w changes here others q = updated_by P m n pid w q (is_at (int_cmp pid) q) refl (changes q) here others

@@ -34,7 +34,8 @@ abbrev pub Changes : BTreeMap ℤ Holder → BTreeMap ℤ Holder → ℤ → Opt
 Changes m n pid w = (q : ℤ) → get int_cmp n q ≡ cond (is_at (int_cmp pid) q) w (get int_cmp m q)
 
 -- what the index has at a pid
-pub found : (h : List Entry) (m : BTreeMap ℤ Holder) (pid : ℤ) (holder : Holder) → Indexes h m → get int_cmp m pid ≡ Some holder → Holds h pid holder
+pub found : (h : List Entry) (m : BTreeMap ℤ Holder) (pid : ℤ) (holder : Holder) → Indexes h m → get int_cmp m pid ≡ Some holder
+    → Holds h pid holder
 found h m pid holder index at = subst (λ o. IsEntryAt h pid o) at (index pid)
 
 pub missing : (h : List Entry) (m : BTreeMap ℤ Holder) (pid : ℤ) → Indexes h m → get int_cmp m pid ≡ None → IsTaken h pid → ⊥
@@ -46,7 +47,8 @@ one_pid h m n p q j k first second same =
     (registered_once h n q p k j second.registered (subst (λ i. IsRegisteredAt h i p j) same first.registered)).0
 
 -- a holder's number is that of the live registration
-one_number : (h : List Entry) (number : ℕ) (pid : ℤ) (holder : Holder) → IsLegal h → HasPid h number pid → Holds h pid holder → holder.number ≡ number
+one_number : (h : List Entry) (number : ℕ) (pid : ℤ) (holder : Holder) → IsLegal h → HasPid h number pid → Holds h pid holder
+    → holder.number ≡ number
 one_number h number pid holder legal live holds =
     one_holder h holder.number number pid holder.key live.0 legal holds.live live.1
 
@@ -56,7 +58,8 @@ keeps_index h e m quiet index q = quiet_at h e q (get int_cmp m q) (quiet q) (in
 
 -- ---- Register
 
-pub notes_taken : (h : List Entry) (m : BTreeMap ℤ Holder) (pid : ℤ) (holder : Holder) → Indexes h m → get int_cmp m pid ≡ Some holder → (number : ℕ) (key : List ℕ) → Notes h number (Register pid key) (record { by_pid = m }) (Taken holder.number)
+pub notes_taken : (h : List Entry) (m : BTreeMap ℤ Holder) (pid : ℤ) (holder : Holder) → Indexes h m → get int_cmp m pid ≡ Some holder
+    → (number : ℕ) (key : List ℕ) → Notes h number (Register pid key) (record { by_pid = m }) (Taken holder.number)
 notes_taken h m pid holder index at number key =
     let holds = found h m pid holder index at in
     let e : Entry = record { number = length h; call = Register pid key; answer = Taken holder.number } in
@@ -72,7 +75,9 @@ notes_taken h m pid holder index at number key =
           index;
     }
 
-pub notes_registered : (h : List Entry) (m n : BTreeMap ℤ Holder) (pid : ℤ) (key : List ℕ) → IsLegal h → Indexes h m → get int_cmp m pid ≡ None → Changes m n pid (Some (record { number = length h; key = key; query = Unstarted })) → (number : ℕ) → Notes h number (Register pid key) (record { by_pid = n }) Registered
+pub notes_registered : (h : List Entry) (m n : BTreeMap ℤ Holder) (pid : ℤ) (key : List ℕ) → IsLegal h → Indexes h m
+    → get int_cmp m pid ≡ None → Changes m n pid (Some (record { number = length h; key = key; query = Unstarted })) → (number : ℕ)
+    → Notes h number (Register pid key) (record { by_pid = n }) Registered
 notes_registered h m n pid key legal index at changes number =
     let e : Entry = record { number = length h; call = Register pid key; answer = Registered } in
     let holder : Holder = record { number = length h; key = key; query = Unstarted } in
@@ -88,7 +93,8 @@ notes_registered h m n pid key legal index at changes number =
       told = missing h m pid index at;
       noted = updated (IsEntryAt (h ++ e ∷ [])) m n pid (Some holder) changes here
           (λ q apart. quiet_at h e q (get int_cmp m q) (record {
-            registers = λ k r. let same : ◌≡◌ {A = RegistryCall} (Register pid key) (Register q k) = r.0 in let pids : q ≡ pid = cc (same) in apart pids;
+            registers = λ k r. let same : ◌≡◌ {A = RegistryCall} (Register pid key) (Register q k) = r.0 in let pids : q ≡ pid =
+                cc (same) in apart pids;
             starts = λ i k l r. let no : ◌≡◌ {A = RegistryCall} (Register pid key) Start = r.1 in cc (no);
             ends = λ i k l r. let no : ◌≡◌ {A = RegistryCall} (Register pid key) Unregister = r.1 in cc (no);
             cancels = λ i k l r. let no : ◌≡◌ {A = RegistryCall} (Register pid key) (Cancel q k) = r in cc (no);
@@ -98,18 +104,26 @@ notes_registered h m n pid key legal index at changes number =
 
 -- ---- Start
 
-pub notes_start : (h : List Entry) (m n : BTreeMap ℤ Holder) (number : ℕ) (pid : ℤ) (holder : Holder) → IsLegal h → Indexes h m → HasPid h number pid → get int_cmp m pid ≡ Some holder → Changes m n pid (Some (record { number = holder.number; key = holder.key; query = Running })) → Notes h number Start (record { by_pid = n }) Done
+pub notes_start : (h : List Entry) (m n : BTreeMap ℤ Holder) (number : ℕ) (pid : ℤ) (holder : Holder) → IsLegal h → Indexes h m
+    → HasPid h number pid → get int_cmp m pid ≡ Some holder
+    → Changes m n pid (Some (record { number = holder.number; key = holder.key; query = Running }))
+    → Notes h number Start (record { by_pid = n }) Done
 notes_start h m n number pid holder legal index live at changes =
     let e : Entry = record { number = number; call = Start; answer = Done } in
     let holds = found h m pid holder index at in
     let same = one_number h number pid holder legal live holds in
     let here : Holds (h ++ e ∷ []) pid (record { number = holder.number; key = holder.key; query = Running }) = record {
-      live = live_keeps h e holder.number pid holder.key (λ r. let no : ◌≡◌ {A = RegistryCall} Start Unregister = r.1 in cc (no)) holds.live;
+      live = live_keeps h e holder.number pid holder.key (λ r. let no : ◌≡◌ {A = RegistryCall} Start Unregister = r.1 in cc (no))
+          holds.live;
       query = query_starts h e holder.number pid holder.key (sym same, refl);
     } in
     record {
       told = tt;
-      noted = updated (IsEntryAt (h ++ e ∷ [])) m n pid (Some (record { number = holder.number; key = holder.key; query = Running })) changes here
+      noted = updated (IsEntryAt (h ++ e ∷ [])) m n pid (Some (record {
+        number = holder.number;
+        key = holder.key;
+        query = Running;
+      })) changes here
           (λ q apart. quiet_at h e q (get int_cmp m q) (record {
             registers = λ k r. let no : ◌≡◌ {A = RegistryCall} Start (Register q k) = r.0 in cc (no);
             starts = λ i k l r. apart (one_pid h number i pid q live.0 k live.1 l r.0);
@@ -122,12 +136,14 @@ notes_start h m n number pid holder legal index live at changes =
 -- ---- Ask
 
 -- whether a query was canceled
-pub answer_is : (h : List Entry) (number : ℕ) (pid : ℤ) (key : List ℕ) (query : Query) → IsRegisteredAt h number pid key → IsQuery h number pid key query → IsAnswer h number Ask (answer_of query)
+pub answer_is : (h : List Entry) (number : ℕ) (pid : ℤ) (key : List ℕ) (query : Query) → IsRegisteredAt h number pid key
+    → IsQuery h number pid key query → IsAnswer h number Ask (answer_of query)
 answer_is h number pid key Unstarted registered q = not_canceled_unstarted h number pid key q
 answer_is h number pid key Running registered q = not_canceled_running h number pid key registered q
 answer_is h number pid key Canceled registered q = IsCanceled-from_query h number pid key registered q
 
-pub notes_asked : (h : List Entry) (m : BTreeMap ℤ Holder) (number : ℕ) (pid : ℤ) (holder : Holder) → IsLegal h → Indexes h m → HasPid h number pid → get int_cmp m pid ≡ Some holder → Notes h number Ask (record { by_pid = m }) (answer_of holder.query)
+pub notes_asked : (h : List Entry) (m : BTreeMap ℤ Holder) (number : ℕ) (pid : ℤ) (holder : Holder) → IsLegal h → Indexes h m
+    → HasPid h number pid → get int_cmp m pid ≡ Some holder → Notes h number Ask (record { by_pid = m }) (answer_of holder.query)
 notes_asked h m number pid holder legal index live at =
     let e : Entry = record { number = number; call = Ask; answer = answer_of holder.query } in
     let holds = found h m pid holder index at in
@@ -148,28 +164,38 @@ notes_asked h m number pid holder legal index live at =
 
 -- ---- Cancel
 
-pub notes_canceled : (h : List Entry) (m n : BTreeMap ℤ Holder) (pid : ℤ) (key : List ℕ) (holder : Holder) → Indexes h m → get int_cmp m pid ≡ Some holder → holder.key ≡ key → Changes m n pid (Some (record { number = holder.number; key = holder.key; query = canceled holder.query })) → (number : ℕ) → Notes h number (Cancel pid key) (record { by_pid = n }) Yes
+pub notes_canceled : (h : List Entry) (m n : BTreeMap ℤ Holder) (pid : ℤ) (key : List ℕ) (holder : Holder) → Indexes h m
+    → get int_cmp m pid ≡ Some holder → holder.key ≡ key
+    → Changes m n pid (Some (record { number = holder.number; key = holder.key; query = canceled holder.query })) → (number : ℕ)
+    → Notes h number (Cancel pid key) (record { by_pid = n }) Yes
 notes_canceled h m n pid key holder index at same changes number =
     let e : Entry = record { number = number; call = Cancel pid key; answer = Yes } in
     let holds = found h m pid holder index at in
     let by_key : Cancels pid holder.key e = ap (λ k. Cancel pid k) (sym same) in
     let here : Holds (h ++ e ∷ []) pid (record { number = holder.number; key = holder.key; query = canceled holder.query }) = record {
-      live = live_keeps h e holder.number pid holder.key (λ r. let no : ◌≡◌ {A = RegistryCall} (Cancel pid key) Unregister = r.1 in cc (no)) holds.live;
+      live = live_keeps h e holder.number pid holder.key (λ r. let no : ◌≡◌ {A = RegistryCall} (Cancel pid key) Unregister = r.1 in cc (no))
+          holds.live;
       query = query_canceled h e holder.number pid holder.key holder.query by_key holds.query;
     } in
     record {
       told = (holder.number, subst (λ k. IsLiveAs h holder.number pid k) same holds.live);
-      noted = updated (IsEntryAt (h ++ e ∷ [])) m n pid (Some (record { number = holder.number; key = holder.key; query = canceled holder.query })) changes here
+      noted = updated (IsEntryAt (h ++ e ∷ [])) m n pid (Some (record {
+        number = holder.number;
+        key = holder.key;
+        query = canceled holder.query;
+      })) changes here
           (λ q apart. quiet_at h e q (get int_cmp m q) (record {
             registers = λ k r. let no : ◌≡◌ {A = RegistryCall} (Cancel pid key) (Register q k) = r.0 in cc (no);
             starts = λ i k l r. let no : ◌≡◌ {A = RegistryCall} (Cancel pid key) Start = r.1 in cc (no);
             ends = λ i k l r. let no : ◌≡◌ {A = RegistryCall} (Cancel pid key) Unregister = r.1 in cc (no);
-            cancels = λ i k l r. let calls : ◌≡◌ {A = RegistryCall} (Cancel pid key) (Cancel q k) = r in let pids : q ≡ pid = cc (calls) in apart pids;
+            cancels = λ i k l r. let calls : ◌≡◌ {A = RegistryCall} (Cancel pid key) (Cancel q k) = r in let pids : q ≡ pid = cc (calls) in
+                apart pids;
           })
           (index q));
     }
 
-pub notes_unmet : (h : List Entry) (m : BTreeMap ℤ Holder) (pid : ℤ) (key : List ℕ) → Indexes h m → (IsConnected h pid key → ⊥) → (number : ℕ) → Notes h number (Cancel pid key) (record { by_pid = m }) No
+pub notes_unmet : (h : List Entry) (m : BTreeMap ℤ Holder) (pid : ℤ) (key : List ℕ) → Indexes h m → (IsConnected h pid key → ⊥)
+    → (number : ℕ) → Notes h number (Cancel pid key) (record { by_pid = m }) No
 notes_unmet h m pid key index none number =
     let e : Entry = record { number = number; call = Cancel pid key; answer = No } in
     record {
@@ -191,7 +217,8 @@ notes_unmet h m pid key index none number =
 pub not_connected_free : (h : List Entry) (pid : ℤ) (key : List ℕ) → (IsTaken h pid → ⊥) → IsConnected h pid key → ⊥
 not_connected_free h pid key free connected = free (connected.0, (key, connected.1))
 
-pub not_connected_key : (h : List Entry) (m : BTreeMap ℤ Holder) (pid : ℤ) (key : List ℕ) (holder : Holder) → IsLegal h → Indexes h m → get int_cmp m pid ≡ Some holder → (holder.key ≡ key → ⊥) → IsConnected h pid key → ⊥
+pub not_connected_key : (h : List Entry) (m : BTreeMap ℤ Holder) (pid : ℤ) (key : List ℕ) (holder : Holder) → IsLegal h → Indexes h m
+    → get int_cmp m pid ≡ Some holder → (holder.key ≡ key → ⊥) → IsConnected h pid key → ⊥
 not_connected_key h m pid key holder legal index at other connected =
     let holds = found h m pid holder index at in
     let same = one_number h connected.0 pid holder legal (key, connected.1) holds in
@@ -200,7 +227,8 @@ not_connected_key h m pid key holder legal index at other connected =
 
 -- ---- Unregister
 
-pub notes_unregistered : (h : List Entry) (m n : BTreeMap ℤ Holder) (number : ℕ) (pid : ℤ) → IsLegal h → Indexes h m → HasPid h number pid → Changes m n pid None → Notes h number Unregister (record { by_pid = n }) Done
+pub notes_unregistered : (h : List Entry) (m n : BTreeMap ℤ Holder) (number : ℕ) (pid : ℤ) → IsLegal h → Indexes h m → HasPid h number pid
+    → Changes m n pid None → Notes h number Unregister (record { by_pid = n }) Done
 notes_unregistered h m n number pid legal index live changes =
     let e : Entry = record { number = number; call = Unregister; answer = Done } in
     let free : IsTaken (h ++ e ∷ []) pid → ⊥ = λ taken.
@@ -225,30 +253,36 @@ notes_unregistered h m n number pid legal index live changes =
 -- ---- what a map's calls at a signed key say
 
 -- a look-up at a signed key, whose clause names the key by its bits
-pub read_at : (m : BTreeMap ℤ Holder) (pid : ℤ) (o : Option Holder) → FitsSigned w32 pid → o ≡ get int_cmp m (to_z w32 (of_z w32 pid)) → get int_cmp m pid ≡ o
+pub read_at : (m : BTreeMap ℤ Holder) (pid : ℤ) (o : Option Holder) → FitsSigned w32 pid → o ≡ get int_cmp m (to_z w32 (of_z w32 pid))
+    → get int_cmp m pid ≡ o
 read_at m pid o fits value =
     sym (subst (λ p. o ≡ get int_cmp m p) (to_z-of_z w32 pid fits) value)
 
-pub written_at : (m n : BTreeMap ℤ Holder) (pid : ℤ) (w holder : Holder) → FitsSigned w32 pid → get int_cmp m pid ≡ Some holder → WritesThrough int_cmp (int_cmp (to_z w32 (of_z w32 pid))) m w n → Changes m n pid (Some w)
+pub written_at : (m n : BTreeMap ℤ Holder) (pid : ℤ) (w holder : Holder) → FitsSigned w32 pid → get int_cmp m pid ≡ Some holder
+    → WritesThrough int_cmp (int_cmp (to_z w32 (of_z w32 pid))) m w n → Changes m n pid (Some w)
 written_at m n pid w holder fits at writes =
-    let here : WritesThrough int_cmp (int_cmp pid) m w n = subst (λ p. WritesThrough int_cmp (int_cmp p) m w n) (to_z-of_z w32 pid fits) writes in
+    let here : WritesThrough int_cmp (int_cmp pid) m w n =
+    subst (λ p. WritesThrough int_cmp (int_cmp p) m w n) (to_z-of_z w32 pid fits) writes in
     let some : IsSome (get int_cmp m pid) = subst (λ o. IsSome o) (sym at) refl in
     (here.3 some).0
 
 -- what a holder's value, written back as it was, leaves
-pub index_same : (h : List Entry) (m n : BTreeMap ℤ Holder) (pid : ℤ) (holder : Holder) → Indexes h m → get int_cmp m pid ≡ Some holder → Changes m n pid (Some holder) → Indexes h n
+pub index_same : (h : List Entry) (m n : BTreeMap ℤ Holder) (pid : ℤ) (holder : Holder) → Indexes h m → get int_cmp m pid ≡ Some holder
+    → Changes m n pid (Some holder) → Indexes h n
 index_same h m n pid holder index at changes =
     updated (IsEntryAt h) m n pid (Some holder) changes (found h m pid holder index at) (λ q apart. index q)
 
 -- after `insert` and `remove`, whose clauses name the key by its bits
-pub changed_at : (m n : BTreeMap ℤ Holder) (pid : ℤ) (w : Option Holder) → FitsSigned w32 pid → Changes m n (to_z w32 (of_z w32 pid)) w → Changes m n pid w
+pub changed_at : (m n : BTreeMap ℤ Holder) (pid : ℤ) (w : Option Holder) → FitsSigned w32 pid → Changes m n (to_z w32 (of_z w32 pid)) w
+    → Changes m n pid w
 changed_at m n pid w fits changes =
     subst (λ p. Changes m n p w) (to_z-of_z w32 pid fits) changes
 
 -- ---- whether a registration is live
 
 -- the pid of a live registration, by the call that stands at its place
-same_pid : (h : List Entry) (n : ℕ) (d : Entry) (pid p : ℤ) (key k : List ℕ) → (get_or h n d).call ≡ Register pid key → IsLiveAs h n p k → p ≡ pid
+same_pid : (h : List Entry) (n : ℕ) (d : Entry) (pid p : ℤ) (key k : List ℕ) → (get_or h n d).call ≡ Register pid key → IsLiveAs h n p k
+    → p ≡ pid
 same_pid h n d pid p key k is live =
     let t = the_value (Registers p k) (slice_get h n) live.registered in
     let read : get_or h n d ≡ t.0 = get_or_from_slice_get h n t.0 d t.1 in
@@ -256,16 +290,19 @@ same_pid h n d pid p key k is live =
     let same : ◌≡◌ {A = RegistryCall} (Register p k) (Register pid key) = sym call ∙ is in
     cc (same)
 
-pub live_by_holder : (h : List Entry) (m : BTreeMap ℤ Holder) (n : ℕ) (d : Entry) (pid : ℤ) (key : List ℕ) (holder : Holder) → IsLegal h → Indexes h m → (get_or h n d).call ≡ Register pid key → get int_cmp m pid ≡ Some holder → IsTrue (nat_eq holder.number n) ↔ IsLive h n
+pub live_by_holder : (h : List Entry) (m : BTreeMap ℤ Holder) (n : ℕ) (d : Entry) (pid : ℤ) (key : List ℕ) (holder : Holder) → IsLegal h
+    → Indexes h m → (get_or h n d).call ≡ Register pid key → get int_cmp m pid ≡ Some holder → IsTrue (nat_eq holder.number n) ↔ IsLive h n
 live_by_holder h m n d pid key holder legal index is at =
     let holds = found h m pid holder index at in
-    let yes : IsTrue (nat_eq holder.number n) → IsLive h n = λ true_is. subst (λ i. IsLive h i) ((Decides-eqb holder.number n).0 true_is) (pid, holder.key, holds.live) in
+    let yes : IsTrue (nat_eq holder.number n) → IsLive h n =
+    λ true_is. subst (λ i. IsLive h i) ((Decides-eqb holder.number n).0 true_is) (pid, holder.key, holds.live) in
     let back : IsLive h n → IsTrue (nat_eq holder.number n) = λ live.
     let here : IsLiveAs h n pid live.1 = subst (λ p. IsLiveAs h n p live.1) (same_pid h n d pid live.0 key live.1 is live.2) live.2 in
     (Decides-eqb holder.number n).1 (one_holder h holder.number n pid holder.key live.1 legal holds.live here) in
     (yes, back)
 
-pub live_by_none : (h : List Entry) (m : BTreeMap ℤ Holder) (n : ℕ) (d : Entry) (pid : ℤ) (key : List ℕ) → Indexes h m → (get_or h n d).call ≡ Register pid key → get int_cmp m pid ≡ None → IsLive h n → ⊥
+pub live_by_none : (h : List Entry) (m : BTreeMap ℤ Holder) (n : ℕ) (d : Entry) (pid : ℤ) (key : List ℕ) → Indexes h m
+    → (get_or h n d).call ≡ Register pid key → get int_cmp m pid ≡ None → IsLive h n → ⊥
 live_by_none h m n d pid key index is at live =
     let here : IsLiveAs h n pid live.1 = subst (λ p. IsLiveAs h n p live.1) (same_pid h n d pid live.0 key live.1 is live.2) live.2 in
     missing h m pid index at (n, (live.1, here))
@@ -273,18 +310,21 @@ live_by_none h m n d pid key index is at live =
 -- ---- the notes after any history
 
 -- the notes of a call, under the name that it was made by
-pub notes_as : (old new : Holders) (place : ℕ) (p q : ℤ) (c d : RegistryCall) (a : RegistryAnswer) → p ≡ q → c ≡ d → NotesAny old place p c new a → NotesAny old place q d new a
+pub notes_as : (old new : Holders) (place : ℕ) (p q : ℤ) (c d : RegistryCall) (a : RegistryAnswer) → p ≡ q → c ≡ d
+    → NotesAny old place p c new a → NotesAny old place q d new a
 notes_as old new place p q c d a pid call notes =
     subst (λ x. NotesAny old place q x new a) call (subst (λ x. NotesAny old place x c new a) pid notes)
 
 -- those of a Register and of a Cancel, which are anybody's
-pub register_as : (old new : Holders) (place : ℕ) (p q caller : ℤ) (key : List ℕ) (c : RegistryCall) (r : Result RegistryAnswer AllocError) → p ≡ q → c ≡ Register q key → IfOk r (NotesAny old place p (Register p key) new) → IfOk r (NotesAny old place caller c new)
+pub register_as : (old new : Holders) (place : ℕ) (p q caller : ℤ) (key : List ℕ) (c : RegistryCall) (r : Result RegistryAnswer AllocError)
+    → p ≡ q → c ≡ Register q key → IfOk r (NotesAny old place p (Register p key) new) → IfOk r (NotesAny old place caller c new)
 register_as old new place p q caller key c (Ok a) pid call notes =
     let here : NotesAny old place caller (Register p key) new a = notes in
     subst (λ x. NotesAny old place caller x new a) (ap (λ x. Register x key) pid ∙ sym call) here
 register_as old new place p q caller key c (Err e) pid call notes = tt
 
-pub cancel_as : (old new : Holders) (place : ℕ) (p q caller : ℤ) (key : List ℕ) (c : RegistryCall) (a : RegistryAnswer) → p ≡ q → c ≡ Cancel q key → NotesAny old place caller (Cancel p key) new a → NotesAny old place caller c new a
+pub cancel_as : (old new : Holders) (place : ℕ) (p q caller : ℤ) (key : List ℕ) (c : RegistryCall) (a : RegistryAnswer) → p ≡ q
+    → c ≡ Cancel q key → NotesAny old place caller (Cancel p key) new a → NotesAny old place caller c new a
 cancel_as old new place p q caller key c a pid call notes =
     subst (λ x. NotesAny old place caller x new a) (ap (λ x. Cancel x key) pid ∙ sym call) notes
 
@@ -297,7 +337,8 @@ is_held h n pid None none has = absurd (none (n, has))
 is_held h n pid (Some holder) holds has = refl
 
 -- a live registration is in the index
-pub may_ask : (h : List Entry) (n : ℕ) (pid : ℤ) (c : RegistryCall) (holders : Holders) → Indexes h holders.by_pid → IsCaller h n pid c → MayAsk holders pid c
+pub may_ask : (h : List Entry) (n : ℕ) (pid : ℤ) (c : RegistryCall) (holders : Holders) → Indexes h holders.by_pid → IsCaller h n pid c
+    → MayAsk holders pid c
 may_ask h n pid (Register p key) holders index is = tt
 may_ask h n pid Start holders index is = is_held h n pid (get int_cmp holders.by_pid pid) (index pid) is
 may_ask h n pid Ask holders index is = is_held h n pid (get int_cmp holders.by_pid pid) (index pid) is

@@ -8,7 +8,8 @@ at_within P (x ∷ xs) zero h = omega arith
 at_within P (x ∷ xs) (suc k) h = let r = at_within P xs k h in omega arith
 
 -- what stands at a place stays there
-pub at_old : {X : Type 0} (P : X → Type 0) (xs : List X) (x : X) (k : ℕ) → IsSomeAnd (slice_get xs k) P → IsSomeAnd (slice_get (xs ++ x ∷ []) k) P
+pub at_old : {X : Type 0} (P : X → Type 0) (xs : List X) (x : X) (k : ℕ) → IsSomeAnd (slice_get xs k) P
+    → IsSomeAnd (slice_get (xs ++ x ∷ []) k) P
 at_old P [] x k h = absurd h
 at_old P (y ∷ xs) x zero h = h
 at_old P (y ∷ xs) x (suc k) h = at_old P xs x k h
@@ -19,7 +20,8 @@ at_new P [] x h = h
 at_new P (y ∷ xs) x h = at_new P xs x h
 
 -- what stands at a place stood there, or is the new element
-pub at_either : {X : Type 0} (P : X → Type 0) (xs : List X) (x : X) (k : ℕ) → IsSomeAnd (slice_get (xs ++ x ∷ []) k) P → IsSomeAnd (slice_get xs k) P ⊎ ((k ≡ length xs) × P x)
+pub at_either : {X : Type 0} (P : X → Type 0) (xs : List X) (x : X) (k : ℕ) → IsSomeAnd (slice_get (xs ++ x ∷ []) k) P
+    → IsSomeAnd (slice_get xs k) P ⊎ ((k ≡ length xs) × P x)
 at_either P [] x zero h = inr (refl, h)
 at_either P [] x (suc k) h = absurd h
 at_either P (y ∷ xs) x zero h = inl h
@@ -27,13 +29,15 @@ at_either P (y ∷ xs) x (suc k) h =
     ⊎_elim (λ l. inl l) (λ r. inr (ap suc r.0, r.1)) (at_either P xs x k h)
 
 -- what stands at a place of a beginning
-pub at_taken : {X : Type 0} (P : X → Type 0) (xs : List X) (n k : ℕ) → k < n → IsSomeAnd (slice_get xs k) P → IsSomeAnd (slice_get (take n xs) k) P
+pub at_taken : {X : Type 0} (P : X → Type 0) (xs : List X) (n k : ℕ) → k < n → IsSomeAnd (slice_get xs k) P
+    → IsSomeAnd (slice_get (take n xs) k) P
 at_taken P [] n k l h = absurd h
 at_taken P (x ∷ xs) zero k l h = absurd (omega arith)
 at_taken P (x ∷ xs) (suc n) zero l h = h
 at_taken P (x ∷ xs) (suc n) (suc k) l h = at_taken P xs n k (omega arith) h
 
-pub at_from_taken : {X : Type 0} (P : X → Type 0) (xs : List X) (n k : ℕ) → IsSomeAnd (slice_get (take n xs) k) P → IsSomeAnd (slice_get xs k) P
+pub at_from_taken : {X : Type 0} (P : X → Type 0) (xs : List X) (n k : ℕ) → IsSomeAnd (slice_get (take n xs) k) P
+    → IsSomeAnd (slice_get xs k) P
 at_from_taken P [] zero k h = absurd h
 at_from_taken P [] (suc n) k h = absurd h
 at_from_taken P (x ∷ xs) zero k h = absurd h

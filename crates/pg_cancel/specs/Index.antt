@@ -19,7 +19,8 @@ use Rattle.pg_cancel.specs.LegalHistory.{IsCallAt, IsCancelAt, IsLiveAs, HasPid,
 abbrev pub IsQuery : List Entry → ℕ → ℤ → List ℕ → Query → Type 0
 IsQuery history n pid key Unstarted = (k : ℕ) → ¬ IsCallAt history k n Start
 IsQuery history n pid key Running = (start : ℕ) × IsLastStart history n start × ((k : ℕ) → start < k → ¬ IsCancelAt history k pid key)
-IsQuery history n pid key Canceled = (start : ℕ) × IsLastStart history n start × (cancel : ℕ) × (start < cancel) × IsCancelAt history cancel pid key
+IsQuery history n pid key Canceled = (start : ℕ) × IsLastStart history n start × (cancel : ℕ) × (start < cancel)
+    × IsCancelAt history cancel pid key
 
 -- what a cancel makes of a query: one that comes before any start does nothing
 abbrev pub canceled : Query → Query

@@ -16,7 +16,8 @@ IsCallAt history place number call = IsSomeAnd (slice_get history place) (λ ent
 
 -- the entry at this place is a Register of the pid and key that was answered Registered
 abbrev pub IsRegisteredAt : List Entry → ℕ → ℤ → List ℕ → Type 0
-IsRegisteredAt history place pid key = IsSomeAnd (slice_get history place) (λ entry. (entry.call ≡ Register pid key) × (entry.answer ≡ Registered))
+IsRegisteredAt history place pid key = IsSomeAnd (slice_get history place) (λ entry. (entry.call ≡ Register pid key)
+    × (entry.answer ≡ Registered))
 
 -- the entry at this place is a Cancel of the pid and key, whoever made it
 abbrev pub IsCancelAt : List Entry → ℕ → ℤ → List ℕ → Type 0

@@ -1,6 +1,6 @@
--- The rule of the table behind a shared registry, and what each step on it tells. No public contract names it.
--- H, `log` below, is the history so far. It stands in the rule and in the views alone: the slot has its roster, which has no entry but the last.
--- Word 0 is twice the length of H while the roster is at home, and one more while a seat has the turn.
+-- The rule of the table behind a shared registry, and what each step on it tells. No public contract names it. H, `log` below, is the
+-- history so far. It stands in the rule and in the views alone: the slot has its roster, which has no entry but the last. Word 0 is twice
+-- the length of H while the roster is at home, and one more while a seat has the turn.
 use Rattle.std.specs.Prelude.{◌≡◌, ◌≢◌, ◌⊎◌, ℕ, ℤ, ◌+◌, ◌*◌, ◌<◌, Bool, true, false, List, [], ◌∷◌, ◌++◌, length, slice_get, slice_index, Some, None, cond, ltb}
 use mathlib.Core.Option.{some, none}
 use mathlib.Core.Option as maybe

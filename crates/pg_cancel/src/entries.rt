@@ -28,8 +28,8 @@ pub enum RegistryAnswer {
     No,
 }
 
-/// One entry of the history: the number under which the call was made, the call, and its answer. The number of a
-/// `Register` is the entry's own place, counted from 0.
+/// One entry of the history: the number under which the call was made, the call, and its answer.
+/// The number of a `Register` is the entry's own place, counted from 0.
 #[derive(Debug, PartialEq, Eq, Drop)]
 pub struct Entry {
     pub number: u64,

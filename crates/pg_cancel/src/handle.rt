@@ -114,8 +114,8 @@ impl ConnectionManager {
     }
 
     /// Whether the connection's query was canceled since it was started; without a query it is not.
-    /// Waits for the turn. Every 64th no gives the processor away, so that a thread that asks on and
-    /// on leaves some of it to the others.
+    /// Waits for the turn. Every 64th no gives the processor away, so that a thread that asks on
+    /// and on leaves some of it to the others.
     #[tactic(auto, using(crate::proofs::Events::begins_more))]
     pub fn ask<R: Wait>(&self, rt: &R, handle: &mut ConnectionHandle) -> Result<bool, AllocError>
         requires issued { handle.old.issuer ≡ self.now }
@@ -228,8 +228,8 @@ impl ConnectionManager {
         let _ = shared.load::<Compare>(&mut handle.seat, 0);
     }
 
-    /// Waits for the turn and makes a call, which is no Register, under the number and the pid of the
-    /// seat's live registration.
+    /// Waits for the turn and makes a call, which is no Register, under the number and the pid of
+    /// the seat's live registration.
     fn make_call<R: Wait>(
         &self,
         rt: &R,
@@ -262,7 +262,8 @@ fn is_yes(answer: RegistryAnswer) -> bool
     matches!(answer, RegistryAnswer::Yes)
 }
 
-/// Counts a question that was answered no. Where there were enough, the processor is given away instead.
+/// Counts a question that was answered no. Where there were enough, the processor is given away
+/// instead.
 fn noes_after(noes: u32, yes: bool) -> u32 {
     if yes {
         return noes;

@@ -18,7 +18,8 @@ pub enum Query {
     Canceled,
 }
 
-/// The live registration of a process id: its number, its secret key, and how far its query has come.
+/// The live registration of a process id: its number, its secret key, and how far its query has
+/// come.
 #[derive(Clone, Copy)]
 pub struct Holder {
     pub number: u64,
@@ -26,7 +27,8 @@ pub struct Holder {
     pub query: Query,
 }
 
-/// The index of a history: its live registrations by their process ids. The history itself is not needed for an answer.
+/// The index of a history: its live registrations by their process ids. The history itself is not
+/// needed for an answer.
 #[derive(Drop)]
 pub struct Holders {
     pub by_pid: BTreeMap<i32, Holder>,
@@ -41,8 +43,8 @@ impl Holders {
         }
     }
 
-    /// Answers a call of the registration that has the pid, after `place` entries, and notes it. A Register is anybody's.
-    /// After an error nothing is noted.
+    /// Answers a call of the registration that has the pid, after `place` entries, and notes it. A
+    /// Register is anybody's. After an error nothing is noted.
     pub fn answer(
         &mut self,
         place: u64,
@@ -69,7 +71,8 @@ impl Holders {
         pid: i32,
         key: &[u8; 4],
     ) -> Result<RegistryAnswer, AllocError>
-        ensures ok { IfOk result (NotesAny self.old place pid (RegistryCall.Register pid key.now) self.new) }
+        ensures ok { IfOk result (NotesAny self.old place pid (RegistryCall.Register pid key.now)
+            self.new) }
         ensures err { OnErr result (IsUnchanged self.old.by_pid self.new.by_pid) }
     {
         if let Some(holder) = self.by_pid.get(&pid) {
@@ -108,7 +111,8 @@ impl Holders {
     }
 
     fn cancel(&mut self, pid: i32, key: &[u8; 4]) -> RegistryAnswer
-        ensures { (place : ℕ) (caller : ℤ) → NotesAny self.old place caller (RegistryCall.Cancel pid key.now) self.new result }
+        ensures { (place : ℕ) (caller : ℤ)
+            → NotesAny self.old place caller (RegistryCall.Cancel pid key.now) self.new result }
     {
         let Some(holder) = self.by_pid.get_mut(&pid) else {
             return RegistryAnswer::No;
@@ -122,7 +126,8 @@ impl Holders {
 
     fn unregister(&mut self, pid: i32) -> RegistryAnswer
         requires { IsHeld self.old pid }
-        ensures { (place : ℕ) → NotesAny self.old place pid RegistryCall.Unregister self.new result }
+        ensures { (place : ℕ) → NotesAny self.old place pid RegistryCall.Unregister self.new
+            result }
     {
         let _ = self.by_pid.remove(&pid);
         RegistryAnswer::Done

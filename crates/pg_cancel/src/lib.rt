@@ -1,4 +1,5 @@
-//! The cancel registry: who is connected under which process id and secret key, and whose query was canceled.
+//! The cancel registry: who is connected under which process id and secret key, and whose query was
+//! canceled.
 #![tactic(auto)]
 
 mod entries;

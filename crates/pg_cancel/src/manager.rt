@@ -157,7 +157,8 @@ impl ConnectionManager {
         requires turn { IsHolding seat.old.me roster }
         requires door { seat.old.me.0.is_door ≡ true }
         requires call { is_register call ≡ true }
-        requires fits { (log : List Entry) → seat.old.me.0.turn ≡ Some log → Fits log seat.old.me.0 }
+        requires fits { (log : List Entry) → seat.old.me.0.turn ≡ Some log
+            → Fits log seat.old.me.0 }
         ensures same { (seat.new.table_id ≡ seat.old.table_id) × (seat.new.id ≡ seat.old.id) }
         ensures ok { IfOk result (λ number. IsOpening seat.new.me number call
             × Registers number call

@@ -1,5 +1,5 @@
-//! The registry story through a manager, on one thread and on two. No history is stored: each answer is compared, and the
-//! number of the last registration is how many entries came before it.
+//! The registry story through a manager, on one thread and on two. No history is stored: each
+//! answer is compared, and the number of the last registration is how many entries came before it.
 ghost use Rattle.std.specs.Prelude.{◌≡◌, IfSome};
 ghost use Rattle.std.specs.Thread.{IsSync};
 
@@ -147,7 +147,8 @@ fn is_cancelled<R: Wait>(
     Ok(!early && hit && asked)
 }
 
-/// The first ends, which the second finds, and its pid is free again. Twelve calls were made before its third registration.
+/// The first ends, which the second finds, and its pid is free again. Twelve calls were made before
+/// its third registration.
 fn ending<R: Wait>(
     rt: &R,
     manager: &ConnectionManager,

@@ -144,7 +144,8 @@ fn t_index(rt: HostRuntime) -> Result<(), Fail> {
     Ok(())
 }
 
-/// Whether a registration and a start are followed by a million queries and a million refused registrations.
+/// Whether a registration and a start are followed by a million queries and a million refused
+/// registrations.
 fn is_indexed(registry: &mut Registry) -> Result<bool, AllocError> {
     let registered = is_registered(registry, &RegistryAnswer::Registered)?;
     let started = is_answered(registry, 0, RegistryCall::Start, &RegistryAnswer::Done)?;

@@ -48,8 +48,9 @@ impl ConnectionManager {
         count
     }
 
-    /// Makes one event, a call of the registration with this number and pid or a Register, and gives the turn back.
-    /// After want of memory, or of room for an entry more, the turn was given back with nothing done.
+    /// Makes one event, a call of the registration with this number and pid or a Register, and
+    /// gives the turn back. After want of memory, or of room for an entry more, the turn was given
+    /// back with nothing done.
     pub(crate) fn make_event(
         &self,
         seat: &mut Place,

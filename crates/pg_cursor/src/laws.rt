@@ -1,4 +1,5 @@
-//! Laws of the cursor table. The functions take nothing and do nothing: their contracts are the laws.
+//! Laws of the cursor table. The functions take nothing and do nothing: their contracts are the
+//! laws.
 
 ghost use Rattle.std.specs.Prelude.{◌≡◌, ◌⊎◌, ℕ, Bool, false, List, []};
 ghost use Rattle.pg_messages.specs.Frames.{DividesInto, IsUnfinished, IsBad, awaits_startup_after_all};
@@ -10,14 +11,15 @@ ghost use Rattle.cursor_commands.specs.declared.command.CursorCommand.{CursorCom
 ghost use Rattle.cursor_commands.specs.Cursors.{messages_of};
 ghost use Rattle.pg_cursor.specs.CursorTable.{cursor_table, IsCommanded};
 
-/// The cursor table over a lawful table is lawful: it takes the registry's answers from the front, and awaits the startup
-/// packet until that came.
+/// The cursor table over a lawful table is lawful: it takes the registry's answers from the front,
+/// and awaits the startup packet until that came.
 pub fn cursor_table_is_lawful<T>()
     ensures { (ready awaits : T → Bool) (table : Table T)
         → IsLawful table awaits → IsLawful (cursor_table ready table) awaits }
 {}
 
-/// What the frames of a command are answered is the row of the command, with the replies to its messages changed.
+/// What the frames of a command are answered is the row of the command, with the replies to its
+/// messages changed.
 pub fn frames_answer_commands<T>()
     ensures { (rules : Rules T) (s : T) (command : CursorCommand) (frames rest bytes : List ℕ)
         (calls : List DeskCall) (next : Next T)

@@ -31,7 +31,8 @@ questions-noes (suc n) more = omega (arith, questions-noes n more)
 abbrev behind_noes : ℕ → Questioned → Questioned
 behind_noes n q = record { calls = noes n ++ q.calls; verdict = q.verdict }
 
-questioned-noes : (n owed : ℕ) (answers : List Bool) → questioned (n + owed) (replicate n false ++ answers) ≡ behind_noes n (questioned owed answers)
+questioned-noes : (n owed : ℕ) (answers : List Bool)
+    → questioned (n + owed) (replicate n false ++ answers) ≡ behind_noes n (questioned owed answers)
 questioned-noes zero owed answers = ap (λ (n : ℕ). questioned n answers) (zero-add owed)
 questioned-noes (suc n) owed answers =
     let one_more : suc n + owed ≡ suc (n + owed) = omega arith in
@@ -70,76 +71,82 @@ pub asked_so_far : {A : Type 0} (first told : QueryTold A) (old new : List DeskC
     → IsWaiting first told old new turns now → IsAsked first.owes old new (verdict_at told.owes)
 asked_so_far first told old new turns now h =
     subst (λ (owes : ℕ). IsAsked owes old new (verdict_at told.owes)) (sym h.owed)
-    (asked_more h.asked told.owes old new [] (verdict_at told.owes) (h.calls ∙ ap (λ l. old ++ l) (sym (append-nil (noes h.asked)))) (at_no_answer told.owes))
+    (asked_more h.asked told.owes old new [] (verdict_at told.owes) (h.calls
+    ∙ ap (λ l. old ++ l) (sym (append-nil (noes h.asked)))) (at_no_answer told.owes))
 
 -- the questions among those that were asked so far
 since_noes : (n : ℕ) (old new more : List DeskCall) → new ≡ old ++ (noes n ++ more) → questions_since old new ≡ n + questions more
-since_noes n old new more e = ap (λ l. questions (drop (length old) l)) e ∙ ap questions (drop-append_seam old (noes n ++ more)) ∙ questions-noes n more
+since_noes n old new more e = ap (λ l. questions (drop (length old) l)) e ∙ ap questions (drop-append_seam old (noes n ++ more))
+    ∙ questions-noes n more
 
 pub turns_are : (now : Turns) (spent limit : ℕ) → now.spent ≡ spent → now.limit ≡ limit → now ≡ record { spent = spent; limit = limit }
 turns_are now spent limit p q = rw (← p, ← q) refl
 
-module _ {A : Type 0} (first told : QueryTold A) (old new : List DeskCall) (turns now : Turns) (h : IsWaiting first told old new turns now) where
-  since_so_far : questions_since old new ≡ h.asked
-  since_so_far =
-      let e = since_noes h.asked old new [] (h.calls ∙ ap (λ l. old ++ l) (sym (append-nil (noes h.asked)))) in
-      omega (arith, e)
+module _ {A : Type 0} (first told : QueryTold A) (old new : List DeskCall) (turns now : Turns) (h : IsWaiting first told old new turns now)
+  where
+    since_so_far : questions_since old new ≡ h.asked
+    since_so_far =
+        let e = since_noes h.asked old new [] (h.calls ∙ ap (λ l. old ++ l) (sym (append-nil (noes h.asked)))) in
+        omega (arith, e)
 
-  pub spent_so_far : now ≡ record { spent = turns.spent + questions_since old new; limit = turns.limit }
-  spent_so_far = turns_are now (turns.spent + questions_since old new) turns.limit (h.spent ∙ ap (λ n. turns.spent + n) (sym since_so_far)) h.limit
+    pub spent_so_far : now ≡ record { spent = turns.spent + questions_since old new; limit = turns.limit }
+    spent_so_far = turns_are now (turns.spent + questions_since old new) turns.limit (h.spent
+        ∙ ap (λ n. turns.spent + n) (sym since_so_far)) h.limit
 
-  -- one more was met than turns were left
-  pub unanswered : told.owes ≢ 0 → IsAsked first.owes old new Unanswered
-  unanswered owes = at_owed told.owes owes (asked_so_far first told old new turns now h)
-    where
-      at_owed : (n : ℕ) → n ≢ 0 → IsAsked first.owes old new (verdict_at n) → IsAsked first.owes old new Unanswered
-      at_owed zero ne x = absurd (ne refl)
-      at_owed (suc n) ne x = x
-
-  -- memory was wanting for a question, whose turn is spent
-  pub spent_in_vain : (later : Turns) → later.spent ≡ now.spent + 1 → later.limit ≡ now.limit
-      → later ≡ record { spent = turns.spent + questions_since old new + 1; limit = turns.limit }
-  spent_in_vain later p q =
-      turns_are later (turns.spent + questions_since old new + 1) turns.limit
-      (let e = since_so_far in let f = h.spent in omega (arith, p, e, f)) (q ∙ h.limit)
-
-  module _ (next : List DeskCall) (yes : next ≡ new ++ desk.Ask true ∷ []) where
-    grown_by_yes : next ≡ old ++ (noes h.asked ++ desk.Ask true ∷ [])
-    grown_by_yes = yes ∙ ap (λ l. l ++ desk.Ask true ∷ []) h.calls ∙ append_assoc old (noes h.asked) (desk.Ask true ∷ [])
-
-    -- so a canceled query's last question was answered yes
-    pub ends_with_yes : EndsWithYes old next
-    ends_with_yes = (noes h.asked, grown_by_yes)
-
-    -- the last question was answered yes
-    pub canceled : told.owes ≢ 0 → IsAsked first.owes old next Canceled
-    canceled owes =
-        subst (λ (owes : ℕ). IsAsked owes old next Canceled) (sym h.owed)
-        (asked_more h.asked told.owes old next (desk.Ask true ∷ []) Canceled grown_by_yes (at_owed told.owes owes))
+    -- one more was met than turns were left
+    pub unanswered : told.owes ≢ 0 → IsAsked first.owes old new Unanswered
+    unanswered owes = at_owed told.owes owes (asked_so_far first told old new turns now h)
       where
-        at_owed : (n : ℕ) → n ≢ 0 → questioned n (true ∷ []) ≡ record { calls = desk.Ask true ∷ []; verdict = Canceled }
-        at_owed zero ne = absurd (ne refl)
-        at_owed (suc n) ne = refl
+        at_owed : (n : ℕ) → n ≢ 0 → IsAsked first.owes old new (verdict_at n) → IsAsked first.owes old new Unanswered
+        at_owed zero ne x = absurd (ne refl)
+        at_owed (suc n) ne x = x
 
-    pub spent_at_yes : (later : Turns) → later.spent ≡ now.spent + 1 → later.limit ≡ now.limit
-        → later ≡ record { spent = turns.spent + questions_since old next; limit = turns.limit }
-    spent_at_yes later p q =
-        turns_are later (turns.spent + questions_since old next) turns.limit
-        (let e = since_noes h.asked old next (desk.Ask true ∷ []) grown_by_yes in let f = h.spent in omega (arith, p, e, f)) (q ∙ h.limit)
+    -- memory was wanting for a question, whose turn is spent
+    pub spent_in_vain : (later : Turns) → later.spent ≡ now.spent + 1 → later.limit ≡ now.limit
+        → later ≡ record { spent = turns.spent + questions_since old new + 1; limit = turns.limit }
+    spent_in_vain later p q =
+        turns_are later (turns.spent + questions_since old new + 1) turns.limit
+        (let e = since_so_far in let f = h.spent in omega (arith, p, e, f)) (q ∙ h.limit)
 
-  -- the question was answered no
-  pub waits_on : (after : QueryTold A) (next : List DeskCall) (later : Turns) → told.owes ≢ 0
-      → after ≡ record { is_spent = told.is_spent; owes = told.owes - 1; outcome = told.outcome }
-      → next ≡ new ++ desk.Ask false ∷ [] → later.spent ≡ now.spent + 1 → later.limit ≡ now.limit → IsWaiting first after old next turns later
-  waits_on after next later owes is at p q = record {
-    asked = h.asked + 1;
-    owed = let left : after.owes ≡ told.owes - 1 = ap (λ t. t.owes) is in omega (arith, left, h.owed, owes);
-    outcome = ap (λ t. t.outcome) is ∙ h.outcome;
-    unspent = ap (λ t. t.is_spent) is ∙ h.unspent;
-    calls = at ∙ ap (λ l. l ++ desk.Ask false ∷ []) h.calls ∙ append_assoc old (noes h.asked) (desk.Ask false ∷ []) ∙ ap (λ l. old ++ l) (sym (noes-more h.asked));
-    spent = omega (arith, p, h.spent);
-    limit = q ∙ h.limit;
-  }
+    module _ (next : List DeskCall) (yes : next ≡ new ++ desk.Ask true ∷ []) where
+      grown_by_yes : next ≡ old ++ (noes h.asked ++ desk.Ask true ∷ [])
+      grown_by_yes = yes ∙ ap (λ l. l ++ desk.Ask true ∷ []) h.calls ∙ append_assoc old (noes h.asked) (desk.Ask true ∷ [])
+
+      -- so a canceled query's last question was answered yes
+      pub ends_with_yes : EndsWithYes old next
+      ends_with_yes = (noes h.asked, grown_by_yes)
+
+      -- the last question was answered yes
+      pub canceled : told.owes ≢ 0 → IsAsked first.owes old next Canceled
+      canceled owes =
+          subst (λ (owes : ℕ). IsAsked owes old next Canceled) (sym h.owed)
+          (asked_more h.asked told.owes old next (desk.Ask true ∷ []) Canceled grown_by_yes (at_owed told.owes owes))
+        where
+          at_owed : (n : ℕ) → n ≢ 0 → questioned n (true ∷ []) ≡ record { calls = desk.Ask true ∷ []; verdict = Canceled }
+          at_owed zero ne = absurd (ne refl)
+          at_owed (suc n) ne = refl
+
+      pub spent_at_yes : (later : Turns) → later.spent ≡ now.spent + 1 → later.limit ≡ now.limit
+          → later ≡ record { spent = turns.spent + questions_since old next; limit = turns.limit }
+      spent_at_yes later p q =
+          turns_are later (turns.spent + questions_since old next) turns.limit
+          (let e = since_noes h.asked old next (desk.Ask true ∷ []) grown_by_yes in let f = h.spent in omega (arith, p, e, f)) (q ∙ h.limit)
+
+    -- the question was answered no
+    pub waits_on : (after : QueryTold A) (next : List DeskCall) (later : Turns) → told.owes ≢ 0
+        → after ≡ record { is_spent = told.is_spent; owes = told.owes - 1; outcome = told.outcome }
+        → next ≡ new ++ desk.Ask false ∷ [] → later.spent ≡ now.spent + 1 → later.limit ≡ now.limit
+        → IsWaiting first after old next turns later
+    waits_on after next later owes is at p q = record {
+      asked = h.asked + 1;
+      owed = let left : after.owes ≡ told.owes - 1 = ap (λ t. t.owes) is in omega (arith, left, h.owed, owes);
+      outcome = ap (λ t. t.outcome) is ∙ h.outcome;
+      unspent = ap (λ t. t.is_spent) is ∙ h.unspent;
+      calls = at ∙ ap (λ l. l ++ desk.Ask false ∷ []) h.calls ∙ append_assoc old (noes h.asked) (desk.Ask false ∷ [])
+          ∙ ap (λ l. old ++ l) (sym (noes-more h.asked));
+      spent = omega (arith, p, h.spent);
+      limit = q ∙ h.limit;
+    }
 
 -- the query is done, and no poll was owed
 pub passed : {A : Type 0} (first told : QueryTold A) (old new : List DeskCall) (turns now : Turns) → IsWaiting first told old new turns now

@@ -22,8 +22,11 @@ item_caused calls new_calls _ x = tt
 -- the start of the query stands before its questions
 pub caused_since : (calls started_calls new_calls : List DeskCall) → started_calls ≡ calls ++ desk.Start ∷ [] → (e : SessionError)
     → IsCausedSo started_calls new_calls e → IsCausedSo calls new_calls e
-caused_since calls started_calls new_calls s (session.Wire wire.QueryCanceled) x =
-    (desk.Start ∷ x.0, x.1 ∙ ap (λ l. l ++ (x.0 ++ desk.Ask true ∷ [])) s ∙ append_assoc calls (desk.Start ∷ []) (x.0 ++ desk.Ask true ∷ []))
+caused_since calls started_calls new_calls s (session.Wire wire.QueryCanceled) x = (
+  desk.Start ∷ x.0,
+  x.1 ∙ ap (λ l. l ++ (x.0 ++ desk.Ask true ∷ [])) s
+      ∙ append_assoc calls (desk.Start ∷ []) (x.0 ++ desk.Ask true ∷ []),
+)
 caused_since calls started_calls new_calls s _ x = x
 
 pub item_answerable : (e : PgWireError) → IsAnswerableItem e → IsAnswerable e

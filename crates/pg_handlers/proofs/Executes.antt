@@ -29,7 +29,8 @@ run_row owes effect answers =
 -- ---- rows that are the same
 
 pub row_as : {S : Type 0} (row other : Row S) {out new_out : List ℕ} {calls new_calls : List DeskCall} {outcome : Outcome S}
-    → ((answers : List Bool) → row answers ≡ other answers) → IsRow other out new_out calls new_calls outcome → IsRow row out new_out calls new_calls outcome
+    → ((answers : List Bool) → row answers ≡ other answers) → IsRow other out new_out calls new_calls outcome
+    → IsRow row out new_out calls new_calls outcome
 row_as row other {out} {new_out} {calls} {new_calls} {outcome} same x = record {
   made = x.made;
   own = ap (λ c. c.calls) (same (answers_of x.made)) ∙ x.own;
@@ -38,7 +39,8 @@ row_as row other {out} {new_out} {calls} {new_calls} {outcome} same x = record {
 }
 
 pub stopped_as : {S : Type 0} (row other : Row S) {out new_out : List ℕ} {calls new_calls : List DeskCall}
-    → ((answers : List Bool) → row answers ≡ other answers) → IsStoppedRow other out new_out calls new_calls → IsStoppedRow row out new_out calls new_calls
+    → ((answers : List Bool) → row answers ≡ other answers) → IsStoppedRow other out new_out calls new_calls
+    → IsStoppedRow row out new_out calls new_calls
 stopped_as row other {out} {new_out} {calls} {new_calls} same x = record {
   made = x.made;
   own = ap (λ c. c.calls) (same (answers_of x.made)) ∙ x.own;
@@ -56,7 +58,8 @@ cut_as row other same x = record {
 }
 
 pub refused_as : {S : Type 0} (row other : Row S) (out new_out : List ℕ) (calls new_calls : List DeskCall) (s : State S) (e : SessionError)
-    → ((answers : List Bool) → row answers ≡ other answers) → IsRefusedRow other out new_out calls new_calls s e → IsRefusedRow row out new_out calls new_calls s e
+    → ((answers : List Bool) → row answers ≡ other answers) → IsRefusedRow other out new_out calls new_calls s e
+    → IsRefusedRow row out new_out calls new_calls s e
 refused_as row other out new_out calls new_calls s (session.Wire e) same (inl x) = inl (x.0, cut_as row other same x.1)
 refused_as row other out new_out calls new_calls s (session.Wire e) same (inr x) = inr (row_as row other same x)
 refused_as row other out new_out calls new_calls s session.TurnLimit same x = stopped_as row other same x
@@ -67,17 +70,26 @@ pub cut_at_none : {S : Type 0} (row : Row S) (calls : List DeskCall) → IsCutRo
 cut_at_none row calls = record { made = []; front = ((row []).calls, refl); grown = sym (append-nil calls) }
 
 pub silent_row : {S : Type 0} (row : Row S) (effect : Effect S) {out new_out : List ℕ} (calls : List DeskCall) {outcome : Outcome S}
-    → ((answers : List Bool) → row answers ≡ silent effect) → IsEffect effect out new_out outcome → IsRow row out new_out calls calls outcome
-silent_row row effect calls same x = row_as row (λ answers. silent effect) same (record { made = []; own = refl; called = sym (append-nil calls); effect = x })
+    → ((answers : List Bool) → row answers ≡ silent effect) → IsEffect effect out new_out outcome
+    → IsRow row out new_out calls calls outcome
+silent_row row effect calls same x = row_as row (λ answers. silent effect) same (record {
+  made = [];
+  own = refl;
+  called = sym (append-nil calls);
+  effect = x;
+})
 
-pub silent_refused : {S : Type 0} (row : Row S) (effect : Effect S) {out new_out : List ℕ} (calls : List DeskCall) {s : State S} (e : PgWireError)
-    → ((answers : List Bool) → row answers ≡ silent effect) → IsRefusedEffect effect out new_out s e → IsRefusedRow row out new_out calls calls s (session.Wire e)
+pub silent_refused : {S : Type 0} (row : Row S) (effect : Effect S) {out new_out : List ℕ} (calls : List DeskCall) {s : State S}
+    (e : PgWireError)
+    → ((answers : List Bool) → row answers ≡ silent effect) → IsRefusedEffect effect out new_out s e
+    → IsRefusedRow row out new_out calls calls s (session.Wire e)
 silent_refused row effect calls e same (inl none) = inl (none, cut_at_none row calls)
 silent_refused row effect calls e same (inr x) = inr (silent_row row effect calls same x)
 
 -- ---- rows that run a query
 
-module _ {S : Type 0} (owes : ℕ) (effect : Verdict → Effect S) (calls started_calls : List DeskCall) (starts : started_calls ≡ calls ++ desk.Start ∷ []) where
+module _ {S : Type 0} (owes : ℕ) (effect : Verdict
+    → Effect S) (calls started_calls : List DeskCall) (starts : started_calls ≡ calls ++ desk.Start ∷ []) where
   -- the query was started, and nothing else was called
   pub cut_started : IsCutRow (run_row owes effect) calls started_calls
   cut_started = record { made = desk.Start ∷ []; front = ((questioned owes []).calls, refl); grown = starts }
@@ -86,7 +98,10 @@ module _ {S : Type 0} (owes : ℕ) (effect : Verdict → Effect S) (calls starte
     called_so : new_calls ≡ calls ++ desk.Start ∷ asked.made
     called_so = asked.grown ∙ ap (λ l. l ++ asked.made) starts ∙ append_assoc calls (desk.Start ∷ []) asked.made
 
-    run_is : run_row owes effect (answers_of (desk.Start ∷ asked.made)) ≡ record { calls = desk.Start ∷ asked.made; effect = effect verdict }
+    run_is : run_row owes effect (answers_of (desk.Start ∷ asked.made)) ≡ record {
+      calls = desk.Start ∷ asked.made;
+      effect = effect verdict;
+    }
     run_is = ap (λ (q : Questioned). let c : Called S = record { calls = desk.Start ∷ q.calls; effect = effect q.verdict } in c) asked.asked
 
     pub run_was : {out new_out : List ℕ} {outcome : Outcome S} → IsEffect (effect verdict) out new_out outcome
@@ -136,11 +151,13 @@ module _ {S : Type 0} (owes : ℕ) (effect : Verdict → Effect S) (calls starte
   wait_refused out outcome new_calls verdict s stops cancels asked (session.Wire e) (inr none) = inl (none, run_cut new_calls verdict asked)
 
 -- the questions since the start are those since before it
-pub asked_since : (owes : ℕ) (calls started_calls : List DeskCall) → started_calls ≡ calls ++ desk.Start ∷ [] → (new_calls : List DeskCall) (verdict : Verdict)
+pub asked_since : (owes : ℕ) (calls started_calls : List DeskCall) → started_calls ≡ calls ++ desk.Start ∷ []
+    → (new_calls : List DeskCall) (verdict : Verdict)
     → IsAsked owes started_calls new_calls verdict → questions_since started_calls new_calls ≡ questions_since calls new_calls
 asked_since owes calls started_calls starts new_calls verdict asked =
     ap (λ l. questions (drop (length started_calls) l)) asked.grown ∙ ap questions (drop-append_seam started_calls asked.made)
-    ∙ sym (ap (λ l. questions (drop (length calls) l)) (asked.grown ∙ ap (λ l. l ++ asked.made) starts ∙ append_assoc calls (desk.Start ∷ []) asked.made)
+    ∙ sym (ap (λ l. questions (drop (length calls) l)) (asked.grown ∙ ap (λ l. l ++ asked.made) starts
+    ∙ append_assoc calls (desk.Start ∷ []) asked.made)
     ∙ ap questions (drop-append_seam calls (desk.Start ∷ asked.made)))
 
 -- a start is no question, and spends no turn
@@ -152,24 +169,29 @@ no_turn_started turns calls begun starts =
     let same : turns.spent ≡ turns.spent + questions_since calls begun = omega (arith, none) in
     ap (λ (n : ℕ). let t : Turns = record { spent = n; limit = turns.limit } in t) same
 
-pub spent_ok : (old new : Turns) (m n : ℕ) → m ≡ n → new ≡ record { spent = old.spent + m; limit = old.limit } → new ≡ record { spent = old.spent + n; limit = old.limit }
+pub spent_ok : (old new : Turns) (m n : ℕ) → m ≡ n → new ≡ record { spent = old.spent + m; limit = old.limit }
+    → new ≡ record { spent = old.spent + n; limit = old.limit }
 spent_ok old new m n same h = h ∙ ap (λ (k : ℕ). let t : Turns = record { spent = old.spent + k; limit = old.limit } in t) same
 
 -- turns were spent on so many questions
-pub spent_as : (old new : Turns) (m n : ℕ) (e : SessionError) → m ≡ n → HasSpent {A = Bool} old new m (Err e) → HasSpent {A = Bool} old new n (Err e)
+pub spent_as : (old new : Turns) (m n : ℕ) (e : SessionError) → m ≡ n → HasSpent {A = Bool} old new m (Err e)
+    → HasSpent {A = Bool} old new n (Err e)
 spent_as old new m n e same h = subst (λ (k : ℕ). HasSpent {A = Bool} old new k (Err e)) same h
 
 -- ---- Query
 
 -- a query that isn't blank is run
 pub runs_query : {S : Type 0} (h : SimpleTold) (s : State S) (m : Query) → is_blank m.query ≡ false
-    → (answers : List Bool) → on_query h answers s m ≡ run_row (h s.info m.query).owes (λ verdict. query_polled s verdict (h s.info m.query).outcome) answers
+    → (answers : List Bool) → on_query h answers s m
+    ≡ run_row (h s.info m.query).owes (λ verdict. query_polled s verdict (h s.info m.query).outcome) answers
 runs_query h s m e answers = rw e refl
 
-pub query_failed : {S : Type 0} (s : State S) (out : List ℕ) (verdict : Verdict) (outcome : Result (List ToldResponse) PgWireError) (e : PgWireError) → verdict ≡ Passed → outcome ≡ Err e
+pub query_failed : {S : Type 0} (s : State S) (out : List ℕ) (verdict : Verdict) (outcome : Result (List ToldResponse) PgWireError)
+    (e : PgWireError) → verdict ≡ Passed → outcome ≡ Err e
     → IsRefusedEffect (query_polled s verdict outcome) out out s e
 query_failed s out verdict outcome e p q = inr (rw (p, q) (record { replied = sym (append-nil out); came = refl }))
 
-pub query_passed : {S : Type 0} (s : State S) (verdict : Verdict) (outcome : Result (List ToldResponse) PgWireError) (responses : List ToldResponse) → verdict ≡ Passed → outcome ≡ Ok responses
+pub query_passed : {S : Type 0} (s : State S) (verdict : Verdict) (outcome : Result (List ToldResponse) PgWireError)
+    (responses : List ToldResponse) → verdict ≡ Passed → outcome ≡ Ok responses
     → query_polled s verdict outcome ≡ answered_all s responses
 query_passed s verdict outcome responses p q = rw (p, q) refl

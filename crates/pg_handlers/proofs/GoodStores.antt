@@ -101,7 +101,8 @@ good_closed {S} parser info old new m e good =
     subst (λ maps. IsGoodState parser (state_in info maps)) (sym e) (by_byte (m.target_type == 83) (m.target_type == 80))
   where
     by_byte : (is_statement is_portal : Bool)
-        → IsGoodState parser (state_in info (if is_statement then maps_without_statement old m.name else if is_portal then maps_without_portal old m.name else old))
+        → IsGoodState parser (state_in info (if is_statement then maps_without_statement old m.name
+        else if is_portal then maps_without_portal old m.name else old))
     by_byte true is_portal = good_without_statement parser (state_in info old) m.name good
     by_byte false true = good_without_portal parser (state_in info old) m.name good
     by_byte false false = good

@@ -37,17 +37,20 @@ at_value None p e = cc
 at_value (Some entry.Empty) p e = cc
 at_value (Some (entry.Value x)) p e = let same : x ≡ p = cc in ap (λ y. Some (entry.Value y)) same
 
-executed_at : {S : Type 0} (h : ExtendedTold S) (answers : List Bool) (s : State S) (m : Execute) (p : TablePortal S) (o : Option (Entry (TablePortal S)))
+executed_at : {S : Type 0} (h : ExtendedTold S) (answers : List Bool) (s : State S) (m : Execute) (p : TablePortal S)
+    (o : Option (Entry (TablePortal S)))
     → o ≡ Some (entry.Value p) → executed_entry h answers s m o ≡ executed_portal h answers s m p p.stage
 executed_at h answers s m p o e = rw e refl
 
-module _ {S : Type 0} (h : ExtendedTold S) (s : State S) (m : Execute) (p : TablePortal S) (found : value_under (fin.get s.portals m.name) ≡ Some p) where
+module _ {S : Type 0} (h : ExtendedTold S) (s : State S) (m : Execute) (p : TablePortal S) (found : value_under (fin.get s.portals m.name)
+    ≡ Some p) where
   pub executes_portal : (answers : List Bool) → on_execute h answers s m ≡ executed_portal h answers s m p p.stage
   executes_portal answers = executed_at h answers s m p (fin.get s.portals m.name) (at_value (fin.get s.portals m.name) p found)
 
   -- a portal that isn't started runs its query
   pub runs_portal : p.stage ≡ Unstarted → (answers : List Bool)
-      → on_execute h answers s m ≡ run_row (h.query s.info p.bound m.max_rows).owes (λ verdict. execute_polled s m p verdict (h.query s.info p.bound m.max_rows).outcome) answers
+      → on_execute h answers s m ≡ run_row (h.query s.info p.bound m.max_rows).owes
+      (λ verdict. execute_polled s m p verdict (h.query s.info p.bound m.max_rows).outcome) answers
   runs_portal e answers = executes_portal answers ∙ ap (executed_portal h answers s m p) e
 
   -- what is written back is what stood there, where the portal has come as far as before
@@ -108,7 +111,8 @@ module _ {S : Type 0} (s : State S) (m : Execute) (p : TablePortal S) (out new_o
         (λ answers. executes_portal h s m p found answers ∙ ap (executed_portal h answers s m p) is)
         (record { replied = x.2; came = ap Done (sym (same_if (x.1 ∙ sym is))) })
 
-    pub started_refused : (h : ExtendedTold S) (calls : List DeskCall) (old : Stage) (e : PgWireError) → p.stage ≡ old → is_unstarted old ≡ false
+    pub started_refused : (h : ExtendedTold S) (calls : List DeskCall) (old : Stage) (e : PgWireError) → p.stage ≡ old
+        → is_unstarted old ≡ false
         → IsPageOf {A = Unit {0}} (page_result m.max_rows old) stage out new_out (Err e)
         → IsRefusedRow (λ answers. on_execute h answers s m) out new_out calls calls s' (session.Wire e)
     started_refused h calls Unstarted e is started x = cc
@@ -128,7 +132,8 @@ module _ {S : Type 0} (s : State S) (m : Execute) (p : TablePortal S) (out new_o
       unchanged e = sym (same_if (e ∙ sym fresh))
 
       -- rows were sent
-      pub run_paged : (verdict : Verdict) (outcome : Result ToldResponse PgWireError) → IsPortalRun told (portal_run m.max_rows Unstarted verdict outcome) Unstarted stage out new_out (Ok None)
+      pub run_paged : (verdict : Verdict) (outcome : Result ToldResponse PgWireError)
+          → IsPortalRun told (portal_run m.max_rows Unstarted verdict outcome) Unstarted stage out new_out (Ok None)
           → IsEffect (execute_polled s m p verdict outcome) out new_out (Done s')
       run_paged Unanswered outcome x = absurd x
       run_paged Canceled outcome x = cc
@@ -154,8 +159,12 @@ module _ {S : Type 0} (s : State S) (m : Execute) (p : TablePortal S) (out new_o
       run_wire Canceled outcome e (inl none) = inl none
       run_wire Canceled outcome e (inr x) = inr (record { replied = x.2; came = failed_as s _ e (unchanged x.1) (let same = x.0 in cc) })
       run_wire Passed (Err d) e (inl none) = inl none
-      run_wire Passed (Err d) e (inr x) = inr (record { replied = x.2; came = failed_as s d e (unchanged x.1) (let same : d ≡ e = cc in same) })
-      run_wire Passed (Ok (response.Query r)) e x = page_refused r 0 (item_page m.max_rows r.items).rows (item_page m.max_rows r.items).ending e x
+      run_wire Passed (Err d) e (inr x) = inr (record {
+        replied = x.2;
+        came = failed_as s d e (unchanged x.1) (let same : d ≡ e = cc in same);
+      })
+      run_wire Passed (Ok (response.Query r)) e x =
+          page_refused r 0 (item_page m.max_rows r.items).rows (item_page m.max_rows r.items).ending e x
       run_wire Passed (Ok _) e x = inl x
 
       pub run_waits : (verdict : Verdict) (outcome : Result ToldResponse PgWireError)
@@ -188,7 +197,8 @@ module _ {S : Type 0} (s : State S) (m : Execute) (p : TablePortal S) (out new_o
       run_stays Passed (Ok _) x = absurd x
 
 -- where there is no portal to run
-pub no_portal : {S : Type 0} (h : ExtendedTold S) (answers : List Bool) (s : State S) (m : Execute) (o : Option (Entry (TablePortal S))) → value_under o ≡ None
+pub no_portal : {S : Type 0} (h : ExtendedTold S) (answers : List Bool) (s : State S) (m : Execute) (o : Option (Entry (TablePortal S)))
+    → value_under o ≡ None
     → executed_entry h answers s m o ≡ silent (executed_nothing s m.name o)
 no_portal h answers s m None e = refl
 no_portal h answers s m (Some entry.Empty) e = refl
@@ -215,7 +225,12 @@ module _ {S : Type 0} (parser : ParserTold S) (s : State S) (good : IsGoodState 
   good_written name p stage s' found written tag =
       let before = good.portals name p found in
       subst (IsGoodState parser) (sym written)
-      (good_with_portal parser s name (entry.Value (at_stage p stage)) (one_value (IsGoodPortal parser) (at_stage p stage) (record { statement = before.statement; codes = before.codes; tag = tag })) good)
+      (good_with_portal parser s name (entry.Value (at_stage p stage))
+      (one_value (IsGoodPortal parser) (at_stage p stage) (record {
+        statement = before.statement;
+        codes = before.codes;
+        tag = tag;
+      })) good)
 
   pub good_same : (s' : State S) → s' ≡ s → IsGoodState parser s'
   good_same s' e = subst (IsGoodState parser) (sym e) good
@@ -226,57 +241,73 @@ module _ {S : Type 0} (parser : ParserTold S) (s : State S) (good : IsGoodState 
       good_parts parser (state_in was old) info new.statements new.portals i (ap (λ m. m.statements) k) (ap (λ m. m.portals) k)
       (good_same (state_in was old) e)
   good_responded was old e info new i (inr k) =
-      good_parts parser (without_portal (state_in was old) []) info new.statements new.portals i (ap (λ m. m.statements) k) (ap (λ m. m.portals) k)
+      good_parts parser (without_portal (state_in was old) []) info new.statements new.portals i (ap (λ m. m.statements) k)
+      (ap (λ m. m.portals) k)
       (good_without_portal parser (state_in was old) [] (good_same (state_in was old) e))
 
 -- ---- a portal that isn't started, as a row
 
-module _ {S A : Type 0} (told : A → ToldResponse) (h : ExtendedTold S) (s : State S) (m : Execute) (p : TablePortal S) (found : value_under (fin.get s.portals m.name) ≡ Some p)
+module _ {S A : Type 0} (told : A → ToldResponse) (h : ExtendedTold S) (s : State S) (m : Execute) (p : TablePortal S)
+    (found : value_under (fin.get s.portals m.name) ≡ Some p)
     (fresh : p.stage ≡ Unstarted) (calls begun : List DeskCall) (starts : begun ≡ calls ++ desk.Start ∷ []) where
   abbrev effect_by : Verdict → Effect S
   effect_by verdict = execute_polled s m p verdict (h.query s.info p.bound m.max_rows).outcome
 
   -- memory was wanting before the first poll
   pub refused_begun : IsCutRow (λ answers. on_execute h answers s m) calls begun
-  refused_begun = cut_as (λ answers. on_execute h answers s m) (run_row (h.query s.info p.bound m.max_rows).owes effect_by) (runs_portal h s m p found fresh)
+  refused_begun = cut_as (λ answers. on_execute h answers s m) (run_row (h.query s.info p.bound m.max_rows).owes effect_by)
+      (runs_portal h s m p found fresh)
       (cut_started (h.query s.info p.bound m.max_rows).owes effect_by calls begun starts)
 
   module _ (done : List DeskCall) (verdict : Verdict) (asked : IsAsked (h.query s.info p.bound m.max_rows).owes begun done verdict) where
     pub row_ran : (out new_out : List ℕ) (outcome : Outcome S) → IsEffect (effect_by verdict) out new_out outcome
         → IsRow (λ answers. on_execute h answers s m) out new_out calls done outcome
-    row_ran out new_out outcome x = row_as (λ answers. on_execute h answers s m) (run_row (h.query s.info p.bound m.max_rows).owes effect_by) (runs_portal h s m p found fresh)
+    row_ran out new_out outcome x = row_as (λ answers. on_execute h answers s m)
+        (run_row (h.query s.info p.bound m.max_rows).owes effect_by) (runs_portal h s m p found fresh)
         (run_was (h.query s.info p.bound m.max_rows).owes effect_by calls begun starts done verdict asked x)
 
     pub row_stopped : (out new_out : List ℕ) → verdict ≡ Unanswered → IsEffect (effect_by verdict) out new_out Stopped
         → IsStoppedRow (λ answers. on_execute h answers s m) out new_out calls done
-    row_stopped out new_out missing x = stopped_as (λ answers. on_execute h answers s m) (run_row (h.query s.info p.bound m.max_rows).owes effect_by) (runs_portal h s m p found fresh)
+    row_stopped out new_out missing x = stopped_as (λ answers. on_execute h answers s m)
+        (run_row (h.query s.info p.bound m.max_rows).owes effect_by) (runs_portal h s m p found fresh)
         (run_stopped (h.query s.info p.bound m.max_rows).owes effect_by calls begun starts done verdict asked missing x)
 
     pub row_refused : (out new_out : List ℕ) (s' : State S) (e : PgWireError) → IsRefusedEffect (effect_by verdict) out new_out s' e
         → IsRefusedRow (λ answers. on_execute h answers s m) out new_out calls done s' (session.Wire e)
-    row_refused out new_out s' e x = refused_as (λ answers. on_execute h answers s m) (run_row (h.query s.info p.bound m.max_rows).owes effect_by) out new_out calls done s' (session.Wire e)
-        (runs_portal h s m p found fresh) (run_refused (h.query s.info p.bound m.max_rows).owes effect_by calls begun starts done verdict asked s' e x)
+    row_refused out new_out s' e x = refused_as (λ answers. on_execute h answers s m)
+        (run_row (h.query s.info p.bound m.max_rows).owes effect_by) out new_out calls done s' (session.Wire e)
+        (runs_portal h s m p found fresh) (run_refused (h.query s.info p.bound m.max_rows).owes effect_by calls begun starts done verdict
+        asked s' e x)
 
-    module _ (out new_out : List ℕ) (stage : Stage) (s' : State S) (written : s' ≡ with_portal s m.name (entry.Value (at_stage p stage))) where
-      pub portal_refused : (e : SessionError) → IsPortalRun told (portal_run m.max_rows Unstarted verdict (h.query s.info p.bound m.max_rows).outcome) Unstarted stage out new_out (Err e)
+    module _ (out new_out : List ℕ) (stage : Stage) (s' : State S) (written : s'
+        ≡ with_portal s m.name (entry.Value (at_stage p stage))) where
+      pub portal_refused : (e : SessionError) → IsPortalRun told
+          (portal_run m.max_rows Unstarted verdict (h.query s.info p.bound m.max_rows).outcome) Unstarted stage out new_out (Err e)
           → IsRefusedRow (λ answers. on_execute h answers s m) out new_out calls done s' e
-      portal_refused (session.Wire e) x = row_refused out new_out s' e (run_wire s m p out new_out stage s' written found told fresh verdict (h.query s.info p.bound m.max_rows).outcome e x)
+      portal_refused (session.Wire e) x = row_refused out new_out s' e
+          (run_wire s m p out new_out stage s' written found told fresh verdict (h.query s.info p.bound m.max_rows).outcome e x)
       portal_refused session.TurnLimit x = row_stopped out new_out
           (run_missing s m p out new_out stage s' written found told fresh verdict (h.query s.info p.bound m.max_rows).outcome x)
           (run_waits s m p out new_out stage s' written found told fresh verdict (h.query s.info p.bound m.max_rows).outcome x)
 
-      pub portal_stays : (e : SessionError) → IsPortalRun told (portal_run m.max_rows Unstarted verdict (h.query s.info p.bound m.max_rows).outcome) Unstarted stage out new_out (Err e)
+      pub portal_stays : (e : SessionError) → IsPortalRun told
+          (portal_run m.max_rows Unstarted verdict (h.query s.info p.bound m.max_rows).outcome) Unstarted stage out new_out (Err e)
           → AtTurnLimit e ((s' ≡ s) × (new_out ≡ out))
       portal_stays (session.Wire e) x = tt
-      portal_stays session.TurnLimit x = run_stays s m p out new_out stage s' written found told fresh verdict (h.query s.info p.bound m.max_rows).outcome x
+      portal_stays session.TurnLimit x = run_stays s m p out new_out stage s' written found told fresh verdict
+          (h.query s.info p.bound m.max_rows).outcome x
 
-      pub portal_paged : IsPortalRun told (portal_run m.max_rows Unstarted verdict (h.query s.info p.bound m.max_rows).outcome) Unstarted stage out new_out (Ok None)
+      pub portal_paged : IsPortalRun told (portal_run m.max_rows Unstarted verdict (h.query s.info p.bound m.max_rows).outcome) Unstarted
+          stage out new_out (Ok None)
           → IsRow (λ answers. on_execute h answers s m) out new_out calls done (Done s')
-      portal_paged x = row_ran out new_out (Done s') (run_paged s m p out new_out stage s' written found told fresh verdict (h.query s.info p.bound m.max_rows).outcome x)
+      portal_paged x = row_ran out new_out (Done s')
+          (run_paged s m p out new_out stage s' written found told fresh verdict (h.query s.info p.bound m.max_rows).outcome x)
 
-      module _ (answered : A) (x : IsPortalRun told (portal_run m.max_rows Unstarted verdict (h.query s.info p.bound m.max_rows).outcome) Unstarted stage out new_out (Ok (Some answered))) where
+      module _ (answered : A) (x : IsPortalRun told (portal_run m.max_rows Unstarted verdict (h.query s.info p.bound m.max_rows).outcome)
+          Unstarted stage out new_out (Ok (Some answered))) where
         handed : (effect_by verdict ≡ executed_without_rows s (told answered)) × (s' ≡ s) × (new_out ≡ out)
-        handed = run_handed_on s m p out new_out stage s' written found told fresh verdict (h.query s.info p.bound m.max_rows).outcome answered x
+        handed = run_handed_on s m p out new_out stage s' written found told fresh verdict (h.query s.info p.bound m.max_rows).outcome
+            answered x
 
         pub handed_same : s' ≡ s
         handed_same = handed.1
@@ -287,12 +318,15 @@ module _ {S A : Type 0} (told : A → ToldResponse) (h : ExtendedTold S) (s : St
         pub handed_ok : (last : List ℕ) (t : State S) → IsEffect (executed_without_rows s' (told answered)) new_out last (Done t)
             → IsRow (λ answers. on_execute h answers s m) out last calls done (Done t)
         handed_ok last t y = row_ran out last (Done t)
-            (subst (λ o. IsEffect (effect_by verdict) o last (Done t)) handed.2 (subst (λ effect. IsEffect effect new_out last (Done t)) (sym effect_is) y))
+            (subst (λ o. IsEffect (effect_by verdict) o last (Done t)) handed.2
+            (subst (λ effect. IsEffect effect new_out last (Done t)) (sym effect_is) y))
 
-        pub handed_refused : (last : List ℕ) (t : State S) (e : PgWireError) → IsRefusedEffect (executed_without_rows s' (told answered)) new_out last t e
+        pub handed_refused : (last : List ℕ) (t : State S) (e : PgWireError)
+            → IsRefusedEffect (executed_without_rows s' (told answered)) new_out last t e
             → IsRefusedRow (λ answers. on_execute h answers s m) out last calls done t (session.Wire e)
         handed_refused last t e y = row_refused out last t e
-            (subst (λ o. IsRefusedEffect (effect_by verdict) o last t e) handed.2 (subst (λ effect. IsRefusedEffect effect new_out last t e) (sym effect_is) y))
+            (subst (λ o. IsRefusedEffect (effect_by verdict) o last t e) handed.2
+            (subst (λ effect. IsRefusedEffect effect new_out last t e) (sym effect_is) y))
 
 -- ---- a portal that was lent
 

@@ -21,19 +21,37 @@ use Rattle.pg_handlers.specs.State.{State}
 pub not_ready_told : IsAnswerable wire.NotReadyForQuery
 not_ready_told = inr (record {
   is_told = λ e. cc;
-  encodable = record { body = omega arith; counts = tt; texts = (by_test (codes "ERROR") refl, (by_test (codes "08P01") refl, (by_test (codes "not ready for query") refl, tt))) };
+  encodable = record {
+    body = omega arith;
+    counts = tt;
+    texts = (by_test (codes "ERROR") refl, (by_test (codes "08P01") refl, (by_test (codes "not ready for query") refl, tt)));
+  };
 })
 
 pub canceled_told : IsAnswerable wire.QueryCanceled
 canceled_told = inr (record {
   is_told = λ e. cc;
-  encodable = record { body = omega arith; counts = tt; texts = (by_test (codes "ERROR") refl, (by_test (codes "57014") refl, (by_test (codes "canceling statement due to user request") refl, tt))) };
+  encodable = record {
+    body = omega arith;
+    counts = tt;
+    texts = (
+      by_test (codes "ERROR") refl,
+      (
+        by_test (codes "57014") refl,
+        (by_test (codes "canceling statement due to user request") refl, tt),
+      ),
+    );
+  };
 })
 
 pub not_started_told : IsAnswerable wire.PortalNotStarted
 not_started_told = inr (record {
   is_told = λ e. cc;
-  encodable = record { body = omega arith; counts = tt; texts = (by_test (codes "ERROR") refl, (by_test (codes "XX000") refl, (by_test (codes "portal is not started") refl, tt))) };
+  encodable = record {
+    body = omega arith;
+    counts = tt;
+    texts = (by_test (codes "ERROR") refl, (by_test (codes "XX000") refl, (by_test (codes "portal is not started") refl, tt)));
+  };
 })
 
 -- ---- no turn is spent
@@ -41,8 +59,13 @@ not_started_told = inr (record {
 pub none_since : (calls : List DeskCall) → questions_since calls calls ≡ 0
 none_since calls = ap questions (drop-length calls)
 
-pub no_turn : (turns : Turns) (calls : List DeskCall) → turns ≡ record { spent = turns.spent + questions_since calls calls; limit = turns.limit }
-no_turn turns calls = ap (λ (n : ℕ). let now : Turns = record { spent = n; limit = turns.limit } in now) (let e = none_since calls in let same : turns.spent ≡ turns.spent + questions_since calls calls = omega arith in same)
+pub no_turn : (turns : Turns) (calls : List DeskCall)
+    → turns ≡ record { spent = turns.spent + questions_since calls calls; limit = turns.limit }
+no_turn turns calls = ap (λ (n : ℕ). let now : Turns = record {
+  spent = n;
+  limit = turns.limit;
+} in now) (let e = none_since calls in let same : turns.spent ≡ turns.spent + questions_since calls calls =
+    omega arith in same)
 
 -- ---- a row where the client awaits no query
 
@@ -69,4 +92,5 @@ pub ready_refused : {S A : Type 0} (s : State S) (row : Row S) (out new_out : Li
     → IfErr result (IsRefusedRow (λ answers. when_ready s (row answers)) out new_out calls new_calls t)
 ready_refused s row out new_out calls new_calls t (Ok x) is h = tt
 ready_refused s row out new_out calls new_calls t (Err e) is h =
-    refused_as (λ answers. when_ready s (row answers)) row out new_out calls new_calls t e (λ answers. ap (ready_or_refused s (row answers)) is) h
+    refused_as (λ answers. when_ready s (row answers)) row out new_out calls new_calls t e
+    (λ answers. ap (ready_or_refused s (row answers)) is) h

@@ -19,30 +19,37 @@ drop_one_more n script = let more : 1 + n ≡ suc n = omega arith in drop-drop n
 scripted-more : (n : ℕ) (script : List Bool) → scripted script (suc n) ≡ scripted script n ++ first_or_no (drop n script) ∷ []
 scripted-more zero script = refl
 scripted-more (suc n) script =
-    ap (λ l. first_or_no script ∷ l) (scripted-more n (drop 1 script) ∙ ap (λ l. scripted (drop 1 script) n ++ first_or_no l ∷ []) (drop_one_more n script))
+    ap (λ l. first_or_no script ∷ l) (scripted-more n (drop 1 script)
+    ∙ ap (λ l. scripted (drop 1 script) n ++ first_or_no l ∷ []) (drop_one_more n script))
 
 pub scripted_none : (script : List Bool) → IsScripted script script []
 scripted_none script = record { answered = refl; rest = refl }
 
 -- A call without an answer uses none.
-pub scripted_kept : (script left : List Bool) (calls : List DeskCall) (call : DeskCall) → answers_of (call ∷ []) ≡ [] → IsScripted script left calls
+pub scripted_kept : (script left : List Bool) (calls : List DeskCall) (call : DeskCall) → answers_of (call ∷ []) ≡ []
+    → IsScripted script left calls
     → IsScripted script left (calls ++ call ∷ [])
 scripted_kept script left calls call none x =
-    let same : answers_of (calls ++ call ∷ []) ≡ answers_of calls = answers_of-append calls (call ∷ []) ∙ ap (λ l. answers_of calls ++ l) none ∙ append-nil (answers_of calls) in
+    let same : answers_of (calls ++ call ∷ []) ≡ answers_of calls =
+    answers_of-append calls (call ∷ []) ∙ ap (λ l. answers_of calls ++ l) none ∙ append-nil (answers_of calls) in
     record {
       answered = same ∙ x.answered ∙ ap (λ l. scripted script (length l)) (sym same);
       rest = x.rest ∙ ap (λ l. drop (length l) script) (sym same);
     }
 
 -- A call with an answer uses the first that is left.
-pub scripted_used : (script left : List Bool) (calls : List DeskCall) (call : DeskCall) → answers_of (call ∷ []) ≡ first_or_no left ∷ [] → IsScripted script left calls
+pub scripted_used : (script left : List Bool) (calls : List DeskCall) (call : DeskCall) → answers_of (call ∷ []) ≡ first_or_no left ∷ []
+    → IsScripted script left calls
     → IsScripted script (drop 1 left) (calls ++ call ∷ [])
 scripted_used script left calls call one x =
     let n = length (answers_of calls) in
-    let more : answers_of (calls ++ call ∷ []) ≡ answers_of calls ++ first_or_no left ∷ [] = answers_of-append calls (call ∷ []) ∙ ap (λ l. answers_of calls ++ l) one in
-    let count : length (answers_of (calls ++ call ∷ [])) ≡ suc n = let e = ap length more ∙ length-append (answers_of calls) (first_or_no left ∷ []) in omega arith in
+    let more : answers_of (calls ++ call ∷ []) ≡ answers_of calls ++ first_or_no left ∷ [] =
+    answers_of-append calls (call ∷ []) ∙ ap (λ l. answers_of calls ++ l) one in
+    let count : length (answers_of (calls ++ call ∷ [])) ≡ suc n = let e =
+    ap length more ∙ length-append (answers_of calls) (first_or_no left ∷ []) in omega arith in
     record {
       answered = more ∙ ap (λ l. l ++ first_or_no left ∷ []) x.answered ∙ ap (λ l. scripted script n ++ first_or_no l ∷ []) x.rest
           ∙ sym (scripted-more n script) ∙ ap (scripted script) (sym count);
-      rest = let after : n + 1 ≡ length (answers_of (calls ++ call ∷ [])) = omega arith in ap (drop 1) x.rest ∙ drop-drop 1 n script ∙ ap (λ k. drop k script) after;
+      rest = let after : n + 1 ≡ length (answers_of (calls ++ call ∷ [])) = omega arith in
+          ap (drop 1) x.rest ∙ drop-drop 1 n script ∙ ap (λ k. drop k script) after;
     }

@@ -66,7 +66,8 @@ when_ready s c = ready_or_refused s c s.info.state
 abbrev pub Row : Type 0 → Type 0
 Row S = List Bool → Called S
 
--- What an error ends: an extended message, so that all is dropped until the next Sync; or a Query, so that the server is ready for the next.
+-- What an error ends: an extended message, so that all is dropped until the next Sync; or a Query, so that the server is ready for the
+-- next.
 pub data Scope : Type 0 where
   UntilSync : Scope
   AnswersReady : Scope
@@ -74,7 +75,10 @@ pub data Scope : Type 0 where
 -- what comes after an error that isn't fatal: replies and a state
 abbrev pub after_error : {S : Type 0} → Scope → State S → Replies × State S
 after_error UntilSync s = ([], in_phase (with_status s (to_error_state s.info.status)) phase.AwaitingSync)
-after_error AnswersReady s = (ready (to_error_state s.info.status) ∷ [], in_phase (with_status s (to_error_state s.info.status)) phase.ReadyForQuery)
+after_error AnswersReady s = (
+  ready (to_error_state s.info.status) ∷ [],
+  in_phase (with_status s (to_error_state s.info.status)) phase.ReadyForQuery,
+)
 
 -- Error: ErrorResponse, then the end where it is fatal, and else what its scope says.
 abbrev pub failed : {S : Type 0} → Scope → Replies → List DeskCall → State S → ErrorInfo → Answer (State S)

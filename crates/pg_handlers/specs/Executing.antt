@@ -53,7 +53,11 @@ refused_page stage e = record { replies = []; stage = stage; refusal = Some e }
 -- the page of a portal that has come so far
 abbrev pub page_result : ℤ → Stage → StagePage
 page_result limit (Started r delivered) = response_page r delivered (item_page limit r.items)
-page_result limit (Ended delivered) = record { replies = done_with (codes "SELECT") delivered ∷ []; stage = Ended delivered; refusal = None }
+page_result limit (Ended delivered) = record {
+  replies = done_with (codes "SELECT") delivered ∷ [];
+  stage = Ended delivered;
+  refusal = None;
+}
 page_result limit Unstarted = refused_page Unstarted wire.PortalNotStarted
 
 -- the page was sent, or met its error; or memory is wanting
@@ -81,13 +85,16 @@ portal_run limit stage Passed (Ok r) = run_of_response limit r
 
 -- It came to this, where None says that a page was sent; a response without rows, and a question that wants a turn, leave the portal as
 -- it is; or memory is wanting.
-abbrev pub IsPortalRun : {A : Type 0} → (A → ToldResponse) → PortalRun → Stage → Stage → List ℕ → List ℕ → Result (Option A) SessionError → Type 0
+abbrev pub IsPortalRun : {A : Type 0} → (A → ToldResponse) → PortalRun → Stage → Stage → List ℕ → List ℕ → Result (Option A) SessionError
+    → Type 0
 IsPortalRun told (Paged page) stage new_stage out new_out (Ok None) = IsPageOf {A = Unit {0}} page new_stage out new_out (Ok tt)
 IsPortalRun told (Paged page) stage new_stage out new_out (Ok (Some r)) = ⊥
-IsPortalRun told (Paged page) stage new_stage out new_out (Err (session.Wire e)) = IsPageOf {A = Unit {0}} page new_stage out new_out (Err e)
+IsPortalRun told (Paged page) stage new_stage out new_out (Err (session.Wire e)) =
+    IsPageOf {A = Unit {0}} page new_stage out new_out (Err e)
 IsPortalRun told (Paged page) stage new_stage out new_out (Err session.TurnLimit) = ⊥
 IsPortalRun told (Responded r) stage new_stage out new_out (Ok None) = ⊥
-IsPortalRun told (Responded r) stage new_stage out new_out (Ok (Some answered)) = (told answered ≡ r) × (new_stage ≡ stage) × (new_out ≡ out)
+IsPortalRun told (Responded r) stage new_stage out new_out (Ok (Some answered)) =
+    (told answered ≡ r) × (new_stage ≡ stage) × (new_out ≡ out)
 IsPortalRun told (Responded r) stage new_stage out new_out (Err (session.Wire e)) = e ≡ wire.NoMemory
 IsPortalRun told (Responded r) stage new_stage out new_out (Err session.TurnLimit) = ⊥
 IsPortalRun told Waits stage new_stage out new_out (Ok x) = ⊥

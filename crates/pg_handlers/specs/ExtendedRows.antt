@@ -148,7 +148,8 @@ on_close s m = says (server.CloseComplete (record {}) ∷ [])
 -- the statements and portals that a Close leaves
 abbrev pub maps_after_close : {S : Type 0} → Maps S → Close → Maps S
 maps_after_close maps m =
-    if m.target_type == 83 then maps_without_statement maps m.name else if m.target_type == 80 then maps_without_portal maps m.name else maps
+    if m.target_type == 83 then maps_without_statement maps m.name else if m.target_type == 80 then maps_without_portal maps m.name
+    else maps
 
 -- Sync: the unnamed portal goes, and the client is told that the server is ready.
 abbrev pub on_sync : {S : Type 0} → State S → Effect S

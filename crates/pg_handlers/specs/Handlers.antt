@@ -33,7 +33,8 @@ IsPolled old (Ok (Ready out)) new = (old.owes ≡ 0) × (out ≡ old.outcome) ×
 IsPolled old (Err e) new = new ≡ old
 
 -- the response of a query, or its error
-abbrev pub told_one : {R C : Type 0} → (R → List RowItem) → (C → List CopyItem) → Result (Response R C) PgWireError → Result ToldResponse PgWireError
+abbrev pub told_one : {R C : Type 0} → (R → List RowItem) → (C → List CopyItem) → Result (Response R C) PgWireError
+    → Result ToldResponse PgWireError
 told_one rows items (Ok answered) = Ok (told_response rows items answered)
 told_one rows items (Err error) = Err error
 

@@ -10,9 +10,12 @@ IsMade (Goes s) = Unit {0}
 IsMade (Ends kind) = Unit {0}
 IsMade Stops = ⊥
 
--- More answers change nothing where none was wanting, and the calls tell the answers that were taken. The startup packet is awaited until it
--- came.
+-- More answers change nothing where none was wanting, and the calls tell the answers that were taken. The startup packet is awaited until
+-- it came.
 pub record IsLawful {T : Type 0} (table : Table T) (awaits : T → Bool) : Type 0 where
-  pub same : (answers more : List Bool) (s : T) (m : PgWireFrontendMessage) → IsMade (table answers s m).next → table (answers ++ more) s m ≡ table answers s m
-  pub taken : (answers : List Bool) (s : T) (m : PgWireFrontendMessage) → answers ≡ answers_of (table answers s m).calls ++ left_by (table answers s m).calls answers
-  pub follows : (answers : List Bool) (s t : T) (m : PgWireFrontendMessage) → (table answers s m).next ≡ Goes t → awaits t ≡ awaits_startup_after m (awaits s)
+  pub same : (answers more : List Bool) (s : T) (m : PgWireFrontendMessage) → IsMade (table answers s m).next
+      → table (answers ++ more) s m ≡ table answers s m
+  pub taken : (answers : List Bool) (s : T) (m : PgWireFrontendMessage)
+      → answers ≡ answers_of (table answers s m).calls ++ left_by (table answers s m).calls answers
+  pub follows : (answers : List Bool) (s t : T) (m : PgWireFrontendMessage) → (table answers s m).next ≡ Goes t
+      → awaits t ≡ awaits_startup_after m (awaits s)

@@ -73,10 +73,18 @@ abbrev pub copy_in_reply : ToldCopy → PgWireBackendMessage
 copy_in_reply c = server.CopyInResponse (record { format = c.format; columns = pos c.columns; column_formats = formats c.format c.columns })
 
 abbrev pub copy_out_reply : ToldCopy → PgWireBackendMessage
-copy_out_reply c = server.CopyOutResponse (record { format = c.format; columns = pos c.columns; column_formats = formats c.format c.columns })
+copy_out_reply c = server.CopyOutResponse (record {
+  format = c.format;
+  columns = pos c.columns;
+  column_formats = formats c.format c.columns;
+})
 
 abbrev pub copy_both_reply : ToldCopy → PgWireBackendMessage
-copy_both_reply c = server.CopyBothResponse (record { format = c.format; columns = pos c.columns; column_formats = formats c.format c.columns })
+copy_both_reply c = server.CopyBothResponse (record {
+  format = c.format;
+  columns = pos c.columns;
+  column_formats = formats c.format c.columns;
+})
 
 -- a CopyData for each data
 abbrev pub copy_replies : List CopyData → Replies

@@ -17,9 +17,9 @@ use pg_messages::{CopyData, CopyDone, CopyFail, ErrorInfo, PgStr};
 use pg_portal::{PgWireError, PortalStore};
 use std::alloc::{AllocError, Global};
 
-/// What a server does with the data of a COPY from the client. Its calls may append replies, and change nothing else of
-/// the client. An error, which is the handler's own or NoMemory, ends the COPY; the replies before the handler's own
-/// stay in the outbox.
+/// What a server does with the data of a COPY from the client. Its calls may append replies, and
+/// change nothing else of the client. An error, which is the handler's own or NoMemory, ends the
+/// COPY; the replies before the handler's own stay in the outbox.
 pub trait CopyHandler {
     // what it tells
     ghost told: { Self → CopyTold };
@@ -68,7 +68,8 @@ pub trait CopyHandler {
         ensures kept { take (length client.old.outbox) client.new.outbox ≡ client.old.outbox }
         ensures store { St.maps client.new.store ≡ St.maps client.old.store };
 
-    /// The error with which a COPY that the client gives up ends. An impl tells it in `on_fail`, or `NoMemory`.
+    /// The error with which a COPY that the client gives up ends. An impl tells it in `on_fail`, or
+    /// `NoMemory`.
     fn on_copy_fail<St: PortalStore>(
         &self,
         alloc: Global,
@@ -83,11 +84,12 @@ pub trait CopyHandler {
         ensures same { client.new ≡ client.old };
 }
 
-/// The error XX000 `COPY IN mode terminated by the user: ` and the client's text, or `NoMemory`: what a COPY handler
-/// answers to CopyFail that has nothing of its own to say.
+/// The error XX000 `COPY IN mode terminated by the user: ` and the client's text, or `NoMemory`:
+/// what a COPY handler answers to CopyFail that has nothing of its own to say.
 pub fn copy_given_up(alloc: Global, fail: CopyFail) -> PgWireError
     requires { IsGiven (frontend.CopyFail fail) }
-    ensures error { (result ≡ wire.UserError (copy_given_up fail.message)) ⊎ (result ≡ wire.NoMemory) }
+    ensures error { (result ≡ wire.UserError (copy_given_up fail.message))
+        ⊎ (result ≡ wire.NoMemory) }
     ensures answerable { IsAnswerable result }
 {
     match given_up(alloc, fail.message.as_str()) {

@@ -65,7 +65,13 @@ impl Model for ScriptDesk {
 
     ghost Value = { Script };
 
-    ghost view = { λ d. record { pid = d.pid; key = d.key; script = d.answers; answers = drop d.taken d.answers; calls = d.calls.items } };
+    ghost view = { λ d. record {
+      pid = d.pid;
+      key = d.key;
+      script = d.answers;
+      answers = drop d.taken d.answers;
+      calls = d.calls.items;
+    } };
 
     ghost invariant = { λ d. IsScripted d.answers (drop d.taken d.answers) d.calls.items };
 }

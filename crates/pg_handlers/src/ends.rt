@@ -53,8 +53,8 @@ impl From<AllocError> for SessionError {
     }
 }
 
-/// The turns of a session: those that are spent, and how many there are. A turn is a read that gave at least one byte
-/// or the end, or a poll that found a query unready.
+/// The turns of a session: those that are spent, and how many there are. A turn is a read that gave
+/// at least one byte or the end, or a poll that found a query unready.
 #[derive(Clone, Copy, Debug, PartialEq, Eq)]
 pub struct Turns {
     /// How many are spent.

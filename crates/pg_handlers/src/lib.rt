@@ -1,5 +1,5 @@
-//! What the messages of a client are answered: the handlers of extended and simple queries and of COPY, their rules as
-//! default bodies, and the replies that they send.
+//! What the messages of a client are answered: the handlers of extended and simple queries and of
+//! COPY, their rules as default bodies, and the replies that they send.
 #![tactic(auto)]
 
 mod client;

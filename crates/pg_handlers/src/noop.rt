@@ -18,7 +18,8 @@ use pg_portal::{
 use std::alloc::{AllocError, Global};
 use std::sync::Arc;
 
-/// It refuses queries and COPY with FATAL 08P01 `This feature is not implemented.`, and describes nothing.
+/// It refuses queries and COPY with FATAL 08P01 `This feature is not implemented.`, and describes
+/// nothing.
 #[derive(Drop)]
 pub struct NoopHandler;
 

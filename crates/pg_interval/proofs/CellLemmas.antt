@@ -34,7 +34,12 @@ pub take_in_parts : (bytes : List ℕ) → take 16 bytes ≡ slice_range bytes 0
 take_in_parts bytes = take-add 12 4 bytes ∙ ap (λ front. front ++ take 4 (drop 12 bytes)) (take-add 8 4 bytes)
 
 -- eight, four and four bytes, one by one, of the numbers as code holds them
-pub interval_cell-from_bytes : (i : Interval) (microseconds days months : List ℕ) → IsInterval i → microseconds ≡ int64_bytes (cast_signed w64 (cast_unsigned w64 i.microseconds)) → days ≡ int32_bytes (cast_signed w32 (cast_unsigned w32 i.days)) → months ≡ int32_bytes (cast_signed w32 (cast_unsigned w32 i.months)) → (get_or microseconds 0 0 ∷ get_or microseconds 1 0 ∷ get_or microseconds 2 0 ∷ get_or microseconds 3 0 ∷ get_or microseconds 4 0 ∷ get_or microseconds 5 0 ∷ get_or microseconds 6 0 ∷ get_or microseconds 7 0 ∷ get_or days 0 0 ∷ get_or days 1 0 ∷ get_or days 2 0 ∷ get_or days 3 0 ∷ get_or months 0 0 ∷ get_or months 1 0 ∷ get_or months 2 0 ∷ get_or months 3 0 ∷ []) ≡ interval_cell i
+pub interval_cell-from_bytes : (i : Interval) (microseconds days months : List ℕ) → IsInterval i
+    → microseconds ≡ int64_bytes (cast_signed w64 (cast_unsigned w64 i.microseconds))
+    → days ≡ int32_bytes (cast_signed w32 (cast_unsigned w32 i.days)) → months ≡ int32_bytes (cast_signed w32 (cast_unsigned w32 i.months))
+    → (get_or microseconds 0 0 ∷ get_or microseconds 1 0 ∷ get_or microseconds 2 0 ∷ get_or microseconds 3 0 ∷ get_or microseconds 4 0
+    ∷ get_or microseconds 5 0 ∷ get_or microseconds 6 0 ∷ get_or microseconds 7 0 ∷ get_or days 0 0 ∷ get_or days 1 0 ∷ get_or days 2 0
+    ∷ get_or days 3 0 ∷ get_or months 0 0 ∷ get_or months 1 0 ∷ get_or months 2 0 ∷ get_or months 3 0 ∷ []) ≡ interval_cell i
 unfolding interval_cell
 interval_cell-from_bytes i microseconds days months fits of_microseconds of_days of_months =
     let e : microseconds ≡ int64_bytes i.microseconds = of_microseconds ∙ ap int64_bytes (to_z-of_z fits.microseconds) in
@@ -57,7 +62,9 @@ interval_cell-injective i j fits_i fits_j same =
     let microseconds : int64_bytes i.microseconds ≡ int64_bytes j.microseconds = ap (λ cell. take 8 cell) same in
     let days : int32_bytes i.days ≡ int32_bytes j.days = ap (λ cell. take 4 (drop 8 cell)) same in
     let months : int32_bytes i.months ≡ int32_bytes j.months = ap (λ cell. drop 12 cell) same in
-    let same_microseconds : i.microseconds ≡ j.microseconds = sym (int64_of-int64_bytes _ fits_i.microseconds) ∙ ap int64_of microseconds ∙ int64_of-int64_bytes _ fits_j.microseconds in
+    let same_microseconds : i.microseconds ≡ j.microseconds =
+    sym (int64_of-int64_bytes _ fits_i.microseconds) ∙ ap int64_of microseconds ∙ int64_of-int64_bytes _ fits_j.microseconds in
     let same_days : i.days ≡ j.days = sym (int32_of-int32_bytes _ fits_i.days) ∙ ap int32_of days ∙ int32_of-int32_bytes _ fits_j.days in
-    let same_months : i.months ≡ j.months = sym (int32_of-int32_bytes _ fits_i.months) ∙ ap int32_of months ∙ int32_of-int32_bytes _ fits_j.months in
+    let same_months : i.months ≡ j.months = sym (int32_of-int32_bytes _ fits_i.months) ∙ ap int32_of months
+    ∙ int32_of-int32_bytes _ fits_j.months in
     same_interval i j same_months same_days same_microseconds

@@ -40,7 +40,8 @@ other_place m n h e = grind (arith, nat_tests)
 -- by whether the digit is a zero, whether it comes first, and whether all behind it are zeros
 kept_by : (d place end : ℕ) (ds rest : List ℕ) (zero first all : Bool) → (d == 0) ≡ zero → (place == end) ≡ first
     → list_all (λ e. e == 48) ds ≡ all → length (without_last_zeros ds ++ rest) + place ≡ length rest + end
-    → (if zero && first then without_last_zeros ds ++ rest else (48 + d) ∷ (without_last_zeros ds ++ rest)) ≡ without_last_zeros ((48 + d) ∷ ds) ++ rest
+    → (if zero && first then without_last_zeros ds ++ rest else (48 + d) ∷ (without_last_zeros ds ++ rest))
+    ≡ without_last_zeros ((48 + d) ∷ ds) ++ rest
 kept_by d place end ds rest true true true z f a long =
     let whole : list_all (λ e. e == 48) ((48 + d) ∷ ds) ≡ true = ap (λ b. b && list_all (λ e. e == 48) ds) (zero_digit d z) ∙ a in
     ap (λ t. t ++ rest) (without_zeros ds a ∙ sym (without_zeros ((48 + d) ∷ ds) whole))
@@ -60,7 +61,8 @@ pub kept_more : (d place end : ℕ) (ds rest here put : List ℕ) → length her
     → here ≡ without_last_zeros ds ++ rest → put ≡ kept_digit d (place == end) here → put ≡ without_last_zeros ((48 + d) ∷ ds) ++ rest
 kept_more d place end ds rest here put long h e =
     e ∙ ap (kept_digit d (place == end)) h
-    ∙ kept_by d place end ds rest (d == 0) (place == end) (list_all (λ e. e == 48) ds) refl refl refl (ap (λ t. length t + place) (sym h) ∙ long)
+    ∙ kept_by d place end ds rest (d == 0) (place == end) (list_all (λ e. e == 48) ds) refl refl refl (ap (λ t. length t + place) (sym h)
+    ∙ long)
 
 not_all : (xs : List ℕ) (d : ℕ) → (d == 48) ≡ false → list_all (λ e. e == 48) (xs ++ d ∷ []) ≡ false
 not_all [] d h = ap (λ b. b && true) h
@@ -79,7 +81,8 @@ other_last n h = let e : n / 1 ≡ n = omega arith in rw e (other_digit (n % 10)
 pub six_kept : (n : ℕ) → (n % 10 ≡ 0 → ⊥) → without_last_zeros (six_digits n) ≡ six_digits n
 unfolding six_digits
 six_kept n h =
-    last_kept ((48 + n / 100000 % 10) ∷ (48 + n / 10000 % 10) ∷ (48 + n / 1000 % 10) ∷ (48 + n / 100 % 10) ∷ (48 + n / 10 % 10) ∷ []) (48 + n / 1 % 10) (other_last n h)
+    last_kept ((48 + n / 100000 % 10) ∷ (48 + n / 10000 % 10) ∷ (48 + n / 1000 % 10) ∷ (48 + n / 100 % 10) ∷ (48 + n / 10 % 10) ∷ [])
+    (48 + n / 1 % 10) (other_last n h)
 
 -- the loop that writes digit by digit: the digits that are left, and one more of them
 pub digits_left : (n k left : ℕ) → left ≡ n / 10 ^ k → left / 10 ≡ n / 10 ^ (k + 1)
@@ -89,4 +92,5 @@ pub digit_more : (n k left place end : ℕ) (rest here put : List ℕ) → left 
     → here ≡ without_last_zeros (last_digits k n) ++ rest → put ≡ kept_digit (left % 10) (place == end) here
     → put ≡ without_last_zeros (last_digits (k + 1) n) ++ rest
 digit_more n k left place end rest here put e long h p =
-    rw add-one (kept_more (n / 10 ^ k % 10) place end (last_digits k n) rest here put long h (p ∙ ap (λ m. kept_digit (m % 10) (place == end) here) e))
+    rw add-one (kept_more (n / 10 ^ k % 10) place end (last_digits k n) rest here put long h (p
+    ∙ ap (λ m. kept_digit (m % 10) (place == end) here) e))

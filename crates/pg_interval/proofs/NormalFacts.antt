@@ -86,7 +86,8 @@ time_above n h =
       hours = above n.hours (or_none_left (is_negative n.hours) (is_negative n.minutes) hm);
       minutes = above n.minutes (or_none_right (is_negative n.hours) (is_negative n.minutes) hm);
       seconds = above n.seconds (or_none_right (is_negative n.hours || is_negative n.minutes) (is_negative n.seconds) hms);
-      microseconds = above n.microseconds (or_none_right ((is_negative n.hours || is_negative n.minutes) || is_negative n.seconds) (is_negative n.microseconds) h);
+      microseconds = above n.microseconds (or_none_right ((is_negative n.hours || is_negative n.minutes)
+          || is_negative n.seconds) (is_negative n.microseconds) h);
     }
 
 time_below : (n : IntervalNorm) → All (λ z. z ≤ℤ pos 0) (time_fields n) → HasTimeSign true n
@@ -98,7 +99,12 @@ time_below n h = record {
 }
 
 none_below : (n : IntervalNorm) → All (λ z. pos 0 ≤ℤ z) (time_fields n) → is_time_negative n ≡ false
-none_below n h = rw (not_below n.hours (h 0 (pos 1) (lit< tt)), not_below n.minutes (h 1 (pos 1) (lit< tt)), not_below n.seconds (h 2 (pos 1) (lit< tt)), not_below n.microseconds (h 3 (pos 1) (lit< tt))) refl
+none_below n h = rw (
+  not_below n.hours (h 0 (pos 1) (lit< tt)),
+  not_below n.minutes (h 1 (pos 1) (lit< tt)),
+  not_below n.seconds (h 2 (pos 1) (lit< tt)),
+  not_below n.microseconds (h 3 (pos 1) (lit< tt)),
+) refl
 
 time_sign_by : (n : IntervalNorm) (minus : Bool) → is_time_negative n ≡ minus → HaveOneSign (time_fields n) → HasTimeSign minus n
 time_sign_by n false e h = time_above n e
@@ -117,6 +123,10 @@ same_interval i j months days microseconds =
     ∙ ap (λ u. record { months = j.months; days = j.days; microseconds = u }) microseconds
 
 -- the three sums of the fields
-pub fields_sum : (n : IntervalNorm) → sum_of (unit_worth Year n.years) (sum_of (unit_worth Month n.months) (sum_of (unit_worth Day n.days) (sum_of (unit_worth Hour n.hours) (sum_of (unit_worth Minute n.minutes) (sum_of (unit_worth Second n.seconds) (record { months = pos 0; days = pos 0; microseconds = n.microseconds })))))) ≡ exact_total n
+pub fields_sum : (n : IntervalNorm) → sum_of (unit_worth Year n.years)
+    (sum_of (unit_worth Month n.months) (sum_of (unit_worth Day n.days)
+    (sum_of (unit_worth Hour n.hours) (sum_of (unit_worth Minute n.minutes)
+    (sum_of (unit_worth Second n.seconds) (record { months = pos 0; days = pos 0; microseconds = n.microseconds }))))))
+    ≡ exact_total n
 unfolding exact_total
 fields_sum n = same_interval _ _ (omega (arith, ints)) (omega (arith, ints)) (omega (arith, ints))

@@ -12,7 +12,8 @@ use Rattle.pg_interval.specs.declared.interval_norm.IntervalNorm.{IntervalNorm}
 use Rattle.pg_interval.specs.NormalForm.{normal_form, exact_total, HaveOneSign}
 
 -- hours, minutes, seconds and microseconds add up to what they were made of
-time_total : (u : ℤ) → ((((((int_div u (pos 3600000000) *ℤ pos 60) +ℤ int_rem (int_div u (pos 60000000)) (pos 60)) *ℤ pos 60) +ℤ int_rem (int_div u (pos 1000000)) (pos 60)) *ℤ pos 1000000) +ℤ int_rem u (pos 1000000)) ≡ u
+time_total : (u : ℤ) → ((((((int_div u (pos 3600000000) *ℤ pos 60) +ℤ int_rem (int_div u (pos 60000000)) (pos 60)) *ℤ pos 60) +ℤ int_rem
+    (int_div u (pos 1000000)) (pos 60)) *ℤ pos 1000000) +ℤ int_rem u (pos 1000000)) ≡ u
 time_total (pos a) = omega (arith, ints)
 time_total (negsuc a) = omega (arith, ints)
 
@@ -27,7 +28,8 @@ exact_total-normal_form i =
     let of_numbers : ℤ → ℤ → Interval = λ m u. record { months = m; days = i.days; microseconds = u } in
     ap (λ m. of_numbers m (exact_total (normal_form i)).microseconds) months ∙ ap (of_numbers i.months) (time_total i.microseconds)
 
-time_signs : (u : ℤ) → HaveOneSign (int_div u (pos 3600000000) ∷ int_rem (int_div u (pos 60000000)) (pos 60) ∷ int_rem (int_div u (pos 1000000)) (pos 60) ∷ int_rem u (pos 1000000) ∷ [])
+time_signs : (u : ℤ) → HaveOneSign (int_div u (pos 3600000000) ∷ int_rem (int_div u (pos 60000000)) (pos 60)
+    ∷ int_rem (int_div u (pos 1000000)) (pos 60) ∷ int_rem u (pos 1000000) ∷ [])
 time_signs (pos a) = inl (search (arith, ints))
 time_signs (negsuc a) = inr (search (arith, ints))
 
@@ -38,7 +40,9 @@ time_signs-normal_form i = time_signs i.microseconds
 
 -- what `==` computes
 unfoldable pub fields_eq : IntervalNorm → IntervalNorm → Bool
-fields_eq m n = int_eq m.years n.years && (int_eq m.months n.months && (int_eq m.days n.days && (int_eq m.hours n.hours && (int_eq m.minutes n.minutes && (int_eq m.seconds n.seconds && int_eq m.microseconds n.microseconds)))))
+fields_eq m n = int_eq m.years n.years && (int_eq m.months n.months
+    && (int_eq m.days n.days && (int_eq m.hours n.hours
+    && (int_eq m.minutes n.minutes && (int_eq m.seconds n.seconds && int_eq m.microseconds n.microseconds)))))
 
 -- what it tells
 pub same_from_fields_eq : (m n : IntervalNorm) → fields_eq m n ≡ true → m ≡ n
@@ -57,7 +61,8 @@ same_from_fields_eq m n h =
     let minutes : m.minutes ≡ n.minutes = (Decides-int_eq _ _).0 e.0 in
     let seconds : m.seconds ≡ n.seconds = (Decides-int_eq _ _).0 f.0 in
     let microseconds : m.microseconds ≡ n.microseconds = (Decides-int_eq _ _).0 f.1 in
-    let of : ℤ → ℤ → ℤ → ℤ → ℤ → ℤ → ℤ → IntervalNorm = λ y o d h i s u. record { years = y; months = o; days = d; hours = h; minutes = i; seconds = s; microseconds = u } in
+    let of : ℤ → ℤ → ℤ → ℤ → ℤ → ℤ → ℤ → IntervalNorm =
+    λ y o d h i s u. record { years = y; months = o; days = d; hours = h; minutes = i; seconds = s; microseconds = u } in
     ap (λ y. of y m.months m.days m.hours m.minutes m.seconds m.microseconds) years
     ∙ ap (λ o. of n.years o m.days m.hours m.minutes m.seconds m.microseconds) months
     ∙ ap (λ d. of n.years n.months d m.hours m.minutes m.seconds m.microseconds) days
@@ -71,4 +76,6 @@ unfolding fields_eq
 fields_eq-same m n same =
     let Same : IntervalNorm → Type 0 = λ k. fields_eq m k ≡ true in
     let itself : (z : ℤ) → int_eq z z ≡ true = λ z. (Decides-int_eq z z).1 refl in
-    subst Same same (and_from _ _ (itself m.years) (and_from _ _ (itself m.months) (and_from _ _ (itself m.days) (and_from _ _ (itself m.hours) (and_from _ _ (itself m.minutes) (and_from _ _ (itself m.seconds) (itself m.microseconds)))))))
+    subst Same same (and_from _ _ (itself m.years)
+    (and_from _ _ (itself m.months) (and_from _ _ (itself m.days)
+    (and_from _ _ (itself m.hours) (and_from _ _ (itself m.minutes) (and_from _ _ (itself m.seconds) (itself m.microseconds)))))))

@@ -14,6 +14,7 @@ SomeIff-along None P Q v w iff to from same = λ q. iff (from q)
 SomeIff-along (Some x) P Q v w iff to from same = (to iff.0, iff.1 ∙ same)
 
 -- the same at an interval that exists where it lies in its types
-pub SomeIff-interval : (r : Option Interval) (Q : Type 0) (v w : Interval) → SomeIff r (IsInterval v) v → v ≡ w → (IsInterval w → Q) → (Q → IsInterval w) → SomeIff r Q w
+pub SomeIff-interval : (r : Option Interval) (Q : Type 0) (v w : Interval) → SomeIff r (IsInterval v) v → v ≡ w → (IsInterval w → Q)
+    → (Q → IsInterval w) → SomeIff r Q w
 SomeIff-interval r Q v w iff same to from =
     SomeIff-along r _ Q v w iff (λ fits. to (subst IsInterval same fits)) (λ q. subst IsInterval (sym same) (from q)) same

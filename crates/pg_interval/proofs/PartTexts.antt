@@ -37,7 +37,8 @@ pub record Names (unit : List ℕ → Option TimeUnit) (name : List ℕ) (u : Ti
 
 word_end_cases : (number : List ℕ) → (word_end number ≡ []) ⊎ (word_end number ≡ codes "s")
 unfolding word_end
-word_end_cases number = elim (bytes_eq number (codes "1")) as (λ b. ((if b then [] else codes "s") ≡ []) ⊎ ((if b then [] else codes "s") ≡ codes "s")) [ true ↦ inl refl | false ↦ inr refl ]
+word_end_cases number = elim (bytes_eq number (codes "1")) as (λ b. ((if b then [] else codes "s") ≡ [])
+    ⊎ ((if b then [] else codes "s") ≡ codes "s")) [ true ↦ inl refl | false ↦ inr refl ]
 
 minus_no_space : (minus : Bool) → list_any is_whitespace (minus_if minus) ≡ false
 minus_no_space true = refl
@@ -69,7 +70,8 @@ signed_no_space false ds h = none_of_digits is_whitespace digit_no_space ds h
 -- number bytes alone are a number
 pub number_token : (text : List ℕ) → list_any is_colon text ≡ false → list_all is_number_byte text ≡ true → token_of text ≡ Number text
 number_token text h k =
-    ap (λ b. if b then time_of text else token_split (take_while is_number_byte text) (drop (length (take_while is_number_byte text)) text)) h
+    ap (λ b. if b then time_of text else token_split (take_while is_number_byte text) (drop (length (take_while is_number_byte text)) text))
+    h
     ∙ ap (λ front. token_split front (drop (length front) text)) (take_while_all is_number_byte text k)
     ∙ ap (token_split text) (drop_all (length text) text (omega arith))
 
@@ -88,12 +90,19 @@ filled_more : (xs ys : List ℕ) → is_empty xs ≡ false → is_empty (xs ++ y
 filled_more [] ys h = cc
 filled_more (x ∷ xs) ys h = refl
 
-whole_word : {unit : List ℕ → Option TimeUnit} {name : List ℕ} {u : TimeUnit} → Names unit name u → (e : List ℕ) → (e ≡ []) ⊎ (e ≡ codes "s") → IsWord unit (name ++ e) u
+whole_word : {unit : List ℕ → Option TimeUnit} {name : List ℕ} {u : TimeUnit} → Names unit name u → (e : List ℕ)
+    → (e ≡ []) ⊎ (e ≡ codes "s") → IsWord unit (name ++ e) u
 whole_word {unit} {name} {u} names e (inl none) =
     let same : name ≡ name ++ e = sym (ap (λ x. name ++ x) none ∙ append-nil name) in
     subst (λ w. IsWord unit w u) same (record { token = names.word; unit_is = names.one; filled = names.filled; unbroken = names.unbroken })
 whole_word {unit} {name} {u} names e (inr many) =
-    subst (λ x. IsWord unit (name ++ x) u) (sym many) (record { token = names.words; unit_is = names.many; filled = filled_more name (codes "s") names.filled; unbroken = list_any-append is_whitespace name (codes "s") ∙ (rw names.unbroken refl) })
+    subst (λ x. IsWord unit (name ++ x) u) (sym many) (record {
+      token = names.words;
+      unit_is = names.many;
+      filled = filled_more name (codes "s") names.filled;
+      unbroken =
+          list_any-append is_whitespace name (codes "s") ∙ (rw names.unbroken refl);
+    })
 
 -- the tokens of a number, a space and a word
 pub record IsPartRead (unit : List ℕ → Option TimeUnit) (text number : List ℕ) (u : TimeUnit) : Type 0 where
@@ -101,7 +110,9 @@ pub record IsPartRead (unit : List ℕ → Option TimeUnit) (text number : List 
   pub read : map token_of (tokens text) ≡ Number number ∷ Word word ∷ []
   pub unit_is : unit word ≡ Some u
 
-pub spaced_part : {unit : List ℕ → Option TimeUnit} {name : List ℕ} {u : TimeUnit} (number : List ℕ) → Names unit name u → is_empty number ≡ false → list_any is_whitespace number ≡ false → token_of number ≡ Number number → IsPartRead unit (number ++ 32 ∷ name ++ word_end number) number u
+pub spaced_part : {unit : List ℕ → Option TimeUnit} {name : List ℕ} {u : TimeUnit} (number : List ℕ) → Names unit name u
+    → is_empty number ≡ false → list_any is_whitespace number ≡ false → token_of number ≡ Number number
+    → IsPartRead unit (number ++ 32 ∷ name ++ word_end number) number u
 spaced_part {unit} {name} {u} number names filled unbroken token =
     let whole : IsWord unit (name ++ word_end number) u = whole_word names (word_end number) (word_end_cases number) in
     record {
@@ -116,15 +127,21 @@ spaced_part {unit} {name} {u} number names filled unbroken token =
       unit_is = whole.unit_is;
     }
 
-pub part_read : {unit : List ℕ → Option TimeUnit} {name : List ℕ} {u : TimeUnit} (minus : Bool) (ds : List ℕ) → Names unit name u → are_digits ds ≡ true → IsPartRead unit (part_text minus ds name) (minus_if minus ++ ds) u
+pub part_read : {unit : List ℕ → Option TimeUnit} {name : List ℕ} {u : TimeUnit} (minus : Bool) (ds : List ℕ) → Names unit name u
+    → are_digits ds ≡ true → IsPartRead unit (part_text minus ds name) (minus_if minus ++ ds) u
 unfolding part_text
-part_read minus ds names h = spaced_part (minus_if minus ++ ds) names (signed_filled minus ds h) (signed_no_space minus ds (all_digits ds h)) (number_token (minus_if minus ++ ds) (signed_no_colon minus ds (all_digits ds h)) (signed_are_number minus ds (all_digits ds h)))
+part_read minus ds names h = spaced_part (minus_if minus ++ ds) names (signed_filled minus ds h)
+    (signed_no_space minus ds (all_digits ds h)) (number_token (minus_if minus ++ ds) (signed_no_colon minus ds (all_digits ds h))
+    (signed_are_number minus ds (all_digits ds h)))
 
 -- a number and a word in front of other tokens
-pub pair_first : (unit : List ℕ → Option TimeUnit) (number word : List ℕ) (u : TimeUnit) (rest : List Token) (ps : List Pair) → unit word ≡ Some u → pairs_of_tokens unit rest ≡ Some ps → pairs_of_tokens unit (Number number ∷ Word word ∷ rest) ≡ Some (decimal_pair u number ∷ ps)
+pub pair_first : (unit : List ℕ → Option TimeUnit) (number word : List ℕ) (u : TimeUnit) (rest : List Token) (ps : List Pair)
+    → unit word ≡ Some u → pairs_of_tokens unit rest ≡ Some ps
+    → pairs_of_tokens unit (Number number ∷ Word word ∷ rest) ≡ Some (decimal_pair u number ∷ ps)
 pair_first unit number word u rest ps h k = rw (h, k) refl
 
-pub decimal_pair_whole : (u : TimeUnit) (minus : Bool) (n : ℕ) → n < 2 ^ 64 → decimal_pair u (minus_if minus ++ decimal n) ≡ pair u (whole_number minus n)
+pub decimal_pair_whole : (u : TimeUnit) (minus : Bool) (n : ℕ) → n < 2 ^ 64
+    → decimal_pair u (minus_if minus ++ decimal n) ≡ pair u (whole_number minus n)
 decimal_pair_whole u minus n small =
     ap (λ r. record { number = checked r; unit = u }) (decimal_whole minus (decimal n) (digits_decimal n small))
     ∙ ap (λ w. pair u (whole_number minus w)) (value_decimal n small)
@@ -137,12 +154,20 @@ abs_small (negsuc n) h = omega arith
 unfoldable pub tokens_of_parts : List Part → List Token
 tokens_of_parts ps = map token_of (flat_map (λ p. tokens (own_text p)) ps)
 
-pub number_first : {unit : List ℕ → Option TimeUnit} {name : List ℕ} {u : TimeUnit} (z : ℤ) (rest : List Token) (ps : List Pair) → Names unit name u → mag z < 2 ^ 63 → pairs_of_tokens unit rest ≡ Some ps → pairs_of_tokens unit (tokens_of_parts (part_of z name) ++ rest) ≡ Some (number_pairs u z ++ ps)
+pub number_first : {unit : List ℕ → Option TimeUnit} {name : List ℕ} {u : TimeUnit} (z : ℤ) (rest : List Token) (ps : List Pair)
+    → Names unit name u → mag z < 2 ^ 63 → pairs_of_tokens unit rest ≡ Some ps
+    → pairs_of_tokens unit (tokens_of_parts (part_of z name) ++ rest) ≡ Some (number_pairs u z ++ ps)
 unfolding part_of number_pairs tokens_of_parts
 number_first {unit} {name} {u} z rest ps names small h =
     let wide : unsigned_abs z < 2 ^ 64 = abs_small z small in
     let read = part_read (is_negative z) (digits_of z) names (digits_decimal (unsigned_abs z) wide) in
-    elim (is_zero z) as (λ b. pairs_of_tokens unit (map token_of (flat_map (λ p. tokens (own_text p)) (if b then [] else record { negative = is_negative z; digits = digits_of z; word = name } ∷ [])) ++ rest) ≡ Some ((if b then [] else pair u (whole_number (is_negative z) (unsigned_abs z)) ∷ []) ++ ps)) [
+    elim (is_zero z) as (λ b. pairs_of_tokens unit
+    (map token_of (flat_map (λ p. tokens (own_text p)) (if b then [] else record {
+      negative = is_negative z;
+      digits = digits_of z;
+      word = name;
+    } ∷ [])) ++ rest) ≡ Some ((if b then []
+    else pair u (whole_number (is_negative z) (unsigned_abs z)) ∷ []) ++ ps)) [
       | true ↦ h
       | false ↦
           ap (λ ts. pairs_of_tokens unit (map token_of ts ++ rest)) (append-nil (tokens (part_text (is_negative z) (digits_of z) name)))
@@ -160,10 +185,13 @@ zero_add : (z : ℤ) → pos 0 +ℤ z ≡ z
 zero_add z = omega (arith, ints)
 
 pub nothing_more : (i : Interval) → sum_of nothing i ≡ i
-nothing_more i = ap (λ m. record { months = m; days = pos 0 +ℤ i.days; microseconds = pos 0 +ℤ i.microseconds }) (zero_add i.months) ∙ ap (λ d. record { months = i.months; days = d; microseconds = pos 0 +ℤ i.microseconds }) (zero_add i.days) ∙ ap (λ t. record { months = i.months; days = i.days; microseconds = t }) (zero_add i.microseconds)
+nothing_more i = ap (λ m. record { months = m; days = pos 0 +ℤ i.days; microseconds = pos 0 +ℤ i.microseconds }) (zero_add i.months)
+    ∙ ap (λ d. record { months = i.months; days = d; microseconds = pos 0 +ℤ i.microseconds }) (zero_add i.days)
+    ∙ ap (λ t. record { months = i.months; days = i.days; microseconds = t }) (zero_add i.microseconds)
 
 -- a whole number of a unit that fits its field, in front of the other pairs
-pub whole_worth : (range : ParseError) (u : TimeUnit) (d : Decimal) (ps : List Pair) (i : Interval) → fits_field u (whole_part d) ≡ true → total_of range ps ≡ Ok i → total_of range (pair u d ∷ ps) ≡ Ok (sum_of (worth u d) i)
+pub whole_worth : (range : ParseError) (u : TimeUnit) (d : Decimal) (ps : List Pair) (i : Interval) → fits_field u (whole_part d) ≡ true
+    → total_of range ps ≡ Ok i → total_of range (pair u d ∷ ps) ≡ Ok (sum_of (worth u d) i)
 whole_worth range u d ps i h k = rw (h, k) refl
 
 ltb_zero : (n : ℕ) → ltb n 0 ≡ false
@@ -190,12 +218,24 @@ add_zero : (z : ℤ) → z +ℤ pos 0 ≡ z
 add_zero z = omega (arith, ints)
 
 pub worth_whole : (u : TimeUnit) (b : Bool) (n : ℕ) → worth u (whole_number b n) ≡ unit_worth u (with_sign b n)
-worth_whole Year b n = ap (λ r. record { months = pos 12 *ℤ with_sign b n +ℤ r; days = pos 0; microseconds = pos 0 }) (zero_sign b) ∙ ap (λ m. record { months = m; days = pos 0; microseconds = pos 0 }) (add_zero (pos 12 *ℤ with_sign b n))
+worth_whole Year b n = ap (λ r. record { months = pos 12 *ℤ with_sign b n +ℤ r; days = pos 0; microseconds = pos 0 }) (zero_sign b)
+    ∙ ap (λ m. record { months = m; days = pos 0; microseconds = pos 0 }) (add_zero (pos 12 *ℤ with_sign b n))
 worth_whole Month b n = ap (λ r. record { months = with_sign b n; days = r; microseconds = pos 0 }) (zero_sign b)
 worth_whole Day b n = ap (λ r. record { months = pos 0; days = with_sign b n; microseconds = pos 3600000000 *ℤ r }) (zero_sign b)
-worth_whole Hour b n = ap (λ r. record { months = pos 0; days = pos 0; microseconds = pos 3600000000 *ℤ with_sign b n +ℤ pos 60000000 *ℤ r }) (zero_sign b) ∙ ap (λ t. record { months = pos 0; days = pos 0; microseconds = t }) (add_zero (pos 3600000000 *ℤ with_sign b n))
-worth_whole Minute b n = ap (λ r. record { months = pos 0; days = pos 0; microseconds = pos 60000000 *ℤ with_sign b n +ℤ pos 1000000 *ℤ r }) (zero_sign b) ∙ ap (λ t. record { months = pos 0; days = pos 0; microseconds = t }) (add_zero (pos 60000000 *ℤ with_sign b n))
-worth_whole Second b n = ap (λ r. record { months = pos 0; days = pos 0; microseconds = pos 1000000 *ℤ with_sign b n +ℤ r }) (zero_sign b) ∙ ap (λ t. record { months = pos 0; days = pos 0; microseconds = t }) (add_zero (pos 1000000 *ℤ with_sign b n))
+worth_whole Hour b n = ap (λ r. record {
+  months = pos 0;
+  days = pos 0;
+  microseconds = pos 3600000000 *ℤ with_sign b n +ℤ pos 60000000 *ℤ r;
+}) (zero_sign b)
+    ∙ ap (λ t. record { months = pos 0; days = pos 0; microseconds = t }) (add_zero (pos 3600000000 *ℤ with_sign b n))
+worth_whole Minute b n = ap (λ r. record {
+  months = pos 0;
+  days = pos 0;
+  microseconds = pos 60000000 *ℤ with_sign b n +ℤ pos 1000000 *ℤ r;
+}) (zero_sign b)
+    ∙ ap (λ t. record { months = pos 0; days = pos 0; microseconds = t }) (add_zero (pos 60000000 *ℤ with_sign b n))
+worth_whole Second b n = ap (λ r. record { months = pos 0; days = pos 0; microseconds = pos 1000000 *ℤ with_sign b n +ℤ r }) (zero_sign b)
+    ∙ ap (λ t. record { months = pos 0; days = pos 0; microseconds = t }) (add_zero (pos 1000000 *ℤ with_sign b n))
 
 zero_worth : (u : TimeUnit) → unit_worth u (pos 0) ≡ nothing
 zero_worth Year = refl
@@ -205,7 +245,8 @@ zero_worth Hour = refl
 zero_worth Minute = refl
 zero_worth Second = refl
 
-number_total_by : (range : ParseError) (u : TimeUnit) (z : ℤ) (ps : List Pair) (i : Interval) (b : Bool) → is_zero z ≡ b → fits_field u z ≡ true → total_of range ps ≡ Ok i → total_of range (number_pairs u z ++ ps) ≡ Ok (sum_of (unit_worth u z) i)
+number_total_by : (range : ParseError) (u : TimeUnit) (z : ℤ) (ps : List Pair) (i : Interval) (b : Bool) → is_zero z ≡ b
+    → fits_field u z ≡ true → total_of range ps ≡ Ok i → total_of range (number_pairs u z ++ ps) ≡ Ok (sum_of (unit_worth u z) i)
 unfolding number_pairs
 number_total_by range u z ps i true e h k =
     ap (λ b. total_of range ((if b then [] else pair u (whole_number (is_negative z) (unsigned_abs z)) ∷ []) ++ ps)) e
@@ -217,7 +258,8 @@ number_total_by range u z ps i false e h k =
     ∙ ap (λ w. Ok (sum_of w i)) (worth_whole u (is_negative z) (unsigned_abs z) ∙ ap (unit_worth u) (with_sign_is z))
 
 -- a number of a unit in front of the other pairs adds what it is worth
-pub number_total : (range : ParseError) (u : TimeUnit) (z : ℤ) (ps : List Pair) (i : Interval) → fits_field u z ≡ true → total_of range ps ≡ Ok i → total_of range (number_pairs u z ++ ps) ≡ Ok (sum_of (unit_worth u z) i)
+pub number_total : (range : ParseError) (u : TimeUnit) (z : ℤ) (ps : List Pair) (i : Interval) → fits_field u z ≡ true
+    → total_of range ps ≡ Ok i → total_of range (number_pairs u z ++ ps) ≡ Ok (sum_of (unit_worth u z) i)
 number_total range u z ps i h k = number_total_by range u z ps i (is_zero z) refl h k
 
 -- ---- fields

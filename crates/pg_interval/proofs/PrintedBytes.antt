@@ -57,7 +57,8 @@ either false xs ys h k = k
 
 digits : (z : ℤ) → mag z < 2 ^ 63 → Printable (digits_of z)
 digits z h = decimal_by_steps (λ n ds. Printable ds) (λ n small. one (48 + n) [] (digit n small) nothing)
-    (λ n ds more d. both ds ((48 + n % 10) ∷ []) d (one (48 + n % 10) [] (digit (n % 10) (omega arith)) nothing)) (unsigned_abs z) (abs_small z h)
+    (λ n ds more d. both ds ((48 + n % 10) ∷ []) d (one (48 + n % 10) [] (digit (n % 10) (omega arith)) nothing)) (unsigned_abs z)
+    (abs_small z h)
 
 minus : (b : Bool) → Printable (minus_if b)
 minus b = either b (45 ∷ []) [] (one 45 [] refl nothing) nothing
@@ -90,7 +91,8 @@ item : (z : ℤ) (letter : ℕ) → IsTrue (is_printable letter) → mag z < 2 ^
 unfolding item_text
 item z letter l h =
     let number : Printable (minus_if (is_negative z) ++ digits_of z) = both _ (digits_of z) (minus (is_negative z)) (digits z h) in
-    either (is_zero z) [] (minus_if (is_negative z) ++ digits_of z ++ letter ∷ []) nothing (both _ (letter ∷ []) number (one letter [] l nothing))
+    either (is_zero z) [] (minus_if (is_negative z) ++ digits_of z ++ letter ∷ []) nothing
+    (both _ (letter ∷ []) number (one letter [] l nothing))
 
 second : (n : IntervalNorm) → IsSized n → Printable (second_text n)
 unfolding second_text
@@ -136,7 +138,8 @@ sql_time n size = both (digits_of n.hours) (after_hours n) (digits n.hours size.
 day_time : (n : IntervalNorm) → IsSized n → Printable (day_time_text n)
 unfolding day_time_text
 day_time n size =
-    let days : Printable (minus_if (is_negative n.days) ++ digits_of n.days) = both _ (digits_of n.days) (minus (is_negative n.days)) (digits n.days (wider n.days size.days)) in
+    let days : Printable (minus_if (is_negative n.days) ++ digits_of n.days) =
+    both _ (digits_of n.days) (minus (is_negative n.days)) (digits n.days (wider n.days size.days)) in
     either (is_zero n.days) _ (minus_if (is_negative n.days) ++ digits_of n.days ++ 32 ∷ sql_time_text n)
     (both _ (sql_time_text n) (minus (is_time_negative n)) (sql_time n size))
     (both _ (32 ∷ sql_time_text n) days (one 32 _ refl (sql_time n size)))
@@ -290,7 +293,8 @@ verbose_flat : (ago : Bool) (ps : List Part) → Parts ps → Printable (flat_ma
 unfolding verbose_part_text
 verbose_flat ago [] h = nothing
 verbose_flat ago (p ∷ ps) (more d w h) =
-    both (verbose_part_text ago p) (flat_map (verbose_part_text ago) ps) (one 32 _ refl (part _ p.digits p.word d w)) (verbose_flat ago ps h)
+    both (verbose_part_text ago p) (flat_map (verbose_part_text ago) ps) (one 32 _ refl (part _ p.digits p.word d w))
+    (verbose_flat ago ps h)
 
 ago_is : (ago : Bool) → Printable (ago_end ago)
 ago_is ago =

@@ -40,7 +40,15 @@ not_zero z h = is_zero_no z (λ e. h (omega (arith, ints)))
 -- where a test of all fields says so
 pub all_zero_is : (n : IntervalNorm) → All (λ z. z ≡ pos 0) (all_fields n) → is_all_zero n ≡ true
 unfolding is_all_zero is_time_zero is_year_month_zero
-all_zero_is n h = rw (is_zero_is n.years (h 0 (pos 1) (lit< tt)), is_zero_is n.months (h 1 (pos 1) (lit< tt)), is_zero_is n.days (h 2 (pos 1) (lit< tt)), is_zero_is n.hours (h 3 (pos 1) (lit< tt)), is_zero_is n.minutes (h 4 (pos 1) (lit< tt)), is_zero_is n.seconds (h 5 (pos 1) (lit< tt)), is_zero_is n.microseconds (h 6 (pos 1) (lit< tt))) refl
+all_zero_is n h = rw (
+  is_zero_is n.years (h 0 (pos 1) (lit< tt)),
+  is_zero_is n.months (h 1 (pos 1) (lit< tt)),
+  is_zero_is n.days (h 2 (pos 1) (lit< tt)),
+  is_zero_is n.hours (h 3 (pos 1) (lit< tt)),
+  is_zero_is n.minutes (h 4 (pos 1) (lit< tt)),
+  is_zero_is n.seconds (h 5 (pos 1) (lit< tt)),
+  is_zero_is n.microseconds (h 6 (pos 1) (lit< tt)),
+) refl
 
 and_left : (a b : Bool) → (a && b) ≡ true → a ≡ true
 and_left true b h = refl
@@ -59,7 +67,10 @@ time_zero_fields n h =
     let s : n.seconds ≡ pos 0 = zero_is_zero _ (and_right ((is_zero n.hours && is_zero n.minutes)) _ hms) in
     let m : n.minutes ≡ pos 0 = zero_is_zero _ (and_right (is_zero n.hours) _ hm) in
     let o : n.hours ≡ pos 0 = zero_is_zero _ (and_left _ (is_zero n.minutes) hm) in
-    All-cons (λ z. z ≡ pos 0) n.hours (n.minutes ∷ n.seconds ∷ n.microseconds ∷ []) o (All-cons (λ z. z ≡ pos 0) n.minutes (n.seconds ∷ n.microseconds ∷ []) m (All-cons (λ z. z ≡ pos 0) n.seconds (n.microseconds ∷ []) s (All-cons (λ z. z ≡ pos 0) n.microseconds [] us (All-nil (λ z. z ≡ pos 0)))))
+    All-cons (λ z. z ≡ pos 0) n.hours (n.minutes ∷ n.seconds ∷ n.microseconds ∷ []) o
+    (All-cons (λ z. z ≡ pos 0) n.minutes (n.seconds ∷ n.microseconds ∷ []) m
+    (All-cons (λ z. z ≡ pos 0) n.seconds (n.microseconds ∷ []) s
+    (All-cons (λ z. z ≡ pos 0) n.microseconds [] us (All-nil (λ z. z ≡ pos 0)))))
 
 pub all_zero_fields : (n : IntervalNorm) → is_all_zero n ≡ true → All (λ z. z ≡ pos 0) (all_fields n)
 unfolding is_all_zero is_year_month_zero
@@ -70,7 +81,9 @@ all_zero_fields n h =
     let d : n.days ≡ pos 0 = zero_is_zero _ (and_right ((is_zero n.years && is_zero n.months)) _ ymd) in
     let m : n.months ≡ pos 0 = zero_is_zero _ (and_right (is_zero n.years) _ ym) in
     let y : n.years ≡ pos 0 = zero_is_zero _ (and_left _ (is_zero n.months) ym) in
-    All-cons (λ z. z ≡ pos 0) n.years (n.months ∷ n.days ∷ time_fields n) y (All-cons (λ z. z ≡ pos 0) n.months (n.days ∷ time_fields n) m (All-cons (λ z. z ≡ pos 0) n.days (time_fields n) d (time_zero_fields n t)))
+    All-cons (λ z. z ≡ pos 0) n.years (n.months ∷ n.days ∷ time_fields n) y
+    (All-cons (λ z. z ≡ pos 0) n.months (n.days ∷ time_fields n) m
+    (All-cons (λ z. z ≡ pos 0) n.days (time_fields n) d (time_zero_fields n t)))
 
 same_test : (b t : Bool) → (IsTrue b → t ≡ true) → (t ≡ true → IsTrue b) → b ≡ t
 same_test true t f g = sym (f refl)
@@ -115,13 +128,21 @@ time_present_is n b h = same_test b (not (is_time_zero n))
     (λ e. h.1 (some_time n (not_true _ e)))
 
 pub day_present_is : (n : IntervalNorm) (b : Bool) → (IsTrue b ↔ (n.days ≢ pos 0)) → b ≡ not (is_zero n.days)
-day_present_is n b h = same_test b (not (is_zero n.days)) (λ t. not_false _ (λ e. h.0 t (zero_is_zero _ e))) (λ e. h.1 (false_is_not_zero _ (not_true _ e)))
+day_present_is n b h = same_test b (not (is_zero n.days)) (λ t. not_false _ (λ e. h.0 t (zero_is_zero _ e)))
+    (λ e. h.1 (false_is_not_zero _ (not_true _ e)))
 
-pub year_month_present_is : (n : IntervalNorm) (b : Bool) → (IsTrue b ↔ ((n.years ≢ pos 0) ⊎ (n.months ≢ pos 0))) → b ≡ not (is_year_month_zero n)
+pub year_month_present_is : (n : IntervalNorm) (b : Bool) → (IsTrue b ↔ ((n.years ≢ pos 0) ⊎ (n.months ≢ pos 0)))
+    → b ≡ not (is_year_month_zero n)
 unfolding is_year_month_zero
 year_month_present_is n b h = same_test b (not (is_year_month_zero n))
-    (λ t. not_false _ (λ e. elim (h.0 t) [ inl y ↦ y (zero_is_zero _ (and_left _ (is_zero n.months) e)) | inr m ↦ m (zero_is_zero _ (and_right (is_zero n.years) _ e)) ]))
-    (λ e. h.1 (elim (and_false _ (is_zero n.months) (not_true _ e)) [ inl y ↦ inl (false_is_not_zero _ y) | inr m ↦ inr (false_is_not_zero _ m) ]))
+    (λ t. not_false _ (λ e. elim (h.0 t) [
+      | inl y ↦ y (zero_is_zero _ (and_left _ (is_zero n.months) e))
+      | inr m ↦ m (zero_is_zero _ (and_right (is_zero n.years) _ e))
+    ]))
+    (λ e. h.1 (elim (and_false _ (is_zero n.months) (not_true _ e)) [
+      | inl y ↦ inl (false_is_not_zero _ y)
+      | inr m ↦ inr (false_is_not_zero _ m)
+    ]))
 
 or_true : (a b : Bool) → (a || b) ≡ true → (a ≡ true) ⊎ (b ≡ true)
 or_true true b h = inl refl
@@ -184,7 +205,9 @@ word_end_one = refl
 
 pub word_end_many : (n : ℕ) → n < 2 ^ 64 → (n ≡ 1 → ⊥) → word_end (minus_if false ++ decimal n) ≡ codes "s"
 unfolding word_end
-word_end_many n small h = ap (λ b. if b then [] else codes "s") (test_false (bytes_eq (decimal n) (codes "1")) (λ t. h (decimal_injective n 1 small (lit< tt) ((bytes_eq-Decides (decimal n) (codes "1")).0 t ∙ sym decimal_one))))
+word_end_many n small h = ap (λ b. if b then [] else codes "s")
+    (test_false (bytes_eq (decimal n) (codes "1"))
+    (λ t. h (decimal_injective n 1 small (lit< tt) ((bytes_eq-Decides (decimal n) (codes "1")).0 t ∙ sym decimal_one))))
 
 -- a number with a point isn't printed as `1`
 pub word_end_point : (minus : Bool) (xs ys : List ℕ) → word_end (minus_if minus ++ (xs ++ 46 ∷ ys)) ≡ codes "s"
@@ -211,7 +234,8 @@ space_put_none text end h = rw (drop_all end text h) refl
 
 pub ruleset space_put = (space_put_some, space_put_none)
 
-pub joined_before-append : (ps qs : List (List ℕ)) (text : List ℕ) → joined_before (ps ++ qs) text ≡ joined_before ps (joined_before qs text)
+pub joined_before-append : (ps qs : List (List ℕ)) (text : List ℕ)
+    → joined_before (ps ++ qs) text ≡ joined_before ps (joined_before qs text)
 joined_before-append [] qs text = refl
 joined_before-append (p ∷ ps) qs text = ap (λ t. p ++ space_before t) (joined_before-append ps qs text)
 
@@ -252,43 +276,61 @@ joined_filled : (ps : List (List ℕ)) → AreFilled ps → joined_before ps [] 
 unfolding AreFilled
 joined_filled [] h = refl
 joined_filled (p ∷ []) h = append-nil p
-joined_filled (p ∷ q ∷ ps) h = ap (λ t. p ++ space_before t) (joined_filled (q ∷ ps) h.1) ∙ ap (λ t. p ++ t) (space_filled (join_with_byte 32 (q ∷ ps)) (join_filled q ps h.1.0))
+joined_filled (p ∷ q ∷ ps) h = ap (λ t. p ++ space_before t) (joined_filled (q ∷ ps) h.1)
+    ∙ ap (λ t. p ++ t) (space_filled (join_with_byte 32 (q ∷ ps)) (join_filled q ps h.1.0))
 
 part_filled : (z : ℤ) (name : List ℕ) → AreFilled (map own_text (part_of z name))
 unfolding AreFilled part_of part_text
-part_filled z name = elim (is_zero z) as (λ b. AreFilled (map own_text (if b then [] else record { negative = is_negative z; digits = digits_of z; word = name } ∷ []))) [
+part_filled z name = elim (is_zero z) as (λ b. AreFilled (map own_text (if b then [] else record {
+  negative = is_negative z;
+  digits = digits_of z;
+  word = name;
+} ∷ []))) [
   | true ↦ tt
   | false ↦ (filled_left _ (word_end _) (filled_right (minus_if (is_negative z) ++ digits_of z) (32 ∷ name) (unfold IsFilled in tt)), tt)
 ]
 
 time_filled : (n : IntervalNorm) → AreFilled (time_texts n)
 unfolding AreFilled time_texts after_hours
-time_filled n = elim (is_time_zero n) as (λ b. AreFilled (if b then [] else (minus_if (is_time_negative n) ++ two_digits n.hours ++ after_hours n) ∷ [])) [
-  | true ↦ tt
-  | false ↦ (filled_right (minus_if (is_time_negative n) ++ two_digits n.hours) (after_hours n) (unfold IsFilled in tt), tt)
-]
+time_filled n = elim (is_time_zero n) as (λ b. AreFilled (if b then []
+    else (minus_if (is_time_negative n) ++ two_digits n.hours ++ after_hours n) ∷ [])) [
+      | true ↦ tt
+      | false ↦ (filled_right (minus_if (is_time_negative n) ++ two_digits n.hours) (after_hours n) (unfold IsFilled in tt), tt)
+    ]
 
 map_three : (ps qs rs : List Part) → map own_text (ps ++ qs ++ rs) ≡ map own_text ps ++ map own_text qs ++ map own_text rs
 map_three ps qs rs = simp map-append
 
 -- the parts of a text, one behind another
-parts_joined : (n : IntervalNorm) → joined_before (map own_text (part_of n.years (codes "year"))) (joined_before (map own_text (part_of n.months (codes "mon"))) (joined_before (map own_text (part_of n.days (codes "day"))) (joined_before (time_texts n) []))) ≡ join_with_byte 32 (map own_text (date_parts n) ++ time_texts n)
+parts_joined : (n : IntervalNorm) → joined_before (map own_text (part_of n.years (codes "year")))
+    (joined_before (map own_text (part_of n.months (codes "mon")))
+    (joined_before (map own_text (part_of n.days (codes "day"))) (joined_before (time_texts n) [])))
+    ≡ join_with_byte 32 (map own_text (date_parts n) ++ time_texts n)
 unfolding date_parts
 parts_joined n =
     let y : List (List ℕ) = map own_text (part_of n.years (codes "year")) in
     let m : List (List ℕ) = map own_text (part_of n.months (codes "mon")) in
     let d : List (List ℕ) = map own_text (part_of n.days (codes "day")) in
     let t : List (List ℕ) = time_texts n in
-    let filled : AreFilled (((y ++ m) ++ d) ++ t) = are_filled ((y ++ m) ++ d) t (are_filled (y ++ m) d (are_filled y m (part_filled n.years (codes "year")) (part_filled n.months (codes "mon"))) (part_filled n.days (codes "day"))) (time_filled n) in
-    sym (joined_before-append ((y ++ m) ++ d) t [] ∙ joined_before-append (y ++ m) d (joined_before t []) ∙ joined_before-append y m (joined_before d (joined_before t [])))
+    let filled : AreFilled (((y ++ m) ++ d) ++ t) =
+    are_filled ((y ++ m) ++ d) t (are_filled (y ++ m) d
+    (are_filled y m (part_filled n.years (codes "year")) (part_filled n.months (codes "mon"))) (part_filled n.days (codes "day")))
+    (time_filled n) in
+    sym (joined_before-append ((y ++ m) ++ d) t [] ∙ joined_before-append (y ++ m) d (joined_before t [])
+    ∙ joined_before-append y m (joined_before d (joined_before t [])))
     ∙ joined_filled (((y ++ m) ++ d) ++ t) filled
-    ∙ ap (λ ps. join_with_byte 32 (ps ++ t)) (sym (map_three (part_of n.years (codes "year")) (part_of n.months (codes "mon")) (part_of n.days (codes "day"))))
+    ∙ ap (λ ps. join_with_byte 32 (ps ++ t)) (sym (map_three (part_of n.years (codes "year")) (part_of n.months (codes "mon"))
+    (part_of n.days (codes "day"))))
 
 -- what one part in front of another leaves
-pub postgres_printed : (n : IntervalNorm) (rest t0 t1 t2 t3 : List ℕ) (y m d : ℤ) → y ≡ n.years → m ≡ n.months → d ≡ n.days → is_all_zero n ≡ false → rest ≡ [] → t0 ≡ joined_before (time_texts n) rest → t1 ≡ joined_before (map own_text (part_of d (codes "day"))) t0 → t2 ≡ joined_before (map own_text (part_of m (codes "mon"))) t1 → t3 ≡ joined_before (map own_text (part_of y (codes "year"))) t2 → t3 ≡ postgres_text n ++ rest
+pub postgres_printed : (n : IntervalNorm) (rest t0 t1 t2 t3 : List ℕ) (y m d : ℤ) → y ≡ n.years → m ≡ n.months → d ≡ n.days
+    → is_all_zero n ≡ false → rest ≡ [] → t0 ≡ joined_before (time_texts n) rest
+    → t1 ≡ joined_before (map own_text (part_of d (codes "day"))) t0 → t2 ≡ joined_before (map own_text (part_of m (codes "mon"))) t1
+    → t3 ≡ joined_before (map own_text (part_of y (codes "year"))) t2 → t3 ≡ postgres_text n ++ rest
 unfolding postgres_text
 postgres_printed n rest t0 t1 t2 t3 y m d ey em ed some none e0 e1 e2 e3 =
-    rw (e3, e2, e1, e0, ey, em, ed, some, none) (parts_joined n ∙ sym (append-nil (join_with_byte 32 (map own_text (date_parts n) ++ time_texts n))))
+    rw (e3, e2, e1, e0, ey, em, ed, some, none) (parts_joined n
+    ∙ sym (append-nil (join_with_byte 32 (map own_text (date_parts n) ++ time_texts n))))
 
 not_negative : (z : ℤ) → is_zero z ≡ true → is_negative z ≡ false
 not_negative z h = ap is_negative (zero_is_zero z h)
@@ -299,7 +341,8 @@ second_ago n true h = rw (h, not_negative n.seconds (and_left _ _ h), not_negati
 second_ago n false h = rw h refl
 
 -- without hours and minutes the seconds come first
-pub seconds_ago : (n : IntervalNorm) → unsigned_abs n.hours ≡ 0 → unsigned_abs n.minutes ≡ 0 → is_ago (verbose_time_parts n) ≡ is_second_negative n
+pub seconds_ago : (n : IntervalNorm) → unsigned_abs n.hours ≡ 0 → unsigned_abs n.minutes ≡ 0
+    → is_ago (verbose_time_parts n) ≡ is_second_negative n
 unfolding verbose_time_parts part_of
 seconds_ago n hours minutes = rw (is_zero_yes n.hours hours, is_zero_yes n.minutes minutes) (second_ago n (is_second_zero n) refl)
 

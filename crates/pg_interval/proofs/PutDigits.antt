@@ -130,13 +130,15 @@ pub two_digits : (n : ℕ) → n < 100 → two_digits_of n ≡ (48 + n / 10) ∷
 unfolding two_digits_of
 two_digits n h =
     elim (nat_lt n 10) as (λ b. (b ≡ nat_lt n 10) → (if b then 48 ∷ decimal n else decimal n) ≡ (48 + n / 10) ∷ (48 + n % 10) ∷ []) [
-      | true ↦ λ e. let small : n < 10 = grind arith in let q : n / 10 ≡ 0 = omega arith in let r : n % 10 ≡ n = omega arith in rw (decimal_digit n small, q, r) refl
+      | true ↦ λ e. let small : n < 10 = grind arith in let q : n / 10 ≡ 0 = omega arith in let r : n % 10 ≡ n = omega arith in
+          rw (decimal_digit n small, q, r) refl
       | false ↦ λ e. let large : 10 ≤ n = grind arith in rw (decimal_step n large (omega arith), decimal_digit (n / 10) (omega arith)) refl
     ] refl
 
 -- six digits by three pairs
 pub six_by_pairs : (n : ℕ) (rest : List ℕ) → n < 1000000
-    → six_digits n ++ rest ≡ (48 + n / 10000 / 10) ∷ (48 + n / 10000 % 10) ∷ (48 + n / 100 % 100 / 10) ∷ (48 + n / 100 % 100 % 10) ∷ (48 + n % 100 / 10) ∷ (48 + n % 100 % 10) ∷ rest
+    → six_digits n ++ rest ≡ (48 + n / 10000 / 10) ∷ (48 + n / 10000 % 10) ∷ (48 + n / 100 % 100 / 10) ∷ (48 + n / 100 % 100 % 10)
+    ∷ (48 + n % 100 / 10) ∷ (48 + n % 100 % 10) ∷ rest
 unfolding six_digits
 six_by_pairs n rest h =
     let a : n / 10000 / 10 ≡ n / 100000 % 10 = omega arith in

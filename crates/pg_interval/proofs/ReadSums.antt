@@ -81,7 +81,8 @@ day_rest : (b : Bool) (r : ℕ) → pos 3600000000 *ℤ with_sign b r ≡ with_s
 day_rest true r = omega (arith, ints)
 day_rest false r = omega (arith, ints)
 
-hour_sum : (b : Bool) (w r : ℕ) → pos 3600000000 *ℤ with_sign b w +ℤ pos 60000000 *ℤ with_sign b r ≡ with_sign b (3600000000 * w + 60000000 * r)
+hour_sum : (b : Bool) (w r : ℕ) → pos 3600000000 *ℤ with_sign b w +ℤ pos 60000000 *ℤ with_sign b r
+    ≡ with_sign b (3600000000 * w + 60000000 * r)
 hour_sum true w r = omega (arith, ints)
 hour_sum false w r = omega (arith, ints)
 
@@ -100,29 +101,36 @@ size_worth Month d = same_interval _ _ refl refl (zero_sign d.negative)
 size_worth Day d = same_interval _ _ (zero_sign d.negative) refl (day_rest d.negative (rounded_size 24 d))
 size_worth Hour d = same_interval _ _ (zero_sign d.negative) (zero_sign d.negative) (hour_sum d.negative d.whole (rounded_size 60 d))
 size_worth Minute d = same_interval _ _ (zero_sign d.negative) (zero_sign d.negative) (minute_sum d.negative d.whole (rounded_size 60 d))
-size_worth Second d = same_interval _ _ (zero_sign d.negative) (zero_sign d.negative) (second_sum d.negative d.whole (rounded_size 1000000 d))
+size_worth Second d = same_interval _ _ (zero_sign d.negative) (zero_sign d.negative)
+    (second_sum d.negative d.whole (rounded_size 1000000 d))
 
 -- ---- one number more
 
 pub no_more : (i : Interval) → sum_of i nothing ≡ i
 no_more i = same_interval _ _ (omega (arith, ints)) (omega (arith, ints)) (omega (arith, ints))
 
-tallied_by : (range : ParseError) (u : TimeUnit) (d : Decimal) (b : Bool) → fits_field u (whole_part d) ≡ b → added range (Ok d) u (Ok nothing) ≡ (if b then Ok (worth u d) else Err range)
+tallied_by : (range : ParseError) (u : TimeUnit) (d : Decimal) (b : Bool) → fits_field u (whole_part d) ≡ b
+    → added range (Ok d) u (Ok nothing) ≡ (if b then Ok (worth u d) else Err range)
 tallied_by range u d true e = ap (λ b. if b then plus (worth u d) (Ok nothing) else Err range) e ∙ ap Ok (no_more (worth u d))
 tallied_by range u d false e = ap (λ b. if b then plus (worth u d) (Ok nothing) else Err range) e
 
-pub tallied_fits : (range : ParseError) (u : TimeUnit) (d : Decimal) (r : Result Interval ParseError) → fits_field u (whole_part d) ≡ true → tallied range u (Ok d) r ≡ joined r (Ok (worth u d))
+pub tallied_fits : (range : ParseError) (u : TimeUnit) (d : Decimal) (r : Result Interval ParseError) → fits_field u (whole_part d) ≡ true
+    → tallied range u (Ok d) r ≡ joined r (Ok (worth u d))
 tallied_fits range u d r e = ap (joined r) (tallied_by range u d true e)
 
-pub tallied_beyond : (range : ParseError) (u : TimeUnit) (d : Decimal) (r : Result Interval ParseError) → fits_field u (whole_part d) ≡ false → tallied range u (Ok d) r ≡ joined r (Err range)
+pub tallied_beyond : (range : ParseError) (u : TimeUnit) (d : Decimal) (r : Result Interval ParseError)
+    → fits_field u (whole_part d) ≡ false → tallied range u (Ok d) r ≡ joined r (Err range)
 tallied_beyond range u d r e = ap (joined r) (tallied_by range u d false e)
 
 -- a capped number counts as the number itself
-capped_by : (range : ParseError) (u : TimeUnit) (d : Decimal) (r : Result Interval ParseError) (b : Bool) → fits_field u (whole_part d) ≡ b → tallied range u (Ok (capped_decimal d)) r ≡ tallied range u (Ok d) r
-capped_by range u d r true e = tallied_fits range u (capped_decimal d) r (fits_capped u d ∙ e) ∙ ap (λ w. joined r (Ok w)) (worth_capped u d e) ∙ sym (tallied_fits range u d r e)
+capped_by : (range : ParseError) (u : TimeUnit) (d : Decimal) (r : Result Interval ParseError) (b : Bool) → fits_field u (whole_part d) ≡ b
+    → tallied range u (Ok (capped_decimal d)) r ≡ tallied range u (Ok d) r
+capped_by range u d r true e = tallied_fits range u (capped_decimal d) r (fits_capped u d ∙ e)
+    ∙ ap (λ w. joined r (Ok w)) (worth_capped u d e) ∙ sym (tallied_fits range u d r e)
 capped_by range u d r false e = tallied_beyond range u (capped_decimal d) r (fits_capped u d ∙ e) ∙ sym (tallied_beyond range u d r e)
 
-pub tallied_capped : (range : ParseError) (u : TimeUnit) (d : Decimal) (r : Result Interval ParseError) → tallied range u (Ok (capped_decimal d)) r ≡ tallied range u (Ok d) r
+pub tallied_capped : (range : ParseError) (u : TimeUnit) (d : Decimal) (r : Result Interval ParseError)
+    → tallied range u (Ok (capped_decimal d)) r ≡ tallied range u (Ok d) r
 tallied_capped range u d r = capped_by range u d r (fits_field u (whole_part d)) refl
 
 -- more pairs, from what the pairs before them came to
@@ -139,17 +147,20 @@ pub joined_joined : (a b c : Result Interval ParseError) → joined (joined a b)
 joined_joined (Err e) b c = refl
 joined_joined (Ok i) b c = plus_joined i b c
 
-added_by : (range : ParseError) (u : TimeUnit) (d : Decimal) (a b : Result Interval ParseError) (fits : Bool) → joined (if fits then plus (worth u d) a else Err range) b ≡ (if fits then plus (worth u d) (joined a b) else Err range)
+added_by : (range : ParseError) (u : TimeUnit) (d : Decimal) (a b : Result Interval ParseError) (fits : Bool)
+    → joined (if fits then plus (worth u d) a else Err range) b ≡ (if fits then plus (worth u d) (joined a b) else Err range)
 added_by range u d a b true = plus_joined (worth u d) a b
 added_by range u d a b false = refl
 
-added_joined : (range : ParseError) (n : Result Decimal ParseError) (u : TimeUnit) (a b : Result Interval ParseError) → joined (added range n u a) b ≡ added range n u (joined a b)
+added_joined : (range : ParseError) (n : Result Decimal ParseError) (u : TimeUnit) (a b : Result Interval ParseError)
+    → joined (added range n u a) b ≡ added range n u (joined a b)
 added_joined range (Err e) u a b = refl
 added_joined range (Ok d) u a b = added_by range u d a b (fits_field u (whole_part d))
 
 pub total_more : (range : ParseError) (ps qs : List Pair) → total_of range (ps ++ qs) ≡ joined (total_of range ps) (total_of range qs)
 total_more range [] qs = sym (plus_nothing (total_of range qs))
-total_more range (p ∷ ps) qs = ap (added range p.number p.unit) (total_more range ps qs) ∙ sym (added_joined range p.number p.unit (total_of range ps) (total_of range qs))
+total_more range (p ∷ ps) qs = ap (added range p.number p.unit) (total_more range ps qs)
+    ∙ sym (added_joined range p.number p.unit (total_of range ps) (total_of range qs))
 
 pub start_joined : (r : Result Interval ParseError) → joined (Ok nothing) r ≡ r
 start_joined r = plus_nothing r
@@ -158,11 +169,14 @@ pub joined_nothing : (r : Result Interval ParseError) → joined r (Ok nothing) 
 joined_nothing (Ok i) = ap Ok (no_more i)
 joined_nothing (Err e) = refl
 
-pub tallied_held : (range : ParseError) (u : TimeUnit) (n : Result Decimal DecimalError) (r : Result Interval ParseError) → tallied range u (checked (number_held false n)) r ≡ tallied range u (checked n) r
+pub tallied_held : (range : ParseError) (u : TimeUnit) (n : Result Decimal DecimalError) (r : Result Interval ParseError)
+    → tallied range u (checked (number_held false n)) r ≡ tallied range u (checked n) r
 tallied_held range u (Ok d) r = tallied_capped range u d r
 tallied_held range u (Err e) r = refl
 
-pub add_sums : (r : Option ParseError) (p m s : Amount) (negative : Bool) → so_far_of r (sum_left (with_if (not negative) p s) (with_if negative m s)) ≡ joined (so_far_of r (sum_left p m)) (Ok (signed negative s))
+pub add_sums : (r : Option ParseError) (p m s : Amount) (negative : Bool)
+    → so_far_of r (sum_left (with_if (not negative) p s) (with_if negative m s))
+    ≡ joined (so_far_of r (sum_left p m)) (Ok (signed negative s))
 unfolding signed
 add_sums (Some e) p m s negative = refl
 add_sums None p m s true = ap Ok (same_interval _ _ (omega (arith, ints)) (omega (arith, ints)) (omega (arith, ints)))

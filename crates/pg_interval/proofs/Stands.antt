@@ -18,7 +18,8 @@ pub distinct_from : (style : Style) (text : List ℕ) (i : Interval)
     → ((j : Interval) → IsInterval j → reading style (printed style j) ≡ Ok j) → IsInterval i → text ≡ printed style i
     → IsPrintedOnlyFor style text i
 distinct_from style text i all within e =
-    λ other there same. same_interval_read style text i other (ap (reading style) e ∙ all i within) (ap (reading style) same ∙ all other there)
+    λ other there same. same_interval_read style text i other (ap (reading style) e ∙ all i within) (ap (reading style) same
+    ∙ all other there)
 
 -- what is known of a text is known of its copy in memory
 pub carried : {S E : Type 0} (bytes : S → List ℕ) (P : List ℕ → Type 0) (text : List ℕ) (r : Result S E) → IfOk r (λ s. bytes s ≡ text)

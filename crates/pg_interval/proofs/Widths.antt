@@ -42,9 +42,12 @@ interval_widths i within =
     let u : unsigned_abs i.microseconds ≤ 2 ^ 63 = abs_le 63 i.microseconds within.microseconds.sfits in
     let years : unsigned_abs (int_div i.months (pos 12)) < 1000000000 = rw (div_abs i.months 12) (omega arith) in
     let months : unsigned_abs (int_rem i.months (pos 12)) < 100 = rw (rem_abs i.months 12) (omega arith) in
-    let hours : unsigned_abs (int_div i.microseconds (pos 3600000000)) < 10000000000 = rw (div_abs i.microseconds 3600000000) (omega arith) in
-    let minutes : unsigned_abs (int_rem (int_div i.microseconds (pos 60000000)) (pos 60)) < 100 = rw (rem_abs (int_div i.microseconds (pos 60000000)) 60) (omega arith) in
-    let seconds : unsigned_abs (int_rem (int_div i.microseconds (pos 1000000)) (pos 60)) < 100 = rw (rem_abs (int_div i.microseconds (pos 1000000)) 60) (omega arith) in
+    let hours : unsigned_abs (int_div i.microseconds (pos 3600000000)) < 10000000000 =
+    rw (div_abs i.microseconds 3600000000) (omega arith) in
+    let minutes : unsigned_abs (int_rem (int_div i.microseconds (pos 60000000)) (pos 60)) < 100 =
+    rw (rem_abs (int_div i.microseconds (pos 60000000)) 60) (omega arith) in
+    let seconds : unsigned_abs (int_rem (int_div i.microseconds (pos 1000000)) (pos 60)) < 100 =
+    rw (rem_abs (int_div i.microseconds (pos 1000000)) 60) (omega arith) in
     let microseconds : unsigned_abs (int_rem i.microseconds (pos 1000000)) < 1000000 = rw (rem_abs i.microseconds 1000000) (omega arith) in
     record {
       years = nine_long _ years;

@@ -17,11 +17,17 @@ pub record Decimal : Type 0 where
 
 -- the number that digits before and after the point make
 abbrev pub number_of : Bool → List ℕ → List ℕ → Decimal
-number_of minus whole fraction = record { negative = minus; whole = digits_value 10 whole; fraction = digits_value 10 fraction; places = length fraction }
+number_of minus whole fraction = record {
+  negative = minus;
+  whole = digits_value 10 whole;
+  fraction = digits_value 10 fraction;
+  places = length fraction;
+}
 
 -- digits before and after the point, at least one in all, and at most 18 after it
 abbrev pub decimal_between : Bool → List ℕ → List ℕ → Result Decimal DecimalError
-decimal_between minus whole fraction = if not (are_digits (whole ++ fraction)) then Err Malformed else (if nat_lt 18 (length fraction) then Err TooManyDigits else Ok (number_of minus whole fraction))
+decimal_between minus whole fraction = if not (are_digits (whole ++ fraction)) then Err Malformed
+    else (if nat_lt 18 (length fraction) then Err TooManyDigits else Ok (number_of minus whole fraction))
 
 -- what stands between the points of a decimal: there is one at most
 abbrev pub decimal_of_parts : Bool → List (List ℕ) → Result Decimal DecimalError

@@ -35,17 +35,21 @@ answer r o = o >>= λ ps. Some (joined r (total_of int_out_of_range ps))
 -- minutes, and the seconds that may follow them
 abbrev pub minute_pairs : Bool → List (List ℕ) → Option (List Pair)
 minute_pairs minus (m ∷ []) = if is_field m then Some (field_pair minus Minute m ∷ []) else None
-minute_pairs minus (m ∷ s ∷ []) = if is_field m then (second_pairs minus (slice_split is_point s) >>= λ ps. Some (field_pair minus Minute m ∷ ps)) else None
+minute_pairs minus (m ∷ s ∷ []) = if is_field m then (second_pairs minus (slice_split is_point s)
+    >>= λ ps. Some (field_pair minus Minute m ∷ ps)) else None
 minute_pairs minus _ = None
 
 abbrev pub pairs_of_one : List ℕ → Option (List Pair)
-pairs_of_one a = if bytes_eq a (codes "0") then Some [] else (if list_any is_colon a then sql_time_pairs (begins is_minus a) a else year_month_pairs a)
+pairs_of_one a = if bytes_eq a (codes "0") then Some []
+    else (if list_any is_colon a then sql_time_pairs (begins is_minus a) a else year_month_pairs a)
 
 abbrev pub pairs_of_two : List ℕ → List ℕ → Option (List Pair)
-pairs_of_two a b = day_pairs a >>= λ day. sql_time_pairs (begins is_minus (if begins is_sign b then b else a)) b >>= λ time. Some (day ++ time)
+pairs_of_two a b = day_pairs a >>= λ day. sql_time_pairs (begins is_minus (if begins is_sign b then b else a)) b
+    >>= λ time. Some (day ++ time)
 
 abbrev pub pairs_of_three : List ℕ → List ℕ → List ℕ → Option (List Pair)
-pairs_of_three a b c = year_month_pairs a >>= λ year_month. day_pairs b >>= λ day. sql_time_pairs (begins is_minus c) c >>= λ time. Some (year_month ++ day ++ time)
+pairs_of_three a b c = year_month_pairs a >>= λ year_month. day_pairs b >>= λ day. sql_time_pairs (begins is_minus c) c
+    >>= λ time. Some (year_month ++ day ++ time)
 
 -- a token in front of the rest, or none
 abbrev pub token_first : List ℕ → List ℕ → List (List ℕ)

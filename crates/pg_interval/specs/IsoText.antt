@@ -22,7 +22,8 @@ longer c (item ∷ rest) = Some (record item { number = c ∷ item.number } ∷ 
 -- the part is one item after another: each ends at its letter
 abbrev pub items_of : List ℕ → Option (List Item)
 items_of [] = Some []
-items_of (c ∷ cs) = if is_designator c then (items_of cs >>= λ rest. Some (record { number = []; letter = c } ∷ rest)) else (items_of cs >>= longer c)
+items_of (c ∷ cs) = if is_designator c then (items_of cs >>= λ rest. Some (record { number = []; letter = c } ∷ rest))
+    else (items_of cs >>= longer c)
 
 -- a minus that may be missing, then digits and points
 abbrev pub is_item_number : List ℕ → Bool
@@ -31,20 +32,24 @@ is_item_number (c ∷ cs) = (is_minus c || is_digit c || is_point c) && list_all
 
 -- the units before the `T`
 abbrev pub date_unit : ℕ → Option TimeUnit
-date_unit c = if c == 89 then Some Year else (if c == 77 then Some Month else (if c == 68 then Some Day else (if c == 72 then Some Hour else None)))
+date_unit c = if c == 89 then Some Year else (if c == 77 then Some Month
+    else (if c == 68 then Some Day else (if c == 72 then Some Hour else None)))
 
 -- the units after the `T`: `M` is minutes there, and `S` stands only there
 abbrev pub time_unit : ℕ → Option TimeUnit
-time_unit c = if c == 89 then Some Year else (if c == 77 then Some Minute else (if c == 68 then Some Day else (if c == 72 then Some Hour else (if c == 83 then Some Second else None))))
+time_unit c = if c == 89 then Some Year else (if c == 77 then Some Minute
+    else (if c == 68 then Some Day else (if c == 72 then Some Hour else (if c == 83 then Some Second else None))))
 
 abbrev pub pairs_of_items : (ℕ → Option TimeUnit) → List Item → Option (List Pair)
 pairs_of_items unit [] = Some []
-pairs_of_items unit (item ∷ rest) = if is_item_number item.number then (unit item.letter >>= λ u. pairs_of_items unit rest >>= λ ps. Some (decimal_pair u item.number ∷ ps)) else None
+pairs_of_items unit (item ∷ rest) = if is_item_number item.number then (unit item.letter >>= λ u. pairs_of_items unit rest
+    >>= λ ps. Some (decimal_pair u item.number ∷ ps)) else None
 
 -- what stands before the `T` and what stands after it
 abbrev pub pairs_of_halves : List (List ℕ) → Option (List Pair)
 pairs_of_halves (date ∷ []) = items_of date >>= pairs_of_items date_unit
-pairs_of_halves (date ∷ time ∷ []) = items_of date >>= pairs_of_items date_unit >>= λ ps. items_of time >>= pairs_of_items time_unit >>= λ qs. Some (ps ++ qs)
+pairs_of_halves (date ∷ time ∷ []) = items_of date >>= pairs_of_items date_unit >>= λ ps. items_of time >>= pairs_of_items time_unit
+    >>= λ qs. Some (ps ++ qs)
 pairs_of_halves _ = None
 
 -- The pairs of a text of the style `iso_8601`, unless its shape is broken: `P`, and at least one byte more.

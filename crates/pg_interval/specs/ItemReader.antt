@@ -44,4 +44,5 @@ front_left s (Some rest) = left_after s rest
 
 -- an item in front of the rest
 abbrev pub item_left : Bool → Result Interval ParseError → List ℕ → ℕ → List ℕ → Option (Result Interval ParseError)
-item_left in_time r number letter rest = if is_item_number number then (unit_at in_time letter >>= λ u. left in_time (tallied out_of_range u (checked (decimal_of number)) r) rest) else None
+item_left in_time r number letter rest = if is_item_number number then (unit_at in_time letter
+    >>= λ u. left in_time (tallied out_of_range u (checked (decimal_of number)) r) rest) else None

@@ -68,7 +68,9 @@ total_of range (p ∷ ps) = added range p.number p.unit (total_of range ps)
 
 -- the interval of these three sums, or the first of them that leaves its type
 abbrev pub interval_of_sums : Interval → Result Interval ParseError
-interval_of_sums i = if not (fits_above 31 i.months) then Err (InvalidYearMonth Overflow) else (if not (fits_above 31 i.days) then Err (InvalidInterval Overflow) else (if not (fits_above 63 i.microseconds) then Err (InvalidTime Overflow) else Ok i))
+interval_of_sums i = if not (fits_above 31 i.months) then Err (InvalidYearMonth Overflow)
+    else (if not (fits_above 31 i.days) then Err (InvalidInterval Overflow)
+    else (if not (fits_above 63 i.microseconds) then Err (InvalidTime Overflow) else Ok i))
 
 abbrev pub judged : Result Interval ParseError → Result Interval ParseError
 judged (Ok i) = interval_of_sums i

@@ -46,7 +46,9 @@ those_not_zero hours minutes seconds = unless_zero Hour hours ++ unless_zero Min
 
 -- the numbers of a time that aren't zero, with its sign
 abbrev pub time_pairs : Bool → List (List ℕ) → Option (List Pair)
-time_pairs minus (h ∷ m ∷ s ∷ []) = if are_digits h && are_digits m then (seconds_of minus (slice_split is_point s) >>= λ seconds. Some (those_not_zero (number_of minus h []) (number_of minus m []) seconds)) else None
+time_pairs minus (h ∷ m ∷ s ∷ []) = if are_digits h
+    && are_digits m then (seconds_of minus (slice_split is_point s)
+    >>= λ seconds. Some (those_not_zero (number_of minus h []) (number_of minus m []) seconds)) else None
 time_pairs minus _ = None
 
 abbrev pub or_other : Option (List Pair) → Token
@@ -71,7 +73,8 @@ abbrev pub token_split : List ℕ → List ℕ → Token
 token_split number rest = if list_all is_letter rest then token_of_parts number rest else Other
 
 abbrev pub token_of : List ℕ → Token
-token_of text = if list_any is_colon text then time_of text else token_split (take_while is_number_byte text) (drop (length (take_while is_number_byte text)) text)
+token_of text = if list_any is_colon text then time_of text
+    else token_split (take_while is_number_byte text) (drop (length (take_while is_number_byte text)) text)
 
 -- A number that stands alone is followed at once by a word, and a word that stands alone follows one.
 abbrev pub pairs_of_tokens : (List ℕ → Option TimeUnit) → List Token → Option (List Pair)
@@ -119,7 +122,8 @@ verbose_pairs_within text = if bytes_eq text (codes "0") then Some [] else pairs
 
 -- What follows `@`. Where it ends with `ago`, each number has the other sign.
 abbrev pub pairs_after_at : List ℕ → Option (List Pair)
-pairs_after_at text = if ends_with nat_eq text (codes "ago") then (verbose_pairs_within (trimmed_end (take (length text - 3) text)) >>= λ ps. Some (map turned ps)) else verbose_pairs_within text
+pairs_after_at text = if ends_with nat_eq text (codes "ago") then (verbose_pairs_within (trimmed_end (take (length text - 3) text))
+    >>= λ ps. Some (map turned ps)) else verbose_pairs_within text
 
 abbrev pub pairs_from_at : List ℕ → Option (List Pair)
 pairs_from_at [] = None

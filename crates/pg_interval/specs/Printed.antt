@@ -130,7 +130,11 @@ unfoldable pub second_digits : IntervalNorm → List ℕ
 second_digits n = digits_of n.seconds ++ decimals_of n.microseconds
 
 unfoldable pub second_parts : IntervalNorm → List Part
-second_parts n = if is_second_zero n then [] else record { negative = is_second_negative n; digits = second_digits n; word = codes "sec" } ∷ []
+second_parts n = if is_second_zero n then [] else record {
+  negative = is_second_negative n;
+  digits = second_digits n;
+  word = codes "sec";
+} ∷ []
 
 unfoldable pub verbose_time_parts : IntervalNorm → List Part
 verbose_time_parts n = part_of n.hours (codes "hour") ++ part_of n.minutes (codes "min") ++ second_parts n
@@ -163,13 +167,15 @@ unfoldable pub item_text : ℤ → ℕ → List ℕ
 item_text z letter = if is_zero z then [] else minus_if (is_negative z) ++ digits_of z ++ letter ∷ []
 
 unfoldable pub second_text : IntervalNorm → List ℕ
-second_text n = if is_second_zero n then [] else minus_if (is_second_negative n) ++ digits_of n.seconds ++ fraction_of n.microseconds ++ 83 ∷ []
+second_text n = if is_second_zero n then [] else minus_if (is_second_negative n) ++ digits_of n.seconds ++ fraction_of n.microseconds ++ 83
+    ∷ []
 
 unfoldable pub iso_time_text : IntervalNorm → List ℕ
 iso_time_text n = if is_time_zero n then [] else 84 ∷ item_text n.hours 72 ++ item_text n.minutes 77 ++ second_text n
 
 unfoldable pub iso_text : IntervalNorm → List ℕ
-iso_text n = if is_all_zero n then codes "PT0S" else 80 ∷ item_text n.years 89 ++ item_text n.months 77 ++ item_text n.days 68 ++ iso_time_text n
+iso_text n = if is_all_zero n then codes "PT0S" else 80 ∷ item_text n.years 89 ++ item_text n.months 77 ++ item_text n.days 68
+    ++ iso_time_text n
 
 -- ---- sql_standard
 
@@ -190,18 +196,21 @@ are_opposite n = (is_negative n.days && is_time_positive n) || (is_positive n.da
 
 -- days and a time with one sign in front of both
 unfoldable pub day_time_text : IntervalNorm → List ℕ
-day_time_text n = if is_zero n.days then minus_if (is_time_negative n) ++ sql_time_text n else minus_if (is_negative n.days) ++ digits_of n.days ++ 32 ∷ sql_time_text n
+day_time_text n = if is_zero n.days then minus_if (is_time_negative n) ++ sql_time_text n
+    else minus_if (is_negative n.days) ++ digits_of n.days ++ 32 ∷ sql_time_text n
 
 unfoldable pub signed_days_text : IntervalNorm → List ℕ
 signed_days_text n = sign_of (is_negative n.days) ++ digits_of n.days
 
 -- three parts, each with its sign
 unfoldable pub signed_text : IntervalNorm → List ℕ
-signed_text n = sign_of (is_year_month_negative n) ++ year_month_text n ++ 32 ∷ signed_days_text n ++ 32 ∷ sign_of (is_time_negative n) ++ sql_time_text n
+signed_text n = sign_of (is_year_month_negative n) ++ year_month_text n ++ 32 ∷ signed_days_text n ++ 32 ∷ sign_of (is_time_negative n)
+    ++ sql_time_text n
 
 -- years and months alone, days and time alone, or all three
 unfoldable pub fields_text : IntervalNorm → List ℕ
-fields_text n = if is_zero n.days && is_time_zero n then minus_if (is_year_month_negative n) ++ year_month_text n else (if is_year_month_zero n && not (are_opposite n) then day_time_text n else signed_text n)
+fields_text n = if is_zero n.days && is_time_zero n then minus_if (is_year_month_negative n) ++ year_month_text n
+    else (if is_year_month_zero n && not (are_opposite n) then day_time_text n else signed_text n)
 
 unfoldable pub sql_text : IntervalNorm → List ℕ
 sql_text n = if is_all_zero n then codes "0" else fields_text n

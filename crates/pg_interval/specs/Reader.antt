@@ -79,7 +79,11 @@ with_if false a b = a
 
 -- the sum of what was added, less what was taken off, or the first refusal
 abbrev pub sum_left : Amount → Amount → Interval
-sum_left p m = record { months = pos p.months -ℤ pos m.months; days = pos p.days -ℤ pos m.days; microseconds = pos p.microseconds -ℤ pos m.microseconds }
+sum_left p m = record {
+  months = pos p.months -ℤ pos m.months;
+  days = pos p.days -ℤ pos m.days;
+  microseconds = pos p.microseconds -ℤ pos m.microseconds;
+}
 
 abbrev pub so_far_of : Option ParseError → Interval → Result Interval ParseError
 so_far_of None i = Ok i

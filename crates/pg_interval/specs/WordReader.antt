@@ -108,14 +108,21 @@ abbrev pub times_from : Clock → Times
 times_from c = record { hours = decimal_from c.hours; minutes = decimal_from c.minutes; seconds = decimal_from c.seconds }
 
 abbrev pub held_times : Bool → Times → Times
-held_times turn t = record { hours = capped_decimal (turned_if turn t.hours); minutes = capped_decimal (turned_if turn t.minutes); seconds = capped_decimal (turned_if turn t.seconds) }
+held_times turn t = record {
+  hours = capped_decimal (turned_if turn t.hours);
+  minutes = capped_decimal (turned_if turn t.minutes);
+  seconds = capped_decimal (turned_if turn t.seconds);
+}
 
 abbrev pub taken_times : State → Times → Option State
-taken_times s t = taken_unless_zero s Hour t.hours >>= λ a. taken_unless_zero a Minute t.minutes >>= λ b. taken_unless_zero b Second t.seconds
+taken_times s t = taken_unless_zero s Hour t.hours >>= λ a. taken_unless_zero a Minute t.minutes
+    >>= λ b. taken_unless_zero b Second t.seconds
 
 -- the numbers of a time's parts
 abbrev pub times_of_parts : Bool → List (List ℕ) → Option Times
-times_of_parts minus (h ∷ m ∷ s ∷ []) = if are_digits h && are_digits m then (seconds_of minus (slice_split is_point s) >>= λ seconds. Some (record { hours = number_of minus h []; minutes = number_of minus m []; seconds = seconds })) else None
+times_of_parts minus (h ∷ m ∷ s ∷ []) = if are_digits h
+    && are_digits m then (seconds_of minus (slice_split is_point s)
+    >>= λ seconds. Some (record { hours = number_of minus h []; minutes = number_of minus m []; seconds = seconds })) else None
 times_of_parts minus _ = None
 
 -- the numbers of a time, zeros among them
@@ -130,7 +137,8 @@ abbrev pub worded_left : Bool → Bool → State → Result Decimal DecimalError
 worded_left verbose turn s n word rest = taken_word verbose s n word >>= λ t. left verbose turn t rest
 
 abbrev pub time_left : Bool → Bool → State → List ℕ → List ℕ → Option (Result Interval ParseError)
-time_left verbose turn s token rest = option_map (held_times turn) (times_of token) >>= λ t. taken_times s t >>= λ u. left verbose turn u rest
+time_left verbose turn s token rest = option_map (held_times turn) (times_of token) >>= λ t. taken_times s t
+    >>= λ u. left verbose turn u rest
 
 -- what stands between `@` and `ago`
 unfoldable pub within_left : Bool → List ℕ → Option (Result Interval ParseError)

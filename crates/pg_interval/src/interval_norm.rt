@@ -20,8 +20,8 @@ pub struct IntervalNorm {
 impl From<&Interval> for IntervalNorm {
     ghost from_gives = { λ i n. n ≡ normal_form i.now };
 
-    /// The interval's normal form: its months split into years and months, and its microseconds into hours, minutes,
-    /// seconds and microseconds, each quotient truncated toward zero.
+    /// The interval's normal form: its months split into years and months, and its microseconds
+    /// into hours, minutes, seconds and microseconds, each quotient truncated toward zero.
     fn from(val: &Interval) -> IntervalNorm
         ensures form { result ≡ normal_form val.now }
         ensures date_signs { HaveOneSign (result.years ∷ result.months ∷ []) }
@@ -40,14 +40,16 @@ impl From<&Interval> for IntervalNorm {
 }
 
 impl IntervalNorm {
-    /// The interval that the fields add up to, by exact sums.
-    /// `InvalidYearMonth(Overflow)` comes where the months leave `i32`, else `InvalidTime(Overflow)` where the
-    /// microseconds leave `i64`.
+    /// The interval that the fields add up to, by exact sums. `InvalidYearMonth(Overflow)` comes
+    /// where the months leave `i32`, else `InvalidTime(Overflow)` where the microseconds leave
+    /// `i64`.
     pub fn try_into_interval(self) -> Result<Interval, ParseError>
         ensures succeeds { IsOk result ↔ IsInterval (exact_total self) }
         ensures value { IfOk result (λ i. i ≡ exact_total self) }
-        ensures year_month { IsErrOf result (ParseError.InvalidYearMonth Reason.Overflow) ↔ ¬ (MonthsFit self) }
-        ensures time { IsErrOf result (ParseError.InvalidTime Reason.Overflow) ↔ (MonthsFit self × ¬ (MicrosecondsFit self)) }
+        ensures year_month { IsErrOf result (ParseError.InvalidYearMonth Reason.Overflow)
+            ↔ ¬ (MonthsFit self) }
+        ensures time { IsErrOf result (ParseError.InvalidTime Reason.Overflow)
+            ↔ (MonthsFit self × ¬ (MicrosecondsFit self)) }
 
         // so an interval's normal form gives that interval again
         ensures inverse { (i : Interval) → IsInterval i → self ≡ normal_form i → result ≡ Ok i }

@@ -1,7 +1,8 @@
 ghost use Rattle.std.specs.Prelude.{◌≡◌, ℕ, ◌+◌, ◌<◌, ◌≤◌, ◌↔◌, length, take, slice_range, IfOk, IfSome, IsNone, IsTrue};
 ghost use Rattle.pg_interval.specs.Cell.{int64_bytes, int32_bytes, interval_cell, IsInterval};
 
-/// A span of time as PostgreSQL keeps it: months, days and microseconds, which are never carried into one another.
+/// A span of time as PostgreSQL keeps it: months, days and microseconds, which are never carried
+/// into one another.
 #[derive(Clone, Copy, Debug, PartialEq, Eq)]
 pub struct Interval {
     pub months: i32,
@@ -23,8 +24,8 @@ impl Interval {
         }
     }
 
-    /// The interval in the binary format of PostgreSQL, sixteen bytes: Int64 microseconds, Int32 days, Int32 months,
-    /// each in two's complement with the high byte first.
+    /// The interval in the binary format of PostgreSQL, sixteen bytes: Int64 microseconds, Int32
+    /// days, Int32 months, each in two's complement with the high byte first.
     pub fn to_cell(&self) -> [u8; 16]
         ensures { result ≡ interval_cell self.now }
     {
@@ -40,7 +41,8 @@ impl Interval {
         ensures short { IsNone result ↔ (length cell.now < 16) }
         ensures cell { IfSome result (λ i. take 16 cell.now ≡ interval_cell i) }
         // so `from_cell` of what `to_cell` gives is that interval again
-        ensures inverse { (i : Interval) → IsInterval i → take 16 cell.now ≡ interval_cell i → result ≡ Some i }
+        ensures inverse { (i : Interval) → IsInterval i → take 16 cell.now ≡ interval_cell i
+            → result ≡ Some i }
     {
         if cell.len() < 16 {
             return None;

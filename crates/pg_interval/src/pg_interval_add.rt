@@ -32,8 +32,8 @@ impl Interval {
     }
 
     /// Adds days, hours, minutes and nanoseconds, whose part of a microsecond is rounded down.
-    /// `None` comes where a step leaves its type: the microseconds of the hours, those of the minutes, their sum,
-    /// that with the nanoseconds, or a sum with the interval.
+    /// `None` comes where a step leaves its type: the microseconds of the hours, those of the
+    /// minutes, their sum, that with the nanoseconds, or a sum with the interval.
     pub fn checked_add_day_time(
         self,
         days: i32,
@@ -56,10 +56,11 @@ impl Interval {
         self + Interval::new(year * 12, 0, 0) + Interval::new(months, 0, 0)
     }
 
-    /// Adds the sum of the years' months and the months. `None` comes where a step leaves its type: the months of
-    /// the years, these with the months, or the sum with the interval.
+    /// Adds the sum of the years' months and the months. `None` comes where a step leaves its type:
+    /// the months of the years, these with the months, or the sum with the interval.
     pub fn checked_add_year_month(self, year: i32, months: i32) -> Option<Interval>
-        ensures { SomeIff result (AddsJoined self year months) (with_joined_months self year months) }
+        ensures { SomeIff result (AddsJoined self year months)
+            (with_joined_months self year months) }
     {
         let years_as_months = year.checked_mul(12)?;
         let additional_months = years_as_months.checked_add(months)?;
@@ -96,7 +97,8 @@ pub fn time_in_microseconds(hours: i64, minutes: i64, nanoseconds: i64) -> i64
 
 /// The microseconds of a time, or `None` where a step leaves `i64`.
 pub fn checked_time_in_microseconds(hours: i64, minutes: i64, nanoseconds: i64) -> Option<i64>
-    ensures { SomeIff result (TimeFits hours minutes nanoseconds) (time_amount hours minutes nanoseconds) }
+    ensures { SomeIff result (TimeFits hours minutes nanoseconds)
+        (time_amount hours minutes nanoseconds) }
 {
     let hours_as_micro = hours.checked_mul(3_600_000_000)?;
     let minutes_as_micro = minutes.checked_mul(60_000_000)?;
@@ -158,8 +160,8 @@ pub(crate) mod tests {
         )
     }
 
-    /// To -2,000,000,000 months the years and months are added. Joined first, they may leave the type where one after
-    /// the other doesn't.
+    /// To -2,000,000,000 months the years and months are added. Joined first, they may leave the
+    /// type where one after the other doesn't.
     const YEAR_MONTH_SUMS: [(i32, i32, Option<Parts>); 2] = [
         (178956970, 100, None),
         (178956970, 7, Some((147483647, 0, 0))),

@@ -57,27 +57,38 @@ wide32 = record {
   below = λ bytes fits. omega (arith, fits 0, fits 1, fits 2, fits 3);
 }
 
-pub number_takes : (w : Width) (limit : ℕ) (wide : IsWide w limit) (bytes : List ℕ) (n : ℕ) (rest : List ℕ) → IsBytes bytes → number_at w bytes ≡ Some (n, rest) → (bytes ≡ to_be_bytes w n ++ rest) × (n < limit)
+pub number_takes : (w : Width) (limit : ℕ) (wide : IsWide w limit) (bytes : List ℕ) (n : ℕ) (rest : List ℕ) → IsBytes bytes
+    → number_at w bytes ≡ Some (n, rest) → (bytes ≡ to_be_bytes w n ++ rest) × (n < limit)
 number_takes w limit wide bytes n rest fits e =
     let g = guard_some (ltb (length bytes) (byte_len w)) (from_be_bytes w (take (byte_len w) bytes), drop (byte_len w) bytes) (n, rest) e in
     let long : byte_len w ≤ length bytes = ltb-false _ _ g.0 in
     let n-is : from_be_bytes w (take (byte_len w) bytes) ≡ n = ap (λ (p : ℕ × List ℕ). p.0) g.1 in
     let rest-is : drop (byte_len w) bytes ≡ rest = ap (λ (p : ℕ × List ℕ). p.1) g.1 in
-    let front : to_be_bytes w n ≡ take (byte_len w) bytes = rw (← n-is) (wide.back (take (byte_len w) bytes) (omega (arith, length-take (byte_len w) bytes)) (IsBytes-take (byte_len w) bytes fits)) in
-    (rw (front, ← rest-is) (sym (take-append-drop (byte_len w) bytes)), rw (← n-is) (wide.below (take (byte_len w) bytes) (IsBytes-take (byte_len w) bytes fits)))
+    let front : to_be_bytes w n ≡ take (byte_len w) bytes =
+    rw (← n-is) (wide.back (take (byte_len w) bytes) (omega (
+      arith,
+      length-take (byte_len w) bytes,
+    )) (IsBytes-take (byte_len w) bytes fits)) in (
+      rw (front, ← rest-is) (sym (take-append-drop (byte_len w) bytes)),
+      rw (← n-is) (wide.below (take (byte_len w) bytes) (IsBytes-take (byte_len w) bytes fits)),
+    )
 
-pub number_again : (w : Width) (limit : ℕ) (wide : IsWide w limit) (n : ℕ) (rest : List ℕ) → n < limit → number_at w (to_be_bytes w n ++ rest) ≡ Some (n, rest)
+pub number_again : (w : Width) (limit : ℕ) (wide : IsWide w limit) (n : ℕ) (rest : List ℕ) → n < limit
+    → number_at w (to_be_bytes w n ++ rest) ≡ Some (n, rest)
 number_again w limit wide n rest lt =
     let len = wide.len n in
-    let long : ltb (length (to_be_bytes w n ++ rest)) (byte_len w) ≡ false = le-ltb _ _ (omega (arith, length-append (to_be_bytes w n) rest)) in
+    let long : ltb (length (to_be_bytes w n ++ rest)) (byte_len w) ≡ false =
+    le-ltb _ _ (omega (arith, length-append (to_be_bytes w n) rest)) in
     rw (long, take_at (to_be_bytes w n) rest (byte_len w) len, drop_at (to_be_bytes w n) rest (byte_len w) len, wide.again n lt) refl
 
 pub Reads-number : (w : Width) (limit : ℕ) → IsWide w limit → Reads (λ (n : ℕ). n < limit) (λ (n : ℕ). to_be_bytes w n) (number_at w)
 Reads-number w limit wide = record { takes = number_takes w limit wide; again = number_again w limit wide }
 
-pub Reads-signed : (w : Width) → IsWide w (2 ^ bits w) → Reads (λ (z : ℤ). FitsSigned w z) (λ (z : ℤ). to_be_bytes w (cast_unsigned w z)) (signed_at w)
+pub Reads-signed : (w : Width) → IsWide w (2 ^ bits w)
+    → Reads (λ (z : ℤ). FitsSigned w z) (λ (z : ℤ). to_be_bytes w (cast_unsigned w z)) (signed_at w)
 Reads-signed w wide =
-    Reads-as (λ (n : ℕ). n < 2 ^ bits w) (λ (z : ℤ). FitsSigned w z) (λ (n : ℕ). to_be_bytes w n) (λ (z : ℤ). to_be_bytes w (cast_unsigned w z)) (number_at w) (cast_signed w) (cast_unsigned w)
+    Reads-as (λ (n : ℕ). n < 2 ^ bits w) (λ (z : ℤ). FitsSigned w z) (λ (n : ℕ). to_be_bytes w n)
+    (λ (z : ℤ). to_be_bytes w (cast_unsigned w z)) (number_at w) (cast_signed w) (cast_unsigned w)
     (λ n lt. (ap (to_be_bytes w) (of_z-to_z w n lt), sfits_to_z (record { fits = lt })))
     (λ z fits. (refl, to_z-of_z w z fits, (of_z_fits w z fits).fits))
     (Reads-number w (2 ^ bits w) wide)
@@ -97,16 +108,19 @@ Reads-count = record {
 }
 
 pub Reads-list : {X : Type 0} (G : X → Type 0) (s : X → List ℕ) (r : List ℕ → Option (X × List ℕ)) → Reads G s r
-    → Reads (λ (xs : List X). (length xs < 2 ^ 15) × AllByRecursion G xs) (λ (xs : List X). count16 (length xs) ++ flat_map s xs) (list_at r)
+    → Reads (λ (xs : List X). (length xs < 2 ^ 15)
+    × AllByRecursion G xs) (λ (xs : List X). count16 (length xs) ++ flat_map s xs) (list_at r)
 Reads-list {X} G s r base = record {
   takes = λ bytes xs rest fits e.
       let a = bind_some (count_at bytes) (λ n. items_at r n.0 n.1) (xs, rest) e in
       let one = Reads-count.takes bytes a.0.0 a.0.1 fits a.1 in
       let two = items_take G s r base a.0.0 a.0.1 xs rest (rest_fits bytes (count16 a.0.0) a.0.1 one.0 fits) a.2 in
-      let parts : bytes ≡ (count16 a.0.0 ++ flat_map s xs) ++ rest = one.0 ∙ ap (λ (x : List ℕ). count16 a.0.0 ++ x) two.0 ∙ sym (append_assoc (count16 a.0.0) (flat_map s xs) rest) in
+      let parts : bytes ≡ (count16 a.0.0 ++ flat_map s xs) ++ rest =
+      one.0 ∙ ap (λ (x : List ℕ). count16 a.0.0 ++ x) two.0 ∙ sym (append_assoc (count16 a.0.0) (flat_map s xs) rest) in
       (parts ∙ ap (λ (k : ℕ). (count16 k ++ flat_map s xs) ++ rest) (sym two.1), (omega (arith, two.1, one.1), two.2));
   again = λ xs rest good.
-      ap (list_at r) (append_assoc (count16 (length xs)) (flat_map s xs) rest) ∙ rw (Reads-count.again (length xs) (flat_map s xs ++ rest) good.0) (items_again G s r base xs rest good.1);
+      ap (list_at r) (append_assoc (count16 (length xs)) (flat_map s xs) rest)
+      ∙ rw (Reads-count.again (length xs) (flat_map s xs ++ rest) good.0) (items_again G s r base xs rest good.1);
 }
 
 -- ---- texts
@@ -124,7 +138,8 @@ is_not_zero : (x : ℕ) → x ≢ 0 → is_zero x ≡ false
 is_not_zero x h = false_from (is_zero x) (λ e. h (eqb-true x 0 e))
 
 -- the bytes before the first zero byte, and what follows it
-split_at_zero : (bytes : List ℕ) (n : ℕ) → position is_zero bytes ≡ Some n → (bytes ≡ string (take n bytes) ++ drop (n + 1) bytes) × AllByRecursion (λ byte. byte ≢ 0) (take n bytes)
+split_at_zero : (bytes : List ℕ) (n : ℕ) → position is_zero bytes ≡ Some n
+    → (bytes ≡ string (take n bytes) ++ drop (n + 1) bytes) × AllByRecursion (λ byte. byte ≢ 0) (take n bytes)
 split_at_zero bytes n e =
     let p = cond_some (ltb (position_or_len is_zero bytes) (length bytes)) (position_or_len is_zero bytes) n e in
     let short : position_or_len is_zero bytes < length bytes = ltb-true _ _ p.0 in
@@ -132,10 +147,18 @@ split_at_zero bytes n e =
     let split : bytes ≡ take first bytes ++ (get_or bytes first 0 ∷ drop (first + 1) bytes) = split_at_first is_zero bytes 0 short in
     let zero_there : get_or bytes first 0 ≡ 0 = zero_found (get_or bytes first 0) (passes_at_first is_zero bytes 0 short) in
     let parts : bytes ≡ string (take first bytes) ++ drop (first + 1) bytes =
-    split ∙ ap (λ (x : ℕ). take first bytes ++ (x ∷ drop (first + 1) bytes)) zero_there ∙ sym (append_assoc (take first bytes) (0 ∷ []) (drop (first + 1) bytes)) in
+    split ∙ ap (λ (x : ℕ). take first bytes ++ (x ∷ drop (first + 1) bytes)) zero_there
+    ∙ sym (append_assoc (take first bytes) (0 ∷ []) (drop (first + 1) bytes)) in
     let none : AllByRecursion (λ byte. byte ≢ 0) (take first bytes) = recursion_from_All (λ byte. byte ≢ 0) (take first bytes)
-    (λ k d lt. let below : k < first = omega (arith, length-take first bytes) in rw (get_or-take first bytes k d below) (not_zero (get_or bytes k d) (fails_before_first is_zero bytes k d below))) in
-    subst (λ (m : ℕ). (bytes ≡ string (take m bytes) ++ drop (m + 1) bytes) × AllByRecursion (λ byte. byte ≢ 0) (take m bytes)) p.1 (parts, none)
+    (λ k d lt. let below : k < first = omega (
+      arith,
+      length-take first bytes,
+    ) in rw (get_or-take first bytes k d below)
+    (not_zero (get_or bytes k d) (fails_before_first is_zero bytes k d below))) in
+    subst (λ (m : ℕ). (bytes ≡ string (take m bytes) ++ drop (m + 1) bytes) × AllByRecursion (λ byte. byte ≢ 0) (take m bytes)) p.1 (
+      parts,
+      none,
+    )
 
 -- a text that is ended by a zero byte ends there
 zero_after : (text rest : List ℕ) → AllByRecursion (λ byte. byte ≢ 0) text → position is_zero (text ++ 0 ∷ rest) ≡ Some (length text)
@@ -152,16 +175,25 @@ pub Reads-string : Reads IsText string string_at
 unfolding string_at
 Reads-string = record {
   takes = λ bytes text rest fits e.
-      let a = bind_some (position is_zero bytes) (λ n. cond (is_utf8 (take n bytes)) (Some (take n bytes, drop (n + 1) bytes)) None) (text, rest) e in
+      let a = bind_some (position is_zero bytes) (λ n. cond (is_utf8 (take n bytes)) (Some (take n bytes, drop (n + 1) bytes)) None) (
+        text,
+        rest,
+      ) e in
       let g = cond_some (is_utf8 (take a.0 bytes)) (take a.0 bytes, drop (a.0 + 1) bytes) (text, rest) a.2 in
       let s = split_at_zero bytes a.0 a.1 in
       let good : IsText (take a.0 bytes) = record { utf8 = IsUtf8-from_is_utf8 (take a.0 bytes) g.0; no_zero = s.1 } in
       subst (λ (w : List ℕ × List ℕ). (bytes ≡ string w.0 ++ w.1) × IsText w.0) g.1 (s.0, good);
   again = λ text rest good.
       let e : string text ++ rest ≡ text ++ 0 ∷ rest = append_assoc text (0 ∷ []) rest in
-      let dropped : drop (length text + 1) (text ++ 0 ∷ rest) ≡ rest = ap (drop (length text + 1)) (sym e) ∙ drop_at (string text) rest (length text + 1) (length-append text (0 ∷ [])) in
+      let dropped : drop (length text + 1) (text ++ 0 ∷ rest) ≡ rest =
+      ap (drop (length text + 1)) (sym e) ∙ drop_at (string text) rest (length text + 1) (length-append text (0 ∷ [])) in
       let read : string_at (text ++ 0 ∷ rest) ≡ Some (text, rest) =
-      rw (zero_after text rest good.no_zero, take_at text (0 ∷ rest) (length text) refl, is_utf8-from_IsUtf8 text good.utf8, dropped) refl in
+      rw (
+        zero_after text rest good.no_zero,
+        take_at text (0 ∷ rest) (length text) refl,
+        is_utf8-from_IsUtf8 text good.utf8,
+        dropped,
+      ) refl in
       ap string_at e ∙ read;
 }
 
@@ -174,14 +206,19 @@ chosen false x y z e = inr (refl, e)
 pub eqb-apart : (a b : ℕ) → (a ≡ b → ⊥) → eqb a b ≡ false
 eqb-apart a b h = false_from (eqb a b) (λ e. h (eqb-true a b e))
 
-value_taken : (n : ℕ) (bytes : List ℕ) (value : Option (List ℕ)) (rest : List ℕ) → value_behind (n, bytes) ≡ Some (value, rest) → (count32 n ++ bytes ≡ parameter_value value ++ rest) × IsParameterValue value
+value_taken : (n : ℕ) (bytes : List ℕ) (value : Option (List ℕ)) (rest : List ℕ) → value_behind (n, bytes) ≡ Some (value, rest)
+    → (count32 n ++ bytes ≡ parameter_value value ++ rest) × IsParameterValue value
 value_taken n bytes value rest e =
     let null : Option (List ℕ) × List ℕ = (None, bytes) in
     let some : Option (List ℕ) × List ℕ = (Some (take n bytes), drop n bytes) in
-    elim (chosen (eqb n 4294967295) (Some null) (cond (ltb n (2 ^ 31)) (cond (ltb (length bytes) n) None (Some some)) None) (Some (value, rest)) e) [
+    elim (chosen (eqb n 4294967295) (Some null) (cond (ltb n (2 ^ 31)) (cond (ltb (length bytes) n) None (Some some)) None) (Some (
+      value,
+      rest,
+    )) e) [
       | inl h ↦
           let is : n ≡ 4294967295 = eqb-true _ _ h.0 in
-          subst (λ (w : Option (List ℕ) × List ℕ). (count32 n ++ bytes ≡ parameter_value w.0 ++ w.1) × IsParameterValue w.0) (same_Some null (value, rest) h.1) (ap (λ (k : ℕ). count32 k ++ bytes) is, tt)
+          subst (λ (w : Option (List ℕ) × List ℕ). (count32 n ++ bytes ≡ parameter_value w.0 ++ w.1)
+          × IsParameterValue w.0) (same_Some null (value, rest) h.1) (ap (λ (k : ℕ). count32 k ++ bytes) is, tt)
       | inr h ↦
           elim (chosen (ltb n (2 ^ 31)) (cond (ltb (length bytes) n) None (Some some)) None (Some (value, rest)) h.1) [
             | inl k ↦
@@ -190,25 +227,32 @@ value_taken n bytes value rest e =
                 let len : length (take n bytes) ≡ n = omega (arith, length-take n bytes) in
                 let small : n < 2 ^ 31 = ltb-true _ _ k.0 in
                 let parts : count32 n ++ bytes ≡ (count32 (length (take n bytes)) ++ take n bytes) ++ drop n bytes =
-                ap (λ (x : List ℕ). count32 n ++ x) (sym (take-append-drop n bytes)) ∙ sym (append_assoc (count32 n) (take n bytes) (drop n bytes)) ∙ ap (λ (m : ℕ). (count32 m ++ take n bytes) ++ drop n bytes) (sym len) in
+                ap (λ (x : List ℕ). count32 n ++ x) (sym (take-append-drop n bytes))
+                ∙ sym (append_assoc (count32 n) (take n bytes) (drop n bytes))
+                ∙ ap (λ (m : ℕ). (count32 m ++ take n bytes) ++ drop n bytes) (sym len) in
                 let fits : length (take n bytes) < 2 ^ 31 = omega arith in
-                subst (λ (w : Option (List ℕ) × List ℕ). (count32 n ++ bytes ≡ parameter_value w.0 ++ w.1) × IsParameterValue w.0) g.1 (parts, fits)
+                subst (λ (w : Option (List ℕ) × List ℕ). (count32 n ++ bytes ≡ parameter_value w.0 ++ w.1)
+                × IsParameterValue w.0) g.1 (parts, fits)
             | inr k ↦ absurd (none-some (value, rest) k.1)
           ]
     ]
 
-value_again : (value : Option (List ℕ)) (rest : List ℕ) → IsParameterValue value → value_at (parameter_value value ++ rest) ≡ Some (value, rest)
+value_again : (value : Option (List ℕ)) (rest : List ℕ) → IsParameterValue value
+    → value_at (parameter_value value ++ rest) ≡ Some (value, rest)
 unfolding value_at
 value_again None rest good =
-    let e : number_at w32 (count32 4294967295 ++ rest) ≡ Some (4294967295, rest) = number_again w32 (2 ^ 32) wide32 4294967295 rest (omega arith) in
+    let e : number_at w32 (count32 4294967295 ++ rest) ≡ Some (4294967295, rest) =
+    number_again w32 (2 ^ 32) wide32 4294967295 rest (omega arith) in
     ap (λ (o : Option (ℕ × List ℕ)). o >>= value_behind) e
 value_again (Some bytes) rest good =
     let n = length bytes in
-    let e : number_at w32 (count32 n ++ (bytes ++ rest)) ≡ Some (n, bytes ++ rest) = number_again w32 (2 ^ 32) wide32 n (bytes ++ rest) (omega (arith, good)) in
+    let e : number_at w32 (count32 n ++ (bytes ++ rest)) ≡ Some (n, bytes ++ rest) =
+    number_again w32 (2 ^ 32) wide32 n (bytes ++ rest) (omega (arith, good)) in
     let other : eqb n 4294967295 ≡ false = eqb-apart n 4294967295 (λ same. omega (arith, good, same)) in
     let small : ltb n (2 ^ 31) ≡ true = lt-ltb n (2 ^ 31) good in
     let long : ltb (length (bytes ++ rest)) n ≡ false = le-ltb _ _ (omega (arith, length-append bytes rest)) in
-    let behind : value_behind (n, bytes ++ rest) ≡ Some (Some bytes, rest) = rw (other, small, long, take_at bytes rest n refl, drop_at bytes rest n refl) refl in
+    let behind : value_behind (n, bytes ++ rest) ≡ Some (Some bytes, rest) =
+    rw (other, small, long, take_at bytes rest n refl, drop_at bytes rest n refl) refl in
     ap value_at (append_assoc (count32 n) bytes rest) ∙ ap (λ (o : Option (ℕ × List ℕ)). o >>= value_behind) e ∙ behind
 
 pub Reads-value : Reads IsParameterValue parameter_value value_at
@@ -227,7 +271,8 @@ Reads-value = record {
 pub Reads-byte : Reads (λ (b : ℕ). Unit {0}) (λ (b : ℕ). b ∷ []) byte_at
 Reads-byte = record { takes = byte_takes; again = λ b rest good. refl }
   where
-    byte_takes : (bytes : List ℕ) (b : ℕ) (rest : List ℕ) → IsBytes bytes → byte_at bytes ≡ Some (b, rest) → (bytes ≡ (b ∷ []) ++ rest) × Unit {0}
+    byte_takes : (bytes : List ℕ) (b : ℕ) (rest : List ℕ) → IsBytes bytes → byte_at bytes ≡ Some (b, rest)
+        → (bytes ≡ (b ∷ []) ++ rest) × Unit {0}
     byte_takes [] b rest fits e = absurd (none-some (b, rest) e)
     byte_takes (x ∷ bytes) b rest fits e =
         let made : ℕ × List ℕ = (x, bytes) in
@@ -253,7 +298,8 @@ pair_bytes pair = string pair.0 ++ string pair.1
 abbrev pub parameters_bytes : List (List ℕ × List ℕ) → List ℕ
 parameters_bytes pairs = flat_map pair_bytes pairs ++ 0 ∷ []
 
-Reads-pair : Reads (λ (p : List ℕ × List ℕ). IsText p.0 × IsText p.1) (λ (p : List ℕ × List ℕ). string p.0 ++ string p.1) (both_at string_at string_at)
+Reads-pair : Reads (λ (p : List ℕ × List ℕ). IsText p.0
+    × IsText p.1) (λ (p : List ℕ × List ℕ). string p.0 ++ string p.1) (both_at string_at string_at)
 Reads-pair = Reads-both IsText IsText string string string_at string_at Reads-string Reads-string
 
 zero_cases : (bytes : List ℕ) → ((rest : List ℕ) × (after_zero bytes ≡ Some rest) × (bytes ≡ 0 ∷ rest)) ⊎ (after_zero bytes ≡ None)
@@ -269,7 +315,8 @@ name_in_front (suc b ∷ name) more named none = refl
 named_from : (bytes name more : List ℕ) → bytes ≡ string name ++ more → after_zero bytes ≡ None → name ≢ []
 named_from bytes name more e ahead = λ empty. none-some more (sym ahead ∙ ap after_zero (e ∙ ap (λ (x : List ℕ). string x ++ more) empty))
 
-parameters_take : (n : ℕ) (bytes : List ℕ) (ps : List (List ℕ × List ℕ)) (rest : List ℕ) → IsBytes bytes → parameters_at n bytes ≡ Some (ps, rest) → (bytes ≡ parameters_bytes ps ++ rest) × AllByRecursion IsParameter ps
+parameters_take : (n : ℕ) (bytes : List ℕ) (ps : List (List ℕ × List ℕ)) (rest : List ℕ) → IsBytes bytes
+    → parameters_at n bytes ≡ Some (ps, rest) → (bytes ≡ parameters_bytes ps ++ rest) × AllByRecursion IsParameter ps
 unfolding parameters_at
 parameters_take zero bytes ps rest fits e = absurd (none-some (ps, rest) e)
 parameters_take (suc n) bytes ps rest fits e =
@@ -277,21 +324,30 @@ parameters_take (suc n) bytes ps rest fits e =
       | inl h ↦
           let read : Some ([], h.0) ≡ Some (ps, rest) = rw h.1 at e in
           let made : List (List ℕ × List ℕ) × List ℕ = ([], h.0) in
-          subst (λ (w : List (List ℕ × List ℕ) × List ℕ). (bytes ≡ parameters_bytes w.0 ++ w.1) × AllByRecursion IsParameter w.0) (same_Some made (ps, rest) read) (h.2, tt)
+          subst (λ (w : List (List ℕ × List ℕ) × List ℕ). (bytes ≡ parameters_bytes w.0 ++ w.1)
+          × AllByRecursion IsParameter w.0) (same_Some made (ps, rest) read) (h.2, tt)
       | inr ahead ↦
-          let read : (both_at string_at string_at bytes >>= λ x. parameters_at n x.1 >>= λ xs. Some (x.0 ∷ xs.0, xs.1)) ≡ Some (ps, rest) = rw ahead at e in
-          let a = bind_some (both_at string_at string_at bytes) (λ x. parameters_at n x.1 >>= λ xs. Some (x.0 ∷ xs.0, xs.1)) (ps, rest) read in
+          let read : (both_at string_at string_at bytes >>= λ x. parameters_at n x.1 >>= λ xs. Some (x.0 ∷ xs.0, xs.1)) ≡ Some (ps, rest) =
+          rw ahead at e in
+          let a = bind_some (both_at string_at string_at bytes) (λ x. parameters_at n x.1 >>= λ xs. Some (x.0 ∷ xs.0, xs.1)) (
+            ps,
+            rest,
+          ) read in
           let b = bind_some (parameters_at n a.0.1) (λ xs. Some (a.0.0 ∷ xs.0, xs.1)) (ps, rest) a.2 in
           let one = Reads-pair.takes bytes a.0.0 a.0.1 fits a.1 in
           let others = parameters_take n a.0.1 b.0.0 b.0.1 (rest_fits bytes (pair_bytes a.0.0) a.0.1 one.0 fits) b.1 in
-          let parts : bytes ≡ parameters_bytes (a.0.0 ∷ b.0.0) ++ b.0.1 = one.0 ∙ ap (λ (x : List ℕ). pair_bytes a.0.0 ++ x) others.0 ∙ simp append_assoc in
-          let named : a.0.0.0 ≢ [] = named_from bytes a.0.0.0 (string a.0.0.1 ++ a.0.1) (one.0 ∙ append_assoc (string a.0.0.0) (string a.0.0.1) a.0.1) ahead in
+          let parts : bytes ≡ parameters_bytes (a.0.0 ∷ b.0.0) ++ b.0.1 =
+          one.0 ∙ ap (λ (x : List ℕ). pair_bytes a.0.0 ++ x) others.0 ∙ simp append_assoc in
+          let named : a.0.0.0 ≢ [] = named_from bytes a.0.0.0 (string a.0.0.1 ++ a.0.1) (one.0
+          ∙ append_assoc (string a.0.0.0) (string a.0.0.1) a.0.1) ahead in
           let good : IsParameter a.0.0 = record { name = one.1.0; named = named; value = one.1.1 } in
           let made : List (List ℕ × List ℕ) × List ℕ = (a.0.0 ∷ b.0.0, b.0.1) in
-          subst (λ (w : List (List ℕ × List ℕ) × List ℕ). (bytes ≡ parameters_bytes w.0 ++ w.1) × AllByRecursion IsParameter w.0) (same_Some made (ps, rest) b.2) (parts, (good, others.1))
+          subst (λ (w : List (List ℕ × List ℕ) × List ℕ). (bytes ≡ parameters_bytes w.0 ++ w.1)
+          × AllByRecursion IsParameter w.0) (same_Some made (ps, rest) b.2) (parts, (good, others.1))
     ]
 
-parameters_again : (ps : List (List ℕ × List ℕ)) (n : ℕ) (rest : List ℕ) → length ps < n → AllByRecursion IsParameter ps → parameters_at n (parameters_bytes ps ++ rest) ≡ Some (ps, rest)
+parameters_again : (ps : List (List ℕ × List ℕ)) (n : ℕ) (rest : List ℕ) → length ps < n → AllByRecursion IsParameter ps
+    → parameters_at n (parameters_bytes ps ++ rest) ≡ Some (ps, rest)
 unfolding parameters_at
 parameters_again [] zero rest lt good = absurd (omega arith)
 parameters_again [] (suc n) rest lt good = refl
@@ -299,15 +355,32 @@ parameters_again (p ∷ ps) zero rest lt good = absurd (omega arith)
 parameters_again (p ∷ ps) (suc n) rest lt good =
     let more = parameters_bytes ps ++ rest in
     let regrouped : parameters_bytes (p ∷ ps) ++ rest ≡ pair_bytes p ++ more = simp append_assoc in
-    let ahead : after_zero (pair_bytes p ++ more) ≡ None = ap after_zero (append_assoc (string p.0) (string p.1) more) ∙ name_in_front p.0 (string p.1 ++ more) good.0.named good.0.name.no_zero in
-    ap (parameters_at (suc n)) regrouped ∙ rw (ahead, Reads-pair.again p more (good.0.name, good.0.value), parameters_again ps n rest (omega arith) good.1) refl
+    let ahead : after_zero (pair_bytes p ++ more) ≡ None =
+    ap after_zero (append_assoc (string p.0) (string p.1) more)
+    ∙ name_in_front p.0 (string p.1 ++ more) good.0.named good.0.name.no_zero in
+    ap (parameters_at (suc n)) regrouped ∙ rw (
+      ahead,
+      Reads-pair.again p more (good.0.name, good.0.value),
+      parameters_again ps n rest (omega arith) good.1,
+    ) refl
 
 fewer_pairs : (ps : List (List ℕ × List ℕ)) → length ps ≤ length (flat_map pair_bytes ps)
 fewer_pairs [] = omega arith
-fewer_pairs (p ∷ ps) = omega (arith, fewer_pairs ps, length-append (pair_bytes p) (flat_map pair_bytes ps), length-append (string p.0) (string p.1), length-append p.0 (0 ∷ []))
+fewer_pairs (p ∷ ps) = omega (
+  arith,
+  fewer_pairs ps,
+  length-append (pair_bytes p) (flat_map pair_bytes ps),
+  length-append (string p.0) (string p.1),
+  length-append p.0 (0 ∷ []),
+)
 
 pub Reads-parameters : Reads (λ (ps : List (List ℕ × List ℕ)). AllByRecursion IsParameter ps) parameters_bytes all_parameters_at
 Reads-parameters = record {
   takes = λ bytes ps rest fits e. parameters_take (length bytes) bytes ps rest fits e;
-  again = λ ps rest good. parameters_again ps (length (parameters_bytes ps ++ rest)) rest (omega (arith, fewer_pairs ps, length-append (parameters_bytes ps) rest, length-append (flat_map pair_bytes ps) (0 ∷ []))) good;
+  again = λ ps rest good. parameters_again ps (length (parameters_bytes ps ++ rest)) rest (omega (
+    arith,
+    fewer_pairs ps,
+    length-append (parameters_bytes ps) rest,
+    length-append (flat_map pair_bytes ps) (0 ∷ []),
+  )) good;
 }

@@ -37,47 +37,58 @@ bytes_of_each (b ∷ bytes) h zero = h.0
 bytes_of_each (b ∷ bytes) h (suc i) = bytes_of_each bytes h.1 i
 
 -- a frame carries its message behind the kind that stands in it
-pub inside : (awaiting : Bool) (frame : List ℕ) (m : PgWireFrontendMessage) → IsFrame awaiting frame m → Carries awaiting (kind_of awaiting frame) (body_of awaiting frame) m
+pub inside : (awaiting : Bool) (frame : List ℕ) (m : PgWireFrontendMessage) → IsFrame awaiting frame m
+    → Carries awaiting (kind_of awaiting frame) (body_of awaiting frame) m
 inside true frame m h =
-    let kind : kind_of true frame ≡ h.kind = ap (kind_of true) h.bytes ∙ from_be_bytes-to_be_bytes_4 h.kind (code_fits h.kind h.body m h.carries) in
+    let kind : kind_of true frame ≡ h.kind = ap (kind_of true) h.bytes
+    ∙ from_be_bytes-to_be_bytes_4 h.kind (code_fits h.kind h.body m h.carries) in
     let body : body_of true frame ≡ h.body = ap (body_of true) h.bytes in
-    subst (λ (k : ℕ). Carries true k (body_of true frame) m) (sym kind) (subst (λ (b : List ℕ). Carries true h.kind b m) (sym body) h.carries)
+    subst (λ (k : ℕ). Carries true k (body_of true frame) m) (sym kind)
+    (subst (λ (b : List ℕ). Carries true h.kind b m) (sym body) h.carries)
 inside false frame m h =
     let kind : kind_of false frame ≡ h.kind = ap (kind_of false) h.bytes in
     let body : body_of false frame ≡ h.body = ap (body_of false) h.bytes in
-    subst (λ (k : ℕ). Carries false k (body_of false frame) m) (sym kind) (subst (λ (b : List ℕ). Carries false h.kind b m) (sym body) h.carries)
+    subst (λ (k : ℕ). Carries false k (body_of false frame) m) (sym kind)
+    (subst (λ (b : List ℕ). Carries false h.kind b m) (sym body) h.carries)
 
 -- bytes that tell their own length by a good header
 pub record IsWhole (awaiting : Bool) (frame : List ℕ) : Type 0 where
   pub told : told_len awaiting frame ≡ length frame
   pub good : IsGoodHeader awaiting frame
 
-layout : (awaiting : Bool) (frame : List ℕ) → IsWhole awaiting frame → IsBytes frame → frame ≡ frame_bytes awaiting (kind_of awaiting frame) (body_of awaiting frame)
+layout : (awaiting : Bool) (frame : List ℕ) → IsWhole awaiting frame → IsBytes frame
+    → frame ≡ frame_bytes awaiting (kind_of awaiting frame) (body_of awaiting frame)
 layout true frame whole fits =
     let long : 8 ≤ length frame = omega (arith, whole.told, whole.good.0) in
     let len : length (take 4 frame) ≡ 4 = length-take-le 4 frame (omega arith) in
     let number : 8 + length (drop 8 frame) ≡ from_be_bytes w32 (take 4 frame) = omega (arith, whole.told, length-drop 8 frame) in
-    let header : count32 (8 + length (drop 8 frame)) ≡ take 4 frame = be_bytes_4 (take 4 frame) (8 + length (drop 8 frame)) len (IsBytes-take 4 frame fits) number in
+    let header : count32 (8 + length (drop 8 frame)) ≡ take 4 frame =
+    be_bytes_4 (take 4 frame) (8 + length (drop 8 frame)) len (IsBytes-take 4 frame fits) number in
     let behind = drop 4 frame in
     let four : length (take 4 behind) ≡ 4 = length-take-le 4 behind (omega (arith, length-drop 4 frame)) in
-    let code : count32 (kind_of true frame) ≡ take 4 behind = wide32.back (take 4 behind) four (IsBytes-take 4 behind (IsBytes-drop 4 frame fits)) in
+    let code : count32 (kind_of true frame) ≡ take 4 behind =
+    wide32.back (take 4 behind) four (IsBytes-take 4 behind (IsBytes-drop 4 frame fits)) in
     let parts : frame ≡ (take 4 frame ++ take 4 behind) ++ drop 8 frame =
     sym (take-append-drop 4 frame) ∙ ap (λ (x : List ℕ). take 4 frame ++ x) (sym (take-append-drop 4 behind))
-    ∙ sym (append_assoc (take 4 frame) (take 4 behind) (drop 4 behind)) ∙ ap (λ (x : List ℕ). (take 4 frame ++ take 4 behind) ++ x) (drop-drop 4 4 frame) in
-    parts ∙ ap (λ (x : List ℕ). (x ++ take 4 behind) ++ drop 8 frame) (sym header) ∙ ap (λ (x : List ℕ). (count32 (8 + length (drop 8 frame)) ++ x) ++ drop 8 frame) (sym code)
+    ∙ sym (append_assoc (take 4 frame) (take 4 behind) (drop 4 behind))
+    ∙ ap (λ (x : List ℕ). (take 4 frame ++ take 4 behind) ++ x) (drop-drop 4 4 frame) in
+    parts ∙ ap (λ (x : List ℕ). (x ++ take 4 behind) ++ drop 8 frame) (sym header)
+    ∙ ap (λ (x : List ℕ). (count32 (8 + length (drop 8 frame)) ++ x) ++ drop 8 frame) (sym code)
 layout false [] whole fits = absurd (omega (arith, whole.told, whole.good.1))
 layout false (b ∷ rest) whole fits =
     let long : 4 ≤ length rest = omega (arith, whole.told, whole.good.1) in
     let len : length (take 4 rest) ≡ 4 = length-take-le 4 rest long in
     let number : 4 + length (drop 4 rest) ≡ from_be_bytes w32 (take 4 rest) = omega (arith, whole.told, length-drop 4 rest) in
-    let header : count32 (4 + length (drop 4 rest)) ≡ take 4 rest = be_bytes_4 (take 4 rest) (4 + length (drop 4 rest)) len (IsBytes-take 4 rest (λ i. fits (suc i))) number in
+    let header : count32 (4 + length (drop 4 rest)) ≡ take 4 rest =
+    be_bytes_4 (take 4 rest) (4 + length (drop 4 rest)) len (IsBytes-take 4 rest (λ i. fits (suc i))) number in
     ap (λ (x : List ℕ). b ∷ x) (sym (take-append-drop 4 rest) ∙ ap (λ (x : List ℕ). x ++ drop 4 rest) (sym header))
 
 within : (awaiting : Bool) (frame : List ℕ) → IsWhole awaiting frame → length frame ≤ most_bytes awaiting
 within true frame whole = omega (arith, whole.told, whole.good.1)
 within false frame whole = omega (arith, whole.told, whole.good.2)
 
-pub outside : (awaiting : Bool) (frame : List ℕ) (m : PgWireFrontendMessage) → IsWhole awaiting frame → IsBytes frame → Carries awaiting (kind_of awaiting frame) (body_of awaiting frame) m → IsFrame awaiting frame m
+pub outside : (awaiting : Bool) (frame : List ℕ) (m : PgWireFrontendMessage) → IsWhole awaiting frame → IsBytes frame
+    → Carries awaiting (kind_of awaiting frame) (body_of awaiting frame) m → IsFrame awaiting frame m
 outside awaiting frame m whole fits carried = record {
   kind = kind_of awaiting frame;
   body = body_of awaiting frame;
@@ -98,13 +109,15 @@ pub record HasWhole (awaiting : Bool) (bytes : List ℕ) (len : ℕ) : Type 0 wh
 pub whole_in_front : (awaiting : Bool) (bytes : List ℕ) (len : ℕ) → HasWhole awaiting bytes len → IsWhole awaiting (take len bytes)
 whole_in_front true bytes len h =
     let size : length (take len bytes) ≡ len = length-take-le len bytes h.there in
-    let same : told_len true (take len bytes) ≡ told_len true bytes = ap (from_be_bytes w32) (take-take 4 len bytes (omega (arith, h.told, h.good.0))) in
+    let same : told_len true (take len bytes) ≡ told_len true bytes =
+    ap (from_be_bytes w32) (take-take 4 len bytes (omega (arith, h.told, h.good.0))) in
     record { told = same ∙ sym h.told ∙ sym size; good = subst (λ (n : ℕ). (8 ≤ n) × (n ≤ 10000)) (sym same) h.good }
 whole_in_front false [] len h = absurd (omega (arith, h.told, h.there, h.good.1))
 whole_in_front false (b ∷ bytes) zero h = absurd (omega (arith, h.told, h.good.1))
 whole_in_front false (b ∷ bytes) (suc len) h =
     let size : length (take len bytes) ≡ len = length-take-le len bytes (omega (arith, h.there)) in
-    let same : told_len false (b ∷ take len bytes) ≡ told_len false (b ∷ bytes) = ap (λ (x : List ℕ). 1 + from_be_bytes w32 x) (take-take 4 len bytes (omega (arith, h.told, h.good.1))) in
+    let same : told_len false (b ∷ take len bytes) ≡ told_len false (b ∷ bytes) =
+    ap (λ (x : List ℕ). 1 + from_be_bytes w32 x) (take-take 4 len bytes (omega (arith, h.told, h.good.1))) in
     record {
       told = same ∙ sym h.told ∙ omega (arith, size);
       good = (h.good.0, omega (arith, same, h.good.1), omega (arith, same, h.good.2));
@@ -115,10 +128,17 @@ header_there true bytes len h = omega (arith, h.told, h.there, h.good.0)
 header_there false bytes len h = omega (arith, h.told, h.there, h.good.1)
 
 pub frame_bad : (awaiting : Bool) (bytes : List ℕ) (len : ℕ) → HasWhole awaiting bytes len
-    → ((m : PgWireFrontendMessage) → Carries awaiting (kind_of awaiting (take len bytes)) (body_of awaiting (take len bytes)) m → ⊥) → IsBad awaiting bytes
+    → ((m : PgWireFrontendMessage) → Carries awaiting (kind_of awaiting (take len bytes)) (body_of awaiting (take len bytes)) m → ⊥)
+    → IsBad awaiting bytes
 frame_bad awaiting bytes len h none =
-    let at = subst (λ (n : ℕ). n ≤ length bytes) h.told h.there in
-    (header_there awaiting bytes len h, inr (h.good, at, λ m f. none m (inside awaiting (take len bytes) m (subst (λ (n : ℕ). IsFrame awaiting (take n bytes) m) (sym h.told) f))))
+    let at = subst (λ (n : ℕ). n ≤ length bytes) h.told h.there in (
+      header_there awaiting bytes len h,
+      inr (
+        h.good,
+        at,
+        λ m f. none m (inside awaiting (take len bytes) m (subst (λ (n : ℕ). IsFrame awaiting (take n bytes) m) (sym h.told) f)),
+      ),
+    )
 
 -- ---- what reading gives, said of the frame in front
 
@@ -131,9 +151,11 @@ body_fits true frame fits = IsBytes-drop 8 frame fits
 body_fits false frame fits = IsBytes-drop 5 frame fits
 
 -- the message of a whole frame is read by its kind
-pub frame_read : (awaiting : Bool) (frame : List ℕ) (m : PgWireFrontendMessage) → IsWhole awaiting frame → IsBytes frame → message_at awaiting (kind_of awaiting frame) (body_of awaiting frame) ≡ Some m → IsFrame awaiting frame m
+pub frame_read : (awaiting : Bool) (frame : List ℕ) (m : PgWireFrontendMessage) → IsWhole awaiting frame → IsBytes frame
+    → message_at awaiting (kind_of awaiting frame) (body_of awaiting frame) ≡ Some m → IsFrame awaiting frame m
 frame_read awaiting frame m whole fits e =
-    outside awaiting frame m whole fits (read_is_carried awaiting (kind_of awaiting frame) (body_of awaiting frame) m (kind_fits awaiting frame fits) (body_fits awaiting frame fits) e)
+    outside awaiting frame m whole fits (read_is_carried awaiting (kind_of awaiting frame) (body_of awaiting frame) m
+    (kind_fits awaiting frame fits) (body_fits awaiting frame fits) e)
 
 -- a kind and a body that stand in the frame of this length
 pub record StandsIn (awaiting : Bool) (bytes : List ℕ) (len kind : ℕ) (body : List ℕ) : Type 0 where
@@ -141,18 +163,24 @@ pub record StandsIn (awaiting : Bool) (bytes : List ℕ) (len kind : ℕ) (body 
   pub kind_is : kind ≡ kind_of awaiting (take len bytes)
   pub body_is : body ≡ body_of awaiting (take len bytes)
 
-read_there : {awaiting : Bool} {bytes : List ℕ} {len kind : ℕ} {body : List ℕ} → StandsIn awaiting bytes len kind body → message_at awaiting kind body ≡ message_at awaiting (kind_of awaiting (take len bytes)) (body_of awaiting (take len bytes))
+read_there : {awaiting : Bool} {bytes : List ℕ} {len kind : ℕ} {body : List ℕ} → StandsIn awaiting bytes len kind body
+    → message_at awaiting kind body ≡ message_at awaiting (kind_of awaiting (take len bytes)) (body_of awaiting (take len bytes))
 read_there {awaiting} h = λ i. message_at awaiting (h.kind_is i) (h.body_is i)
 
-pub message_found : (awaiting : Bool) (bytes : List ℕ) (len kind : ℕ) (body : List ℕ) (m : PgWireFrontendMessage) → StandsIn awaiting bytes len kind body → IsBytes bytes
+pub message_found : (awaiting : Bool) (bytes : List ℕ) (len kind : ℕ) (body : List ℕ) (m : PgWireFrontendMessage)
+    → StandsIn awaiting bytes len kind body → IsBytes bytes
     → message_at awaiting kind body ≡ Some m → IsFrame awaiting (take len bytes) m
-message_found awaiting bytes len kind body m h fits e = frame_read awaiting (take len bytes) m (whole_in_front awaiting bytes len h.whole) (IsBytes-take len bytes fits) (sym (read_there h) ∙ e)
+message_found awaiting bytes len kind body m h fits e =
+    frame_read awaiting (take len bytes) m (whole_in_front awaiting bytes len h.whole) (IsBytes-take len bytes fits) (sym (read_there h)
+    ∙ e)
 
-pub message_bad : {T : Type 0} (awaiting : Bool) (bytes : List ℕ) (len kind : ℕ) (body : List ℕ) (e : FrameError) → StandsIn awaiting bytes len kind body → Gives {X = PgWireFrontendMessage} (λ m. m) (Err e) (message_at awaiting kind body)
+pub message_bad : {T : Type 0} (awaiting : Bool) (bytes : List ℕ) (len kind : ℕ) (body : List ℕ) (e : FrameError)
+    → StandsIn awaiting bytes len kind body → Gives {X = PgWireFrontendMessage} (λ m. m) (Err e) (message_at awaiting kind body)
     → IsErrOf {T = T} (Err e) errors.Bad → IsBad awaiting bytes
 message_bad awaiting bytes len kind body errors.NoMemory h given err = absurd cc
 message_bad awaiting bytes len kind body errors.Bad h given err =
-    frame_bad awaiting bytes len h.whole (nothing_carried awaiting (kind_of awaiting (take len bytes)) (body_of awaiting (take len bytes)) (sym (read_there h) ∙ given))
+    frame_bad awaiting bytes len h.whole (nothing_carried awaiting (kind_of awaiting (take len bytes)) (body_of awaiting (take len bytes))
+    (sym (read_there h) ∙ given))
 
 -- the same error in a result of another type
 pub same_error : {T U : Type 0} (a b : FrameError) → IsErrOf {T = T} (Err a) b → IsErrOf {T = U} (Err a) b

@@ -60,7 +60,8 @@ Reads-cancel =
     (λ x. record { pid = x.0; secret_key = x.1 }) (λ (m : CancelRequest). (m.pid, m.secret_key))
     (λ x good. (refl, record { pid = good.0; secret_key = good.1 }))
     (λ m good. (refl, refl, (good.pid, good.secret_key)))
-    (Reads-both (λ (z : ℤ). FitsSigned w32 z) (λ (k : List ℕ). length k ≡ 4) (λ (z : ℤ). int32 z) (λ (k : List ℕ). k) (signed_at w32) four_at Reads-limit Reads-four)
+    (Reads-both (λ (z : ℤ). FitsSigned w32 z) (λ (k : List ℕ). length k
+    ≡ 4) (λ (z : ℤ). int32 z) (λ (k : List ℕ). k) (signed_at w32) four_at Reads-limit Reads-four)
 
 pub Reads-query : Reads IsQuery query_body query_at
 unfolding query_at
@@ -102,11 +103,20 @@ pub Reads-parse : Reads IsParse parse_body parse_at
 unfolding parse_at
 Reads-parse =
     Reads-as (λ (x : (List ℕ × List ℕ) × List ℕ). AreTexts x.0 × AreListed (λ (n : ℕ). n < 2 ^ 32) x.1) IsParse
-    (λ (x : (List ℕ × List ℕ) × List ℕ). texts x.0 ++ listed (λ (n : ℕ). count32 n) x.1) parse_body (both_at (both_at string_at string_at) (list_at (number_at w32)))
+    (λ (x : (List ℕ × List ℕ) × List ℕ). texts x.0 ++ listed (λ (n : ℕ). count32 n) x.1) parse_body
+    (both_at (both_at string_at string_at) (list_at (number_at w32)))
     (λ x. record { name = x.0.0; query = x.0.1; type_oids = x.1 }) (λ (m : Parse). ((m.name, m.query), m.type_oids))
-    (λ x good. (append_assoc (texts x.0) (count16 (length x.1)) (flat_map count32 x.1), record { name = good.0.0; query = good.0.1; count = good.1.0; type_oids = good.1.1 }))
-    (λ m good. (append_assoc (string m.name ++ string m.query) (count16 (length m.type_oids)) (flat_map count32 m.type_oids), refl, ((good.name, good.query), (good.count, good.type_oids))))
-    (Reads-both AreTexts (AreListed (λ (n : ℕ). n < 2 ^ 32)) texts (listed (λ (n : ℕ). count32 n)) (both_at string_at string_at) (list_at (number_at w32)) Reads-texts Reads-oids)
+    (λ x good. (
+      append_assoc (texts x.0) (count16 (length x.1)) (flat_map count32 x.1),
+      record { name = good.0.0; query = good.0.1; count = good.1.0; type_oids = good.1.1 },
+    ))
+    (λ m good. (
+      append_assoc (string m.name ++ string m.query) (count16 (length m.type_oids)) (flat_map count32 m.type_oids),
+      refl,
+      ((good.name, good.query), (good.count, good.type_oids)),
+    ))
+    (Reads-both AreTexts (AreListed (λ (n : ℕ). n < 2 ^ 32)) texts (listed (λ (n : ℕ). count32 n)) (both_at string_at string_at)
+    (list_at (number_at w32)) Reads-texts Reads-oids)
 
 pub Reads-execute : Reads IsExecute execute_body execute_at
 unfolding execute_at
@@ -142,17 +152,42 @@ Reads-bind =
     Reads-as (λ (x : (((List ℕ × List ℕ) × List ℤ) × List (Option (List ℕ))) × List ℤ). Most x.0 × Formats x.1) IsBind
     (λ (x : (((List ℕ × List ℕ) × List ℤ) × List (Option (List ℕ))) × List ℤ). most x.0 ++ formats x.1) bind_body
     (both_at (both_at (both_at (both_at string_at string_at) (list_at (signed_at w16))) (list_at value_at)) (list_at (signed_at w16)))
-    (λ x. record { portal_name = x.0.0.0.0; statement_name = x.0.0.0.1; parameter_format_codes = x.0.0.1; parameters = x.0.1; result_column_format_codes = x.1 })
+    (λ x. record {
+      portal_name = x.0.0.0.0;
+      statement_name = x.0.0.0.1;
+      parameter_format_codes = x.0.0.1;
+      parameters = x.0.1;
+      result_column_format_codes = x.1;
+    })
     (λ (m : Bind). ((((m.portal_name, m.statement_name), m.parameter_format_codes), m.parameters), m.result_column_format_codes))
     (λ x good. (
       ap (λ (w : List ℕ). w ++ formats x.1) (append_assoc (front x.0.0) (count16 (length x.0.1)) (flat_map parameter_value x.0.1)),
-      record { portal_name = good.0.0.0.0; statement_name = good.0.0.0.1; parameter_format_codes = record { count = good.0.0.1.0; each = good.0.0.1.1 }; count = good.0.1.0; parameters = good.0.1.1; result_column_format_codes = record { count = good.1.0; each = good.1.1 } },
+      record {
+        portal_name = good.0.0.0.0;
+        statement_name = good.0.0.0.1;
+        parameter_format_codes = record { count = good.0.0.1.0; each = good.0.0.1.1 };
+        count = good.0.1.0;
+        parameters = good.0.1.1;
+        result_column_format_codes = record { count = good.1.0; each = good.1.1 };
+      },
     ))
     (λ m good. (
-      ap (λ (w : List ℕ). w ++ formats m.result_column_format_codes) (append_assoc (front ((m.portal_name, m.statement_name), m.parameter_format_codes)) (count16 (length m.parameters)) (flat_map parameter_value m.parameters)),
+      ap (λ (w : List ℕ). w ++ formats m.result_column_format_codes) (append_assoc (front (
+        (m.portal_name, m.statement_name),
+        m.parameter_format_codes,
+      )) (count16 (length m.parameters)) (flat_map parameter_value m.parameters)),
       refl,
-      ((((good.portal_name, good.statement_name), (good.parameter_format_codes.count, good.parameter_format_codes.each)), (good.count, good.parameters)), (good.result_column_format_codes.count, good.result_column_format_codes.each)),
+      (
+        (
+          ((good.portal_name, good.statement_name), (good.parameter_format_codes.count, good.parameter_format_codes.each)),
+          (good.count, good.parameters),
+        ),
+        (good.result_column_format_codes.count, good.result_column_format_codes.each),
+      ),
     ))
-    (Reads-both Most Formats most formats (both_at (both_at (both_at string_at string_at) (list_at (signed_at w16))) (list_at value_at)) (list_at (signed_at w16))
-    (Reads-both Front (AreListed IsParameterValue) front (listed parameter_value) (both_at (both_at string_at string_at) (list_at (signed_at w16))) (list_at value_at)
-    (Reads-both AreTexts Formats texts formats (both_at string_at string_at) (list_at (signed_at w16)) Reads-texts Reads-formats) Reads-values) Reads-formats)
+    (Reads-both Most Formats most formats (both_at (both_at (both_at string_at string_at) (list_at (signed_at w16))) (list_at value_at))
+    (list_at (signed_at w16))
+    (Reads-both Front (AreListed IsParameterValue) front (listed parameter_value)
+    (both_at (both_at string_at string_at) (list_at (signed_at w16))) (list_at value_at)
+    (Reads-both AreTexts Formats texts formats (both_at string_at string_at) (list_at (signed_at w16)) Reads-texts Reads-formats)
+    Reads-values) Reads-formats)

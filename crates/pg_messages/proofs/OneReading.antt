@@ -22,7 +22,8 @@ pub record Front (awaiting : Bool) (frame rest : List ℕ) : Type 0 where
 pub front : (awaiting : Bool) (frame rest : List ℕ) (m : PgWireFrontendMessage) → IsFrame awaiting frame m → Front awaiting frame rest
 front true frame rest m h =
     let size : length frame ≡ 8 + length h.body = omega (arith, ap length h.bytes) in
-    let told : told_len true (frame_bytes true h.kind h.body ++ rest) ≡ 8 + length h.body = from_be_bytes-to_be_bytes_4 (8 + length h.body) (omega (arith, size, h.limit)) in
+    let told : told_len true (frame_bytes true h.kind h.body ++ rest) ≡ 8 + length h.body =
+    from_be_bytes-to_be_bytes_4 (8 + length h.body) (omega (arith, size, h.limit)) in
     let all : Front true (frame_bytes true h.kind h.body) rest = record {
       told = omega (arith, told);
       good = (omega (arith, told), omega (arith, told, size, h.limit));
@@ -42,7 +43,8 @@ front false frame rest m h =
 
 -- ---- what a rest is not
 
-pub frame_finished : (awaiting : Bool) (frame rest : List ℕ) (m : PgWireFrontendMessage) → IsFrame awaiting frame m → IsUnfinished awaiting (frame ++ rest) → ⊥
+pub frame_finished : (awaiting : Bool) (frame rest : List ℕ) (m : PgWireFrontendMessage) → IsFrame awaiting frame m
+    → IsUnfinished awaiting (frame ++ rest) → ⊥
 frame_finished awaiting frame rest m h u =
     let f = front awaiting frame rest m h in
     elim u [
@@ -50,10 +52,12 @@ frame_finished awaiting frame rest m h u =
       | inr w ↦ omega (arith, w.2, f.told, length-append frame rest)
     ]
 
-pub frame_not_bad : (awaiting : Bool) (frame rest : List ℕ) (m : PgWireFrontendMessage) → IsFrame awaiting frame m → IsBad awaiting (frame ++ rest) → ⊥
+pub frame_not_bad : (awaiting : Bool) (frame rest : List ℕ) (m : PgWireFrontendMessage) → IsFrame awaiting frame m
+    → IsBad awaiting (frame ++ rest) → ⊥
 frame_not_bad awaiting frame rest m h b =
     let f = front awaiting frame rest m h in
-    let taken : take (told_len awaiting (frame ++ rest)) (frame ++ rest) ≡ frame = ap (λ (n : ℕ). take n (frame ++ rest)) f.told ∙ take_at frame rest (length frame) refl in
+    let taken : take (told_len awaiting (frame ++ rest)) (frame ++ rest) ≡ frame =
+    ap (λ (n : ℕ). take n (frame ++ rest)) f.told ∙ take_at frame rest (length frame) refl in
     elim b.1 [
       | inl bad ↦ bad f.good
       | inr x ↦ x.2 m (subst (λ (w : List ℕ). IsFrame awaiting w m) (sym taken) h)
@@ -61,10 +65,13 @@ frame_not_bad awaiting frame rest m h b =
 
 -- ---- one frame, one message
 
-same_message : (awaiting : Bool) (frame : List ℕ) (m n : PgWireFrontendMessage) → IsFrame awaiting frame m → IsFrame awaiting frame n → m ≡ n
-same_message awaiting frame m n h j = one_message awaiting (kind_of awaiting frame) (body_of awaiting frame) m n (inside awaiting frame m h) (inside awaiting frame n j)
+same_message : (awaiting : Bool) (frame : List ℕ) (m n : PgWireFrontendMessage) → IsFrame awaiting frame m → IsFrame awaiting frame n
+    → m ≡ n
+same_message awaiting frame m n h j = one_message awaiting (kind_of awaiting frame) (body_of awaiting frame) m n (inside awaiting frame m h)
+    (inside awaiting frame n j)
 
-pub one_frame : (awaiting : Bool) (a b x y : List ℕ) (m n : PgWireFrontendMessage) → IsFrame awaiting a m → IsFrame awaiting b n → a ++ x ≡ b ++ y → (a ≡ b) × (x ≡ y) × (m ≡ n)
+pub one_frame : (awaiting : Bool) (a b x y : List ℕ) (m n : PgWireFrontendMessage) → IsFrame awaiting a m → IsFrame awaiting b n
+    → a ++ x ≡ b ++ y → (a ≡ b) × (x ≡ y) × (m ≡ n)
 one_frame awaiting a b x y m n h j e =
     let size : length a ≡ length b = sym (front awaiting a x m h).told ∙ ap (told_len awaiting) e ∙ (front awaiting b y n j).told in
     let same : a ≡ b = sym (take_at a x (length a) refl) ∙ ap (take (length a)) e ∙ take_at b y (length a) (sym size) in
@@ -72,7 +79,8 @@ one_frame awaiting a b x y m n h j e =
     (same, behind, same_message awaiting b m n (subst (λ (f : List ℕ). IsFrame awaiting f m) same h) j)
 
 -- a frame that begins another is that one
-pub whole_prefix : (awaiting : Bool) (frame more : List ℕ) (m n : PgWireFrontendMessage) → IsFrame awaiting frame m → IsFrame awaiting (frame ++ more) n → more ≡ []
+pub whole_prefix : (awaiting : Bool) (frame more : List ℕ) (m n : PgWireFrontendMessage) → IsFrame awaiting frame m
+    → IsFrame awaiting (frame ++ more) n → more ≡ []
 whole_prefix awaiting frame more m n h j = (one_frame awaiting frame (frame ++ more) more [] m n h j (sym (append-nil (frame ++ more)))).1
 
 -- ---- one division
@@ -80,14 +88,16 @@ whole_prefix awaiting frame more m n h j = (one_frame awaiting frame (frame ++ m
 abbrev pub IsRest : Bool → List ℕ → Type 0
 IsRest awaiting rest = IsUnfinished awaiting rest ⊎ IsBad awaiting rest
 
-no_frame : (awaiting : Bool) (text frame others : List ℕ) (m : PgWireFrontendMessage) → IsRest awaiting text → text ≡ frame ++ others → IsFrame awaiting frame m → ⊥
+no_frame : (awaiting : Bool) (text frame others : List ℕ) (m : PgWireFrontendMessage) → IsRest awaiting text → text ≡ frame ++ others
+    → IsFrame awaiting frame m → ⊥
 no_frame awaiting text frame others m rest e h =
     elim rest [
       | inl u ↦ frame_finished awaiting frame others m h (subst (IsUnfinished awaiting) e u)
       | inr b ↦ frame_not_bad awaiting frame others m h (subst (IsBad awaiting) e b)
     ]
 
-pub one_division : (ms ns : List PgWireFrontendMessage) (awaiting : Bool) (text x y : List ℕ) → DividesInto awaiting text ms x → IsRest (awaits_startup_after_all ms awaiting) x
+pub one_division : (ms ns : List PgWireFrontendMessage) (awaiting : Bool) (text x y : List ℕ) → DividesInto awaiting text ms x
+    → IsRest (awaits_startup_after_all ms awaiting) x
     → DividesInto awaiting text ns y → IsRest (awaits_startup_after_all ns awaiting) y → (ms ≡ ns) × (x ≡ y)
 one_division [] [] awaiting text x y h r j s = (refl, sym h ∙ j)
 one_division [] (n ∷ ns) awaiting text x y h r j s = absurd (no_frame awaiting text j.0 j.1 n (subst (IsRest awaiting) (sym h) r) j.2 j.3)
@@ -96,23 +106,33 @@ one_division (m ∷ ms) (n ∷ ns) awaiting text x y h r j s =
     let one = one_frame awaiting h.0 j.0 h.1 j.1 m n h.3 j.3 (sym h.2 ∙ j.2) in
     let after : Bool = awaits_startup_after m awaiting in
     let same : awaits_startup_after n awaiting ≡ after = ap (λ (k : PgWireFrontendMessage). awaits_startup_after k awaiting) (sym one.2) in
-    let divides : DividesInto after h.1 ns y = subst (λ (t : List ℕ). DividesInto after t ns y) (sym one.1) (subst (λ (b : Bool). DividesInto b j.1 ns y) same j.4) in
+    let divides : DividesInto after h.1 ns y = subst (λ (t : List ℕ). DividesInto after t ns y) (sym one.1)
+    (subst (λ (b : Bool). DividesInto b j.1 ns y) same j.4) in
     let rest : IsRest (awaits_startup_after_all ns after) y = subst (λ (b : Bool). IsRest (awaits_startup_after_all ns b) y) same s in
     let others = one_division ms ns after h.1 x y h.4 r divides rest in
     (ap (λ (k : PgWireFrontendMessage). k ∷ ms) one.2 ∙ ap (λ (ks : List PgWireFrontendMessage). n ∷ ks) others.0, others.1)
 
 -- bytes that come later keep the frames that are there
-pub division_kept : (ms : List PgWireFrontendMessage) (awaiting : Bool) (text rest more : List ℕ) → DividesInto awaiting text ms rest → DividesInto awaiting (text ++ more) ms (rest ++ more)
+pub division_kept : (ms : List PgWireFrontendMessage) (awaiting : Bool) (text rest more : List ℕ) → DividesInto awaiting text ms rest
+    → DividesInto awaiting (text ++ more) ms (rest ++ more)
 division_kept [] awaiting text rest more h = ap (λ (t : List ℕ). t ++ more) h
-division_kept (m ∷ ms) awaiting text rest more h =
-    (h.0, h.1 ++ more, ap (λ (t : List ℕ). t ++ more) h.2 ∙ append_assoc h.0 h.1 more, h.3, division_kept ms (awaits_startup_after m awaiting) h.1 rest more h.4)
+division_kept (m ∷ ms) awaiting text rest more h = (
+  h.0,
+  h.1 ++ more,
+  ap (λ (t : List ℕ). t ++ more) h.2 ∙ append_assoc h.0 h.1 more,
+  h.3,
+  division_kept ms (awaits_startup_after m awaiting) h.1 rest more h.4,
+)
 
 -- a division of the rest goes on
-pub division_joined : (ms ns : List PgWireFrontendMessage) (awaiting : Bool) (text mid rest : List ℕ) → DividesInto awaiting text ms mid → DividesInto (awaits_startup_after_all ms awaiting) mid ns rest → DividesInto awaiting text (ms ++ ns) rest
+pub division_joined : (ms ns : List PgWireFrontendMessage) (awaiting : Bool) (text mid rest : List ℕ) → DividesInto awaiting text ms mid
+    → DividesInto (awaits_startup_after_all ms awaiting) mid ns rest → DividesInto awaiting text (ms ++ ns) rest
 division_joined [] ns awaiting text mid rest h j = subst (λ (t : List ℕ). DividesInto awaiting t ns rest) (sym h) j
-division_joined (m ∷ ms) ns awaiting text mid rest h j = (h.0, h.1, h.2, h.3, division_joined ms ns (awaits_startup_after m awaiting) h.1 mid rest h.4 j)
+division_joined (m ∷ ms) ns awaiting text mid rest h j =
+    (h.0, h.1, h.2, h.3, division_joined ms ns (awaits_startup_after m awaiting) h.1 mid rest h.4 j)
 
-pub awaits_joined : (ms ns : List PgWireFrontendMessage) (awaiting : Bool) → awaits_startup_after_all (ms ++ ns) awaiting ≡ awaits_startup_after_all ns (awaits_startup_after_all ms awaiting)
+pub awaits_joined : (ms ns : List PgWireFrontendMessage) (awaiting : Bool)
+    → awaits_startup_after_all (ms ++ ns) awaiting ≡ awaits_startup_after_all ns (awaits_startup_after_all ms awaiting)
 awaits_joined [] ns awaiting = refl
 awaits_joined (m ∷ ms) ns awaiting = awaits_joined ms ns (awaits_startup_after m awaiting)
 
@@ -125,15 +145,18 @@ drop_one (x ∷ r) more h = refl
 told_more : (awaiting : Bool) (r more : List ℕ) → header_len awaiting ≤ length r → told_len awaiting (r ++ more) ≡ told_len awaiting r
 told_more true r more h = ap (from_be_bytes w32) (take-append-le 4 r more h)
 told_more false r more h =
-    ap (λ (l : List ℕ). 1 + from_be_bytes w32 (take 4 l)) (drop_one r more (omega arith)) ∙ ap (λ (l : List ℕ). 1 + from_be_bytes w32 l) (take-append-le 4 (drop 1 r) more (omega (arith, length-drop 1 r)))
+    ap (λ (l : List ℕ). 1 + from_be_bytes w32 (take 4 l)) (drop_one r more (omega arith))
+    ∙ ap (λ (l : List ℕ). 1 + from_be_bytes w32 l) (take-append-le 4 (drop 1 r) more (omega (arith, length-drop 1 r)))
 
 first_more : (r more : List ℕ) → 1 ≤ length r → get_or (r ++ more) 0 0 ≡ get_or r 0 0
 first_more [] more h = absurd (omega arith)
 first_more (x ∷ r) more h = refl
 
-good_more : (awaiting : Bool) (r more : List ℕ) → header_len awaiting ≤ length r → IsGoodHeader awaiting (r ++ more) ≡ IsGoodHeader awaiting r
+good_more : (awaiting : Bool) (r more : List ℕ) → header_len awaiting ≤ length r
+    → IsGoodHeader awaiting (r ++ more) ≡ IsGoodHeader awaiting r
 good_more true r more h = ap (λ (n : ℕ). (8 ≤ n) × (n ≤ 10000)) (told_more true r more h)
-good_more false r more h = λ i. Contains type_bytes (first_more r more (omega arith) i) × (5 ≤ told_more false r more h i) × (told_more false r more h i ≤ 1048577)
+good_more false r more h = λ i. Contains type_bytes (first_more r more (omega arith) i) × (5 ≤ told_more false r more h i)
+    × (told_more false r more h i ≤ 1048577)
 
 pub bad_more : (awaiting : Bool) (rest more : List ℕ) → IsBad awaiting rest → IsBad awaiting (rest ++ more)
 bad_more awaiting rest more b =
@@ -148,7 +171,8 @@ bad_more awaiting rest more b =
             inr (
               subst T (sym same) whole.0,
               omega (arith, told, whole.1, long),
-              λ m f. whole.2 m (subst (λ (l : List ℕ). IsFrame awaiting l m) (ap (λ (n : ℕ). take n (rest ++ more)) told ∙ take-append-le (told_len awaiting rest) rest more whole.1) f),
+              λ m f. whole.2 m (subst (λ (l : List ℕ). IsFrame awaiting l m) (ap (λ (n : ℕ). take n (rest ++ more)) told
+                  ∙ take-append-le (told_len awaiting rest) rest more whole.1) f),
             )
       ],
     )
@@ -167,7 +191,8 @@ contained (y ∷ xs) x =
           ]
     ]
   where
-    not_there : (y : ℕ) (xs : List ℕ) (x : ℕ) → (y ≡ x → ⊥) → (Contains xs x → ⊥) → (i : ℕ) → i < length (y ∷ xs) → get_or (y ∷ xs) i x ≡ x → ⊥
+    not_there : (y : ℕ) (xs : List ℕ) (x : ℕ) → (y ≡ x → ⊥) → (Contains xs x → ⊥) → (i : ℕ) → i < length (y ∷ xs) → get_or (y ∷ xs) i x ≡ x
+        → ⊥
     not_there y xs x other none zero lt e = other e
     not_there y xs x other none (suc i) lt e = none (i, omega (arith, lt), e)
 
@@ -199,20 +224,38 @@ bytes_judged (b ∷ bytes) =
     bytes_more b bytes small fits (suc i) = fits i
 
 abbrev BeginsWithFrame : Bool → List ℕ → Type 0
-BeginsWithFrame awaiting text = (m : PgWireFrontendMessage) × (frame : List ℕ) × (others : List ℕ) × (text ≡ frame ++ others) × IsFrame awaiting frame m
+BeginsWithFrame awaiting text = (m : PgWireFrontendMessage) × (frame : List ℕ) × (others : List ℕ) × (text ≡ frame ++ others)
+    × IsFrame awaiting frame m
 
 -- where a whole frame stands in front by its header
-whole_judged : (awaiting : Bool) (text : List ℕ) (len : ℕ) → header_len awaiting ≤ length text → HasWhole awaiting text len → IsBytes (take len text) ⊎ (AllByRecursion (λ byte. byte < 2 ^ 8) (take len text) → ⊥)
+whole_judged : (awaiting : Bool) (text : List ℕ) (len : ℕ) → header_len awaiting ≤ length text → HasWhole awaiting text len
+    → IsBytes (take len text) ⊎ (AllByRecursion (λ byte. byte < 2 ^ 8) (take len text) → ⊥)
     → IsRest awaiting text ⊎ BeginsWithFrame awaiting text
 whole_judged awaiting text len header h (inr none) =
     let at = subst (λ (n : ℕ). n ≤ length text) h.told h.there in
-    inl (inr (header, inr (h.good, at, λ m f. none (subst (λ (n : ℕ). AllByRecursion (λ byte. byte < 2 ^ 8) (take n text)) (sym h.told) f.each))))
+    inl (inr (
+      header,
+      inr (
+        h.good,
+        at,
+        λ m f. none
+            (subst (λ (n : ℕ). AllByRecursion (λ byte. byte < 2 ^ 8) (take n text)) (sym h.told) f.each),
+      ),
+    ))
 whole_judged awaiting text len header h (inl fits) =
     by (message_at awaiting (kind_of awaiting (take len text)) (body_of awaiting (take len text))) refl
   where
-    by : (o : Option PgWireFrontendMessage) → message_at awaiting (kind_of awaiting (take len text)) (body_of awaiting (take len text)) ≡ o → IsRest awaiting text ⊎ BeginsWithFrame awaiting text
-    by (Some m) e = inr (m, take len text, drop len text, sym (take-append-drop len text), frame_read awaiting (take len text) m (whole_in_front awaiting text len h) fits e)
-    by None e = inl (inr (frame_bad awaiting text len h (nothing_carried awaiting (kind_of awaiting (take len text)) (body_of awaiting (take len text)) e)))
+    by : (o : Option PgWireFrontendMessage) → message_at awaiting (kind_of awaiting (take len text)) (body_of awaiting (take len text)) ≡ o
+        → IsRest awaiting text ⊎ BeginsWithFrame awaiting text
+    by (Some m) e = inr (
+      m,
+      take len text,
+      drop len text,
+      sym (take-append-drop len text),
+      frame_read awaiting (take len text) m (whole_in_front awaiting text len h) fits e,
+    )
+    by None e = inl (inr (frame_bad awaiting text len h
+        (nothing_carried awaiting (kind_of awaiting (take len text)) (body_of awaiting (take len text)) e)))
 
 first_judged : (awaiting : Bool) (text : List ℕ) → IsRest awaiting text ⊎ BeginsWithFrame awaiting text
 first_judged awaiting text =
@@ -232,7 +275,8 @@ first_judged awaiting text =
     ]
 
 abbrev Divided : Bool → List ℕ → Type 0
-Divided awaiting text = (ms : List PgWireFrontendMessage) × (rest : List ℕ) × DividesInto awaiting text ms rest × IsRest (awaits_startup_after_all ms awaiting) rest
+Divided awaiting text = (ms : List PgWireFrontendMessage) × (rest : List ℕ) × DividesInto awaiting text ms rest
+    × IsRest (awaits_startup_after_all ms awaiting) rest
 
 header_some : (awaiting : Bool) → 1 ≤ header_len awaiting
 header_some true = omega arith

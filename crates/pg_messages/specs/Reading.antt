@@ -48,7 +48,10 @@ whole read = read >>= λ x. if length x.1 == 0 then Some x.0 else None
 
 -- a number without a sign
 abbrev pub number_at : Width → List ℕ → Option (ℕ × List ℕ)
-number_at w bytes = if nat_lt (length bytes) (byte_len w) then None else Some (from_be_bytes w (take (byte_len w) bytes), drop (byte_len w) bytes)
+number_at w bytes = if nat_lt (length bytes) (byte_len w) then None else Some (
+  from_be_bytes w (take (byte_len w) bytes),
+  drop (byte_len w) bytes,
+)
 
 -- a number with a sign
 abbrev pub signed_at : Width → List ℕ → Option (ℤ × List ℕ)
@@ -64,7 +67,10 @@ list_at field bytes = count_at bytes >>= λ n. items_at field n.0 n.1
 
 -- a text up to its zero byte
 unfoldable pub string_at : List ℕ → Option (List ℕ × List ℕ)
-string_at bytes = position (λ byte. byte == 0) bytes >>= λ n. if is_utf8 (take n bytes) then Some (take n bytes, drop (n + 1) bytes) else None
+string_at bytes = position (λ byte. byte == 0) bytes >>= λ n. if is_utf8 (take n bytes) then Some (
+  take n bytes,
+  drop (n + 1) bytes,
+) else None
 
 -- null, or as many bytes as a length told
 abbrev pub value_behind : ℕ × List ℕ → Option (Option (List ℕ) × List ℕ)
@@ -84,7 +90,10 @@ after_zero (suc byte ∷ rest) = None
 -- pairs of texts up to a zero byte in the place of a name; fewer than n of them
 unfoldable pub parameters_at : ℕ → List ℕ → Option (List (List ℕ × List ℕ) × List ℕ)
 parameters_at zero bytes = None
-parameters_at (suc n) bytes = option_map_or (λ rest. Some ([], rest)) (after_zero bytes) (both_at string_at string_at bytes >>= λ x. parameters_at n x.1 >>= λ xs. Some (x.0 ∷ xs.0, xs.1))
+parameters_at (suc n) bytes = option_map_or (λ rest. Some (
+  [],
+  rest,
+)) (after_zero bytes) (both_at string_at string_at bytes >>= λ x. parameters_at n x.1 >>= λ xs. Some (x.0 ∷ xs.0, xs.1))
 
 -- a pair takes two bytes at least, so there are fewer pairs than bytes
 abbrev pub all_parameters_at : List ℕ → Option (List (List ℕ × List ℕ) × List ℕ)
@@ -108,10 +117,20 @@ unfoldable pub query_at : List ℕ → Option (Query × List ℕ)
 query_at = as_at (λ x. record { query = x }) string_at
 
 unfoldable pub parse_at : List ℕ → Option (Parse × List ℕ)
-parse_at = as_at (λ x. record { name = x.0.0; query = x.0.1; type_oids = x.1 }) (both_at (both_at string_at string_at) (list_at (number_at w32)))
+parse_at = as_at (λ x. record {
+  name = x.0.0;
+  query = x.0.1;
+  type_oids = x.1;
+}) (both_at (both_at string_at string_at) (list_at (number_at w32)))
 
 unfoldable pub bind_at : List ℕ → Option (Bind × List ℕ)
-bind_at = as_at (λ x. record { portal_name = x.0.0.0.0; statement_name = x.0.0.0.1; parameter_format_codes = x.0.0.1; parameters = x.0.1; result_column_format_codes = x.1 })
+bind_at = as_at (λ x. record {
+  portal_name = x.0.0.0.0;
+  statement_name = x.0.0.0.1;
+  parameter_format_codes = x.0.0.1;
+  parameters = x.0.1;
+  result_column_format_codes = x.1;
+})
     (both_at (both_at (both_at (both_at string_at string_at) (list_at (signed_at w16))) (list_at value_at)) (list_at (signed_at w16)))
 
 unfoldable pub describe_at : List ℕ → Option (Describe × List ℕ)

@@ -18,7 +18,8 @@ status_byte status.Error = 69
 
 -- the fields of an error: severity twice, code, message, each behind its byte, and a zero byte
 abbrev pub error_fields : ErrorInfo → List ℕ
-error_fields info = (83 ∷ string info.severity) ++ (86 ∷ string info.severity) ++ (67 ∷ string info.code) ++ (77 ∷ string info.message) ++ 0 ∷ []
+error_fields info = (83 ∷ string info.severity) ++ (86 ∷ string info.severity) ++ (67 ∷ string info.code) ++ (77 ∷ string info.message) ++ 0
+    ∷ []
 
 -- a column: String name, Int32 table, Int16 column, Int32 type, Int16 size, Int32 modifier, Int16 format
 abbrev pub field_description : FieldDescription → List ℕ

@@ -16,8 +16,8 @@ use crate::response::{
 use crate::startup::{AuthenticationOk, BackendKeyData, ParameterStatus};
 use bytes::BytesMut;
 
-/// A reply of the server. Each is one type byte, Int32 length, which counts itself and not the type byte,
-/// and a body; the answers to a request to encrypt are the byte `N` alone.
+/// A reply of the server. Each is one type byte, Int32 length, which counts itself and not the type
+/// byte, and a body; the answers to a request to encrypt are the byte `N` alone.
 #[derive(Drop)]
 pub enum PgWireBackendMessage {
     SslResponse(SslResponse),
@@ -45,8 +45,8 @@ pub enum PgWireBackendMessage {
 }
 
 impl PgWireBackendMessage {
-    /// How many bytes stand behind the length; from the greatest u64 on that number. A reply can be sent
-    /// where there are at most 1,073,741,823.
+    /// How many bytes stand behind the length; from the greatest u64 on that number. A reply can be
+    /// sent where there are at most 1,073,741,823.
     pub fn body_len(&self) -> u64
         ensures { result ≡ min (length (reply_body self.now)) (2 ^ 64 - 1) }
     {

@@ -74,14 +74,15 @@ impl PgWireMessageServerCodec {
         }
     }
 
-    /// Takes the first frame off the bytes, and tells its message. While the startup packet is awaited a
-    /// frame is Int32 length, which counts itself, 8 to 10,000, and a body; afterwards Byte1 type, Int32
-    /// length, which counts itself and not the type byte, 4 to 1,048,576, and a body (protocol, "Message
-    /// Formats").
+    /// Takes the first frame off the bytes, and tells its message. While the startup packet is
+    /// awaited a frame is Int32 length, which counts itself, 8 to 10,000, and a body; afterwards
+    /// Byte1 type, Int32 length, which counts itself and not the type byte, 4 to 1,048,576, and a
+    /// body (protocol, "Message Formats").
     ///
-    /// None: the bytes hold neither a whole frame nor a bad header. `Bad`: a whole header has another
-    /// length or an unknown type byte, or a whole frame has a body that no message has. After None and
-    /// after an error nothing has changed. A startup packet ends the startup phase and sets the version.
+    /// None: the bytes hold neither a whole frame nor a bad header. `Bad`: a whole header has
+    /// another length or an unknown type byte, or a whole frame has a body that no message has.
+    /// After None and after an error nothing has changed. A startup packet ends the startup phase
+    /// and sets the version.
     pub fn decode(
         &mut self,
         alloc: Global,
@@ -112,10 +113,10 @@ impl PgWireMessageServerCodec {
         Ok(Some(message))
     }
 
-    /// Appends the bytes of a reply: Byte1 type, Int32 length, which counts itself and not the type byte,
-    /// and the body (protocol, "Message Formats"). The room is made at once, so want of memory is the
-    /// only error, and after it the bytes are as they were. The buffer's whole room, its bytes and what
-    /// it has spare, never falls.
+    /// Appends the bytes of a reply: Byte1 type, Int32 length, which counts itself and not the type
+    /// byte, and the body (protocol, "Message Formats"). The room is made at once, so want of
+    /// memory is the only error, and after it the bytes are as they were. The buffer's whole room,
+    /// its bytes and what it has spare, never falls.
     #[inline]
     pub fn encode(
         &mut self,

@@ -10,16 +10,16 @@ use crate::values::{PgBytes, PgList, PgStr};
 use bytes::BytesMut;
 use std::alloc::Global;
 
-/// Data of a COPY, of the client or of the server. Protocol, CopyData: Byte1 `d`, Int32 length, and the
-/// bytes.
+/// Data of a COPY, of the client or of the server. Protocol, CopyData: Byte1 `d`, Int32 length, and
+/// the bytes.
 #[derive(Drop)]
 pub struct CopyData {
     /// The bytes.
     pub payload: PgBytes,
 }
 
-/// The data of a COPY is complete, said by the client or by the server. Protocol, CopyDone: Byte1 `c`,
-/// Int32 length 4.
+/// The data of a COPY is complete, said by the client or by the server. Protocol, CopyDone: Byte1
+/// `c`, Int32 length 4.
 #[derive(Drop)]
 pub struct CopyDone {}
 
@@ -30,8 +30,8 @@ pub struct CopyFail {
     pub message: PgStr,
 }
 
-/// The client may send data. Protocol, CopyInResponse: Byte1 `G`, Int32 length, Int8 format, Int16 count
-/// of columns, and their Int16 format codes.
+/// The client may send data. Protocol, CopyInResponse: Byte1 `G`, Int32 length, Int8 format, Int16
+/// count of columns, and their Int16 format codes.
 #[derive(Drop)]
 pub struct CopyInResponse {
     /// 0 where the data is text, 1 where it is binary.
@@ -42,8 +42,8 @@ pub struct CopyInResponse {
     pub column_formats: PgList<i16>,
 }
 
-/// Data of the server follows. Protocol, CopyOutResponse: Byte1 `H`, Int32 length, Int8 format, Int16
-/// count of columns, and their Int16 format codes.
+/// Data of the server follows. Protocol, CopyOutResponse: Byte1 `H`, Int32 length, Int8 format,
+/// Int16 count of columns, and their Int16 format codes.
 #[derive(Drop)]
 pub struct CopyOutResponse {
     /// 0 where the data is text, 1 where it is binary.
@@ -54,8 +54,8 @@ pub struct CopyOutResponse {
     pub column_formats: PgList<i16>,
 }
 
-/// Data of both sides follows. Protocol, CopyBothResponse: Byte1 `W`, Int32 length, Int8 format, Int16
-/// count of columns, and their Int16 format codes.
+/// Data of both sides follows. Protocol, CopyBothResponse: Byte1 `W`, Int32 length, Int8 format,
+/// Int16 count of columns, and their Int16 format codes.
 #[derive(Drop)]
 pub struct CopyBothResponse {
     /// 0 where the data is text, 1 where it is binary.

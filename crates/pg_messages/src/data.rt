@@ -10,16 +10,16 @@ pub const FORMAT_CODE_TEXT: i16 = 0;
 /// A format code of a value or a column: binary.
 pub const FORMAT_CODE_BINARY: i16 = 1;
 
-/// The types of a statement's parameters. Protocol, ParameterDescription: Byte1 `t`, Int32 length, Int16
-/// count, and as many Int32 type oids.
+/// The types of a statement's parameters. Protocol, ParameterDescription: Byte1 `t`, Int32 length,
+/// Int16 count, and as many Int32 type oids.
 #[derive(Drop)]
 pub struct ParameterDescription {
     /// The type oids, one for each parameter.
     pub types: PgList<u32>,
 }
 
-/// A column of a result. Protocol, RowDescription, one of its fields: String name, Int32 table, Int16
-/// column, Int32 type, Int16 size, Int32 modifier, Int16 format.
+/// A column of a result. Protocol, RowDescription, one of its fields: String name, Int32 table,
+/// Int16 column, Int32 type, Int16 size, Int32 modifier, Int16 format.
 #[derive(Drop)]
 pub struct FieldDescription {
     /// The column's name.
@@ -38,8 +38,8 @@ pub struct FieldDescription {
     pub format_code: i16,
 }
 
-/// The columns of the rows that follow. Protocol, RowDescription: Byte1 `T`, Int32 length, Int16 count,
-/// and as many fields.
+/// The columns of the rows that follow. Protocol, RowDescription: Byte1 `T`, Int32 length, Int16
+/// count, and as many fields.
 #[derive(Drop)]
 pub struct RowDescription {
     /// The columns in their order.
@@ -50,8 +50,8 @@ pub struct RowDescription {
 #[derive(Drop)]
 pub struct NoData {}
 
-/// A row of results. Protocol, DataRow: Byte1 `D`, Int32 length, Int16 count of cells, and for each cell
-/// Int32 length (-1 for null) and as many bytes.
+/// A row of results. Protocol, DataRow: Byte1 `D`, Int32 length, Int16 count of cells, and for each
+/// cell Int32 length (-1 for null) and as many bytes.
 #[derive(Drop)]
 pub struct DataRow {
     /// The cells as they are sent, each behind its length.

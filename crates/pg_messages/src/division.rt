@@ -17,7 +17,8 @@ pub fn frame_is_no_rest()
 
 /// No bytes are unfinished and bad.
 pub fn unfinished_is_not_bad()
-    ensures { (awaiting : Bool) (rest : List ℕ) → IsUnfinished awaiting rest → ¬ IsBad awaiting rest }
+    ensures { (awaiting : Bool) (rest : List ℕ) → IsUnfinished awaiting rest
+        → ¬ IsBad awaiting rest }
 {}
 
 /// One frame at most begins a text, and it carries one message.

@@ -11,8 +11,8 @@ pub const TARGET_TYPE_BYTE_STATEMENT: u8 = b'S';
 /// A target byte of Describe and Close: a portal, `P`.
 pub const TARGET_TYPE_BYTE_PORTAL: u8 = b'P';
 
-/// Prepares a statement. Protocol, Parse: Byte1 `P`, Int32 length, String name, String query, Int16 count,
-/// and as many Int32 type oids.
+/// Prepares a statement. Protocol, Parse: Byte1 `P`, Int32 length, String name, String query, Int16
+/// count, and as many Int32 type oids.
 #[derive(Drop)]
 pub struct Parse {
     /// The statement's name; the empty text is the unnamed one.
@@ -23,9 +23,10 @@ pub struct Parse {
     pub type_oids: PgList<u32>,
 }
 
-/// Makes a portal of a statement. Protocol, Bind: Byte1 `B`, Int32 length, String portal, String statement,
-/// Int16 count and as many Int16 format codes, Int16 count and as many values, each Int32 length (-1 for
-/// null) and as many bytes, and Int16 count and as many Int16 format codes of the results.
+/// Makes a portal of a statement. Protocol, Bind: Byte1 `B`, Int32 length, String portal, String
+/// statement, Int16 count and as many Int16 format codes, Int16 count and as many values, each
+/// Int32 length (-1 for null) and as many bytes, and Int16 count and as many Int16 format codes of
+/// the results.
 #[derive(Drop)]
 pub struct Bind {
     /// The portal's name; the empty text is the unnamed one.
@@ -40,8 +41,8 @@ pub struct Bind {
     pub result_column_format_codes: PgList<i16>,
 }
 
-/// Asks what a statement takes and gives, or what a portal gives. Protocol, Describe: Byte1 `D`, Int32
-/// length, Byte1 target, String name.
+/// Asks what a statement takes and gives, or what a portal gives. Protocol, Describe: Byte1 `D`,
+/// Int32 length, Byte1 target, String name.
 #[derive(Drop)]
 pub struct Describe {
     /// `S` for a statement, `P` for a portal; any other byte is carried too.
@@ -59,7 +60,8 @@ pub struct Execute {
     pub max_rows: i32,
 }
 
-/// Lets a statement or portal go. Protocol, Close: Byte1 `C`, Int32 length, Byte1 target, String name.
+/// Lets a statement or portal go. Protocol, Close: Byte1 `C`, Int32 length, Byte1 target, String
+/// name.
 #[derive(Drop)]
 pub struct Close {
     /// `S` for a statement, `P` for a portal; any other byte is carried too.
@@ -88,8 +90,8 @@ pub struct BindComplete {}
 #[derive(Drop)]
 pub struct CloseComplete {}
 
-/// An Execute met its limit, and the portal can be run on. Protocol, PortalSuspended: Byte1 `s`, Int32
-/// length 4.
+/// An Execute met its limit, and the portal can be run on. Protocol, PortalSuspended: Byte1 `s`,
+/// Int32 length 4.
 #[derive(Drop)]
 pub struct PortalSuspended {}
 

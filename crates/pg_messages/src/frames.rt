@@ -9,7 +9,8 @@ use crate::frontend::{PgWireFrontendMessage, startup_message, typed_message};
 use crate::headers::{startup_len, typed_len};
 use std::alloc::Global;
 
-/// The message of the first frame, and the length of the frame; None where there is no whole frame yet.
+/// The message of the first frame, and the length of the frame; None where there is no whole frame
+/// yet.
 pub fn first_frame(
     alloc: Global,
     awaiting: bool,

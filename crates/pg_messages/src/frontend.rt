@@ -13,7 +13,8 @@ use crate::startup::{CancelRequest, SslNegotiationKind, Startup, Terminate};
 use crate::values::{PgBytes, PgList};
 use std::alloc::Global;
 
-/// A message of the client. The first three come while the startup packet is awaited, the others afterwards.
+/// A message of the client. The first three come while the startup packet is awaited, the others
+/// afterwards.
 #[derive(Drop)]
 pub enum PgWireFrontendMessage {
     Startup(Startup),
@@ -34,8 +35,8 @@ pub enum PgWireFrontendMessage {
 }
 
 impl PgWireFrontendMessage {
-    /// Whether the message belongs to the extended query: Parse, Bind, Describe, Execute, Close, Flush and
-    /// Sync do.
+    /// Whether the message belongs to the extended query: Parse, Bind, Describe, Execute, Close,
+    /// Flush and Sync do.
     pub fn is_extended_query(&self) -> bool
         ensures { result ≡ is_extended_query self.now }
     {

@@ -1,4 +1,5 @@
-// Messages of the PostgreSQL frontend/backend protocol: their values, their bytes, and the frames of a stream.
+// Messages of the PostgreSQL frontend/backend protocol: their values, their bytes, and the frames
+// of a stream.
 #![tactic(auto)]
 
 mod backend;

@@ -12,7 +12,8 @@ use bytes::BytesMut;
 #[derive(Drop)]
 pub struct SslResponse {}
 
-/// No encryption, in answer to GSSENCRequest. Protocol, "GSSAPI Session Encryption": the byte `N` alone.
+/// No encryption, in answer to GSSENCRequest. Protocol, "GSSAPI Session Encryption": the byte `N`
+/// alone.
 #[derive(Drop)]
 pub struct GssEncResponse {}
 
@@ -39,7 +40,8 @@ impl TransactionStatus {
         TransactionStatus::Idle
     }
 
-    /// The status after an error: outside a transaction it stays so, and in one the transaction has failed.
+    /// The status after an error: outside a transaction it stays so, and in one the transaction has
+    /// failed.
     pub fn to_error_state(self) -> TransactionStatus
         ensures meant { result ≡ to_error_state self }
         ensures idle { self ≡ Idle → result ≡ Idle }
@@ -62,8 +64,8 @@ impl TransactionStatus {
     }
 }
 
-/// The server awaits the next query. Protocol, ReadyForQuery: Byte1 `Z`, Int32 length 5, Byte1 status, `I`,
-/// `T` or `E`.
+/// The server awaits the next query. Protocol, ReadyForQuery: Byte1 `Z`, Int32 length 5, Byte1
+/// status, `I`, `T` or `E`.
 #[derive(Drop)]
 pub struct ReadyForQuery {
     /// Where the session stands.
@@ -77,7 +79,8 @@ pub struct CommandComplete {
     pub tag: PgStr,
 }
 
-/// A query was empty, and so is what it gives. Protocol, EmptyQueryResponse: Byte1 `I`, Int32 length 4.
+/// A query was empty, and so is what it gives. Protocol, EmptyQueryResponse: Byte1 `I`, Int32
+/// length 4.
 #[derive(Drop)]
 pub struct EmptyQueryResponse {}
 
@@ -114,8 +117,8 @@ impl ErrorInfo {
     }
 }
 
-/// An error. Protocol, ErrorResponse: Byte1 `E`, Int32 length, the fields `S` severity, `V` severity, `C`
-/// code and `M` message, each a byte and a String, and a zero byte.
+/// An error. Protocol, ErrorResponse: Byte1 `E`, Int32 length, the fields `S` severity, `V`
+/// severity, `C` code and `M` message, each a byte and a String, and a zero byte.
 #[derive(Drop)]
 pub struct ErrorResponse {
     /// The error's texts.

@@ -8,9 +8,10 @@ use crate::fields::Field;
 use crate::values::{PgList, PgStr};
 use std::alloc::Global;
 
-/// The first packet of a session. Protocol, "Message Formats", StartupMessage: Int32 length, which counts
-/// itself, Int32 version, pairs of Strings (name, value), and a zero byte. The packet of a version that
-/// isn't spoken, which is neither 196608 nor 196610, carries its code alone: what follows isn't looked at.
+/// The first packet of a session. Protocol, "Message Formats", StartupMessage: Int32 length, which
+/// counts itself, Int32 version, pairs of Strings (name, value), and a zero byte. The packet of a
+/// version that isn't spoken, which is neither 196608 nor 196610, carries its code alone: what
+/// follows isn't looked at.
 #[derive(Drop)]
 pub struct Startup {
     /// The protocol version, its major part in the upper sixteen bits.
@@ -19,8 +20,8 @@ pub struct Startup {
     pub parameters: PgList<(PgStr, PgStr)>,
 }
 
-/// What a client asks for in the place of a startup packet, to encrypt the session. Protocol, SSLRequest
-/// and GSSENCRequest: Int32 length 8, Int32 code.
+/// What a client asks for in the place of a startup packet, to encrypt the session. Protocol,
+/// SSLRequest and GSSENCRequest: Int32 length 8, Int32 code.
 #[derive(Clone, Copy, PartialEq, Eq)]
 pub enum SslNegotiationKind {
     /// SSLRequest: code 80877103.
@@ -43,12 +44,13 @@ pub struct CancelRequest {
 #[derive(Drop)]
 pub struct Terminate {}
 
-/// The client is let in. Protocol, "Message Formats", AuthenticationOk: Byte1 `R`, Int32 length 8, Int32 0.
+/// The client is let in. Protocol, "Message Formats", AuthenticationOk: Byte1 `R`, Int32 length 8,
+/// Int32 0.
 #[derive(Drop)]
 pub struct AuthenticationOk {}
 
-/// A setting of the server, told at the start. Protocol, ParameterStatus: Byte1 `S`, Int32 length, String
-/// name, String value.
+/// A setting of the server, told at the start. Protocol, ParameterStatus: Byte1 `S`, Int32 length,
+/// String name, String value.
 #[derive(Drop)]
 pub struct ParameterStatus {
     /// The setting's name.
@@ -57,8 +59,8 @@ pub struct ParameterStatus {
     pub value: PgStr,
 }
 
-/// What a client sends back to cancel a query of this session. Protocol, BackendKeyData: Byte1 `K`, Int32
-/// length 12, Int32 pid, four bytes of key.
+/// What a client sends back to cancel a query of this session. Protocol, BackendKeyData: Byte1 `K`,
+/// Int32 length 12, Int32 pid, four bytes of key.
 #[derive(Drop)]
 pub struct BackendKeyData {
     /// The session's process number.

@@ -1,5 +1,5 @@
-// That each call which takes memory succeeds where there is enough. The table of frames and replies is the
-// program message_rows.
+// That each call which takes memory succeeds where there is enough. The table of frames and replies
+// is the program message_rows.
 ghost use Rattle.pg_messages.specs.Replies.{IsEncodable};
 
 use super::*;

@@ -8,7 +8,8 @@ use pg_messages::PgWireBackendMessage;
 use std::alloc::{AllocError, Global};
 use std::collections::VecDeque;
 
-/// How many bytes a chunk has. A session sends what waits as soon as it is so many bytes or more after a message.
+/// How many bytes a chunk has. A session sends what waits as soon as it is so many bytes or more
+/// after a message.
 pub const CHUNK: usize = 65536;
 
 // So many chunks are more than any machine has memory for, and their bytes can be counted.

@@ -11,8 +11,8 @@ use std::collections::VecDeque;
 use std::marker::Model;
 use std::mem;
 
-/// Replies that wait to be sent, as their bytes. They are kept in chunks of 65,536 bytes, of which only the last may be
-/// shorter.
+/// Replies that wait to be sent, as their bytes. They are kept in chunks of 65,536 bytes, of which
+/// only the last may be shorter.
 #[derive(Drop)]
 pub struct Outbox {
     // the chunks before the last
@@ -35,7 +35,8 @@ impl Model for Outbox {
 }
 
 impl Outbox {
-    /// An empty outbox with the first chunk reserved, or AllocError where there is no memory for it.
+    /// An empty outbox with the first chunk reserved, or AllocError where there is no memory for
+    /// it.
     pub fn new(alloc: Global) -> Result<Outbox, AllocError>
         ensures { IfOk result (λ outbox. outbox ≡ []) }
     {
@@ -83,8 +84,8 @@ impl Outbox {
         Some(self.last.as_slice())
     }
 
-    /// Forgets the first chunk, which was sent. Its memory is kept for the next chunk; where no byte is left to send, that
-    /// of one chunk is kept.
+    /// Forgets the first chunk, which was sent. Its memory is kept for the next chunk; where no
+    /// byte is left to send, that of one chunk is kept.
     pub fn drop_front(&mut self)
         requires { 0 < length self.old }
         ensures { self.new ≡ drop 65536 self.old }

@@ -1,4 +1,5 @@
-// That each call which takes memory succeeds where there is enough, with replies that reach over the ends of chunks.
+// That each call which takes memory succeeds where there is enough, with replies that reach over
+// the ends of chunks.
 ghost use Rattle.std.specs.Prelude.{◌≤◌, IfOk};
 ghost use Rattle.pg_messages.specs.Replies.{IsEncodable};
 

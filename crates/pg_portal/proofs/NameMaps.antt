@@ -16,7 +16,8 @@ use Rattle.std.proofs.lemmas.Map.Text.{is_eq-slice_cmp, btree_map_updates_text}
 use Rattle.pg_portal.specs.Names.{NameMap, name_map, map_values}
 
 find_name : {A X : Type 0} (es : List (String A × X)) (q : List ℕ)
-    → fin.find (slice_cmp nat_cmp) q (map (λ e. (string_bytes e.0, e.1)) es) ≡ lookup (tree.is_at (λ k. slice_cmp nat_cmp q (string_bytes k))) es
+    → fin.find (slice_cmp nat_cmp) q (map (λ e. (string_bytes e.0, e.1)) es)
+    ≡ lookup (tree.is_at (λ k. slice_cmp nat_cmp q (string_bytes k))) es
 find_name [] q = refl
 find_name (e ∷ es) q = ap (cond (is_eq (slice_cmp nat_cmp q (string_bytes e.0))) (Some e.1)) (find_name es q)
 
@@ -57,7 +58,8 @@ pub name_map-written : {A X : Type 0} (bs : List ℕ) (m n : tree.BTreeMap (Stri
 name_map-written bs m n w None e h = tt
 name_map-written bs m n w (Some x) e h = name_map-insert bs m n w (h.3 (subst IsSome e refl))
 
-option_map-cond : {X Y : Type 0} (f : X → Y) (b : Bool) (x y : Option X) → option_map f (cond b x y) ≡ cond b (option_map f x) (option_map f y)
+option_map-cond : {X Y : Type 0} (f : X → Y) (b : Bool) (x y : Option X)
+    → option_map f (cond b x y) ≡ cond b (option_map f x) (option_map f y)
 option_map-cond f true x y = refl
 option_map-cond f false x y = refl
 
@@ -69,9 +71,11 @@ find_mapped f (e ∷ es) q = ap (cond (is_eq (slice_cmp nat_cmp q e.0)) (Some (f
 
 -- what stands under a name, made into something else
 pub get-map_values : {X Y : Type 0} (f : X → Y) (m : NameMap X) (q : List ℕ) → fin.get (map_values f m) q ≡ option_map f (fin.get m q)
-get-map_values f m q = fin.get-from_entries nat_list_cmp_total _ q ∙ find_mapped f (fin.entries m) q ∙ ap (option_map f) (sym (fin.get-entries m q))
+get-map_values f m q = fin.get-from_entries nat_list_cmp_total _ q ∙ find_mapped f (fin.entries m) q
+    ∙ ap (option_map f) (sym (fin.get-entries m q))
 
-pub map_values-insert : {X Y : Type 0} (f : X → Y) (m : NameMap X) (k : List ℕ) (v : X) → map_values f (fin.insert m k v) ≡ fin.insert (map_values f m) k (f v)
+pub map_values-insert : {X Y : Type 0} (f : X → Y) (m : NameMap X) (k : List ℕ) (v : X)
+    → map_values f (fin.insert m k v) ≡ fin.insert (map_values f m) k (f v)
 map_values-insert f m k v = fin.same_map nat_list_cmp_total (fin.slice_cmp-IsAntisymmetric fin.nat_cmp-IsAntisymmetric) _ _
     (λ q. get-map_values f (fin.insert m k v) q ∙ ap (option_map f) (fin.get-insert nat_list_cmp_total m k v q)
     ∙ option_map-cond f (is_eq (slice_cmp nat_cmp q k)) (Some v) (fin.get m q)
@@ -96,7 +100,8 @@ pub at_some : {A P : Type 0} (r : Option A) (x : A) → r ≡ Some x → OnSome 
 at_some None x e h = search rules
 at_some (Some y) x e h = h
 
-pub map_values-remove : {X Y : Type 0} (f : X → Y) (m : NameMap X) (k : List ℕ) → map_values f (fin.remove m k) ≡ fin.remove (map_values f m) k
+pub map_values-remove : {X Y : Type 0} (f : X → Y) (m : NameMap X) (k : List ℕ)
+    → map_values f (fin.remove m k) ≡ fin.remove (map_values f m) k
 map_values-remove f m k = fin.same_map nat_list_cmp_total (fin.slice_cmp-IsAntisymmetric fin.nat_cmp-IsAntisymmetric) _ _
     (λ q. get-map_values f (fin.remove m k) q ∙ ap (option_map f) (fin.get-remove nat_list_cmp_total m k q)
     ∙ option_map-cond f (is_eq (slice_cmp nat_cmp q k)) None (fin.get m q)
@@ -105,10 +110,12 @@ map_values-remove f m k = fin.same_map nat_list_cmp_total (fin.slice_cmp-IsAntis
 
 pub map_values-empty : {X Y : Type 0} (f : X → Y) → map_values f fin.empty ≡ fin.empty
 map_values-empty f = fin.same_map nat_list_cmp_total (fin.slice_cmp-IsAntisymmetric fin.nat_cmp-IsAntisymmetric) _ _
-    (λ q. get-map_values f fin.empty q ∙ ap (option_map f) (fin.get-empty (slice_cmp nat_cmp) q) ∙ sym (fin.get-empty (slice_cmp nat_cmp) q))
+    (λ q. get-map_values f fin.empty q ∙ ap (option_map f) (fin.get-empty (slice_cmp nat_cmp) q)
+    ∙ sym (fin.get-empty (slice_cmp nat_cmp) q))
 
 pub get-put : {X : Type 0} (m : NameMap X) (k : List ℕ) (v : X) → fin.get (fin.insert m k v) k ≡ Some v
-get-put m k v = fin.get-insert nat_list_cmp_total m k v k ∙ ap (λ b. cond b (Some v) (fin.get m k)) ((eq_by_cmp_equiv nat_list_cmp_total).refl k)
+get-put m k v = fin.get-insert nat_list_cmp_total m k v k
+    ∙ ap (λ b. cond b (Some v) (fin.get m k)) ((eq_by_cmp_equiv nat_list_cmp_total).refl k)
 
 pub get-other : {X : Type 0} (m : NameMap X) (k : List ℕ) (v : X) (q : List ℕ) → (q ≡ k → ⊥) → fin.get (fin.insert m k v) q ≡ fin.get m q
 get-other {X} m k v q ne = fin.get-insert nat_list_cmp_total m k v q ∙ other (slice_cmp nat_cmp q k) refl
@@ -120,15 +127,18 @@ get-other {X} m k v q ne = fin.get-insert nat_list_cmp_total m k v q ∙ other (
 
 -- ---- maps whose keys are texts of the protocol
 
-find_key : {X : Type 0} (es : List (List ℕ × X)) (q : List ℕ) → fin.find (slice_cmp nat_cmp) q es ≡ lookup (tree.is_at (slice_cmp nat_cmp q)) es
+find_key : {X : Type 0} (es : List (List ℕ × X)) (q : List ℕ)
+    → fin.find (slice_cmp nat_cmp) q es ≡ lookup (tree.is_at (slice_cmp nat_cmp q)) es
 find_key [] q = refl
 find_key (e ∷ es) q = ap (cond (is_eq (slice_cmp nat_cmp q e.0)) (Some e.1)) (find_key es q)
 
-pub get-key_map : {X : Type 0} (es : List (List ℕ × X)) (q : List ℕ) → fin.get {R = slice_cmp nat_cmp} (fin.from_entries es) q ≡ lookup (tree.is_at (slice_cmp nat_cmp q)) es
+pub get-key_map : {X : Type 0} (es : List (List ℕ × X)) (q : List ℕ)
+    → fin.get {R = slice_cmp nat_cmp} (fin.from_entries es) q ≡ lookup (tree.is_at (slice_cmp nat_cmp q)) es
 get-key_map es q = fin.get-from_entries nat_list_cmp_total es q ∙ find_key es q
 
 pub key_map-insert : {X : Type 0} (k : List ℕ) (m n : tree.BTreeMap (List ℕ) X) (v : X)
-    → tree.Updates (slice_cmp nat_cmp) m n k (Some v) → ◌≡◌ {A = NameMap X} (fin.from_entries n.entries) (fin.insert (fin.from_entries m.entries) k v)
+    → tree.Updates (slice_cmp nat_cmp) m n k (Some v)
+    → ◌≡◌ {A = NameMap X} (fin.from_entries n.entries) (fin.insert (fin.from_entries m.entries) k v)
 key_map-insert k m n v h = fin.same_map nat_list_cmp_total (fin.slice_cmp-IsAntisymmetric fin.nat_cmp-IsAntisymmetric) _ _
     (λ q. get-key_map n.entries q ∙ h.0 q
     ∙ ap (λ b. cond b (Some v) (lookup (tree.is_at (slice_cmp nat_cmp q)) m.entries)) ((eq_by_cmp_equiv nat_list_cmp_total).symm k q)

@@ -14,7 +14,8 @@ reached_later (pos l) m n h e = grind (arith, nat_tests)
 reached_later (negsuc l) m n h e = e
 
 module _ {A : Type 0} where
-  before_error-rows : (done : List A) (items : List (Result A PgWireError)) → before_error (map Ok done ++ items) ≡ done ++ before_error items
+  before_error-rows : (done : List A) (items : List (Result A PgWireError))
+      → before_error (map Ok done ++ items) ≡ done ++ before_error items
   before_error-rows [] items = refl
   before_error-rows (row ∷ done) items = ap (λ rows. row ∷ rows) (before_error-rows done items)
 
@@ -34,7 +35,10 @@ module _ {A : Type 0} where
 
   suspended : (limit : ℤ) (items : List (Result A PgWireError)) (rows : List A) (first : Option (PgWireError × List (Result A PgWireError)))
       → is_reached limit (length rows) ≡ true
-      → split_page limit items rows first ≡ record { rows = take (unsigned_abs limit) rows; ending = AtLimit (drop (length (take (unsigned_abs limit) rows)) items) }
+      → split_page limit items rows first ≡ record {
+        rows = take (unsigned_abs limit) rows;
+        ending = AtLimit (drop (length (take (unsigned_abs limit) rows)) items);
+      }
   suspended limit items rows first e = rw e refl
 
   complete : (limit : ℤ) (items : List (Result A PgWireError)) (rows : List A) (first : Option (PgWireError × List (Result A PgWireError)))
@@ -53,8 +57,14 @@ module _ {A : Type 0} where
       let rows = done ++ before_error items in
       let first = first_error items in
       split limit (map Ok done ++ items) rows first (before_error-rows done items) (first_error-rows done items)
-      ∙ suspended limit (map Ok done ++ items) rows first (reached_later limit (length done) (length rows) (omega (arith, length-append done (before_error items))) e)
-      ∙ rw (is, take-append_seam done (before_error items)) (ap (λ left. record { rows = done; ending = AtLimit left }) (dropped done items))
+      ∙ suspended limit (map Ok done ++ items) rows first (reached_later limit (length done) (length rows) (omega (
+        arith,
+        length-append done (before_error items),
+      )) e)
+      ∙ rw (is, take-append_seam done (before_error items)) (ap (λ left. record {
+        rows = done;
+        ending = AtLimit left;
+      }) (dropped done items))
 
   -- the items ended before the limit
   pub page_at_end : (limit : ℤ) (done : List A) (items : List (Result A PgWireError)) → items ≡ []
@@ -69,11 +79,15 @@ module _ {A : Type 0} where
       → is_reached limit (length done) ≡ false
       → item_page limit (map Ok done ++ Err error ∷ items) ≡ record { rows = []; ending = AtError error items }
   page_at_error limit done error items e =
-      split limit (map Ok done ++ Err error ∷ items) done (Some (error, items)) (before_error-rows done (Err error ∷ items) ∙ append-nil done) (first_error-rows done (Err error ∷ items))
+      split limit (map Ok done ++ Err error ∷ items) done (Some (
+        error,
+        items,
+      )) (before_error-rows done (Err error ∷ items) ∙ append-nil done) (first_error-rows done (Err error ∷ items))
       ∙ complete limit (map Ok done ++ Err error ∷ items) done (Some (error, items)) e
 
 -- Rows were taken of the items, and the limit wasn't passed.
-pub record GoesOn {A : Type 0} (limit : ℤ) (old : List (Result A PgWireError)) (done : List A) (items : List (Result A PgWireError)) : Type 0 where
+pub record GoesOn {A : Type 0} (limit : ℤ) (old : List (Result A PgWireError)) (done : List A) (items : List (Result A PgWireError)) : Type
+    0 where
   pub taken : old ≡ map Ok done ++ items
   pub within : is_reached limit (length done) ≡ true → unsigned_abs limit ≡ length done
 
@@ -88,14 +102,18 @@ never_at_none (negsuc l) e = cc
 pub begins : {A : Type 0} (limit : ℤ) (old : List (Result A PgWireError)) → GoesOn limit old [] old
 begins limit old = record { taken = refl; within = never_at_none limit }
 
-pub goes_on : {A : Type 0} (limit : ℤ) (old : List (Result A PgWireError)) (done : List A) (items left : List (Result A PgWireError)) (row : A)
-    → GoesOn limit old done items → is_reached limit (length done) ≡ false → items ≡ Ok row ∷ left → GoesOn limit old (done ++ row ∷ []) left
+pub goes_on : {A : Type 0} (limit : ℤ) (old : List (Result A PgWireError)) (done : List A) (items left : List (Result A PgWireError))
+    (row : A)
+    → GoesOn limit old done items → is_reached limit (length done) ≡ false → items ≡ Ok row ∷ left
+    → GoesOn limit old (done ++ row ∷ []) left
 goes_on limit old done items left row h before is = record {
-  taken = h.taken ∙ ap (λ items. map Ok done ++ items) is ∙ sym (ap (λ l. l ++ left) (map-append Ok done (row ∷ [])) ∙ append_assoc (map Ok done) (Ok row ∷ []) left);
+  taken = h.taken ∙ ap (λ items. map Ok done ++ items) is
+      ∙ sym (ap (λ l. l ++ left) (map-append Ok done (row ∷ [])) ∙ append_assoc (map Ok done) (Ok row ∷ []) left);
   within = rw (length-append done (row ∷ [])) (λ after. reached_now limit (length done) before after);
 }
 
 -- what the test of a loop says, which passes its limit as 32 bits
-pub test_is : (limit : ℤ) (m n : ℕ) (r b : Bool) → SFits w32 limit → r ≡ is_reached (to_z w32 (of_z w32 limit)) m → m ≡ n → r ≡ b → is_reached limit n ≡ b
+pub test_is : (limit : ℤ) (m n : ℕ) (r b : Bool) → SFits w32 limit → r ≡ is_reached (to_z w32 (of_z w32 limit)) m → m ≡ n → r ≡ b
+    → is_reached limit n ≡ b
 test_is limit m n r b fits is len e =
     ap (λ (z : ℤ). is_reached z n) (sym (to_z-of_z w32 limit fits)) ∙ ap (is_reached (to_z w32 (of_z w32 limit))) (sym len) ∙ sym is ∙ e

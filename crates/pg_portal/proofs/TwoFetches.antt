@@ -22,7 +22,8 @@ whole [] = refl
 whole (Ok row ∷ items) = ap (λ items. Ok row ∷ items) (whole items)
 whole (Err error ∷ items) = refl
 
-tail_is : (items : List RowItem) → (tail_of items ≡ []) ⊎ ((error : PgWireError) × (left : List RowItem) × (tail_of items ≡ Err error ∷ left))
+tail_is : (items : List RowItem) → (tail_of items ≡ [])
+    ⊎ ((error : PgWireError) × (left : List RowItem) × (tail_of items ≡ Err error ∷ left))
 tail_is [] = inl refl
 tail_is (Ok row ∷ items) = tail_is items
 tail_is (Err error ∷ items) = inr (error, items, refl)
@@ -33,15 +34,20 @@ reached_at a n h e = grind (arith, nat_tests)
 not_reached : (a n : ℕ) → n < a → is_reached (pos a) n ≡ false
 not_reached a n h = grind (arith, nat_tests)
 
-fetched_at_limit : (a : ℕ) (r : ToldRows) (d : ℕ) (x : List DataRow) (items : List RowItem) → 1 ≤ a → length x ≡ a → r.items ≡ map Ok x ++ items
+fetched_at_limit : (a : ℕ) (r : ToldRows) (d : ℕ) (x : List DataRow) (items : List RowItem) → 1 ≤ a → length x ≡ a
+    → r.items ≡ map Ok x ++ items
     → fetched (pos a) (Started r d) ≡ fetched_page r d x (AtLimit items)
 fetched_at_limit a r d x items h len e =
-    ends_so (pos a) r d x (AtLimit items) (ap (item_page (pos a)) e ∙ page_at_limit (pos a) x items (reached_at a (length x) h len) (sym len))
+    ends_so (pos a) r d x (AtLimit items) (ap (item_page (pos a)) e
+    ∙ page_at_limit (pos a) x items (reached_at a (length x) h len) (sym len))
 
-fetched_at_end : (a : ℕ) (r : ToldRows) (d : ℕ) (x : List DataRow) → length x < a → r.items ≡ map Ok x ++ [] → fetched (pos a) (Started r d) ≡ fetched_page r d x AtEnd
-fetched_at_end a r d x h e = ends_so (pos a) r d x AtEnd (ap (item_page (pos a)) e ∙ page_at_end (pos a) x [] refl (not_reached a (length x) h))
+fetched_at_end : (a : ℕ) (r : ToldRows) (d : ℕ) (x : List DataRow) → length x < a → r.items ≡ map Ok x ++ []
+    → fetched (pos a) (Started r d) ≡ fetched_page r d x AtEnd
+fetched_at_end a r d x h e = ends_so (pos a) r d x AtEnd (ap (item_page (pos a)) e
+    ∙ page_at_end (pos a) x [] refl (not_reached a (length x) h))
 
-fetched_at_error : (a : ℕ) (r : ToldRows) (d : ℕ) (x : List DataRow) (error : PgWireError) (left : List RowItem) → length x < a → r.items ≡ map Ok x ++ Err error ∷ left
+fetched_at_error : (a : ℕ) (r : ToldRows) (d : ℕ) (x : List DataRow) (error : PgWireError) (left : List RowItem) → length x < a
+    → r.items ≡ map Ok x ++ Err error ∷ left
     → fetched (pos a) (Started r d) ≡ fetched_page r d [] (AtError error left)
 fetched_at_error a r d x error left h e =
     ends_so (pos a) r d [] (AtError error left) (ap (item_page (pos a)) e ∙ page_at_error (pos a) x error left (not_reached a (length x) h))
@@ -64,7 +70,8 @@ module _ (a b : ℕ) (r : ToldRows) (d : ℕ) (ha : 1 ≤ a) (hb : 1 ≤ b) wher
   both_full : (x y : List DataRow) (t : List RowItem) → length x ≡ a → length y ≡ b → r.items ≡ map Ok x ++ (map Ok y ++ t)
       → IsOne b (fetched (pos a) (Started r d)) (fetched (pos (a + b)) (Started r d))
   both_full x y t lx ly e =
-      one_from b _ _ _ _ _ (fetched_at_limit a r d x (map Ok y ++ t) ha lx e) (fetched_at_limit b (with_items r (map Ok y ++ t)) (delivered_after d (length x)) y t hb ly refl)
+      one_from b _ _ _ _ _ (fetched_at_limit a r d x (map Ok y ++ t) ha lx e)
+      (fetched_at_limit b (with_items r (map Ok y ++ t)) (delivered_after d (length x)) y t hb ly refl)
       (fetched_at_limit (a + b) r d (x ++ y) t (omega arith) (omega (arith, length-append x y)) (e ∙ joined x y t))
       (λ p q. record { answered = refl; rows = refl; stage = ap (Started (with_items r t)) (sum_after x y) })
 
@@ -73,12 +80,14 @@ module _ (a b : ℕ) (r : ToldRows) (d : ℕ) (ha : 1 ≤ a) (hb : 1 ≤ b) wher
       → IsOne b (fetched (pos a) (Started r d)) (fetched (pos (a + b)) (Started r d))
   second_ends x y t lx ly e (inl none) =
       let at = e ∙ ap (λ t. map Ok x ++ (map Ok y ++ t)) none in
-      one_from b _ _ _ _ _ (fetched_at_limit a r d x (map Ok y ++ []) ha lx at) (fetched_at_end b (with_items r (map Ok y ++ [])) (delivered_after d (length x)) y ly refl)
+      one_from b _ _ _ _ _ (fetched_at_limit a r d x (map Ok y ++ []) ha lx at)
+      (fetched_at_end b (with_items r (map Ok y ++ [])) (delivered_after d (length x)) y ly refl)
       (fetched_at_end (a + b) r d (x ++ y) (omega (arith, length-append x y)) (at ∙ joined x y []))
       (λ p q. record { answered = refl; rows = refl; stage = ap Ended (sum_after x y) })
   second_ends x y t lx ly e (inr met) =
       let at = e ∙ ap (λ t. map Ok x ++ (map Ok y ++ t)) met.2 in
-      one_from b _ _ _ _ _ (fetched_at_limit a r d x (map Ok y ++ Err met.0 ∷ met.1) ha lx at) (fetched_at_error b (with_items r (map Ok y ++ Err met.0 ∷ met.1)) (delivered_after d (length x)) y met.0 met.1 ly refl)
+      one_from b _ _ _ _ _ (fetched_at_limit a r d x (map Ok y ++ Err met.0 ∷ met.1) ha lx at)
+      (fetched_at_error b (with_items r (map Ok y ++ Err met.0 ∷ met.1)) (delivered_after d (length x)) y met.0 met.1 ly refl)
       refl (λ p q. cc)
 
   first_ends : (x : List DataRow) (t : List RowItem) → length x < a → r.items ≡ map Ok x ++ t
@@ -99,7 +108,8 @@ module _ (a b : ℕ) (r : ToldRows) (d : ℕ) (ha : 1 ≤ a) (hb : 1 ≤ b) wher
       → (p : Bool) → nat_le b (length (drop a rows)) ≡ p → IsOne b (fetched (pos a) (Started r d)) (fetched (pos (a + b)) (Started r d))
   by_second rows t h e k true is =
       let more : b ≤ length (drop a rows) = grind (arith, nat_tests) in
-      both_full (take a rows) (take b (drop a rows)) (map Ok (drop b (drop a rows)) ++ t) (length-take-le a rows h) (length-take-le b (drop a rows) more)
+      both_full (take a rows) (take b (drop a rows)) (map Ok (drop b (drop a rows)) ++ t) (length-take-le a rows h)
+      (length-take-le b (drop a rows) more)
       (e ∙ parted a rows t ∙ ap (λ l. map Ok (take a rows) ++ l) (parted b (drop a rows) t))
   by_second rows t h e k false is =
       let less : length (drop a rows) < b = grind (arith, nat_tests) in
@@ -116,7 +126,8 @@ module _ (a b : ℕ) (r : ToldRows) (d : ℕ) (ha : 1 ≤ a) (hb : 1 ≤ b) wher
       first_ends rows t less e k
 
   started : IsOne b (fetched (pos a) (Started r d)) (fetched (pos (a + b)) (Started r d))
-  started = by_first (before_error r.items) (tail_of r.items) (whole r.items) (tail_is r.items) (nat_le a (length (before_error r.items))) refl
+  started = by_first (before_error r.items) (tail_of r.items) (whole r.items) (tail_is r.items) (nat_le a (length (before_error r.items)))
+      refl
 
 pub one_fetch : (a b : ℕ) (stage : Stage) → 1 ≤ a → 1 ≤ b → IsOne b (fetched (pos a) stage) (fetched (pos (a + b)) stage)
 one_fetch a b Unstarted ha hb = λ p q. cc

@@ -33,7 +33,8 @@ abbrev pub with_cell : RowSoFar → Option (List ℕ) → RowSoFar
 with_cell row cell = record { fields = row.fields; payload = row.payload ++ cell_bytes cell; cells = row.cells + 1 }
 
 -- the cell of a value in a format, of what the value tells of itself in each
-abbrev pub field_cell : {T : Type 0} → (T → PgType → Cell) → (T → PgType → FormatOptions → Cell) → T → PgType → FieldFormat → FormatOptions → Cell
+abbrev pub field_cell : {T : Type 0} → (T → PgType → Cell) → (T → PgType → FormatOptions → Cell) → T → PgType → FieldFormat → FormatOptions
+    → Cell
 field_cell binary text value ty Binary options = binary value ty
 field_cell binary text value ty Text options = text value ty options
 

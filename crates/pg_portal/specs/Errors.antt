@@ -19,7 +19,9 @@ info_of (wire.UserError info) = info
 info_of wire.NotReadyForQuery = error (codes "08P01") (codes "not ready for query")
 info_of (wire.InvalidOptionValue value) = error (codes "22023") (codes "invalid option value " ++ quoted value)
 info_of wire.PortalNotStarted = error (codes "XX000") (codes "portal is not started")
-info_of (wire.InvalidRustTypeForParameter name) = error (codes "XX000") (codes "type " ++ name ++ codes " is not accepted for the parameter")
-info_of (wire.ParameterIndexOutOfBound index) = error (codes "XX000") (codes "parameter index " ++ decimal index ++ codes " is out of bounds")
+info_of (wire.InvalidRustTypeForParameter name) =
+    error (codes "XX000") (codes "type " ++ name ++ codes " is not accepted for the parameter")
+info_of (wire.ParameterIndexOutOfBound index) = error (codes "XX000")
+    (codes "parameter index " ++ decimal index ++ codes " is out of bounds")
 info_of (wire.FailedToParseParameter cause) = error (codes "XX000") (codes "failed to parse parameter")
 info_of wire.NoMemory = error (codes "XX000") (codes "out of memory")

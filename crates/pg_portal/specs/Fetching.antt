@@ -115,5 +115,6 @@ IsPage limit old delivered new page = (Ok page ≡ (fetched limit (Started old d
 -- no page: memory is wanting, or an error stands in the place of a row
 abbrev pub IsRefusedPage : ℤ → ToldRows → ℕ → ToldRows → PgWireError → Type 0
 IsRefusedPage limit old delivered new error = ((error ≡ NoMemory) × IsKept (Started old delivered) (Started new delivered))
-    ⊎ ((Err error ≡ (fetched limit (Started old delivered)).answer) × (Started new delivered ≡ (fetched limit (Started old delivered)).stage)
+    ⊎ ((Err error ≡ (fetched limit (Started old delivered)).answer)
+    × (Started new delivered ≡ (fetched limit (Started old delivered)).stage)
     × AreTaken old.items (Err error) new.items)

@@ -18,7 +18,11 @@ types_of oids = map type_of_oid oids
 
 -- the statement that a parser told, under the name of its Parse
 abbrev pub stored : {S : Type 0} → Parse → Result (Option S) PgWireError → Result (Option (StoredStatement S)) PgWireError
-stored message (Ok (Some statement)) = Ok (Some (record { id = message.name; statement = statement; parameter_types = types_of message.type_oids }))
+stored message (Ok (Some statement)) = Ok (Some (record {
+  id = message.name;
+  statement = statement;
+  parameter_types = types_of message.type_oids;
+}))
 stored message (Ok None) = Ok None
 stored message (Err error) = Err error
 

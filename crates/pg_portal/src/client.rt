@@ -80,7 +80,8 @@ impl Metadata {
         self.parameters.get(name)
     }
 
-    /// Puts a value under a name, in the place of one that is there. After an error nothing has changed.
+    /// Puts a value under a name, in the place of one that is there. After an error nothing has
+    /// changed.
     pub fn insert(&mut self, name: PgStr, value: PgStr) -> Result<(), AllocError>
         ensures ok { OnOk result (self.new ≡ fin.insert self.old name value) }
         ensures err { OnErr result (self.new ≡ self.old) }

@@ -50,8 +50,8 @@ impl From<AllocError> for PgWireError {
 }
 
 impl PgWireError {
-    /// What a client is told of the error: its severity, its code and its message. Want of memory has no text, so
-    /// `NoMemory` is always an error here.
+    /// What a client is told of the error: its severity, its code and its message. Want of memory
+    /// has no text, so `NoMemory` is always an error here.
     pub fn into_info(self, alloc: Global) -> Result<ErrorInfo, AllocError>
         ensures info { IfOk result (λ info. info ≡ info_of self) }
         ensures untold { self ≡ PgWireError.NoMemory → IsErr result }
@@ -134,7 +134,8 @@ fn invalid_option_value(alloc: Global, value: &str) -> Result<ErrorInfo, AllocEr
 
 /// What is told of a type, by its name, that isn't read as the value that was asked for.
 fn invalid_rust_type(alloc: Global, name: &str) -> Result<ErrorInfo, AllocError>
-    ensures { IfOk result (λ info. info ≡ info_of (PgWireError.InvalidRustTypeForParameter name.now)) }
+    ensures { IfOk result (λ info. info
+        ≡ info_of (PgWireError.InvalidRustTypeForParameter name.now)) }
 {
     told(
         alloc,
@@ -167,7 +168,8 @@ fn told(
     text: &str,
     after: &str,
 ) -> Result<ErrorInfo, AllocError>
-    ensures { IfOk result (λ info. info ≡ error_info code.now (before.now ++ text.now ++ after.now)) }
+    ensures { IfOk result (λ info. info
+        ≡ error_info code.now (before.now ++ text.now ++ after.now)) }
 {
     let mut message = String::from_str(alloc, before)?;
     message.push_str(text)?;

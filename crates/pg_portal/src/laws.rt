@@ -1,4 +1,5 @@
-//! Laws of pages, stores and columns. Each function takes nothing and does nothing: its contract is the law.
+//! Laws of pages, stores and columns. Each function takes nothing and does nothing: its contract is
+//! the law.
 
 ghost use Rattle.std.specs.Prelude.{◌≡◌, ◌≢◌, ◌↔◌, ℕ, ◌+◌, ◌≤◌, pos, List, Some, IsOk, true};
 ghost use Rattle.std.specs.FinMap as fin;
@@ -8,8 +9,8 @@ ghost use Rattle.pg_portal.specs.Names.{NameMap};
 ghost use Rattle.pg_portal.specs.SameFields.{is_same_field};
 ghost use Rattle.pg_portal.specs.Told.{Stage};
 
-/// Two fetches of positive limits, one after another and without a row's error, give the rows that one fetch of
-/// both limits together gives, and leave the portal as far.
+/// Two fetches of positive limits, one after another and without a row's error, give the rows that
+/// one fetch of both limits together gives, and leave the portal as far.
 pub fn two_fetches_are_one()
     ensures { (a b : ℕ) (stage : Stage) → 1 ≤ a → 1 ≤ b
         → IsOk (fetched (pos a) stage).answer

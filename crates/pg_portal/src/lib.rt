@@ -1,5 +1,5 @@
-//! Statements and portals of a session: how queries are parsed, bound and fetched page by page, and the
-//! store that keeps them.
+//! Statements and portals of a session: how queries are parsed, bound and fetched page by page, and
+//! the store that keeps them.
 #![tactic(auto)]
 
 mod client;

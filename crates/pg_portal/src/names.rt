@@ -46,7 +46,8 @@ impl<T> Named<T> {
         self.entries.get(name)
     }
 
-    /// Puts an entry under a name, in the place of one that is there. After an error nothing has changed.
+    /// Puts an entry under a name, in the place of one that is there. After an error nothing has
+    /// changed.
     pub fn put(&mut self, name: PgStr, entry: T) -> Result<(), AllocError>
     where
         T: Drop,
@@ -75,8 +76,8 @@ impl<T> Named<T> {
         self.entries.clear();
     }
 
-    /// The entry under a name, lent, or None exactly where there is none. What it is when the borrow ends stands
-    /// under the name, and all else is as it was.
+    /// The entry under a name, lent, or None exactly where there is none. What it is when the
+    /// borrow ends stands under the name, and all else is as it was.
     pub fn get_mut(&mut self, name: &str) -> Option<&mut T>
         ensures* writes_back { sem 𝓛 (LendsSo (the_row T.row) T.row self.entry result
             (λ n w. OnSome result (n ≡ map.insert self.old name.now w)) (λ n. n ≡ self.old)) }

@@ -12,7 +12,8 @@ use crate::rows::RowSource;
 use pg_messages::{CopyData, DataRow};
 use std::alloc::AllocError;
 
-/// What makes rows one at a time, each by its index: finitely many items, each a row or an error in its place.
+/// What makes rows one at a time, each by its index: finitely many items, each a row or an error in
+/// its place.
 pub trait RowMaker: Drop {
     // the items, in their order
     ghost items: { Self → List RowItem };
@@ -21,15 +22,17 @@ pub trait RowMaker: Drop {
     fn rows(&self) -> usize
         ensures { result ≡ length (items self.now) };
 
-    /// The item at an index, made anew. It can be sent as a reply, and no error in the place of a row is one that the
-    /// session itself tells: `NoMemory`, `QueryCanceled`, `NotReadyForQuery`, `PortalNotStarted`.
+    /// The item at an index, made anew. It can be sent as a reply, and no error in the place of a
+    /// row is one that the session itself tells: `NoMemory`, `QueryCanceled`, `NotReadyForQuery`,
+    /// `PortalNotStarted`.
     fn make(&self, index: usize) -> Result<Result<DataRow, PgWireError>, AllocError>
         requires { index < length (items self.now) }
         ensures item { IfOk result (λ item. slice_get (items self.now) index ≡ Some item) }
         ensures sendable { IfOk result IsSendable };
 }
 
-/// What makes data of a COPY one at a time, each by its index: finitely many items, each data or an error in its place.
+/// What makes data of a COPY one at a time, each by its index: finitely many items, each data or an
+/// error in its place.
 pub trait CopyMaker: Drop {
     // the items, in their order
     ghost items: { Self → List CopyItem };
@@ -38,8 +41,9 @@ pub trait CopyMaker: Drop {
     fn data_len(&self) -> usize
         ensures { result ≡ length (items self.now) };
 
-    /// The item at an index, made anew. It can be sent as a reply, and no error in the place of data is one that the
-    /// session itself tells: `NoMemory`, `QueryCanceled`, `NotReadyForQuery`, `PortalNotStarted`.
+    /// The item at an index, made anew. It can be sent as a reply, and no error in the place of
+    /// data is one that the session itself tells: `NoMemory`, `QueryCanceled`, `NotReadyForQuery`,
+    /// `PortalNotStarted`.
     fn make_data(&self, index: usize) -> Result<Result<CopyData, PgWireError>, AllocError>
         requires { index < length (items self.now) }
         ensures item { IfOk result (λ item. slice_get (items self.now) index ≡ Some item) }
@@ -68,7 +72,8 @@ impl<M: RowMaker> OnDemand<M> {
 impl<M: RowMaker> RowSource for OnDemand<M> {
     ghost items = { λ source. drop source.position (M.items source.maker) };
 
-    /// One item is made, and the position moves by one. It stays at the end, and after want of memory.
+    /// One item is made, and the position moves by one. It stays at the end, and after want of
+    /// memory.
     #[inline(always)]
     fn next(&mut self) -> Result<Option<Result<DataRow, PgWireError>>, AllocError>
         ensures next { IsNext (drop self.old.position (M.items self.old.maker)) result
@@ -89,7 +94,8 @@ impl<M: RowMaker> RowSource for OnDemand<M> {
 impl<M: CopyMaker> CopySource for OnDemand<M> {
     ghost items = { λ source. drop source.position (M.items source.maker) };
 
-    /// One item is made, and the position moves by one. It stays at the end, and after want of memory.
+    /// One item is made, and the position moves by one. It stays at the end, and after want of
+    /// memory.
     fn next(&mut self) -> Result<Option<Result<CopyData, PgWireError>>, AllocError>
         ensures next { IsNextCopy (drop self.old.position (M.items self.old.maker)) result
             (drop self.new.position (M.items self.new.maker)) }

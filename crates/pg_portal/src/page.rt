@@ -50,8 +50,8 @@ impl RowReceiver for PgList<DataRow> {
 pub struct DeliveredPage {
     /// Whether it ended at its limit, and else at the end of the rows.
     pub suspended: bool,
-    /// How many rows were delivered since the portal was started, with those of this page. The number stands still at
-    /// the greatest u64.
+    /// How many rows were delivered since the portal was started, with those of this page. The
+    /// number stands still at the greatest u64.
     pub delivered: u64,
 }
 
@@ -63,8 +63,8 @@ fn is_reached(max_rows: i32, rows: usize) -> bool
     max_rows >= 1 && max_rows.cast_unsigned() as usize <= rows
 }
 
-/// How many rows were delivered since a portal was started: so many before a page, and those of it. The number stands
-/// still at the greatest u64.
+/// How many rows were delivered since a portal was started: so many before a page, and those of it.
+/// The number stands still at the greatest u64.
 #[inline(always)]
 fn delivered_after(before: u64, rows: usize) -> u64
     ensures { result ≡ delivered_after before rows }
@@ -72,11 +72,13 @@ fn delivered_after(before: u64, rows: usize) -> u64
     before.saturating_add(rows as u64)
 }
 
-/// Delivers the next page of rows to a receiver: at most so many rows, and below 1 all of them. So many rows were
-/// delivered before. It is suspended where the limit was reached, also where the last row reached it, and else complete.
+/// Delivers the next page of rows to a receiver: at most so many rows, and below 1 all of them. So
+/// many rows were delivered before. It is suspended where the limit was reached, also where the
+/// last row reached it, and else complete.
 ///
-/// The error of an item is answered: the receiver has the rows before it, and the item is gone. After `NoMemory` the
-/// receiver has the rows so far, and of those that are gone at most the last is lost. No row is taken ahead.
+/// The error of an item is answered: the receiver has the rows before it, and the item is gone.
+/// After `NoMemory` the receiver has the rows so far, and of those that are gone at most the last
+/// is lost. No row is taken ahead.
 pub fn deliver_page<R: RowSource, T: RowReceiver>(
     rows: &mut R,
     receiver: &mut T,
@@ -108,7 +110,8 @@ pub fn deliver_page<R: RowSource, T: RowReceiver>(
             Some(Err(error)) => return Err(error),
             Some(Ok(row)) => receiver.receive(row)?,
         }
-        // No list is so long that the count stands still; a receiver that counts rows alone may see it.
+        // No list is so long that the count stands still; a receiver that counts rows alone may see
+        // it.
         count = count.saturating_add(1);
     }
     Ok(DeliveredPage {

@@ -12,12 +12,13 @@ use pg_text::{CellError, FieldFormat, FormatOptions, FromSql, FromSqlText, PgTyp
 use std::alloc::Global;
 
 impl<S: Drop, R: RowSource> Portal<S, R> {
-    /// The parameter at an index, read as a value of a type, or None for a null. Its format is that of the portal at
-    /// this index; a text is read with the default options.
+    /// The parameter at an index, read as a value of a type, or None for a null. Its format is that
+    /// of the portal at this index; a text is read with the default options.
     ///
-    /// `InvalidRustTypeForParameter`, with the type's name, comes where the value isn't read of that type; then
-    /// `ParameterIndexOutOfBound` past the parameters or past individual formats; then `FailedToParseParameter` with
-    /// the refusal of the bytes. A value that finds no memory is `NoMemory`.
+    /// `InvalidRustTypeForParameter`, with the type's name, comes where the value isn't read of
+    /// that type; then `ParameterIndexOutOfBound` past the parameters or past individual formats;
+    /// then `FailedToParseParameter` with the refusal of the bytes. A value that finds no memory is
+    /// `NoMemory`.
     pub fn parameter<T: FromSql + FromSqlText>(
         &self,
         alloc: Global,
@@ -25,7 +26,8 @@ impl<S: Drop, R: RowSource> Portal<S, R> {
         pg_type: PgType,
     ) -> Result<Option<T>, PgWireError>
         ensures { IsOutcome
-            (parameter T.accepted T.FromSql.read T.FromSqlText.read (bound_of self.now) idx pg_type) result }
+            (parameter T.accepted T.FromSql.read T.FromSqlText.read (bound_of self.now) idx pg_type)
+            result }
     {
         if !T::accepts(pg_type) {
             let name = PgStr::copy_of(alloc, pg_type.name())?;

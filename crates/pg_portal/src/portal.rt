@@ -49,7 +49,8 @@ impl From<i16> for Format {
 }
 
 impl Format {
-    /// The format of the value at an index, or None exactly where it is past individual codes. No memory is taken.
+    /// The format of the value at an index, or None exactly where it is past individual codes. No
+    /// memory is taken.
     pub fn format_for(&self, idx: usize) -> Option<FieldFormat>
         ensures { result ≡ format_for self.now idx }
     {
@@ -137,8 +138,8 @@ pub struct FetchResult {
     pub command_tag: PgStr,
     /// Whether the page ended at its limit.
     pub suspended: bool,
-    /// How many rows were delivered since the portal was started, with those of this page. The number stands still at
-    /// the greatest u64.
+    /// How many rows were delivered since the portal was started, with those of this page. The
+    /// number stands still at the greatest u64.
     pub delivered: u64,
 }
 
@@ -157,8 +158,9 @@ pub struct Portal<S, R> {
     pub result_column_format: Format,
     /// How far it has come.
     pub state: PortalExecutionState<R>,
-    /// How many rows were delivered since it was started. Rows of a page that an error cut short aren't counted. The
-    /// number stands still at the greatest u64, and tells nothing before the portal is started.
+    /// How many rows were delivered since it was started. Rows of a page that an error cut short
+    /// aren't counted. The number stands still at the greatest u64, and tells nothing before the
+    /// portal is started.
     pub delivered: u64,
 }
 
@@ -169,7 +171,8 @@ impl<S: Drop, R: RowSource> Portal<S, R> {
         bind: &Bind,
         statement: Arc<StoredStatement<S>>,
     ) -> Result<Portal<S, R>, PgWireError>
-        ensures bound { IfOk result (λ portal. bound_of portal ≡ bound_by bind.now (arc_value statement)) }
+        ensures bound { IfOk result (λ portal. bound_of portal
+            ≡ bound_by bind.now (arc_value statement)) }
         ensures unstarted { IfOk result (λ portal. stage_of R.items portal ≡ Unstarted) }
         ensures delivered { IfOk result (λ portal. portal.delivered ≡ 0) }
         ensures refusal { IfErr result (λ error. error ≡ PgWireError.NoMemory) }
@@ -220,7 +223,8 @@ impl<S: Drop, R: RowSource> Portal<S, R> {
         &self.state
     }
 
-    /// Starts the portal with a response, whatever it was before: no row of it is delivered yet. No memory is taken.
+    /// Starts the portal with a response, whatever it was before: no row of it is delivered yet. No
+    /// memory is taken.
     pub fn start(&mut self, response: QueryResponse<R>)
         ensures started { stage_of R.items self.new ≡ Started (told_rows R.items response) 0 }
         ensures bound { bound_of self.new ≡ bound_of self.old }
@@ -229,13 +233,15 @@ impl<S: Drop, R: RowSource> Portal<S, R> {
         self.delivered = 0;
     }
 
-    /// The next page: at most so many rows, and below 1 all of them. It is suspended where the limit was reached,
-    /// also where the last row reached it, and else complete. `delivered` of the page and of the portal grow by its
-    /// rows. A finished portal has no further row, the tag `SELECT`, and the number that was delivered.
+    /// The next page: at most so many rows, and below 1 all of them. It is suspended where the
+    /// limit was reached, also where the last row reached it, and else complete. `delivered` of the
+    /// page and of the portal grow by its rows. A finished portal has no further row, the tag
+    /// `SELECT`, and the number that was delivered.
     ///
-    /// `PortalNotStarted` comes exactly where the portal wasn't started. The error of an item is answered; then
-    /// the item and the rows of this page before it are gone, and aren't counted. After `NoMemory` a started portal
-    /// is still started, and rows of this page may be gone; any other is as it was.
+    /// `PortalNotStarted` comes exactly where the portal wasn't started. The error of an item is
+    /// answered; then the item and the rows of this page before it are gone, and aren't counted.
+    /// After `NoMemory` a started portal is still started, and rows of this page may be gone; any
+    /// other is as it was.
     pub fn fetch(&mut self, alloc: Global, max_rows: i32) -> Result<FetchResult, PgWireError>
         ensures page { IfOk result (λ page.
             Ok page ≡ (fetched max_rows (stage_of R.items self.old)).answer) }

@@ -14,9 +14,9 @@ pub trait RowSource: Drop {
     // the items to come
     ghost items: { Self → List RowItem };
 
-    /// The next item, or None exactly at the end. Each can be sent as a reply, and no error in the place of a row is one
-    /// that the session itself tells: `NoMemory`, `QueryCanceled`, `NotReadyForQuery`, `PortalNotStarted`. After an
-    /// AllocError all items are still to come.
+    /// The next item, or None exactly at the end. Each can be sent as a reply, and no error in the
+    /// place of a row is one that the session itself tells: `NoMemory`, `QueryCanceled`,
+    /// `NotReadyForQuery`, `PortalNotStarted`. After an AllocError all items are still to come.
     fn next(&mut self) -> Result<Option<Result<DataRow, PgWireError>>, AllocError>
         ensures next { IsNext (items self.old) result (items self.new) }
         ensures sendable { IfOk result (λ found. IfSome found IsSendable) };

@@ -30,8 +30,8 @@ pub trait QueryParser {
     // what it answers
     ghost told: { Self → ParserTold Self.Statement };
 
-    /// The statement of a query, whose parameters' types are given as far as the client knows them. None is an
-    /// empty statement.
+    /// The statement of a query, whose parameters' types are given as far as the client knows them.
+    /// None is an empty statement.
     fn parse_sql(
         &self,
         alloc: Global,
@@ -42,7 +42,8 @@ pub trait QueryParser {
         requires short_metadata { HasShortMetadata client.now }
         requires short_query { IsShortText sql.now }
         ensures outcome { IsOutcome ((told self.now).parse client.now sql.now types.now) result }
-        ensures given { IfOk result (λ found. IfSome found (λ s. IsTrue ((told self.now).gives s))) }
+        ensures given { IfOk result (λ found. IfSome found
+            (λ s. IsTrue ((told self.now).gives s))) }
         ensures answerable { IfErr result IsAnswerable };
 
     /// The types of a statement's parameters, as the server knows them.
@@ -55,7 +56,8 @@ pub trait QueryParser {
         ensures outcome { IsOutcome ((told self.now).parameter_types stmt.now) result }
         ensures answerable { IfErr result IsAnswerable };
 
-    /// The columns of a statement's rows, in these formats or in none yet. They can be sent as a reply.
+    /// The columns of a statement's rows, in these formats or in none yet. They can be sent as a
+    /// reply.
     fn get_result_schema(
         &self,
         alloc: Global,
@@ -167,7 +169,11 @@ impl<S: Drop> StoredStatement<S> {
         statement: S,
         parameter_types: PgList<Option<PgType>>,
     ) -> StoredStatement<S>
-        ensures { result ≡ record { id = id; statement = statement; parameter_types = parameter_types } }
+        ensures { result ≡ record {
+          id = id;
+          statement = statement;
+          parameter_types = parameter_types;
+        } }
     {
         StoredStatement {
             id,
@@ -176,9 +182,9 @@ impl<S: Drop> StoredStatement<S> {
         }
     }
 
-    /// The statement of a Parse, under its name. None is an empty statement: of a query of whitespace and
-    /// semicolons alone, of which the parser isn't asked, and where the parser tells None. A type that isn't known
-    /// is left open. The errors are the parser's, and `NoMemory`.
+    /// The statement of a Parse, under its name. None is an empty statement: of a query of
+    /// whitespace and semicolons alone, of which the parser isn't asked, and where the parser tells
+    /// None. A type that isn't known is left open. The errors are the parser's, and `NoMemory`.
     pub fn parse<Q: QueryParser<Statement = S>>(
         alloc: Global,
         client: &ClientInfo,

@@ -46,7 +46,8 @@ impl<T> Entry<T> {
 
     /// The value, lent, or None exactly where the entry is empty.
     pub(crate) fn value_mut(&mut self) -> Option<&mut T>
-        ensures* writes_back { sem 𝓛 (LendsIf (entry_row T.row) T.row self.entry result entry.Value self.old) }
+        ensures* writes_back { sem 𝓛 (LendsIf (entry_row T.row) T.row self.entry result entry.Value
+            self.old) }
         ensures value { option_copied_mut result ≡ value_of self.old }
     {
         match self {
@@ -56,8 +57,9 @@ impl<T> Entry<T> {
     }
 }
 
-/// Statements and portals under names: two finite maps. What is put replaces what stands under its name and leaves
-/// all else; after an error both maps are as they were. No memory is taken but by the calls that put.
+/// Statements and portals under names: two finite maps. What is put replaces what stands under its
+/// name and leaves all else; after an error both maps are as they were. No memory is taken but by
+/// the calls that put.
 pub trait PortalStore: Drop {
     /// What a statement means.
     type Statement: Drop;
@@ -122,8 +124,9 @@ pub trait PortalStore: Drop {
         ensures { option_map (entry_map (λ portal. portal_of Self.Rows.items portal.now)) result
             ≡ fin.get (maps self.now).portals name.now };
 
-    /// The portal under a name, lent, or None exactly where none stands there or it is empty. What it is when the
-    /// borrow ends stands under this name, whatever its own name is then, and all else is as it was.
+    /// The portal under a name, lent, or None exactly where none stands there or it is empty. What
+    /// it is when the borrow ends stands under this name, whatever its own name is then, and all
+    /// else is as it was.
     fn portal_mut(&mut self, name: &str) -> Option<&mut Portal<Self::Statement, Self::Rows>>
         ensures* writes_back { sem 𝓛 (LendsSo Self.row (portal_row Self.Statement.row Self.Rows.row)
             self.entry result

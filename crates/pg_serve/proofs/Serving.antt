@@ -30,8 +30,10 @@ use Rattle.pg_session.specs.Steps as steps
 use Rattle.pg_serve.specs.Serving.{TakesFrom, ReadsGaveBytes, IsServedRun, IsRunOfTaken, IsCutRunOfTaken, IsStoppedRun, IsStoppedRunOfTaken, GoesOnOver, EndsAtLast, WentSo}
 
 -- what was served is a run over a text that begins with it
-is_run : {T : Type 0} (rules : Rules T) (first : T) {taken rest : List ℕ} {next : Next T} {w v : Option (List ℕ)} {k l : List DeskCall} (x : steps.IsServed rules first taken rest next w v [] [] k l)
-    (text more : List ℕ) (kind : EndKind) → text ≡ taken ++ more → EndsWith rules.awaits next (rest ++ more) kind → IsRun rules first text x.bytes x.called kind
+is_run : {T : Type 0} (rules : Rules T) (first : T) {taken rest : List ℕ} {next : Next T} {w v : Option (List ℕ)} {k l : List DeskCall}
+    (x : steps.IsServed rules first taken rest next w v [] [] k l)
+    (text more : List ℕ) (kind : EndKind) → text ≡ taken ++ more → EndsWith rules.awaits next (rest ++ more) kind
+    → IsRun rules first text x.bytes x.called kind
 is_run rules first {taken} {rest} {next} x text more kind e h = record {
   rest = rest ++ more;
   next = next;
@@ -39,65 +41,81 @@ is_run rules first {taken} {rest} {next} x text more kind e h = record {
   ended = h;
 }
 
-grows_to : (w v : Option (List ℕ)) (sent bytes : List ℕ) (P : List ℕ → Type 0) → GrowsBy w v sent → sent ≡ bytes → P bytes → (replies : List ℕ) × GrowsBy w v replies × P replies
+grows_to : (w v : Option (List ℕ)) (sent bytes : List ℕ) (P : List ℕ → Type 0) → GrowsBy w v sent → sent ≡ bytes → P bytes
+    → (replies : List ℕ) × GrowsBy w v replies × P replies
 grows_to w v sent bytes P g e p = (bytes, subst (λ b. GrowsBy w v b) e g, p)
 
 all_sent : (sent bytes : List ℕ) → sent ++ [] ≡ [] ++ bytes → sent ≡ bytes
 all_sent sent bytes e = sym (append-nil sent) ∙ e
 
 -- the run over the taken bytes, where one more read is needed
-pub run_of_taken : {T : Type 0} (rules : Rules T) (first : T) {s : T} {taken rest : List ℕ} {w v : Option (List ℕ)} {k l : List DeskCall} (left new_left : Option (List ℕ))
-    → TakesFrom left new_left taken → (x : steps.IsServed rules first taken rest (Goes s) w v [] [] k l) → IsUnfinished (rules.awaits s) rest → IsRunOfTaken rules first left new_left w v x.called
+pub run_of_taken : {T : Type 0} (rules : Rules T) (first : T) {s : T} {taken rest : List ℕ} {w v : Option (List ℕ)} {k l : List DeskCall}
+    (left new_left : Option (List ℕ))
+    → TakesFrom left new_left taken → (x : steps.IsServed rules first taken rest (Goes s) w v [] [] k l)
+    → IsUnfinished (rules.awaits s) rest → IsRunOfTaken rules first left new_left w v x.called
 run_of_taken rules first {s} {taken} {rest} {w} {v} left new_left t x short = (
   taken,
   t,
-  grows_to w v x.flows.sent x.bytes (λ replies. IsRun rules first taken replies x.called end.InputEnd) x.flows.grown (all_sent x.flows.sent x.bytes x.flows.same)
-      (is_run rules first x taken [] end.InputEnd (sym (append-nil taken)) (subst (λ r. IsUnfinished (rules.awaits s) r) (sym (append-nil rest)) short)),
+  grows_to w v x.flows.sent x.bytes (λ replies. IsRun rules first taken replies x.called end.InputEnd) x.flows.grown
+      (all_sent x.flows.sent x.bytes x.flows.same)
+      (is_run rules first x taken [] end.InputEnd (sym (append-nil taken))
+      (subst (λ r. IsUnfinished (rules.awaits s) r) (sym (append-nil rest)) short)),
 )
 
 -- the run over all bytes, where the conversation has ended whatever follows
-pub served_run : {T : Type 0} (rules : Rules T) (first : T) {taken rest : List ℕ} {next : Next T} {w v : Option (List ℕ)} {k l : List DeskCall} (left new_left : Option (List ℕ)) (kind : EndKind)
-    → TakesFrom left new_left taken → (x : steps.IsServed rules first taken rest next w v [] [] k l) → ((more : List ℕ) → EndsWith rules.awaits next (rest ++ more) kind) → IsServedRun rules first left w v x.called kind
+pub served_run : {T : Type 0} (rules : Rules T) (first : T) {taken rest : List ℕ} {next : Next T} {w v : Option (List ℕ)}
+    {k l : List DeskCall} (left new_left : Option (List ℕ)) (kind : EndKind)
+    → TakesFrom left new_left taken → (x : steps.IsServed rules first taken rest next w v [] [] k l)
+    → ((more : List ℕ) → EndsWith rules.awaits next (rest ++ more) kind) → IsServedRun rules first left w v x.called kind
 served_run rules first {taken} {w = w} {v = v} None new_left kind t x h = (
   taken,
   tt,
-  grows_to w v x.flows.sent x.bytes (λ replies. IsRun rules first taken replies x.called kind) x.flows.grown (all_sent x.flows.sent x.bytes x.flows.same)
+  grows_to w v x.flows.sent x.bytes (λ replies. IsRun rules first taken replies x.called kind) x.flows.grown
+      (all_sent x.flows.sent x.bytes x.flows.same)
       (is_run rules first x taken [] kind (sym (append-nil taken)) (h [])),
 )
 served_run rules first {w = w} {v = v} (Some text) new_left kind t x h = (
   text,
   refl,
-  grows_to w v x.flows.sent x.bytes (λ replies. IsRun rules first text replies x.called kind) x.flows.grown (all_sent x.flows.sent x.bytes x.flows.same)
+  grows_to w v x.flows.sent x.bytes (λ replies. IsRun rules first text replies x.called kind) x.flows.grown
+      (all_sent x.flows.sent x.bytes x.flows.same)
       (is_run rules first x text t.0 kind t.1 (h t.0)),
 )
 
 -- the same where the end of the input was read
-pub ended_run : {T : Type 0} (rules : Rules T) (first : T) {s : T} {taken rest : List ℕ} {w v : Option (List ℕ)} {k l : List DeskCall} (left mid new_left : Option (List ℕ)) (n : ℕ) (into : List ℕ)
+pub ended_run : {T : Type 0} (rules : Rules T) (first : T) {s : T} {taken rest : List ℕ} {w v : Option (List ℕ)} {k l : List DeskCall}
+    (left mid new_left : Option (List ℕ)) (n : ℕ) (into : List ℕ)
     → TakesFrom left mid taken → IfSome mid (λ bytes. GivesFront n into bytes new_left) → n ≡ 0
-    → (x : steps.IsServed rules first taken rest (Goes s) w v [] [] k l) → IsUnfinished (rules.awaits s) rest → IsServedRun rules first left w v x.called end.InputEnd
+    → (x : steps.IsServed rules first taken rest (Goes s) w v [] [] k l) → IsUnfinished (rules.awaits s) rest
+    → IsServedRun rules first left w v x.called end.InputEnd
 ended_run rules first {s} {taken} {rest} {w} {v} None mid new_left n into t g z x short = (
   taken,
   tt,
-  grows_to w v x.flows.sent x.bytes (λ replies. IsRun rules first taken replies x.called end.InputEnd) x.flows.grown (all_sent x.flows.sent x.bytes x.flows.same)
-      (is_run rules first x taken [] end.InputEnd (sym (append-nil taken)) (subst (λ r. IsUnfinished (rules.awaits s) r) (sym (append-nil rest)) short)),
+  grows_to w v x.flows.sent x.bytes (λ replies. IsRun rules first taken replies x.called end.InputEnd) x.flows.grown
+      (all_sent x.flows.sent x.bytes x.flows.same)
+      (is_run rules first x taken [] end.InputEnd (sym (append-nil taken))
+      (subst (λ r. IsUnfinished (rules.awaits s) r) (sym (append-nil rest)) short)),
 )
 ended_run rules first {s} {taken} {rest} {w} {v} (Some text) mid new_left n into t g z x short =
     let given : GivesFront n into t.0 new_left = subst (λ o. IfSome o (λ bytes. GivesFront n into bytes new_left)) t.2 g in
     let all : text ≡ taken ++ [] = t.1 ∙ ap (λ l. taken ++ l) (given.at_end z) in (
       text,
       refl,
-      grows_to w v x.flows.sent x.bytes (λ replies. IsRun rules first text replies x.called end.InputEnd) x.flows.grown (all_sent x.flows.sent x.bytes x.flows.same)
+      grows_to w v x.flows.sent x.bytes (λ replies. IsRun rules first text replies x.called end.InputEnd) x.flows.grown
+          (all_sent x.flows.sent x.bytes x.flows.same)
           (is_run rules first x text [] end.InputEnd all (subst (λ r. IsUnfinished (rules.awaits s) r) (sym (append-nil rest)) short)),
     )
 
 -- one more piece was taken
-pub takes_more : (left mid new_left : Option (List ℕ)) (taken : List ℕ) (n : ℕ) (into : List ℕ) → TakesFrom left mid taken → IfSome mid (λ bytes. GivesFront n into bytes new_left)
+pub takes_more : (left mid new_left : Option (List ℕ)) (taken : List ℕ) (n : ℕ) (into : List ℕ) → TakesFrom left mid taken
+    → IfSome mid (λ bytes. GivesFront n into bytes new_left)
     → TakesFrom left new_left (taken ++ take n into)
 takes_more None mid new_left taken n into t g = tt
 takes_more (Some text) mid new_left taken n into t g =
     let given : GivesFront n into t.0 new_left = subst (λ o. IfSome o (λ bytes. GivesFront n into bytes new_left)) t.2 g in (
       drop n t.0,
-      t.1 ∙ ap (λ l. taken ++ l) (sym (take-append-drop n t.0)) ∙ sym (append_assoc taken (take n t.0) (drop n t.0)) ∙ ap (λ l. (taken ++ l) ++ drop n t.0) (sym given.given),
+      t.1 ∙ ap (λ l. taken ++ l) (sym (take-append-drop n t.0)) ∙ sym (append_assoc taken (take n t.0) (drop n t.0))
+          ∙ ap (λ l. (taken ++ l) ++ drop n t.0) (sym given.given),
       given.rest,
     )
 
@@ -107,13 +125,16 @@ goes_on_over : {T : Type 0} (rules : Rules T) (first : T) {s : T} {taken rest : 
 goes_on_over rules first {s} {taken} {rest} x short = (
   x.bytes,
   x.called,
-  is_run rules first x taken [] end.InputEnd (sym (append-nil taken)) (subst (λ r. IsUnfinished (rules.awaits s) r) (sym (append-nil rest)) short),
+  is_run rules first x taken [] end.InputEnd (sym (append-nil taken))
+      (subst (λ r. IsUnfinished (rules.awaits s) r) (sym (append-nil rest)) short),
 )
 
 -- the input ended behind what was taken
-pub ends_with_input : {T : Type 0} (rules : Rules T) (first : T) {s : T} {taken rest : List ℕ} {w v : Option (List ℕ)} {k l : List DeskCall} (left mid new_left : Option (List ℕ)) (n : ℕ) (into : List ℕ)
+pub ends_with_input : {T : Type 0} (rules : Rules T) (first : T) {s : T} {taken rest : List ℕ} {w v : Option (List ℕ)} {k l : List DeskCall}
+    (left mid new_left : Option (List ℕ)) (n : ℕ) (into : List ℕ)
     → TakesFrom left mid taken → IfSome mid (λ bytes. GivesFront n into bytes new_left) → n ≡ 0
-    → steps.IsServed rules first taken rest (Goes s) w v [] [] k l → IsUnfinished (rules.awaits s) rest → EndsAtLast rules first left new_left end.InputEnd
+    → steps.IsServed rules first taken rest (Goes s) w v [] [] k l → IsUnfinished (rules.awaits s) rest
+    → EndsAtLast rules first left new_left end.InputEnd
 ends_with_input rules first {taken = taken} left mid new_left n into t g z x short =
     (taken, take n into, takes_more left mid new_left taken n into t g, goes_on_over rules first x short, λ other. absurd (other refl))
 
@@ -130,9 +151,11 @@ last_is_some (Some text) mid new_left taken n into t g ne =
     piece_is_some n into t.0 new_left (subst (λ o. IfSome o (λ bytes. GivesFront n into bytes new_left)) t.2 g) ne
 
 -- the conversation ended with the piece that was taken last
-pub ends_at_last : {T : Type 0} (rules : Rules T) (first : T) {s : T} {taken rest : List ℕ} {w v : Option (List ℕ)} {k l : List DeskCall} (left mid new_left : Option (List ℕ)) (n : ℕ) (into : List ℕ)
+pub ends_at_last : {T : Type 0} (rules : Rules T) (first : T) {s : T} {taken rest : List ℕ} {w v : Option (List ℕ)} {k l : List DeskCall}
+    (left mid new_left : Option (List ℕ)) (n : ℕ) (into : List ℕ)
     → TakesFrom left mid taken → IfSome mid (λ bytes. GivesFront n into bytes new_left) → n ≢ 0
-    → steps.IsServed rules first taken rest (Goes s) w v [] [] k l → IsUnfinished (rules.awaits s) rest → (kind : EndKind) → EndsAtLast rules first left new_left kind
+    → steps.IsServed rules first taken rest (Goes s) w v [] [] k l → IsUnfinished (rules.awaits s) rest → (kind : EndKind)
+    → EndsAtLast rules first left new_left kind
 ends_at_last rules first {taken = taken} left mid new_left n into t g ne x short kind = (
   taken,
   take n into,
@@ -141,12 +164,14 @@ ends_at_last rules first {taken = taken} left mid new_left n into t g ne x short
   λ other. last_is_some left mid new_left taken n into t g ne,
 )
 
-cut_grows : (w v : Option (List ℕ)) (bytes : List ℕ) (P : List ℕ → Type 0) → GrowsByFront w v bytes → ((front : List ℕ) → BeginsWith bytes front → P front) → (front : List ℕ) × GrowsBy w v front × P front
+cut_grows : (w v : Option (List ℕ)) (bytes : List ℕ) (P : List ℕ → Type 0) → GrowsByFront w v bytes
+    → ((front : List ℕ) → BeginsWith bytes front → P front) → (front : List ℕ) × GrowsBy w v front × P front
 cut_grows None v bytes P g p = ([], tt, p [] (bytes, refl))
 cut_grows (Some x) v bytes P g p = (g.0, g.2, p g.0 g.1)
 
 -- a front of the run over the taken bytes
-pub cut_run_of_taken : {T : Type 0} (rules : Rules T) (first : T) {taken : List ℕ} {w v : Option (List ℕ)} {k l : List DeskCall} (left new_left : Option (List ℕ)) → TakesFrom left new_left taken
+pub cut_run_of_taken : {T : Type 0} (rules : Rules T) (first : T) {taken : List ℕ} {w v : Option (List ℕ)} {k l : List DeskCall}
+    (left new_left : Option (List ℕ)) → TakesFrom left new_left taken
     → (x : steps.IsCutOff rules first taken w v [] k l) → IsCutRunOfTaken rules first left new_left w v x.made
 cut_run_of_taken rules first {taken} {w} {v} left new_left t x = (
   taken,
@@ -163,7 +188,8 @@ cut_run_of_taken rules first {taken} {w} {v} left new_left t x = (
 )
 
 -- a run over the taken bytes that stops at a question
-pub stopped_run_of_taken : {T : Type 0} (rules : Rules T) (first : T) {taken : List ℕ} {w v : Option (List ℕ)} {k l : List DeskCall} (left new_left : Option (List ℕ)) → TakesFrom left new_left taken
+pub stopped_run_of_taken : {T : Type 0} (rules : Rules T) (first : T) {taken : List ℕ} {w v : Option (List ℕ)} {k l : List DeskCall}
+    (left new_left : Option (List ℕ)) → TakesFrom left new_left taken
     → (x : steps.IsStopped rules first taken w v [] k l) → IsStoppedRunOfTaken rules first left new_left w v x.made
 stopped_run_of_taken rules first {taken} {w} {v} left new_left t x = (
   taken,
@@ -189,7 +215,8 @@ grows_none None = tt
 grows_none (Some x) = ap Some (sym (append-nil x))
 
 -- nothing was served yet
-pub served_none : {T : Type 0} (rules : Rules T) (s : T) (rest : List ℕ) (w : Option (List ℕ)) (k : List DeskCall) → rest ≡ [] → steps.IsServed rules s [] rest (Goes s) w w [] [] k k
+pub served_none : {T : Type 0} (rules : Rules T) (s : T) (rest : List ℕ) (w : Option (List ℕ)) (k : List DeskCall) → rest ≡ []
+    → steps.IsServed rules s [] rest (Goes s) w w [] [] k k
 served_none rules s rest w k e = subst (λ r. steps.IsServed rules s [] r (Goes s) w w [] [] k k) (sym e) (record {
   bytes = [];
   called = [];
@@ -228,11 +255,13 @@ cut_at_start rules first left w = ([], takes_none left, at w)
       empty,
     )
 
-pub none_went : {T : Type 0} (rules : Rules T) (first : T) (left w : Option (List ℕ)) (error : ServeError) → error ≡ fault.NoMemory → WentSo rules first (Err error) left left w w []
+pub none_went : {T : Type 0} (rules : Rules T) (first : T) (left w : Option (List ℕ)) (error : ServeError) → error ≡ fault.NoMemory
+    → WentSo rules first (Err error) left left w w []
 none_went rules first left w error e = subst (λ x. WentSo rules first (Err x) left left w w []) (sym e) (cut_at_start rules first left w)
 
 -- What was served of the bytes taken, and then took a piece, took the bytes and the piece as one.
-pub conversed : {T : Type 0} (first now new : Talk T) → IsLawful first.rules.table first.rules.awaits → now.rules ≡ first.rules → now.unsent ≡ []
+pub conversed : {T : Type 0} (first now new : Talk T) → IsLawful first.rules.table first.rules.awaits → now.rules ≡ first.rules
+    → now.unsent ≡ []
     → (taken piece : List ℕ) (v : Option (List ℕ)) (l : List DeskCall) (result : Result Progress ServeError)
     → {a w : Option (List ℕ)} {j k : List DeskCall}
     → steps.IsServed first.rules first.state taken now.rest (Goes now.state) a w [] [] j k → (t : TakesPiece now new piece w v k l result)
@@ -242,15 +271,19 @@ conversed first now new lawful same sent taken piece v l result {a} {w} {j} {k} 
     (subst (λ o. steps.WasFed first.rules now.state (now.rest ++ piece) new.state t.0 w v o k l result) sent
     (subst (λ r. steps.WasFed r now.state (now.rest ++ piece) new.state t.0 w v now.unsent k l result) same t.1))
 
-pub goes_to : {T : Type 0} (rules : Rules T) (first : T) {s t : T} {text rest : List ℕ} {next : Next T} {w v : Option (List ℕ)} {o q : List ℕ} {k l : List DeskCall} → next ≡ Goes t
+pub goes_to : {T : Type 0} (rules : Rules T) (first : T) {s t : T} {text rest : List ℕ} {next : Next T} {w v : Option (List ℕ)}
+    {o q : List ℕ} {k l : List DeskCall} → next ≡ Goes t
     → steps.IsServed rules s text rest next w v o q k l → steps.IsServed rules s text rest (Goes t) w v o q k l
-goes_to rules first {s} {t} {text} {rest} {next} {w} {v} {o} {q} {k} {l} e x = subst (λ n. steps.IsServed rules s text rest n w v o q k l) e x
+goes_to rules first {s} {t} {text} {rest} {next} {w} {v} {o} {q} {k} {l} e x =
+    subst (λ n. steps.IsServed rules s text rest n w v o q k l) e x
 
 -- a read that gave a byte counts
-pub counted_more : (n r new_r first asked spent limit : ℕ) → new_r ≡ (if n == 0 then r else min (r + 1) 18446744073709551615) → n ≢ 0 → r + asked ≡ first + spent → spent < limit → first + limit < 2 ^ 64
+pub counted_more : (n r new_r first asked spent limit : ℕ) → new_r ≡ (if n == 0 then r else min (r + 1) 18446744073709551615) → n ≢ 0
+    → r + asked ≡ first + spent → spent < limit → first + limit < 2 ^ 64
     → new_r + asked ≡ first + (spent + 1)
 counted_more n r new_r first asked spent limit e p q h f =
-    ⊎_elim (λ t. absurd (p t.1)) (λ t. let m : new_r ≡ min (r + 1) 18446744073709551615 = e ∙ ap (λ b. cond b r (min (r + 1) 18446744073709551615)) t.0 in omega arith) (eqb_tells n 0)
+    ⊎_elim (λ t. absurd (p t.1)) (λ t. let m : new_r ≡ min (r + 1) 18446744073709551615 = e
+    ∙ ap (λ b. cond b r (min (r + 1) 18446744073709551615)) t.0 in omega arith) (eqb_tells n 0)
 
 -- no read was counted yet
 pub gave_none : (left : Option (List ℕ)) (reads : ℕ) → ReadsGaveBytes left left reads reads
@@ -261,10 +294,12 @@ gave_none (Some text) reads = (text, refl, omega arith)
 counted_within : (n r new_r : ℕ) → new_r ≡ (if n == 0 then r else min (r + 1) 18446744073709551615) → new_r ≤ r + n
 counted_within n r new_r e =
     ⊎_elim (λ t. let m : new_r ≡ r = e ∙ ap (λ b. cond b r (min (r + 1) 18446744073709551615)) t.0 in omega arith)
-    (λ t. let m : new_r ≡ min (r + 1) 18446744073709551615 = e ∙ ap (λ b. cond b r (min (r + 1) 18446744073709551615)) t.0 in let p = t.1 in omega arith) (eqb_tells n 0)
+    (λ t. let m : new_r ≡ min (r + 1) 18446744073709551615 = e
+    ∙ ap (λ b. cond b r (min (r + 1) 18446744073709551615)) t.0 in let p = t.1 in omega arith) (eqb_tells n 0)
 
 -- one more read gave bytes, or the end
-pub gave_more : (left mid new_left : Option (List ℕ)) (first r new_r n : ℕ) (into : List ℕ) → ReadsGaveBytes left mid first r → IfSome mid (λ bytes. GivesFront n into bytes new_left)
+pub gave_more : (left mid new_left : Option (List ℕ)) (first r new_r n : ℕ) (into : List ℕ) → ReadsGaveBytes left mid first r
+    → IfSome mid (λ bytes. GivesFront n into bytes new_left)
     → new_r ≡ (if n == 0 then r else min (r + 1) 18446744073709551615) → ReadsGaveBytes left new_left first new_r
 gave_more None mid new_left first r new_r n into t g e = tt
 gave_more (Some text) mid new_left first r new_r n into t g e =
@@ -275,7 +310,8 @@ gave_more (Some text) mid new_left first r new_r n into t g e =
     let shorter = length-drop n t.0 in (drop n t.0, given.rest, omega (arith, counted, within, before, shorter))
 
 -- one more read failed
-pub gave_unread : (left mid new_left : Option (List ℕ)) (first r new_r : ℕ) → ReadsGaveBytes left mid first r → new_left ≡ mid → new_r ≡ r → ReadsGaveBytes left new_left first new_r
+pub gave_unread : (left mid new_left : Option (List ℕ)) (first r new_r : ℕ) → ReadsGaveBytes left mid first r → new_left ≡ mid → new_r ≡ r
+    → ReadsGaveBytes left new_left first new_r
 gave_unread left mid new_left first r new_r t p q = rw (p, q) t
 
 -- questions of an append
@@ -302,15 +338,20 @@ none_asked a = since a a [] (sym (append-nil a))
 
 -- ---- what an error tells
 
-pub went_by_error : {T : Type 0} (rules : Rules T) (first : T) (error : ServeError) (left new_left w v : Option (List ℕ)) (calls : List DeskCall) → (error ≢ fault.ReadFault)
-    → IsCutRunOfTaken rules first left new_left w v calls → (error ≡ fault.TurnLimit → IsStoppedRunOfTaken rules first left new_left w v calls) → WentSo rules first (Err error) left new_left w v calls
+pub went_by_error : {T : Type 0} (rules : Rules T) (first : T) (error : ServeError) (left new_left w v : Option (List ℕ))
+    (calls : List DeskCall) → (error ≢ fault.ReadFault)
+    → IsCutRunOfTaken rules first left new_left w v calls
+    → (error ≡ fault.TurnLimit → IsStoppedRunOfTaken rules first left new_left w v calls)
+    → WentSo rules first (Err error) left new_left w v calls
 went_by_error rules first fault.ReadFault left new_left w v calls p x stopped = absurd (p refl)
 went_by_error rules first fault.WriteFault left new_left w v calls p x stopped = x
 went_by_error rules first fault.TurnLimit left new_left w v calls p x stopped = inr (stopped refl)
 went_by_error rules first fault.NoMemory left new_left w v calls p x stopped = x
 
-pub caused_by : (error : ServeError) (limit asked : ℕ) (old new : Counts) → (error ≢ fault.ReadFault) → (error ≡ fault.WriteFault → HasRisen old.write_faults new.write_faults)
-    → (error ≡ fault.TurnLimit → old.reads + limit < 2 ^ 64 → new.reads + asked ≡ old.reads + limit) → HasCause (Err error) limit asked old new
+pub caused_by : (error : ServeError) (limit asked : ℕ) (old new : Counts) → (error ≢ fault.ReadFault)
+    → (error ≡ fault.WriteFault → HasRisen old.write_faults new.write_faults)
+    → (error ≡ fault.TurnLimit → old.reads + limit < 2 ^ 64 → new.reads + asked ≡ old.reads + limit)
+    → HasCause (Err error) limit asked old new
 caused_by fault.ReadFault limit asked old new p w t = absurd (p refl)
 caused_by fault.WriteFault limit asked old new p w t = w refl
 caused_by fault.TurnLimit limit asked old new p w t = t refl
@@ -326,7 +367,8 @@ risen_since old mid new p q (inr r) = by_case (eqb_tells old mid)
     by_case (inr differs) = inl (let d = differs.1 in let below : old < new = omega arith in below)
 
 -- spent turns after a piece that ran out of them
-pub all_spent : (before after : Turns) (asked : ℕ) → HasFed {A = Progress} before after asked (Err fault.TurnLimit) → (before.spent ≤ before.limit → after.spent ≤ after.limit) → before.spent ≤ before.limit
+pub all_spent : (before after : Turns) (asked : ℕ) → HasFed {A = Progress} before after asked (Err fault.TurnLimit)
+    → (before.spent ≤ before.limit → after.spent ≤ after.limit) → before.spent ≤ before.limit
     → before.spent + asked ≡ before.limit
 all_spent before after asked fed bounded within =
     let spent : after.spent ≡ before.spent + asked = ap (λ t. t.spent) fed.0 in

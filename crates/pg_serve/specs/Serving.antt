@@ -28,12 +28,14 @@ abbrev pub GoesOnOver : {T : Type 0} → Rules T → T → List ℕ → Type 0
 GoesOnOver rules first text = (replies : List ℕ) × (calls : List DeskCall) × IsRun rules first text replies calls InputEnd
 
 -- What was written has grown by the whole answer to the taken bytes, which end where one more read was needed.
-abbrev pub IsRunOfTaken : {T : Type 0} → Rules T → T → Option (List ℕ) → Option (List ℕ) → Option (List ℕ) → Option (List ℕ) → List DeskCall → Type 0
+abbrev pub IsRunOfTaken : {T : Type 0} → Rules T → T → Option (List ℕ) → Option (List ℕ) → Option (List ℕ) → Option (List ℕ) → List DeskCall
+    → Type 0
 IsRunOfTaken rules first left new_left old new calls = (taken : List ℕ) × TakesFrom left new_left taken
     × ((replies : List ℕ) × GrowsBy old new replies × IsRun rules first taken replies calls InputEnd)
 
 -- What was written has grown by a front of the answer to the taken bytes, and the calls are a front of the answer's.
-abbrev pub IsCutRunOfTaken : {T : Type 0} → Rules T → T → Option (List ℕ) → Option (List ℕ) → Option (List ℕ) → Option (List ℕ) → List DeskCall → Type 0
+abbrev pub IsCutRunOfTaken : {T : Type 0} → Rules T → T → Option (List ℕ) → Option (List ℕ) → Option (List ℕ) → Option (List ℕ)
+    → List DeskCall → Type 0
 IsCutRunOfTaken rules first left new_left old new calls = (taken : List ℕ) × TakesFrom left new_left taken
     × ((front : List ℕ) × GrowsBy old new front × IsCutRun rules first taken front calls)
 
@@ -49,13 +51,15 @@ pub record IsStoppedRun {T : Type 0} (rules : Rules T) (s : T) (text bytes : Lis
   pub replied : BeginsWith (replies_bytes replies) bytes
 
 -- What was written has grown by a front of the answer to the taken bytes, which stops at a question, where one more turn was needed.
-abbrev pub IsStoppedRunOfTaken : {T : Type 0} → Rules T → T → Option (List ℕ) → Option (List ℕ) → Option (List ℕ) → Option (List ℕ) → List DeskCall → Type 0
+abbrev pub IsStoppedRunOfTaken : {T : Type 0} → Rules T → T → Option (List ℕ) → Option (List ℕ) → Option (List ℕ) → Option (List ℕ)
+    → List DeskCall → Type 0
 IsStoppedRunOfTaken rules first left new_left old new calls = (taken : List ℕ) × TakesFrom left new_left taken
     × ((front : List ℕ) × GrowsBy old new front × IsStoppedRun rules first taken front calls)
 
 -- What was written and called by the answer: the run over all client bytes where it is an end; the run over the taken bytes where one more
 -- read was needed; for want of a turn that run, or one that stops at a question; a front where a write failed or memory ran out.
-abbrev pub WentSo : {T : Type 0} → Rules T → T → Result EndKind ServeError → Option (List ℕ) → Option (List ℕ) → Option (List ℕ) → Option (List ℕ)
+abbrev pub WentSo : {T : Type 0} → Rules T → T → Result EndKind ServeError → Option (List ℕ) → Option (List ℕ) → Option (List ℕ)
+    → Option (List ℕ)
     → List DeskCall → Type 0
 WentSo rules first (Ok kind) left new_left old new calls = IsServedRun rules first left old new calls kind
 WentSo rules first (Err ReadFault) left new_left old new calls = IsRunOfTaken rules first left new_left old new calls
@@ -64,8 +68,8 @@ WentSo rules first (Err TurnLimit) left new_left old new calls = IsRunOfTaken ru
 WentSo rules first (Err WriteFault) left new_left old new calls = IsCutRunOfTaken rules first left new_left old new calls
 WentSo rules first (Err NoMemory) left new_left old new calls = IsCutRunOfTaken rules first left new_left old new calls
 
--- The conversation went on until the last bytes that were taken: before these the run over the bytes taken goes on, and they aren't none. So
--- nothing was taken behind its end. Where it ended with the input, all that was taken went before.
+-- The conversation went on until the last bytes that were taken: before these the run over the bytes taken goes on, and they aren't none.
+-- So nothing was taken behind its end. Where it ended with the input, all that was taken went before.
 abbrev pub EndsAtLast : {T : Type 0} → Rules T → T → Option (List ℕ) → Option (List ℕ) → EndKind → Type 0
 EndsAtLast rules first left new_left kind = (before : List ℕ) × (last : List ℕ) × TakesFrom left new_left (before ++ last)
     × GoesOnOver rules first before × (kind ≢ InputEnd → IfSome left (λ text. last ≢ []))
@@ -106,7 +110,8 @@ end_turn InputEnd = 1
 end_turn _ = 0
 
 -- Why a conversation came to an end or was given up: within the turns; a fault only where its count has risen; the turns only where as many
--- reads gave a byte and as many questions were asked, and one more was needed. The turns speak of reads whose count doesn't come to its end.
+-- reads gave a byte and as many questions were asked, and one more was needed. The turns speak of reads whose count doesn't come to its
+-- end.
 abbrev pub HasCause : Result EndKind ServeError → ℕ → ℕ → Counts → Counts → Type 0
 HasCause (Ok kind) turns asked old new = old.reads + turns < 2 ^ 64 → new.reads + asked + end_turn kind ≤ old.reads + turns
 HasCause (Err ReadFault) turns asked old new = HasRisen old.read_faults new.read_faults

@@ -49,7 +49,8 @@ pub trait Spawner<J: Job> {
     // the number of jobs that were taken
     ghost started: { Self → ℕ };
 
-    /// Starts a job, of which nothing was done yet, and doesn't wait for it. SpawnFailed tells that it was dropped.
+    /// Starts a job, of which nothing was done yet, and doesn't wait for it. SpawnFailed tells that
+    /// it was dropped.
     fn start(&mut self, job: J) -> Result<(), SpawnFailed>
         requires room { started self.old < greatest_count }
         requires fresh { J.is_fresh job }

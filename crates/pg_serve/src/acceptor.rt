@@ -32,8 +32,9 @@ pub enum Listening {
 }
 
 impl Listener for Listening {
-    /// Takes the next connection. Over TCP its replies leave at once, and don't wait until earlier ones are acknowledged
-    /// (TCP_NODELAY); where that can't be set, the connection is served all the same.
+    /// Takes the next connection. Over TCP its replies leave at once, and don't wait until earlier
+    /// ones are acknowledged (TCP_NODELAY); where that can't be set, the connection is served all
+    /// the same.
     fn next_connection(&self) -> io::Result<MaybeTls> {
         match self {
             Listening::Tcp(listener) => {
@@ -61,13 +62,14 @@ impl Listener for Listening {
 /// How many milliseconds a failure that passes is waited out before the call is made again.
 const PAUSE: u64 = 10;
 
-/// The numbers of Linux for failures that pass and that have no kind of their own: no descriptor in the system (ENFILE)
-/// or in the process (EMFILE), no buffers (ENOBUFS, ENOSR), and what befell a connection before it was taken (ENONET,
-/// EPROTO, ENOPROTOOPT, EHOSTDOWN).
+/// The numbers of Linux for failures that pass and that have no kind of their own: no descriptor in
+/// the system (ENFILE) or in the process (EMFILE), no buffers (ENOBUFS, ENOSR), and what befell a
+/// connection before it was taken (ENONET, EPROTO, ENOPROTOOPT, EHOSTDOWN).
 const PASSING_NUMBERS: [i32; 8] = [23, 24, 105, 63, 64, 71, 92, 112];
 
-/// Whether a failed call may succeed when it is made again: it was interrupted, the connection was given up before it
-/// was taken, the network or a filter of packets refused it, or memory, descriptors or buffers were wanting.
+/// Whether a failed call may succeed when it is made again: it was interrupted, the connection was
+/// given up before it was taken, the network or a filter of packets refused it, or memory,
+/// descriptors or buffers were wanting.
 fn passes(error: &io::Error) -> bool {
     match error.kind() {
         ErrorKind::Interrupted
@@ -87,11 +89,13 @@ fn passes(error: &io::Error) -> bool {
     }
 }
 
-/// An acceptor of connections over sockets. Each is given as two handles of one stream, one to read and one to write.
+/// An acceptor of connections over sockets. Each is given as two handles of one stream, one to read
+/// and one to write.
 ///
-/// Each call of the listener that fails is counted. One that may succeed later, as where no descriptor is left, is waited
-/// out by the clock and made again, for as long as it takes; any other is told as AcceptFailed at once. A connection
-/// that was taken isn't given up for want of a second handle.
+/// Each call of the listener that fails is counted. One that may succeed later, as where no
+/// descriptor is left, is waited out by the clock and made again, for as long as it takes; any
+/// other is told as AcceptFailed at once. A connection that was taken isn't given up for want of a
+/// second handle.
 #[derive(Drop)]
 pub struct SocketAcceptor<L, C> {
     /// Where connections come from.

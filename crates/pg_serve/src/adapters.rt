@@ -9,7 +9,8 @@ ghost use Rattle.pg_serve.specs.Memory.{counted};
 use pg_session::{Sink, SinkError, Source, SourceFailed};
 use std::io::{Read, Write};
 
-/// A source over a reader, which is read once for each call. A count stands still at the greatest `u64`.
+/// A source over a reader, which is read once for each call. A count stands still at the greatest
+/// `u64`.
 #[derive(Drop)]
 pub struct ReaderSource<R: Read> {
     /// Where the bytes come from.

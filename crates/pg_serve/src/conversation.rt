@@ -15,17 +15,19 @@ use pg_session::{
 };
 use std::alloc::Global;
 
-/// A conversation with one client, which answers the frames of the client's bytes by a table. A session is one, and so is
-/// what stands in front of a session and answers some messages in another way.
+/// A conversation with one client, which answers the frames of the client's bytes by a table. A
+/// session is one, and so is what stands in front of a session and answers some messages in another
+/// way.
 pub trait Conversation {
     // the states of its table
     ghost At: { Type 0 };
     // the rules that it goes by, and where it stands
     ghost told: { Self → Talk At };
 
-    /// Takes a piece of the client's bytes, sends what waits, and writes the whole answer to the messages that the piece
-    /// completes. Ok(More) says that no whole frame is left, Ok(Ended(kind)) that the conversation has ended. After that,
-    /// and after an error, it is closed: WriteFault comes where the sink failed, TurnLimit where a query wanted a turn and
+    /// Takes a piece of the client's bytes, sends what waits, and writes the whole answer to the
+    /// messages that the piece completes. Ok(More) says that no whole frame is left,
+    /// Ok(Ended(kind)) that the conversation has ended. After that, and after an error, it is
+    /// closed: WriteFault comes where the sink failed, TurnLimit where a query wanted a turn and
     /// none was left, NoMemory where memory ran out. ReadFault never comes.
     fn feed<D: CancelDesk, K: Sink>(
         &mut self,
@@ -37,7 +39,8 @@ pub trait Conversation {
     ) -> Result<Progress, ServeError>
         requires open { (told self.old).is_open ≡ true }
         ensures fed { TakesPiece (told self.old) (told self.new) piece.now
-            (K.written sink.old) (K.written sink.new) (D.told desk.old).calls (D.told desk.new).calls result }
+            (K.written sink.old) (K.written sink.new) (D.told desk.old).calls
+            (D.told desk.new).calls result }
         ensures rules { (told self.new).rules ≡ (told self.old).rules }
         ensures sent { OnOk result ((told self.new).unsent ≡ []) }
         ensures open { (told self.new).is_open ≡ is_more result }

@@ -7,7 +7,8 @@ use pg_session::CancelDesk;
 use std::alloc::AllocError;
 use std::sync::Wait;
 
-/// A desk over a connection's handle. Its calls are the handle's own, which wait for the registry's turn.
+/// A desk over a connection's handle. Its calls are the handle's own, which wait for the registry's
+/// turn.
 pub struct HandleDesk<'a, R: Wait> {
     /// Who may wait.
     pub runtime: &'a R,

@@ -22,12 +22,14 @@ use std::sync::Arc;
 /// How many bytes a read asks for.
 const READ_LEN: usize = 8192;
 
-/// Serves a client: takes its bytes from the source, and writes the answer to the sink, until the conversation ends.
-/// A read that gives at least one byte or the end costs one turn, and so does each poll that finds a query unready.
+/// Serves a client: takes its bytes from the source, and writes the answer to the sink, until the
+/// conversation ends. A read that gives at least one byte or the end costs one turn, and so does
+/// each poll that finds a query unready.
 ///
-/// The store is empty. Ok tells how the conversation ended, with all of its replies written. ReadFault comes where a read
-/// failed, and the whole answer to the frames taken before is written; WriteFault where a write failed, TurnLimit where
-/// all turns were spent and one more was needed, NoMemory where memory ran out: then a front of the answer is written.
+/// The store is empty. Ok tells how the conversation ended, with all of its replies written.
+/// ReadFault comes where a read failed, and the whole answer to the frames taken before is written;
+/// WriteFault where a write failed, TurnLimit where all turns were spent and one more was needed,
+/// NoMemory where memory ran out: then a front of the answer is written.
 pub fn serve_connection<
     H: PgWireServerHandlers,
     St: PortalStore<
@@ -48,12 +50,16 @@ pub fn serve_connection<
 ) -> Result<EndKind, ServeError>
     requires empty { St.maps store ≡ no_maps }
 
-    // The bytes written and the new calls are the conversation table's answer to the client's bytes, however cut.
-    ensures went { (calls : List DeskCall) × ((D.told desk.new).calls ≡ (D.told desk.old).calls ++ calls)
+    // The bytes written and the new calls are the conversation table's answer to the client's
+    // bytes, however cut.
+    ensures went { (calls : List DeskCall)
+        × ((D.told desk.new).calls ≡ (D.told desk.old).calls ++ calls)
         × WentSo (whole_rules (H.told (arc_value handlers)))
         (first_state (D.told desk.old).registration.0 (D.told desk.old).registration.1)
-        result (S.left source.old) (S.left source.new) (K.written sink.old) (K.written sink.new) calls }
-    ensures cause { HasCause result turn_limit (questions_since (D.told desk.old).calls (D.told desk.new).calls)
+        result (S.left source.old) (S.left source.new) (K.written sink.old) (K.written sink.new)
+        calls }
+    ensures cause { HasCause result turn_limit
+        (questions_since (D.told desk.old).calls (D.told desk.new).calls)
         (counts_of S.reads S.faults K.faults source.old sink.old)
         (counts_of S.reads S.faults K.faults source.new sink.new) }
     ensures last { IfOk result (EndsAtLast (whole_rules (H.told (arc_value handlers)))
@@ -63,7 +69,8 @@ pub fn serve_connection<
         (counts_of S.reads S.faults K.faults source.new sink.new)) }
     ensures never_falls { FaultsNeverFall (counts_of S.reads S.faults K.faults source.old sink.old)
         (counts_of S.reads S.faults K.faults source.new sink.new) }
-    ensures reads { ReadsGaveBytes (S.left source.old) (S.left source.new) (S.reads source.old) (S.reads source.new) }
+    ensures reads { ReadsGaveBytes (S.left source.old) (S.left source.new) (S.reads source.old)
+        (S.reads source.new) }
     ensures keeps { KeepsDesk (D.told desk.old) (D.told desk.new) }
     ensures source { S.origin source.new ≡ S.origin source.old }
     ensures sink { K.origin sink.new ≡ K.origin sink.old }
@@ -73,7 +80,8 @@ pub fn serve_connection<
     serve(alloc, &mut session, desk, source, sink, turn_limit)
 }
 
-/// Serves a client by any conversation that has taken nothing yet, as [`serve_connection`] does by a session.
+/// Serves a client by any conversation that has taken nothing yet, as [`serve_connection`] does by
+/// a session.
 pub fn serve<C: Conversation, D: CancelDesk, S: Source, K: Sink>(
     alloc: Global,
     conversation: &mut C,
@@ -85,19 +93,24 @@ pub fn serve<C: Conversation, D: CancelDesk, S: Source, K: Sink>(
     requires open { (C.told conversation.old).is_open ≡ true }
     requires rest { (C.told conversation.old).rest ≡ [] }
     requires unsent { (C.told conversation.old).unsent ≡ [] }
-    ensures went { (calls : List DeskCall) × ((D.told desk.new).calls ≡ (D.told desk.old).calls ++ calls)
+    ensures went { (calls : List DeskCall)
+        × ((D.told desk.new).calls ≡ (D.told desk.old).calls ++ calls)
         × WentSo (C.told conversation.old).rules (C.told conversation.old).state
-        result (S.left source.old) (S.left source.new) (K.written sink.old) (K.written sink.new) calls }
-    ensures cause { HasCause result turn_limit (questions_since (D.told desk.old).calls (D.told desk.new).calls)
+        result (S.left source.old) (S.left source.new) (K.written sink.old) (K.written sink.new)
+        calls }
+    ensures cause { HasCause result turn_limit
+        (questions_since (D.told desk.old).calls (D.told desk.new).calls)
         (counts_of S.reads S.faults K.faults source.old sink.old)
         (counts_of S.reads S.faults K.faults source.new sink.new) }
-    ensures last { IfOk result (EndsAtLast (C.told conversation.old).rules (C.told conversation.old).state
+    ensures last { IfOk result (EndsAtLast (C.told conversation.old).rules
+        (C.told conversation.old).state
         (S.left source.old) (S.left source.new)) }
     ensures calm { OnOk result (IsCalm (counts_of S.reads S.faults K.faults source.old sink.old)
         (counts_of S.reads S.faults K.faults source.new sink.new)) }
     ensures never_falls { FaultsNeverFall (counts_of S.reads S.faults K.faults source.old sink.old)
         (counts_of S.reads S.faults K.faults source.new sink.new) }
-    ensures reads { ReadsGaveBytes (S.left source.old) (S.left source.new) (S.reads source.old) (S.reads source.new) }
+    ensures reads { ReadsGaveBytes (S.left source.old) (S.left source.new) (S.reads source.old)
+        (S.reads source.new) }
     ensures keeps { KeepsDesk (D.told desk.old) (D.told desk.new) }
     ensures source { S.origin source.new ≡ S.origin source.old }
     ensures sink { K.origin sink.new ≡ K.origin sink.old }
@@ -133,19 +146,24 @@ fn serve_pieces<C: Conversation, D: CancelDesk, S: Source, K: Sink>(
     requires unsent { (C.told conversation.old).unsent ≡ [] }
     requires fresh { turns.old.spent ≡ 0 }
     requires room { 0 < length buffer.old }
-    ensures went { (calls : List DeskCall) × ((D.told desk.new).calls ≡ (D.told desk.old).calls ++ calls)
+    ensures went { (calls : List DeskCall)
+        × ((D.told desk.new).calls ≡ (D.told desk.old).calls ++ calls)
         × WentSo (C.told conversation.old).rules (C.told conversation.old).state
-        result (S.left source.old) (S.left source.new) (K.written sink.old) (K.written sink.new) calls }
-    ensures cause { HasCause result turns.old.limit (questions_since (D.told desk.old).calls (D.told desk.new).calls)
+        result (S.left source.old) (S.left source.new) (K.written sink.old) (K.written sink.new)
+        calls }
+    ensures cause { HasCause result turns.old.limit
+        (questions_since (D.told desk.old).calls (D.told desk.new).calls)
         (counts_of S.reads S.faults K.faults source.old sink.old)
         (counts_of S.reads S.faults K.faults source.new sink.new) }
-    ensures last { IfOk result (EndsAtLast (C.told conversation.old).rules (C.told conversation.old).state
+    ensures last { IfOk result (EndsAtLast (C.told conversation.old).rules
+        (C.told conversation.old).state
         (S.left source.old) (S.left source.new)) }
     ensures calm { OnOk result (IsCalm (counts_of S.reads S.faults K.faults source.old sink.old)
         (counts_of S.reads S.faults K.faults source.new sink.new)) }
     ensures never_falls { FaultsNeverFall (counts_of S.reads S.faults K.faults source.old sink.old)
         (counts_of S.reads S.faults K.faults source.new sink.new) }
-    ensures reads { ReadsGaveBytes (S.left source.old) (S.left source.new) (S.reads source.old) (S.reads source.new) }
+    ensures reads { ReadsGaveBytes (S.left source.old) (S.left source.new) (S.reads source.old)
+        (S.reads source.new) }
     ensures keeps { KeepsDesk (D.told desk.old) (D.told desk.new) }
     ensures source { S.origin source.new ≡ S.origin source.old }
     ensures sink { K.origin sink.new ≡ K.origin sink.old }

@@ -11,7 +11,8 @@ use pg_session::{CancelDesk, DeskCall, ScriptDesk};
 use std::alloc::{AllocError, Global};
 use std::marker::Model;
 
-/// A desk that answers from a list, as a `ScriptDesk` does, but for the calls that it is told to fail.
+/// A desk that answers from a list, as a `ScriptDesk` does, but for the calls that it is told to
+/// fail.
 #[derive(Drop)]
 pub struct FlakyDesk {
     desk: ScriptDesk,
@@ -28,9 +29,10 @@ impl Model for FlakyDesk {
 }
 
 impl FlakyDesk {
-    /// A desk of this registration, with these answers to come. Its calls of `start`, `ask` and `cancel` are numbered
-    /// from 0 on, those that fail too; the calls whose numbers are in `fails` answer `AllocError` and change nothing
-    /// that was called or is to be answered. It takes no memory.
+    /// A desk of this registration, with these answers to come. Its calls of `start`, `ask` and
+    /// `cancel` are numbered from 0 on, those that fail too; the calls whose numbers are in `fails`
+    /// answer `AllocError` and change nothing that was called or is to be answered. It takes no
+    /// memory.
     pub fn new(
         alloc: Global,
         pid: i32,
@@ -56,7 +58,8 @@ impl FlakyDesk {
     /// The calls so far that were answered, with their answers, which are those of the list.
     pub fn calls(&self) -> &[DeskCall]
         ensures calls { result.now ≡ self.now.script.calls }
-        ensures scripted { IsScripted self.now.script.script self.now.script.answers self.now.script.calls }
+        ensures scripted { IsScripted self.now.script.script self.now.script.answers
+            self.now.script.calls }
     {
         self.desk.calls()
     }
@@ -86,7 +89,8 @@ impl CancelDesk for FlakyDesk {
         ensures next { IsNextCall self.old self.new }
         ensures answers { self.new.script.answers ≡ self.old.script.answers }
         ensures ok { OnOk result
-            (script_told self.new.script ≡ after_calls (script_told self.old.script) (DeskCall.Start ∷ [])) }
+            (script_told self.new.script ≡ after_calls (script_told self.old.script)
+            (DeskCall.Start ∷ [])) }
         ensures err { OnErr result (script_told self.new.script ≡ script_told self.old.script) }
     {
         if self.is_refused() {

@@ -1,5 +1,6 @@
-//! The server of one client: the engine that reads, feeds and writes; sources and sinks in memory, over files, standard
-//! streams and sockets; the desk over a handle of the shared registry; who accepts connections and who starts their jobs.
+//! The server of one client: the engine that reads, feeds and writes; sources and sinks in memory,
+//! over files, standard streams and sockets; the desk over a handle of the shared registry; who
+//! accepts connections and who starts their jobs.
 #![tactic(auto)]
 
 mod accept;

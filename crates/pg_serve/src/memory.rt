@@ -42,8 +42,9 @@ impl Model for MemorySource {
 }
 
 impl MemorySource {
-    /// A source of these bytes. Its call of number i, from 0, gives at most `pieces[i]` bytes, where 0 counts as 1;
-    /// past the list, as many as fit. The calls whose numbers are in `fails` fail and take nothing.
+    /// A source of these bytes. Its call of number i, from 0, gives at most `pieces[i]` bytes,
+    /// where 0 counts as 1; past the list, as many as fit. The calls whose numbers are in `fails`
+    /// fail and take nothing.
     pub fn new(bytes: PgBytes, pieces: PgList<usize>, fails: PgList<u64>) -> MemorySource
         ensures left { result.left ≡ bytes }
         ensures pieces { result.pieces ≡ pieces }
@@ -97,7 +98,8 @@ impl Source for MemorySource {
         ensures answer { result ≡ received self.old (length into.old) }
         ensures next { IsNextCall (is_err result) self.old self.new }
         ensures fits { IfOk result (λ n. n ≤ length into.old) }
-        ensures bytes { IfOk result (λ n. GivesFront n into.new self.old.left (Some self.new.left)) }
+        ensures bytes { IfOk result (λ n. GivesFront n into.new self.old.left
+            (Some self.new.left)) }
         ensures counts { self.new.reads ≡ reads_after result self.old.reads }
         ensures failed { OnErr result (HasRisen self.old.faults self.new.faults) }
         ensures untouched { OnErr result (self.new.left ≡ self.old.left) }
@@ -135,12 +137,17 @@ impl Model for MemorySink {
 
     ghost Value = { Drain };
 
-    ghost view = { λ s. record { bytes = s.bytes.items; fails = s.fails; calls = s.calls; faults = s.faults } };
+    ghost view = { λ s. record {
+      bytes = s.bytes.items;
+      fails = s.fails;
+      calls = s.calls;
+      faults = s.faults;
+    } };
 }
 
 impl MemorySink {
-    /// A sink to which nothing was written. Its calls, numbered from 0, whose numbers are in `fails` fail after they
-    /// took the number of bytes that stands beside, at most the piece.
+    /// A sink to which nothing was written. Its calls, numbered from 0, whose numbers are in
+    /// `fails` fail after they took the number of bytes that stands beside, at most the piece.
     pub fn new(alloc: Global, fails: PgList<(u64, usize)>) -> MemorySink
         ensures bytes { result.bytes ≡ [] }
         ensures fails { result.fails ≡ fails }
@@ -182,7 +189,8 @@ impl Sink for MemorySink {
         ensures calls { self.new.calls ≡ raised self.old.calls }
         ensures faults { self.new.faults ≡ counted (is_fault result) self.old.faults }
         ensures ok { OnOk result (GrowsBy (Some self.old.bytes) (Some self.new.bytes) bytes.now) }
-        ensures err { OnErr result (GrowsByFront (Some self.old.bytes) (Some self.new.bytes) bytes.now) }
+        ensures err { OnErr result (GrowsByFront (Some self.old.bytes) (Some self.new.bytes)
+            bytes.now) }
         ensures failed { IsErrOf result SinkError.Failed
             → HasRisen self.old.faults self.new.faults }
         ensures no_memory { IsErrOf result SinkError.NoMemory → self.new.faults ≡ self.old.faults }
@@ -205,7 +213,8 @@ impl Sink for MemorySink {
 impl MemorySink {
     /// Appends bytes, and without memory none of them.
     fn append(&mut self, bytes: &[u8]) -> Result<(), SinkError>
-        ensures ok { OnOk result (self.new ≡ record self.old { bytes = self.old.bytes ++ bytes.now }) }
+        ensures ok { OnOk result (self.new
+            ≡ record self.old { bytes = self.old.bytes ++ bytes.now }) }
         ensures err { IfErr result (λ e. (e ≡ SinkError.NoMemory) × (self.new ≡ self.old)) }
     {
         match self.bytes.extend_from_slice(bytes) {

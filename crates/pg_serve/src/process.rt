@@ -24,8 +24,9 @@ use pg_session::{EndKind, ExtendedQueryHandler, PgWireServerHandlers, ServeError
 use std::alloc::Global;
 use std::sync::{Arc, Wait};
 
-/// Serves a client over TCP by [`serve_connection`], through its connection to the shared registry: reads from one
-/// handle of its stream and writes to the other. It waits for the client and for the registry's turn.
+/// Serves a client over TCP by [`serve_connection`], through its connection to the shared registry:
+/// reads from one handle of its stream and writes to the other. It waits for the client and for the
+/// registry's turn.
 pub fn process_socket<
     R: Wait,
     H: PgWireServerHandlers,
@@ -54,9 +55,11 @@ pub fn process_socket<
         (questions_since (desk_calls handle.old.mine) (desk_calls handle.new.mine))
         (counts_of reads_of faults_of faults_of reader.old writer.old)
         (counts_of reads_of faults_of faults_of reader.new writer.new) }
-    ensures calm { OnOk result (IsCalm (counts_of reads_of faults_of faults_of reader.old writer.old)
+    ensures calm { OnOk result (IsCalm
+        (counts_of reads_of faults_of faults_of reader.old writer.old)
         (counts_of reads_of faults_of faults_of reader.new writer.new)) }
-    ensures never_falls { FaultsNeverFall (counts_of reads_of faults_of faults_of reader.old writer.old)
+    ensures never_falls { FaultsNeverFall
+        (counts_of reads_of faults_of faults_of reader.old writer.old)
         (counts_of reads_of faults_of faults_of reader.new writer.new) }
     ensures same { IsSameConnection handle.old handle.new }
     ensures seen { IsPrefix handle.old.seen handle.new.seen }
@@ -97,9 +100,11 @@ pub fn process_socket_unix<
         (questions_since (desk_calls handle.old.mine) (desk_calls handle.new.mine))
         (counts_of reads_of faults_of faults_of reader.old writer.old)
         (counts_of reads_of faults_of faults_of reader.new writer.new) }
-    ensures calm { OnOk result (IsCalm (counts_of reads_of faults_of faults_of reader.old writer.old)
+    ensures calm { OnOk result (IsCalm
+        (counts_of reads_of faults_of faults_of reader.old writer.old)
         (counts_of reads_of faults_of faults_of reader.new writer.new)) }
-    ensures never_falls { FaultsNeverFall (counts_of reads_of faults_of faults_of reader.old writer.old)
+    ensures never_falls { FaultsNeverFall
+        (counts_of reads_of faults_of faults_of reader.old writer.old)
         (counts_of reads_of faults_of faults_of reader.new writer.new) }
     ensures same { IsSameConnection handle.old handle.new }
     ensures seen { IsPrefix handle.old.seen handle.new.seen }

@@ -31,7 +31,8 @@ silent_refused e calls x = ⊎_elim (λ none. inl (none, silent_cut e calls)) (�
 -- ---- the same row
 
 pub same_row : {S : Type 0} {row other : Row S} {out new_out : List ℕ} {calls new_calls : List DeskCall} {o : Outcome S}
-    → ((answers : List Bool) → row answers ≡ other answers) → IsRow other out new_out calls new_calls o → IsRow row out new_out calls new_calls o
+    → ((answers : List Bool) → row answers ≡ other answers) → IsRow other out new_out calls new_calls o
+    → IsRow row out new_out calls new_calls o
 same_row {out = out} {new_out = new_out} {o = o} same x = record {
   made = x.made;
   own = ap (λ c. c.calls) (same (answers_of x.made)) ∙ x.own;
@@ -48,7 +49,8 @@ same_cut same x = record {
 }
 
 pub same_stopped : {S : Type 0} {row other : Row S} {out new_out : List ℕ} {calls new_calls : List DeskCall}
-    → ((answers : List Bool) → row answers ≡ other answers) → IsStoppedRow other out new_out calls new_calls → IsStoppedRow row out new_out calls new_calls
+    → ((answers : List Bool) → row answers ≡ other answers) → IsStoppedRow other out new_out calls new_calls
+    → IsStoppedRow row out new_out calls new_calls
 same_stopped {out = out} {new_out = new_out} same x = record {
   made = x.made;
   own = ap (λ c. c.calls) (same (answers_of x.made)) ∙ x.own;
@@ -57,20 +59,25 @@ same_stopped {out = out} {new_out = new_out} same x = record {
   asks = λ yes. ((x.asks yes).0, ap (λ c. c.calls) (same (answers_of x.made ++ yes ∷ [])) ∙ (x.asks yes).1);
 }
 
-pub same_refused : {S : Type 0} (row other : Row S) (out new_out : List ℕ) (calls new_calls : List DeskCall) (s : State S) (error : SessionError)
-    → ((answers : List Bool) → row answers ≡ other answers) → IsRefusedRow other out new_out calls new_calls s error → IsRefusedRow row out new_out calls new_calls s error
-same_refused row other out new_out calls new_calls s (session.Wire e) same x = ⊎_elim (λ none. inl (none.0, same_cut same none.1)) (λ told. inr (same_row same told)) x
+pub same_refused : {S : Type 0} (row other : Row S) (out new_out : List ℕ) (calls new_calls : List DeskCall) (s : State S)
+    (error : SessionError)
+    → ((answers : List Bool) → row answers ≡ other answers) → IsRefusedRow other out new_out calls new_calls s error
+    → IsRefusedRow row out new_out calls new_calls s error
+same_refused row other out new_out calls new_calls s (session.Wire e) same x =
+    ⊎_elim (λ none. inl (none.0, same_cut same none.1)) (λ told. inr (same_row same told)) x
 same_refused row other out new_out calls new_calls s session.TurnLimit same x = same_stopped same x
 
 -- ---- rows of a session that is ready
 
 pub plain_row : {S : Type 0} (h : Handlers S) (answers : List Bool) (s : State S) (m : PgWireFrontendMessage)
-    → ((q : Query) → m ≡ client.Query q → ⊥) → ((e : Execute) → m ≡ client.Execute e → ⊥) → ready_row h answers s m ≡ silent (statement_row h.extended s m)
+    → ((q : Query) → m ≡ client.Query q → ⊥) → ((e : Execute) → m ≡ client.Execute e → ⊥)
+    → ready_row h answers s m ≡ silent (statement_row h.extended s m)
 plain_row h answers s (client.Query m) p q = absurd (p m refl)
 plain_row h answers s (client.Execute m) p q = absurd (q m refl)
 plain_row h answers s _ p q = refl
 
-pub ended_row : {S : Type 0} (h : Handlers S) (s : State S) (m : PgWireFrontendMessage) (t : Terminate) (out : List ℕ) (calls : List DeskCall) → m ≡ client.Terminate t
+pub ended_row : {S : Type 0} (h : Handlers S) (s : State S) (m : PgWireFrontendMessage) (t : Terminate) (out : List ℕ)
+    (calls : List DeskCall) → m ≡ client.Terminate t
     → IsRow (λ answers. ready_row h answers s m) out out calls calls (Over end.Terminate)
 ended_row {S} h s m t out calls is =
     let ended : Outcome S = Over end.Terminate in
@@ -80,7 +87,8 @@ ended_row {S} h s m t out calls is =
 
 -- ---- the same handlers, state and outbox
 
-pub refused_as : {S : Type 0} (h other : Handlers S) (s t : State S) (m : PgWireFrontendMessage) (out other_out new_out : List ℕ) (calls new_calls : List DeskCall) (n : State S)
+pub refused_as : {S : Type 0} (h other : Handlers S) (s t : State S) (m : PgWireFrontendMessage) (out other_out new_out : List ℕ)
+    (calls new_calls : List DeskCall) (n : State S)
     (answer : Result (Option EndKind) SessionError) → h ≡ other → s ≡ t → out ≡ other_out
     → IfErr answer (IsRefusedRow (λ answers. message_row other answers t m) other_out new_out calls new_calls n)
     → IfErr answer (IsRefusedRow (λ answers. message_row h answers s m) out new_out calls new_calls n)

@@ -23,11 +23,13 @@ asks_either : {S : Type 0} (b : Bool) (x y : Called S) → questions x.calls ≡
 asks_either true x y p q = p
 asks_either false x y p q = q
 
-startup_asks_nothing : {S : Type 0} (answers : List Bool) (s : State S) (m : PgWireFrontendMessage) → questions (startup_row answers s m).calls ≡ 0
+startup_asks_nothing : {S : Type 0} (answers : List Bool) (s : State S) (m : PgWireFrontendMessage)
+    → questions (startup_row answers s m).calls ≡ 0
 startup_asks_nothing [] s (client.CancelRequest m) = refl
 startup_asks_nothing (told ∷ answers) s (client.CancelRequest m) = refl
 startup_asks_nothing answers s (client.Startup m) =
-    asks_either (m.code == 196608) (accepts s PROTOCOL3_0 m) (cond (m.code == 196610) (accepts s PROTOCOL3_2 m) (silent (refuses s (wire.UserError (unsupported_version m.code))))) refl
+    asks_either (m.code == 196608) (accepts s PROTOCOL3_0 m)
+    (cond (m.code == 196610) (accepts s PROTOCOL3_2 m) (silent (refuses s (wire.UserError (unsupported_version m.code))))) refl
     (asks_either (m.code == 196610) (accepts s PROTOCOL3_2 m) (silent (refuses s (wire.UserError (unsupported_version m.code)))) refl refl)
 startup_asks_nothing answers s _ = refl
 
@@ -40,7 +42,8 @@ questions_front (desk.Cancel pid key told ∷ made) rest = questions_front made 
 since : (calls new_calls made : List DeskCall) → new_calls ≡ calls ++ made → questions made ≡ 0 → questions_since calls new_calls ≡ 0
 since calls new_calls made e none = ap (λ l. questions (drop (length calls) l)) e ∙ ap questions (drop-append_seam calls made) ∙ none
 
-row_asks_nothing : {S : Type 0} (s : State S) (m : PgWireFrontendMessage) (out new_out : List ℕ) (calls new_calls : List DeskCall) (o : Outcome S)
+row_asks_nothing : {S : Type 0} (s : State S) (m : PgWireFrontendMessage) (out new_out : List ℕ) (calls new_calls : List DeskCall)
+    (o : Outcome S)
     → IsRow (λ answers. startup_row answers s m) out new_out calls new_calls o → questions_since calls new_calls ≡ 0
 row_asks_nothing s m out new_out calls new_calls o x = since calls new_calls x.made x.called
     (ap questions (sym x.own) ∙ startup_asks_nothing (answers_of x.made) s m)
@@ -53,9 +56,13 @@ cut_asks_nothing s m calls new_calls x =
     since calls new_calls x.made x.grown (omega (arith, whole, part))
 
 spent_nothing : (turns : Turns) (n : ℕ) → n ≡ 0 → turns ≡ record { spent = turns.spent + n; limit = turns.limit }
-spent_nothing turns n none = ap (λ (k : ℕ). let now : Turns = record { spent = k; limit = turns.limit } in now) (let same : turns.spent ≡ turns.spent + n = omega (arith, none) in same)
+spent_nothing turns n none = ap (λ (k : ℕ). let now : Turns = record {
+  spent = k;
+  limit = turns.limit;
+} in now) (let same : turns.spent ≡ turns.spent + n = omega (arith, none) in same)
 
-pub startup_turns : {S : Type 0} (s next : State S) (m : PgWireFrontendMessage) (turns : Turns) (out new_out : List ℕ) (calls new_calls : List DeskCall)
+pub startup_turns : {S : Type 0} (s next : State S) (m : PgWireFrontendMessage) (turns : Turns) (out new_out : List ℕ)
+    (calls new_calls : List DeskCall)
     (result : Result (Option EndKind) SessionError)
     → IfOk result (λ end. IsRow (λ answers. startup_row answers s m) out new_out calls new_calls (outcome_of end next))
     → IfErr result (IsRefusedRow (λ answers. startup_row answers s m) out new_out calls new_calls next)
@@ -66,4 +73,5 @@ startup_turns s next m turns out new_out calls new_calls (Ok end) row refused un
 startup_turns s next m turns out new_out calls new_calls (Err session.TurnLimit) row refused unlimited = absurd (unlimited refl)
 startup_turns s next m turns out new_out calls new_calls (Err (session.Wire e)) row refused unlimited =
     inl (spent_nothing turns (questions_since calls new_calls)
-    (⊎_elim (λ none. cut_asks_nothing s m calls new_calls none.1) (λ told. row_asks_nothing s m out new_out calls new_calls _ told) refused))
+    (⊎_elim (λ none. cut_asks_nothing s m calls new_calls none.1) (λ told. row_asks_nothing s m out new_out calls new_calls _ told)
+    refused))

@@ -254,10 +254,12 @@ module _ {T : Type 0} (rules : Rules T) (lawful : IsLawful rules.table rules.awa
         answered = one_piece rules lawful fed.messages y.messages s t first y.made fed.answered refl ∙ ap (λ a. joined first a) y.answered;
         asks = λ yes. (
           (y.asks yes).0,
-          ap (λ answers. (conversation rules.table (answers ++ yes ∷ []) s (fed.messages ++ y.messages)).calls) (answers_of-append x.called y.made)
+          ap (λ answers. (conversation rules.table (answers ++ yes ∷ []) s (fed.messages ++ y.messages)).calls)
+              (answers_of-append x.called y.made)
               ∙ ap (λ answers. (conversation rules.table answers s (fed.messages ++ y.messages)).calls)
               (append_assoc (answers_of x.called) (answers_of y.made) (yes ∷ []))
-              ∙ ap (λ a. a.calls) (one_piece_under rules lawful fed.messages y.messages s t first (answers_of y.made ++ yes ∷ []) fed.answered refl)
+              ∙ ap (λ a. a.calls) (one_piece_under rules lawful fed.messages y.messages s t first (answers_of y.made ++ yes ∷ [])
+              fed.answered refl)
               ∙ ap (λ calls. x.called ++ calls) (y.asks yes).1
               ∙ sym (append_assoc x.called (y.made ++ desk.Ask yes ∷ []) (y.asks yes).0)
               ∙ ap (λ calls. calls ++ (y.asks yes).0) (sym (append_assoc x.called y.made (desk.Ask yes ∷ []))),

@@ -23,7 +23,8 @@ not_fatal info b told off = by_test (bytes_eq info.severity (codes "FATAL")) ref
         same : bytes_eq info.severity (codes "FATAL") ≡ true → info.severity ≡ codes "FATAL"
         same e = (bytes_eq-Decides info.severity (codes "FATAL")).0 e
 
-pub told_ready : {S : Type 0} (w : Bool) (s : State S) (told info : ErrorInfo) (status : TransactionStatus) (out mid final : List ℕ) (b : Bool) → info ≡ told
+pub told_ready : {S : Type 0} (w : Bool) (s : State S) (told info : ErrorInfo) (status : TransactionStatus) (out mid final : List ℕ)
+    (b : Bool) → info ≡ told
     → (IsTrue b ↔ (info.severity ≡ codes "FATAL")) → b ≡ false → w ≡ false → status ≡ to_error_state s.info.status
     → mid ≡ out ++ reply_bytes (error_reply info) → final ≡ mid ++ replies_bytes (ready status ∷ [])
     → final ≡ out ++ replies_bytes (failed (scope_for w) [] [] s told).replies

@@ -14,14 +14,16 @@ use Rattle.pg_handlers.specs.State.{State}
 use Rattle.pg_session.specs.Messages.{outcome_of, told}
 use Rattle.pg_session.proofs.Rows.{silent_row, silent_refused, same_row, same_refused}
 
-pub told_ok : {S : Type 0} (row : Row S) (e : Effect S) (out new_out : List ℕ) (calls : List DeskCall) (s : State S) (answer : Result (Option EndKind) PgWireError)
+pub told_ok : {S : Type 0} (row : Row S) (e : Effect S) (out new_out : List ℕ) (calls : List DeskCall) (s : State S)
+    (answer : Result (Option EndKind) PgWireError)
     → ((answers : List Bool) → row answers ≡ silent e)
     → IfOk answer (λ end. IsEffect e out new_out (outcome_of end s))
     → IfOk (told answer) (λ end. IsRow row out new_out calls calls (outcome_of end s))
 told_ok row e out new_out calls s (Ok end) same x = same_row same (silent_row e calls x)
 told_ok row e out new_out calls s (Err error) same x = tt
 
-pub told_refused : {S : Type 0} (row : Row S) (e : Effect S) (out new_out : List ℕ) (calls : List DeskCall) (s : State S) (answer : Result (Option EndKind) PgWireError)
+pub told_refused : {S : Type 0} (row : Row S) (e : Effect S) (out new_out : List ℕ) (calls : List DeskCall) (s : State S)
+    (answer : Result (Option EndKind) PgWireError)
     → ((answers : List Bool) → row answers ≡ silent e)
     → IfErr answer (IsRefusedEffect e out new_out s)
     → IfErr (told answer) (IsRefusedRow row out new_out calls calls s)
@@ -31,7 +33,8 @@ told_refused row e out new_out calls s (Err error) same x =
 
 -- ---- the row of a phase
 
-pub sync_row : {S : Type 0} (h : Handlers S) (answers : List Bool) (s : State S) (m : PgWireFrontendMessage) → s.info.state ≡ phase.AwaitingSync
+pub sync_row : {S : Type 0} (h : Handlers S) (answers : List Bool) (s : State S) (m : PgWireFrontendMessage)
+    → s.info.state ≡ phase.AwaitingSync
     → message_row h answers s m ≡ silent (awaiting_sync_row s m)
 sync_row h answers s m is = rw is refl
 

@@ -105,8 +105,8 @@ abbrev pub StandsAfterStep : {T : Type 0} → (T → Bool) → Next T → T → 
 StandsAfterStep awaits next s rest None = next ≡ Goes s
 StandsAfterStep awaits next s rest (Some told) = Stands awaits next s rest told
 
--- What became of a text that a session was fed with: it was served as far as it goes, no reply waits, and the conversation stands so; or its
--- serving was cut off, which for want of a turn is a stop at a question.
+-- What became of a text that a session was fed with: it was served as far as it goes, no reply waits, and the conversation stands so; or
+-- its serving was cut off, which for want of a turn is a stop at a question.
 abbrev pub WasFed : {T : Type 0} → Rules T → T → List ℕ → T → List ℕ → Option (List ℕ) → Option (List ℕ) → List ℕ → List DeskCall
     → List DeskCall → Result Progress ServeError → Type 0
 WasFed {T} rules s text new_s rest written new_written out calls new_calls (Ok told) = (next : Next T)

@@ -15,8 +15,8 @@ use pg_messages::{ErrorResponse, PgWireBackendMessage};
 use pg_portal::{PgWireConnectionState, PgWireError, PortalStore};
 use std::alloc::{AllocError, Global};
 
-/// Tells the client an error: ErrorResponse; where it is fatal, the end; else the status of a failed transaction, and the
-/// wait for Sync or ReadyForQuery.
+/// Tells the client an error: ErrorResponse; where it is fatal, the end; else the status of a
+/// failed transaction, and the wait for Sync or ReadyForQuery.
 pub(crate) fn tell_error<St: PortalStore>(
     alloc: Global,
     client: &mut Client<St>,

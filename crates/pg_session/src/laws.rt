@@ -10,11 +10,12 @@ ghost use Rattle.pg_session.specs.Steps.{IsServed, WasFed};
 ghost use Rattle.pg_session.specs.declared.ends.Progress.{Progress};
 ghost use Rattle.pg_session.specs.declared.ends.ServeError.{ServeError};
 
-/// What was served of a text, and then fed with a piece, was fed with the text and the piece as one: bytes, calls, and
-/// where the conversation stands don't tell how the client's bytes were cut.
+/// What was served of a text, and then fed with a piece, was fed with the text and the piece as
+/// one: bytes, calls, and where the conversation stands don't tell how the client's bytes were cut.
 pub fn pieces_join<S>()
     ensures { (h : Handlers S) (s t u : State S) (text mid piece rest : List ℕ)
-        (first before after : Option (List ℕ)) (out waiting : List ℕ) (old calls new : List DeskCall)
+        (first before after : Option (List ℕ)) (out waiting : List ℕ)
+        (old calls new : List DeskCall)
         (result : Result Progress ServeError)
         → IsServed (whole_rules h) s text mid (Goes t) first before out waiting old calls
         → WasFed (whole_rules h) t (mid ++ piece) u rest before after waiting calls new result

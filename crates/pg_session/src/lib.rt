@@ -1,5 +1,5 @@
-//! The conversation with one client: what each message is answered in each phase, what follows an error, and the session
-//! that takes the client's bytes piece by piece.
+//! The conversation with one client: what each message is answered in each phase, what follows an
+//! error, and the session that takes the client's bytes piece by piece.
 #![tactic(auto)]
 
 mod ends;

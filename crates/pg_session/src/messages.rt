@@ -41,7 +41,8 @@ pub(crate) fn on_message<
     message: PgWireFrontendMessage,
 ) -> Result<Option<EndKind>, SessionError>
     requires given { IsGivenIn (state_of St.maps client.old) message }
-    requires good { IsGoodState (H.told handlers.now).extended.parser (state_of St.maps client.old) }
+    requires good { IsGoodState (H.told handlers.now).extended.parser
+        (state_of St.maps client.old) }
     ensures ok { IfOk result (λ end. IsRow
         (λ answers. message_row
         (H.told handlers.now)
@@ -102,7 +103,8 @@ fn on_ready<
 ) -> Result<Option<EndKind>, SessionError>
     requires given { IsGiven message }
     requires ready { client.old.info.state ≡ phase.ReadyForQuery }
-    requires good { IsGoodState (H.told handlers.now).extended.parser (state_of St.maps client.old) }
+    requires good { IsGoodState (H.told handlers.now).extended.parser
+        (state_of St.maps client.old) }
     ensures ok { IfOk result (λ end. IsRow
         (λ answers. ready_row
         (H.told handlers.now)
@@ -159,7 +161,8 @@ fn on_statement<
 ) -> Result<(), PgWireError>
     requires given { IsGiven message }
     requires plain { IsPlain message }
-    requires good { IsGoodState (H.told handlers.now).extended.parser (state_of St.maps client.old) }
+    requires good { IsGoodState (H.told handlers.now).extended.parser
+        (state_of St.maps client.old) }
     ensures ok { OnOk result (IsEffect
         (statement_row (H.told handlers.now).extended (state_of St.maps client.old) message)
         client.old.outbox client.new.outbox (Done (state_of St.maps client.new))) }
@@ -202,7 +205,8 @@ fn on_awaiting_sync<
     message: PgWireFrontendMessage,
 ) -> Result<Option<EndKind>, PgWireError>
     requires given { IsGiven message }
-    requires good { IsGoodState (H.told handlers.now).extended.parser (state_of St.maps client.old) }
+    requires good { IsGoodState (H.told handlers.now).extended.parser
+        (state_of St.maps client.old) }
     ensures ok { IfOk result (λ end. IsEffect
         (awaiting_sync_row (state_of St.maps client.old) message)
         client.old.outbox client.new.outbox (outcome_of end (state_of St.maps client.new))) }
@@ -241,7 +245,8 @@ fn on_copy<
     message: PgWireFrontendMessage,
 ) -> Result<Option<EndKind>, PgWireError>
     requires given { IsGiven message }
-    requires good { IsGoodState (H.told handlers.now).extended.parser (state_of St.maps client.old) }
+    requires good { IsGoodState (H.told handlers.now).extended.parser
+        (state_of St.maps client.old) }
     ensures ok { IfOk result (λ end. IsEffect
         (copy_row (H.told handlers.now).copying is_extended (state_of St.maps client.old) message)
         client.old.outbox client.new.outbox (outcome_of end (state_of St.maps client.new))) }
@@ -273,7 +278,8 @@ fn on_copy<
     }
 }
 
-/// The COPY is done: in a Query ReadyForQuery with the status that was kept, in an extended query nothing is said.
+/// The COPY is done: in a Query ReadyForQuery with the status that was kept, in an extended query
+/// nothing is said.
 fn end_copy<St: PortalStore>(client: &mut Client<St>, is_extended: bool) -> Result<(), PgWireError>
     ensures ok { OnOk result (IsEffect
         (copied is_extended (state_of St.maps client.old))

@@ -62,9 +62,17 @@ impl<
 
     ghost coded = { Prim.hlevel (codes, fin.code) };
 
-    ghost view = { λ s. record { handlers = arc_value s.handlers; state = state_of St.maps s.client; rest = s.rest.items; unsent = s.client.outbox; is_open = s.opened } };
+    ghost view = { λ s. record {
+      handlers = arc_value s.handlers;
+      state = state_of St.maps s.client;
+      rest = s.rest.items;
+      unsent = s.client.outbox;
+      is_open = s.opened;
+    } };
 
-    ghost invariant = { λ s. s.opened ≡ true → IsGoodState (H.told (arc_value s.handlers)).extended.parser (state_of St.maps s.client) };
+    ghost invariant = { λ s. s.opened ≡ true
+        → IsGoodState (H.told (arc_value s.handlers)).extended.parser
+        (state_of St.maps s.client) };
 }
 
 /// What is known of a client before its startup packet.
@@ -88,8 +96,8 @@ impl<
         Rows = <H::Extended as ExtendedQueryHandler>::Rows,
     >,
 > Session<H, St> {
-    /// A session that awaits the startup packet of a client, who is told this pid and key. Its store is empty. The only
-    /// error is want of memory.
+    /// A session that awaits the startup packet of a client, who is told this pid and key. Its
+    /// store is empty. The only error is want of memory.
     pub fn new(
         alloc: Global,
         handlers: Arc<H>,
@@ -129,7 +137,8 @@ impl<
         self.rest.len()
     }
 
-    /// The phase of the conversation: whether the startup packet, the next query, a Sync or data of a COPY is awaited.
+    /// The phase of the conversation: whether the startup packet, the next query, a Sync or data of
+    /// a COPY is awaited.
     pub fn state(&self) -> PgWireConnectionState
         ensures { result ≡ self.now.state.info.state }
     {
@@ -206,7 +215,8 @@ impl<
         ensures answer { IfOk result (λ end. IsAnswered
             (whole_table
             (H.told self.old.handlers))
-            self.old.state message self.old.unsent self.new.unsent (D.told desk.old).calls (D.told desk.new).calls
+            self.old.state message self.old.unsent self.new.unsent (D.told desk.old).calls
+            (D.told desk.new).calls
             (next_of end self.new.state)) }
         ensures err { OnErr result (IsCutAnswer
             (whole_table

@@ -18,8 +18,9 @@ pub trait Source {
     // what it was made over, as numbers, so that a caller who lent something to it knows it again
     ghost origin: { Self → List ℕ } = { λ _. [] };
 
-    /// Reads at least one byte and at most as many as fit, or answers 0 where no byte is left for ever. SourceFailed
-    /// comes only where the count of faults rose; then nothing was taken. An Ok leaves the count.
+    /// Reads at least one byte and at most as many as fit, or answers 0 where no byte is left for
+    /// ever. SourceFailed comes only where the count of faults rose; then nothing was taken. An Ok
+    /// leaves the count.
     fn receive(&mut self, into: &mut [u8]) -> Result<usize, SourceFailed>
         requires { 0 < length into.old }
         ensures fits { IfOk result (λ n. n ≤ length into.old) }
@@ -51,8 +52,8 @@ pub trait Sink {
     // what it was made over, as numbers, so that a caller who lent something to it knows it again
     ghost origin: { Self → List ℕ } = { λ _. [] };
 
-    /// Writes all bytes. Failed comes only where the count of faults rose; Ok and NoMemory leave it. After an error a front
-    /// of the bytes was written.
+    /// Writes all bytes. Failed comes only where the count of faults rose; Ok and NoMemory leave
+    /// it. After an error a front of the bytes was written.
     fn send(&mut self, bytes: &[u8]) -> Result<(), SinkError>
         ensures ok { OnOk result (GrowsBy (written self.old) (written self.new) bytes.now) }
         ensures err { OnErr result (GrowsByFront (written self.old) (written self.new) bytes.now) }

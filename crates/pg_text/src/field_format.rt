@@ -11,7 +11,8 @@ pub enum FieldFormat {
 }
 
 impl FieldFormat {
-    /// The Int16 that stands for the format: 0 is text, 1 is binary (protocol, "Formats and Format Codes").
+    /// The Int16 that stands for the format: 0 is text, 1 is binary (protocol, "Formats and Format
+    /// Codes").
     pub fn value(&self) -> i16
         ensures { result ≡ format_code self.now }
     {

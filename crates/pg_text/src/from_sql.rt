@@ -34,8 +34,8 @@ impl FromSql for Interval {
         matches!(ty, PgType::Interval)
     }
 
-    /// The interval whose cell the first sixteen bytes are. Later bytes are ignored. `ShortCell` comes below
-    /// sixteen bytes.
+    /// The interval whose cell the first sixteen bytes are. Later bytes are ignored. `ShortCell`
+    /// comes below sixteen bytes.
     fn from_sql(_ty: PgType, raw: &[u8]) -> Result<Interval, CellError> {
         match Interval::from_cell(raw) {
             Some(interval) => Ok(interval),

@@ -32,8 +32,9 @@ impl FromSqlText for Interval {
 
     ghost read = { λ _ input options. read_text input options };
 
-    /// The interval that the text stands for in the options' style. `InvalidOptionValue`, with the style's text, comes
-    /// where that names none of the four, then `NotUtf8`, then `Parse` with the reader's refusal.
+    /// The interval that the text stands for in the options' style. `InvalidOptionValue`, with the
+    /// style's text, comes where that names none of the four, then `NotUtf8`, then `Parse` with the
+    /// reader's refusal.
     fn from_sql_text(
         alloc: Global,
         _ty: PgType,

@@ -1,4 +1,5 @@
-// The types, options and cells of PostgreSQL values: what a value writes into a row, and how it is read back.
+// The types, options and cells of PostgreSQL values: what a value writes into a row, and how it is
+// read back.
 #![tactic(auto)]
 
 mod error;

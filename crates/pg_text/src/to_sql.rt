@@ -26,8 +26,8 @@ pub trait ToSql {
     fn accepts(ty: PgType) -> bool
         ensures { result ≡ accepted ty };
 
-    /// Appends the value's bytes, at most 32,000, whether the type is accepted or not. A null has none. After an
-    /// error nothing is appended.
+    /// Appends the value's bytes, at most 32,000, whether the type is accepted or not. A null has
+    /// none. After an error nothing is appended.
     fn to_sql(&self, ty: PgType, out: &mut BytesMut) -> Result<IsNull, CellError>
         ensures answer { IsAnswer (binary self.now ty) result }
         ensures appended { OnOk result (AtCell (binary self.now ty)
@@ -35,8 +35,8 @@ pub trait ToSql {
         ensures short { OnOk result (AtCell (binary self.now ty) IsShort) }
         ensures unchanged { OnErr result (out.new.items ≡ out.old.items) };
 
-    /// Appends the value's bytes as `to_sql` does. `WrongType` comes where the type isn't accepted, and before
-    /// every other error.
+    /// Appends the value's bytes as `to_sql` does. `WrongType` comes where the type isn't accepted,
+    /// and before every other error.
     fn to_sql_checked(&self, ty: PgType, out: &mut BytesMut) -> Result<IsNull, CellError>
         ensures answer { IsAnswer (checked (accepted ty) (binary self.now ty)) result }
         ensures appended { OnOk result (AtCell (binary self.now ty)

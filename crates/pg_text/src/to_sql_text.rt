@@ -19,8 +19,8 @@ pub trait ToSqlText {
     // the cell of a value in a column of a type, under these options
     ghost text: { Self → PgType → FormatOptions → Cell };
 
-    /// Appends the value's text under the options, at most 32,000 bytes. A null has none. After an error nothing is
-    /// appended.
+    /// Appends the value's text under the options, at most 32,000 bytes. A null has none. After an
+    /// error nothing is appended.
     fn to_sql_text(
         &self,
         alloc: Global,
@@ -41,8 +41,8 @@ impl ToSqlText for Interval {
 
     ghost text = { λ interval _ options. interval_text interval options };
 
-    /// Appends the interval's text in the options' style. `InvalidOptionValue`, with the style's text, comes where
-    /// that names none of the four.
+    /// Appends the interval's text in the options' style. `InvalidOptionValue`, with the style's
+    /// text, comes where that names none of the four.
     fn to_sql_text(
         &self,
         alloc: Global,
@@ -78,8 +78,8 @@ impl ToSqlText for SignedDuration {
 
     ghost text = { λ duration _ options. duration_text (signed_nanos duration) options };
 
-    /// Appends the text of the duration's interval. `DurationOverflow` comes where there is none, and before the
-    /// style is looked at.
+    /// Appends the text of the duration's interval. `DurationOverflow` comes where there is none,
+    /// and before the style is looked at.
     fn to_sql_text(
         &self,
         alloc: Global,

@@ -4,7 +4,8 @@ use crate::fault::Fault;
 use crate::lines::told_by;
 use std::alloc::Global;
 
-/// The bytes of a text, in which `\t`, `\n` and `\r` are these bytes, and `\x7c` is the byte of that hexadecimal number.
+/// The bytes of a text, in which `\t`, `\n` and `\r` are these bytes, and `\x7c` is the byte of
+/// that hexadecimal number.
 pub fn text_bytes<'t>(alloc: Global, text: &'t str) -> Result<Vec<u8>, Fault<'t>> {
     let mut bytes = Vec::new(alloc);
     let mut escaped = false;

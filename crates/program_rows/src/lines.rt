@@ -90,7 +90,8 @@ pub struct Lines<'t> {
 }
 
 impl<'t> Lines<'t> {
-    /// What the first line with this word says, among its own and those of the blocks that they use.
+    /// What the first line with this word says, among its own and those of the blocks that they
+    /// use.
     pub fn told(self, word: &str) -> Option<&'t str> {
         for line in self.own.lines() {
             if let Some(rest) = told_by(line, word) {

@@ -6,7 +6,8 @@ ghost use Rattle.pg_portal.specs.Texts.{is_whitespace};
 ghost use Rattle.query_texts.specs.QueryTexts.{words};
 ghost use Rattle.query_texts.specs.Stops.{StopsAt};
 
-/// The first word, with no whitespace in it, and the text behind it. None is a text of whitespace alone.
+/// The first word, with no whitespace in it, and the text behind it. None is a text of whitespace
+/// alone.
 pub fn first_word(text: &str) -> Option<(&str, &str)>
     ensures none { IsNone result → words text.now ≡ [] }
     ensures some { IfSome result (λ p. words text.now ≡ p.0.now ∷ words p.1.now) }

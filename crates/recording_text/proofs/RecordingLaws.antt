@@ -25,10 +25,12 @@ abbrev IsCounted : List ℕ → Type 0
 IsCounted bytes = length bytes < 2 ^ 64
 
 abbrev AreParts : Parts → Type 0
-AreParts p = (((((((p.0.0.0.0.0.0 ≡ tag) × FitsSigned w32 p.0.0.0.0.0.1) × IsKey p.0.0.0.0.1) × IsCounted p.0.0.0.1) × AreCalls p.0.0.1) × IsCounted p.0.1) × Unit {0})
+AreParts p = (((((((p.0.0.0.0.0.0 ≡ tag) × FitsSigned w32 p.0.0.0.0.0.1) × IsKey p.0.0.0.0.1) × IsCounted p.0.0.0.1) × AreCalls p.0.0.1)
+    × IsCounted p.0.1) × Unit {0})
 
 abbrev parts_text : Parts → List ℕ
-parts_text p = count32 p.0.0.0.0.0.0 ++ int32 p.0.0.0.0.0.1 ++ key_text p.0.0.0.0.1 ++ bytes_text p.0.0.0.1 ++ calls_text p.0.0.1 ++ bytes_text p.0.1 ++ end_byte p.1 ∷ []
+parts_text p = count32 p.0.0.0.0.0.0 ++ int32 p.0.0.0.0.0.1 ++ key_text p.0.0.0.0.1 ++ bytes_text p.0.0.0.1 ++ calls_text p.0.0.1
+    ++ bytes_text p.0.1 ++ end_byte p.1 ∷ []
 
 Reads-parts : (all : ℕ) → Reads AreParts parts_text (parts_at all)
 unfolding parts_at
@@ -57,7 +59,8 @@ judged_takes bytes r fits e =
     let nothing : a.0.1 ≡ [] = nil_from_length a.0.1 (eqb-true _ _ g.0) in
     let all_parts : bytes ≡ parts_text p = t.0 ∙ ap (λ (x : List ℕ). parts_text p ++ x) nothing ∙ append-nil (parts_text p) in
     let spelled : bytes ≡ recording_text (recording_of p) =
-    all_parts ∙ ap (λ (n : ℕ). count32 n ++ int32 p.0.0.0.0.0.1 ++ key_text p.0.0.0.0.1 ++ bytes_text p.0.0.0.1 ++ calls_text p.0.0.1 ++ bytes_text p.0.1 ++ end_byte p.1 ∷ []) good.0.0.0.0.0.0 in
+    all_parts ∙ ap (λ (n : ℕ). count32 n ++ int32 p.0.0.0.0.0.1 ++ key_text p.0.0.0.0.1 ++ bytes_text p.0.0.0.1 ++ calls_text p.0.0.1
+    ++ bytes_text p.0.1 ++ end_byte p.1 ∷ []) good.0.0.0.0.0.0 in
     let holds : IsRecordable (recording_of p) = record {
       pid = good.0.0.0.0.0.1;
       key = good.0.0.0.0.1;
@@ -74,10 +77,18 @@ judged_again r good =
     let text = recording_text r in
     let read : parts_at (length text) text ≡ Ok (parts_of r, []) =
     ap (parts_at (length text)) (sym (append-nil text))
-    ∙ (Reads-parts (length text)).again (parts_of r) [] ((((((refl, good.pid), good.key), good.client), (good.count, good.calls)), good.replies), tt) in
-    ap (λ (x : Result (Parts × List ℕ) ReadError). x >>= λ y. cond (eqb (length y.1) 0) (Ok (recording_of y.0)) (Err (Trailing (length text - length y.1)))) read
+    ∙ (Reads-parts (length text)).again (parts_of r) [] (
+      (
+        ((((refl, good.pid), good.key), good.client), (good.count, good.calls)),
+        good.replies,
+      ),
+      tt,
+    ) in
+    ap (λ (x : Result (Parts × List ℕ) ReadError). x
+    >>= λ y. cond (eqb (length y.1) 0) (Ok (recording_of y.0)) (Err (Trailing (length text - length y.1)))) read
 
-pub is_found : (bytes : List ℕ) (result : Result Recording ReadError) → IsBytes bytes → Gives (λ r. r) result (judged bytes) → IfOk result (λ r. IsRecordable r × (bytes ≡ recording_text r))
+pub is_found : (bytes : List ℕ) (result : Result Recording ReadError) → IsBytes bytes → Gives (λ r. r) result (judged bytes)
+    → IfOk result (λ r. IsRecordable r × (bytes ≡ recording_text r))
 is_found bytes (Ok r) fits given = judged_takes bytes r fits given
 is_found bytes (Err e) fits given = tt
 

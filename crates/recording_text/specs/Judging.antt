@@ -1,5 +1,5 @@
--- Which bytes are no recording text, and why: fields are judged from the left. A field is read as its value and the bytes behind it. Of `all`
--- bytes, those from a field on tell its place.
+-- Which bytes are no recording text, and why: fields are judged from the left. A field is read as its value and the bytes behind it. Of
+-- `all` bytes, those from a field on tell its place.
 use Rattle.std.specs.Prelude.{◌≡◌, ◌⊎◌, ◌-◌, ℕ, ℤ, zero, suc, Bool, true, false, List, [], ◌∷◌, length, take, drop, Result, Ok, Err, nat_lt, ◌==◌, if◌then◌else◌}
 use Rattle.std.specs.Int.{Width, w16, w32, w64, byte_len, from_be_bytes, cast_signed}
 use Rattle.pg_handlers.specs.declared.desk.DeskCall.{DeskCall}
@@ -54,7 +54,10 @@ bytes_at n bytes = if nat_lt (length bytes) n then Err Truncated else Ok (take n
 
 -- a number without a sign
 abbrev pub number_at : Width → Reading ℕ
-number_at w bytes = if nat_lt (length bytes) (byte_len w) then Err Truncated else Ok (from_be_bytes w (take (byte_len w) bytes), drop (byte_len w) bytes)
+number_at w bytes = if nat_lt (length bytes) (byte_len w) then Err Truncated else Ok (
+  from_be_bytes w (take (byte_len w) bytes),
+  drop (byte_len w) bytes,
+)
 
 -- a number with a sign
 abbrev pub signed_at : Width → Reading ℤ
@@ -113,11 +116,13 @@ abbrev pub Parts : Type 0
 Parts = (((((ℕ × ℤ) × List ℕ) × List ℕ) × List DeskCall) × List ℕ) × EndKind
 
 unfoldable pub parts_at : ℕ → Reading Parts
-parts_at all = both_at (both_at (both_at (both_at (both_at (both_at (tag_at all) (signed_at w32)) (key_at all)) counted_at) (calls_at all)) counted_at) (end_at all)
+parts_at all = both_at (both_at (both_at (both_at (both_at (both_at (tag_at all) (signed_at w32)) (key_at all)) counted_at) (calls_at all))
+    counted_at) (end_at all)
 
 abbrev pub recording_of : Parts → Recording
 recording_of p = record { pid = p.0.0.0.0.0.1; key = p.0.0.0.0.1; client = p.0.0.0.1; calls = p.0.0.1; replies = p.0.1; end = p.1 }
 
 -- The recording that the bytes are the text of, or the first fault from the left.
 unfoldable pub judged : List ℕ → Result Recording ReadError
-judged bytes = parts_at (length bytes) bytes >>= λ x. if length x.1 == 0 then Ok (recording_of x.0) else Err (Trailing (length bytes - length x.1))
+judged bytes = parts_at (length bytes) bytes >>= λ x. if length x.1 == 0 then Ok (recording_of x.0)
+    else Err (Trailing (length bytes - length x.1))

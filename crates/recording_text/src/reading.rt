@@ -14,11 +14,13 @@ use std::alloc::Global;
 /// What a recording begins with, the text `PGR1` as a number.
 const TAG: u32 = 0x5047_5231;
 
-/// The recording that the bytes are the text of. Its client's bytes and its reply bytes are copied once.
+/// The recording that the bytes are the text of. Its client's bytes and its reply bytes are copied
+/// once.
 ///
-/// Fields are judged from the left. Truncated: a field's bytes aren't all there. BadField: the tag isn't `PGR1`, a key's
-/// length isn't 4, the byte of a call or of the end is above 4. Trailing: bytes stand behind the end. NoMemory: memory
-/// ran out; a count makes no room before its bytes or calls are seen to be there.
+/// Fields are judged from the left. Truncated: a field's bytes aren't all there. BadField: the tag
+/// isn't `PGR1`, a key's length isn't 4, the byte of a call or of the end is above 4. Trailing:
+/// bytes stand behind the end. NoMemory: memory ran out; a count makes no room before its bytes or
+/// calls are seen to be there.
 pub fn read_recording(alloc: Global, bytes: &[u8]) -> Result<Recording, ReadError>
     // What is read has these bytes as its text.
     ensures found { IfOk result (λ r. IsRecordable r × (bytes.now ≡ recording_text r)) }

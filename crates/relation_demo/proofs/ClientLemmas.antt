@@ -27,11 +27,13 @@ map_id [] = refl
 map_id (x ∷ xs) = ap (λ l. x ∷ l) (map_id xs)
 
 range_more : (n : ℕ) → range_with_len 0 (n + 1) ≡ range_with_len 0 n ++ n ∷ []
-range_more n = sym (map_id (range_with_len 0 (n + 1))) ∙ map-range_with_len_more (λ k. k) 0 n n (omega arith) ∙ ap (λ l. l ++ n ∷ []) (map_id (range_with_len 0 n))
+range_more n = sym (map_id (range_with_len 0 (n + 1))) ∙ map-range_with_len_more (λ k. k) 0 n n (omega arith)
+    ∙ ap (λ l. l ++ n ∷ []) (map_id (range_with_len 0 n))
 
 -- what asks for one more relation stands behind what asks for those before it
 pub asking_more : (n : ℕ) → flat_map asking (range_with_len 0 (n + 1)) ≡ flat_map asking (range_with_len 0 n) ++ asking n
-asking_more n = ap (flat_map asking) (range_more n) ∙ flat_map-append asking (range_with_len 0 n) (n ∷ []) ∙ ap (λ b. flat_map asking (range_with_len 0 n) ++ b) (append-nil (asking n))
+asking_more n = ap (flat_map asking) (range_more n) ∙ flat_map-append asking (range_with_len 0 n) (n ∷ [])
+    ∙ ap (λ b. flat_map asking (range_with_len 0 n) ++ b) (append-nil (asking n))
 
 -- the messages for a relation, one behind another
 pub asking_from : (i : ℕ) (old first second third all : List ℕ) → first ≡ old ++ frame_bytes false 80 (parse_body (parse i))
@@ -43,20 +45,28 @@ asking_from i old first second third all e f g h =
     let b = frame_bytes false 66 (bind_body bind) in
     let x = frame_bytes false 69 (execute_body execute) in
     let y = frame_bytes false 83 [] in
-    h ∙ ap (λ l. l ++ y) (g ∙ ap (λ l. l ++ x) (f ∙ ap (λ l. l ++ b) e ∙ append_assoc old p b) ∙ append_assoc old (p ++ b) x) ∙ append_assoc old (p ++ b ++ x) y
+    h ∙ ap (λ l. l ++ y) (g ∙ ap (λ l. l ++ x) (f ∙ ap (λ l. l ++ b) e ∙ append_assoc old p b) ∙ append_assoc old (p ++ b) x)
+    ∙ append_assoc old (p ++ b ++ x) y
 
 -- ---- how long it is
 
-asking_is : (i : ℕ) → asking i ≡ ((80 ∷ count32 (length (decimal i) + 9) ++ 0 ∷ 114 ∷ decimal i ++ 0 ∷ 0 ∷ 0 ∷ []) ++ frame_bytes false 66 (bind_body bind)) ++ frame_bytes false 69 (execute_body execute) ++ frame_bytes false 83 []
+asking_is : (i : ℕ) → asking i ≡ ((80 ∷ count32 (length (decimal i) + 9) ++ 0 ∷ 114 ∷ decimal i ++ 0 ∷ 0 ∷ 0 ∷ [])
+    ++ frame_bytes false 66 (bind_body bind)) ++ frame_bytes false 69 (execute_body execute) ++ frame_bytes false 83 []
 unfolding asking
-asking_is i = ap (λ p. p ++ frame_bytes false 66 (bind_body bind) ++ frame_bytes false 69 (execute_body execute) ++ frame_bytes false 83 []) (parse_frame i)
+asking_is i = ap (λ p. p ++ frame_bytes false 66 (bind_body bind) ++ frame_bytes false 69 (execute_body execute) ++ frame_bytes false 83 [])
+    (parse_frame i)
 
 asking_len : (i : ℕ) → i < 10 ^ 5 → length (asking i) ≤ 45
 asking_len i few = rw (asking_is i) (simp length-append (omega (arith, length-decimal-le 5 i (omega arith) few (omega arith))))
 
 all_len : (a n : ℕ) → a + n ≤ 10000 → length (flat_map asking (range_with_len a n)) ≤ 45 * n
 all_len a zero few = omega arith
-all_len a (suc n) few = omega (arith, length-append (asking a) (flat_map asking (range_with_len (a + 1) n)), asking_len a (omega arith), all_len (a + 1) n (omega arith))
+all_len a (suc n) few = omega (
+  arith,
+  length-append (asking a) (flat_map asking (range_with_len (a + 1) n)),
+  asking_len a (omega arith),
+  all_len (a + 1) n (omega arith),
+)
 
 pub is_short : (count : ℕ) → count ≤ 10000 → length (demo_client count) ≤ 1000000
 unfolding demo_client

@@ -28,7 +28,8 @@ pub record AreLeft (rest : List ℕ) (rows : ℕ) (messages : List PgWireBackend
   pub told : AreTold left
   pub counted : rows + row_count left ≡ row_count messages
 
-row_count-cons : (m : PgWireBackendMessage) (others : List PgWireBackendMessage) → row_count (m ∷ others) ≡ cond (is_row m) 1 0 + row_count others
+row_count-cons : (m : PgWireBackendMessage) (others : List PgWireBackendMessage)
+    → row_count (m ∷ others) ≡ cond (is_row m) 1 0 + row_count others
 row_count-cons m others = sum_by-cons (λ x. cond (is_row x) 1 0) m others
 
 -- ---- the first reply
@@ -52,7 +53,8 @@ framed one m = if one then [] else count32 (4 + length (reply_body m)) ++ reply_
 framed_len : (m : PgWireBackendMessage) → length (count32 (4 + length (reply_body m)) ++ reply_body m) ≡ 4 + length (reply_body m)
 framed_len m = length-append (count32 (4 + length (reply_body m))) (reply_body m)
 
-pub first_behind : (kind : ℕ) (rest : List ℕ) (len : Option ℕ) (m : PgWireBackendMessage) (others : List ℕ) → TellsLength kind rest len → IsTold m
+pub first_behind : (kind : ℕ) (rest : List ℕ) (len : Option ℕ) (m : PgWireBackendMessage) (others : List ℕ) → TellsLength kind rest len
+    → IsTold m
     → kind ∷ rest ≡ reply_bytes m ++ others → Behind kind rest len m others
 first_behind kind rest len m others tells told e =
     let type : kind ≡ reply_type m = cc in
@@ -82,7 +84,8 @@ IsFirst rest kind behind = (m : PgWireBackendMessage) (others : List ℕ) → re
 one_if : {a b : Bool} → a ≡ b → cond a 1 0 ≡ cond {A = ℕ} b 1 0
 one_if e = ap {B = ℕ} (λ x. cond x 1 0) e
 
-one_less_of : (rest : List ℕ) (kind : ℕ) (behind : List ℕ) (rows after : ℕ) (messages left : List PgWireBackendMessage) → IsFirst rest kind behind → rest ≢ []
+one_less_of : (rest : List ℕ) (kind : ℕ) (behind : List ℕ) (rows after : ℕ) (messages left : List PgWireBackendMessage)
+    → IsFirst rest kind behind → rest ≢ []
     → after ≡ rows + cond (kind == 68) 1 0 → rest ≡ replies_bytes left → AreTold left → rows + row_count left ≡ row_count messages
     → AreLeft behind after messages
 one_less_of rest kind behind rows after messages [] first some more bytes told counted = absurd (some bytes)
@@ -96,9 +99,11 @@ one_less_of rest kind behind rows after messages (m ∷ left) first some more by
       counted = omega (arith, more, one_if row, counted, row_count-cons m left);
     }
 
-pub one_less : (rest : List ℕ) (kind : ℕ) (behind : List ℕ) (rows after : ℕ) (messages : List PgWireBackendMessage) → IsFirst rest kind behind → rest ≢ []
+pub one_less : (rest : List ℕ) (kind : ℕ) (behind : List ℕ) (rows after : ℕ) (messages : List PgWireBackendMessage)
+    → IsFirst rest kind behind → rest ≢ []
     → after ≡ rows + cond (kind == 68) 1 0 → AreLeft rest rows messages → AreLeft behind after messages
-one_less rest kind behind rows after messages first some more h = one_less_of rest kind behind rows after messages h.left first some more h.bytes h.told h.counted
+one_less rest kind behind rows after messages first some more h =
+    one_less_of rest kind behind rows after messages h.left first some more h.bytes h.told h.counted
 
 pub one_more_row : (kind rows : ℕ) → kind ≡ 68 → rows + 1 ≡ rows + cond (kind == 68) 1 0
 one_more_row kind rows is = rw is refl

@@ -40,6 +40,9 @@ unfolding demo_client
 one_relation = rw asking_first refl
 
 -- of two rows and the messages behind them
-two_rows : row_count (server.DataRow (record { payload = []; field_count = pos 0 }) ∷ server.DataRow (record { payload = 68 ∷ []; field_count = pos 1 })
+two_rows : row_count (server.DataRow (record { payload = []; field_count = pos 0 }) ∷ server.DataRow (record {
+  payload = 68 ∷ [];
+  field_count = pos 1;
+})
     ∷ server.CommandComplete (record { tag = codes "SELECT 2" }) ∷ server.ReadyForQuery (record { status = status.Idle }) ∷ []) ≡ 2
 two_rows = refl

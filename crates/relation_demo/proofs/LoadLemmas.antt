@@ -65,8 +65,10 @@ columns_good x =
 
 rows_even : (x : ℕ) (i : ℕ) → let r = relation x i in are_even (length r.columns) r.rows ≡ true
 rows_even x i =
-    list_all-each (λ cells. length cells == length (each_below (width x) column_name)) (λ r. row (after (after x 3) (3 * width x * r)) (width x)) 0 (height x)
-    (λ r below. eq-eqb _ _ (length-map-range_with_len (λ c. cell (after (after (after x 3) (3 * width x * r)) (3 * c))) 0 (width x) ∙ sym (columns_long x)))
+    list_all-each (λ cells. length cells == length (each_below (width x) column_name))
+    (λ r. row (after (after x 3) (3 * width x * r)) (width x)) 0 (height x)
+    (λ r below. eq-eqb _ _ (length-map-range_with_len (λ c. cell (after (after (after x 3) (3 * width x * r)) (3 * c))) 0 (width x)
+    ∙ sym (columns_long x)))
 
 -- ---- all relations
 
@@ -93,7 +95,8 @@ none_refused seed a (suc n) few =
     (are_even (length (drawn seed a).columns) (drawn seed a).rows) (BadName place) (BadColumn place) (RaggedRow place)
     (ap is_some (is_new seed a (omega arith))) (relation_name_is_good a (omega arith)) (columns_good x) (rows_even x a) in
     let rest : refusal_after (earlier ++ drawn seed a ∷ []) later ≡ None =
-    ap (λ e. refusal_after e later) (sym (map-range_with_len_more (drawn seed) 0 a a (omega arith))) ∙ none_refused seed (a + 1) n (omega arith) in
+    ap (λ e. refusal_after e later) (sym (map-range_with_len_more (drawn seed) 0 a a (omega arith)))
+    ∙ none_refused seed (a + 1) n (omega arith) in
     ap (λ o. or_else o (refusal_after (earlier ++ drawn seed a ∷ []) later)) first ∙ rest
 
 pub is_valid : (seed count : ℕ) → count ≤ 10000 → IsValid (demo_relations seed count)
@@ -119,7 +122,8 @@ row_within x width = AllByRecursion-each IsInterval (λ c. cell (after x (3 * c)
 
 rows_within : (x width count : ℕ) → AreRowsWithin (rows x width count)
 rows_within x width count =
-    AllByRecursion-each IsRowWithin (λ r. row (after x (3 * width * r)) width) 0 count (λ r below. row_within (after x (3 * width * r)) width)
+    AllByRecursion-each IsRowWithin (λ r. row (after x (3 * width * r)) width) 0 count
+    (λ r below. row_within (after x (3 * width * r)) width)
 
 pub hold_intervals : (seed count : ℕ) → HoldIntervals (demo_relations seed count)
 unfolding demo_relations
@@ -132,7 +136,8 @@ few_polls seed count = AllByRecursion-each (λ r. r.unready ≤ 2) (drawn seed) 
 
 -- ---- drawn one after another
 
-pub cell_from : (x : ℕ) (i : Interval) → i.months ≡ (cell x).months → i.days ≡ (cell x).days → i.microseconds ≡ (cell x).microseconds → i ≡ cell x
+pub cell_from : (x : ℕ) (i : Interval) → i.months ≡ (cell x).months → i.days ≡ (cell x).days → i.microseconds ≡ (cell x).microseconds
+    → i ≡ cell x
 cell_from x i months days microseconds = λ k. record { months = months k; days = days k; microseconds = microseconds k }
 
 -- the first three draws of a relation: a remainder each, and the generator behind each
@@ -170,7 +175,8 @@ pub none_yet : (seed : ℕ) → [] ≡ demo_relations seed 0
 unfolding demo_relations
 none_yet seed = refl
 
-pub next_relation : (seed n x : ℕ) (front all : List Relation) (r : Relation) → front ≡ demo_relations seed n → all ≡ front ++ r ∷ [] → x ≡ before seed n
+pub next_relation : (seed n x : ℕ) (front all : List Relation) (r : Relation) → front ≡ demo_relations seed n → all ≡ front ++ r ∷ []
+    → x ≡ before seed n
     → r ≡ relation x n → all ≡ demo_relations seed (n + 1)
 unfolding demo_relations
 next_relation seed n x front all r e grown f is = each_below-more (drawn seed) n front all r e grown (is ∙ ap (λ w. relation w n) f)

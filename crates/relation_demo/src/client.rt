@@ -12,7 +12,8 @@ use std::alloc::{AllocError, Global};
 /// A startup packet of version 3.0: Int32 19, Int32 196608, `user`, `demo`, and a zero byte.
 const STARTUP: &[u8] = b"\0\0\0\x13\0\x03\0\0user\0demo\0\0";
 
-/// Bind of the unnamed portal to the unnamed statement, without values, and with one result code, 1.
+/// Bind of the unnamed portal to the unnamed statement, without values, and with one result code,
+/// 1.
 const BIND: &[u8] = b"B\0\0\0\x0e\0\0\0\0\0\0\0\x01\0\x01";
 
 /// Execute of the unnamed portal, without a limit.
@@ -24,8 +25,8 @@ const SYNC: &[u8] = b"S\0\0\0\x04";
 /// Terminate.
 const TERMINATE: &[u8] = b"X\0\0\0\x04";
 
-/// The bytes of the client that asks for all rows of so many relations, one after another: a startup packet, for each
-/// relation Parse, Bind, Execute and Sync, and Terminate.
+/// The bytes of the client that asks for all rows of so many relations, one after another: a
+/// startup packet, for each relation Parse, Bind, Execute and Sync, and Terminate.
 #[tactic(auto, using(crate::proofs::ClientLemmas::is_short))]
 pub fn demo_client(alloc: Global, count: u32) -> Result<PgBytes, AllocError>
     requires { count ≤ 10000 }
@@ -51,7 +52,8 @@ fn push_asking(bytes: &mut Vec<u8>, number: u32) -> Result<(), AllocError>
     Ok(())
 }
 
-/// Appends the Parse of the relation of this number: Int32 length, the empty name, `r` and the number, no types.
+/// Appends the Parse of the relation of this number: Int32 length, the empty name, `r` and the
+/// number, no types.
 fn push_parse(bytes: &mut Vec<u8>, number: u32) -> Result<(), AllocError>
     ensures { OnOk result (bytes.new.items
         ≡ bytes.old.items ++ frame_bytes false 80 (parse_body (client.parse number))) }

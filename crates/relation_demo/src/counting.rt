@@ -12,8 +12,9 @@ const DATA_ROW: u8 = b'D';
 /// The type byte of a reply of one byte, which refuses encryption.
 const REFUSAL: u8 = b'N';
 
-/// How many rows stand among replies, one after another. A reply is a type byte and an Int32 length, which counts
-/// itself and the body behind it; or the byte `N` alone. Where a reply is cut or its length is below 4, the count ends.
+/// How many rows stand among replies, one after another. A reply is a type byte and an Int32
+/// length, which counts itself and the body behind it; or the byte `N` alone. Where a reply is cut
+/// or its length is below 4, the count ends.
 pub fn count_rows(replies: &[u8]) -> u64
     ensures { (messages : List PgWireBackendMessage)
         → replies.now ≡ replies_bytes messages → AreTold messages → result ≡ row_count messages }

@@ -1,5 +1,5 @@
-//! The generated load of a server of relations: relations that are drawn from a seed, a client that asks for each, and
-//! the number of rows that it is answered.
+//! The generated load of a server of relations: relations that are drawn from a seed, a client that
+//! asks for each, and the number of rows that it is answered.
 #![tactic(auto)]
 
 mod client;

@@ -13,8 +13,8 @@ use relation_handlers::{RelationTable, TableError};
 use relation_tables::Relation;
 use std::alloc::{AllocError, Global};
 
-/// The table of so many relations, drawn from a seed. Each keeps the rules of a table, so want of memory is the only
-/// error.
+/// The table of so many relations, drawn from a seed. Each keeps the rules of a table, so want of
+/// memory is the only error.
 #[tactic(auto, using(crate::proofs::LoadLemmas::is_valid, crate::proofs::LoadLemmas::hold_intervals, crate::proofs::LoadLemmas::few_polls))]
 pub fn demo_table(alloc: Global, seed: u64, count: u32) -> Result<RelationTable, AllocError>
     requires { count ≤ 10000 }

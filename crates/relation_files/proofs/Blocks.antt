@@ -32,7 +32,8 @@ and_rows r lines = having r (r.rows ++ map row_of lines)
 and_rows-none : (r : Relation) → and_rows r [] ≡ r
 and_rows-none r = ap (having r) (append-nil r.rows)
 
-and_rows-more : (r : Relation) (line : List ℕ) (lines : List (List ℕ)) → and_rows (with_row r (row_of line)) lines ≡ and_rows r (line ∷ lines)
+and_rows-more : (r : Relation) (line : List ℕ) (lines : List (List ℕ))
+    → and_rows (with_row r (row_of line)) lines ≡ and_rows r (line ∷ lines)
 and_rows-more r line lines = ap (having r) (append_assoc r.rows (row_of line ∷ []) (map row_of lines))
 
 -- a header tells no row
@@ -42,7 +43,8 @@ header_rows (name ∷ []) = refl
 header_rows (name ∷ polls ∷ columns) = refl
 
 and_rows-header : (header : List ℕ) (lines : List (List ℕ)) → and_rows (header_of (fields_of header)) lines ≡ relation_of (header ∷ lines)
-and_rows-header header lines = ap (λ rows. having (header_of (fields_of header)) (rows ++ map row_of lines)) (header_rows (fields_of header))
+and_rows-header header lines = ap (λ rows. having (header_of (fields_of header)) (rows ++ map row_of lines))
+    (header_rows (fields_of header))
 
 -- the relations that parts tell, empty ones left out
 abbrev told_by : List (List (List ℕ)) → List Relation

@@ -56,7 +56,8 @@ pub row_reason-width : (width : ℕ) (cells : List (List ℕ)) (n : ℕ) → n �
 row_reason-width width cells n count differs =
     ap (λ b. if not b then Some Width else cells_reason cells) (ne_eqb (length cells) width (λ e. differs (count ∙ e)))
 
-pub row_reason-fits : (width : ℕ) (cells : List (List ℕ)) (n : ℕ) → n ≡ length cells → n ≡ width → row_reason width cells ≡ cells_reason cells
+pub row_reason-fits : (width : ℕ) (cells : List (List ℕ)) (n : ℕ) → n ≡ length cells → n ≡ width
+    → row_reason width cells ≡ cells_reason cells
 row_reason-fits width cells n count fits =
     ap (λ b. if not b then Some Width else cells_reason cells) (eq-eqb (length cells) width (sym count ∙ fits))
 
@@ -68,7 +69,8 @@ is_false false h = refl
 
 pub line_reason-no_text : (t : List ℕ → Bool) (width : Option ℕ) (line : List ℕ) → ¬ (IsUtf8 line) → line_reason t width line ≡ Some Text
 line_reason-no_text t width line fails =
-    ap (λ b. if not b then Some Text else fields_reason t width (fields_of line)) (is_false (is_utf8 line) (λ e. fails (IsUtf8-from_is_utf8 line e)))
+    ap (λ b. if not b then Some Text else fields_reason t width (fields_of line))
+    (is_false (is_utf8 line) (λ e. fails (IsUtf8-from_is_utf8 line e)))
 
 pub line_reason-text : (t : List ℕ → Bool) (width : Option ℕ) (line text : List ℕ) → (text ≡ line) × IsUtf8 line
     → line_reason t width line ≡ fields_reason t width (fields_of text)

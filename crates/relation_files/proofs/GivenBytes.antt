@@ -15,7 +15,8 @@ gave_more None mid new_left taken n into t g = tt
 gave_more (Some told) mid new_left taken n into t g =
     let given : GivesFront n into t.0 new_left = subst (λ o. IfSome o (λ bytes. GivesFront n into bytes new_left)) t.2 g in (
       drop n t.0,
-      t.1 ∙ ap (λ l. taken ++ l) (sym (take-append-drop n t.0)) ∙ sym (append_assoc taken (take n t.0) (drop n t.0)) ∙ ap (λ l. (taken ++ l) ++ drop n t.0) (sym given.given),
+      t.1 ∙ ap (λ l. taken ++ l) (sym (take-append-drop n t.0)) ∙ sym (append_assoc taken (take n t.0) (drop n t.0))
+          ∙ ap (λ l. (taken ++ l) ++ drop n t.0) (sym given.given),
       given.rest,
     )
 

@@ -39,5 +39,6 @@ polls_of-digits field r digits parses =
     let parts = digits_parts field digits in
     let n = digits_value 10 field in
     read r n (0 < length field) parts.1
-    (parse_digits (numerals_by_value (λ ds. all_ascii_digits ds ≡ true) tells_all_ascii_digits) 32 field r parses (sym (same_digits field) ∙ parts.0))
+    (parse_digits (numerals_by_value (λ ds. all_ascii_digits ds ≡ true) tells_all_ascii_digits) 32 field r parses (sym (same_digits field)
+    ∙ parts.0))
     ∙ sym (ap (λ b. if b && nat_le n 4294967295 then Some n else None) digits)

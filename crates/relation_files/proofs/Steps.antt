@@ -28,14 +28,17 @@ names-header closed r = ap (λ xs. xs ++ r.name ∷ []) (names-close closed) ∙
 names-row : (closed : List Relation) (r s : Relation) → r.name ≡ s.name
     → map (λ x. x.name) (closed ++ r ∷ []) ≡ map (λ x. x.name) (closed ++ s ∷ [])
 names-row closed r s e =
-    map-append (λ x. x.name) closed (r ∷ []) ∙ ap (λ n. map (λ x. x.name) closed ++ n ∷ []) e ∙ sym (map-append (λ x. x.name) closed (s ∷ []))
+    map-append (λ x. x.name) closed (r ∷ []) ∙ ap (λ n. map (λ x. x.name) closed ++ n ∷ []) e
+    ∙ sym (map-append (λ x. x.name) closed (s ∷ []))
 
 -- a line is judged, and then those behind it
 pub bad_line_after-step : (number : ℕ) (closed : List Relation) (current : Option Relation) (line : List ℕ) (lines : List (List ℕ))
     → let s : SoFar = record { closed = closed; current = current } in
     bad_line_after number s (line ∷ lines) ≡ at_line number (reason_at s line) (bad_line_after (number + 1) (after s line) lines)
-bad_line_after-step number closed None [] lines = ap (λ names. first_bad_line_from (number + 1) names None lines) (sym (names-close (closed ++ [])))
-bad_line_after-step number closed (Some r) [] lines = ap (λ names. first_bad_line_from (number + 1) names None lines) (sym (names-close (closed ++ r ∷ [])))
+bad_line_after-step number closed None [] lines =
+    ap (λ names. first_bad_line_from (number + 1) names None lines) (sym (names-close (closed ++ [])))
+bad_line_after-step number closed (Some r) [] lines =
+    ap (λ names. first_bad_line_from (number + 1) names None lines) (sym (names-close (closed ++ r ∷ [])))
 bad_line_after-step number closed None (byte ∷ bytes) lines =
     let header = header_of (fields_of (byte ∷ bytes)) in
     ap (λ names. at_line number (line_reason (is_among (map (λ r. r.name) (closed ++ []))) None (byte ∷ bytes))

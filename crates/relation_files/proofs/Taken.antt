@@ -33,10 +33,13 @@ or-false false false = refl
 
 -- one name more
 pub taken-insert : {X : Type 0} (m : NameMap X) (x : X) (closed : List Relation) (current : Option Relation) (r : Relation)
-    → current ≡ None → ((name : List ℕ) → is_some (fin.get m name) ≡ is_among (names_of (record { closed = closed; current = current })) name)
-    → (name : List ℕ) → is_some (fin.get (fin.insert m r.name x) name) ≡ is_among (names_of (record { closed = closed; current = Some r })) name
+    → current ≡ None → ((name : List ℕ) → is_some (fin.get m name)
+    ≡ is_among (names_of (record { closed = closed; current = current })) name)
+    → (name : List ℕ) → is_some (fin.get (fin.insert m r.name x) name)
+    ≡ is_among (names_of (record { closed = closed; current = Some r })) name
 taken-insert m x closed current r none so_far name =
-    ap is_some (fin.get-insert nat_list_cmp_total m r.name x name ∙ ap (λ b. cond b (Some x) (fin.get m name)) (is_eq-slice_cmp name r.name))
+    ap is_some (fin.get-insert nat_list_cmp_total m r.name x name
+    ∙ ap (λ b. cond b (Some x) (fin.get m name)) (is_eq-slice_cmp name r.name))
     ∙ some-insert (bytes_eq name r.name) x (fin.get m name)
     ∙ ap (λ b. b || bytes_eq name r.name) (so_far name ∙ ap (λ o. is_among (names_of (record { closed = closed; current = o })) name) none)
     ∙ or-false (is_among (map (λ q. q.name) (closed ++ [])) name) (bytes_eq name r.name)

@@ -50,7 +50,8 @@ refusal-push earlier (s ∷ rs) r =
     ap (λ o. or_else here o) (refusal-push (earlier ++ s ∷ []) rs r)
     ∙ or_else-assoc here (table.refusal_after (earlier ++ s ∷ []) rs)
     (refusal_at (length ((earlier ++ s ∷ []) ++ rs)) (is_some (place_of ((earlier ++ s ∷ []) ++ rs) r.name)) r)
-    ∙ ap (λ xs. or_else (or_else here (table.refusal_after (earlier ++ s ∷ []) rs)) (refusal_at (length xs) (is_some (place_of xs r.name)) r))
+    ∙ ap (λ xs. or_else (or_else here (table.refusal_after (earlier ++ s ∷ []) rs))
+    (refusal_at (length xs) (is_some (place_of xs r.name)) r))
     (append_assoc earlier (s ∷ []) rs)
 
 IsValid-push : (rs : List Relation) (r : Relation) → IsValid rs → refusal_at (length rs) (is_some (place_of rs r.name)) r ≡ None
@@ -84,7 +85,8 @@ is_some-place rs name = is_some-position name 0 rs
 -- what a relation is refused for, by what is true of it
 abbrev verdict : ℕ → Bool → Bool → Bool → Bool → Option TableError
 verdict n taken name columns rows =
-    if taken || not name then Some (BadName n) else if not columns then Some (BadColumn n) else if not rows then Some (RaggedRow n) else None
+    if taken || not name then Some (BadName n) else if not columns then Some (BadColumn n) else if not rows then Some (RaggedRow n)
+    else None
 
 verdict-good : (n : ℕ) (taken name columns rows : Bool) → taken ≡ false → name ≡ true → columns ≡ true → rows ≡ true
     → verdict n taken name columns rows ≡ None
@@ -188,10 +190,22 @@ IsValid-told lines h = ap (λ rs. table.refusal rs) (sym (all_after-nothing line
 pub length-lines : (text : List ℕ) → length (lines_of text) ≤ length text + 1
 length-lines text =
     let parts = slice_split (λ byte. byte == 10) text in
-    omega (arith, length-map parts strip_carriage_return, length-slice_split (λ byte. byte == 10) text, count_by-le-length (λ byte. byte == 10) text)
+    omega (
+      arith,
+      length-map parts strip_carriage_return,
+      length-slice_split (λ byte. byte == 10) text,
+      count_by-le-length (λ byte. byte == 10) text,
+    )
 
 pub length-relations : (lines : List (List ℕ)) → length (relations_of lines) ≤ length lines + 1
 length-relations lines =
     let parts = slice_split is_empty lines in
     let full : List (List ℕ) → Bool = λ block. not (is_empty block) in
-    omega (arith, length-map (blocks lines) relation_of, length-filter full parts, count_by-le-length full parts, length-slice_split (is_empty {X = ℕ}) lines, count_by-le-length (is_empty {X = ℕ}) lines)
+    omega (
+      arith,
+      length-map (blocks lines) relation_of,
+      length-filter full parts,
+      count_by-le-length full parts,
+      length-slice_split (is_empty {X = ℕ}) lines,
+      count_by-le-length (is_empty {X = ℕ}) lines,
+    )

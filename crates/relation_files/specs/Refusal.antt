@@ -60,7 +60,8 @@ first_bad_line_from number names width [] = None
 first_bad_line_from number names width ([] ∷ lines) = first_bad_line_from (number + 1) names None lines
 first_bad_line_from number names None (line ∷ lines) =
     at_line number (line_reason (is_among names) None line)
-    (first_bad_line_from (number + 1) (names ++ (header_of (fields_of line)).name ∷ []) (Some (length (header_of (fields_of line)).columns)) lines)
+    (first_bad_line_from (number + 1) (names ++ (header_of (fields_of line)).name ∷ []) (Some (length (header_of (fields_of line)).columns))
+    lines)
 first_bad_line_from number names (Some width) (line ∷ lines) =
     at_line number (line_reason (is_among names) (Some width) line) (first_bad_line_from (number + 1) names (Some width) lines)
 

@@ -11,7 +11,8 @@ use std::alloc::AllocError;
 pub enum LineReason {
     /// It isn't UTF-8.
     Text,
-    /// A header has fewer than two fields, or the second is no decimal number of at most 4,294,967,295.
+    /// A header has fewer than two fields, or the second is no decimal number of at most
+    /// 4,294,967,295.
     Header,
     /// A header's name is none that a table of relations takes, or is that of an earlier header.
     Name,

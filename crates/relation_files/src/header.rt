@@ -24,9 +24,11 @@ pub(crate) fn read_header(
     taken: &Named<()>,
     line: &[u8],
 ) -> Result<Relation, LineError>
-    ensures good { IfOk result (λ _. line_reason (λ name. is_some (map.get taken.now name)) None line.now ≡ None) }
+    ensures good { IfOk result (λ _. line_reason (λ name. is_some (map.get taken.now name)) None
+        line.now ≡ None) }
     ensures relation { IfOk result (λ relation. relation ≡ header_of (fields_of line.now)) }
-    ensures refused { IfErr result (λ error. IsReason error (line_reason (λ name. is_some (map.get taken.now name)) None line.now)) }
+    ensures refused { IfErr result (λ error. IsReason error
+        (line_reason (λ name. is_some (map.get taken.now name)) None line.now)) }
 {
     let Ok(text) = str::from_utf8(line) else {
         return Err(LineError::Refused(LineReason::Text));
@@ -51,7 +53,8 @@ fn read_fields(
         (name.now ∷ polls.now ∷ fields_behind columns.entry) ≡ None) }
     ensures relation { IfOk result (λ relation. relation
         ≡ header_of (name.now ∷ polls.now ∷ fields_behind columns.entry)) }
-    ensures refused { IfErr result (λ error. IsReason error (header_reason (λ name. is_some (map.get taken.now name))
+    ensures refused { IfErr result (λ error. IsReason error
+        (header_reason (λ name. is_some (map.get taken.now name))
         (name.now ∷ polls.now ∷ fields_behind columns.entry))) }
 {
     let Some(unready) = read_polls(polls) else {

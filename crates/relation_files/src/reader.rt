@@ -12,7 +12,8 @@ use relation_tables::Relation;
 use std::alloc::{AllocError, Global};
 use std::marker::Model;
 
-/// The relations that the lines so far told: those that an empty line ended, and the one that the next row belongs to.
+/// The relations that the lines so far told: those that an empty line ended, and the one that the
+/// next row belongs to.
 #[derive(Drop)]
 pub(crate) struct Reader {
     // the names of all headers so far

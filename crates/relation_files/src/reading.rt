@@ -18,7 +18,8 @@ const READ_LEN: usize = 65_536;
 pub(crate) fn read_whole<F: Source>(alloc: Global, file: &mut F) -> Result<Vec<u8>, FileError>
     ensures whole { IfOk result (λ text. GaveAll (F.left file.old) (F.left file.new) text.items) }
     ensures within { IfOk result (λ text. length text.items ≤ FILE_LIMIT) }
-    ensures cause { IfErr result (λ error. IsReadCause error (F.left file.old) (F.left file.new) (F.faults file.old) (F.faults file.new)) }
+    ensures cause { IfErr result (λ error. IsReadCause error (F.left file.old) (F.left file.new)
+        (F.faults file.old) (F.faults file.new)) }
     ensures never_falls { F.faults file.old ≤ F.faults file.new }
 {
     let mut buffer = [0u8; READ_LEN];
@@ -30,7 +31,8 @@ fn read_by<F: Source>(alloc: Global, file: &mut F, buffer: &mut [u8]) -> Result<
     requires { 0 < length buffer.old }
     ensures whole { IfOk result (λ text. GaveAll (F.left file.old) (F.left file.new) text.items) }
     ensures within { IfOk result (λ text. length text.items ≤ FILE_LIMIT) }
-    ensures cause { IfErr result (λ error. IsReadCause error (F.left file.old) (F.left file.new) (F.faults file.old) (F.faults file.new)) }
+    ensures cause { IfErr result (λ error. IsReadCause error (F.left file.old) (F.left file.new)
+        (F.faults file.old) (F.faults file.new)) }
     ensures never_falls { F.faults file.old ≤ F.faults file.new }
 {
     let mut text = Vec::new(alloc);

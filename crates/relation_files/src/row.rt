@@ -20,7 +20,8 @@ pub(crate) fn read_row(
 ) -> Result<PgList<Interval>, LineError>
     ensures good { IfOk result (λ _. line_reason never (Some width) line.now ≡ None) }
     ensures row { IfOk result (λ row. row ≡ row_of line.now) }
-    ensures refused { IfErr result (λ error. IsReason error (line_reason never (Some width) line.now)) }
+    ensures refused { IfErr result (λ error. IsReason error
+        (line_reason never (Some width) line.now)) }
 {
     let Ok(text) = str::from_utf8(line) else {
         return Err(LineError::Refused(LineReason::Text));
@@ -32,7 +33,8 @@ pub(crate) fn read_row(
 fn read_fields(alloc: Global, width: usize, text: &str) -> Result<PgList<Interval>, LineError>
     ensures good { IfOk result (λ _. row_reason width (fields_of text.now) ≡ None) }
     ensures row { IfOk result (λ row. row ≡ row_of text.now) }
-    ensures refused { IfErr result (λ error. IsReason error (row_reason width (fields_of text.now))) }
+    ensures refused { IfErr result (λ error. IsReason error
+        (row_reason width (fields_of text.now))) }
 {
     if field_count(text) != width {
         return Err(LineError::Refused(LineReason::Width));

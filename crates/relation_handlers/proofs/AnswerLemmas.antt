@@ -18,7 +18,8 @@ use Rattle.relation_handlers.specs.Tables.{IsSound}
 pub sendable_columns : (formats : Format) (r : Relation) → IsSound r → IsEncodable (row_description (columns_in formats r.columns))
 sendable_columns formats r sound = columns_sendable formats r.columns (good_columns r.columns sound.columns)
 
-pub sendable_rows : (client : ClientInfo) (formats : Format) (r : Relation) → IsSound r → IsSendableResponse (rows_response client formats r)
+pub sendable_rows : (client : ClientInfo) (formats : Format) (r : Relation) → IsSound r
+    → IsSendableResponse (rows_response client formats r)
 sendable_rows client formats r sound = (sendable_columns formats r sound, select_is_tag)
 
 pub sendable_types : (types : List (Option PgType)) → length types ≤ 32767 → IsEncodable (parameter_description (given_types types))

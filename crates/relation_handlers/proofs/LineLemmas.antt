@@ -20,7 +20,8 @@ first_text : (text : List ℕ) (texts : List (List ℕ)) → join_with_byte 9 (t
 first_text text [] = sym (append-nil text)
 first_text text (t ∷ texts) = ap (λ l. text ++ (9 ∷ l)) (first_text t texts)
 
-next_text : (index : ℕ) (text : List ℕ) (texts : List (List ℕ)) → behind index (text ∷ texts) ≡ (tab index ++ text) ++ behind (suc index) texts
+next_text : (index : ℕ) (text : List ℕ) (texts : List (List ℕ))
+    → behind index (text ∷ texts) ≡ (tab index ++ text) ++ behind (suc index) texts
 next_text zero text texts = first_text text texts
 next_text (suc n) text texts = refl
 

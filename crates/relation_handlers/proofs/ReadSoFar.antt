@@ -11,7 +11,8 @@ ReadSo P xs n = AllByRecursion P (take n xs)
 pub none : {A : Type 0} (P : A → Type 0) (xs : List A) → ReadSo P xs 0
 none P xs = tt
 
-pub more : {A : Type 0} (P : A → Type 0) (xs : List A) (i : ℕ) (d : A) → i < length xs → ReadSo P xs i → P (get_or xs i d) → ReadSo P xs (i + 1)
+pub more : {A : Type 0} (P : A → Type 0) (xs : List A) (i : ℕ) (d : A) → i < length xs → ReadSo P xs i → P (get_or xs i d)
+    → ReadSo P xs (i + 1)
 more P xs i d inside h p =
     recursion_from_All P (take (i + 1) xs) (All-more P xs i d inside (All-from_recursion P (take i xs) h) p)
 

@@ -40,7 +40,8 @@ pub(crate) fn answer<'r>(
 ) -> Result<Response<RelationRows<'r>, RelationCopy<'r>>, AllocError>
     requires given { IsTrue (is_statement_of relations.now means) }
     requires short_metadata { HasShortMetadata client.now }
-    ensures told { IfOk result (λ response. Ok (told_response (λ rows. rows) (λ items. items) response)
+    ensures told { IfOk result (λ response.
+        Ok (told_response (λ rows. rows) (λ items. items) response)
         ≡ (query_of relations.now client.now formats.now means).outcome) }
     ensures sendable { IfOk result (λ response.
         IsSendableOutcome (query_of relations.now client.now formats.now means).outcome) }
@@ -67,7 +68,8 @@ fn rows_response<'r>(
     ensures told { IfOk result (λ response. told.Query (told_rows (λ rows. rows) response)
         ≡ rows_response client.now formats.now (relation_at relations.now place)) }
     ensures sendable { IfOk result (λ response.
-        IsSendableResponse (rows_response client.now formats.now (relation_at relations.now place))) }
+        IsSendableResponse (rows_response client.now formats.now
+        (relation_at relations.now place))) }
 {
     let relation = relations.at(place);
     let columns = columns_at(alloc, relations, place, formats)?;

@@ -16,7 +16,8 @@ use pg_text::{FieldFormat, PgType};
 use relation_tables::RelationStatement;
 use std::alloc::{AllocError, Global};
 
-/// The columns of a statement's rows in these formats, which can be sent as a reply. BEGIN and COMMIT have none.
+/// The columns of a statement's rows in these formats, which can be sent as a reply. BEGIN and
+/// COMMIT have none.
 pub(crate) fn fields_of(
     alloc: Global,
     relations: &RelationTable,
@@ -55,7 +56,8 @@ pub(crate) fn columns_at(
     columns_in(alloc, relations.columns_at(place), formats, names)
 }
 
-/// The columns of these names in these formats. Where all have one format they are those that are shared.
+/// The columns of these names in these formats. Where all have one format they are those that are
+/// shared.
 fn columns_in(
     alloc: Global,
     shared: &SharedColumns,
@@ -116,7 +118,8 @@ pub(crate) fn columns(
     names: &[PgStr],
 ) -> Result<PgList<FieldInfo>, AllocError>
     requires { length formats.now ≡ length names.now }
-    ensures { IfOk result (λ fields. fields ≡ map (λ p. column p.0 p.1) (zip formats.now names.now)) }
+    ensures { IfOk result (λ fields. fields
+        ≡ map (λ p. column p.0 p.1) (zip formats.now names.now)) }
 {
     let mut fields = PgList::new(alloc);
     for (index, name) in names.iter().enumerate() {

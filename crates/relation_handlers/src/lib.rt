@@ -1,4 +1,5 @@
-//! The handlers of a server of relations: a table of them, the parser of their queries, and their rows made on demand.
+//! The handlers of a server of relations: a table of them, the parser of their queries, and their
+//! rows made on demand.
 #![tactic(auto)]
 
 mod answer;

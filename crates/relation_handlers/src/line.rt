@@ -15,7 +15,8 @@ use pg_messages::{CopyData, PgBytes};
 use pg_portal::PgWireError;
 use std::alloc::{AllocError, Global};
 
-/// A row as a line, or `InvalidOptionValue` in its place where the session's style isn't one. It can be sent as a reply.
+/// A row as a line, or `InvalidOptionValue` in its place where the session's style isn't one. It
+/// can be sent as a reply.
 pub(crate) fn line_item(
     alloc: Global,
     style: &SessionStyle,
@@ -46,7 +47,8 @@ fn line_of(alloc: Global, style: &SessionStyle, row: &[Interval]) -> Result<Copy
     })
 }
 
-/// The texts of a row, split by tabs. There is room for them, each of at most 96 bytes, and for the newline.
+/// The texts of a row, split by tabs. There is room for them, each of at most 96 bytes, and for the
+/// newline.
 fn texts(alloc: Global, style: &SessionStyle, row: &[Interval]) -> Result<Vec<u8>, PgWireError>
     requires { length row.now ≤ 1600 }
     ensures texts { IfOk result (λ payload. Ok payload.items

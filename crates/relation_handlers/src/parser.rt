@@ -17,7 +17,8 @@ use query_texts::trimmed;
 use relation_tables::RelationStatement;
 use std::alloc::Global;
 
-/// What queries mean among relations: BEGIN, COMMIT, or a relation by its name. Any other is the error 42P01.
+/// What queries mean among relations: BEGIN, COMMIT, or a relation by its name. Any other is the
+/// error 42P01.
 #[derive(Drop)]
 pub struct RelationParser<'r> {
     /// The relations.

@@ -18,8 +18,8 @@ use pg_portal::PgWireError;
 use pg_text::{FieldFormat, IntervalStyle};
 use std::alloc::{AllocError, Global};
 
-/// A row in these formats, one for each column, or `InvalidOptionValue` in its place where a column is text and the
-/// session's style isn't one. It can be sent as a reply.
+/// A row in these formats, one for each column, or `InvalidOptionValue` in its place where a column
+/// is text and the session's style isn't one. It can be sent as a reply.
 #[inline(always)]
 pub(crate) fn row_item(
     alloc: Global,
@@ -84,8 +84,8 @@ fn values(
     Ok(payload)
 }
 
-/// No value yet, with room for those of a row: a binary value has 20 bytes, and a text with its length at most 100. The
-/// first column's format decides, since mostly all are alike.
+/// No value yet, with room for those of a row: a binary value has 20 bytes, and a text with its
+/// length at most 100. The first column's format decides, since mostly all are alike.
 #[inline(always)]
 fn payload_of(alloc: Global, formats: &[FieldFormat]) -> Result<Vec<u8>, AllocError>
     requires { length formats.now ≤ 1600 }
@@ -124,7 +124,8 @@ fn push_value(
 /// Appends a binary value: Int32 16, and the sixteen bytes of the interval.
 #[inline(always)]
 fn push_binary(payload: &mut Vec<u8>, interval: &Interval) -> Result<(), AllocError>
-    ensures pushed { OnOk result (payload.new.items ≡ payload.old.items ++ binary_value interval.now) }
+    ensures pushed { OnOk result (payload.new.items
+        ≡ payload.old.items ++ binary_value interval.now) }
     ensures short { OnOk result (length payload.new.items ≤ length payload.old.items + 20) }
 {
     payload.extend_from_slice(&[0, 0, 0, 16])?;

@@ -40,7 +40,8 @@ pub(crate) fn statement_query<'r>(
     requires short_metadata { HasShortMetadata client.now }
     ensures unspent { IfOk result (λ query. is_given query.outcome ≡ false) }
     ensures told { IfOk result (λ query.
-        told_query (told_all (λ rows. rows) (λ items. items)) (query_told query.unready query.outcome)
+        told_query (told_all (λ rows. rows) (λ items. items))
+        (query_told query.unready query.outcome)
         ≡ simple_of relations.now client.now [] (Some means)) }
     ensures sendable { IfOk result (λ query.
         AreSendable (simple_of relations.now client.now [] (Some means)).outcome) }
@@ -59,8 +60,8 @@ fn alone<T: Drop>(alloc: Global, item: T) -> Result<PgList<T>, AllocError>
     Ok(items)
 }
 
-/// The query of a trimmed text that is no statement: a COPY of a relation, or the error 42P01 with the text, or with the
-/// name that was to be copied.
+/// The query of a trimmed text that is no statement: a COPY of a relation, or the error 42P01 with
+/// the text, or with the name that was to be copied.
 pub(crate) fn other_query<'r>(
     alloc: Global,
     relations: &'r RelationTable,
@@ -71,10 +72,12 @@ pub(crate) fn other_query<'r>(
     requires short_text { IsShortText text.now }
     ensures unspent { IfOk result (λ query. is_given query.outcome ≡ false) }
     ensures told { IfOk result (λ query.
-        told_query (told_all (λ rows. rows) (λ items. items)) (query_told query.unready query.outcome)
+        told_query (told_all (λ rows. rows) (λ items. items))
+        (query_told query.unready query.outcome)
         ≡ copy_or_unknown relations.now client.now text.now (copied_name (words text.now))) }
     ensures sendable { IfOk result (λ query.
-        AreSendable (copy_or_unknown relations.now client.now text.now (copied_name (words text.now))).outcome) }
+        AreSendable (copy_or_unknown relations.now client.now text.now
+        (copied_name (words text.now))).outcome) }
 {
     match copied_name(text) {
         Some(name) => copy_query(alloc, relations, client, name),
@@ -93,10 +96,12 @@ fn copy_query<'r>(
     requires short_name { IsShortText name.now }
     ensures unspent { IfOk result (λ query. is_given query.outcome ≡ false) }
     ensures told { IfOk result (λ query.
-        told_query (told_all (λ rows. rows) (λ items. items)) (query_told query.unready query.outcome)
+        told_query (told_all (λ rows. rows) (λ items. items))
+        (query_told query.unready query.outcome)
         ≡ copy_of relations.now client.now name.now (place_of relations.now name.now)) }
     ensures sendable { IfOk result (λ query.
-        AreSendable (copy_of relations.now client.now name.now (place_of relations.now name.now)).outcome) }
+        AreSendable (copy_of relations.now client.now name.now
+        (place_of relations.now name.now)).outcome) }
 {
     match relations.find(name) {
         Some(place) => {
@@ -133,7 +138,8 @@ fn refused_query<'r>(alloc: Global, text: &str) -> Result<SimpleQuery<'r>, Alloc
     requires { IsShortText text.now }
     ensures unspent { IfOk result (λ query. is_given query.outcome ≡ false) }
     ensures told { IfOk result (λ query.
-        told_query (told_all (λ rows. rows) (λ items. items)) (query_told query.unready query.outcome)
+        told_query (told_all (λ rows. rows) (λ items. items))
+        (query_told query.unready query.outcome)
         ≡ refused_query text.now) }
     ensures sendable { IfOk result (λ query. AreSendable (refused_query text.now).outcome) }
 {

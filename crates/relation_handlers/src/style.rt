@@ -37,7 +37,8 @@ impl Model for SessionStyle {
 }
 
 impl SessionStyle {
-    /// The style of a client: that of its startup parameter `intervalstyle`, and `postgres` without one.
+    /// The style of a client: that of its startup parameter `intervalstyle`, and `postgres` without
+    /// one.
     pub fn of(alloc: Global, client: &ClientInfo) -> Result<SessionStyle, AllocError>
         requires { HasShortMetadata client.now }
         ensures { IfOk result (λ style. style ≡ session_style client.now) }
@@ -46,7 +47,8 @@ impl SessionStyle {
         SessionStyle::under(alloc, client, &name)
     }
 
-    /// The style of a client, where the name `intervalstyle` is at hand. A style that is one takes no memory.
+    /// The style of a client, where the name `intervalstyle` is at hand. A style that is one takes
+    /// no memory.
     pub(crate) fn under(
         alloc: Global,
         client: &ClientInfo,
@@ -87,7 +89,8 @@ fn text_under<'c>(client: &'c ClientInfo, name: &PgStr) -> &'c str
 
 /// The style that a text names, or the text where it names none.
 fn judged(alloc: Global, text: &str) -> Result<Result<IntervalStyle, PgStr>, AllocError>
-    ensures told { IfOk result (λ style. told_style style ≡ or_refused text.now (interval_style_of text.now)) }
+    ensures told { IfOk result (λ style. told_style style
+        ≡ or_refused text.now (interval_style_of text.now)) }
     ensures refused { IfOk result (λ style. IfErr style (λ refused. refused ≡ text.now)) }
 {
     match IntervalStyle::try_from_text(alloc, text) {

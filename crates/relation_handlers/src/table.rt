@@ -22,8 +22,8 @@ use std::marker::Model;
 /// Why relations are no table, with the place of the first that breaks a rule.
 #[derive(Clone, Copy, Debug, PartialEq, Eq)]
 pub enum TableError {
-    /// The name is empty, over 63 bytes, holds whitespace, `;` or a zero byte, is `BEGIN` or `COMMIT` in any ASCII
-    /// case, or is that of an earlier relation.
+    /// The name is empty, over 63 bytes, holds whitespace, `;` or a zero byte, is `BEGIN` or
+    /// `COMMIT` in any ASCII case, or is that of an earlier relation.
     BadName(u32),
     /// There are over 1,600 columns, or a column's name is over 63 bytes or holds a zero byte.
     BadColumn(u32),
@@ -77,8 +77,8 @@ impl Model for RelationTable {
 }
 
 impl RelationTable {
-    /// The table of these relations, of which each keeps the rules that `TableError` tells.
-    /// The relations are judged in their order, and of one the name before the columns before the rows.
+    /// The table of these relations, of which each keeps the rules that `TableError` tells. The
+    /// relations are judged in their order, and of one the name before the columns before the rows.
     pub fn try_new(alloc: Global, relations: PgList<Relation>) -> Result<RelationTable, TableError>
         requires { length relations < 2 ^ 32 }
         ensures ok { IfOk result (λ table. table ≡ relations) }

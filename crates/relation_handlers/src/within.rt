@@ -1,4 +1,5 @@
-//! The numbers of intervals lie in their types, which a table knows of its relations once it has read each.
+//! The numbers of intervals lie in their types, which a table knows of its relations once it has
+//! read each.
 
 ghost use Rattle.pg_interval.specs.Cell.{IsInterval};
 ghost use Rattle.relation_handlers.specs.Tables.{IsRowWithin, AreRowsWithin, HoldIntervals};

@@ -6,7 +6,8 @@ ghost use Rattle.relation_tables.specs.Queries.{words, is_word, copied_name};
 
 use query_texts::first_word;
 
-/// The name in `COPY name TO STDOUT`, four words of which the others are in any ASCII case. None is any other text.
+/// The name in `COPY name TO STDOUT`, four words of which the others are in any ASCII case. None is
+/// any other text.
 pub(crate) fn copied_name(text: &str) -> Option<&str>
     ensures { option_copied result ≡ copied_name (words text.now) }
 {
@@ -23,7 +24,8 @@ pub(crate) fn copied_name(text: &str) -> Option<&str>
 
 /// Whether words are COPY, TO and STDOUT, in any ASCII case.
 fn is_copy(copy: &str, to: &str, out: &str) -> bool
-    ensures { result ≡ (is_word copy.now (codes "COPY") && is_word to.now (codes "TO") && is_word out.now (codes "STDOUT")) }
+    ensures { result ≡ (is_word copy.now (codes "COPY") && is_word to.now (codes "TO")
+        && is_word out.now (codes "STDOUT")) }
 {
     copy.eq_ignore_ascii_case("COPY")
         && to.eq_ignore_ascii_case("TO")

@@ -41,7 +41,8 @@ module _ (text : List ℕ) where
   values_refused style ((field.Binary, i) ∷ cells) e h =
       behind style (field.Binary, i) cells e _ (Values style cells) h (values_refused style cells e)
 
-  text_refuses : (cells : List (FieldFormat × Interval)) (i : Interval) (k : ℕ) → k < length cells → get_or cells k (field.Text, i) ≡ (field.Text, i)
+  text_refuses : (cells : List (FieldFormat × Interval)) (i : Interval) (k : ℕ) → k < length cells
+      → get_or cells k (field.Text, i) ≡ (field.Text, i)
       → Values None cells ≡ Err (wire.InvalidOptionValue text)
   text_refuses [] i k inside at = absurd (omega (arith, inside))
   text_refuses ((field.Text, j) ∷ cells) i k inside at = refl
@@ -51,7 +52,8 @@ module _ (text : List ℕ) where
 
   -- ---- rows
 
-  row_error : (count : ℕ) (values : Result (List (List ℕ)) PgWireError) (e : PgWireError) → row_of_values count values ≡ Err e → values ≡ Err e
+  row_error : (count : ℕ) (values : Result (List (List ℕ)) PgWireError) (e : PgWireError) → row_of_values count values ≡ Err e
+      → values ≡ Err e
   row_error count (Ok values) e h = cc
   row_error count (Err w) e h = let same : w ≡ e = cc in ap Err same
 

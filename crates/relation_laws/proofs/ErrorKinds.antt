@@ -74,7 +74,8 @@ other_letter n e same = let is : (n == 110) ≡ true = (Decides-eqb n 110).1 sam
 
 pub known : (k : Kind) (info : ErrorInfo) → is_of k info ≡ true → IsOf k info
 known k info e =
-    let first = both_true (bytes_eq info.severity (severity_of k)) (bytes_eq info.code (code_of k) && not (get_or info.message 0 0 == 110)) e in
+    let first = both_true (bytes_eq info.severity (severity_of k)) (bytes_eq info.code (code_of k)
+    && not (get_or info.message 0 0 == 110)) e in
     let second = both_true (bytes_eq info.code (code_of k)) (not (get_or info.message 0 0 == 110)) first.1 in
     record {
       severity = (bytes_eq-Decides info.severity (severity_of k)).0 first.0;

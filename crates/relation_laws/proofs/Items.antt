@@ -12,7 +12,8 @@ use Rattle.relation_laws.specs.Causes.{last_rows}
 some_is : {A : Type 0} (x y : A) → Some x ≡ Some y → x ≡ y
 some_is x y e = cc
 
-limit_at : (limit : ℤ) (n m : ℕ) → is_reached limit n ≡ false → is_reached limit m ≡ true → (n < unsigned_abs limit) × (unsigned_abs limit ≤ m)
+limit_at : (limit : ℤ) (n m : ℕ) → is_reached limit n ≡ false → is_reached limit m ≡ true
+    → (n < unsigned_abs limit) × (unsigned_abs limit ≤ m)
 limit_at (pos l) n m never reached = (grind (arith, nat_tests), grind (arith, nat_tests))
 limit_at (negsuc l) n m never reached = cc
 
@@ -23,15 +24,18 @@ limit_within (negsuc l) n m reached h = cc
 -- the rows of a page, by whether its limit is reached
 abbrev page_rows : {R : Type 0} → Bool → ℤ → List R → List R
 page_rows b limit rows =
-    let p : Page _ = (if b then (record { rows = take (unsigned_abs limit) rows; suspended = true }) else (record { rows = rows; suspended = false })) in
+    let p : Page _ = (if b then (record { rows = take (unsigned_abs limit) rows; suspended = true })
+    else (record { rows = rows; suspended = false })) in
     p.rows
 
 -- how a page over items ends, by whether its limit is reached
 abbrev ending_by : {A : Type 0} → Bool → ℤ → List (Result A PgWireError) → PageEnd A
 ending_by {A} b limit items =
     let rows = before_error items in
-    let p : Page A = (if b then (record { rows = take (unsigned_abs limit) rows; suspended = true }) else (record { rows = rows; suspended = false })) in
-    (if p.suspended then (record { rows = p.rows; ending = AtLimit (drop (length p.rows) items) }) else ended_page p.rows (first_error items)).ending
+    let p : Page A = (if b then (record { rows = take (unsigned_abs limit) rows; suspended = true })
+    else (record { rows = rows; suspended = false })) in
+    (if p.suspended then (record { rows = p.rows; ending = AtLimit (drop (length p.rows) items) })
+    else ended_page p.rows (first_error items)).ending
 
 module _ {R A : Type 0} (f : R → Result A PgWireError) where
   -- the items
@@ -62,11 +66,13 @@ module _ {R A : Type 0} (f : R → Result A PgWireError) where
           → (r : R) × (length (before_error (x ∷ made rows)) < suc (length rows))
           × (get_or (row ∷ rows) (length (before_error (x ∷ made rows))) r ≡ r) × (f r ≡ Err e)
       by_item (Ok a) is h later = let found = later h in (found.0, omega (arith, found.1), found.2, found.3)
-      by_item (Err w) is h later = let same : w ≡ e = ap (λ p. p.0) (some_is (w, made rows) (e, left) h) in (row, omega arith, refl, is ∙ ap Err same)
+      by_item (Err w) is h later = let same : w ≡ e = ap (λ p. p.0) (some_is (w, made rows) (e, left) h) in
+          (row, omega arith, refl, is ∙ ap Err same)
 
   -- where a row is refused, the first error stands at it or before it
   abbrev FirstAt : ℕ → List (Result A PgWireError) → Type 0
-  FirstAt k items = (length (before_error items) ≤ k) × ((e : PgWireError) × (left : List (Result A PgWireError)) × (first_error items ≡ Some (e, left)))
+  FirstAt k items = (length (before_error items) ≤ k)
+      × ((e : PgWireError) × (left : List (Result A PgWireError)) × (first_error items ≡ Some (e, left)))
 
   refused_at : (rows : List R) (k : ℕ) (row : R) (e : PgWireError) → k < length rows → get_or rows k row ≡ row → f row ≡ Err e
       → FirstAt k (made rows)
@@ -111,7 +117,8 @@ module _ {R A : Type 0} (f : R → Result A PgWireError) where
   ended true limit rows e left is h = cc
   ended false limit rows e left is h = by_first (first_error (made rows)) h
     where
-      by_first : (x : Option (PgWireError × List (Result A PgWireError))) → (ended_page (before_error (made rows)) x).ending ≡ AtError e left
+      by_first : (x : Option (PgWireError × List (Result A PgWireError)))
+          → (ended_page (before_error (made rows)) x).ending ≡ AtError e left
           → (is_reached limit (before rows) ≡ false) × (x ≡ Some (e, left))
       by_first None h = cc
       by_first (Some (w, others)) h =
@@ -128,7 +135,8 @@ module _ {R A : Type 0} (f : R → Result A PgWireError) where
       let found = first_row rows e left met.1 in
       (found.0, in_page (is_reached limit (length rows)) limit rows found.0 refl met.0 found.1 found.2, found.3)
 
-  inside_page : (b : Bool) (limit : ℤ) (rows : List R) (row : R) → is_reached limit (length rows) ≡ b → (at : Contains (page_rows b limit rows) row)
+  inside_page : (b : Bool) (limit : ℤ) (rows : List R) (row : R) → is_reached limit (length rows) ≡ b
+      → (at : Contains (page_rows b limit rows) row)
       → (at.0 < length rows) × (get_or rows at.0 row ≡ row) × ((l : ℕ) → is_reached limit l ≡ true → l ≤ at.0 → ⊥)
   inside_page true limit rows row e at =
       let within : unsigned_abs limit ≤ length rows = (limit_within limit (length rows) (length rows) e (omega arith)).0 in
@@ -171,13 +179,15 @@ module _ {R A : Type 0} (f : R → Result A PgWireError) where
 -- ---- what a page leaves
 
 module _ {A : Type 0} where
-  behind_error : (items : List (Result A PgWireError)) (e : PgWireError) (left : List (Result A PgWireError)) → first_error items ≡ Some (e, left)
+  behind_error : (items : List (Result A PgWireError)) (e : PgWireError) (left : List (Result A PgWireError))
+      → first_error items ≡ Some (e, left)
       → (k : ℕ) × (left ≡ drop k items)
   behind_error [] e left h = cc
   behind_error (Ok a ∷ items) e left h = let found = behind_error items e left h in (suc found.0, found.1)
   behind_error (Err w ∷ items) e left h = let same : items ≡ left = ap (λ p. p.1) (some_is (w, items) (e, left) h) in (1, sym same)
 
-  left_at_limit : (b : Bool) (limit : ℤ) (items left : List (Result A PgWireError)) → ending_by b limit items ≡ AtLimit left → (k : ℕ) × (left ≡ drop k items)
+  left_at_limit : (b : Bool) (limit : ℤ) (items left : List (Result A PgWireError)) → ending_by b limit items ≡ AtLimit left
+      → (k : ℕ) × (left ≡ drop k items)
   left_at_limit true limit items left h =
       let k = length (take (unsigned_abs limit) (before_error items)) in
       let same : drop k items ≡ left = cc in (k, sym same)
@@ -228,7 +238,8 @@ pub still_last : {X : Type 0} (f : List Interval → X) (rows : List (List Inter
     → items ≡ map f (last_rows rows items) → drop k items ≡ map f (last_rows rows (drop k items))
 still_last f rows items k h =
     let count : length items ≡ length (last_rows rows items) = ap length h ∙ length-map (last_rows rows items) f in
-    let dropped : length (last_rows rows items) ≡ length rows - (length rows - length items) = length-drop (length rows - length items) rows in
+    let dropped : length (last_rows rows items) ≡ length rows - (length rows - length items) =
+    length-drop (length rows - length items) rows in
     let left : length (drop k items) ≡ length items - k = length-drop k items in
     let within : length items ≤ length rows = omega (arith, count, dropped) in
     ap (drop k) h ∙ drop-map f k (last_rows rows items)

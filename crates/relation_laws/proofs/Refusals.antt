@@ -168,7 +168,8 @@ module _ (relations : List Relation) (answers : List Bool) (s : Talk) (g : IsSer
   version_refused m not_first never false true e f = absurd (never (agree m.code 196610 f))
   version_refused m not_first never false false e f = (s, _, refl, known _ _ refl)
 
-  other_version : (m : PgWireFrontendMessage) → IsOtherVersion m → Refused kind.Version (row told answers s m phase.AwaitingStartup).effect.outcome
+  other_version : (m : PgWireFrontendMessage) → IsOtherVersion m
+      → Refused kind.Version (row told answers s m phase.AwaitingStartup).effect.outcome
   other_version (client.Startup m) h = version_refused m h.0 h.1 (m.code == 196608) (m.code == 196610) refl refl
   other_version _ h = absurd h
 
@@ -210,7 +211,8 @@ module _ (relations : List Relation) (answers : List Bool) (s : Talk) (g : IsSer
   )
   no_portal _ lacks = absurd lacks
 
-  neither : (m : Describe) → (m.target_type ≢ 83) → (m.target_type ≢ 80) → (a b : Bool) → (m.target_type == 83) ≡ a → (m.target_type == 80) ≡ b
+  neither : (m : Describe) → (m.target_type ≢ 83) → (m.target_type ≢ 80) → (a b : Bool) → (m.target_type == 83) ≡ a
+      → (m.target_type == 80) ≡ b
       → Refused kind.Protocol (if a then described_statement told.extended s m.name (fin.get s.statements m.name)
       else if b then described_portal told.extended s m.name (fin.get s.portals m.name)
       else refuses s (wire.InvalidTargetType m.target_type)).outcome
@@ -227,7 +229,8 @@ module _ (relations : List Relation) (answers : List Bool) (s : Talk) (g : IsSer
     s,
     wire.UserError (values_for_empty (length m.parameters) m.statement_name),
     ap (λ x. (bound told.extended s m x).outcome) h.0
-        ∙ ap (λ b. (if b then says bind_complete (with_portal s m.portal_name entry.Empty) else refuses s (wire.UserError (values_for_empty (length m.parameters) m.statement_name))).outcome)
+        ∙ ap (λ b. (if b then says bind_complete (with_portal s m.portal_name entry.Empty)
+        else refuses s (wire.UserError (values_for_empty (length m.parameters) m.statement_name))).outcome)
         (not_empty_list m.parameters h.1),
     known _ _ refl,
   )
@@ -236,13 +239,15 @@ module _ (relations : List Relation) (answers : List Bool) (s : Talk) (g : IsSer
   few : (m : Bind) (x : StoredStatement RelationStatement) (fields : List Field) → length fields ≡ length (columns_of relations x.statement)
       → 2 ≤ length m.result_column_format_codes → length m.result_column_format_codes < length (columns_of relations x.statement)
       → (a b : Bool) → nat_le 2 (length m.result_column_format_codes) ≡ a → nat_lt (length m.result_column_format_codes) (length fields) ≡ b
-      → Refused kind.Protocol (if a then (if b then refuses s (wire.UserError (too_few_codes (length m.result_column_format_codes) (length fields)))
+      → Refused kind.Protocol (if a then (if b then refuses s
+      (wire.UserError (too_few_codes (length m.result_column_format_codes) (length fields)))
       else bound_portal s m x) else bound_portal s m x).outcome
   few m x fields same two less false b e f = absurd (grind (arith, nat_tests, e, two))
   few m x fields same two less true false e f = absurd (grind (arith, nat_tests, f, less, same))
   few m x fields same two less true true e f = (s, _, refl, known _ _ refl)
 
-  codes_given : (m : PgWireFrontendMessage) → GivesTooFewCodes relations s m → Refused kind.Protocol (ready_row told answers s m).effect.outcome
+  codes_given : (m : PgWireFrontendMessage) → GivesTooFewCodes relations s m
+      → Refused kind.Protocol (ready_row told answers s m).effect.outcome
   codes_given (client.Bind m) h =
       let fields = fields_of relations h.0.statement format.UnifiedText in
       subst (λ x. Refused kind.Protocol (bound told.extended s m x).outcome) (sym h.1)
@@ -264,7 +269,8 @@ module _ (relations : List Relation) (answers : List Bool) (s : Talk) (g : IsSer
       else query_run answers s (simple_of relations s.info (trimmed m.query) (meaning relations m.query))) e
 
   no_relation_copied : (text name : List ℕ) → copied_name (words text) ≡ Some name → (IsCopyOfRelation relations text → ⊥)
-      → (x : Option ℕ) → place_of relations name ≡ x → Refused kind.Relation (query_run answers s (copy_of relations s.info name x)).effect.outcome
+      → (x : Option ℕ) → place_of relations name ≡ x
+      → Refused kind.Relation (query_run answers s (copy_of relations s.info name x)).effect.outcome
   no_relation_copied text name copies never None e = (s, _, refl, known _ _ refl)
   no_relation_copied text name copies never (Some place) e = absurd (never (name, copies, relation_named relations name place e))
 
@@ -273,7 +279,8 @@ module _ (relations : List Relation) (answers : List Bool) (s : Talk) (g : IsSer
   no_copy text never None e = (s, _, refl, known _ _ refl)
   no_copy text never (Some name) e = no_relation_copied text name e never (place_of relations name) refl
 
-  unknown_text : (m : PgWireFrontendMessage) → HasUnknownText relations m → Refused kind.Relation (ready_row told answers s m).effect.outcome
+  unknown_text : (m : PgWireFrontendMessage) → HasUnknownText relations m
+      → Refused kind.Relation (ready_row told answers s m).effect.outcome
   unknown_text (client.Parse m) h = (
     s,
     wire.UserError (unknown_relation (trimmed m.query)),
@@ -285,7 +292,8 @@ module _ (relations : List Relation) (answers : List Bool) (s : Talk) (g : IsSer
   unknown_text (client.Query m) h =
       subst (λ (c : Called RelationStatement). Refused kind.Relation c.effect.outcome)
       (sym (query_asks m (not_blank m.query h.0.0)
-      ∙ ap (λ x. query_run answers s (simple_of relations s.info (trimmed m.query) x)) (means_nothing relations (trimmed m.query) h.0.1 h.0.2)))
+      ∙ ap (λ x. query_run answers s (simple_of relations s.info (trimmed m.query) x))
+      (means_nothing relations (trimmed m.query) h.0.1 h.0.2)))
       (no_copy (trimmed m.query) h.1 (copied_name (words (trimmed m.query))) refl)
   unknown_text _ h = absurd h
 
@@ -302,7 +310,8 @@ module _ (relations : List Relation) (answers : List Bool) (s : Talk) (g : IsSer
     -- a row with a text cell is refused
     row_is_refused : (formats : List FieldFormat) (row : List Interval) → ((i : Interval) × Contains (zip formats row) (field.Text, i))
         → row_item (session_style s.info) formats row ≡ Err (wire.InvalidOptionValue (style_text s.info))
-    row_is_refused formats row at = ap (λ x. row_item (or_refused (style_text s.info) x) formats row) none ∙ row_refuses (style_text s.info) formats row at
+    row_is_refused formats row at = ap (λ x. row_item (or_refused (style_text s.info) x) formats row) none
+        ∙ row_refuses (style_text s.info) formats row at
 
     module _ (m : Execute) (p : TablePortal RelationStatement) (place : ℕ) where
       abbrev r : Relation
@@ -318,7 +327,8 @@ module _ (relations : List Relation) (answers : List Bool) (s : Talk) (g : IsSer
           let refused = row_is_refused (column_formats p.bound.result_column_format r.columns) row text in
           let met = page_meets made m.max_rows rows row (wire.InvalidOptionValue (style_text s.info)) at refused in
           let from = page_met made m.max_rows rows met.0 met.1 met.2 in
-          let why = row_refused (style_text s.info) (interval_style_of (style_text s.info)) (column_formats p.bound.result_column_format r.columns)
+          let why = row_refused (style_text s.info) (interval_style_of (style_text s.info))
+          (column_formats p.bound.result_column_format r.columns)
           from.0 met.0 from.2 in
           let ends : (item_page m.max_rows response.items).ending ≡ AtError met.0 met.1 =
           ap (λ (items : List RowItem). (item_page m.max_rows items).ending) e ∙ met.2 in
@@ -335,8 +345,10 @@ module _ (relations : List Relation) (answers : List Bool) (s : Talk) (g : IsSer
           → HasTextCell (column_formats p.bound.result_column_format r.columns) (page m.max_rows (rows_to_come r.rows stage)).rows
           → Refused kind.Style (executed_portal told.extended answers s m p stage).effect.outcome
       stage_refused Unstarted means is came text =
-          subst (λ x. Refused kind.Style (execute_run answers s m p (query_of relations s.info p.bound.result_column_format x)).effect.outcome) (sym means)
-          (subst (λ v. Refused kind.Style (execute_polled s m p v (Ok (rows_response s.info p.bound.result_column_format r))).outcome) (sym came)
+          subst (λ x. Refused kind.Style (execute_run answers s m p
+          (query_of relations s.info p.bound.result_column_format x)).effect.outcome) (sym means)
+          (subst (λ v. Refused kind.Style (execute_polled s m p v (Ok (rows_response s.info p.bound.result_column_format r))).outcome)
+          (sym came)
           (page_refused (record {
             command_tag = codes "SELECT";
             fields = columns_in p.bound.result_column_format r.columns;
@@ -348,7 +360,8 @@ module _ (relations : List Relation) (answers : List Bool) (s : Talk) (g : IsSer
           (subst (λ (n : ℕ). response.items
           ≡ map (row_item (session_style s.info) (column_formats p.bound.result_column_format (relation_at relations n).columns))
           (last_rows (relation_at relations n).rows response.items)) same is.items) text
-      stage_refused (Ended delivered) means is came (row, at, text) = let inside = page_within made m.max_rows [] row at in absurd (omega (arith, inside.1))
+      stage_refused (Ended delivered) means is came (row, at, text) = let inside = page_within made m.max_rows [] row at in
+          absurd (omega (arith, inside.1))
 
     -- a Query whose one response is cut short
     abbrev one_answer : {B : Type 0} → Replies → Replies → Option (PgWireError × B) → Effect RelationStatement
@@ -357,7 +370,8 @@ module _ (relations : List Relation) (answers : List Bool) (s : Talk) (g : IsSer
         let all = followed first first.refusal (sent first.status []) in
         answered s all all.refusal
 
-    cut_short : {B : Type 0} (front others : Replies) (x : Option (PgWireError × B)) (w : PgWireError) (left : B) → x ≡ Some (w, left) → IsStyle w
+    cut_short : {B : Type 0} (front others : Replies) (x : Option (PgWireError × B)) (w : PgWireError) (left : B) → x ≡ Some (w, left)
+        → IsStyle w
         → Refused kind.Style (one_answer front others x).outcome
     cut_short {B} front others x w left e i =
         subst (λ (x : Option (PgWireError × B)). Refused kind.Style (one_answer front others x).outcome) (sym e) (s, w, refl, style_is w i)
@@ -368,7 +382,8 @@ module _ (relations : List Relation) (answers : List Bool) (s : Talk) (g : IsSer
 
       rows_refused : meaning relations m.query ≡ Some (statement.Relation place)
           → HasTextCell (column_formats format.UnifiedText q.columns) q.rows
-          → Refused kind.Style (query_run answers s (simple_of relations s.info (trimmed m.query) (meaning relations m.query))).effect.outcome
+          → Refused kind.Style (query_run answers s (simple_of relations s.info (trimmed m.query)
+          (meaning relations m.query))).effect.outcome
       rows_refused means (row, at, text) =
           let formats = column_formats format.UnifiedText q.columns in
           let cells = row_item (session_style s.info) formats in
@@ -378,11 +393,13 @@ module _ (relations : List Relation) (answers : List Bool) (s : Talk) (g : IsSer
           subst (λ x. Refused kind.Style (query_run answers s (simple_of relations s.info (trimmed m.query) x)).effect.outcome) (sym means)
           (subst (λ v. Refused kind.Style (query_polled s v (Ok (rows_response s.info format.UnifiedText q ∷ []))).outcome) (sym passed)
           (cut_short (row_description (columns_in format.UnifiedText q.columns) ∷ [] ++ row_replies (before_error (map cells q.rows)))
-          (done_with (codes "SELECT") (length (before_error (map cells q.rows))) ∷ []) (first_error (map cells q.rows)) met.0 met.1 met.2 why.0.tells))
+          (done_with (codes "SELECT") (length (before_error (map cells q.rows))) ∷ []) (first_error (map cells q.rows)) met.0 met.1 met.2
+          why.0.tells))
 
       lines_refused : (name : List ℕ) → meaning relations m.query ≡ None → copied_name (words (trimmed m.query)) ≡ Some name
           → place_of relations name ≡ Some place → HasCell q.rows
-          → Refused kind.Style (query_run answers s (simple_of relations s.info (trimmed m.query) (meaning relations m.query))).effect.outcome
+          → Refused kind.Style (query_run answers s (simple_of relations s.info (trimmed m.query)
+          (meaning relations m.query))).effect.outcome
       lines_refused name means copies named (row, at, ne) =
           let lines = line_item (session_style s.info) in
           let refused : lines row ≡ Err (wire.InvalidOptionValue (style_text s.info)) =
@@ -393,10 +410,12 @@ module _ (relations : List Relation) (answers : List Bool) (s : Talk) (g : IsSer
           let copied = not_empty (before_error (map lines q.rows)) in
           let c : ToldCopy = record { format = pos 0; columns = length q.columns; items = map lines q.rows; trailer_left = false } in
           subst (λ x. Refused kind.Style (query_run answers s (simple_of relations s.info (trimmed m.query) x)).effect.outcome) (sym means)
-          (subst (λ x. Refused kind.Style (query_run answers s (copy_or_unknown relations s.info (trimmed m.query) x)).effect.outcome) (sym copies)
+          (subst (λ x. Refused kind.Style (query_run answers s (copy_or_unknown relations s.info (trimmed m.query) x)).effect.outcome)
+          (sym copies)
           (subst (λ x. Refused kind.Style (query_run answers s (copy_of relations s.info name x)).effect.outcome) (sym named)
           (subst (λ v. Refused kind.Style (query_polled s v (Ok (copy_response s.info q ∷ []))).outcome) (sym passed)
-          (cut_short (copy_out_reply c ∷ copy_replies copied) (copy_end (copy_count copied)) (first_error (map lines q.rows)) met.0 met.1 met.2
+          (cut_short (copy_out_reply c ∷ copy_replies copied) (copy_end (copy_count copied)) (first_error (map lines q.rows)) met.0 met.1
+          met.2
           why.0.tells))))
 
     query_met : (m : Query) → (place : ℕ) × QueryHasText relations answers m.query place
@@ -404,7 +423,8 @@ module _ (relations : List Relation) (answers : List Bool) (s : Talk) (g : IsSer
     query_met m (place, (ne, passed, inl h)) = rows_refused m place passed h.0 h.1
     query_met m (place, (ne, passed, inr h)) = lines_refused m place passed h.1.0 h.0 h.1.1 h.1.2 h.2
 
-    text_met : (m : PgWireFrontendMessage) → MeetsTextCell relations answers s m → Refused kind.Style (ready_row told answers s m).effect.outcome
+    text_met : (m : PgWireFrontendMessage) → MeetsTextCell relations answers s m
+        → Refused kind.Style (ready_row told answers s m).effect.outcome
     text_met (client.Execute m) (p, place, found, (means, came, text)) =
         subst (λ x. Refused kind.Style (executed_entry told.extended answers s m x).effect.outcome) (sym found)
         (stage_refused m p place p.stage means (g.portals m.name p (ap value_under found)) came text)
@@ -437,7 +457,8 @@ module _ (relations : List Relation) (answers : List Bool) (s : Talk) (g : IsSer
     errors_are : errors_among (answer relations answers s m).replies ≡ errors_of c.effect.outcome
     errors_are = settled_errors (scope_in s.info.state m) c.effect.replies c.calls c.effect.outcome (row_is relations answers s g m).0
 
-    at_phase : (k : Kind) (x : PgWireConnectionState) → s.info.state ≡ x → Refused k (row told answers s m x).effect.outcome → Refused k c.effect.outcome
+    at_phase : (k : Kind) (x : PgWireConnectionState) → s.info.state ≡ x → Refused k (row told answers s m x).effect.outcome
+        → Refused k c.effect.outcome
     at_phase k x q h = subst (λ x. Refused k (row told answers s m x).effect.outcome) (sym q) h
 
     canceled : Contains (answer relations answers s m).calls (desk.Ask true) → Refused kind.Cancel c.effect.outcome
@@ -456,7 +477,8 @@ module _ (relations : List Relation) (answers : List Bool) (s : Talk) (g : IsSer
     complete kind.Relation (q, h) = at_phase kind.Relation phase.ReadyForQuery q (unknown_text m h)
     complete kind.Cancel h = canceled h
     complete kind.Style (q, none, h) = at_phase kind.Style phase.ReadyForQuery q (text_met none m h)
-    complete kind.CopyFail ((is_extended, q), h) = at_phase kind.CopyFail (phase.CopyInProgress is_extended) q (copy_given_up is_extended m h)
+    complete kind.CopyFail ((is_extended, q), h) =
+        at_phase kind.CopyFail (phase.CopyInProgress is_extended) q (copy_given_up is_extended m h)
     complete kind.CopyData ((is_extended, q), h) = at_phase kind.CopyData (phase.CopyInProgress is_extended) q (copy_sent is_extended m h)
 
     cause_of : (k : Kind) → Why relations answers s g c.calls m k → CauseOf k relations answers s m
@@ -474,7 +496,8 @@ module _ (relations : List Relation) (answers : List Bool) (s : Talk) (g : IsSer
     abbrev Explained : ErrorInfo → Type 0
     Explained info = (k : Kind) × CauseOf k relations answers s m × IsOf k info
 
-    explained_by : (o : Outcome RelationStatement) → Explains relations answers s g c.calls m o → (info : ErrorInfo) → Contains (errors_of o) info
+    explained_by : (o : Outcome RelationStatement) → Explains relations answers s g c.calls m o → (info : ErrorInfo)
+        → Contains (errors_of o) info
         → Explained info
     explained_by (Failed t e) (k, why, is) info (zero, inside, at) = (k, cause_of k why, subst (IsOf k) at is)
     explained_by (Failed t e) h info (suc n, inside, at) = absurd (omega (arith, inside))
@@ -485,13 +508,15 @@ module _ (relations : List Relation) (answers : List Bool) (s : Talk) (g : IsSer
     pub explained : (info : ErrorInfo) → Contains (errors_among (answer relations answers s m).replies) info → Explained info
     explained info at = explained_by c.effect.outcome (row_is relations answers s g m).1 info (subst (λ l. Contains l info) errors_are at)
 
-    pub has_cause : (k : Kind) → TellsCode (severity_of k) (code_of k) (answer relations answers s m).replies → CauseOf k relations answers s m
+    pub has_cause : (k : Kind) → TellsCode (severity_of k) (code_of k) (answer relations answers s m).replies
+        → CauseOf k relations answers s m
     has_cause k (info, at, severity, code) =
         let found = explained info at in
         subst (λ (k : Kind). CauseOf k relations answers s m)
         (same_kind found.0 k (sym found.2.severity ∙ severity) (sym found.2.code ∙ code)) found.1
 
-    pub is_told : (k : Kind) → CauseOf k relations answers s m → TellsCode (severity_of k) (code_of k) (answer relations answers s m).replies
+    pub is_told : (k : Kind) → CauseOf k relations answers s m
+        → TellsCode (severity_of k) (code_of k) (answer relations answers s m).replies
     is_told k h =
         let r = complete k h in
         let errors : errors_among (answer relations answers s m).replies ≡ info_of r.1 ∷ [] = errors_are ∙ ap errors_of r.2 in
@@ -508,7 +533,8 @@ module _ (relations : List Relation) (answers : List Bool) (s : Talk) (g : IsSer
 
     -- ---- the end
 
-    fatal_kind : (k : Kind) → is_fatal_kind k ≡ true → CauseOf k relations answers s m → AsksOtherVersion relations answers s m ⊎ SendsCopy relations answers s m
+    fatal_kind : (k : Kind) → is_fatal_kind k ≡ true → CauseOf k relations answers s m
+        → AsksOtherVersion relations answers s m ⊎ SendsCopy relations answers s m
     fatal_kind kind.Version e h = inl h
     fatal_kind kind.CopyData e h = inr h
     fatal_kind kind.Statement e h = cc
@@ -526,7 +552,8 @@ module _ (relations : List Relation) (answers : List Bool) (s : Talk) (g : IsSer
     fatal_by (Done t) x h = absurd h
     fatal_by Stopped x h = absurd h
 
-    pub fatal_cause : (answer relations answers s m).next ≡ Ends end.Fatal → AsksOtherVersion relations answers s m ⊎ SendsCopy relations answers s m
+    pub fatal_cause : (answer relations answers s m).next ≡ Ends end.Fatal
+        → AsksOtherVersion relations answers s m ⊎ SendsCopy relations answers s m
     fatal_cause e = fatal_by c.effect.outcome (row_is relations answers s g m).1
         (settled_fatal (scope_in s.info.state m) c.effect.replies c.calls c.effect.outcome e)
 
@@ -535,7 +562,8 @@ module _ (relations : List Relation) (answers : List Bool) (s : Talk) (g : IsSer
         ap (λ o. (settled (scope_in s.info.state m) c.effect.replies c.calls o).next) is
         ∙ fatal_settled (scope_in s.info.state m) c.effect.replies c.calls t e (is_fatal_of k (info_of e) of_kind ∙ f)
 
-    pub cause_ends : AsksOtherVersion relations answers s m ⊎ SendsCopy relations answers s m → (answer relations answers s m).next ≡ Ends end.Fatal
+    pub cause_ends : AsksOtherVersion relations answers s m ⊎ SendsCopy relations answers s m
+        → (answer relations answers s m).next ≡ Ends end.Fatal
     cause_ends (inl h) = refused_ends kind.Version refl (complete kind.Version h)
     cause_ends (inr h) = refused_ends kind.CopyData refl (complete kind.CopyData h)
 
@@ -554,4 +582,7 @@ kind_listed kind.CopyFail = (7, omega arith, refl)
 kind_listed kind.CopyData = (8, omega arith, refl)
 
 pub listed : (k : Kind) (info : ErrorInfo) → IsOf k info → Contains told_codes (info.severity, info.code)
-listed k info is = subst (λ (p : List ℕ × List ℕ). Contains told_codes p) (ap₂ (λ a b. (a, b)) (sym is.severity) (sym is.code)) (kind_listed k)
+listed k info is = subst (λ (p : List ℕ × List ℕ). Contains told_codes p) (ap₂ (λ a b. (
+  a,
+  b,
+)) (sym is.severity) (sym is.code)) (kind_listed k)

@@ -123,13 +123,16 @@ portal_quiet d = columns_quiet d.fields (is_no_data (record { parameters = None;
 later_call : (call : DeskCall) (calls : List DeskCall) (x : DeskCall) → Contains calls x → Contains (call ∷ calls) x
 later_call call calls x at = (suc at.0, omega (arith, at.1), at.2)
 
-canceled_asks : (n : ℕ) (answers : List Bool) → (questioned n answers).verdict ≡ Canceled → Contains (questioned n answers).calls (desk.Ask true)
+canceled_asks : (n : ℕ) (answers : List Bool) → (questioned n answers).verdict ≡ Canceled
+    → Contains (questioned n answers).calls (desk.Ask true)
 canceled_asks zero answers e = cc
 canceled_asks (suc n) [] e = cc
 canceled_asks (suc n) (true ∷ answers) e = (0, omega arith, refl)
-canceled_asks (suc n) (false ∷ answers) e = later_call (desk.Ask false) (questioned n answers).calls (desk.Ask true) (canceled_asks n answers e)
+canceled_asks (suc n) (false ∷ answers) e = later_call (desk.Ask false) (questioned n answers).calls (desk.Ask true)
+    (canceled_asks n answers e)
 
-pub started_asks : (n : ℕ) (answers : List Bool) → (started n answers).verdict ≡ Canceled → Contains (started n answers).calls (desk.Ask true)
+pub started_asks : (n : ℕ) (answers : List Bool) → (started n answers).verdict ≡ Canceled
+    → Contains (started n answers).calls (desk.Ask true)
 started_asks n answers e = later_call desk.Start (questioned n answers).calls (desk.Ask true) (canceled_asks n answers e)
 
 asks_cancels : (n : ℕ) (answers : List Bool) (k : ℕ) → k < length (questioned n answers).calls
@@ -140,7 +143,8 @@ asks_cancels (suc n) (true ∷ answers) k inside at = refl
 asks_cancels (suc n) (false ∷ answers) zero inside at = cc
 asks_cancels (suc n) (false ∷ answers) (suc k) inside at = asks_cancels n answers k (omega (arith, inside)) at
 
-pub asks_cancel : (n : ℕ) (answers : List Bool) → Contains (started n answers).calls (desk.Ask true) → (started n answers).verdict ≡ Canceled
+pub asks_cancel : (n : ℕ) (answers : List Bool) → Contains (started n answers).calls (desk.Ask true)
+    → (started n answers).verdict ≡ Canceled
 asks_cancel n answers (zero, inside, at) = cc
 asks_cancel n answers (suc k, inside, at) = asks_cancels n answers k (omega (arith, inside)) at
 
@@ -198,7 +202,8 @@ module _ (relations : List Relation) (answers : List Bool) (s : Talk) (g : IsSer
   start_asks_none o (zero, inside, at) = cc
   start_asks_none o (suc k, inside, at) = absurd (omega (arith, inside))
 
-  either_effect : (m : PgWireFrontendMessage) (b : Bool) (x y : Effect RelationStatement) → EffectIs [] m x → EffectIs [] m y → EffectIs [] m (if b then x else y)
+  either_effect : (m : PgWireFrontendMessage) (b : Bool) (x y : Effect RelationStatement) → EffectIs [] m x → EffectIs [] m y
+      → EffectIs [] m (if b then x else y)
   either_effect m true x y f h = f
   either_effect m false x y f h = h
 
@@ -260,10 +265,12 @@ module _ (relations : List Relation) (answers : List Bool) (s : Talk) (g : IsSer
 
   -- ---- behind an error, and in COPY
 
-  started_still : (t : Talk) (x : PgWireConnectionState) → t.info.state ≡ x → (x ≡ phase.AwaitingStartup → ⊥) → Portals t → IsServed relations t
+  started_still : (t : Talk) (x : PgWireConnectionState) → t.info.state ≡ x → (x ≡ phase.AwaitingStartup → ⊥) → Portals t
+      → IsServed relations t
   started_still t x e never portals = record { portals = portals; startup = λ w. absurd (never (sym e ∙ w)) }
 
-  synced : (m : PgWireFrontendMessage) → EffectIs [] m (says (ready s.info.status ∷ []) (in_phase (without_unnamed_portal s) phase.ReadyForQuery))
+  synced : (m : PgWireFrontendMessage) → EffectIs [] m
+      (says (ready s.info.status ∷ []) (in_phase (without_unnamed_portal s) phase.ReadyForQuery))
   synced m = (
     refl,
     tt,
@@ -306,13 +313,15 @@ module _ (relations : List Relation) (answers : List Bool) (s : Talk) (g : IsSer
   -- ---- the server is ready
 
   module _ (q : IsReady s) where
-    still : (t : Talk) → t.info.state ≡ phase.ReadyForQuery → Portals t → IsServed relations t × (OutsideCopy s.info.state → OutsideCopy t.info.state)
+    still : (t : Talk) → t.info.state ≡ phase.ReadyForQuery → Portals t
+        → IsServed relations t × (OutsideCopy s.info.state → OutsideCopy t.info.state)
     still t e portals = (
       started_still t phase.ReadyForQuery e (λ e. let f : ⊥ = cc in f) portals,
       λ o. subst OutsideCopy (sym e) tt,
     )
 
-    done : (m : PgWireFrontendMessage) (calls : List DeskCall) (replies : Replies) (t : Talk) → Quiet replies → t.info.state ≡ phase.ReadyForQuery
+    done : (m : PgWireFrontendMessage) (calls : List DeskCall) (replies : Replies) (t : Talk) → Quiet replies
+        → t.info.state ≡ phase.ReadyForQuery
         → Portals t → Heeds calls (Done t) → EffectIs calls m (says replies t)
     done m calls replies t quiet e portals heeds = (quiet, tt, still t e portals, heeds)
 
@@ -322,7 +331,8 @@ module _ (relations : List Relation) (answers : List Bool) (s : Talk) (g : IsSer
         → EffectIs [] (client.Parse m) (parsed s m (if b then Ok None else stored m (or_unknown (trimmed m.query) x)))
     parse_is m true x e f = done (client.Parse m) [] parse_complete (with_statement s m.name entry.Empty) refl q g.portals (none_asked _)
     parse_is m false (Some means) e f = done (client.Parse m) [] parse_complete
-        (with_statement s m.name (entry.Value (record { id = m.name; statement = means; parameter_types = types_of m.type_oids }))) refl q g.portals
+        (with_statement s m.name (entry.Value (record { id = m.name; statement = means; parameter_types = types_of m.type_oids }))) refl q
+        g.portals
         (none_asked _)
     parse_is m false None e f =
         let nothing = no_meaning relations (trimmed m.query) f in
@@ -332,7 +342,8 @@ module _ (relations : List Relation) (answers : List Bool) (s : Talk) (g : IsSer
 
     -- ---- Bind
 
-    put_is : (m : PgWireFrontendMessage) (calls : List DeskCall) (replies : Replies) (name : List ℕ) (e : Entry (TablePortal RelationStatement))
+    put_is : (m : PgWireFrontendMessage) (calls : List DeskCall) (replies : Replies) (name : List ℕ)
+        (e : Entry (TablePortal RelationStatement))
         → ((p : TablePortal RelationStatement) → value_under (Some e) ≡ Some p → IsStageOf relations (session_style s.info) p.bound p.stage)
         → Quiet replies → Heeds calls (Done (with_portal s name e)) → EffectIs calls m (says replies (with_portal s name e))
     put_is m calls replies name e is quiet heeds = done m calls replies (with_portal s name e) quiet q
@@ -344,8 +355,10 @@ module _ (relations : List Relation) (answers : List Bool) (s : Talk) (g : IsSer
 
     counted : (m : Bind) (x : StoredStatement RelationStatement) → fin.get s.statements m.statement_name ≡ Some (entry.Value x)
         → (fields : List Field) → length fields ≡ length (columns_of relations x.statement)
-        → (a b : Bool) → nat_le 2 (length m.result_column_format_codes) ≡ a → nat_lt (length m.result_column_format_codes) (length fields) ≡ b
-        → EffectIs [] (client.Bind m) (if a then (if b then refuses s (wire.UserError (too_few_codes (length m.result_column_format_codes) (length fields)))
+        → (a b : Bool) → nat_le 2 (length m.result_column_format_codes) ≡ a
+        → nat_lt (length m.result_column_format_codes) (length fields) ≡ b
+        → EffectIs [] (client.Bind m) (if a then (if b then refuses s
+        (wire.UserError (too_few_codes (length m.result_column_format_codes) (length fields)))
         else bound_portal s m x) else bound_portal s m x)
     counted m x found fields same false b e f = bound_portal_is m x
     counted m x found fields same true false e f = bound_portal_is m x
@@ -378,13 +391,15 @@ module _ (relations : List Relation) (answers : List Bool) (s : Talk) (g : IsSer
 
     -- ---- Describe, Close
 
-    statement_is : (m : Describe) → m.target_type ≡ 83 → (x : Option (Entry (StoredStatement RelationStatement))) → fin.get s.statements m.name ≡ x
+    statement_is : (m : Describe) → m.target_type ≡ 83 → (x : Option (Entry (StoredStatement RelationStatement)))
+        → fin.get s.statements m.name ≡ x
         → EffectIs [] (client.Describe m) (described_statement told.extended s m.name x)
     statement_is m t None e = refused (client.Describe m) (wire.StatementNotFound m.name) kind.Statement (q, (t, e))
         (known _ _ refl)
     statement_is m t (Some entry.Empty) e = stays (client.Describe m) (statement_description (record { parameters = []; fields = [] })) refl
     statement_is m t (Some (entry.Value x)) e =
-        stays (client.Describe m) (statement_description (statement_described relations x)) (statement_quiet (statement_described relations x))
+        stays (client.Describe m) (statement_description (statement_described relations x))
+        (statement_quiet (statement_described relations x))
 
     portal_is : (m : Describe) → m.target_type ≡ 80 → (x : Option (Entry (TablePortal RelationStatement))) → fin.get s.portals m.name ≡ x
         → EffectIs [] (client.Describe m) (described_portal told.extended s m.name x)
@@ -392,7 +407,8 @@ module _ (relations : List Relation) (answers : List Bool) (s : Talk) (g : IsSer
         (known _ _ refl)
     portal_is m t (Some entry.Empty) e = stays (client.Describe m) (portal_description (record { fields = [] })) refl
     portal_is m t (Some (entry.Value p)) e =
-        stays (client.Describe m) (portal_description (portal_described relations p.bound)) (portal_quiet (portal_described relations p.bound))
+        stays (client.Describe m) (portal_description (portal_described relations p.bound))
+        (portal_quiet (portal_described relations p.bound))
 
     describe_is : (m : Describe) (a b : Bool) → (m.target_type == 83) ≡ a → (m.target_type == 80) ≡ b
         → EffectIs [] (client.Describe m) (if a then described_statement told.extended s m.name (fin.get s.statements m.name)
@@ -407,7 +423,8 @@ module _ (relations : List Relation) (answers : List Bool) (s : Talk) (g : IsSer
     close_is : (m : Close) (a b : Bool)
         → EffectIs [] (client.Close m) (says (server.CloseComplete (record {}) ∷ [])
         (if a then without_statement s m.name else if b then without_portal s m.name else s))
-    close_is m true b = done (client.Close m) [] (server.CloseComplete (record {}) ∷ []) (without_statement s m.name) refl q g.portals (none_asked _)
+    close_is m true b = done (client.Close m) [] (server.CloseComplete (record {}) ∷ []) (without_statement s m.name) refl q g.portals
+        (none_asked _)
     close_is m false true = done (client.Close m) [] (server.CloseComplete (record {}) ∷ []) (without_portal s m.name) refl q
         (each_after_remove PortalIs s.portals m.name g.portals) (none_asked _)
     close_is m false false = stays (client.Close m) (server.CloseComplete (record {}) ∷ []) refl
@@ -436,7 +453,8 @@ module _ (relations : List Relation) (answers : List Bool) (s : Talk) (g : IsSer
             (still_last (made h.place) (relation_at relations h.place).rows r.items k h.items);
       }
 
-      paged : (calls : List DeskCall) (replies : Replies) (stage : Stage) → IsStageOf relations (session_style s.info) p.bound stage → Quiet replies
+      paged : (calls : List DeskCall) (replies : Replies) (stage : Stage) → IsStageOf relations (session_style s.info) p.bound stage
+          → Quiet replies
           → Heeds calls (Done (with_portal s m.name (entry.Value (at_stage p stage))))
           → EffectIs calls (client.Execute m) (says replies (with_portal s m.name (entry.Value (at_stage p stage))))
       paged calls replies stage is quiet heeds = put_is (client.Execute m) calls replies m.name (entry.Value (at_stage p stage))
@@ -447,18 +465,22 @@ module _ (relations : List Relation) (answers : List Bool) (s : Talk) (g : IsSer
           → rows_to_come (relation_at relations h.place).rows p.stage ≡ last_rows (relation_at relations h.place).rows r.items
           → ((o : Outcome RelationStatement) → Heeds calls o) → (ending : PageEnd DataRow) → (item_page m.max_rows r.items).ending ≡ ending
           → EffectIs calls (client.Execute m)
-          (page_effect (with_portal s m.name (entry.Value (at_stage p (stage_after r delivered (item_page m.max_rows r.items).rows ending)))) r.command_tag
+          (page_effect (with_portal s m.name (entry.Value
+          (at_stage p (stage_after r delivered (item_page m.max_rows r.items).rows ending)))) r.command_tag
           (delivered_after delivered (length (item_page m.max_rows r.items).rows)) (item_page m.max_rows r.items).rows ending)
       page_is calls r delivered h came same heeds (AtLimit left) e =
           paged calls (row_replies (item_page m.max_rows r.items).rows ++ server.PortalSuspended (record {}) ∷ [])
-          (Started (with_items r left) (delivered_after delivered (length (item_page m.max_rows r.items).rows))) (rest_is r h left (left_by_page m.max_rows r.items left e))
+          (Started (with_items r left) (delivered_after delivered (length (item_page m.max_rows r.items).rows)))
+          (rest_is r h left (left_by_page m.max_rows r.items left e))
           (quiet_append (row_replies (item_page m.max_rows r.items).rows) (server.PortalSuspended (record {}) ∷ [])
           (rows_quiet (item_page m.max_rows r.items).rows) refl) (heeds _)
       page_is calls r delivered h came same heeds AtEnd e = paged calls
-          (row_replies (item_page m.max_rows r.items).rows ++ done_with r.command_tag (delivered_after delivered (length (item_page m.max_rows r.items).rows)) ∷ [])
+          (row_replies (item_page m.max_rows r.items).rows
+          ++ done_with r.command_tag (delivered_after delivered (length (item_page m.max_rows r.items).rows)) ∷ [])
           (Ended (delivered_after delivered (length (item_page m.max_rows r.items).rows))) tt
           (quiet_append (row_replies (item_page m.max_rows r.items).rows)
-          (done_with r.command_tag (delivered_after delivered (length (item_page m.max_rows r.items).rows)) ∷ []) (rows_quiet (item_page m.max_rows r.items).rows) refl) (heeds _)
+          (done_with r.command_tag (delivered_after delivered (length (item_page m.max_rows r.items).rows)) ∷ [])
+          (rows_quiet (item_page m.max_rows r.items).rows) refl) (heeds _)
       page_is calls r delivered h came same heeds (AtError w left) e =
           let rows = last_rows (relation_at relations h.place).rows r.items in
           let formats = column_formats p.bound.result_column_format (relation_at relations h.place).columns in
@@ -482,7 +504,8 @@ module _ (relations : List Relation) (answers : List Bool) (s : Talk) (g : IsSer
           → CanCome relations answers h.place p.stage
           → rows_to_come (relation_at relations h.place).rows p.stage ≡ last_rows (relation_at relations h.place).rows r.items
           → ((o : Outcome RelationStatement) → Heeds calls o) → EffectIs calls (client.Execute m) (fetched s m p r delivered)
-      fetched_is calls r delivered h came same heeds = page_is calls r delivered h came same heeds (item_page m.max_rows r.items).ending refl
+      fetched_is calls r delivered h came same heeds =
+          page_is calls r delivered h came same heeds (item_page m.max_rows r.items).ending refl
 
       -- the whole response of a relation is a rest
       abbrev whole_rest : (place : ℕ) → p.bound.statement.statement ≡ statement.Relation place → (r : ToldRows)
@@ -494,7 +517,8 @@ module _ (relations : List Relation) (answers : List Bool) (s : Talk) (g : IsSer
             ∙ ap (last_rows (relation_at relations place).rows) (sym e));
       }
 
-      passed_asks_none : (place : ℕ) → (started (relation_at relations place).unready answers).verdict ≡ Passed → (o : Outcome RelationStatement)
+      passed_asks_none : (place : ℕ) → (started (relation_at relations place).unready answers).verdict ≡ Passed
+          → (o : Outcome RelationStatement)
           → Heeds (started (relation_at relations place).unready answers).calls o
       passed_asks_none place e o at = let canceled = asks_cancel (relation_at relations place).unready answers at in
           let f : Passed ≡ Canceled = sym e ∙ canceled in let f : ⊥ = cc in absurd f
@@ -529,11 +553,17 @@ module _ (relations : List Relation) (answers : List Bool) (s : Talk) (g : IsSer
           let came : CanCome relations answers place p.stage = subst (CanCome relations answers place) (sym stage) e in
           let same : rows_to_come (relation_at relations place).rows p.stage ≡ last_rows (relation_at relations place).rows r.items =
           ap (rows_to_come (relation_at relations place).rows) stage ∙ sym (all_are_last (made place) (relation_at relations place).rows) in
-          fetched_is (started (relation_at relations place).unready answers).calls r 0 (whole_rest place means r refl) came same (passed_asks_none place e)
+          fetched_is (started (relation_at relations place).unready answers).calls r 0 (whole_rest place means r refl) came same
+          (passed_asks_none place e)
 
       unstarted_is : p.stage ≡ Unstarted → (means : RelationStatement) → p.bound.statement.statement ≡ means
           → CalledIs (client.Execute m) (execute_run answers s m p (query_of relations s.info p.bound.result_column_format means))
-      unstarted_is stage statement.Begin means = (refl, tt, still (with_status s (to_in_transaction_state s.info.status)) q g.portals, start_asks_none _)
+      unstarted_is stage statement.Begin means = (
+        refl,
+        tt,
+        still (with_status s (to_in_transaction_state s.info.status)) q g.portals,
+        start_asks_none _,
+      )
       unstarted_is stage statement.Commit means = (
         refl,
         tt,
@@ -549,7 +579,8 @@ module _ (relations : List Relation) (answers : List Bool) (s : Talk) (g : IsSer
       staged_is (Started r delivered) e =
           let h : IsRest relations (session_style s.info) p.bound r =
           subst (IsStageOf relations (session_style s.info) p.bound) e (g.portals m.name p (ap value_under found)) in
-          fetched_is [] r delivered h (subst (CanCome relations answers h.place) (sym e) tt) (ap (rows_to_come (relation_at relations h.place).rows) e)
+          fetched_is [] r delivered h (subst (CanCome relations answers h.place) (sym e) tt)
+          (ap (rows_to_come (relation_at relations h.place).rows) e)
           (λ o. none_asked o)
       staged_is (Ended delivered) e = stays (client.Execute m) (done_with (codes "SELECT") delivered ∷ []) refl
 
@@ -580,7 +611,8 @@ module _ (relations : List Relation) (answers : List Bool) (s : Talk) (g : IsSer
           )
 
       -- what a query of a relation comes to, by its verdict
-      judged_is : (place : ℕ) (outcome : List ToldResponse) (v : Verdict) → (started (relation_at relations place).unready answers).verdict ≡ v
+      judged_is : (place : ℕ) (outcome : List ToldResponse) (v : Verdict)
+          → (started (relation_at relations place).unready answers).verdict ≡ v
           → (v ≡ Passed → (((o : Outcome RelationStatement) → Heeds (started (relation_at relations place).unready answers).calls o)
           → EffectIs (started (relation_at relations place).unready answers).calls (client.Query m) (answered_all s outcome)))
           → EffectIs (started (relation_at relations place).unready answers).calls (client.Query m) (query_polled s v (Ok outcome))
@@ -618,8 +650,10 @@ module _ (relations : List Relation) (answers : List Bool) (s : Talk) (g : IsSer
       one_is : {B : Type 0} (calls : List DeskCall) (front others : Replies) → Quiet front → Quiet others → (x : Option (PgWireError × B))
           → ((w : PgWireError) (left : B) → x ≡ Some (w, left) → (k : Kind) × Why calls (client.Query m) k × IsOf k (info_of w))
           → ((o : Outcome RelationStatement) → Heeds calls o) → EffectIs calls (client.Query m) (one_answer front others x)
-      one_is calls front others a b None why heeds = done (client.Query m) calls (((front ++ others) ++ []) ++ ready s.info.status ∷ []) (with_status s s.info.status)
-          (quiet_append ((front ++ others) ++ []) (ready s.info.status ∷ []) (quiet_append (front ++ others) [] (quiet_append front others a b) refl) refl)
+      one_is calls front others a b None why heeds =
+          done (client.Query m) calls (((front ++ others) ++ []) ++ ready s.info.status ∷ []) (with_status s s.info.status)
+          (quiet_append ((front ++ others) ++ []) (ready s.info.status ∷ [])
+          (quiet_append (front ++ others) [] (quiet_append front others a b) refl) refl)
           q g.portals (heeds _)
       one_is calls front others a b (Some (w, left)) why heeds = (a, why w left refl, g.portals, heeds (Failed s w))
 
@@ -632,7 +666,8 @@ module _ (relations : List Relation) (answers : List Bool) (s : Talk) (g : IsSer
           let formats = column_formats format.UnifiedText r.columns in
           let made = row_item (session_style s.info) formats in
           let items = map made r.rows in
-          one_is (started r.unready answers).calls (row_description (columns_in format.UnifiedText r.columns) ∷ [] ++ row_replies (before_error items))
+          one_is (started r.unready answers).calls (row_description (columns_in format.UnifiedText r.columns) ∷ []
+          ++ row_replies (before_error items))
           (done_with (codes "SELECT") (length (before_error items)) ∷ []) (rows_quiet (before_error items)) refl (first_error items)
           (λ w left e.
           let met = first_of_rows made r.rows w left e in
@@ -657,7 +692,8 @@ module _ (relations : List Relation) (answers : List Bool) (s : Talk) (g : IsSer
           let items = map made r.rows in
           let copied = not_empty_data (before_error items) in
           let c : ToldCopy = record { format = pos 0; columns = length r.columns; items = items; trailer_left = false } in
-          one_is (started r.unready answers).calls (copy_out_reply c ∷ copy_replies copied) (copy_end (copy_count copied)) (copied_quiet copied) refl
+          one_is (started r.unready answers).calls (copy_out_reply c ∷ copy_replies copied) (copy_end (copy_count copied))
+          (copied_quiet copied) refl
           (first_error items)
           (λ w left e.
           let met = first_of_rows made r.rows w left e in

@@ -44,7 +44,8 @@ abbrev TellsOutside : Replies → Type 0
 TellsOutside replies = (info : ErrorInfo) → Contains (errors_among replies) info → IsToldOutside info
 
 tell_both : (x y : Replies) → TellsOutside x → TellsOutside y → TellsOutside (x ++ y)
-tell_both x y a b info at = by_part (Contains-append_cases (errors_among x) (errors_among y) info (subst (λ l. Contains l info) (errors_append x y) at))
+tell_both x y a b info at = by_part (Contains-append_cases (errors_among x) (errors_among y) info
+    (subst (λ l. Contains l info) (errors_append x y) at))
   where
     by_part : Contains (errors_among x) info ⊎ Contains (errors_among y) info → IsToldOutside info
     by_part (inl at) = a info at
@@ -73,15 +74,21 @@ module _ (relations : List Relation) where
     after_is AnswersReady t e k = (record { portals = k; startup = λ w. let f : ⊥ = cc in absurd f }, tt)
 
     failed_next : (b : Bool) (replies after : Replies) (calls : List DeskCall) (t : Talk) (info : ErrorInfo) → IsGood t
-        → NextIs (if b then (let a : Answer Talk = record { replies = replies ++ error_reply info ∷ []; calls = calls; next = Ends end.Fatal } in a)
+        → NextIs (if b then (let a : Answer Talk = record {
+          replies = replies ++ error_reply info ∷ [];
+          calls = calls;
+          next = Ends end.Fatal;
+        } in a)
         else (record { replies = replies ++ error_reply info ∷ after; calls = calls; next = Goes t })).next
     failed_next true replies after calls t info h = tt
     failed_next false replies after calls t info h = h
 
-    settled_next : (scope : Scope) (replies : Replies) (calls : List DeskCall) (o : Outcome RelationStatement) → Keeps relations answers s g o
+    settled_next : (scope : Scope) (replies : Replies) (calls : List DeskCall) (o : Outcome RelationStatement)
+        → Keeps relations answers s g o
         → NextIs (settled scope replies calls o).next
     settled_next scope replies calls (Done t) k = (k.0, k.1 outside)
-    settled_next scope replies calls (Failed t e) k = failed_next (is_fatal (info_of e)) replies (after_error scope t).0 calls (after_error scope t).1
+    settled_next scope replies calls (Failed t e) k =
+        failed_next (is_fatal (info_of e)) replies (after_error scope t).0 calls (after_error scope t).1
         (info_of e) (after_is scope t e k)
     settled_next scope replies calls (Over x) k = tt
     settled_next scope replies calls Stopped k = tt
@@ -109,7 +116,8 @@ module _ (relations : List Relation) where
   continued_is a (Ends x) e others h g k = (h, subst NextIs (sym e) tt)
   continued_is a Stops e others h g k = (h, subst NextIs (sym e) tt)
 
-  run_is : (answers : List Bool) (s : Talk) (messages : List PgWireFrontendMessage) → IsGood s → RunIs (conversation table answers s messages)
+  run_is : (answers : List Bool) (s : Talk) (messages : List PgWireFrontendMessage) → IsGood s
+      → RunIs (conversation table answers s messages)
   run_is answers s [] g = ((λ info at. absurd (omega (arith, at.1))), g)
   run_is answers s (m ∷ messages) g =
       let given = table answers s m in
@@ -123,7 +131,8 @@ module _ (relations : List Relation) where
   first_is : (pid : ℤ) (key : List ℕ) → IsGood (first_state pid key)
   first_is pid key = (
     record {
-      portals = λ name p e. let none : value_under {T = TablePortal RelationStatement} None ≡ Some p = sym (ap value_under (none_yet name)) ∙ e in
+      portals = λ name p e. let none : value_under {T = TablePortal RelationStatement} None ≡ Some p =
+          sym (ap value_under (none_yet name)) ∙ e in
           let f : ⊥ = cc in absurd f;
       startup = λ w name. none_yet name;
     },

@@ -88,7 +88,8 @@ no_place name from [] e k r inside is same = omega (arith, inside)
 no_place name from (x ∷ relations) e k r inside is same =
     by_test (bytes_eq name x.name) refl e (λ e. no_place name (from + 1) relations e) k inside is
   where
-    by_test : (b : Bool) → bytes_eq name x.name ≡ b → cond b (Some from) (position_from (λ r. bytes_eq name r.name) (from + 1) relations) ≡ None
+    by_test : (b : Bool) → bytes_eq name x.name ≡ b
+        → cond b (Some from) (position_from (λ r. bytes_eq name r.name) (from + 1) relations) ≡ None
         → (position_from (λ r. bytes_eq name r.name) (from + 1) relations ≡ None → (k : ℕ) (r : Relation) → k < length relations
         → get_or relations k r ≡ r → r.name ≡ name → ⊥)
         → (k : ℕ) → k < suc (length relations) → get_or (x ∷ relations) k r ≡ r → ⊥

@@ -13,7 +13,8 @@ errors_among (reply ∷ replies) = errors_among replies
 
 -- An ErrorResponse of this severity and with this code stands among the replies.
 abbrev pub TellsCode : List ℕ → List ℕ → Replies → Type 0
-TellsCode severity code replies = (info : ErrorInfo) × Contains (errors_among replies) info × (info.severity ≡ severity) × (info.code ≡ code)
+TellsCode severity code replies = (info : ErrorInfo) × Contains (errors_among replies) info × (info.severity ≡ severity)
+    × (info.code ≡ code)
 
 -- the severities and codes that the server of relations tells its clients
 abbrev pub served_codes : List (List ℕ × List ℕ)

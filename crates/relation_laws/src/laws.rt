@@ -1,5 +1,5 @@
-//! Laws of the errors that the server of relations tells. The functions take nothing and do nothing: their contracts are
-//! the laws.
+//! Laws of the errors that the server of relations tells. The functions take nothing and do
+//! nothing: their contracts are the laws.
 
 ghost use Rattle.std.specs.Prelude.{◌≡◌, ◌≤◌, ◌↔◌, ◌⊎◌, ℕ, ℤ, Bool, List, length, codes};
 ghost use Rattle.std.specs.List.{Contains};
@@ -29,9 +29,10 @@ ghost use Rattle.relation_laws.specs.Causes.{
 };
 ghost use Rattle.relation_laws.specs.Served.{IsServed, IsToldExactlyWhere};
 
-/// Each error of the relation server has its cause, and each cause is told: in a state in which relations are served, an
-/// ErrorResponse with a code stands in the answer to a message exactly where the clause of that code says. The answer
-/// has at most one ErrorResponse, and no other code is told.
+/// Each error of the relation server has its cause, and each cause is told: in a state in which
+/// relations are served, an ErrorResponse with a code stands in the answer to a message exactly
+/// where the clause of that code says. The answer has at most one ErrorResponse, and no other code
+/// is told.
 pub fn errors_have_causes()
     // The startup version is neither 3.0 nor 3.2.
     ensures version { IsToldExactlyWhere (codes "FATAL") (codes "0A000") AsksOtherVersion }
@@ -42,12 +43,12 @@ pub fn errors_have_causes()
     // Describe or Execute, taken in Ready, names a portal that isn't stored.
     ensures portal { IsToldExactlyWhere (codes "ERROR") (codes "34000") NamesNoPortal }
 
-    // Describe's byte is neither `S` nor `P`; an empty statement is bound with values; there are at least two result
-    // codes and fewer than the columns.
+    // Describe's byte is neither `S` nor `P`; an empty statement is bound with values; there are at
+    // least two result codes and fewer than the columns.
     ensures protocol { IsToldExactlyWhere (codes "ERROR") (codes "08P01") BreaksProtocol }
 
-    // The trimmed text of a Parse or Query is neither empty, nor BEGIN or COMMIT, nor a relation's name, nor in a Query
-    // the COPY of a relation.
+    // The trimmed text of a Parse or Query is neither empty, nor BEGIN or COMMIT, nor a relation's
+    // name, nor in a Query the COPY of a relation.
     ensures relation { IsToldExactlyWhere (codes "ERROR") (codes "42P01") NamesNoRelation }
 
     // A question of this query was answered true.
@@ -64,7 +65,8 @@ pub fn errors_have_causes()
     ensures one { (relations : List Relation) (answers : List Bool) (s : State RelationStatement)
         (m : PgWireFrontendMessage) → IsServed relations s
         → length (errors_among (answer relations answers s m).replies) ≤ 1 }
-    ensures no_other { (relations : List Relation) (answers : List Bool) (s : State RelationStatement)
+    ensures no_other { (relations : List Relation) (answers : List Bool)
+        (s : State RelationStatement)
         (m : PgWireFrontendMessage) (info : ErrorInfo)
         → IsServed relations s
         → Contains (errors_among (answer relations answers s m).replies) info
@@ -77,10 +79,10 @@ pub fn errors_have_causes()
         ↔ (AsksOtherVersion relations answers s m ⊎ SendsCopy relations answers s m) }
 {}
 
-/// Whatever messages a session begins with and whatever the registry answers, relations are served in the state that
-/// they lead to, so that every message behind them is answered by the law above. No COPY from the client is ever in
-/// progress, so the errors of one are never told; nor are those of a query that comes too early and of a portal that
-/// isn't started.
+/// Whatever messages a session begins with and whatever the registry answers, relations are served
+/// in the state that they lead to, so that every message behind them is answered by the law above.
+/// No COPY from the client is ever in progress, so the errors of one are never told; nor are those
+/// of a query that comes too early and of a portal that isn't started.
 pub fn served_states_are_kept()
     ensures served { (relations : List Relation) (registration : ℤ × List ℕ) (answers : List Bool)
         (messages : List PgWireFrontendMessage) (s : State RelationStatement)

@@ -194,7 +194,8 @@ fn a_failed_accept_leaves_one_job(rt: HostRuntime) -> Result<(), Fail> {
     Ok(())
 }
 
-/// What the program is given: its words, the relation file, who has which pid before, and the calls that fail.
+/// What the program is given: its words, the relation file, who has which pid before, and the calls
+/// that fail.
 #[derive(Clone, Copy)]
 struct Given {
     words: &'static str,
@@ -315,7 +316,8 @@ fn status_of<R: Wait>(rt: &R, alloc: Global, given: &Given, stage: &mut Stage) -
     stage.run(rt, alloc, &mut registry)
 }
 
-/// What a program tells: its status and its line, and how many connections were accepted and good jobs started.
+/// What a program tells: its status and its line, and how many connections were accepted and good
+/// jobs started.
 type Told = (u8, &'static str, u64, usize);
 
 /// Whether the program answers so.

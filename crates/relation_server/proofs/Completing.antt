@@ -37,7 +37,8 @@ abbrev connection : Issuer → ℕ → ℤ → List ℕ → List Entry → List 
 connection issuer number pid key seen mine =
     record { issuer = issuer; number = number; pid = pid; key = key; seen = seen; mine = mine }
 
-pub is_newcomer : (h : Connection) (issuer : Issuer) (pid : ℤ) (key : List ℕ) (seen : List Entry) → h.issuer ≡ issuer → h.pid ≡ pid → h.key ≡ key
+pub is_newcomer : (h : Connection) (issuer : Issuer) (pid : ℤ) (key : List ℕ) (seen : List Entry) → h.issuer ≡ issuer → h.pid ≡ pid
+    → h.key ≡ key
     → h.seen ≡ seen → h.mine ≡ entry h.number (Register pid key) Registered ∷ [] → h ≡ newcomer issuer h.number (pid, key) seen
 is_newcomer h issuer pid key seen a b c d e =
     ap (λ x. connection x h.number h.pid h.key h.seen h.mine) a ∙ ap (λ x. connection issuer h.number x h.key h.seen h.mine) b
@@ -60,7 +61,8 @@ if_some (Some a) P f = f a refl
 -- ---- serve
 
 -- the status of an end, or of want of memory
-served_end : (answer : Result EndKind ServeError) (status : ℕ) → IsEndOrNoMemory answer → (status ≡ status_of_conversation answer) ⊎ (status ≡ 7)
+served_end : (answer : Result EndKind ServeError) (status : ℕ) → IsEndOrNoMemory answer
+    → (status ≡ status_of_conversation answer) ⊎ (status ≡ 7)
     → IsServeEnd status
 served_end answer status ends (inr is) = inr (inr (inr is))
 served_end (Ok end.Terminate) status ends (inl is) = inl is
@@ -88,7 +90,8 @@ sound_file file.FileFault text new_left faults new_faults status short good soun
 sound_file file.NoMemory text new_left faults new_faults status short good sound cause (inl is) = is
 
 -- the relations that a whole text tells
-relations_told : (relations : List Relation) (text : List ℕ) (left new_left : Option (List ℕ)) → left ≡ Some text → IsToldBy left new_left relations
+relations_told : (relations : List Relation) (text : List ℕ) (left new_left : Option (List ℕ)) → left ≡ Some text
+    → IsToldBy left new_left relations
     → relations_of (lines_of text) ≡ relations
 relations_told relations text left new_left is told =
     let whole : text ≡ told.0 = (subst (λ l. GaveAll l new_left told.0) is told.1).0 in
@@ -114,25 +117,32 @@ serve_end : (issuer : Issuer) (s : Service) (relations : List Relation) (outcome
     → (status ≡ status_of outcome) ⊎ (status ≡ 7) → IsServeEnd status
 serve_end issuer s relations out.PidTaken w old new bytes messages rest status served free is sound d h turns fits reported =
     absurd (free served.0.holder served.0.has_pid)
-serve_end issuer s relations (out.Conversation answer) w old new bytes messages rest status (inl served) free is sound d h turns fits reported =
+serve_end issuer s relations (out.Conversation answer) w old new bytes messages rest status (inl served) free is sound d h turns fits
+    reported =
     conversed_end issuer s relations answer w old new bytes messages rest status served is sound d h turns fits reported
-serve_end issuer s relations (out.Conversation answer) w old new bytes messages rest status (inr wanted) free is sound d h turns fits (inl told) =
+serve_end issuer s relations (out.Conversation answer) w old new bytes messages rest status (inr wanted) free is sound d h turns fits
+    (inl told) =
     inr (inr (inr (told ∙ ap status_of_conversation wanted.0)))
-serve_end issuer s relations (out.Conversation answer) w old new bytes messages rest status (inr wanted) free is sound d h turns fits (inr told) =
+serve_end issuer s relations (out.Conversation answer) w old new bytes messages rest status (inr wanted) free is sound d h turns fits
+    (inr told) =
     inr (inr (inr told))
 serve_end issuer s relations out.Done w old new bytes messages rest status served free is sound d h turns fits reported = absurd served
 serve_end issuer s relations out.Usage w old new bytes messages rest status served free is sound d h turns fits reported = absurd served
 serve_end issuer s relations (out.File e) w old new bytes messages rest status served free is sound d h turns fits reported = absurd served
-serve_end issuer s relations out.AcceptFault w old new bytes messages rest status served free is sound d h turns fits reported = absurd served
-serve_end issuer s relations out.SpawnFault w old new bytes messages rest status served free is sound d h turns fits reported = absurd served
+serve_end issuer s relations out.AcceptFault w old new bytes messages rest status served free is sound d h turns fits reported =
+    absurd served
+serve_end issuer s relations out.SpawnFault w old new bytes messages rest status served free is sound d h turns fits reported =
+    absurd served
 
 abbrev HasServedTold : Issuer → Service → Outcome → Option Witness → Surroundings → Surroundings → Type 0
-HasServedTold issuer s outcome w old new = (relations : List Relation) × IsToldBy old.file new.file relations × HasServed issuer s relations outcome w old new
+HasServedTold issuer s outcome w old new = (relations : List Relation) × IsToldBy old.file new.file relations
+    × HasServed issuer s relations outcome w old new
 
 -- either the file was refused, or its relations were served
 serve_parts : (issuer : Issuer) (s : Service) (outcome : Outcome) (w : Option Witness) (old new : Surroundings)
     → HasServedFile issuer s outcome w old new
-    → ((e : FileError) × (outcome ≡ out.File e) × IsFileCause e old.file new.file old.file_faults new.file_faults) ⊎ HasServedTold issuer s outcome w old new
+    → ((e : FileError) × (outcome ≡ out.File e) × IsFileCause e old.file new.file old.file_faults new.file_faults)
+    ⊎ HasServedTold issuer s outcome w old new
 serve_parts issuer s (out.File e) w old new h = inl (e, refl, h.0)
 serve_parts issuer s out.PidTaken w old new h = inr h
 serve_parts issuer s (out.Conversation answer) w old new h = inr h
@@ -148,7 +158,8 @@ either_end (inr b) f g = g b
 serve_complete : (issuer : Issuer) (s : Service) (outcome : Outcome) (w : Option Witness) (old new : Surroundings) (status : ℕ)
     → HasServedFile issuer s outcome w old new → (status ≡ status_of outcome) ⊎ (status ≡ 7) → IsServeComplete s status old new
 serve_complete issuer s outcome w old new status h reported =
-    if_some old.file (λ text. _) (λ text read. if_some old.client (λ bytes. _) (λ bytes is messages rest short good free sound d e turns fits.
+    if_some old.file (λ text. _) (λ text read. if_some old.client (λ bytes. _)
+    (λ bytes is messages rest short good free sound d e turns fits.
     either_end (serve_parts issuer s outcome w old new h)
     (λ refused. inr (inr (inr (sound_file refused.0 text new.file old.file_faults new.file_faults status short good sound.0
     (subst (λ l. IsFileCause refused.0 l new.file old.file_faults new.file_faults) read refused.2)
@@ -176,8 +187,11 @@ demo_complete issuer l out.SpawnFault w old new status h (inl is) free sound = a
 
 -- ---- all of it
 
-pub run_complete : (issuer : Issuer) (command : Option Command) (outcome : Outcome) (w : Option Witness) (old new : Surroundings) (status : ℕ)
+pub run_complete : (issuer : Issuer) (command : Option Command) (outcome : Outcome) (w : Option Witness) (old new : Surroundings)
+    (status : ℕ)
     → HasRun issuer command outcome w old new → (status ≡ status_of outcome) ⊎ (status ≡ 7) → IsRunComplete command status old new
 run_complete issuer None outcome w old new status h reported = tt
-run_complete issuer (Some (command.Serve s)) outcome w old new status h reported = serve_complete issuer s outcome w old new status h reported
-run_complete issuer (Some (command.Demo l)) outcome w old new status h reported = demo_complete issuer l outcome w old new status h.0 reported
+run_complete issuer (Some (command.Serve s)) outcome w old new status h reported =
+    serve_complete issuer s outcome w old new status h reported
+run_complete issuer (Some (command.Demo l)) outcome w old new status h reported =
+    demo_complete issuer l outcome w old new status h.0 reported

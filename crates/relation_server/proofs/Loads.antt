@@ -19,7 +19,8 @@ loaded None count l is = absurd (cc (is))
 loaded (Some seed) None l is = absurd (cc (is))
 loaded (Some seed) (Some count) l is = cc (is)
 
-ordered : (s : Option Service) (d : Option Load) (l : Load) → option_or (option_map Serve s) (option_map Demo d) ≡ Some (Demo l) → d ≡ Some l
+ordered : (s : Option Service) (d : Option Load) (l : Load) → option_or (option_map Serve s) (option_map Demo d) ≡ Some (Demo l)
+    → d ≡ Some l
 ordered (Some s) d l is = absurd (cc (is))
 ordered None None l is = absurd (cc (is))
 ordered None (Some d) l is = cc (is)

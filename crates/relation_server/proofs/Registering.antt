@@ -39,7 +39,8 @@ was_taken registration pid old new m is r has = record {
 
 -- ---- the relations of a file
 
-pub file_served : (issuer : Issuer) (s : Service) (relations : List Relation) (outcome : Outcome) (w : Option Witness) (old new : Surroundings)
+pub file_served : (issuer : Issuer) (s : Service) (relations : List Relation) (outcome : Outcome) (w : Option Witness)
+    (old new : Surroundings)
     → IsToldBy old.file new.file relations → HasServed issuer s relations outcome w old new → HasServedFile issuer s outcome w old new
 file_served issuer s relations out.PidTaken w old new told h = (relations, told, h)
 file_served issuer s relations (out.Conversation answer) w old new told h = (relations, told, h)
@@ -52,7 +53,8 @@ file_served issuer s relations out.SpawnFault w old new told h = absurd h
 -- ---- the demo
 
 -- a conversation that came to its end is counted
-pub counted : (h : Connection) (relations : List Relation) (turns count size : ℕ) (answer : Result EndKind ServeError) (client left begun bytes told_bytes : List ℕ)
+pub counted : (h : Connection) (relations : List Relation) (turns count size : ℕ) (answer : Result EndKind ServeError)
+    (client left begun bytes told_bytes : List ℕ)
     (new_left : Option (List ℕ)) (before after : Counts) (witness : Witness) (outcome : Outcome) (old new : Option (List ℕ))
     (faults new_faults : ℕ) → left ≡ client → begun ≡ [] → told_bytes ≡ bytes → size ≡ length client
     → HasConversed h relations turns answer (Some left) new_left (Some begun) (Some bytes) before after witness
@@ -60,7 +62,8 @@ pub counted : (h : Connection) (relations : List Relation) (turns count size : �
     → HasTold outcome (demo_lines count (row_count messages) size (length told_bytes)) old new faults new_faults)
     → (IsErr answer → (outcome ≡ out.Conversation (Err fault.NoMemory)) × (new ≡ old) × (new_faults ≡ faults))
     → HasCounted h relations count client outcome (Some witness) old new faults new_faults
-counted h relations turns count size (Ok kind) client left begun bytes told_bytes new_left before after witness outcome old new faults new_faults
+counted h relations turns count size (Ok kind) client left begun bytes told_bytes new_left before after witness outcome old new faults
+    new_faults
     whole empty told sized x ended given_up =
     let run = x.went.whole in
     let text : run.0 ≡ client = run.1 ∙ whole in
@@ -81,13 +84,15 @@ counted h relations turns count size (Ok kind) client left begun bytes told_byte
             same (ended refl run.2.2.fed.replies (same ∙ run.2.2.fed.replied)));
       }));
     }
-counted h relations turns count size (Err e) client left begun bytes told_bytes new_left before after witness outcome old new faults new_faults
+counted h relations turns count size (Err e) client left begun bytes told_bytes new_left before after witness outcome old new faults
+    new_faults
     whole empty told sized x ended given_up =
     record { made = x.made; witness = witness; is_noted = refl; behind = x.behind; told = inr (given_up refl) }
 
 abbrev DemoCounted : Issuer → ℕ → Load → List Entry → List Entry → Outcome → Option (List ℕ) → Option (List ℕ) → ℕ → ℕ → Type 0
 DemoCounted issuer number l seen made outcome old new faults new_faults =
-    WasCounted (newcomer issuer number demo_registration seen) (demo_relations l.seed l.count) l.count (demo_client l.count) made outcome old new
+    WasCounted (newcomer issuer number demo_registration seen) (demo_relations l.seed l.count) l.count (demo_client l.count) made outcome
+    old new
     faults new_faults
 
 told_so : (issuer : Issuer) (number : ℕ) (l : Load) (made : List Entry) (outcome : Outcome) (w : Option Witness) (old new : Surroundings)
@@ -153,7 +158,8 @@ pub shown : (issuer : Issuer) (l : Load) (h : Connection) (number : ℕ) (relati
 shown issuer l h number relations client outcome w old new tables bytes is registered x =
     let told = subst (λ h. HasCounted h (demo_relations l.seed l.count) l.count (demo_client l.count) outcome w old.out new.out
     old.counts.write_faults new.counts.write_faults) is
-    (subst (λ r. HasCounted h r l.count (demo_client l.count) outcome w old.out new.out old.counts.write_faults new.counts.write_faults) tables
+    (subst (λ r. HasCounted h r l.count (demo_client l.count) outcome w old.out new.out old.counts.write_faults new.counts.write_faults)
+    tables
     (subst (λ b. HasCounted h relations l.count b outcome w old.out new.out old.counts.write_faults new.counts.write_faults) bytes x)) in
     shown_told issuer number l told.made outcome w old new
     (record { number = number; witness = told.witness; registered = registered; is_noted = told.is_noted; behind = told.behind }) told.told

@@ -63,7 +63,8 @@ refuses m n pid key seen seen' r =
     }
 
 -- what came of starting the job of a connection that was admitted
-pub took_in : (result : Result (Unit {0}) ListenError) (pid : ℕ) (old new : Taking) (seen seen' : List Entry) → new.accepted ≡ old.accepted + 1
+pub took_in : (result : Result (Unit {0}) ListenError) (pid : ℕ) (old new : Taking) (seen seen' : List Entry)
+    → new.accepted ≡ old.accepted + 1
     → HasAdmitted seen seen' pid → OnOk result (new.started ≡ old.started + 1)
     → IfErr result (λ e. (e ≡ SpawnFault) × HasRisen old.start_faults new.start_faults × (new.started ≡ old.started))
     → HasTakenIn result pid old new seen seen'
@@ -76,7 +77,8 @@ took_in (Err e) pid old new seen seen' accepted a started failed =
 pub none_registered : (seen : List Entry) → HasRegistered seen seen 0
 none_registered seen = record { gained = []; registers = sym (append-nil (registers_of seen)); pids_are = refl; registered = refl }
 
-pub one_more : (seen s s' : List Entry) (n pid : ℕ) → pid ≡ suc n → HasRegistered seen s n → HasAdmitted s s' pid → HasRegistered seen s' pid
+pub one_more : (seen s s' : List Entry) (n pid : ℕ) → pid ≡ suc n → HasRegistered seen s n → HasAdmitted s s' pid
+    → HasRegistered seen s' pid
 one_more seen s s' n pid next r a =
     subst (HasRegistered seen s') (sym next)
     (record {
@@ -108,26 +110,33 @@ next_refused m seen s s' n pid next r f =
 
 pub refused_once : (m k : ℕ) (seen seen' : List Entry) → IsRefusedAt m seen seen' → IsRefusedAt k seen seen' → m ≡ k
 refused_once m k seen seen' r f =
-    let same = last_same r.before f.before r.last f.last (sym r.ends ∙ f.ends) in cc (sym r.refused.1 ∙ ap (λ e. e.answer) same ∙ f.refused.1)
+    let same = last_same r.before f.before r.last f.last (sym r.ends ∙ f.ends) in
+    cc (sym r.refused.1 ∙ ap (λ e. e.answer) same ∙ f.refused.1)
 
 pub refused_never : (m n : ℕ) (seen seen' : List Entry) → HasRegistered seen seen' n → IsRefusedAt m seen seen' → ⊥
 refused_never m n seen seen' r f =
     let gained : r.gained ≡ f.registered.gained ++ f.last ∷ [] =
     append_cancel_left (registers_of seen) r.gained (f.registered.gained ++ f.last ∷ [])
     (sym r.registers ∙ ap registers_of f.ends ∙ filter-append (λ (e : Entry). is_register e.call) f.before (f.last ∷ [])
-    ∙ ap (λ x. registers_of f.before ++ x) (kept (λ (e : Entry). is_register e.call) f.last (told_register f.last.call (pos (suc f.n)) f.refused.0))
+    ∙ ap (λ x. registers_of f.before ++ x) (kept (λ (e : Entry). is_register e.call) f.last
+    (told_register f.last.call (pos (suc f.n)) f.refused.0))
     ∙ ap (λ x. x ++ f.last ∷ []) f.registered.registers ∙ append_assoc (registers_of seen) f.registered.gained (f.last ∷ [])) in
-    let answers = sym (map-append (λ (e : Entry). e.answer) f.registered.gained (f.last ∷ [])) ∙ ap (map (λ (e : Entry). e.answer)) (sym gained)
-    ∙ r.registered ∙ ap (map (λ (e : Entry). Registered)) gained ∙ map-append (λ (e : Entry). Registered) f.registered.gained (f.last ∷ []) in
+    let answers = sym (map-append (λ (e : Entry). e.answer) f.registered.gained (f.last ∷ []))
+    ∙ ap (map (λ (e : Entry). e.answer)) (sym gained)
+    ∙ r.registered ∙ ap (map (λ (e : Entry). Registered)) gained
+    ∙ map-append (λ (e : Entry). Registered) f.registered.gained (f.last ∷ []) in
     let last : f.last.answer ≡ Registered =
-    last_same (map (λ (e : Entry). e.answer) f.registered.gained) (map (λ (e : Entry). Registered) f.registered.gained) f.last.answer Registered answers in
+    last_same (map (λ (e : Entry). e.answer) f.registered.gained) (map (λ (e : Entry). Registered) f.registered.gained) f.last.answer
+    Registered answers in
     cc (sym last ∙ f.refused.1)
 
 pub exactly_refused : (m : ℕ) (result : Result ℕ ListenError) (count : Option ℕ) (old new : Taking) (seen seen' : List Entry)
     → HasEndedSo result count old new seen seen' → (result ≡ Err (PidTaken m)) ↔ IsRefusedAt m seen seen'
 exactly_refused m (Ok n) count old new seen seen' h = (λ is. absurd (cc (is)), λ f. absurd (refused_never m n seen seen' h.2 f))
-exactly_refused m (Err AcceptFault) count old new seen seen' h = (λ is. absurd (cc (is)), λ f. absurd (refused_never m h.1.0 seen seen' h.1.3 f))
-exactly_refused m (Err SpawnFault) count old new seen seen' h = (λ is. absurd (cc (is)), λ f. absurd (refused_never m (h.1.0 + 1) seen seen' h.1.3 f))
+exactly_refused m (Err AcceptFault) count old new seen seen' h =
+    (λ is. absurd (cc (is)), λ f. absurd (refused_never m h.1.0 seen seen' h.1.3 f))
+exactly_refused m (Err SpawnFault) count old new seen seen' h =
+    (λ is. absurd (cc (is)), λ f. absurd (refused_never m (h.1.0 + 1) seen seen' h.1.3 f))
 exactly_refused m (Err (PidTaken k)) count old new seen seen' h =
     (λ is. subst (λ k. IsRefusedAt k seen seen') (cc (is)) h.0, λ f. ap (λ k. Err (PidTaken k)) (refused_once k m seen seen' h.0 f))
 exactly_refused m (Err NoMemory) count old new seen seen' h = (λ is. absurd (cc (is)), λ f. absurd (refused_never m h.0 seen seen' h.3 f))

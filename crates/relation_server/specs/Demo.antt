@@ -33,7 +33,8 @@ pub record WasCounted (h : Connection) (relations : List Relation) (count : ℕ)
   pub told : HasTold outcome (demo_lines count (row_count run.fed.replies) (length client) (length replies)) old new faults new_faults
 
 -- The connection was left behind, and its conversation was told, or memory ran out before.
-pub record HasCounted (h : Connection) (relations : List Relation) (count : ℕ) (client : List ℕ) (outcome : Outcome) (noted : Option Witness)
+pub record HasCounted (h : Connection) (relations : List Relation) (count : ℕ) (client : List ℕ) (outcome : Outcome)
+    (noted : Option Witness)
     (old new : Option (List ℕ)) (faults new_faults : ℕ) : Type 0 where
   pub made : List Entry
   pub witness : Witness

@@ -29,8 +29,8 @@ pub record IsLeftBehind (h : Connection) (made : List Entry) (note : Witness) : 
       ⊎ (calls_of h.number note.seen ≡ h.mine ++ made)
 
 -- A connection's client was served, and its registration then ended: what was written and the calls that the connection made are the
--- conversation tables' answer to the client's bytes; why the conversation came to an end or was given up, and that no count of faults falls,
--- nor rises at Ok; and that turns enough bring it to an end.
+-- conversation tables' answer to the client's bytes; why the conversation came to an end or was given up, and that no count of faults
+-- falls, nor rises at Ok; and that turns enough bring it to an end.
 pub record HasConversed (h : Connection) (relations : List Relation) (turns : ℕ) (answer : Result EndKind ServeError)
     (left new_left old new : Option (List ℕ)) (before after : Counts) (note : Witness) : Type 0 where
   pub made : List Entry

@@ -43,7 +43,8 @@ pub record HasRegistered (seen seen' : List Entry) (n : ℕ) : Type 0 where
   pub pids_are : AreOfPids gained n
   pub registered : AreRegistered gained
 
--- The door gained these and then, as its last entry, a Register of the next pid, which was answered that the registration at place m has it.
+-- The door gained these and then, as its last entry, a Register of the next pid, which was answered that the registration at place m has
+-- it.
 pub record IsRefusedAt (m : ℕ) (seen seen' : List Entry) : Type 0 where
   pub n : ℕ
   pub before : List Entry
@@ -104,7 +105,8 @@ HasEndedSo (Err NoMemory) count old new seen seen' =
 abbrev pub HasTakenIn : Result (Unit {0}) ListenError → ℕ → Taking → Taking → List Entry → List Entry → Type 0
 HasTakenIn (Ok done) pid old new seen seen' = HasTaken old new 1 1 × HasAdmitted seen seen' pid
 HasTakenIn (Err AcceptFault) pid old new seen seen' = HasRisen old.accept_faults new.accept_faults × HasTaken old new 0 0 × (seen' ≡ seen)
-HasTakenIn (Err SpawnFault) pid old new seen seen' = HasRisen old.start_faults new.start_faults × HasTaken old new 1 0 × HasAdmitted seen seen' pid
+HasTakenIn (Err SpawnFault) pid old new seen seen' =
+    HasRisen old.start_faults new.start_faults × HasTaken old new 1 0 × HasAdmitted seen seen' pid
 HasTakenIn (Err (PidTaken m)) pid old new seen seen' = HasTaken old new 1 0 × HasRefused m seen seen' pid
 HasTakenIn (Err NoMemory) pid old new seen seen' = HasTaken old new 1 0 × (seen' ≡ seen)
 

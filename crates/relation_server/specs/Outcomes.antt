@@ -20,7 +20,8 @@ status_of SpawnFault = 13
 
 -- the line for words that are no command
 abbrev pub usage : List ℕ
-usage = line (codes "usage: relation_server serve FILE PID KEY [TURNS], demo SEED N, listen tcp PORT FILE [COUNT], listen unix PATH FILE [COUNT]")
+usage = line (codes
+    "usage: relation_server serve FILE PID KEY [TURNS], demo SEED N, listen tcp PORT FILE [COUNT], listen unix PATH FILE [COUNT]")
 
 abbrev pub line_of : Outcome → List ℕ
 line_of Done = []

@@ -61,7 +61,8 @@ surroundings file file_faults client out counts seen = record {
 }
 
 -- the surroundings by what their traits tell
-abbrev pub surroundings_of : {F S K : Type 0} → (F → Option (List ℕ)) → (F → ℕ) → (S → Option (List ℕ)) → (S → ℕ) → (S → ℕ) → (K → Option (List ℕ)) → (K → ℕ)
+abbrev pub surroundings_of : {F S K : Type 0} → (F → Option (List ℕ)) → (F → ℕ) → (S → Option (List ℕ)) → (S → ℕ) → (S → ℕ)
+    → (K → Option (List ℕ)) → (K → ℕ)
     → F → S → K → List Entry → Surroundings
 surroundings_of left faults client_left reads read_faults written write_faults file client out seen =
     surroundings (left file) (faults file) (client_left client) (written out) (counts_of reads read_faults write_faults client out) seen
@@ -72,7 +73,8 @@ IsClientUntouched old new = (new.client ≡ old.client) × (new.out ≡ old.out)
 
 -- nothing was read of the client
 abbrev pub IsReadNothing : Surroundings → Surroundings → Type 0
-IsReadNothing old new = (new.client ≡ old.client) × (new.counts.reads ≡ old.counts.reads) × (new.counts.read_faults ≡ old.counts.read_faults)
+IsReadNothing old new = (new.client ≡ old.client) × (new.counts.reads ≡ old.counts.reads)
+    × (new.counts.read_faults ≡ old.counts.read_faults)
 
 -- the file stands as it stood
 abbrev pub IsFileUntouched : Surroundings → Surroundings → Type 0
@@ -105,7 +107,8 @@ pub record WasTaken (registration : ℤ × List ℕ) (old new : Surroundings) : 
 -- ---- serve
 
 -- A client was served over the relations under the registration.
-pub record WasServed (issuer : Issuer) (s : Service) (relations : List Relation) (answer : Result EndKind ServeError) (noted : Option Witness)
+pub record WasServed (issuer : Issuer) (s : Service) (relations : List Relation) (answer : Result EndKind ServeError)
+    (noted : Option Witness)
     (old new : Surroundings) : Type 0 where
   pub number : ℕ
   pub witness : Witness
@@ -140,7 +143,8 @@ demo_lines relations rows bytes replies = codes "relations " ++ decimal relation
     ++ (10 ∷ codes "in ") ++ decimal bytes ++ (10 ∷ codes "out ") ++ decimal replies ++ 10 ∷ []
 
 -- A connection was registered, made these calls and was left.
-pub record WasConnected (issuer : Issuer) (registration : ℤ × List ℕ) (made : List Entry) (noted : Option Witness) (old new : Surroundings) : Type 0 where
+pub record WasConnected (issuer : Issuer) (registration : ℤ
+    × List ℕ) (made : List Entry) (noted : Option Witness) (old new : Surroundings) : Type 0 where
   pub number : ℕ
   pub witness : Witness
   pub registered : WasRegistered number registration old new
@@ -170,7 +174,8 @@ IsCutShort issuer l noted old new = (((new.seen ≡ old.seen) × (new.out ≡ ol
     ⊎ WasShown issuer l noted old new (λ lines. GrowsByFront old.out new.out lines)))
     × (new.counts.write_faults ≡ old.counts.write_faults)
 
--- What came of `demo`: all lines were written; or a front of them, where the count of faults has risen; or pid 1 was taken; or memory ran out.
+-- What came of `demo`: all lines were written; or a front of them, where the count of faults has risen; or pid 1 was taken; or memory ran
+-- out.
 abbrev pub HasShown : Issuer → Load → Outcome → Option Witness → Surroundings → Surroundings → Type 0
 HasShown issuer l Done noted old new = WasShown issuer l noted old new (λ lines. GrowsBy old.out new.out lines)
 HasShown issuer l PidTaken noted old new = WasTaken demo_registration old new × IsClientUntouched old new × (noted ≡ None)
@@ -203,7 +208,8 @@ listen_surroundings file file_faults taking seen = record { file = file; file_fa
 -- What came of listening for so many connections: the file was refused; or connections were taken in over its relations; or memory ran
 -- out before.
 abbrev pub HasListened : Option ℕ → Outcome → ListenSurroundings → ListenSurroundings → Type 0
-HasListened count (File e) old new = IsFileCause e old.file new.file old.file_faults new.file_faults × (new.taking ≡ old.taking) × (new.seen ≡ old.seen)
+HasListened count (File e) old new = IsFileCause e old.file new.file old.file_faults new.file_faults × (new.taking ≡ old.taking)
+    × (new.seen ≡ old.seen)
 HasListened count outcome old new = ((relations : List Relation) × IsToldBy old.file new.file relations)
     × (((result : Result ℕ ListenError) × (outcome ≡ outcome_of result) × HasEndedSo result count old.taking new.taking old.seen new.seen)
     ⊎ ((outcome ≡ Conversation (Err NoMemory)) × (new.taking ≡ old.taking) × (new.seen ≡ old.seen)))
@@ -240,7 +246,8 @@ IsServeEnd status = (status ≡ 0) ⊎ ((status ≡ 10) ⊎ ((status ≡ 11) ⊎
 -- they are, `serve` comes to its end, or memory runs out.
 abbrev pub IsServeComplete : Service → ℕ → Surroundings → Surroundings → Type 0
 IsServeComplete s status old new = IfSome old.file (λ text. IfSome old.client (λ bytes.
-    (messages : List PgWireFrontendMessage) (rest : List ℕ) → length text ≤ file_limit → first_bad_line (lines_of text) ≡ None → IsFree s.pid new
+    (messages : List PgWireFrontendMessage) (rest : List ℕ) → length text ≤ file_limit → first_bad_line (lines_of text) ≡ None
+    → IsFree s.pid new
     → IsSound old new → DividesInto true bytes messages rest
     → IsUnfinished (awaits_startup_after_all messages true) rest ⊎ IsBad (awaits_startup_after_all messages true) rest
     → HasTurns (relations_of (lines_of text)) s.turns bytes messages → old.counts.reads + s.turns < 2 ^ 64 → IsServeEnd status))

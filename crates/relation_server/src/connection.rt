@@ -23,9 +23,9 @@ use relation_serving::serve_relations_on;
 use std::alloc::Global;
 use std::sync::Wait;
 
-/// Serves a client over relations, as [`serve_relations_on`] does, through its connection to the shared registry, so
-/// that the clients of other threads may cancel its queries. It waits for nobody but for the registry's turn, once for
-/// each call of the registry.
+/// Serves a client over relations, as [`serve_relations_on`] does, through its connection to the
+/// shared registry, so that the clients of other threads may cancel its queries. It waits for
+/// nobody but for the registry's turn, once for each call of the registry.
 ///
 /// The connection stays usable, whatever is answered.
 pub fn serve_relations<R: Wait, S: Source, K: Sink>(
@@ -40,12 +40,16 @@ pub fn serve_relations<R: Wait, S: Source, K: Sink>(
 ) -> Result<EndKind, ServeError>
     requires issued { handle.old.issuer ≡ manager.now }
 
-    // The bytes written and the connection's new calls are the conversation tables' answer to the client's bytes,
-    // however cut.
+    // The bytes written and the connection's new calls are the conversation tables' answer to the
+    // client's bytes, however cut.
     ensures went { (made : List Entry) × (handle.new.mine ≡ handle.old.mine ++ made)
-        × WentByTables relations.now (handle.old.pid, handle.old.key) result (S.left source.old) (S.left source.new)
+        × WentByTables relations.now (
+          handle.old.pid,
+          handle.old.key,
+        ) result (S.left source.old) (S.left source.new)
         (K.written sink.old) (K.written sink.new) (desk_calls made) }
-    ensures cause { HasCause result turn_limit (questions_since (desk_calls handle.old.mine) (desk_calls handle.new.mine))
+    ensures cause { HasCause result turn_limit
+        (questions_since (desk_calls handle.old.mine) (desk_calls handle.new.mine))
         (counts_of S.reads S.faults K.faults source.old sink.old)
         (counts_of S.reads S.faults K.faults source.new sink.new) }
     ensures last { IfOk result (EndsAtLast (whole_rules (relation_handlers relations.now))
@@ -61,10 +65,11 @@ pub fn serve_relations<R: Wait, S: Source, K: Sink>(
         (counts_of S.reads S.faults K.faults source.new sink.new) }
 
     // Each read that was counted gave a byte.
-    ensures reads { ReadsGaveBytes (S.left source.old) (S.left source.new) (S.reads source.old) (S.reads source.new) }
+    ensures reads { ReadsGaveBytes (S.left source.old) (S.left source.new) (S.reads source.old)
+        (S.reads source.new) }
 
-    // What the connection has seen of the one history goes on, and is legal, and has just its own calls under its
-    // number.
+    // What the connection has seen of the one history goes on, and is legal, and has just its own
+    // calls under its number.
     ensures same { IsSameConnection handle.old handle.new }
     ensures seen { IsPrefix handle.old.seen handle.new.seen }
     ensures legal { IsLegal handle.new.seen }
@@ -90,10 +95,15 @@ fn serve_at_desk<R: Wait, S: Source, K: Sink>(
     turn_limit: u64,
 ) -> Result<EndKind, ServeError>
     requires issued { handle.old.issuer ≡ manager.now }
-    ensures went { (calls : List DeskCall) × (desk_calls handle.new.mine ≡ desk_calls handle.old.mine ++ calls)
-        × WentByTables relations.now (handle.old.pid, handle.old.key) result (S.left source.old) (S.left source.new)
+    ensures went { (calls : List DeskCall)
+        × (desk_calls handle.new.mine ≡ desk_calls handle.old.mine ++ calls)
+        × WentByTables relations.now (
+          handle.old.pid,
+          handle.old.key,
+        ) result (S.left source.old) (S.left source.new)
         (K.written sink.old) (K.written sink.new) calls }
-    ensures cause { HasCause result turn_limit (questions_since (desk_calls handle.old.mine) (desk_calls handle.new.mine))
+    ensures cause { HasCause result turn_limit
+        (questions_since (desk_calls handle.old.mine) (desk_calls handle.new.mine))
         (counts_of S.reads S.faults K.faults source.old sink.old)
         (counts_of S.reads S.faults K.faults source.new sink.new) }
     ensures last { IfOk result (EndsAtLast (whole_rules (relation_handlers relations.now))
@@ -105,7 +115,8 @@ fn serve_at_desk<R: Wait, S: Source, K: Sink>(
     ensures complete { IsComplete relations.now turn_limit result (S.left source.old)
         (counts_of S.reads S.faults K.faults source.old sink.old)
         (counts_of S.reads S.faults K.faults source.new sink.new) }
-    ensures reads { ReadsGaveBytes (S.left source.old) (S.left source.new) (S.reads source.old) (S.reads source.new) }
+    ensures reads { ReadsGaveBytes (S.left source.old) (S.left source.new) (S.reads source.old)
+        (S.reads source.new) }
     ensures same { IsSameConnection handle.old handle.new }
 {
     let mut desk = HandleDesk {

@@ -32,8 +32,9 @@ const TURNS: u64 = 1 << 63;
 /// How many bytes of replies are kept at most.
 const GREATEST_LENGTH: usize = 4_294_967_295;
 
-/// Serves the generated load, and writes four lines that count it. The replies are kept for that: some 6 MB of ten
-/// thousand relations. Of more than 4,294,967,295 bytes, which no load comes near, it tells that memory ran out.
+/// Serves the generated load, and writes four lines that count it. The replies are kept for that:
+/// some 6 MB of ten thousand relations. Of more than 4,294,967,295 bytes, which no load comes near,
+/// it tells that memory ran out.
 pub(crate) fn show_demo<R: Wait, K: Sink>(
     rt: &R,
     alloc: Global,
@@ -46,8 +47,10 @@ pub(crate) fn show_demo<R: Wait, K: Sink>(
     requires few { load.count ≤ 10000 }
     ensures shown { (file client : Option (List ℕ)) (faults reads read_faults : ℕ)
         → HasShown manager.now load result.0 result.1
-        (surroundings file faults client (K.written out.old) (counts reads read_faults (K.faults out.old)) door.old.seen)
-        (surroundings file faults client (K.written out.new) (counts reads read_faults (K.faults out.new)) door.new.seen) }
+        (surroundings file faults client (K.written out.old)
+        (counts reads read_faults (K.faults out.old)) door.old.seen)
+        (surroundings file faults client (K.written out.new)
+        (counts reads read_faults (K.faults out.new)) door.new.seen) }
     ensures never_falls { K.faults out.old ≤ K.faults out.new }
     ensures issued { door.new.issuer ≡ door.old.issuer }
 {
@@ -78,7 +81,8 @@ fn serve_demo<R: Wait, K: Sink>(
     out: &mut K,
 ) -> (Outcome, Option<Note>)
     requires issued { handle.issuer ≡ manager.now }
-    ensures counted { HasCounted handle relations.now count client result.0 result.1 (K.written out.old) (K.written out.new)
+    ensures counted { HasCounted handle relations.now count client result.0 result.1
+        (K.written out.old) (K.written out.new)
         (K.faults out.old) (K.faults out.new) }
     ensures never_falls { K.faults out.old ≤ K.faults out.new }
 {
@@ -99,7 +103,8 @@ fn serve_demo<R: Wait, K: Sink>(
     (outcome, Some(note))
 }
 
-/// Tells of a conversation that came to its end. With so many turns and no faults, only want of memory gives one up.
+/// Tells of a conversation that came to its end. With so many turns and no faults, only want of
+/// memory gives one up.
 fn tell_end<K: Sink>(
     alloc: Global,
     answer: Result<EndKind, ServeError>,
@@ -108,7 +113,8 @@ fn tell_end<K: Sink>(
     replies: &[u8],
     out: &mut K,
 ) -> Outcome
-    ensures ended { IsOk answer → (messages : List PgWireBackendMessage) → replies.now ≡ replies_bytes messages
+    ensures ended { IsOk answer → (messages : List PgWireBackendMessage)
+        → replies.now ≡ replies_bytes messages
         → HasTold result (demo_lines count (row_count messages) client (length replies.now))
         (K.written out.old) (K.written out.new) (K.faults out.old) (K.faults out.new) }
     ensures given_up { IsErr answer → (result ≡ Outcome.Conversation (Err ServeError.NoMemory))
@@ -162,7 +168,8 @@ fn lines(
 
 /// Writes the lines.
 fn write_lines<K: Sink>(lines: &str, out: &mut K) -> Outcome
-    ensures told { HasTold result lines.now (K.written out.old) (K.written out.new) (K.faults out.old) (K.faults out.new) }
+    ensures told { HasTold result lines.now (K.written out.old) (K.written out.new)
+        (K.faults out.old) (K.faults out.new) }
     ensures never_falls { K.faults out.old ≤ K.faults out.new }
 {
     match out.send(lines.as_bytes()) {

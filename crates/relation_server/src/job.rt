@@ -22,8 +22,8 @@ use relation_handlers::RelationTable;
 use std::alloc::Global;
 use std::sync::{Arc, Wait};
 
-/// The service of a connection over relations: the registry that it is registered at, the relations, the connection,
-/// its client's bytes, where the replies go, and how many turns it has.
+/// The service of a connection over relations: the registry that it is registered at, the
+/// relations, the connection, its client's bytes, where the replies go, and how many turns it has.
 #[derive(Drop)]
 pub struct ConnectionJob<S, K> {
     /// The registry.
@@ -45,23 +45,32 @@ impl<S: Source, K: Sink> ConnectionJob<S, K> {
     /// Serves the connection, as [`serve_relations`] does.
     pub fn serve<R: Wait>(&mut self, rt: &R, alloc: Global) -> Result<EndKind, ServeError>
         ensures went { (made : List Entry) × (self.new.handle.mine ≡ self.old.handle.mine ++ made)
-            × WentByTables (arc_value self.old.relations) (self.old.handle.pid, self.old.handle.key) result
-            (S.left self.old.source) (S.left self.new.source) (K.written self.old.sink) (K.written self.new.sink)
+            × WentByTables (arc_value self.old.relations) (
+              self.old.handle.pid,
+              self.old.handle.key,
+            ) result
+            (S.left self.old.source) (S.left self.new.source) (K.written self.old.sink)
+            (K.written self.new.sink)
             (desk_calls made) }
         ensures cause { HasCause result self.old.turn_limit
             (questions_since (desk_calls self.old.handle.mine) (desk_calls self.new.handle.mine))
             (counts_of S.reads S.faults K.faults self.old.source self.old.sink)
             (counts_of S.reads S.faults K.faults self.new.source self.new.sink) }
-        ensures calm { OnOk result (IsCalm (counts_of S.reads S.faults K.faults self.old.source self.old.sink)
+        ensures calm { OnOk result (IsCalm
+            (counts_of S.reads S.faults K.faults self.old.source self.old.sink)
             (counts_of S.reads S.faults K.faults self.new.source self.new.sink)) }
-        ensures never_falls { FaultsNeverFall (counts_of S.reads S.faults K.faults self.old.source self.old.sink)
-            (counts_of S.reads S.faults K.faults self.new.source self.new.sink) }
-        ensures complete { IsComplete (arc_value self.old.relations) self.old.turn_limit result (S.left self.old.source)
+        ensures never_falls { FaultsNeverFall
             (counts_of S.reads S.faults K.faults self.old.source self.old.sink)
             (counts_of S.reads S.faults K.faults self.new.source self.new.sink) }
-        ensures reads { ReadsGaveBytes (S.left self.old.source) (S.left self.new.source) (S.reads self.old.source)
+        ensures complete { IsComplete (arc_value self.old.relations) self.old.turn_limit result
+            (S.left self.old.source)
+            (counts_of S.reads S.faults K.faults self.old.source self.old.sink)
+            (counts_of S.reads S.faults K.faults self.new.source self.new.sink) }
+        ensures reads { ReadsGaveBytes (S.left self.old.source) (S.left self.new.source)
+            (S.reads self.old.source)
             (S.reads self.new.source) }
-        ensures kept { (self.new.relations ≡ self.old.relations) × (self.new.turn_limit ≡ self.old.turn_limit) }
+        ensures kept { (self.new.relations ≡ self.old.relations)
+            × (self.new.turn_limit ≡ self.old.turn_limit) }
         ensures same { IsSameConnection self.old.handle self.new.handle }
         ensures seen { IsPrefix self.old.handle.seen self.new.handle.seen }
         ensures legal { IsLegal self.new.handle.seen }
@@ -79,11 +88,12 @@ impl<S: Source, K: Sink> ConnectionJob<S, K> {
         )
     }
 
-    /// Serves the connection and then ends its registration. It hands back what the service came to, the source, the
-    /// sink, and what the connection had seen of the registry's history. Where memory ran out before the registration
-    /// was ended, it stays.
+    /// Serves the connection and then ends its registration. It hands back what the service came
+    /// to, the source, the sink, and what the connection had seen of the registry's history. Where
+    /// memory ran out before the registration was ended, it stays.
     pub fn run<R: Wait>(self, rt: &R, alloc: Global) -> (Result<EndKind, ServeError>, S, K, Note)
-        ensures conversed { HasConversed self.handle (arc_value self.relations) self.turn_limit result.0
+        ensures conversed { HasConversed self.handle (arc_value self.relations) self.turn_limit
+            result.0
             (S.left self.source) (S.left result.1) (K.written self.sink) (K.written result.2)
             (counts_of S.reads S.faults K.faults self.source self.sink)
             (counts_of S.reads S.faults K.faults result.1 result.2) result.3 }
@@ -110,8 +120,8 @@ impl<S: Source, K: Sink> ConnectionJob<S, K> {
     }
 }
 
-/// Serves a connection and then ends its registration. It hands back what the service came to, and what the connection
-/// had seen of the registry's history.
+/// Serves a connection and then ends its registration. It hands back what the service came to, and
+/// what the connection had seen of the registry's history.
 pub(crate) fn serve_and_leave<R: Wait, S: Source, K: Sink>(
     rt: &R,
     alloc: Global,

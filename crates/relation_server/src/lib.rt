@@ -1,5 +1,5 @@
-//! The server of relations of intervals: clients through the shared registry, each connection as a job for a thread of its
-//! own, and the program.
+//! The server of relations of intervals: clients through the shared registry, each connection as a
+//! job for a thread of its own, and the program.
 #![tactic(auto)]
 
 mod connection;

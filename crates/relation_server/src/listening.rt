@@ -30,12 +30,13 @@ pub enum ListenError {
     NoMemory,
 }
 
-/// Accepts connections, registers each under the next pid, from 1 on, and starts its job. It ends after so many
-/// connections, or after the one with the greatest pid, and answers their number. It reads no byte of a connection.
+/// Accepts connections, registers each under the next pid, from 1 on, and starts its job. It ends
+/// after so many connections, or after the one with the greatest pid, and answers their number. It
+/// reads no byte of a connection.
 ///
-/// AcceptFault comes where a connection could not be accepted, SpawnFault where a job could not be started, PidTaken
-/// where the next pid has a live registration, NoMemory where memory ran out. A connection that was accepted then is
-/// dropped, and the jobs that were started go on.
+/// AcceptFault comes where a connection could not be accepted, SpawnFault where a job could not be
+/// started, PidTaken where the next pid has a live registration, NoMemory where memory ran out. A
+/// connection that was accepted then is dropped, and the jobs that were started go on.
 pub fn listen<R: Wait, A: Acceptor, P: Spawner<ConnectionJob<A::In, A::Out>>, G: KeySource>(
     rt: &R,
     acceptor: &mut A,
@@ -55,9 +56,10 @@ pub fn listen<R: Wait, A: Acceptor, P: Spawner<ConnectionJob<A::In, A::Out>>, G:
         (taking_of A.accepted A.faults P.started P.faults acceptor.new spawner.new)
         door.old.seen door.new.seen }
 
-    // A pid is taken exactly where the door gained Registers of the pids from 1 on, of which the last is its last entry
-    // and was answered so, and the others were answered Registered.
-    ensures exactly { (m : ℕ) → (result ≡ Err (ListenError.PidTaken m)) ↔ IsRefusedAt m door.old.seen door.new.seen }
+    // A pid is taken exactly where the door gained Registers of the pids from 1 on, of which the
+    // last is its last entry and was answered so, and the others were answered Registered.
+    ensures exactly { (m : ℕ) → (result ≡ Err (ListenError.PidTaken m))
+        ↔ IsRefusedAt m door.old.seen door.new.seen }
     ensures never_falls { NeverFalls
         (taking_of A.accepted A.faults P.started P.faults acceptor.old spawner.old)
         (taking_of A.accepted A.faults P.started P.faults acceptor.new spawner.new) }

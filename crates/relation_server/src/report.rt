@@ -13,10 +13,11 @@ use std::alloc::Global;
 const USAGE: &str =
     "usage: relation_server serve FILE PID KEY [TURNS], demo SEED N, listen tcp PORT FILE [COUNT], listen unix PATH FILE [COUNT]\n";
 
-/// Writes the line of an outcome, where there is one, and answers its status, or that of no memory where the line or
-/// the sink finds none.
+/// Writes the line of an outcome, where there is one, and answers its status, or that of no memory
+/// where the line or the sink finds none.
 pub(crate) fn report<E: Sink>(alloc: Global, outcome: &Outcome, err: &mut E) -> u8
-    ensures reported { IsReported (status_of outcome.now) (line_of outcome.now) result (E.written err.old)
+    ensures reported { IsReported (status_of outcome.now) (line_of outcome.now) result
+        (E.written err.old)
         (E.written err.new) (E.faults err.old) (E.faults err.new) }
     ensures never_falls { E.faults err.old ≤ E.faults err.new }
 {

@@ -23,21 +23,25 @@ use std::sync::Wait;
 
 /// The program over one client. The words are a command:
 ///
-/// - `serve FILE PID KEY [TURNS]` reads the relation file from `file`, registers PID and KEY, serves the client's bytes
-///   with the replies to `out`, and ends the registration. PID is 1 to 2147483647, KEY eight hexadecimal digits, and
-///   TURNS 1 to 18446744073709551615, by default 1000000000.
-/// - `demo SEED N` generates N relations from SEED and a client that runs each, serves it under pid 1 and key 00000000
-///   with 2^63 turns, and writes four lines to `out`: `relations N`, `rows R` (rows that were sent), `in B` and `out C`
-///   (bytes of the client and of the replies). SEED is 0 to 18446744073709551615, and N 0 to 10000.
+/// - `serve FILE PID KEY [TURNS]` reads the relation file from `file`, registers PID and KEY,
+///   serves the client's bytes with the replies to `out`, and ends the registration. PID is 1 to
+///   2147483647, KEY eight hexadecimal digits, and TURNS 1 to 18446744073709551615, by default
+///   1000000000.
+/// - `demo SEED N` generates N relations from SEED and a client that runs each, serves it under pid
+///   1 and key 00000000 with 2^63 turns, and writes four lines to `out`: `relations N`, `rows R`
+///   (rows that were sent), `in B` and `out C` (bytes of the client and of the replies). SEED is 0
+///   to 18446744073709551615, and N 0 to 10000.
 ///
-/// The status is 0 where the client sent Terminate or a CancelRequest or its input ended, or the demo's lines were
-/// written; 2 where the words are no command; 3 where the file is refused; 4 where a read of the client failed; 5 where a
-/// write failed; 6 where the turns were spent; 7 where memory ran out; 8 where the pid has a live registration; 9 where a
-/// read of the file failed; 10 at a bad frame; 11 at a fatal error. Each but 0 is told by a line on `err`. A write to
-/// `err` that fails changes no status; where it finds no memory, the status is 7.
+/// The status is 0 where the client sent Terminate or a CancelRequest or its input ended, or the
+/// demo's lines were written; 2 where the words are no command; 3 where the file is refused; 4
+/// where a read of the client failed; 5 where a write failed; 6 where the turns were spent; 7 where
+/// memory ran out; 8 where the pid has a live registration; 9 where a read of the file failed; 10
+/// at a bad frame; 11 at a fatal error. Each but 0 is told by a line on `err`. A write to `err`
+/// that fails changes no status; where it finds no memory, the status is 7.
 ///
-/// Beside the status stands what the connection had seen of the registry's history, None exactly where no registration
-/// was made. Where memory ran out before the registration was ended, it stays.
+/// Beside the status stands what the connection had seen of the registry's history, None exactly
+/// where no registration was made. Where memory ran out before the registration was ended, it
+/// stays.
 pub fn run<R: Wait, F: Source, S: Source, K: Sink, E: Sink>(
     rt: &R,
     alloc: Global,
@@ -51,13 +55,18 @@ pub fn run<R: Wait, F: Source, S: Source, K: Sink, E: Sink>(
 ) -> (u8, Option<Note>)
     requires issued { door.old.issuer ≡ manager.now }
     ensures ran { (outcome : Outcome) × HasRun manager.now (command_of words.now) outcome result.1
-        (surroundings_of F.left F.faults S.left S.reads S.faults K.written K.faults file.old client.old out.old door.old.seen)
-        (surroundings_of F.left F.faults S.left S.reads S.faults K.written K.faults file.new client.new out.new door.new.seen)
-        × IsReported (status_of outcome) (line_of outcome) result.0 (E.written err.old) (E.written err.new)
+        (surroundings_of F.left F.faults S.left S.reads S.faults K.written K.faults file.old
+        client.old out.old door.old.seen)
+        (surroundings_of F.left F.faults S.left S.reads S.faults K.written K.faults file.new
+        client.new out.new door.new.seen)
+        × IsReported (status_of outcome) (line_of outcome) result.0 (E.written err.old)
+        (E.written err.new)
         (E.faults err.old) (E.faults err.new) }
     ensures complete { IsRunComplete (command_of words.now) result.0
-        (surroundings_of F.left F.faults S.left S.reads S.faults K.written K.faults file.old client.old out.old door.old.seen)
-        (surroundings_of F.left F.faults S.left S.reads S.faults K.written K.faults file.new client.new out.new door.new.seen) }
+        (surroundings_of F.left F.faults S.left S.reads S.faults K.written K.faults file.old
+        client.old out.old door.old.seen)
+        (surroundings_of F.left F.faults S.left S.reads S.faults K.written K.faults file.new
+        client.new out.new door.new.seen) }
     ensures file_never_falls { F.faults file.old ≤ F.faults file.new }
     ensures never_falls { FaultsNeverFall (counts_of S.reads S.faults K.faults client.old out.old)
         (counts_of S.reads S.faults K.faults client.new out.new) }
@@ -81,8 +90,10 @@ fn carry_out<R: Wait, F: Source, S: Source, K: Sink>(
 ) -> (Outcome, Option<Note>)
     requires issued { door.old.issuer ≡ manager.now }
     ensures ran { HasRun manager.now (command_of words.now) result.0 result.1
-        (surroundings_of F.left F.faults S.left S.reads S.faults K.written K.faults file.old client.old out.old door.old.seen)
-        (surroundings_of F.left F.faults S.left S.reads S.faults K.written K.faults file.new client.new out.new door.new.seen) }
+        (surroundings_of F.left F.faults S.left S.reads S.faults K.written K.faults file.old
+        client.old out.old door.old.seen)
+        (surroundings_of F.left F.faults S.left S.reads S.faults K.written K.faults file.new
+        client.new out.new door.new.seen) }
     ensures file_never_falls { F.faults file.old ≤ F.faults file.new }
     ensures never_falls { FaultsNeverFall (counts_of S.reads S.faults K.faults client.old out.old)
         (counts_of S.reads S.faults K.faults client.new out.new) }
@@ -110,8 +121,10 @@ fn serve_file<R: Wait, F: Source, S: Source, K: Sink>(
 ) -> (Outcome, Option<Note>)
     requires issued { door.old.issuer ≡ manager.now }
     ensures served { HasServedFile manager.now service result.0 result.1
-        (surroundings_of F.left F.faults S.left S.reads S.faults K.written K.faults file.old client.old out.old door.old.seen)
-        (surroundings_of F.left F.faults S.left S.reads S.faults K.written K.faults file.new client.new out.new door.new.seen) }
+        (surroundings_of F.left F.faults S.left S.reads S.faults K.written K.faults file.old
+        client.old out.old door.old.seen)
+        (surroundings_of F.left F.faults S.left S.reads S.faults K.written K.faults file.new
+        client.new out.new door.new.seen) }
     ensures file_never_falls { F.faults file.old ≤ F.faults file.new }
     ensures never_falls { FaultsNeverFall (counts_of S.reads S.faults K.faults client.old out.old)
         (counts_of S.reads S.faults K.faults client.new out.new) }
@@ -135,9 +148,12 @@ fn serve_table<R: Wait, S: Source, K: Sink>(
     out: &mut K,
 ) -> (Outcome, Option<Note>)
     requires issued { door.old.issuer ≡ manager.now }
-    ensures served { (left new_left : Option (List ℕ)) (faults new_faults : ℕ) → HasServed manager.now service relations.now result.0 result.1
-        (surroundings left faults (S.left client.old) (K.written out.old) (counts_of S.reads S.faults K.faults client.old out.old) door.old.seen)
-        (surroundings new_left new_faults (S.left client.new) (K.written out.new) (counts_of S.reads S.faults K.faults client.new out.new) door.new.seen) }
+    ensures served { (left new_left : Option (List ℕ)) (faults new_faults : ℕ)
+        → HasServed manager.now service relations.now result.0 result.1
+        (surroundings left faults (S.left client.old) (K.written out.old)
+        (counts_of S.reads S.faults K.faults client.old out.old) door.old.seen)
+        (surroundings new_left new_faults (S.left client.new) (K.written out.new)
+        (counts_of S.reads S.faults K.faults client.new out.new) door.new.seen) }
     ensures never_falls { FaultsNeverFall (counts_of S.reads S.faults K.faults client.old out.old)
         (counts_of S.reads S.faults K.faults client.new out.new) }
     ensures issued { door.new.issuer ≡ door.old.issuer }

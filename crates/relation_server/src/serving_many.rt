@@ -26,15 +26,17 @@ use std::sync::{Arc, Wait};
 /// How many turns each client has.
 const TURNS: u64 = 1_000_000_000;
 
-/// The program over many clients. The words are `listen tcp PORT FILE [COUNT]` or `listen unix PATH FILE [COUNT]`: it
-/// reads the relation file from `file`, and then takes in COUNT connections, or as many as there are pids, each under
-/// the next pid from 1 on and with 1,000,000,000 turns, by [`listen`]. PORT is 1 to 65535, PATH isn't empty, and COUNT
-/// is 0 to 10000. What the acceptor listens to is for the caller to choose, by [`listen_place`].
+/// The program over many clients. The words are `listen tcp PORT FILE [COUNT]` or `listen unix PATH
+/// FILE [COUNT]`: it reads the relation file from `file`, and then takes in COUNT connections, or
+/// as many as there are pids, each under the next pid from 1 on and with 1,000,000,000 turns, by
+/// [`listen`]. PORT is 1 to 65535, PATH isn't empty, and COUNT is 0 to 10000. What the acceptor
+/// listens to is for the caller to choose, by [`listen_place`].
 ///
-/// The status is 0 after COUNT connections; 2 where the words are others; 3 where the file is refused; 7 where memory
-/// ran out; 8 where the next pid has a live registration; 9 where a read of the file failed; 12 where a connection could
-/// not be accepted; 13 where the job of a connection could not be started. Each but 0 is told by a line on `err`. A
-/// write to `err` that fails changes no status; where it finds no memory, the status is 7.
+/// The status is 0 after COUNT connections; 2 where the words are others; 3 where the file is
+/// refused; 7 where memory ran out; 8 where the next pid has a live registration; 9 where a read of
+/// the file failed; 12 where a connection could not be accepted; 13 where the job of a connection
+/// could not be started. Each but 0 is told by a line on `err`. A write to `err` that fails changes
+/// no status; where it finds no memory, the status is 7.
 ///
 /// [`listen_place`]: relation_words::listen_place
 pub fn run_listen<
@@ -64,7 +66,8 @@ pub fn run_listen<
         (taking_of A.accepted A.faults P.started P.faults acceptor.old spawner.old) door.old.seen)
         (listen_surroundings (F.left file.new) (F.faults file.new)
         (taking_of A.accepted A.faults P.started P.faults acceptor.new spawner.new) door.new.seen)
-        × IsReported (status_of outcome) (line_of outcome) result (E.written err.old) (E.written err.new)
+        × IsReported (status_of outcome) (line_of outcome) result (E.written err.old)
+        (E.written err.new)
         (E.faults err.old) (E.faults err.new) }
     ensures never_falls { NeverFalls
         (taking_of A.accepted A.faults P.started P.faults acceptor.old spawner.old)

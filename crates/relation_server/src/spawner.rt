@@ -11,15 +11,16 @@ use std::sync::{Arc, Condvar, Mutex, Wait};
 use std::thread::{Builder, Promise, Threads};
 use std::time::{Clock, Duration};
 
-/// The bytes of a thread's stack. Without a size a thread would reserve what the C library gives, mostly 8 MiB.
+/// The bytes of a thread's stack. Without a size a thread would reserve what the C library gives,
+/// mostly 8 MiB.
 const STACK: usize = 512 * 1024;
 
-/// How many milliseconds are waited before a thread is tried again. Meanwhile the thread of a job that has ended goes too,
-/// and a want of memory may pass.
+/// How many milliseconds are waited before a thread is tried again. Meanwhile the thread of a job
+/// that has ended goes too, and a want of memory may pass.
 const PAUSE: u64 = 100;
 
-/// How many tries in turn fail while no job runs, until a job is dropped. So one refused allocation is waited out, and a
-/// failure that stays is told.
+/// How many tries in turn fail while no job runs, until a job is dropped. So one refused allocation
+/// is waited out, and a failure that stays is told.
 const TRIES: u64 = 5;
 
 /// How many jobs run, and how many have ended, wrapping.
@@ -59,7 +60,8 @@ impl Running {
         self.changed.notify_all();
     }
 
-    /// Waits until another number of jobs has ended than this, or none runs. It answers whether one has ended.
+    /// Waits until another number of jobs has ended than this, or none runs. It answers whether one
+    /// has ended.
     fn wait_for_end<R: Wait>(&self, rt: &R, ended: u64) -> bool {
         let jobs = self.changed.wait_while(rt, self.jobs.lock(rt), |jobs| {
             jobs.running > 0 && jobs.ended == ended
@@ -114,8 +116,8 @@ impl JobThreads {
         self.share_with_stack(self.stack)
     }
 
-    /// The same threads, for another owner, whose threads have so many bytes of stack. With more than there can be, no
-    /// thread can be started.
+    /// The same threads, for another owner, whose threads have so many bytes of stack. With more
+    /// than there can be, no thread can be started.
     pub fn share_with_stack(&self, stack: usize) -> Result<JobThreads, AllocError> {
         Ok(JobThreads {
             alloc: self.alloc,
@@ -124,13 +126,13 @@ impl JobThreads {
         })
     }
 
-    /// Starts a thread that runs a job, and doesn't wait for it. Where no thread can be made, it waits until one of the
-    /// jobs that run has ended and tries again. Where none runs, it tries again every 100 milliseconds, and drops the
-    /// job behind the fifth such try in turn that fails. The answer tells how many tries failed, and whether the job
-    /// was dropped.
+    /// Starts a thread that runs a job, and doesn't wait for it. Where no thread can be made, it
+    /// waits until one of the jobs that run has ended and tries again. Where none runs, it tries
+    /// again every 100 milliseconds, and drops the job behind the fifth such try in turn that
+    /// fails. The answer tells how many tries failed, and whether the job was dropped.
     ///
-    /// A job that has ended leaves nothing behind: its sockets, its buffers and what its service came to are dropped on
-    /// its thread, which then ends. Nobody joins it.
+    /// A job that has ended leaves nothing behind: its sockets, its buffers and what its service
+    /// came to are dropped on its thread, which then ends. Nobody joins it.
     pub fn start<R: Threads + Wait + Clock + Copy + Send + 'static>(
         &self,
         rt: R,
@@ -188,8 +190,8 @@ impl JobThreads {
         }
     }
 
-    /// Waits until each job that was started has ended: its client was served, and, but where memory ran out, its
-    /// registration given back. It waits for as long as a client stays.
+    /// Waits until each job that was started has ended: its client was served, and, but where
+    /// memory ran out, its registration given back. It waits for as long as a client stays.
     pub fn finish<R: Wait>(&self, rt: &R) {
         self.running.wait(rt);
     }
@@ -219,9 +221,10 @@ fn run_to_end<R: Wait>(
 /// How a job is started.
 pub type StartJob = Box<dyn Fn(ConnectionJob<MaybeTls, MaybeTls>) -> Tries + Drop>;
 
-/// A spawner of the jobs of sockets. How it starts one is its maker's choice: by [`JobThreads::start`], say, for which
-/// the maker needs the leave to start threads. Each try that failed is counted, also those of a job that was started in
-/// the end. It keeps the threads, for whoever waits for them in the end.
+/// A spawner of the jobs of sockets. How it starts one is its maker's choice: by
+/// [`JobThreads::start`], say, for which the maker needs the leave to start threads. Each try that
+/// failed is counted, also those of a job that was started in the end. It keeps the threads, for
+/// whoever waits for them in the end.
 #[derive(Drop)]
 pub struct ThreadSpawner<T> {
     /// The threads.
@@ -277,7 +280,8 @@ fn may_be_sent<T: Send>() {}
 
 fn may_be_shared<T: Send + Sync>() {}
 
-/// Threads may share a registry and relations, and the job of a connection may be sent to another thread.
+/// Threads may share a registry and relations, and the job of a connection may be sent to another
+/// thread.
 pub fn jobs_cross_threads() {
     may_be_shared::<ConnectionManager>();
     may_be_shared::<RelationTable>();

@@ -30,7 +30,8 @@ runs-append : (a b : List PgWireFrontendMessage) → runs (a ++ b) ≡ runs a + 
 runs-append [] b = omega arith
 runs-append (m ∷ a) b = one_more (is_run_message m) (runs (a ++ b)) (runs a) (runs b) (runs-append a b)
   where
-    one_more : (runs_it : Bool) (whole front others : ℕ) → whole ≡ front + others → cond runs_it (whole + 1) whole ≡ cond runs_it (front + 1) front + others
+    one_more : (runs_it : Bool) (whole front others : ℕ) → whole ≡ front + others
+        → cond runs_it (whole + 1) whole ≡ cond runs_it (front + 1) front + others
     one_more true whole front others e = omega arith
     one_more false whole front others e = e
 
@@ -61,9 +62,14 @@ record IsTaken (relations : List Relation) (s : State RelationStatement) (text r
   next : Next (State RelationStatement)
   all : text ≡ taken ++ rest
   division : DividesInto true taken messages unfinished
-  answered : conversation (whole_table (relation_handlers relations)) (answers_of calls) s messages ≡ record { replies = replies; calls = calls; next = next }
+  answered : conversation (whole_table (relation_handlers relations)) (answers_of calls) s messages ≡ record {
+    replies = replies;
+    calls = calls;
+    next = next;
+  }
 
-asked_within : (relations : List Relation) (s : State RelationStatement) (text rest : List ℕ) (calls : List DeskCall) → IsTaken relations s text rest calls
+asked_within : (relations : List Relation) (s : State RelationStatement) (text rest : List ℕ) (calls : List DeskCall)
+    → IsTaken relations s text rest calls
     → (messages : List PgWireFrontendMessage) (last : List ℕ) → DividesInto true text messages last → HasNoFrame messages last
     → questions calls ≤ runs messages * most_unready relations
 asked_within relations s text rest calls t messages last d h =
@@ -71,13 +77,16 @@ asked_within relations s text rest calls t messages last d h =
     subst (λ (k : List DeskCall). questions k ≤ runs t.messages * most_unready relations) (ap (λ a. a.calls) t.answered)
     (few_questions relations (answers_of calls) s t.messages) in
     let kept : DividesInto true text t.messages (t.unfinished ++ rest) =
-    subst (λ x. DividesInto true x t.messages (t.unfinished ++ rest)) (sym t.all) (division_kept t.messages true t.taken t.unfinished rest t.division) in
+    subst (λ x. DividesInto true x t.messages (t.unfinished ++ rest)) (sym t.all)
+    (division_kept t.messages true t.taken t.unfinished rest t.division) in
     let front = runs_of_front text t.messages messages (t.unfinished ++ rest) last kept d h in
     let more = mul-le (runs t.messages) (most_unready relations) (runs messages) (most_unready relations) front (omega arith) in
     omega (arith, asked, more)
 
-taken_by_run : (relations : List Relation) (registration : ℤ × List ℕ) (text : List ℕ) (new_left old new : Option (List ℕ)) (calls : List DeskCall)
-    → IsRunOfTaken (whole_rules (relation_handlers relations)) (first_state registration.0 registration.1) (Some text) new_left old new calls
+taken_by_run : (relations : List Relation) (registration : ℤ
+    × List ℕ) (text : List ℕ) (new_left old new : Option (List ℕ)) (calls : List DeskCall)
+    → IsRunOfTaken (whole_rules (relation_handlers relations)) (first_state registration.0 registration.1) (Some text) new_left old new
+    calls
     → (rest : List ℕ) × IsTaken relations (first_state registration.0 registration.1) text rest calls
 taken_by_run relations registration text new_left old new calls x = (
   x.1.0,
@@ -93,8 +102,10 @@ taken_by_run relations registration text new_left old new calls x = (
   },
 )
 
-taken_by_stopped_run : (relations : List Relation) (registration : ℤ × List ℕ) (text : List ℕ) (new_left old new : Option (List ℕ)) (calls : List DeskCall)
-    → IsStoppedRunOfTaken (whole_rules (relation_handlers relations)) (first_state registration.0 registration.1) (Some text) new_left old new calls
+taken_by_stopped_run : (relations : List Relation) (registration : ℤ
+    × List ℕ) (text : List ℕ) (new_left old new : Option (List ℕ)) (calls : List DeskCall)
+    → IsStoppedRunOfTaken (whole_rules (relation_handlers relations)) (first_state registration.0 registration.1) (Some text) new_left old
+    new calls
     → (rest : List ℕ) × IsTaken relations (first_state registration.0 registration.1) text rest calls
 taken_by_stopped_run relations registration text new_left old new calls x = (
   x.1.0,
@@ -113,7 +124,8 @@ taken_by_stopped_run relations registration text new_left old new calls x = (
 -- ---- the clause
 
 -- the turns can't have been spent
-unspent : (before after turns asked most bytes rest : ℕ) → after + asked ≡ before + turns → after + rest ≤ before + bytes → asked ≤ most → bytes + 1 + most ≤ turns → ⊥
+unspent : (before after turns asked most bytes rest : ℕ) → after + asked ≡ before + turns → after + rest ≤ before + bytes → asked ≤ most
+    → bytes + 1 + most ≤ turns → ⊥
 unspent before after turns asked most bytes rest spent gave few enough = absurd (omega arith)
 
 -- where nothing was read, nothing was counted
@@ -122,15 +134,18 @@ none_gave None reads = tt
 none_gave (Some text) reads = (text, refl, omega arith)
 
 -- want of memory is no breach
-pub complete_at_want : (relations : List Relation) (turns : ℕ) (left : Option (List ℕ)) (before after : Counts) → IsComplete relations turns (Err fault.NoMemory) left before after
+pub complete_at_want : (relations : List Relation) (turns : ℕ) (left : Option (List ℕ)) (before after : Counts)
+    → IsComplete relations turns (Err fault.NoMemory) left before after
 complete_at_want relations turns None before after = tt
 complete_at_want relations turns (Some text) before after = λ messages rest d h enough fits sound. tt
 
-pub complete_serving : (relations : List Relation) (registration : ℤ × List ℕ) (turns : ℕ) (answer : Result EndKind ServeError) (left new_left old new : Option (List ℕ)) (calls : List DeskCall)
+pub complete_serving : (relations : List Relation) (registration : ℤ
+    × List ℕ) (turns : ℕ) (answer : Result EndKind ServeError) (left new_left old new : Option (List ℕ)) (calls : List DeskCall)
     (before after : Counts) → HasCause answer turns (questions calls) before after → ReadsGaveBytes left new_left before.reads after.reads
     → WentByWhole relations registration answer left new_left old new calls → IsComplete relations turns answer left before after
 complete_serving relations registration turns answer None new_left old new calls before after cause gave went = tt
-complete_serving relations registration turns (Ok kind) (Some text) new_left old new calls before after cause gave went = λ messages rest d h enough fits sound. tt
+complete_serving relations registration turns (Ok kind) (Some text) new_left old new calls before after cause gave went =
+    λ messages rest d h enough fits sound. tt
 complete_serving relations registration turns (Err fault.ReadFault) (Some text) new_left old new calls before after cause gave went =
     λ messages rest d h enough fits sound. absurd (sound (inl cause))
 complete_serving relations registration turns (Err fault.WriteFault) (Some text) new_left old new calls before after cause gave went =
@@ -141,20 +156,24 @@ complete_serving relations registration turns (Err fault.TurnLimit) (Some text) 
     λ messages rest d h enough fits sound.
     let t = taken_by_run relations registration text new_left old new calls went in
     let few = asked_within relations (first_state registration.0 registration.1) text t.0 calls t.1 messages rest d h in
-    unspent before.reads after.reads turns (questions calls) (runs messages * most_unready relations) (length text) (length gave.0) (cause fits) gave.2 few enough
+    unspent before.reads after.reads turns (questions calls) (runs messages * most_unready relations) (length text) (length gave.0)
+    (cause fits) gave.2 few enough
 complete_serving relations registration turns (Err fault.TurnLimit) (Some text) new_left old new calls before after cause gave (inr went) =
     λ messages rest d h enough fits sound.
     let t = taken_by_stopped_run relations registration text new_left old new calls went in
     let few = asked_within relations (first_state registration.0 registration.1) text t.0 calls t.1 messages rest d h in
-    unspent before.reads after.reads turns (questions calls) (runs messages * most_unready relations) (length text) (length gave.0) (cause fits) gave.2 few enough
+    unspent before.reads after.reads turns (questions calls) (runs messages * most_unready relations) (length text) (length gave.0)
+    (cause fits) gave.2 few enough
 
 -- the cause by the calls that were made
-pub cause_of_calls : (answer : Result EndKind ServeError) (turns : ℕ) (calls new_calls made : List DeskCall) (before after : Counts) → new_calls ≡ calls ++ made
+pub cause_of_calls : (answer : Result EndKind ServeError) (turns : ℕ) (calls new_calls made : List DeskCall) (before after : Counts)
+    → new_calls ≡ calls ++ made
     → HasCause answer turns (questions_since calls new_calls) before after → HasCause answer turns (questions made) before after
 cause_of_calls answer turns calls new_calls made before after grown cause =
     subst (λ (asked : ℕ). HasCause answer turns asked before after) (since_grown calls new_calls made grown) cause
 
 -- the same of equal relations
-pub complete_of_equal : {relations others : List Relation} (turns : ℕ) (answer : Result EndKind ServeError) (left : Option (List ℕ)) (before after : Counts) → relations ≡ others
+pub complete_of_equal : {relations others : List Relation} (turns : ℕ) (answer : Result EndKind ServeError) (left : Option (List ℕ))
+    (before after : Counts) → relations ≡ others
     → IsComplete relations turns answer left before after → IsComplete others turns answer left before after
 complete_of_equal turns answer left before after e x = subst (λ relations. IsComplete relations turns answer left before after) e x

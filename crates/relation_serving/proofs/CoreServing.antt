@@ -29,7 +29,8 @@ use Rattle.pg_messages.proofs.OneReading.{division_kept}
 speaks_front : (taken more : List ℕ) → SpeaksCore (taken ++ more) → SpeaksCore taken
 speaks_front taken more speaks messages rest divided = speaks messages (rest ++ more) (division_kept messages true taken rest more divided)
 
-answer_is : {T : Type 0} (a : Answer T) (replies : List PgWireBackendMessage) (calls : List DeskCall) → a.replies ≡ replies → a.calls ≡ calls
+answer_is : {T : Type 0} (a : Answer T) (replies : List PgWireBackendMessage) (calls : List DeskCall) → a.replies ≡ replies
+    → a.calls ≡ calls
     → a ≡ record { replies = replies; calls = calls; next = a.next }
 answer_is a replies calls r c = rw (sym r) (rw (sym c) refl)
 
@@ -86,7 +87,8 @@ module _ (relations : List Relation) (registration : ℤ × List ℕ) (even : Ha
           replied = x.fed.replied;
         };
         ended = ends_with x.next (core_answer (answers_of calls) messages).next x.rest kind
-            (subst (λ n. IsSameNext awaits core_awaits n (core_answer (answers_of calls) messages).next) (ap (λ a. a.next) x.fed.answered) same.next)
+            (subst (λ n. IsSameNext awaits core_awaits n (core_answer (answers_of calls) messages).next) (ap (λ a. a.next) x.fed.answered)
+            same.next)
             x.ended;
       }
 
@@ -111,7 +113,8 @@ module _ (relations : List Relation) (registration : ℤ × List ℕ) (even : Ha
       let messages = x.messages in
       let same = alike (answers_of calls) messages (speaks messages x.rest x.division) in
       let given = core_answer (answers_of calls) messages in
-      let is = answer_is given x.replies calls (sym same.replies ∙ ap (λ a. a.replies) x.answered) (sym same.calls ∙ ap (λ a. a.calls) x.answered) in
+      let is = answer_is given x.replies calls (sym same.replies ∙ ap (λ a. a.replies) x.answered) (sym same.calls
+      ∙ ap (λ a. a.calls) x.answered) in
       let last = stops (whole_answer (answers_of calls) messages).next given.next (ap (λ a. a.next) x.answered) same.next in
       record {
         messages = messages;
@@ -130,7 +133,8 @@ module _ (relations : List Relation) (registration : ℤ × List ℕ) (even : Ha
       → (rest : List ℕ) × (bytes ≡ taken ++ rest) × (new_left ≡ Some rest) → SpeaksCore taken
   taken_in bytes taken new_left speaks t = speaks_front taken t.0 (subst SpeaksCore t.1 speaks)
 
-  went : (answer : Result EndKind ServeError) (bytes : List ℕ) (new_left old new : Option (List ℕ)) (calls : List DeskCall) → SpeaksCore bytes
+  went : (answer : Result EndKind ServeError) (bytes : List ℕ) (new_left old new : Option (List ℕ)) (calls : List DeskCall)
+      → SpeaksCore bytes
       → WentByWhole relations registration answer (Some bytes) new_left old new calls
       → WentByCore relations registration answer (Some bytes) new_left old new calls
   went (Ok kind) bytes new_left old new calls speaks (text, is, (replies, grown, x)) =

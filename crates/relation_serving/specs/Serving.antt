@@ -25,16 +25,19 @@ setting_of relations registration = record { relations = relations; pid = regist
 -- The client speaks as the core table does: whatever frames its bytes begin with, a startup packet comes first, and behind it messages of
 -- the extended query, whose results are binary, up to Terminate.
 abbrev pub SpeaksCore : List ℕ → Type 0
-SpeaksCore text = (messages : List PgWireFrontendMessage) (rest : List ℕ) → DividesInto true text messages rest → IsCoreConversation messages
+SpeaksCore text = (messages : List PgWireFrontendMessage) (rest : List ℕ) → DividesInto true text messages rest
+    → IsCoreConversation messages
 
 -- what was written and called is the whole table's answer
-abbrev pub WentByWhole : List Relation → ℤ × List ℕ → Result EndKind ServeError → Option (List ℕ) → Option (List ℕ) → Option (List ℕ) → Option (List ℕ)
+abbrev pub WentByWhole : List Relation → ℤ × List ℕ → Result EndKind ServeError → Option (List ℕ) → Option (List ℕ) → Option (List ℕ)
+    → Option (List ℕ)
     → List DeskCall → Type 0
 WentByWhole relations registration answer left new_left old new calls =
     WentSo (whole_rules (relation_handlers relations)) (first_state registration.0 registration.1) answer left new_left old new calls
 
 -- what was written and called is the core table's answer
-abbrev pub WentByCore : List Relation → ℤ × List ℕ → Result EndKind ServeError → Option (List ℕ) → Option (List ℕ) → Option (List ℕ) → Option (List ℕ)
+abbrev pub WentByCore : List Relation → ℤ × List ℕ → Result EndKind ServeError → Option (List ℕ) → Option (List ℕ) → Option (List ℕ)
+    → Option (List ℕ)
     → List DeskCall → Type 0
 WentByCore relations registration answer left new_left old new calls =
     WentSo (core_rules (setting_of relations registration)) first_core_state answer left new_left old new calls

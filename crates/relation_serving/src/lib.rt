@@ -1,4 +1,5 @@
-//! A client of relations is served on any desk: the handlers of relations under the engine, and the built-in relations.
+//! A client of relations is served on any desk: the handlers of relations under the engine, and the
+//! built-in relations.
 #![tactic(auto)]
 
 mod built_in;

@@ -19,14 +19,15 @@ use relation_handlers::{RelationHandler, RelationTable};
 use std::alloc::Global;
 use std::sync::Arc;
 
-/// Serves a client over relations: takes its bytes from the source, and writes the answer to the sink, until the
-/// conversation ends. Simple and extended queries are answered, `COPY name TO STDOUT` too; COPY from the client is
-/// refused. A read that gives at least one byte or the end costs one turn, and so does each poll that finds a query
-/// unready.
+/// Serves a client over relations: takes its bytes from the source, and writes the answer to the
+/// sink, until the conversation ends. Simple and extended queries are answered, `COPY name TO
+/// STDOUT` too; COPY from the client is refused. A read that gives at least one byte or the end
+/// costs one turn, and so does each poll that finds a query unready.
 ///
-/// Ok tells how the conversation ended, with all of its replies written. ReadFault comes where a read failed, and the
-/// whole answer to the frames taken before is written; WriteFault where a write failed, TurnLimit where all turns were
-/// spent and one more was needed, NoMemory where memory ran out: then a front of the answer is written.
+/// Ok tells how the conversation ended, with all of its replies written. ReadFault comes where a
+/// read failed, and the whole answer to the frames taken before is written; WriteFault where a
+/// write failed, TurnLimit where all turns were spent and one more was needed, NoMemory where
+/// memory ran out: then a front of the answer is written.
 pub fn serve_relations_on<D: CancelDesk, S: Source, K: Sink>(
     alloc: Global,
     desk: &mut D,
@@ -36,11 +37,15 @@ pub fn serve_relations_on<D: CancelDesk, S: Source, K: Sink>(
     turn_limit: u64,
 ) -> Result<EndKind, ServeError>
 
-    // The bytes written and the new calls are the conversation tables' answer to the client's bytes, however cut.
-    ensures went { (calls : List DeskCall) × ((D.told desk.new).calls ≡ (D.told desk.old).calls ++ calls)
-        × WentByTables relations.now (D.told desk.old).registration result (S.left source.old) (S.left source.new)
+    // The bytes written and the new calls are the conversation tables' answer to the client's
+    // bytes, however cut.
+    ensures went { (calls : List DeskCall)
+        × ((D.told desk.new).calls ≡ (D.told desk.old).calls ++ calls)
+        × WentByTables relations.now (D.told desk.old).registration result (S.left source.old)
+        (S.left source.new)
         (K.written sink.old) (K.written sink.new) calls }
-    ensures cause { HasCause result turn_limit (questions_since (D.told desk.old).calls (D.told desk.new).calls)
+    ensures cause { HasCause result turn_limit
+        (questions_since (D.told desk.old).calls (D.told desk.new).calls)
         (counts_of S.reads S.faults K.faults source.old sink.old)
         (counts_of S.reads S.faults K.faults source.new sink.new) }
 
@@ -57,7 +62,8 @@ pub fn serve_relations_on<D: CancelDesk, S: Source, K: Sink>(
         (counts_of S.reads S.faults K.faults source.new sink.new)) }
     ensures never_falls { FaultsNeverFall (counts_of S.reads S.faults K.faults source.old sink.old)
         (counts_of S.reads S.faults K.faults source.new sink.new) }
-    ensures reads { ReadsGaveBytes (S.left source.old) (S.left source.new) (S.reads source.old) (S.reads source.new) }
+    ensures reads { ReadsGaveBytes (S.left source.old) (S.left source.new) (S.reads source.old)
+        (S.reads source.new) }
 
     ensures keeps { KeepsDesk (D.told desk.old) (D.told desk.new) }
     ensures source { S.origin source.new ≡ S.origin source.old }

@@ -245,7 +245,8 @@ module _ (waits : Bool) (setting : Setting) (s : State RelationStatement) (c : C
   staged : (answers : List Bool) (m : Execute) (p : TablePortal RelationStatement) (q : CorePortal) → HaveEvenRows setting.relations
       → fin.get s.portals m.name ≡ Some (entry.Value p) → p.bound.statement.statement ≡ q.means
       → IsBinaryIn p.bound.result_column_format (columns_of setting.relations q.means)
-      → (st : Stage) (x : RelationStatement) (b : Bool) → p.stage ≡ st → q.means ≡ x → StageAgrees setting.relations x st q.position q.delivered b
+      → (st : Stage) (x : RelationStatement) (b : Bool) → p.stage ≡ st → q.means ≡ x
+      → StageAgrees setting.relations x st q.position q.delivered b
       → AgreeCall waits setting (executed_portal (told_extended setting.relations) answers s m p st)
       (if b then core_executed_started setting c m q x else core_run setting answers c m q x)
   staged answers m p q even stored e binary Unstarted x false at is come =

@@ -1,4 +1,5 @@
-//! The law of both conversation tables. The function takes nothing and does nothing: its contract is the law.
+//! The law of both conversation tables. The function takes nothing and does nothing: its contract
+//! is the law.
 
 ghost use Rattle.std.specs.Prelude.{Bool, List};
 ghost use Rattle.pg_messages.specs.declared.frontend.PgWireFrontendMessage.{PgWireFrontendMessage};
@@ -10,9 +11,10 @@ ghost use Rattle.relation_tables.specs.Premises.{AreCore, IsCoreConversation, Ar
 ghost use Rattle.relation_tables.specs.RelationHandler.{relation_handlers};
 ghost use Rattle.relation_tables.specs.Relations.{HaveEvenRows};
 
-/// Over relations whose rows are as wide as their columns, messages of extended queries with binary results are
-/// answered alike by the whole table, whose handlers tell what those of relations tell, and by the core table; and
-/// so are the messages of a core conversation, whatever stands behind its end.
+/// Over relations whose rows are as wide as their columns, messages of extended queries with binary
+/// results are answered alike by the whole table, whose handlers tell what those of relations tell,
+/// and by the core table; and so are the messages of a core conversation, whatever stands behind
+/// its end.
 pub fn whole_is_core()
     ensures each { (setting : Setting) (answers : List Bool) (messages : List PgWireFrontendMessage)
         → HaveEvenRows setting.relations → AreCore messages

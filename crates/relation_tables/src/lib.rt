@@ -1,4 +1,5 @@
-//! Relations of intervals: what queries of them mean, what their handlers tell, and the core conversation table.
+//! Relations of intervals: what queries of them mean, what their handlers tell, and the core
+//! conversation table.
 #![tactic(auto)]
 
 mod laws;

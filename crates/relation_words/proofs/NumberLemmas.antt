@@ -29,16 +29,19 @@ unless : {A : Type 0} (b : Bool) (x : A) → (b ≡ true → ⊥) → ◌≡◌ 
 unless true x h = absurd (h refl)
 unless false x h = refl
 
-and_where : {A : Type 0} (b c : Bool) (x : A) (o : Option A) → b ≡ true → o ≡ (if c then Some x else None) → o ≡ (if b && c then Some x else None)
+and_where : {A : Type 0} (b c : Bool) (x : A) (o : Option A) → b ≡ true → o ≡ (if c then Some x else None)
+    → o ≡ (if b && c then Some x else None)
 and_where true c x o h e = e
 and_where false c x o h e = cc
 
-below : {E : Type 0} (P : Type 0) (top value : ℕ) (r : Result ℕ E) → P → OkIff r (P × (value < top)) value → result_ok r ≡ (if nat_lt value top then Some value else None)
+below : {E : Type 0} (P : Type 0) (top value : ℕ) (r : Result ℕ E) → P → OkIff r (P × (value < top)) value
+    → result_ok r ≡ (if nat_lt value top then Some value else None)
 below P top value (Ok x) p h = rw (lt-ltb value top h.0.1) (ap Some h.1)
 below P top value (Err e) p h = unless (nat_lt value top) value (λ lt. h (p, ltb-true value top lt))
 
 -- `parse` reads the number of a numeral
-pub result_ok-numeral : {E : Type 0} (word : List ℕ) (r : Result ℕ E) → ParsesUnsigned 64 10 word r → is_numeral word ≡ true → result_ok r ≡ number_of word
+pub result_ok-numeral : {E : Type 0} (word : List ℕ) (r : Result ℕ E) → ParsesUnsigned 64 10 word r → is_numeral word ≡ true
+    → result_ok r ≡ number_of word
 result_ok-numeral word r parses numeral =
     let front = and_left (not (length word == 0) && list_all is_ascii_digit word) (not (has_leading_zero word)) numeral in
     let some = filled word (and_left (not (length word == 0)) (list_all is_ascii_digit word) front) in

@@ -40,10 +40,10 @@ pub struct Load {
     pub count: u32,
 }
 
-/// The command that the words give: `serve FILE PID KEY [TURNS]` or `demo SEED N`. PID is 1 to 2147483647, KEY eight
-/// hexadecimal digits of either case, TURNS 1 to 18446744073709551615 and 1000000000 where it is left out, SEED 0 to
-/// 18446744073709551615, N 0 to 10000. Numbers are in decimal, without a sign or a leading zero. None is any other
-/// words.
+/// The command that the words give: `serve FILE PID KEY [TURNS]` or `demo SEED N`. PID is 1 to
+/// 2147483647, KEY eight hexadecimal digits of either case, TURNS 1 to 18446744073709551615 and
+/// 1000000000 where it is left out, SEED 0 to 18446744073709551615, N 0 to 10000. Numbers are in
+/// decimal, without a sign or a leading zero. None is any other words.
 pub fn read_command(words: &[PgStr]) -> Option<Command>
     ensures { result ≡ command_of words.now }
 {
@@ -74,7 +74,8 @@ pub(crate) fn read_service(words: &[PgStr]) -> Option<Service>
 
 /// The service under this pid and key, where the command is `serve` and each of the three is good.
 fn make_service(command: &str, pid: &str, key: &str, turns: Option<u64>) -> Option<Service>
-    ensures { result ≡ (if bytes_eq command.now (codes "serve") then service (pid_of pid.now) (key_of key.now) turns else None) }
+    ensures { result ≡ (if bytes_eq command.now (codes "serve") then service (pid_of pid.now)
+        (key_of key.now) turns else None) }
 {
     if command != "serve" {
         return None;
@@ -95,9 +96,11 @@ fn read_load(words: &[PgStr]) -> Option<Load>
     }
 }
 
-/// The load of this seed and so many relations, where the command is `demo` and both numbers are good.
+/// The load of this seed and so many relations, where the command is `demo` and both numbers are
+/// good.
 fn make_load(command: &str, seed: &str, count: &str) -> Option<Load>
-    ensures { result ≡ (if bytes_eq command.now (codes "demo") then load (seed_of seed.now) (count_of count.now) else None) }
+    ensures { result ≡ (if bytes_eq command.now (codes "demo") then load (seed_of seed.now)
+        (count_of count.now) else None) }
 {
     if command != "demo" {
         return None;

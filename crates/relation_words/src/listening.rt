@@ -24,16 +24,17 @@ struct Listening<'a> {
     count: Option<u64>,
 }
 
-/// Where the words order to listen: `listen tcp PORT FILE [COUNT]` or `listen unix PATH FILE [COUNT]`. PORT is 1 to
-/// 65535, PATH isn't empty, COUNT is 0 to 10000. Numbers are in decimal, without a sign or a leading zero. None is any
-/// other words.
+/// Where the words order to listen: `listen tcp PORT FILE [COUNT]` or `listen unix PATH FILE
+/// [COUNT]`. PORT is 1 to 65535, PATH isn't empty, COUNT is 0 to 10000. Numbers are in decimal,
+/// without a sign or a leading zero. None is any other words.
 pub fn listen_place<'a>(words: &'a [PgStr]) -> Option<ListenPlace<'a>>
     ensures { option_map told_place result ≡ listen_place_of words.now }
 {
     Some(read_listening(words)?.place)
 }
 
-/// COUNT of the same words, or `Some(None)` where they leave it out, so that there is no bound. None is any other words.
+/// COUNT of the same words, or `Some(None)` where they leave it out, so that there is no bound.
+/// None is any other words.
 pub fn listen_count(words: &[PgStr]) -> Option<Option<u64>>
     ensures { result ≡ listen_count_of words.now }
 {
@@ -71,7 +72,8 @@ fn make_listening<'a>(
     count: Option<Option<u64>>,
 ) -> Option<Listening<'a>>
     ensures { option_map told_listening result
-        ≡ (if bytes_eq command.now (codes "listen") then listening (place_of kind.now place.now) count else None) }
+        ≡ (if bytes_eq command.now (codes "listen") then listening (place_of kind.now place.now)
+        count else None) }
 {
     if command != "listen" {
         return None;

@@ -4,7 +4,8 @@ use crate::fault::Fault;
 use recording_text::{ReadError, Recording, read_recording, write_recording};
 use std::alloc::Global;
 
-/// What the reader answers to the bytes: `ok` where it reads a recording whose text they are, or its refusal.
+/// What the reader answers to the bytes: `ok` where it reads a recording whose text they are, or
+/// its refusal.
 pub fn read_answer(alloc: Global, bytes: &[u8]) -> Result<String, Fault> {
     match read_recording(alloc, bytes) {
         Ok(recording) => Ok(String::from_str(alloc, written_again(alloc, &recording, bytes)?)?),
@@ -32,8 +33,8 @@ fn written_again(
     }
 }
 
-/// What the reader answers to every front of the bytes but the whole, where that is the same; else the first that isn't
-/// `truncated`.
+/// What the reader answers to every front of the bytes but the whole, where that is the same; else
+/// the first that isn't `truncated`.
 pub fn fronts_answer(alloc: Global, bytes: &[u8]) -> Result<String, Fault> {
     for len in 0..bytes.len() {
         let answer = read_answer(alloc, &bytes[..len])?;

@@ -24,7 +24,8 @@ fn no_words(alloc: Global, error: io::Error) -> Result<PgList<PgStr>, AllocError
     }
 }
 
-/// The words of the command line, without the program's name. A word that isn't UTF-8 makes them no words at all.
+/// The words of the command line, without the program's name. A word that isn't UTF-8 makes them no
+/// words at all.
 fn read_words(rt: &HostRuntime) -> Result<PgList<PgStr>, AllocError> {
     let mut words = PgList::new(rt.alloc());
     let args = match env::args(rt) {

@@ -62,10 +62,12 @@ take_more : {X : Type 0} (xs : List X) (i : ℕ) (d : X) → i < length xs → t
 take_more xs i d h = let e : i + 1 ≡ suc i = omega arith in rw e (take-suc xs i d h)
 
 -- one shift more is joined with all others that stand so to it
-pub joined_more : (R : Shift → Shift → Type 0) (pair : Shift → Shift → ℕ × ℕ) (shifts others between : List Shift) (i : ℕ) (d : Shift) → i < length shifts
+pub joined_more : (R : Shift → Shift → Type 0) (pair : Shift → Shift → ℕ × ℕ) (shifts others between : List Shift) (i : ℕ) (d : Shift)
+    → i < length shifts
     → ((b : Shift) → Contains between b → Contains others b × R (get_or shifts i d) b)
     → ((b : Shift) → Contains others b → R (get_or shifts i d) b → Contains between b)
-    → (old cur new : List (ℕ × ℕ)) → Gains old cur (IsJoined R pair (take i shifts) others) → new ≡ cur ++ map (pair (get_or shifts i d)) between
+    → (old cur new : List (ℕ × ℕ)) → Gains old cur (IsJoined R pair (take i shifts) others)
+    → new ≡ cur ++ map (pair (get_or shifts i d)) between
     → Gains old new (IsJoined R pair (take (i + 1) shifts) others)
 joined_more R pair shifts others between i d h each all old cur new g e =
     let a = get_or shifts i d in

@@ -23,12 +23,14 @@ same_shift a b start stop place =
 -- a place has one shift
 one_shift : (moments : List Moment) (a b : Shift) → IsShift moments a → IsShift moments b → a.place ≡ b.place → a ≡ b
 one_shift moments a b ha hb e =
-    same_shift a b (ha.start ∙ ap (λ k. micros_at moments k) e ∙ sym hb.start) (ha.stop ∙ ap (λ k. micros_at moments (k + 1)) e ∙ sym hb.stop) e
+    same_shift a b (ha.start ∙ ap (λ k. micros_at moments k) e ∙ sym hb.start) (ha.stop ∙ ap (λ k. micros_at moments (k + 1)) e
+    ∙ sym hb.stop) e
 
 pub shifts_none : (moments : List Moment) → AreShiftsBefore 0 moments []
 shifts_none moments = record { each = All-nil (IsShift moments); all = λ s h lt. absurd (omega arith) }
 
-pub shifts_more : (moments : List Moment) (place : ℕ) (old new : List Shift) → AreShiftsBefore place moments old → HasShift place moments old new
+pub shifts_more : (moments : List Moment) (place : ℕ) (old new : List Shift) → AreShiftsBefore place moments old
+    → HasShift place moments old new
     → AreShiftsBefore (place + 1) moments new
 shifts_more moments place old new before (inl (same, empty)) = record {
   each = rw same before.each;
@@ -49,7 +51,8 @@ shifts_more moments place old new before (inr (shift, is, at_place, grown)) = re
   ]);
 }
 
-pub shifts_all : (moments : List Moment) (place : ℕ) (shifts : List Shift) → length moments ≤ place + 1 → AreShiftsBefore place moments shifts → AreShifts moments shifts
+pub shifts_all : (moments : List Moment) (place : ℕ) (shifts : List Shift) → length moments ≤ place + 1
+    → AreShiftsBefore place moments shifts → AreShifts moments shifts
 shifts_all moments place shifts far before = record {
   each = before.each;
   all = λ s h. before.all s h (omega (arith, h.place));
@@ -66,13 +69,15 @@ micros-instant m h =
     let whole = abs_whole (m.day +ℤ pos 719162) (omega (arith, signed_arith, h.0)) in
     omega (arith, signed_arith)
 
-micros-at : (moments : List Moment) (k : ℕ) → All IsMoment moments → k < length moments → pos (micros_at moments k) ≡ instant_at moments k +ℤ pos 62135596800000000
+micros-at : (moments : List Moment) (k : ℕ) → All IsMoment moments → k < length moments
+    → pos (micros_at moments k) ≡ instant_at moments k +ℤ pos 62135596800000000
 micros-at moments k valid h = micros-instant _ (valid k (moment (pos 0) 0) h)
 
 -- ---- clashes
 
 -- shifts of which each begins before the other ends
-met : (first second : List Moment) (a b : Shift) → All IsMoment first → All IsMoment second → IsShift first a → IsShift second b → a.start < b.stop → b.start < a.stop
+met : (first second : List Moment) (a b : Shift) → All IsMoment first → All IsMoment second → IsShift first a → IsShift second b
+    → a.start < b.stop → b.start < a.stop
     → Clash first second a.place b.place
 met first second a b vf vs ha hb before after =
     let pa = ha.place in
@@ -88,11 +93,20 @@ met first second a b vf vs ha hb before after =
     let la = ha.lasts in
     let lb = hb.lasts in
     elim (cases_lt a.start b.start) [
-      | inl first_begins ↦ (instant_at second b.place, (pa, omega (arith, signed_arith), omega (arith, signed_arith)), (pb, omega (arith, signed_arith), omega (arith, signed_arith)))
-      | inr second_begins ↦ (instant_at first a.place, (pa, omega (arith, signed_arith), omega (arith, signed_arith)), (pb, omega (arith, signed_arith), omega (arith, signed_arith)))
+      | inl first_begins ↦ (
+        instant_at second b.place,
+        (pa, omega (arith, signed_arith), omega (arith, signed_arith)),
+        (pb, omega (arith, signed_arith), omega (arith, signed_arith)),
+      )
+      | inr second_begins ↦ (
+        instant_at first a.place,
+        (pa, omega (arith, signed_arith), omega (arith, signed_arith)),
+        (pb, omega (arith, signed_arith), omega (arith, signed_arith)),
+      )
     ]
 
-pub begun-clash : (first second : List Moment) (fs ss : List Shift) → All IsMoment first → All IsMoment second → AreShifts first fs → AreShifts second ss
+pub begun-clash : (first second : List Moment) (fs ss : List Shift) → All IsMoment first → All IsMoment second → AreShifts first fs
+    → AreShifts second ss
     → (p : ℕ × ℕ) → IsBegun fs ss p → Clash first second p.0 p.1
 begun-clash first second fs ss vf vs hf hs p (a, (b, ina, inb, so, e)) =
     let ha = all_contains (IsShift first) fs a hf.each ina in
@@ -100,7 +114,8 @@ begun-clash first second fs ss vf vs hf hs p (a, (b, ina, inb, so, e)) =
     let lb = hb.lasts in
     subst (λ (q : ℕ × ℕ). Clash first second q.0 q.1) (sym e) (met first second a b vf vs ha hb (omega (arith, so, lb)) so.1)
 
-pub running-clash : (first second : List Moment) (fs ss : List Shift) → All IsMoment first → All IsMoment second → AreShifts first fs → AreShifts second ss
+pub running-clash : (first second : List Moment) (fs ss : List Shift) → All IsMoment first → All IsMoment second → AreShifts first fs
+    → AreShifts second ss
     → (p : ℕ × ℕ) → IsRunning fs ss p → Clash first second p.0 p.1
 running-clash first second fs ss vf vs hf hs p (b, (a, inb, ina, so, e)) =
     let ha = all_contains (IsShift first) fs a hf.each ina in
@@ -117,7 +132,8 @@ on_shift moments i t valid on =
     let a1 = micros-at moments (i + 1) valid on.0 in
     record { place = on.0; start = refl; stop = refl; lasts = omega (arith, signed_arith, on.1, on.2) }
 
-pub clash-joined : (first second : List Moment) (fs ss : List Shift) → All IsMoment first → All IsMoment second → AreShifts first fs → AreShifts second ss
+pub clash-joined : (first second : List Moment) (fs ss : List Shift) → All IsMoment first → All IsMoment second → AreShifts first fs
+    → AreShifts second ss
     → (i j : ℕ) → Clash first second i j → IsBegun fs ss (i, j) ⊎ IsRunning fs ss (i, j)
 clash-joined first second fs ss vf vs hf hs i j (t, ona, onb) =
     let a = shift_at first i in
@@ -156,7 +172,8 @@ late xs t i k s split from h e = lt_false s.start t (subst (λ x. nat_lt x.start
 early : (xs : List Shift) (t i k : ℕ) (s : Shift) → SplitAt xs t i → k < i → get_or xs k s ≡ s → s.start < t
 early xs t i k s split before e = lt_true s.start t (subst (λ x. nat_lt x.start t ≡ true) e (split.0 k s (omega arith) before))
 
-pub none_between : (xs : List Shift) (low high from to : ℕ) → SplitAt xs low from → SplitAt xs high to → to ≤ from → AreBetween xs [] low high
+pub none_between : (xs : List Shift) (low high from to : ℕ) → SplitAt xs low from → SplitAt xs high to → to ≤ from
+    → AreBetween xs [] low high
 none_between xs low high from to pf pt le = record {
   each = λ s h. absurd (nothing_in s h);
   all = λ s h lows highs. elim (cases_lt h.0 from) [
@@ -183,7 +200,8 @@ those_between xs low high from to pf pt lt within = record {
               let j = h.0 - from in
               let back : from + j ≡ h.0 = omega arith in
               let short : j < to - from = omega arith in
-              let rest : length (take (to - from) (drop from xs)) ≡ to - from = omega (arith, length-take (to - from) (drop from xs), length-drop from xs) in
+              let rest : length (take (to - from) (drop from xs)) ≡ to - from =
+              omega (arith, length-take (to - from) (drop from xs), length-drop from xs) in
               (j, omega (arith, rest), get_or-take (to - from) (drop from xs) j s short ∙ get_or-drop from xs j s ∙ (rw back h.2))
         ]
       ];

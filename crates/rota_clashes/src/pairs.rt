@@ -13,10 +13,12 @@ use pg_messages::PgList;
 use rota_moments::Moment;
 use std::alloc::{AllocError, Global};
 
-/// The pairs of a shift of the first rota and one of the second that share a moment, each once, by the place of the
-/// first and then by that of the second; places are counted from 0. The moments of either rota may stand in any order.
+/// The pairs of a shift of the first rota and one of the second that share a moment, each once, by
+/// the place of the first and then by that of the second; places are counted from 0. The moments of
+/// either rota may stand in any order.
 ///
-/// It takes the time of two sorts of the lists, and of one of the pairs. AllocError comes where memory ran out.
+/// It takes the time of two sorts of the lists, and of one of the pairs. AllocError comes where
+/// memory ran out.
 pub fn clashes(
     alloc: Global,
     first: &[Moment],
@@ -37,7 +39,8 @@ pub fn clashes(
     Ok(PgList::from_vec(pairs))
 }
 
-/// The pairs of shifts that share a moment, in any order. Of two such shifts one begins while the other is on.
+/// The pairs of shifts that share a moment, in any order. Of two such shifts one begins while the
+/// other is on.
 fn all_pairs(
     alloc: Global,
     first: &[Shift],
@@ -45,8 +48,10 @@ fn all_pairs(
 ) -> Result<Vec<(u32, u32)>, AllocError>
     requires first_in_order { IsNonDecreasingBy start_of first.now }
     requires second_in_order { IsNonDecreasingBy start_of second.now }
-    ensures begun { IfOk result (λ pairs. (p : ℕ × ℕ) → IsBegun first.now second.now p → Contains pairs.items p) }
-    ensures running { IfOk result (λ pairs. (p : ℕ × ℕ) → IsRunning first.now second.now p → Contains pairs.items p) }
+    ensures begun { IfOk result (λ pairs. (p : ℕ × ℕ) → IsBegun first.now second.now p
+        → Contains pairs.items p) }
+    ensures running { IfOk result (λ pairs. (p : ℕ × ℕ) → IsRunning first.now second.now p
+        → Contains pairs.items p) }
     ensures only { IfOk result (λ pairs. (p : ℕ × ℕ) → Contains pairs.items p
         → IsBegun first.now second.now p ⊎ IsRunning first.now second.now p) }
 {
@@ -88,7 +93,8 @@ fn push_running(
     Ok(())
 }
 
-/// Puts the pairs of this place of the first rota and each of these shifts of the second at the end.
+/// Puts the pairs of this place of the first rota and each of these shifts of the second at the
+/// end.
 fn push_with_first(
     pairs: &mut Vec<(u32, u32)>,
     place: u32,
@@ -103,7 +109,8 @@ fn push_with_first(
     Ok(())
 }
 
-/// Puts the pairs of each of these shifts of the first rota and this place of the second at the end.
+/// Puts the pairs of each of these shifts of the first rota and this place of the second at the
+/// end.
 fn push_with_second(
     pairs: &mut Vec<(u32, u32)>,
     others: &[Shift],

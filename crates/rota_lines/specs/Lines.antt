@@ -21,7 +21,8 @@ line style label m interval = label ++ line_rest style m interval
 -- `end` with the last moment and the total.
 abbrev pub lines_from : Style → Interval → ℕ → List Interval → List Moment → List ℕ
 lines_from style total number [] (m ∷ moments) = line style (codes "end") m total
-lines_from style total number (step ∷ steps) (m ∷ moments) = line style (decimal number) m step ++ lines_from style total (number + 1) steps moments
+lines_from style total number (step ∷ steps) (m ∷ moments) =
+    line style (decimal number) m step ++ lines_from style total (number + 1) steps moments
 lines_from style total number steps [] = []
 
 -- The text of a rota of these steps, moments and total.

@@ -12,8 +12,9 @@ use rota_moments::Moment;
 use std::alloc::AllocError;
 use std::fmt::Write;
 
-/// Puts the line of a step at the end of a text: its number, the moment that it starts from, and its interval in the
-/// style, split by tabs. After AllocError, which comes where memory ran out, a front of the line may stand there.
+/// Puts the line of a step at the end of a text: its number, the moment that it starts from, and
+/// its interval in the style, split by tabs. After AllocError, which comes where memory ran out, a
+/// front of the line may stand there.
 pub fn put_step(
     text: &mut String,
     number: u64,
@@ -23,15 +24,17 @@ pub fn put_step(
 ) -> Result<(), AllocError>
     requires { IsMoment moment.now }
     ensures line { OnOk result (string_bytes text.new
-        ≡ string_bytes text.old ++ line (printed_style style) (decimal number) moment.now step.now) }
+        ≡ string_bytes text.old ++ line (printed_style style) (decimal number) moment.now
+        step.now) }
     ensures stands { OnOk result (Stands (printed_style style) step.now) }
 {
     write!(text, "{number}")?;
     put_rest(text, moment, step, style)
 }
 
-/// Puts the last line of a rota: `end`, the last moment, and the total of the steps in the style, split by tabs. After
-/// AllocError, which comes where memory ran out, a front of the line may stand there.
+/// Puts the last line of a rota: `end`, the last moment, and the total of the steps in the style,
+/// split by tabs. After AllocError, which comes where memory ran out, a front of the line may stand
+/// there.
 pub fn put_end(
     text: &mut String,
     moment: &Moment,
@@ -68,8 +71,8 @@ fn put_rest(
     text.push('\n')
 }
 
-/// Puts the line of a clash: the places of both shifts, a space between them. After AllocError, which comes where memory
-/// ran out, a front of the line may stand there.
+/// Puts the line of a clash: the places of both shifts, a space between them. After AllocError,
+/// which comes where memory ran out, a front of the line may stand there.
 pub fn put_clash(text: &mut String, first: u32, second: u32) -> Result<(), AllocError>
     ensures { OnOk result (string_bytes text.new
         ≡ string_bytes text.old ++ clash_line (first, second)) }

@@ -103,7 +103,8 @@ next_day c h v =
     let d = v.day in
     (record { year = v.year; month = v.month; day = (omega arith, omega arith) }, omega arith)
 
-next_month : (c : CivilDate) → month_length c.year c.month ≤ c.day → c.month < 12 → IsCivil c → Follows c (civil_date c.year (c.month + 1) 1)
+next_month : (c : CivilDate) → month_length c.year c.month ≤ c.day → c.month < 12 → IsCivil c
+    → Follows c (civil_date c.year (c.month + 1) 1)
 next_month c last h v =
     let d = v.day in
     let m = v.month in
@@ -131,7 +132,8 @@ next_year c last h v =
     )
 
 follows : (c : CivilDate) (later more : Bool) → nat_lt c.day (month_length c.year c.month) ≡ later → nat_lt c.month 12 ≡ more → IsCivil c
-    → Follows c (if later then civil_date c.year c.month (c.day + 1) else (if more then civil_date c.year (c.month + 1) 1 else civil_date (c.year + 1) 1 1))
+    → Follows c (if later then civil_date c.year c.month (c.day + 1)
+    else (if more then civil_date c.year (c.month + 1) 1 else civil_date (c.year + 1) 1 1))
 follows c true more a b v = next_day c (nat_true _ _ a) v
 follows c false true a b v = next_month c (nat_false _ _ a) (nat_true _ _ b) v
 follows c false false a b v = next_year c (nat_false _ _ a) (nat_false _ _ b) v

@@ -57,9 +57,11 @@ decided a false y m d e v = λ day h same.
     let my : a.year ≡ pos y = v.0 in
     let mm : a.month ≡ m = pos_same _ _ v.1 in
     let md : a.day ≡ d = pos_same _ _ v.2 in
-    let is : epoch_day a ≡ day = ap (λ z. days_from_civil z a.month a.day) my ∙ ap (λ k. days_from_civil (pos y) k a.day) mm ∙ ap (λ k. days_from_civil (pos y) m k) md ∙ number in
+    let is : epoch_day a ≡ day = ap (λ z. days_from_civil z a.month a.day) my ∙ ap (λ k. days_from_civil (pos y) k a.day) mm
+    ∙ ap (λ k. days_from_civil (pos y) m k) md ∙ number in
     true≢false (sym (day_holds (epoch_day a) (subst IsDay (sym is) h)) ∙ e)
 
 -- the day of a date of `jiff`
-pub day_of_date : (a : Date) (r : Option ℤ) (y m d : ℕ) → r ≡ day_if_any (epoch_day a) → IsYmd (pos y) (pos m) (pos d) a → IsDayOf (civil_date y m d) r
+pub day_of_date : (a : Date) (r : Option ℤ) (y m d : ℕ) → r ≡ day_if_any (epoch_day a) → IsYmd (pos y) (pos m) (pos d) a
+    → IsDayOf (civil_date y m d) r
 day_of_date a r y m d e v = subst (IsDayOf (civil_date y m d)) (sym e) (decided a _ y m d refl v)

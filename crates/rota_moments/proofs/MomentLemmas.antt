@@ -79,11 +79,13 @@ month-kit year month first v =
     (λ early. early_month year month (min first (days_in_month year month)) first v early)
     (λ late.
     let e = abs_whole year (omega (arith, signed_arith)) in
-    let P : ℤ → Type 0 = λ z. IsCivilDate z month (min first (days_in_month z month)) → day_in_month z month first ≡ day_if_any (days_from_civil z month (min first (days_in_month z month))) in
+    let P : ℤ → Type 0 = λ z. IsCivilDate z month (min first (days_in_month z month))
+    → day_in_month z month first ≡ day_if_any (days_from_civil z month (min first (days_in_month z month))) in
     subst P e (λ w. late_month (unsigned_abs year) month _ first w refl (omega (arith, signed_arith))) v)
 
 -- the months since January of the year 0, so many months later
-counted : (d : Date) (k : ℤ) → IsDay (epoch_day d) → month_number d +ℤ k ≡ pos (12 * (date_of (epoch_day d)).year + (date_of (epoch_day d)).month - 1) +ℤ k
+counted : (d : Date) (k : ℤ) → IsDay (epoch_day d)
+    → month_number d +ℤ k ≡ pos (12 * (date_of (epoch_day d)).year + (date_of (epoch_day d)).month - 1) +ℤ k
 counted d k h =
     let p = date-parts d h in
     let year = p.year in
@@ -91,19 +93,24 @@ counted d k h =
     let m = d.month_in in
     omega (arith, signed_arith)
 
-months-shifted : (d : Date) (k : ℤ) → IsDay (epoch_day d) → after_months (epoch_day d) k ≡ day_in_month (shifted_year d k) (shifted_month d k) d.day
+months-shifted : (d : Date) (k : ℤ) → IsDay (epoch_day d)
+    → after_months (epoch_day d) k ≡ day_in_month (shifted_year d k) (shifted_month d k) d.day
 months-shifted d k h =
     ap (λ t. day_of_month t (date_of (epoch_day d)).day) (sym (counted d k h))
     ∙ ap (λ day. day_of_month (month_number d +ℤ k) day) (sym (date-parts d h).day)
 
-pub after_months-kit : (d : Date) (k : ℤ) → IsDay (epoch_day d) → IsShiftable d k → after_months (epoch_day d) k ≡ day_if_any (add_months d k)
+pub after_months-kit : (d : Date) (k : ℤ) → IsDay (epoch_day d) → IsShiftable d k
+    → after_months (epoch_day d) k ≡ day_if_any (add_months d k)
 after_months-kit d k h can =
     months-shifted d k h ∙ month-kit (shifted_year d k) (shifted_month d k) d.day (shifted_civil d k can)
 
 pub after_months-none : (d : Date) (k : ℤ) → IsDay (epoch_day d) → (IsShiftable d k → ⊥) → after_months (epoch_day d) k ≡ None
 after_months-none d k h cannot =
     months-shifted d k h
-    ∙ day_in_month-none (shifted_year d k) (shifted_month d k) d.day (λ v. cannot (omega (arith, signed_arith, v.0), omega (arith, signed_arith, v.1)))
+    ∙ day_in_month-none (shifted_year d k) (shifted_month d k) d.day (λ v. cannot (
+      omega (arith, signed_arith, v.0),
+      omega (arith, signed_arith, v.1),
+    ))
 
 -- the months since January of the year 0 to a month of the years 1 to 9999
 months_to : (day : ℤ) → IsDay day → IsInRange 12 119999 (12 * (date_of day).year + (date_of day).month - 1)
@@ -114,7 +121,8 @@ months_to day h =
     let month = dated.civil.month in
     (omega arith, omega arith)
 
-far_year : (n : ℕ) (k : ℤ) → IsInRange 12 119999 n → 119987 < unsigned_abs k → ((pos 1 ≤ℤ int_div_euclid (pos n +ℤ k) (pos 12)) × (int_div_euclid (pos n +ℤ k) (pos 12) ≤ℤ pos 9999) → ⊥)
+far_year : (n : ℕ) (k : ℤ) → IsInRange 12 119999 n → 119987 < unsigned_abs k
+    → ((pos 1 ≤ℤ int_div_euclid (pos n +ℤ k) (pos 12)) × (int_div_euclid (pos n +ℤ k) (pos 12) ≤ℤ pos 9999) → ⊥)
 far_year n (pos k) h far v = omega (arith, signed_arith, v.0, v.1)
 far_year n (negsuc k) h far v = omega (arith, signed_arith, v.0, v.1)
 
@@ -123,18 +131,21 @@ pub after_months-far : (day k : ℤ) → IsDay day → 119987 < unsigned_abs k �
 after_months-far day k h far =
     let n = 12 * (date_of day).year + (date_of day).month - 1 in
     let t = pos n +ℤ k in
-    day_in_month-none (int_div_euclid t (pos 12)) (unsigned_abs (int_rem_euclid t (pos 12)) + 1) (date_of day).day (far_year n k (months_to day h) far)
+    day_in_month-none (int_div_euclid t (pos 12)) (unsigned_abs (int_rem_euclid t (pos 12)) + 1) (date_of day).day
+    (far_year n k (months_to day h) far)
 
 -- ---- spans
 
-no_clock : (s : Span) → magnitude Hour s ≡ 0 → magnitude Minute s ≡ 0 → magnitude Second s ≡ 0 → magnitude Millisecond s ≡ 0 → magnitude Microsecond s ≡ 0 → magnitude Nanosecond s ≡ 0 → clock_days s ≡ pos 0
+no_clock : (s : Span) → magnitude Hour s ≡ 0 → magnitude Minute s ≡ 0 → magnitude Second s ≡ 0 → magnitude Millisecond s ≡ 0
+    → magnitude Microsecond s ≡ 0 → magnitude Nanosecond s ≡ 0 → clock_days s ≡ pos 0
 no_clock s a b c d e f = signed_zero s.negative _ (omega arith)
 
 months_only : (a : Date) (n : ℤ) (s : Span) → IsOnly Month n s → (span_months s ≡ n) × (date_add a s ≡ add_months a n)
 months_only a n s h =
     let m : span_months s ≡ n = omega (arith, signed_arith, h.months) in
     let d : span_days s ≡ pos 0 = omega (arith, signed_arith, h.days) in
-    let k : clock_days s ≡ pos 0 = no_clock s (h.others Hour (omega arith)) (h.others Minute (omega arith)) (h.others Second (omega arith)) (h.others Millisecond (omega arith)) (h.others Microsecond (omega arith)) (h.others Nanosecond (omega arith)) in
+    let k : clock_days s ≡ pos 0 = no_clock s (h.others Hour (omega arith)) (h.others Minute (omega arith)) (h.others Second (omega arith))
+    (h.others Millisecond (omega arith)) (h.others Microsecond (omega arith)) (h.others Nanosecond (omega arith)) in
     (m, rw (m, d, k) (omega (arith, signed_arith)))
 
 -- the day of the date that `jiff` gives
@@ -145,7 +156,8 @@ months_added a b n s only h can e =
     after_months-kit a n h (rw is.0 at can.0) ∙ ap day_if_any (sym (e ∙ is.1))
 
 -- it gives none only where there is none
-pub months_refused : (a : Date) (n : ℤ) (s : Span) → IsOnly Month n s → IsDay (epoch_day a) → (CanAddToDate a s → ⊥) → after_months (epoch_day a) n ≡ None
+pub months_refused : (a : Date) (n : ℤ) (s : Span) → IsOnly Month n s → IsDay (epoch_day a) → (CanAddToDate a s → ⊥)
+    → after_months (epoch_day a) n ≡ None
 months_refused a n s only h cannot =
     let is = months_only a n s only in
     after_months-none a n h (λ can. cannot (rw is.0 can, rw is.1 (epoch_day_range (plain _ _ _ (shifted_civil a n can)))))

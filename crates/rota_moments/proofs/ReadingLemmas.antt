@@ -84,12 +84,33 @@ bytes_from a b c d p e f q g h t i j u k l v m n r is =
       hour = hour.small;
       minute = minute.small;
       second = second.small;
-      stands = rw (ea, eb, ec, ed, marks.p, month.tens, month.ones, marks.q, day.tens, day.ones, marks.t, hour.tens, hour.ones, marks.u, minute.tens, minute.ones, marks.v, second.tens, second.ones) refl;
+      stands = rw (
+        ea,
+        eb,
+        ec,
+        ed,
+        marks.p,
+        month.tens,
+        month.ones,
+        marks.q,
+        day.tens,
+        day.ones,
+        marks.t,
+        hour.tens,
+        hour.ones,
+        marks.u,
+        minute.tens,
+        minute.ones,
+        marks.v,
+        second.tens,
+        second.ones,
+      ) refl;
     }
 
 -- a text that six numbers were read of has the form
 pub form_from : (text : List ℕ) (r : Fields) → fields_of text ≡ Some r → HasForm text (date_in r) (clock_in r)
-form_from (a ∷ b ∷ c ∷ d ∷ p ∷ e ∷ f ∷ q ∷ g ∷ h ∷ t ∷ i ∷ j ∷ u ∷ k ∷ l ∷ v ∷ m ∷ n ∷ []) r is = bytes_from a b c d p e f q g h t i j u k l v m n r is
+form_from (a ∷ b ∷ c ∷ d ∷ p ∷ e ∷ f ∷ q ∷ g ∷ h ∷ t ∷ i ∷ j ∷ u ∷ k ∷ l ∷ v ∷ m ∷ n ∷ []) r is =
+    bytes_from a b c d p e f q g h t i j u k l v m n r is
 form_from _ r is = absurd (cc)
 
 -- the text of a moment has the form
@@ -124,7 +145,8 @@ same_numbers text f m h is e =
     (ap date_in same, ap clock_in same)
 
 -- the numbers of a date and a time of day are a moment
-pub moment_made : (f : Fields) (day : ℤ) (second : ℕ) → f.hour ≤ 23 → f.minute ≤ 59 → f.second ≤ 59 → second ≡ (f.hour * 60 + f.minute) * 60 + f.second
+pub moment_made : (f : Fields) (day : ℤ) (second : ℕ) → f.hour ≤ 23 → f.minute ≤ 59 → f.second ≤ 59
+    → second ≡ (f.hour * 60 + f.minute) * 60 + f.second
     → IsDayOf (date_in f) (Some day) → IsMomentOf (date_in f) (clock_in f) (Some (moment day (second * 1000000)))
 moment_made f day second hh hm hs e is =
     let hour : second * 1000000 / 3600000000 ≡ f.hour = omega arith in
@@ -154,7 +176,8 @@ same_moment m r hm hr zm zr d c =
     ap (λ z. moment z m.micro) (same_day m.day r.day hm.0 hr.0 d) ∙ ap (λ k. moment r.day k) (same_micro m.micro r.micro hm.1 hr.1 zm zr c)
 
 -- only one moment has the text
-pub only_moment : (text : List ℕ) (f : Fields) (m r : Moment) → HasForm text (date_in f) (clock_in f) → IsMomentOf (date_in f) (clock_in f) (Some r)
+pub only_moment : (text : List ℕ) (f : Fields) (m r : Moment) → HasForm text (date_in f) (clock_in f)
+    → IsMomentOf (date_in f) (clock_in f) (Some r)
     → IsMoment m → m.micro % 1000000 ≡ 0 → text ≡ start_text m → r ≡ m
 only_moment text f m r form made h z e =
     let same = same_numbers text f m form h e in

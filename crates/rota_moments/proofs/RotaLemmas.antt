@@ -21,7 +21,8 @@ pub after_front-empty : (r : Result (List Moment) Refusal) → r ≡ after_front
 after_front-empty (Ok moments) = refl
 after_front-empty (Err refusal) = let e : 0 + refusal.place ≡ refusal.place = omega arith in rw e refl
 
-pub after_front-then : (front : List Moment) (m : Moment) (r : Result (List Moment) Refusal) → after_front front (then_moments m r) ≡ after_front (front ++ m ∷ []) r
+pub after_front-then : (front : List Moment) (m : Moment) (r : Result (List Moment) Refusal)
+    → after_front front (then_moments m r) ≡ after_front (front ++ m ∷ []) r
 after_front-then front m (Ok moments) = ap (λ ms. Ok ms) (sym (append_assoc front (m ∷ []) moments))
 after_front-then front m (Err refusal) =
     let e : length (front ++ m ∷ []) + refusal.place ≡ length front + (refusal.place + 1) = omega (arith, length-append front (m ∷ [])) in
@@ -78,7 +79,8 @@ one_sum sum steps j d h are fits before k within =
     ]
 
 -- a step that is refused behind these moments
-pub refused_at : (front : List Moment) (steps : List Interval) (last : Moment) (j : ℕ) (d : Interval) (reason : RangeError) → j < length steps
+pub refused_at : (front : List Moment) (steps : List Interval) (last : Moment) (j : ℕ) (d : Interval) (reason : RangeError)
+    → j < length steps
     → moment_after last (get_or steps j d) ≡ Err reason
     → after_front front (moments_of (drop j steps) last) ≡ Err (record { place = length front; reason = reason })
 refused_at front steps last j d reason h e =

@@ -44,7 +44,8 @@ pub(crate) fn day_of(date: Date) -> Option<i32>
     if day < -719_162 { None } else { Some(day) }
 }
 
-/// The day so many months later: the same day of its month, or the last of a month that has no such day.
+/// The day so many months later: the same day of its month, or the last of a month that has no such
+/// day.
 pub(crate) fn months_later(day: i32, months: i32) -> Result<i32, RangeError>
     requires { IsDay day }
     ensures value { result ≡ ok_or (after_months day months) RangeError.Months }

@@ -1,5 +1,5 @@
-//! Moments of a rota: a day and a time of it, its text, the moment after an interval, and the moments of a list of
-//! steps.
+//! Moments of a rota: a day and a time of it, its text, the moment after an interval, and the
+//! moments of a list of steps.
 #![tactic(auto)]
 
 mod calendar;

@@ -13,7 +13,8 @@ const DAY_MICROS: i64 = 86_400_000_000;
 /// A day, and a time of it.
 #[derive(Clone, Copy, Debug, PartialEq, Eq, PartialOrd, Ord)]
 pub struct Moment {
-    /// The days since 1970-01-01: from -719162, which is 0001-01-01, to 2932896, which is 9999-12-31.
+    /// The days since 1970-01-01: from -719162, which is 0001-01-01, to 2932896, which is
+    /// 9999-12-31.
     pub day: i32,
     /// The microseconds since the day began, below 86,400,000,000.
     pub micro: u64,
@@ -31,9 +32,10 @@ pub enum RangeError {
 }
 
 impl Moment {
-    /// The moment after an interval. Its months come first: the same day of the month that so many months lead to, or
-    /// the last day of a month that has no such day. Then come its days, and then its microseconds, which may go over
-    /// the end of a day. The first of the three that leads out of the years 1 to 9999 is refused.
+    /// The moment after an interval. Its months come first: the same day of the month that so many
+    /// months lead to, or the last day of a month that has no such day. Then come its days, and
+    /// then its microseconds, which may go over the end of a day. The first of the three that leads
+    /// out of the years 1 to 9999 is refused.
     pub fn add(self, step: Interval) -> Result<Moment, RangeError>
         requires { IsMoment self }
         ensures value { result ≡ moment_after self step }

@@ -15,8 +15,8 @@ use std::alloc::{AllocError, Global};
 const SECOND_MICROS: u64 = 1_000_000;
 
 impl Moment {
-    /// The text `YYYY-MM-DD HH:MM:SS`, with `.` and six digits behind it where there are microseconds of a second.
-    /// AllocError comes where memory ran out.
+    /// The text `YYYY-MM-DD HH:MM:SS`, with `.` and six digits behind it where there are
+    /// microseconds of a second. AllocError comes where memory ran out.
     pub fn print(&self, alloc: Global) -> Result<PgStr, AllocError>
         requires { IsMoment self.now }
         ensures { IfOk result (λ text. text ≡ moment_text self.now) }
@@ -26,12 +26,13 @@ impl Moment {
         PgStr::copy_of(alloc, text.as_str())
     }
 
-    /// Puts the text that `print` gives at the end of another. After AllocError, which comes where memory ran out, a
-    /// front of it may stand there.
+    /// Puts the text that `print` gives at the end of another. After AllocError, which comes where
+    /// memory ran out, a front of it may stand there.
     #[tactic(auto, unfolding(crate::specs::Texts::moment_text))]
     pub fn put(&self, text: &mut String) -> Result<(), AllocError>
         requires { IsMoment self.now }
-        ensures { OnOk result (string_bytes text.new ≡ string_bytes text.old ++ moment_text self.now) }
+        ensures { OnOk result (string_bytes text.new
+            ≡ string_bytes text.old ++ moment_text self.now) }
     {
         put_date(text, self.day)?;
         text.push(' ')?;
@@ -43,7 +44,8 @@ impl Moment {
 /// Puts the date of a day: `YYYY-MM-DD`.
 fn put_date(text: &mut String, day: i32) -> Result<(), AllocError>
     requires { IsDay day }
-    ensures { OnOk result (string_bytes text.new ≡ string_bytes text.old ++ date_text (date_of day)) }
+    ensures { OnOk result (string_bytes text.new
+        ≡ string_bytes text.old ++ date_text (date_of day)) }
 {
     let date = civil_at(day);
     put_year(text, date.year as u64)?;
@@ -56,7 +58,8 @@ fn put_date(text: &mut String, day: i32) -> Result<(), AllocError>
 /// Puts the time of day, to the second: `HH:MM:SS`.
 fn put_clock(text: &mut String, micro: u64) -> Result<(), AllocError>
     requires { micro < 86400000000 }
-    ensures { OnOk result (string_bytes text.new ≡ string_bytes text.old ++ clock_text (clock_of micro)) }
+    ensures { OnOk result (string_bytes text.new
+        ≡ string_bytes text.old ++ clock_text (clock_of micro)) }
 {
     put_two(text, micro / 3_600_000_000)?;
     text.push(':')?;

@@ -16,7 +16,8 @@ use jiff::civil::Date;
 pub enum MomentError {
     /// It isn't of the form `YYYY-MM-DDTHH:MM:SS`.
     Shape,
-    /// It is of this form, but has no date of the years 1 to 9999, an hour above 23, or a minute or second above 59.
+    /// It is of this form, but has no date of the years 1 to 9999, an hour above 23, or a minute or
+    /// second above 59.
     Field,
 }
 
@@ -32,9 +33,10 @@ struct Fields {
 }
 
 impl Moment {
-    /// The moment that a text stands for: `YYYY-MM-DDTHH:MM:SS`, 19 bytes with ASCII digits, from 0001-01-01T00:00:00 to
-    /// 9999-12-31T23:59:59. Shape comes where the text has another form; else Field, where the date isn't one of the
-    /// years 1 to 9999, the hour is above 23, or the minute or the second above 59. No memory is taken.
+    /// The moment that a text stands for: `YYYY-MM-DDTHH:MM:SS`, 19 bytes with ASCII digits, from
+    /// 0001-01-01T00:00:00 to 9999-12-31T23:59:59. Shape comes where the text has another form;
+    /// else Field, where the date isn't one of the years 1 to 9999, the hour is above 23, or the
+    /// minute or the second above 59. No memory is taken.
     pub fn read(text: &str) -> Result<Moment, MomentError>
         ensures reading { IsReading text.now result }
         ensures valid { IfOk result IsMoment }

@@ -12,7 +12,8 @@ use std::alloc::{AllocError, Global};
 /// Why a rota has no moments.
 #[derive(Clone, Copy, Debug, PartialEq, Eq)]
 pub enum RotaError {
-    /// The step at this place, counted from 0, is the first that leads out of the years 1 to 9999, by this part of it.
+    /// The step at this place, counted from 0, is the first that leads out of the years 1 to 9999,
+    /// by this part of it.
     OutOfRange(u64, RangeError),
     /// Memory ran out.
     NoMemory,
@@ -29,8 +30,8 @@ impl From<AllocError> for RotaError {
     }
 }
 
-/// The moments of a rota: start, and each moment plus its step, one more than there are steps. OutOfRange tells the
-/// first step that is refused, and NoMemory comes where memory ran out.
+/// The moments of a rota: start, and each moment plus its step, one more than there are steps.
+/// OutOfRange tells the first step that is refused, and NoMemory comes where memory ran out.
 pub fn rota(alloc: Global, start: Moment, steps: &[Interval]) -> Result<PgList<Moment>, RotaError>
     requires { IsMoment start }
     ensures moments { IsRota start steps.now result }
@@ -49,8 +50,8 @@ pub fn rota(alloc: Global, start: Moment, steps: &[Interval]) -> Result<PgList<M
     Ok(moments)
 }
 
-/// The total of the steps: the sums of their months, days and microseconds. Err tells the place, counted from 0, of the
-/// first step whose running sum has a number that leaves its type.
+/// The total of the steps: the sums of their months, days and microseconds. Err tells the place,
+/// counted from 0, of the first step whose running sum has a number that leaves its type.
 pub fn total(steps: &[Interval]) -> Result<Interval, u64>
     ensures { IsTotal steps.now result }
 {

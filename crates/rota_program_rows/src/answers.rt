@@ -7,7 +7,8 @@ use rota_report::run_rota;
 use std::alloc::{AllocError, Global};
 use std::fmt::Write;
 
-/// What the program tells of a row's words and file: its status, what it wrote, and the line of errors.
+/// What the program tells of a row's words and file: its status, what it wrote, and the line of
+/// errors.
 pub fn answer_of(alloc: Global, given: &str) -> Result<String, Fault> {
     let (words, given) = next_part(given)?;
     let (file, given) = next_part(given)?;

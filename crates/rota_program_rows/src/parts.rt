@@ -52,7 +52,8 @@ fn word_of(alloc: Global, text: &str) -> Result<PgStr, AllocError> {
     PgStr::copy_of(alloc, word.as_str())
 }
 
-/// The bytes of a text, in which `\t`, `\n` and `\r` are these bytes and `\x` is the byte 255; `*N TEXT` is a text N times.
+/// The bytes of a text, in which `\t`, `\n` and `\r` are these bytes and `\x` is the byte 255; `*N
+/// TEXT` is a text N times.
 pub fn bytes_of(alloc: Global, text: &str) -> Result<Vec<u8>, Fault> {
     let mut bytes = Vec::new(alloc);
     let Some(repeated) = text.strip_prefix('*') else {

@@ -78,7 +78,8 @@ column_in-few relations m h name (Some place) steps e =
     column_if-few (relation_at relations place) m (h place) (column_place (relation_at relations place).columns name) steps e
 
 -- A column of a relation file has few intervals.
-pub few_steps : (left new_left : Option (List ℕ)) (relations : List Relation) → IsToldBy left new_left relations → (relation column : List ℕ)
+pub few_steps : (left new_left : Option (List ℕ)) (relations : List Relation) → IsToldBy left new_left relations
+    → (relation column : List ℕ)
     (steps : List Interval) → column_of relations relation column ≡ Some steps → length steps + 1 < 2 ^ 32
 few_steps left new_left relations told relation column steps e =
     let text = told.0 in

@@ -64,15 +64,19 @@ IsTooMuch start steps = ((moments : List Moment) × (moments_of steps start ≡ 
 
 -- What comes of the report of a rota: there is no such column; or the report was written, all of it, or a front where a write failed or
 -- memory ran out; or nothing was, for the rota, or else for the total.
-abbrev pub HasListed : Moment → Style → Option (List Interval) → Result (Unit {0}) Failure → Option (List ℕ) → Option (List ℕ) → ℕ → ℕ → Type 0
+abbrev pub HasListed : Moment → Style → Option (List Interval) → Result (Unit {0}) Failure → Option (List ℕ) → Option (List ℕ) → ℕ → ℕ
+    → Type 0
 HasListed start style None (Err NoColumn) old new faults new_faults = IsUntouched old new faults new_faults
 HasListed start style None (Err NoMemory) old new faults new_faults = IsUntouched old new faults new_faults
 HasListed start style None result old new faults new_faults = ⊥
 HasListed start style (Some steps) (Ok done) old new faults new_faults = IsWritten (IsReport start steps style) old new faults new_faults
-HasListed start style (Some steps) (Err OutOfRange) old new faults new_faults = IsOutOfRange start steps × IsUntouched old new faults new_faults
-HasListed start style (Some steps) (Err TotalOverflow) old new faults new_faults = IsTooMuch start steps × IsUntouched old new faults new_faults
+HasListed start style (Some steps) (Err OutOfRange) old new faults new_faults =
+    IsOutOfRange start steps × IsUntouched old new faults new_faults
+HasListed start style (Some steps) (Err TotalOverflow) old new faults new_faults =
+    IsTooMuch start steps × IsUntouched old new faults new_faults
 HasListed start style (Some steps) (Err WriteFault) old new faults new_faults = IsCut (IsReport start steps style) old new faults new_faults
-HasListed start style (Some steps) (Err NoMemory) old new faults new_faults = IsStarved (IsReport start steps style) old new faults new_faults
+HasListed start style (Some steps) (Err NoMemory) old new faults new_faults =
+    IsStarved (IsReport start steps style) old new faults new_faults
 HasListed start style (Some steps) (Err failure) old new faults new_faults = ⊥
 
 -- ---- the clashes of two rotas
@@ -80,7 +84,8 @@ HasListed start style (Some steps) (Err failure) old new faults new_faults = ⊥
 -- the text of all clashes of two rotas
 abbrev pub IsClashText : Moment → List Interval → Moment → List Interval → List ℕ → Type 0
 IsClashText start steps other others text = (first : List Moment) × ((second : List Moment) × ((pairs : List (ℕ × ℕ))
-    × (moments_of steps start ≡ Ok first) × (moments_of others other ≡ Ok second) × AreClashes first second pairs × (text ≡ clash_text pairs)))
+    × (moments_of steps start ≡ Ok first) × (moments_of others other ≡ Ok second) × AreClashes first second pairs
+    × (text ≡ clash_text pairs)))
 
 -- What comes of the clashes of two rotas: one of them has no such column; or the lines were written, all of them, or a front where a write
 -- failed or memory ran out; or nothing was, for a rota that is refused.

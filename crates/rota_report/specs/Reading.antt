@@ -19,7 +19,8 @@ HasReadColumn n (Err NoColumn) left new_left faults new_faults = Tells left new_
 HasReadColumn n (Err NoMemory) left new_left faults new_faults = Tells left new_left (λ _. Unit {0})
 HasReadColumn n (Err failure) left new_left faults new_faults = ⊥
 
-abbrev pub HasReadColumns : Named → Named → Result (List Interval × List Interval) Failure → Option (List ℕ) → Option (List ℕ) → ℕ → ℕ → Type 0
+abbrev pub HasReadColumns : Named → Named → Result (List Interval × List Interval) Failure → Option (List ℕ) → Option (List ℕ) → ℕ → ℕ
+    → Type 0
 HasReadColumns n m (Ok columns) left new_left faults new_faults =
     Tells left new_left (λ relations. (steps_of relations n ≡ Some columns.0) × (steps_of relations m ≡ Some columns.1))
 HasReadColumns n m (Err (File e)) left new_left faults new_faults = IsFileCause e left new_left faults new_faults

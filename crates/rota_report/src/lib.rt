@@ -1,4 +1,5 @@
-//! Rotas over the intervals of a relation's column: moments, totals, clashes, their texts, and the program that tells them.
+//! Rotas over the intervals of a relation's column: moments, totals, clashes, their texts, and the
+//! program that tells them.
 #![tactic(auto)]
 
 mod columns;

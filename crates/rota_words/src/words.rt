@@ -12,9 +12,10 @@ use pg_text::IntervalStyle;
 use rota_moments::Moment;
 use std::alloc::Global;
 
-/// What the words order: `lines FILE RELATION COLUMN START STYLE` or `clashes FILE RELATION COLUMN START RELATION COLUMN
-/// START`. FILE, RELATION and COLUMN are any words, START is a text that `Moment::read` takes, and STYLE one that
-/// `IntervalStyle::try_from_text` takes. None is any other words.
+/// What the words order: `lines FILE RELATION COLUMN START STYLE` or `clashes FILE RELATION COLUMN
+/// START RELATION COLUMN START`. FILE, RELATION and COLUMN are any words, START is a text that
+/// `Moment::read` takes, and STYLE one that `IntervalStyle::try_from_text` takes. None is any other
+/// words.
 pub fn read_order<'w>(alloc: Global, words: &'w [PgStr]) -> Option<Order<'w>>
     ensures some { IfSome result (λ o. Orders words.now (told_order o)) }
     ensures none { IfNone result ((o : Ordered) → ¬ Orders words.now o) }

@@ -17,7 +17,8 @@ use Rattle.rota_lines.specs.Lines.{line, lines_from, clash_line, clash_text}
 pub lines_step : (style : Style) (total : Interval) (steps : List Interval) (moments : List Moment) (i : ℕ) (d : Interval) (e : Moment)
     → i < length steps → length moments ≡ length steps + 1
     → lines_from style total i (drop i steps) (drop i moments)
-    ≡ line style (decimal i) (get_or moments i e) (get_or steps i d) ++ lines_from style total (i + 1) (drop (i + 1) steps) (drop (i + 1) moments)
+    ≡ line style (decimal i) (get_or moments i e) (get_or steps i d)
+    ++ lines_from style total (i + 1) (drop (i + 1) steps) (drop (i + 1) moments)
 lines_step style total steps moments i d e h more =
     let one : suc i ≡ i + 1 = omega arith in
     let step = rw one at (drop-cons steps i d h) in
@@ -26,7 +27,8 @@ lines_step style total steps moments i d e h more =
     rw (step, next) refl
 
 -- the last line
-pub lines_end : (style : Style) (total : Interval) (steps : List Interval) (moments : List Moment) (e : Moment) → length moments ≡ length steps + 1
+pub lines_end : (style : Style) (total : Interval) (steps : List Interval) (moments : List Moment) (e : Moment)
+    → length moments ≡ length steps + 1
     → lines_from style total (length steps) (drop (length steps) steps) (drop (length steps) moments)
     ≡ line style (codes "end") (get_or moments (length steps) e) total
 lines_end style total steps moments e more =
@@ -46,7 +48,8 @@ then_one_more step steps m (Ok moments) h = omega (arith, h)
 then_one_more step steps m (Err refusal) h = tt
 
 mutual_step : (step : Interval) (steps : List Interval) (m : Moment) (r : Result Moment RangeError)
-    → ((next : Moment) → HaveOneMore steps (moments_of steps next)) → HaveOneMore (step ∷ steps) (then_from m r (λ next. moments_of steps next))
+    → ((next : Moment) → HaveOneMore steps (moments_of steps next))
+    → HaveOneMore (step ∷ steps) (then_from m r (λ next. moments_of steps next))
 mutual_step step steps m (Ok next) rest = then_one_more step steps m (moments_of steps next) (rest next)
 mutual_step step steps m (Err reason) rest = tt
 
@@ -54,7 +57,8 @@ one_more_of : (steps : List Interval) (start : Moment) → HaveOneMore steps (mo
 one_more_of [] start = refl
 one_more_of (step ∷ steps) start = mutual_step step steps start (moment_after start step) (λ next. one_more_of steps next)
 
-pub one_more : (steps : List Interval) (start : Moment) (moments : List Moment) → moments_of steps start ≡ Ok moments → length moments ≡ length steps + 1
+pub one_more : (steps : List Interval) (start : Moment) (moments : List Moment) → moments_of steps start ≡ Ok moments
+    → length moments ≡ length steps + 1
 one_more steps start moments e = subst (HaveOneMore steps) e (one_more_of steps start)
 
 -- ---- clashes

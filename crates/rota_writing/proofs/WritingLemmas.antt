@@ -55,7 +55,8 @@ waits_more a b text waiting piece more h e = record {
 pub all_sent : (a b c : Option (List ℕ)) (text waiting : List ℕ) → IsOnItsWay a b text waiting → GrowsBy b c waiting → GrowsBy a c text
 all_sent a b c text waiting h k = subst (λ l. GrowsBy a c l) (sym h.whole) (grows_on a b c h.sent waiting h.grown k)
 
-pub front_sent : (a b c : Option (List ℕ)) (text waiting : List ℕ) → IsOnItsWay a b text waiting → GrowsByFront b c waiting → GrowsByFront a c text
+pub front_sent : (a b c : Option (List ℕ)) (text waiting : List ℕ) → IsOnItsWay a b text waiting → GrowsByFront b c waiting
+    → GrowsByFront a c text
 front_sent a b c text waiting h k = subst (λ l. GrowsByFront a c l) (sym h.whole) (front_on a b c h.sent waiting h.grown k)
 
 pub none_waits : (a b c : Option (List ℕ)) (text waiting empty : List ℕ) → IsOnItsWay a b text waiting → GrowsBy b c waiting → empty ≡ []
@@ -72,8 +73,10 @@ front_before a b text waiting piece h =
     front_more a b text piece (subst (λ l. GrowsByFront a b l) (sym h.whole) (front_of a b h.sent waiting h.grown))
 
 -- a piece that waits goes on
-pub goes_on_with : (r : Result (Unit {0}) SinkError) (piece waiting more new_waiting : List ℕ) (old new : Option (List ℕ)) (faults new_faults : ℕ)
-    → more ≡ waiting ++ piece → GoesOn r [] more new_waiting old new faults new_faults → GoesOn r piece waiting new_waiting old new faults new_faults
+pub goes_on_with : (r : Result (Unit {0}) SinkError) (piece waiting more new_waiting : List ℕ) (old new : Option (List ℕ))
+    (faults new_faults : ℕ)
+    → more ≡ waiting ++ piece → GoesOn r [] more new_waiting old new faults new_faults
+    → GoesOn r piece waiting new_waiting old new faults new_faults
 goes_on_with (Ok done) piece waiting more new_waiting old new faults new_faults e h = (
   λ first text way.
       let P : List ℕ → Type 0 = λ t. IsOnItsWay first new t new_waiting in
@@ -95,7 +98,8 @@ written_as r text whole old new first faults new_faults e same h =
     let Q : ℕ → Type 0 = λ k. HasWritten r text old new k new_faults in
     subst P (sym e) (subst Q same h)
 
-pub cause_as : (error : SinkError) (first faults new_faults : ℕ) → faults ≡ first → IsSinkCause error faults new_faults → IsSinkCause error first new_faults
+pub cause_as : (error : SinkError) (first faults new_faults : ℕ) → faults ≡ first → IsSinkCause error faults new_faults
+    → IsSinkCause error first new_faults
 cause_as error first faults new_faults same h =
     let Q : ℕ → Type 0 = λ k. IsSinkCause error k new_faults in
     subst Q same h

@@ -28,13 +28,15 @@ pub enum ReportError {
     NoMemory,
 }
 
-/// Writes the report of a rota: for each step a line of its number, counted from 0, the moment that it starts from and
-/// its interval in the style; and last a line of `end`, the last moment and the total. Tabs split the fields, and each
-/// line ends with `\n`. The text is written by pieces of some 64 KiB.
+/// Writes the report of a rota: for each step a line of its number, counted from 0, the moment that
+/// it starts from and its interval in the style; and last a line of `end`, the last moment and the
+/// total. Tabs split the fields, and each line ends with `\n`. The text is written by pieces of
+/// some 64 KiB.
 ///
-/// Moments and total are taken first: Rota tells the first step that is refused, else TotalOverflow the first whose
-/// total is no interval, and nothing was written. WriteFault comes only where the sink's count of faults rose, and
-/// NoMemory where memory ran out; then a front of the text may stand written.
+/// Moments and total are taken first: Rota tells the first step that is refused, else TotalOverflow
+/// the first whose total is no interval, and nothing was written. WriteFault comes only where the
+/// sink's count of faults rose, and NoMemory where memory ran out; then a front of the text may
+/// stand written.
 pub fn report<K: Sink>(
     alloc: Global,
     start: Moment,

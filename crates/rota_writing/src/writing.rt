@@ -44,8 +44,8 @@ pub(crate) fn write_rota<K: Sink>(
     write_end(&mut text, &moments[steps.len()], total, style, sink)
 }
 
-/// Writes the lines of clashes, by pieces of some 64 KiB. Failed comes only where the sink's count of faults rose, and
-/// NoMemory where memory ran out; then a front of the text may stand written.
+/// Writes the lines of clashes, by pieces of some 64 KiB. Failed comes only where the sink's count
+/// of faults rose, and NoMemory where memory ran out; then a front of the text may stand written.
 pub fn write_clashes<K: Sink>(
     alloc: Global,
     pairs: &[(u32, u32)],

@@ -20,7 +20,11 @@ use Rattle.sample_handlers.specs.declared.meaning.SampleStatement.TheVariants as
 use Rattle.sample_handlers.specs.Told.{name_column, span_column, columns, columns_of, column_format, division_by_zero, done_tag, listed, not_known, response_of}
 
 two_columns : (a b : FieldFormat) → IsEncodable (row_description (name_column a ∷ span_column b ∷ []))
-two_columns a b = record { body = omega arith; counts = (omega arith, tt); texts = (by_test (codes "name") refl, (by_test (codes "span") refl, tt)) }
+two_columns a b = record {
+  body = omega arith;
+  counts = (omega arith, tt);
+  texts = (by_test (codes "name") refl, (by_test (codes "span") refl, tt));
+}
 
 pub columns_sendable : (formats : Format) → IsEncodable (row_description (columns formats))
 columns_sendable formats = two_columns (column_format formats 0) (column_format formats 1)
@@ -60,10 +64,12 @@ response_sendable formats statement.CopyIn = omega arith
 response_sendable formats statement.CopyOut = omega arith
 response_sendable formats statement.CopyBoth = omega arith
 response_sendable formats statement.Failed =
-    (tellable_error (codes "22023") (codes "refused") (omega arith) (by_test (codes "22023") refl) (omega arith) (by_test (codes "refused") refl)).encodable
+    (tellable_error (codes "22023") (codes "refused") (omega arith) (by_test (codes "22023") refl) (omega arith)
+    (by_test (codes "refused") refl)).encodable
 response_sendable formats statement.Done = done_sendable
 response_sendable formats statement.Late = (columns_sendable formats, select_is_tag)
 
-pub responses_sendable : (statements : List SampleStatement) → AllByRecursion IsSendableResponse (map (response_of format.UnifiedText) statements)
+pub responses_sendable : (statements : List SampleStatement)
+    → AllByRecursion IsSendableResponse (map (response_of format.UnifiedText) statements)
 responses_sendable [] = tt
 responses_sendable (s ∷ statements) = (response_sendable format.UnifiedText s, responses_sendable statements)

@@ -128,7 +128,8 @@ told_parser = record {
 abbrev pub told_extended : ExtendedTold SampleStatement
 told_extended = record {
   parser = told_parser;
-  query = λ client p limit. let s = p.statement.statement in record { owes = polls_of s; outcome = Ok (response_of p.result_column_format s) };
+  query = λ client p limit. let s = p.statement.statement in
+      record { owes = polls_of s; outcome = Ok (response_of p.result_column_format s) };
   describe_statement = λ client s. Ok (record { parameters = []; fields = columns_of s.statement format.UnifiedText });
   describe_portal = λ client p. Ok (record { fields = columns_of p.statement.statement p.result_column_format });
 }

@@ -92,7 +92,8 @@ pub(crate) fn responses(
     alloc: Global,
     statements: &[SampleStatement],
 ) -> Result<PgList<Answer>, AllocError>
-    ensures { IfOk result (λ responses. told_responses (λ rows. rows) (λ c. data_left c.left) responses
+    ensures { IfOk result (λ responses. told_responses (λ rows. rows) (λ c. data_left c.left)
+        responses
         ≡ map (response_of format.UnifiedText) statements.now) }
 {
     let mut all = PgList::new(alloc);

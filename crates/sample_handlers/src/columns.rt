@@ -11,7 +11,8 @@ use pg_portal::{FieldInfo, Format};
 use pg_text::{FieldFormat, PgType};
 use std::alloc::{AllocError, Global};
 
-/// The columns of a statement in these formats, which can be sent as a reply. Those without rows have none.
+/// The columns of a statement in these formats, which can be sent as a reply. Those without rows
+/// have none.
 pub(crate) fn columns_of(
     alloc: Global,
     statement: SampleStatement,

@@ -132,7 +132,8 @@ fn listed(
 ) -> Result<SampleQuery<PgList<Answer>>, AllocError>
     ensures unspent { IfOk result (λ query. is_given query.outcome ≡ false) }
     ensures told { IfOk result (λ query.
-        told_query (told_all (λ rows. rows) (λ c. data_left c.left)) (query_told query.polls query.outcome)
+        told_query (told_all (λ rows. rows) (λ c. data_left c.left))
+        (query_told query.polls query.outcome)
         ≡ listed polls statements.now) }
     ensures sendable { IfOk result (λ query. AreSendable (listed polls statements.now).outcome) }
 {
@@ -144,7 +145,8 @@ fn listed(
 fn refused(alloc: Global) -> Result<SampleQuery<PgList<Answer>>, AllocError>
     ensures unspent { IfOk result (λ query. is_given query.outcome ≡ false) }
     ensures told { IfOk result (λ query.
-        told_query (told_all (λ rows. rows) (λ c. data_left c.left)) (query_told query.polls query.outcome)
+        told_query (told_all (λ rows. rows) (λ c. data_left c.left))
+        (query_told query.polls query.outcome)
         ≡ alone_or_not_known None) }
     ensures sendable { IfOk result (λ query. AreSendable (alone_or_not_known None).outcome) }
 {

@@ -1,5 +1,5 @@
-//! Handlers of a few sample queries, each with another kind of response: rows, errors among them, COPY of each
-//! direction, and commands.
+//! Handlers of a few sample queries, each with another kind of response: rows, errors among them,
+//! COPY of each direction, and commands.
 #![tactic(auto)]
 
 mod answer;

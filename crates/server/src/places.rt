@@ -66,7 +66,8 @@ fn tell_place<R: Print>(rt: &R, place: ListenPlace<'_>) -> io::Result<()> {
     }
 }
 
-/// Binds a place: 127.0.0.1 with a port, or a path. It is told when its first connection is waited for.
+/// Binds a place: 127.0.0.1 with a port, or a path. It is told when its first connection is waited
+/// for.
 pub fn bind_place<'w, R: Net<Stream = TcpStream, Listener = TcpListener> + Files + Clock + Copy>(
     rt: R,
     place: ListenPlace<'w>,
@@ -117,8 +118,8 @@ fn bind_path<R: Net + Files>(rt: &R, path: &str) -> io::Result<UnixListener> {
     }
 }
 
-/// Whether a socket stands at a path at which nobody listens any more, so that a connection is refused. No other file is
-/// one: a connection to it is refused too.
+/// Whether a socket stands at a path at which nobody listens any more, so that a connection is
+/// refused. No other file is one: a connection to it is refused too.
 fn is_left_over<R: Net + Files>(rt: &R, path: &str) -> bool {
     let Ok(found) = fs::symlink_metadata(rt, path) else {
         return false;

@@ -11,10 +11,12 @@ use std::alloc::{AllocError, Global};
 /// The status where memory ran out.
 pub const OUT_OF_MEMORY: u8 = 7;
 
-/// Writes the line of a relation file that was refused, and answers its status: 3 where the file is too long or a line of it
-/// is bad, 9 where a read failed, 7 where memory ran out, also for the line or in the sink.
+/// Writes the line of a relation file that was refused, and answers its status: 3 where the file is
+/// too long or a line of it is bad, 9 where a read failed, 7 where memory ran out, also for the
+/// line or in the sink.
 pub fn report_file<E: Sink>(alloc: Global, error: &FileError, err: &mut E) -> u8
-    ensures reported { IsReported (status_of_file error.now) (line_of_file error.now) result (E.written err.old)
+    ensures reported { IsReported (status_of_file error.now) (line_of_file error.now) result
+        (E.written err.old)
         (E.written err.new) (E.faults err.old) (E.faults err.new) }
     ensures never_falls { E.faults err.old ≤ E.faults err.new }
 {
@@ -52,11 +54,12 @@ fn reason_text(reason: &LineReason) -> &'static str
     }
 }
 
-/// Writes the line of a conversation's answer, where it has one, and answers its status: 0 at a good end, 10 at a bad frame,
-/// 11 at a fatal error, 4, 5 and 6 where a read failed, a write failed or the turns were spent, 7 where memory ran out, also
-/// in the sink.
+/// Writes the line of a conversation's answer, where it has one, and answers its status: 0 at a
+/// good end, 10 at a bad frame, 11 at a fatal error, 4, 5 and 6 where a read failed, a write failed
+/// or the turns were spent, 7 where memory ran out, also in the sink.
 pub fn report_conversation<E: Sink>(answer: Result<EndKind, ServeError>, err: &mut E) -> u8
-    ensures reported { IsReported (status_of_conversation answer) (line_of_conversation answer) result (E.written err.old)
+    ensures reported { IsReported (status_of_conversation answer) (line_of_conversation answer)
+        result (E.written err.old)
         (E.written err.new) (E.faults err.old) (E.faults err.new) }
     ensures never_falls { E.faults err.old ≤ E.faults err.new }
 {
@@ -71,8 +74,8 @@ pub fn report_conversation<E: Sink>(answer: Result<EndKind, ServeError>, err: &m
     }
 }
 
-/// Writes a line, and answers this status, or 7, that of no memory, where the sink finds none. After a write that failed a
-/// front of the line was written, and the status is the same.
+/// Writes a line, and answers this status, or 7, that of no memory, where the sink finds none.
+/// After a write that failed a front of the line was written, and the status is the same.
 pub fn write_line<E: Sink>(status: u8, line: &str, err: &mut E) -> u8
     requires { line.now ≢ [] }
     ensures reported { IsReported status line.now result (E.written err.old) (E.written err.new)

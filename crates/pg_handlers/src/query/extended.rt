@@ -47,14 +47,16 @@ use pg_portal::{
 use std::alloc::{AllocError, Global};
 use std::sync::Arc;
 
-/// What a server does for extended queries. What it tells of its queries and descriptions is its own; the `on_` calls
-/// have the protocol's rules as their bodies, and append their replies to the client's outbox.
+/// What a server does for extended queries. What it tells of its queries and descriptions is its
+/// own; the `on_` calls have the protocol's rules as their bodies, and append their replies to the
+/// client's outbox.
 ///
-/// An `on_` call has the condition that its message is one that a good frame carries, and that the client's store is
-/// good, and it leaves the store good. Its error is an error of the message, which is told to the client by whoever
-/// called it; what stands then is what the message has replied and changed before its error. After each error of
-/// Parse, Bind, Describe, Close and Sync, `NoMemory` too, the statements, the portals, what is known of the client and
-/// the outbox are as they were. After `NoMemory` the session is given up.
+/// An `on_` call has the condition that its message is one that a good frame carries, and that the
+/// client's store is good, and it leaves the store good. Its error is an error of the message,
+/// which is told to the client by whoever called it; what stands then is what the message has
+/// replied and changed before its error. After each error of Parse, Bind, Describe, Close and Sync,
+/// `NoMemory` too, the statements, the portals, what is known of the client and the outbox are as
+/// they were. After `NoMemory` the session is given up.
 pub trait ExtendedQueryHandler {
     /// What a statement means.
     type Statement: Drop;
@@ -79,8 +81,8 @@ pub trait ExtendedQueryHandler {
         ensures { IfOk result (λ parser.
             Self.QueryParser.told (arc_value parser) ≡ (told self.now).parser) };
 
-    /// The parameters' types and the columns of a statement. They can be sent as replies. The errors are the handler's
-    /// own, which the client is told, and NoMemory.
+    /// The parameters' types and the columns of a statement. They can be sent as replies. The
+    /// errors are the handler's own, which the client is told, and NoMemory.
     fn do_describe_statement(
         &self,
         alloc: Global,
@@ -89,12 +91,13 @@ pub trait ExtendedQueryHandler {
     ) -> Result<DescribeStatementResponse, PgWireError>
         requires short_metadata { HasShortMetadata client.now }
         requires good { IsGoodStatement (told self.now).parser target.now }
-        ensures outcome { IsOutcome ((told self.now).describe_statement client.now target.now) result }
+        ensures outcome { IsOutcome ((told self.now).describe_statement client.now target.now)
+            result }
         ensures sendable { IfOk result IsSendableDescription }
         ensures answerable { IfErr result IsAnswerable };
 
-    /// The columns of a portal. They can be sent as a reply. The errors are the handler's own, which the client is told,
-    /// and NoMemory.
+    /// The columns of a portal. They can be sent as a reply. The errors are the handler's own,
+    /// which the client is told, and NoMemory.
     fn do_describe_portal(
         &self,
         alloc: Global,
@@ -108,8 +111,8 @@ pub trait ExtendedQueryHandler {
         ensures sendable { IfOk result (λ d. IsEncodable (row_description d.fields)) }
         ensures answerable { IfErr result IsAnswerable };
 
-    /// Begins the query of a portal that isn't started. What it gives can be sent as replies. The only error is want of
-    /// memory, and nothing was begun then.
+    /// Begins the query of a portal that isn't started. What it gives can be sent as replies. The
+    /// only error is want of memory, and nothing was begun then.
     fn do_query(
         &self,
         alloc: Global,
@@ -126,8 +129,9 @@ pub trait ExtendedQueryHandler {
         ensures sendable { IfOk result (λ query. IsSendableOutcome
             ((told self.now).query client.now (bound_of portal.now) max_rows).outcome) };
 
-    /// Parse: stores the statement that the parser makes of the query, an empty one for None or a blank query, and
-    /// appends ParseComplete. The errors are the parser's, and NoMemory; after them the client is as it was.
+    /// Parse: stores the statement that the parser makes of the query, an empty one for None or a
+    /// blank query, and appends ParseComplete. The errors are the parser's, and NoMemory; after
+    /// them the client is as it was.
     fn on_parse<St: PortalStore<Statement = Self::Statement, Rows = Self::Rows>>(
         &self,
         alloc: Global,
@@ -154,10 +158,10 @@ pub trait ExtendedQueryHandler {
         Ok(())
     }
 
-    /// Bind: stores a portal of the statement, and appends BindComplete. StatementNotFound comes exactly where no
-    /// statement has this name; 08P01 where an empty statement is given parameters, or where there are two result codes
-    /// or more and fewer than the columns. The other errors are the parser's, and NoMemory. After each the client is as
-    /// it was.
+    /// Bind: stores a portal of the statement, and appends BindComplete. StatementNotFound comes
+    /// exactly where no statement has this name; 08P01 where an empty statement is given
+    /// parameters, or where there are two result codes or more and fewer than the columns. The
+    /// other errors are the parser's, and NoMemory. After each the client is as it was.
     fn on_bind<St: PortalStore<Statement = Self::Statement, Rows = Self::Rows>>(
         &self,
         alloc: Global,
@@ -189,8 +193,9 @@ pub trait ExtendedQueryHandler {
         }
     }
 
-    /// Execute: the row of the table where the client awaits a query, and NotReadyForQuery, which changes nothing, where
-    /// it doesn't. The other errors are those of `_on_execute`. After TurnLimit the client is as it was.
+    /// Execute: the row of the table where the client awaits a query, and NotReadyForQuery, which
+    /// changes nothing, where it doesn't. The other errors are those of `_on_execute`. After
+    /// TurnLimit the client is as it was.
     fn on_execute<St: PortalStore<Statement = Self::Statement, Rows = Self::Rows>, D: CancelDesk>(
         &self,
         alloc: Global,
@@ -237,16 +242,18 @@ pub trait ExtendedQueryHandler {
         }
     }
 
-    /// Execute, whatever the client awaits. PortalNotFound comes exactly where no portal has this name. An empty portal
-    /// gives EmptyQueryResponse. A portal that isn't started calls the desk's `start` and is then polled: each poll that
-    /// finds it unready spends a turn and is followed by one question; yes is QueryCanceled, and no turn left is
-    /// TurnLimit, and both leave the portal unstarted and the client as it was. Rows start it; every other response leaves
-    /// it as it is. A started portal gives its next page: DataRows, then PortalSuspended or CommandComplete.
+    /// Execute, whatever the client awaits. PortalNotFound comes exactly where no portal has this
+    /// name. An empty portal gives EmptyQueryResponse. A portal that isn't started calls the desk's
+    /// `start` and is then polled: each poll that finds it unready spends a turn and is followed by
+    /// one question; yes is QueryCanceled, and no turn left is TurnLimit, and both leave the portal
+    /// unstarted and the client as it was. Rows start it; every other response leaves it as it is.
+    /// A started portal gives its next page: DataRows, then PortalSuspended or CommandComplete.
     ///
-    /// The other errors are the query's own, after which the client is as it was; that of an item in the place of a row or
-    /// of data; and NoMemory. The error of a row is consumed with the rows before it, which are taken back from the outbox;
-    /// the data before an error stay there. After NoMemory the rows that were read are consumed, the portal may be started,
-    /// and the outbox may hold a part of the replies.
+    /// The other errors are the query's own, after which the client is as it was; that of an item
+    /// in the place of a row or of data; and NoMemory. The error of a row is consumed with the rows
+    /// before it, which are taken back from the outbox; the data before an error stay there. After
+    /// NoMemory the rows that were read are consumed, the portal may be started, and the outbox may
+    /// hold a part of the replies.
     fn _on_execute<St: PortalStore<Statement = Self::Statement, Rows = Self::Rows>, D: CancelDesk>(
         &self,
         alloc: Global,
@@ -296,9 +303,10 @@ pub trait ExtendedQueryHandler {
         }
     }
 
-    /// Describe of a statement (`S`) or a portal (`P`): what describes it. StatementNotFound and PortalNotFound come
-    /// exactly where none has this name, InvalidTargetType for any other byte. The other errors are those of
-    /// `do_describe_statement` and `do_describe_portal`, and NoMemory. After each the client is as it was.
+    /// Describe of a statement (`S`) or a portal (`P`): what describes it. StatementNotFound and
+    /// PortalNotFound come exactly where none has this name, InvalidTargetType for any other byte.
+    /// The other errors are those of `do_describe_statement` and `do_describe_portal`, and
+    /// NoMemory. After each the client is as it was.
     fn on_describe<St: PortalStore<Statement = Self::Statement, Rows = Self::Rows>>(
         &self,
         alloc: Global,
@@ -387,8 +395,8 @@ pub trait ExtendedQueryHandler {
         Ok(())
     }
 
-    /// Sync: the unnamed portal is removed, ReadyForQuery is appended, and the client awaits a query. The only error is
-    /// NoMemory, after which the client is as it was.
+    /// Sync: the unnamed portal is removed, ReadyForQuery is appended, and the client awaits a
+    /// query. The only error is NoMemory, after which the client is as it was.
     fn on_sync<St: PortalStore<Statement = Self::Statement, Rows = Self::Rows>>(
         &self,
         client: &mut Client<St>,
@@ -415,9 +423,9 @@ pub trait ExtendedQueryHandler {
         Ok(())
     }
 
-    /// Close: removes the statement (`S`) or the portal (`P`) of this name, where there is one, and appends
-    /// CloseComplete. Portals of a removed statement stay. The only error is NoMemory, after which the client is as it
-    /// was.
+    /// Close: removes the statement (`S`) or the portal (`P`) of this name, where there is one, and
+    /// appends CloseComplete. Portals of a removed statement stay. The only error is NoMemory,
+    /// after which the client is as it was.
     fn on_close<St: PortalStore<Statement = Self::Statement, Rows = Self::Rows>>(
         &self,
         client: &mut Client<St>,

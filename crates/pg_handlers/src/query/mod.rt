@@ -34,15 +34,17 @@ pub trait QueryState: Drop {
     // whether its outcome was given; until then how many polls it owes, and its outcome
     ghost told: { Self → QueryTold Self.Out };
 
-    /// Unready exactly where a poll is owed, of which there is then one less. Else what the query gives, after which it
-    /// is spent and isn't asked again. The only error is want of memory, after which nothing has changed.
+    /// Unready exactly where a poll is owed, of which there is then one less. Else what the query
+    /// gives, after which it is spent and isn't asked again. The only error is want of memory,
+    /// after which nothing has changed.
     fn poll(&mut self) -> Result<Turn<Self::Out>, AllocError>
         requires { (told self.old).is_spent ≡ false }
         ensures { IsPolled (told self.old) result (told self.new) };
 }
 
-/// Waits for a query: each poll that finds it unready spends a turn, and the desk is then asked whether the query was
-/// canceled. Where it was, the error is QueryCanceled. TurnLimit comes where no turn is left and one more was met.
+/// Waits for a query: each poll that finds it unready spends a turn, and the desk is then asked
+/// whether the query was canceled. Where it was, the error is QueryCanceled. TurnLimit comes where
+/// no turn is left and one more was met.
 pub(crate) fn wait<Q: QueryState, D: CancelDesk>(
     query: &mut Q,
     desk: &mut D,

@@ -35,7 +35,8 @@ use pg_portal::{
 };
 use std::alloc::{AllocError, Global};
 
-/// What a response left: the transaction status behind it, and whether a COPY of the client has begun.
+/// What a response left: the transaction status behind it, and whether a COPY of the client has
+/// begun.
 #[derive(Clone, Copy)]
 pub(crate) struct Behind {
     pub status: TransactionStatus,
@@ -72,8 +73,8 @@ pub(crate) fn send_error(outbox: &mut Outbox, info: ErrorInfo) -> Result<(), All
     outbox.push(&PgWireBackendMessage::ErrorResponse(ErrorResponse { info }))
 }
 
-/// Appends what a response sends where the transaction status is this, and answers what it left. An error in the place
-/// of a row or of data is answered; what stands before it stays in the outbox.
+/// Appends what a response sends where the transaction status is this, and answers what it left. An
+/// error in the place of a row or of data is answered; what stands before it stays in the outbox.
 pub(crate) fn send_response<R: RowSource, C: CopySource>(
     alloc: Global,
     outbox: &mut Outbox,
@@ -123,7 +124,8 @@ pub(crate) fn send_response<R: RowSource, C: CopySource>(
     Ok(Behind::at(status))
 }
 
-/// Appends what several responses send, in their order, up to the first error in the place of a row or of data.
+/// Appends what several responses send, in their order, up to the first error in the place of a row
+/// or of data.
 pub(crate) fn send_responses<R: RowSource, C: CopySource>(
     alloc: Global,
     outbox: &mut Outbox,
@@ -156,8 +158,8 @@ pub(crate) fn is_unstarted<S: Drop, R: RowSource>(portal: &Portal<S, R>) -> bool
     matches!(portal.state, PortalExecutionState::Initial)
 }
 
-/// Appends the next page of a started portal, and counts its rows. The error of an item is answered, and the rows before
-/// it are taken back and not counted.
+/// Appends the next page of a started portal, and counts its rows. The error of an item is
+/// answered, and the rows before it are taken back and not counted.
 pub(crate) fn send_page<S: Drop, R: RowSource>(
     alloc: Global,
     outbox: &mut Outbox,

@@ -18,8 +18,9 @@ use pg_outbox::Outbox;
 use pg_portal::{CopySource, PgWireError, Portal, Response, RowSource};
 use std::alloc::Global;
 
-/// Waits for the query of a portal that isn't started. Rows start the portal, and its first page is appended; a
-/// response without rows is handed on, and the portal is as it was. So it is after QueryCanceled and TurnLimit.
+/// Waits for the query of a portal that isn't started. Rows start the portal, and its first page is
+/// appended; a response without rows is handed on, and the portal is as it was. So it is after
+/// QueryCanceled and TurnLimit.
 pub(crate) fn run_portal<
     S: Drop,
     R: RowSource,

@@ -147,7 +147,8 @@ fn send_parameter_description(
     outbox.push(&PgWireBackendMessage::ParameterDescription(ParameterDescription { types }))
 }
 
-/// Appends what the columns of a statement or a portal are: RowDescription, or NoData where there is nothing to describe.
+/// Appends what the columns of a statement or a portal are: RowDescription, or NoData where there
+/// is nothing to describe.
 fn send_columns<DR: DescribeResponse>(
     alloc: Global,
     outbox: &mut Outbox,
@@ -164,8 +165,9 @@ fn send_columns<DR: DescribeResponse>(
     send_row_description(alloc, outbox, describe_response.fields())
 }
 
-/// Appends what describes a statement or a portal: of a statement ParameterDescription, and then RowDescription, or
-/// NoData where there is nothing to describe. After an error the outbox is as it was.
+/// Appends what describes a statement or a portal: of a statement ParameterDescription, and then
+/// RowDescription, or NoData where there is nothing to describe. After an error the outbox is as it
+/// was.
 pub fn send_describe_response<DR: DescribeResponse>(
     alloc: Global,
     outbox: &mut Outbox,
@@ -208,7 +210,8 @@ impl<'a> RowReceiver for RowSender<'a> {
         self.outbox.push(&PgWireBackendMessage::DataRow(row))
     }
 
-    ghost none = { λ sender. ap (λ now. record sender { outbox = record sender.outbox { now = now } })
+    ghost none = { λ sender. ap (λ now. record sender
+        { outbox = record sender.outbox { now = now } })
         (append-nil sender.outbox.now) };
 
     ghost more = { λ sender rows behind. ap
@@ -216,9 +219,10 @@ impl<'a> RowReceiver for RowSender<'a> {
         (rows_behind sender.outbox.now rows behind) };
 }
 
-/// Appends the next page of a response, of which so many rows were delivered: at most so many DataRows, and below 1 all
-/// of them; then PortalSuspended where the limit was reached, or else CommandComplete with the tag and the number of
-/// rows delivered. The error of an item is answered as by `send_partial_query_response`.
+/// Appends the next page of a response, of which so many rows were delivered: at most so many
+/// DataRows, and below 1 all of them; then PortalSuspended where the limit was reached, or else
+/// CommandComplete with the tag and the number of rows delivered. The error of an item is answered
+/// as by `send_partial_query_response`.
 pub(crate) fn send_next_page<R: RowSource>(
     alloc: Global,
     outbox: &mut Outbox,
@@ -254,7 +258,8 @@ pub(crate) fn send_next_page<R: RowSource>(
 {
     let mut sender = RowSender { outbox };
     let page = deliver_page(&mut results.data_rows, &mut sender, delivered, max_rows)?;
-    // A length is a usize, and the rows are no more than their bytes, so that their number doesn't stand still.
+    // A length is a usize, and the rows are no more than their bytes, so that their number doesn't
+    // stand still.
     let _waiting = outbox.len();
     if page.suspended {
         outbox.push(&PgWireBackendMessage::PortalSuspended(PortalSuspended {}))?;
@@ -264,10 +269,11 @@ pub(crate) fn send_next_page<R: RowSource>(
     Ok(page)
 }
 
-/// Appends a page of rows: at most so many DataRows, and below 1 all of them; then PortalSuspended where the limit was
-/// reached, which is answered by true, or else CommandComplete with the tag and the number of these rows. The error of
-/// an item is answered and the item consumed; the rows before it stay in the outbox. After NoMemory some of the rows may
-/// stand there, and are consumed. What waited before stays in front after every answer.
+/// Appends a page of rows: at most so many DataRows, and below 1 all of them; then PortalSuspended
+/// where the limit was reached, which is answered by true, or else CommandComplete with the tag and
+/// the number of these rows. The error of an item is answered and the item consumed; the rows
+/// before it stay in the outbox. After NoMemory some of the rows may stand there, and are consumed.
+/// What waited before stays in front after every answer.
 pub fn send_partial_query_response<R: RowSource>(
     alloc: Global,
     outbox: &mut Outbox,
@@ -298,9 +304,10 @@ pub fn send_partial_query_response<R: RowSource>(
     Ok(send_next_page(alloc, outbox, results, 0, max_rows)?.suspended)
 }
 
-/// Appends all rows of a query: RowDescription where it is wanted, a DataRow for each row, CommandComplete with the tag
-/// and their number. The error of an item is answered, and what stands before it, RowDescription and rows, stays in the
-/// outbox. After NoMemory any part of all this may stand there. What waited before stays in front after every answer.
+/// Appends all rows of a query: RowDescription where it is wanted, a DataRow for each row,
+/// CommandComplete with the tag and their number. The error of an item is answered, and what stands
+/// before it, RowDescription and rows, stays in the outbox. After NoMemory any part of all this may
+/// stand there. What waited before stays in front after every answer.
 pub fn send_query_response<R: RowSource>(
     alloc: Global,
     outbox: &mut Outbox,
@@ -323,7 +330,8 @@ pub fn send_query_response<R: RowSource>(
     Ok(())
 }
 
-/// The next data of a COPY, and the trailer of binary data behind them. After an error all are still to come.
+/// The next data of a COPY, and the trailer of binary data behind them. After an error all are
+/// still to come.
 fn next_data<C: CopySource>(
     alloc: Global,
     resp: &mut CopyResponse<C>,
@@ -457,9 +465,10 @@ fn send_copy_both_head<C: CopySource>(
     outbox.push(&PgWireBackendMessage::CopyBothResponse(head))
 }
 
-/// Appends a COPY to the client: CopyOutResponse, CopyData for each data that isn't empty, CopyDone, and CommandComplete
-/// `COPY n` for n data without the trailer. The error of an item is answered, and what stands before it stays in the
-/// outbox. After NoMemory any part of all this may stand there. What waited before stays in front after every answer.
+/// Appends a COPY to the client: CopyOutResponse, CopyData for each data that isn't empty,
+/// CopyDone, and CommandComplete `COPY n` for n data without the trailer. The error of an item is
+/// answered, and what stands before it stays in the outbox. After NoMemory any part of all this may
+/// stand there. What waited before stays in front after every answer.
 pub fn send_copy_out_response<C: CopySource>(
     alloc: Global,
     outbox: &mut Outbox,
@@ -467,7 +476,8 @@ pub fn send_copy_out_response<C: CopySource>(
 ) -> Result<(), PgWireError>
     requires { resp.columns ≤ 32767 }
     ensures sent { (now : TransactionStatus) → IsAllSent (sent_copy now false
-        (copy_out_reply (told_copy C.items resp)) (told_copy C.items resp)) outbox.old outbox.new result }
+        (copy_out_reply (told_copy C.items resp)) (told_copy C.items resp)) outbox.old outbox.new
+        result }
     ensures answerable { IfErr result IsAnswerableItem }
     ensures kept { take (length outbox.old) outbox.new ≡ outbox.old }
 {
@@ -478,7 +488,8 @@ pub fn send_copy_out_response<C: CopySource>(
     Ok(())
 }
 
-/// Appends a COPY both ways: CopyBothResponse, and then as `send_copy_out_response`, with its errors.
+/// Appends a COPY both ways: CopyBothResponse, and then as `send_copy_out_response`, with its
+/// errors.
 pub fn send_copy_both_response<C: CopySource>(
     alloc: Global,
     outbox: &mut Outbox,
@@ -486,7 +497,8 @@ pub fn send_copy_both_response<C: CopySource>(
 ) -> Result<(), PgWireError>
     requires { resp.columns ≤ 32767 }
     ensures sent { (now : TransactionStatus) → IsAllSent (sent_copy now true
-        (copy_both_reply (told_copy C.items resp)) (told_copy C.items resp)) outbox.old outbox.new result }
+        (copy_both_reply (told_copy C.items resp)) (told_copy C.items resp)) outbox.old outbox.new
+        result }
     ensures answerable { IfErr result IsAnswerableItem }
     ensures kept { take (length outbox.old) outbox.new ≡ outbox.old }
 {

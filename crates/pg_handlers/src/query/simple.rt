@@ -32,8 +32,8 @@ use pg_portal::{
 };
 use std::alloc::{AllocError, Global};
 
-/// What a server does for simple queries. What it tells of its queries is its own; the `on_` calls have the protocol's
-/// rules as their bodies.
+/// What a server does for simple queries. What it tells of its queries is its own; the `on_` calls
+/// have the protocol's rules as their bodies.
 pub trait SimpleQueryHandler {
     /// Where the rows of a query come from.
     type Rows: RowSource;
@@ -47,8 +47,8 @@ pub trait SimpleQueryHandler {
     // what it tells of a query of a client
     ghost told: { Self → SimpleTold };
 
-    /// Begins a query that isn't blank. What it gives can be sent as replies. The only error is want of memory, and
-    /// nothing was begun then.
+    /// Begins a query that isn't blank. What it gives can be sent as replies. The only error is
+    /// want of memory, and nothing was begun then.
     fn do_query(
         &self,
         alloc: Global,
@@ -61,10 +61,11 @@ pub trait SimpleQueryHandler {
         ensures told { IfOk result (λ state.
             told_query (told_all Self.Rows.items Self.CopyRows.items) (Self.Query.told state)
             ≡ told self.now client.now query.now) }
-        ensures sendable { IfOk result (λ state. AreSendable (told self.now client.now query.now).outcome) };
+        ensures sendable { IfOk result (λ state. AreSendable
+            (told self.now client.now query.now).outcome) };
 
-    /// Query: the row of the table where the client awaits a query, and NotReadyForQuery, which changes nothing, where
-    /// it doesn't. The other errors are those of `_on_query`.
+    /// Query: the row of the table where the client awaits a query, and NotReadyForQuery, which
+    /// changes nothing, where it doesn't. The other errors are those of `_on_query`.
     fn on_query<St: PortalStore, D: CancelDesk>(
         &self,
         alloc: Global,
@@ -110,14 +111,16 @@ pub trait SimpleQueryHandler {
         }
     }
 
-    /// Query, whatever the client awaits. A blank text gives EmptyQueryResponse and ReadyForQuery, and asks nothing.
-    /// Any other calls the desk's `start` and is then polled: each poll that finds it unready spends a turn and is
-    /// followed by one question; yes is QueryCanceled, and no turn left is TurnLimit. Then come its responses in their
-    /// order, and ReadyForQuery with the status that they left, unless a COPY has begun.
+    /// Query, whatever the client awaits. A blank text gives EmptyQueryResponse and ReadyForQuery,
+    /// and asks nothing. Any other calls the desk's `start` and is then polled: each poll that
+    /// finds it unready spends a turn and is followed by one question; yes is QueryCanceled, and no
+    /// turn left is TurnLimit. Then come its responses in their order, and ReadyForQuery with the
+    /// status that they left, unless a COPY has begun.
     ///
-    /// The other errors are the query's own, with which nothing is sent; that of an item in the place of a row or of data,
-    /// and what was sent before it stays in the outbox; and NoMemory, after which the outbox may hold a part of the replies.
-    /// After each error the status, the phase and the store are as they were.
+    /// The other errors are the query's own, with which nothing is sent; that of an item in the
+    /// place of a row or of data, and what was sent before it stays in the outbox; and NoMemory,
+    /// after which the outbox may hold a part of the replies. After each error the status, the
+    /// phase and the store are as they were.
     fn _on_query<St: PortalStore, D: CancelDesk>(
         &self,
         alloc: Global,

@@ -70,7 +70,8 @@ pub(crate) fn store_statement<St: PortalStore>(
     }
 }
 
-/// Appends ParseComplete, and stores what a parser found under a name. After an error neither is done.
+/// Appends ParseComplete, and stores what a parser found under a name. After an error neither is
+/// done.
 pub(crate) fn store_parsed<St: PortalStore>(
     alloc: Global,
     client: &mut Client<St>,
@@ -80,7 +81,8 @@ pub(crate) fn store_parsed<St: PortalStore>(
     requires { IfSome found (λ statement. statement.id ≡ name.now) }
     ensures ok { OnOk result (state_of St.maps client.new
         ≡ with_statement (state_of St.maps client.old) name.now (entry_of found)) }
-    ensures replied { OnOk result (client.new.outbox ≡ client.old.outbox ++ replies_bytes parse_complete) }
+    ensures replied { OnOk result (client.new.outbox
+        ≡ client.old.outbox ++ replies_bytes parse_complete) }
     ensures err { OnErr result
         (state_of St.maps client.new ≡ state_of St.maps client.old) }
     ensures waiting { OnErr result (client.new.outbox ≡ client.old.outbox) }
@@ -98,7 +100,8 @@ pub(crate) fn store_parsed<St: PortalStore>(
 
 /// The error of severity ERROR and code 08P01 with this text.
 fn protocol_violation(alloc: Global, text: String) -> Result<PgWireError, AllocError>
-    ensures { IfOk result (λ error. error ≡ wire.UserError (error_info (codes "08P01") (string_bytes text))) }
+    ensures { IfOk result (λ error. error
+        ≡ wire.UserError (error_info (codes "08P01") (string_bytes text))) }
 {
     Ok(PgWireError::UserError(ErrorInfo::new(
         PgStr::copy_of(alloc, "ERROR")?,
@@ -110,7 +113,8 @@ fn protocol_violation(alloc: Global, text: String) -> Result<PgWireError, AllocE
 /// Parameters were given for an empty statement.
 fn values_for_empty(alloc: Global, count: usize, name: &str) -> Result<PgWireError, AllocError>
     requires name { IsShortText name.now }
-    ensures error { IfOk result (λ error. error ≡ wire.UserError (values_for_empty count name.now)) }
+    ensures error { IfOk result (λ error. error
+        ≡ wire.UserError (values_for_empty count name.now)) }
     ensures answerable { IfOk result IsAnswerable }
 {
     let text = format!(in alloc;
@@ -167,7 +171,8 @@ fn check_codes<Q: QueryParser>(
     codes: usize,
 ) -> Result<(), PgWireError>
     requires { IsTrue ((Q.told parser.now).gives statement.now.statement) }
-    ensures ok { OnOk result (HasEnough codes ((Q.told parser.now).columns statement.now.statement None)) }
+    ensures ok { OnOk result (HasEnough
+        codes ((Q.told parser.now).columns statement.now.statement None)) }
     ensures refused { IfErr result (λ e. (e ≡ wire.NoMemory)
         ⊎ IsTooFew codes ((Q.told parser.now).columns statement.now.statement None) e) }
     ensures answerable { IfErr result IsAnswerable }
@@ -229,7 +234,8 @@ fn store_portal<St: PortalStore>(
     ensures ok { OnOk result (state_of St.maps client.new
         ≡ with_portal (state_of St.maps client.old) portal.name
         (entry.Value (portal_of St.Rows.items portal))) }
-    ensures replied { OnOk result (client.new.outbox ≡ client.old.outbox ++ replies_bytes bind_complete) }
+    ensures replied { OnOk result (client.new.outbox
+        ≡ client.old.outbox ++ replies_bytes bind_complete) }
     ensures err { OnErr result
         (state_of St.maps client.new ≡ state_of St.maps client.old) }
     ensures waiting { OnErr result (client.new.outbox ≡ client.old.outbox) }
@@ -251,7 +257,8 @@ fn store_empty_portal<St: PortalStore>(
 ) -> Result<(), AllocError>
     ensures ok { OnOk result (state_of St.maps client.new
         ≡ with_portal (state_of St.maps client.old) name.now entry.Empty) }
-    ensures replied { OnOk result (client.new.outbox ≡ client.old.outbox ++ replies_bytes bind_complete) }
+    ensures replied { OnOk result (client.new.outbox
+        ≡ client.old.outbox ++ replies_bytes bind_complete) }
     ensures err { OnErr result
         (state_of St.maps client.new ≡ state_of St.maps client.old) }
     ensures waiting { OnErr result (client.new.outbox ≡ client.old.outbox) }

@@ -12,8 +12,8 @@ const NANOS_PER_DAY: i128 = 86_400_000_000_000;
 const NANOS_PER_MICRO: i128 = 1000;
 
 impl Interval {
-    /// The interval of a duration: its whole days, toward zero and at most as many as `i32` holds, and the
-    /// microseconds of the rest, toward zero. `None` comes where these leave `i64`.
+    /// The interval of a duration: its whole days, toward zero and at most as many as `i32` holds,
+    /// and the microseconds of the rest, toward zero. `None` comes where these leave `i64`.
     pub fn from_duration(duration: SignedDuration) -> Option<Interval>
         ensures { let interval = duration_interval (signed_nanos duration) in
             SomeIff result (FitsSigned w64 interval.microseconds) interval }

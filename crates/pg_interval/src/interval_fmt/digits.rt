@@ -9,7 +9,8 @@ use super::back::put_byte;
 static PAIRS: [u8; 200] =
     *b"00010203040506070809101112131415161718192021222324252627282930313233343536373839404142434445464748495051525354555657585960616263646566676869707172737475767778798081828384858687888990919293949596979899";
 
-/// Writes the number in decimal digits. It needs three bytes more than they are: four are written where one is left.
+/// Writes the number in decimal digits. It needs three bytes more than they are: four are written
+/// where one is left.
 #[inline(always)]
 pub fn put_digits(number: u64, text: &mut [u8; LONGEST], end: usize) -> usize
     requires { (length (decimal number) + 3 ≤ end) × (end ≤ 96) }
@@ -25,7 +26,8 @@ pub fn put_digits(number: u64, text: &mut [u8; LONGEST], end: usize) -> usize
     put_up_to_four(left, text, place)
 }
 
-/// Writes a number below 10,000 in decimal digits: all four are written, and the zeros in front not counted.
+/// Writes a number below 10,000 in decimal digits: all four are written, and the zeros in front not
+/// counted.
 #[inline(always)]
 #[tactic(auto, using(crate::proofs::PutDigits::behind_zeros))]
 fn put_up_to_four(number: u64, text: &mut [u8; LONGEST], end: usize) -> usize

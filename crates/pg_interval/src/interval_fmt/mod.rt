@@ -28,7 +28,8 @@ use verbose::put_verbose;
 const LONGEST: usize = 96;
 
 impl Interval {
-    /// The text in the style `postgres`, as `1 year 2 mons 3 days 04:05:06.700000`. It takes no memory.
+    /// The text in the style `postgres`, as `1 year 2 mons 3 days 04:05:06.700000`. It takes no
+    /// memory.
     pub fn postgres_text(&self) -> IntervalText
         ensures printed { result ≡ printed Postgres self.now }
         // the text stands for this interval and for no other, and no other prints as it does
@@ -40,8 +41,8 @@ impl Interval {
         self.in_normal_form().postgres_text()
     }
 
-    /// The text in the style `postgres_verbose`, as `@ 1 year 2 mons 3 days 4 hours 5 mins 6.7 secs`. It takes no
-    /// memory.
+    /// The text in the style `postgres_verbose`, as `@ 1 year 2 mons 3 days 4 hours 5 mins 6.7
+    /// secs`. It takes no memory.
     pub fn postgres_verbose_text(&self) -> IntervalText
         ensures printed { result ≡ printed PostgresVerbose self.now }
         // the text stands for this interval and for no other, and no other prints as it does
@@ -82,17 +83,22 @@ impl Interval {
         ensures printed { IfOk result (λ text. string_bytes text ≡ printed Postgres self.now) }
         // the text stands for this interval and for no other, and no other prints as it does
         ensures stands { IfOk result (λ text. StandsForOnly Postgres (string_bytes text) self.now) }
-        ensures distinct { IfOk result (λ text. IsPrintedOnlyFor Postgres (string_bytes text) self.now) }
+        ensures distinct { IfOk result (λ text. IsPrintedOnlyFor Postgres (string_bytes text)
+            self.now) }
     {
         self.in_normal_form().into_postgres(alloc)
     }
 
-    /// The text in the style `postgres_verbose`, as `@ 1 year 2 mons 3 days 4 hours 5 mins 6.7 secs`.
+    /// The text in the style `postgres_verbose`, as `@ 1 year 2 mons 3 days 4 hours 5 mins 6.7
+    /// secs`.
     pub fn to_postgres_verbose(&self, alloc: Global) -> Result<String, AllocError>
-        ensures printed { IfOk result (λ text. string_bytes text ≡ printed PostgresVerbose self.now) }
+        ensures printed { IfOk result (λ text. string_bytes text
+            ≡ printed PostgresVerbose self.now) }
         // the text stands for this interval and for no other, and no other prints as it does
-        ensures stands { IfOk result (λ text. StandsForOnly PostgresVerbose (string_bytes text) self.now) }
-        ensures distinct { IfOk result (λ text. IsPrintedOnlyFor PostgresVerbose (string_bytes text) self.now) }
+        ensures stands { IfOk result (λ text. StandsForOnly PostgresVerbose (string_bytes text)
+            self.now) }
+        ensures distinct { IfOk result (λ text. IsPrintedOnlyFor PostgresVerbose (string_bytes text)
+            self.now) }
     {
         self.in_normal_form().into_postgres_verbose(alloc)
     }
@@ -102,7 +108,8 @@ impl Interval {
         ensures printed { IfOk result (λ text. string_bytes text ≡ printed Iso8601 self.now) }
         // the text stands for this interval and for no other, and no other prints as it does
         ensures stands { IfOk result (λ text. StandsForOnly Iso8601 (string_bytes text) self.now) }
-        ensures distinct { IfOk result (λ text. IsPrintedOnlyFor Iso8601 (string_bytes text) self.now) }
+        ensures distinct { IfOk result (λ text. IsPrintedOnlyFor Iso8601 (string_bytes text)
+            self.now) }
     {
         self.in_normal_form().into_iso_8601(alloc)
     }
@@ -111,8 +118,10 @@ impl Interval {
     pub fn to_sql(&self, alloc: Global) -> Result<String, AllocError>
         ensures printed { IfOk result (λ text. string_bytes text ≡ printed SqlStandard self.now) }
         // the text stands for this interval and for no other, and no other prints as it does
-        ensures stands { IfOk result (λ text. StandsForOnly SqlStandard (string_bytes text) self.now) }
-        ensures distinct { IfOk result (λ text. IsPrintedOnlyFor SqlStandard (string_bytes text) self.now) }
+        ensures stands { IfOk result (λ text. StandsForOnly SqlStandard (string_bytes text)
+            self.now) }
+        ensures distinct { IfOk result (λ text. IsPrintedOnlyFor SqlStandard (string_bytes text)
+            self.now) }
     {
         self.in_normal_form().into_sql(alloc)
     }
@@ -129,8 +138,8 @@ impl Interval {
 }
 
 impl IntervalNorm {
-    /// The text in the style `postgres`: the years, months and days that aren't zero, each with its own minus, and
-    /// the time, unless it is zero. Zero prints `00:00:00`.
+    /// The text in the style `postgres`: the years, months and days that aren't zero, each with its
+    /// own minus, and the time, unless it is zero. Zero prints `00:00:00`.
     #[inline(always)]
     pub fn into_postgres(self, alloc: Global) -> Result<String, AllocError>
         requires { IsNormal self }
@@ -140,8 +149,8 @@ impl IntervalNorm {
         text.to_string(alloc)
     }
 
-    /// The text in the style `postgres_verbose`: `@` and the parts that aren't zero. Where the first is negative,
-    /// each number is negated and the text ends with `ago`. Zero prints `@ 0`.
+    /// The text in the style `postgres_verbose`: `@` and the parts that aren't zero. Where the
+    /// first is negative, each number is negated and the text ends with `ago`. Zero prints `@ 0`.
     #[inline(always)]
     pub fn into_postgres_verbose(self, alloc: Global) -> Result<String, AllocError>
         requires { IsNormal self }
@@ -151,8 +160,8 @@ impl IntervalNorm {
         text.to_string(alloc)
     }
 
-    /// The text in the style `iso_8601`: `PT0S` for zero, else `P` and each number that isn't zero with its own minus
-    /// and its letter, the time's behind a `T`.
+    /// The text in the style `iso_8601`: `PT0S` for zero, else `P` and each number that isn't zero
+    /// with its own minus and its letter, the time's behind a `T`.
     #[inline(always)]
     pub fn into_iso_8601(self, alloc: Global) -> Result<String, AllocError>
         requires { IsNormal self }
@@ -162,8 +171,8 @@ impl IntervalNorm {
         text.to_string(alloc)
     }
 
-    /// The text in the style `sql_standard`: `0` for zero, years and months alone, days and time alone where no two
-    /// have opposite signs, and else all three, each with its sign.
+    /// The text in the style `sql_standard`: `0` for zero, years and months alone, days and time
+    /// alone where no two have opposite signs, and else all three, each with its sign.
     #[inline(always)]
     pub fn into_sql(self, alloc: Global) -> Result<String, AllocError>
         requires { IsNormal self }

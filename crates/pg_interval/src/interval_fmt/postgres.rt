@@ -8,8 +8,8 @@ use super::digits::{put_digits, put_two_digits};
 use super::parts::put_part;
 use crate::interval_norm::IntervalNorm;
 
-/// Writes the text in the style `postgres`: the years, months and days that aren't zero, each with its own minus, and
-/// the time, unless it is zero. Zero prints `00:00:00`.
+/// Writes the text in the style `postgres`: the years, months and days that aren't zero, each with
+/// its own minus, and the time, unless it is zero. Zero prints `00:00:00`.
 #[inline(always)]
 #[tactic(auto, unfolding(crate::specs::Printed::postgres_text, crate::specs::Printed::date_parts))]
 pub fn put_postgres(fields: &IntervalNorm, text: &mut [u8; LONGEST]) -> usize

@@ -24,8 +24,8 @@ impl IntervalNorm {
     }
 }
 
-/// Writes the text in the style `sql_standard`: `0` for zero, years and months alone, days and time alone where no two
-/// have opposite signs, and else all three, each with its sign.
+/// Writes the text in the style `sql_standard`: `0` for zero, years and months alone, days and time
+/// alone where no two have opposite signs, and else all three, each with its sign.
 #[inline(always)]
 #[tactic(auto, using(crate::proofs::PrintedLemmas::signed_passed), unfolding(crate::specs::Printed::sql_text))]
 pub fn put_sql(fields: &IntervalNorm, text: &mut [u8; LONGEST], end: usize) -> usize

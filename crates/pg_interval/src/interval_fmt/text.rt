@@ -5,7 +5,8 @@ use super::LONGEST;
 use std::alloc::{AllocError, Global};
 use std::marker::Model;
 
-/// The text of an interval in a style, ASCII bytes that stand in the value itself: it takes no memory.
+/// The text of an interval in a style, ASCII bytes that stand in the value itself: it takes no
+/// memory.
 #[derive(Drop)]
 pub struct IntervalText {
     /// The text is what stands from `start` on.

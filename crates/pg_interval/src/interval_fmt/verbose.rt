@@ -40,8 +40,8 @@ impl IntervalNorm {
     }
 }
 
-/// Writes the text in the style `postgres_verbose`: `@` and the parts that aren't zero. Where the first is negative,
-/// each number is negated and the text ends with `ago`. Zero prints `@ 0`.
+/// Writes the text in the style `postgres_verbose`: `@` and the parts that aren't zero. Where the
+/// first is negative, each number is negated and the text ends with `ago`. Zero prints `@ 0`.
 #[inline(always)]
 #[tactic(auto, using(crate::proofs::PrintedLemmas::parts_put), unfolding(crate::specs::Printed::verbose_text))]
 pub fn put_verbose(fields: &IntervalNorm, text: &mut [u8; LONGEST], end: usize) -> usize
@@ -231,8 +231,8 @@ fn put_some_digits(number: u64, text: &mut [u8; LONGEST], end: usize) -> usize
     place
 }
 
-/// Writes the last digit of the number in front of the digits up to `end`, unless it is a zero behind which no digit
-/// stands.
+/// Writes the last digit of the number in front of the digits up to `end`, unless it is a zero
+/// behind which no digit stands.
 #[inline(always)]
 fn put_unless_last_zero(number: u64, text: &mut [u8; LONGEST], place: usize, end: usize) -> usize
     requires { (1 ≤ place) × (place ≤ 96) }

@@ -66,7 +66,8 @@ impl Items {
         Some(rest)
     }
 
-    /// Takes the `T` or the item in front of the text, and returns the rest. `None` comes where the shape is broken.
+    /// Takes the `T` or the item in front of the text, and returns the rest. `None` comes where the
+    /// shape is broken.
     fn take_front<'a>(&mut self, text: &'a [u8]) -> Option<&'a [u8]>
         requires room { self.old.totals.count < 16384 }
         requires filled { 0 < length text.now }
@@ -131,8 +132,8 @@ fn read_iso(text: &[u8]) -> Option<Totals>
 }
 
 impl Interval {
-    /// The interval that the text stands for in the style `iso_8601`, as `P1Y2M3DT4H5M6.7S`: `P`, then numbers with their
-    /// letters, those of the time behind a `T`.
+    /// The interval that the text stands for in the style `iso_8601`, as `P1Y2M3DT4H5M6.7S`: `P`,
+    /// then numbers with their letters, those of the time behind a `T`.
     ///
     /// The refusals are those of `from_postgres`.
     pub fn from_iso(text: &str) -> Result<Interval, ParseError>

@@ -1,5 +1,6 @@
-// A first try at reading the style `iso_8601`: items whose numbers lie below 2 ^ 31, and six digits behind a point. It
-// answers for the texts that it knows, and leaves all others to the whole reader.
+// A first try at reading the style `iso_8601`: items whose numbers lie below 2 ^ 31, and six digits
+// behind a point. It answers for the texts that it knows, and leaves all others to the whole
+// reader.
 ghost use Rattle.std.specs.Prelude.{◌≡◌, ◌≤◌, ◌<◌, ◌^◌, ◌∷◌, true, false, length, IfSome, Some, Ok};
 ghost use Rattle.pg_interval.specs.Pairs.{nothing, sum_of};
 ghost use Rattle.pg_interval.specs.Reader.{time_unit};
@@ -65,7 +66,8 @@ impl Sums {
         true
     }
 
-    /// Adds a whole number of this unit, negative if `minus` says so. `false` comes where a sum leaves its type.
+    /// Adds a whole number of this unit, negative if `minus` says so. `false` comes where a sum
+    /// leaves its type.
     #[inline(always)]
     fn add(&mut self, unit: Unit, minus: bool, size: u64) -> bool
         requires { size < 2 ^ 31 }
@@ -97,7 +99,8 @@ impl Sums {
         Some(rest)
     }
 
-    /// Takes the item in front of the text, and returns the rest. `None` comes where it isn't written so.
+    /// Takes the item in front of the text, and returns the rest. `None` comes where it isn't
+    /// written so.
     #[inline(always)]
     fn take_item<'a>(&mut self, text: &'a [u8]) -> Option<&'a [u8]>
         ensures left { IfSome result
@@ -131,7 +134,8 @@ impl Sums {
         Some(rest)
     }
 
-    /// Takes the `T` or the item in front of the text, and returns the rest. `None` comes where they aren't written so.
+    /// Takes the `T` or the item in front of the text, and returns the rest. `None` comes where
+    /// they aren't written so.
     #[inline(always)]
     fn take_front<'a>(&mut self, text: &'a [u8]) -> Option<&'a [u8]>
         ensures left { IfSome result
@@ -157,7 +161,8 @@ fn without_minus(text: &[u8]) -> &[u8]
     rest
 }
 
-/// The number of the six digits between a point and `S` in front of the text, and what stands behind the `S`.
+/// The number of the six digits between a point and `S` in front of the text, and what stands
+/// behind the `S`.
 #[inline(always)]
 fn fraction_front(text: &[u8]) -> Option<(u64, &[u8])>
     ensures { IfSome result (λ front. IsFraction front.0 text.now front.1.now) }
@@ -198,7 +203,8 @@ fn read_items(text: &[u8]) -> Option<Sums>
     Some(sums)
 }
 
-/// The interval of a `P` and items. `None` comes where the text isn't written so, or may be refused.
+/// The interval of a `P` and items. `None` comes where the text isn't written so, or may be
+/// refused.
 pub(super) fn read_short(text: &[u8]) -> Option<Interval>
     requires { length text.now ≤ 4096 }
     ensures { IfSome result (λ i. reading Iso8601 text.now ≡ Ok i) }

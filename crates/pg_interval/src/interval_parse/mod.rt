@@ -17,10 +17,14 @@ mod sql_front;
 mod texts;
 mod totals;
 
-/// A law: what a style prints, its reader reads back as the same interval, whatever the interval. It does nothing.
+/// A law: what a style prints, its reader reads back as the same interval, whatever the interval.
+/// It does nothing.
 pub fn printed_texts_are_read_back()
-    ensures postgres { (i : Interval) → IsInterval i → reading Postgres (printed Postgres i) ≡ Ok i }
-    ensures verbose { (i : Interval) → IsInterval i → reading PostgresVerbose (printed PostgresVerbose i) ≡ Ok i }
+    ensures postgres { (i : Interval) → IsInterval i
+        → reading Postgres (printed Postgres i) ≡ Ok i }
+    ensures verbose { (i : Interval) → IsInterval i
+        → reading PostgresVerbose (printed PostgresVerbose i) ≡ Ok i }
     ensures iso { (i : Interval) → IsInterval i → reading Iso8601 (printed Iso8601 i) ≡ Ok i }
-    ensures sql { (i : Interval) → IsInterval i → reading SqlStandard (printed SqlStandard i) ≡ Ok i }
+    ensures sql { (i : Interval) → IsInterval i
+        → reading SqlStandard (printed SqlStandard i) ≡ Ok i }
 {}

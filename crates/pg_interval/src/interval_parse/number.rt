@@ -43,8 +43,8 @@ pub(super) fn without_sign(text: &[u8]) -> &[u8]
     rest
 }
 
-/// The decimal that the text is, its sign turned if `turn` says so: a sign that may be missing, digits, and one point
-/// at most.
+/// The decimal that the text is, its sign turned if `turn` says so: a sign that may be missing,
+/// digits, and one point at most.
 pub(super) fn decimal(text: &[u8], turn: bool) -> Result<Number, DecimalError>
     ensures { number_read result ≡ number_held turn (decimal_of text.now) }
 {
@@ -89,10 +89,12 @@ pub(super) fn number_of(negative: bool, whole: &[u8], fraction: &[u8]) -> Number
     }
 }
 
-/// The digits behind the point where one stands, or none. `None` comes where something else stands there.
+/// The digits behind the point where one stands, or none. `None` comes where something else stands
+/// there.
 #[inline(always)]
 pub(super) fn fraction_after(rest: &[u8]) -> Option<&[u8]>
-    ensures { MatchOption result (fraction_after rest.now ≡ None) (λ f. fraction_after rest.now ≡ Some f.now) }
+    ensures { MatchOption result (fraction_after rest.now ≡ None) (λ f. fraction_after rest.now
+        ≡ Some f.now) }
 {
     if rest.is_empty() {
         return Some(rest);
@@ -110,7 +112,8 @@ pub(super) fn fraction_after(rest: &[u8]) -> Option<&[u8]>
 /// What stands behind this byte. `None` comes where the text doesn't begin with it.
 #[inline(always)]
 pub(super) fn after_byte(byte: u8, text: &[u8]) -> Option<&[u8]>
-    ensures { MatchOption result (begins (λ c. c == byte) text.now ≡ false) (λ rest. text.now ≡ byte ∷ rest.now) }
+    ensures { MatchOption result (begins (λ c. c == byte) text.now ≡ false) (λ rest. text.now
+        ≡ byte ∷ rest.now) }
 {
     if text.is_empty() || text[0] != byte {
         return None;

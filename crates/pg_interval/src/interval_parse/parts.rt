@@ -15,8 +15,8 @@ pub(super) enum Unit {
     Second,
 }
 
-/// A number of a text: whole + fraction / 10 ^ places, negated if it is negative. A whole part that no word holds is
-/// kept as the largest word, which lies outside every field.
+/// A number of a text: whole + fraction / 10 ^ places, negated if it is negative. A whole part that
+/// no word holds is kept as the largest word, which lies outside every field.
 #[derive(Clone, Copy)]
 pub(super) struct Number {
     pub(super) negative: bool,

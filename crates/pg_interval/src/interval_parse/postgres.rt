@@ -103,7 +103,8 @@ impl Words {
         number.is_zero() || self.take(unit, Ok(number))
     }
 
-    /// Takes the number with the unit that the word names. `false` comes where it names none, or one that has a number.
+    /// Takes the number with the unit that the word names. `false` comes where it names none, or
+    /// one that has a number.
     #[inline(always)]
     fn take_pair(
         &mut self,
@@ -122,8 +123,8 @@ impl Words {
         self.take(unit, number)
     }
 
-    /// Takes a number and its word, and returns the next token and what follows it. `None` comes where no unit that is
-    /// still free is named.
+    /// Takes a number and its word, and returns the next token and what follows it. `None` comes
+    /// where no unit that is still free is named.
     #[inline(always)]
     fn pass_word<'a>(
         &mut self,
@@ -145,8 +146,8 @@ impl Words {
         Some(trim_start(rest))
     }
 
-    /// Takes a number as it is written and its word, and returns the next token and what follows it. `None` comes where
-    /// no unit that is still free is named.
+    /// Takes a number as it is written and its word, and returns the next token and what follows
+    /// it. `None` comes where no unit that is still free is named.
     #[inline(always)]
     fn pass_pair<'a>(
         &mut self,
@@ -166,8 +167,8 @@ impl Words {
         self.pass_word(decimal(number, turn), word, rest, verbose)
     }
 
-    /// Takes a time, and returns the next token and what follows it. `None` comes where the token is no time, or a
-    /// unit of it isn't free.
+    /// Takes a time, and returns the next token and what follows it. `None` comes where the token
+    /// is no time, or a unit of it isn't free.
     #[inline(always)]
     fn pass_time<'a>(&mut self, token: &[u8], rest: &'a [u8], turn: bool) -> Option<&'a [u8]>
         requires { self.old.totals.count + 3 ≤ 16384 }
@@ -186,8 +187,8 @@ impl Words {
         Some(trim_start(rest))
     }
 
-    /// Takes the tokens in front of the text that belong together, a time or a number and its word, and returns the
-    /// rest from its next token on. `None` comes where the shape is broken.
+    /// Takes the tokens in front of the text that belong together, a time or a number and its word,
+    /// and returns the rest from its next token on. `None` comes where the shape is broken.
     fn take_front<'a>(&mut self, text: &'a [u8], verbose: bool, turn: bool) -> Option<&'a [u8]>
         requires room { self.old.totals.count + 3 ≤ 16384 }
         requires filled { 0 < length text.now }
@@ -279,7 +280,8 @@ fn unit_of(word: &[u8], verbose: bool) -> Option<Unit>
     }
 }
 
-/// What the text's tokens come to, their signs turned if `turn` says so. `None` comes where the shape is broken.
+/// What the text's tokens come to, their signs turned if `turn` says so. `None` comes where the
+/// shape is broken.
 fn read_words(text: &[u8], verbose: bool, turn: bool) -> Option<Totals>
     requires { length text.now ≤ 4096 }
     ensures left { option_map so_far result ≡ left verbose turn start text.now }
@@ -322,7 +324,8 @@ fn read_within(text: &[u8], turn: bool) -> Option<Totals>
 /// What the text of the style `postgres_verbose` comes to.
 fn read_verbose(text: &[u8]) -> Option<Totals>
     requires { length text.now ≤ 4096 }
-    ensures answer { answered (option_map so_far result) ≡ of_shape PostgresVerbose (verbose_pairs text.now) }
+    ensures answer { answered (option_map so_far result)
+        ≡ of_shape PostgresVerbose (verbose_pairs text.now) }
     ensures count { IfSome result (λ totals. totals.count ≤ 16384) }
 {
     let Some(rest) = after_byte(b'@', trim_end(trim_start(text))) else {
@@ -337,11 +340,12 @@ fn read_verbose(text: &[u8]) -> Option<Totals>
 }
 
 impl Interval {
-    /// The interval that the text stands for in the style `postgres`, as `1 year 2 mons 3 days 04:05:06.7`: times, and
-    /// numbers with their words, in any order.
+    /// The interval that the text stands for in the style `postgres`, as `1 year 2 mons 3 days
+    /// 04:05:06.7`: times, and numbers with their words, in any order.
     ///
-    /// A text of more than 4,096 bytes is `InvalidInterval(TooLong)` and one of another shape `InvalidInterval(Shape)`.
-    /// Then comes the first number that fails, a `ParseFloatErr`, and then a sum that leaves its type.
+    /// A text of more than 4,096 bytes is `InvalidInterval(TooLong)` and one of another shape
+    /// `InvalidInterval(Shape)`. Then comes the first number that fails, a `ParseFloatErr`, and
+    /// then a sum that leaves its type.
     pub fn from_postgres(text: &str) -> Result<Interval, ParseError>
         ensures { result ≡ reading Postgres text.now }
     {
@@ -352,8 +356,9 @@ impl Interval {
         interval_of(read_words(text, false, false))
     }
 
-    /// The interval that the text stands for in the style `postgres_verbose`, as `@ 1 year 2 mons -3 days ago`: `@`, and
-    /// what `from_postgres` reads. With `ago` at the end each number has the other sign.
+    /// The interval that the text stands for in the style `postgres_verbose`, as `@ 1 year 2 mons
+    /// -3 days ago`: `@`, and what `from_postgres` reads. With `ago` at the end each number has the
+    /// other sign.
     ///
     /// The refusals are those of `from_postgres`.
     pub fn from_postgres_verbose(text: &str) -> Result<Interval, ParseError>
@@ -379,7 +384,8 @@ fn first_six(digits: &[u8]) -> &[u8]
     front
 }
 
-/// The numbers of the time that the token is, their signs turned if `turn` says so. `None` comes where it is no time.
+/// The numbers of the time that the token is, their signs turned if `turn` says so. `None` comes
+/// where it is no time.
 fn clock(token: &[u8], turn: bool) -> Option<Clock>
     ensures { option_map times_from result ≡ option_map (held_times turn) (times_of token.now) }
 {

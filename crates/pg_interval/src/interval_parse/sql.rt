@@ -121,7 +121,8 @@ impl Totals {
         true
     }
 
-    /// Takes seconds with the fraction that may follow them. `false` comes where the text has another shape.
+    /// Takes seconds with the fraction that may follow them. `false` comes where the text has
+    /// another shape.
     fn take_seconds(&mut self, text: &[u8], minus: bool) -> bool
         requires { self.old.count + 2 ≤ 16384 }
         ensures taken { (if result then Some (so_far self.new) else None)
@@ -147,7 +148,8 @@ impl Totals {
         true
     }
 
-    /// Takes minutes and the seconds that may follow them. `false` comes where the text has another shape.
+    /// Takes minutes and the seconds that may follow them. `false` comes where the text has another
+    /// shape.
     fn take_minutes(&mut self, text: &[u8], minus: bool) -> bool
         requires { self.old.count + 3 ≤ 16384 }
         ensures taken { (if result then Some (so_far self.new) else None)
@@ -203,8 +205,8 @@ impl Totals {
         self.take_year_month(first)
     }
 
-    /// Takes days and a time, which has the sign before the days where it has none. `false` comes where they have
-    /// another shape.
+    /// Takes days and a time, which has the sign before the days where it has none. `false` comes
+    /// where they have another shape.
     fn take_two(&mut self, first: &[u8], second: &[u8]) -> bool
         requires { self.old.count + 5 ≤ 16384 }
         ensures taken { (if result then Some (so_far self.new) else None)
@@ -237,7 +239,8 @@ impl Totals {
 /// Is the sign of the time a minus? It is the sign before the days where the time has none.
 #[inline(always)]
 pub(super) fn sign_of_two(first: &[u8], second: &[u8]) -> bool
-    ensures { result ≡ begins is_minus (if begins is_sign second.now then second.now else first.now) }
+    ensures { result ≡ begins is_minus (if begins is_sign second.now then second.now
+        else first.now) }
 {
     if begins_with_sign(second) {
         return sign_of(second, false);
@@ -282,8 +285,8 @@ fn read_sql(text: &[u8]) -> Option<Totals>
 }
 
 impl Interval {
-    /// The interval that the text stands for in the style `sql_standard`, as `+1-2 +3 +4:05:06.7`: years and months, days
-    /// and a time, a time alone, or all three.
+    /// The interval that the text stands for in the style `sql_standard`, as `+1-2 +3 +4:05:06.7`:
+    /// years and months, days and a time, a time alone, or all three.
     ///
     /// The refusals are those of `from_postgres`, but a number that fails is a `ParseIntErr`.
     pub fn from_sql(text: &str) -> Result<Interval, ParseError>

@@ -64,7 +64,8 @@ impl Totals {
     pub(super) fn add(&mut self, unit: Unit, number: Number)
         requires fits { fits_field (time_unit unit) (whole_part (decimal_from number)) ≡ true }
         requires room { self.old.count < 16384 }
-        ensures sums { so_far self.new ≡ joined (so_far self.old) (Ok (worth (time_unit unit) (decimal_from number))) }
+        ensures sums { so_far self.new ≡ joined (so_far self.old)
+            (Ok (worth (time_unit unit) (decimal_from number))) }
         ensures count { self.new.count ≡ self.old.count + 1 }
     {
         let size = number.size(unit);
@@ -78,7 +79,8 @@ impl Totals {
     pub(super) fn take(&mut self, unit: Unit, number: Result<Number, DecimalError>)
         requires { self.old.count < 16384 }
         ensures sums { so_far self.new
-            ≡ tallied (ParseFloatErr OutOfRange) (time_unit unit) (checked (number_read number)) (so_far self.old) }
+            ≡ tallied (ParseFloatErr OutOfRange) (time_unit unit) (checked (number_read number))
+            (so_far self.old) }
         ensures count { self.new.count ≤ self.old.count + 1 }
     {
         match number {

@@ -8,14 +8,15 @@ use pg_messages::{CopyData, PgBytes, PgList};
 use std::alloc::{AllocError, Global};
 use std::marker::Model;
 
-/// Data of a COPY that are made one by one: finitely many items, each data or an error in its place.
+/// Data of a COPY that are made one by one: finitely many items, each data or an error in its
+/// place.
 pub trait CopySource: Drop {
     // the items to come
     ghost items: { Self → List CopyItem };
 
-    /// The next item, or None exactly at the end. Each can be sent as a reply, and no error in the place of data is one
-    /// that the session itself tells: `NoMemory`, `QueryCanceled`, `NotReadyForQuery`, `PortalNotStarted`. After an
-    /// AllocError all items are still to come.
+    /// The next item, or None exactly at the end. Each can be sent as a reply, and no error in the
+    /// place of data is one that the session itself tells: `NoMemory`, `QueryCanceled`,
+    /// `NotReadyForQuery`, `PortalNotStarted`. After an AllocError all items are still to come.
     fn next(&mut self) -> Result<Option<Result<CopyData, PgWireError>>, AllocError>
         ensures next { IsNextCopy (items self.old) result (items self.new) }
         ensures sendable { IfOk result (λ found. IfSome found IsSendableCopy) };
@@ -63,7 +64,8 @@ impl CopySource for ListCopy {
     }
 }
 
-/// What begins a COPY: the format and the number of its columns, and the data that the server sends.
+/// What begins a COPY: the format and the number of its columns, and the data that the server
+/// sends.
 #[derive(Drop)]
 pub struct CopyResponse<C> {
     /// 0 where the data is text, 1 where it is binary.
@@ -83,7 +85,8 @@ impl<C: CopySource> CopyResponse<C> {
     ghost use Rattle.pg_portal.specs.Copying.{formats, has_trailer};
     ghost use Rattle.pg_portal.specs.contracts.results.copy.CopyResponse.{the_row};
 
-    /// A COPY of so many columns in a format, with these data. In the binary format, 1, a trailer follows them.
+    /// A COPY of so many columns in a format, with these data. In the binary format, 1, a trailer
+    /// follows them.
     pub fn new(format: i8, columns: usize, data_stream: C) -> CopyResponse<C>
         requires { columns ≤ 32767 }
         ensures format { result.format ≡ format }

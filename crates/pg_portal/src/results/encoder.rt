@@ -15,8 +15,8 @@ use std::alloc::{AllocError, Global};
 use std::marker::Model;
 use std::sync::Arc;
 
-/// Makes rows of these columns, cell by cell. A cell is Int32 length and as many bytes; a null is the length -1
-/// alone (protocol: Message Formats, DataRow).
+/// Makes rows of these columns, cell by cell. A cell is Int32 length and as many bytes; a null is
+/// the length -1 alone (protocol: Message Formats, DataRow).
 #[derive(Drop)]
 pub struct DataRowEncoder {
     fields: Arc<PgList<FieldInfo>>,
@@ -31,7 +31,11 @@ impl Model for DataRowEncoder {
 
     ghost Value = { RowSoFar };
 
-    ghost view = { λ e. record { fields = arc_value e.fields; payload = e.payload.items; cells = e.cells } };
+    ghost view = { λ e. record {
+      fields = arc_value e.fields;
+      payload = e.payload.items;
+      cells = e.cells;
+    } };
 
     ghost invariant = { λ e. (e.cells ≤ 32767) × (length e.payload.items ≤ e.cells * 32004)
         × (length (arc_value e.fields) ≤ 32767) };
@@ -64,11 +68,12 @@ impl DataRowEncoder {
         usize::from(self.cells)
     }
 
-    /// Appends the value's cell in the next column's type, format and options. After an error the encoder is as it
-    /// was.
+    /// Appends the value's cell in the next column's type, format and options. After an error the
+    /// encoder is as it was.
     pub fn encode_field<T: ToSql + ToSqlText>(&mut self, value: &T) -> Result<(), CellError>
         requires { 0 < columns_left self.old }
-        ensures cell { OnOk result (IsSomeAnd (slice_get self.old.fields self.old.cells) (λ field. AtCell
+        ensures cell { OnOk result (IsSomeAnd (slice_get self.old.fields self.old.cells)
+            (λ field. AtCell
             (field_cell T.binary T.text value.now field.datatype field.format field.format_options)
             (λ cell. self.new ≡ with_cell self.old cell))) }
         ensures unchanged { OnErr result (self.new ≡ self.old) }
@@ -90,8 +95,8 @@ impl DataRowEncoder {
         Ok(())
     }
 
-    /// Appends the value's cell: in binary what `to_sql` gives, in text what `to_sql_text` gives. It counts as the
-    /// cell of a column. After an error the encoder is as it was.
+    /// Appends the value's cell: in binary what `to_sql` gives, in text what `to_sql_text` gives.
+    /// It counts as the cell of a column. After an error the encoder is as it was.
     pub fn encode_field_with_type_and_format<T: ToSql + ToSqlText>(
         &mut self,
         value: &T,
@@ -112,8 +117,8 @@ impl DataRowEncoder {
         Ok(())
     }
 
-    /// The row of the cells so far, which can be sent as a reply. The encoder is empty then, and makes the next row
-    /// of these columns; after an error it is as it was.
+    /// The row of the cells so far, which can be sent as a reply. The encoder is empty then, and
+    /// makes the next row of these columns; after an error it is as it was.
     pub fn take_row(&mut self) -> Result<DataRow, AllocError>
         ensures row { IfOk result (λ row. row ≡ data_row self.old) }
         ensures emptied { OnOk result (self.new ≡ no_cells self.old.fields) }
@@ -140,7 +145,8 @@ impl DataRowEncoder {
     }
 }
 
-/// Appends a value's cell, whose length is written once its bytes are there. After an error nothing is appended.
+/// Appends a value's cell, whose length is written once its bytes are there. After an error nothing
+/// is appended.
 fn push_cell<T: ToSql + ToSqlText>(
     payload: &mut BytesMut,
     value: &T,

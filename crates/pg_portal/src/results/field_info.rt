@@ -52,7 +52,8 @@ impl FieldInfo {
         datatype: PgType,
         format: FieldFormat,
     ) -> Result<FieldInfo, AllocError>
-        ensures { IfOk result (λ field. field ≡ plain_field name table_id column_id datatype format) }
+        ensures { IfOk result (λ field. field
+            ≡ plain_field name table_id column_id datatype format) }
     {
         Ok(FieldInfo {
             name,

@@ -45,8 +45,8 @@ impl Tag {
         tag
     }
 
-    /// The reply with the tag's text: `command oid rows` with both numbers, `command rows` with rows alone, else
-    /// `command`.
+    /// The reply with the tag's text: `command oid rows` with both numbers, `command rows` with
+    /// rows alone, else `command`.
     pub fn into_command_complete(self, alloc: Global) -> Result<CommandComplete, AllocError>
         ensures { IfOk result (λ reply. reply.tag ≡ tag_text self) }
     {

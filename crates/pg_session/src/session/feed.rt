@@ -40,7 +40,8 @@ fn flush<K: Sink>(outbox: &mut Outbox, sink: &mut K) -> Result<(), ServeError>
 
 /// Sends what waits in the outbox where it is a chunk or more.
 fn flush_if_full<K: Sink>(outbox: &mut Outbox, sink: &mut K) -> Result<(), ServeError>
-    ensures ok { OnOk result (Flows (K.written sink.old) (K.written sink.new) outbox.old outbox.new []) }
+    ensures ok { OnOk result (Flows (K.written sink.old) (K.written sink.new) outbox.old outbox.new
+        []) }
     ensures err { OnErr result (GrowsByFront (K.written sink.old) (K.written sink.new) outbox.old) }
     ensures cause { HasFlushed (K.faults sink.old) (K.faults sink.new) result }
     ensures sink { K.origin sink.new ≡ K.origin sink.old }
@@ -79,7 +80,8 @@ impl<
         Rows = <H::Extended as ExtendedQueryHandler>::Rows,
     >,
 > Session<H, St> {
-    /// Takes the next message off the bytes and answers it. None says that the conversation goes on with the next one.
+    /// Takes the next message off the bytes and answers it. None says that the conversation goes on
+    /// with the next one.
     fn step<D: CancelDesk, K: Sink>(
         &mut self,
         alloc: Global,
@@ -91,7 +93,8 @@ impl<
         ensures served { IfOk result (λ step. (next : Next (State H.Extended.Statement)) × IsServed
             (whole_rules
             (H.told self.old.handlers))
-            self.old.state self.old.rest self.new.rest next (K.written sink.old) (K.written sink.new)
+            self.old.state self.old.rest self.new.rest next (K.written sink.old)
+            (K.written sink.new)
             self.old.unsent self.new.unsent (D.told desk.old).calls (D.told desk.new).calls
             × StandsAfterStep awaits next self.new.state self.new.rest step) }
         ensures cut_off { OnErr result (IsCutOff
@@ -106,7 +109,8 @@ impl<
             (D.told desk.old).calls (D.told desk.new).calls }
         ensures open { IfOk result (λ step. is_going step ≡ true → self.new.is_open ≡ true) }
         ensures handlers { self.new.handlers ≡ self.old.handlers }
-        ensures shorter { IfOk result (λ step. IfNone step (length self.new.rest < length self.old.rest)) }
+        ensures shorter { IfOk result (λ step. IfNone step (length self.new.rest
+            < length self.old.rest)) }
         ensures cause { HasSinkCause (K.faults sink.old) (K.faults sink.new) result }
         ensures turns { HasFed turns.old turns.new
             (questions_since (D.told desk.old).calls (D.told desk.new).calls) result }
@@ -138,7 +142,8 @@ impl<
         ensures served { IfOk result (λ told. (next : Next (State H.Extended.Statement)) × IsServed
             (whole_rules
             (H.told self.old.handlers))
-            self.old.state self.old.rest self.new.rest next (K.written sink.old) (K.written sink.new)
+            self.old.state self.old.rest self.new.rest next (K.written sink.old)
+            (K.written sink.new)
             self.old.unsent [] (D.told desk.old).calls (D.told desk.new).calls
             × Stands awaits next self.new.state self.new.rest told) }
         ensures cut_off { OnErr result (IsCutOff
@@ -185,18 +190,21 @@ impl<
         ensures served { IfOk result (λ told. (next : Next (State H.Extended.Statement)) × IsServed
             (whole_rules
             (H.told self.old.handlers))
-            self.old.state (self.old.rest ++ piece.now) self.new.rest next (K.written sink.old) (K.written sink.new)
+            self.old.state (self.old.rest ++ piece.now) self.new.rest next (K.written sink.old)
+            (K.written sink.new)
             self.old.unsent [] (D.told desk.old).calls (D.told desk.new).calls
             × Stands awaits next self.new.state self.new.rest told) }
         ensures cut_off { OnErr result (IsCutOff
             (whole_rules
             (H.told self.old.handlers))
-            self.old.state (self.old.rest ++ piece.now) (K.written sink.old) (K.written sink.new) self.old.unsent
+            self.old.state (self.old.rest ++ piece.now) (K.written sink.old) (K.written sink.new)
+            self.old.unsent
             (D.told desk.old).calls (D.told desk.new).calls) }
         ensures stopped { IsErrOf result serve.TurnLimit → IsStopped
             (whole_rules
             (H.told self.old.handlers))
-            self.old.state (self.old.rest ++ piece.now) (K.written sink.old) (K.written sink.new) self.old.unsent
+            self.old.state (self.old.rest ++ piece.now) (K.written sink.old) (K.written sink.new)
+            self.old.unsent
             (D.told desk.old).calls (D.told desk.new).calls }
         ensures sent { OnOk result (self.new.unsent ≡ []) }
         ensures open { result ≡ Ok More → self.new.is_open ≡ true }
@@ -212,11 +220,12 @@ impl<
         self.run(alloc, desk, sink, turns)
     }
 
-    /// Takes a piece of the client's bytes, sends what waits, and writes the whole answer to the messages that the piece
-    /// completes. Ok(More) says that no whole frame is left: then the session holds at most 9,999 bytes before the startup
-    /// packet, and 1,048,576 after it. Ok(Ended(kind)) says that the conversation has ended, after which the session is
-    /// closed. So it is after an error: WriteFault where the sink failed, TurnLimit where a query
-    /// wanted a turn and none was left, NoMemory where memory ran out. ReadFault never comes.
+    /// Takes a piece of the client's bytes, sends what waits, and writes the whole answer to the
+    /// messages that the piece completes. Ok(More) says that no whole frame is left: then the
+    /// session holds at most 9,999 bytes before the startup packet, and 1,048,576 after it.
+    /// Ok(Ended(kind)) says that the conversation has ended, after which the session is closed. So
+    /// it is after an error: WriteFault where the sink failed, TurnLimit where a query wanted a
+    /// turn and none was left, NoMemory where memory ran out. ReadFault never comes.
     pub fn feed<D: CancelDesk, K: Sink>(
         &mut self,
         alloc: Global,

@@ -35,10 +35,11 @@ fn stays_open(outcome: &Result<Option<EndKind>, SessionError>) -> bool
     }
 }
 
-/// Answers a message, but for what follows an error. Its replies wait in the session's outbox, and are sent by the next
-/// `feed` before its own. Some(end) says that the conversation has ended. An error of the message leaves the session
-/// open, without its ErrorResponse and all that follows it: `process_error` does that. TurnLimit comes where a query
-/// wants a turn and none is left. An end, want of memory and TurnLimit close the session.
+/// Answers a message, but for what follows an error. Its replies wait in the session's outbox, and
+/// are sent by the next `feed` before its own. Some(end) says that the conversation has ended. An
+/// error of the message leaves the session open, without its ErrorResponse and all that follows it:
+/// `process_error` does that. TurnLimit comes where a query wants a turn and none is left. An end,
+/// want of memory and TurnLimit close the session.
 pub fn process_message<
     H: PgWireServerHandlers,
     St: PortalStore<
@@ -89,13 +90,13 @@ pub fn process_message<
     outcome
 }
 
-/// Tells the client an error of a message, and does what follows it: ErrorResponse, and where the error's severity is
-/// FATAL the end; else the transaction status of an error, and the wait for Sync where that is wanted (after an extended
-/// message or in a COPY of one), or ReadyForQuery. The session is open, the error is no want of memory, and before the
-/// startup packet it is FATAL.
+/// Tells the client an error of a message, and does what follows it: ErrorResponse, and where the
+/// error's severity is FATAL the end; else the transaction status of an error, and the wait for
+/// Sync where that is wanted (after an extended message or in a COPY of one), or ReadyForQuery. The
+/// session is open, the error is no want of memory, and before the startup packet it is FATAL.
 ///
-/// The replies wait for the next `feed`. An end closes the session, and so does AllocError, after which nothing more is
-/// said of what waits.
+/// The replies wait for the next `feed`. An end closes the session, and so does AllocError, after
+/// which nothing more is said of what waits.
 pub fn process_error<
     H: PgWireServerHandlers,
     St: PortalStore<

@@ -30,8 +30,9 @@ impl Default for ByteaOutput {
 }
 
 impl ByteaOutput {
-    /// The output that a text names: whitespace at its ends is left out, ASCII letters are lowered, and the two are
-    /// compared with their names. `InvalidOptionValue` holds a text that is none, as it was given.
+    /// The output that a text names: whitespace at its ends is left out, ASCII letters are lowered,
+    /// and the two are compared with their names. `InvalidOptionValue` holds a text that is none,
+    /// as it was given.
     pub fn try_from_text(alloc: Global, value: &str) -> Result<ByteaOutput, CellError>
         ensures { IsRead (or_invalid value.now (bytea_output_of value.now)) result }
     {

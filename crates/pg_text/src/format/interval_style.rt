@@ -44,8 +44,9 @@ impl Default for IntervalStyle {
 }
 
 impl IntervalStyle {
-    /// The style that a text names: whitespace at its ends is left out, ASCII letters are lowered, and the styles are
-    /// compared with their names. `InvalidOptionValue` holds a text that is none, as it was given.
+    /// The style that a text names: whitespace at its ends is left out, ASCII letters are lowered,
+    /// and the styles are compared with their names. `InvalidOptionValue` holds a text that is
+    /// none, as it was given.
     pub fn try_from_text(alloc: Global, value: &str) -> Result<IntervalStyle, CellError>
         ensures { IsRead (or_invalid value.now (interval_style_of value.now)) result }
     {
@@ -73,8 +74,8 @@ impl IntervalStyle {
         }
     }
 
-    /// Appends the text of an interval in this style. It is made on the stack and appended at once; memory is taken
-    /// only where the buffer grows. After an error nothing is appended.
+    /// Appends the text of an interval in this style. It is made on the stack and appended at once;
+    /// memory is taken only where the buffer grows. After an error nothing is appended.
     pub fn print(self, interval: &Interval, out: &mut BytesMut) -> Result<(), AllocError>
         ensures printed { OnOk result (out.new.items
             ≡ out.old.items ++ printed (printed_style self) interval.now) }
@@ -106,8 +107,8 @@ impl IntervalStyle {
         }
     }
 
-    /// The interval that a text cell stands for in this style. `NotUtf8` comes before `Parse`, which has the reader's
-    /// refusal. No memory is taken.
+    /// The interval that a text cell stands for in this style. `NotUtf8` comes before `Parse`,
+    /// which has the reader's refusal. No memory is taken.
     #[tactic(auto, using(crate::proofs::Texts::read_as_text, crate::proofs::Texts::read_no_text))]
     pub fn read(self, input: &[u8]) -> Result<Interval, CellError>
         ensures { result ≡ read_in input.now (Ok self) }

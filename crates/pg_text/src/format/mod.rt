@@ -36,7 +36,8 @@ pub struct FormatOptions {
 }
 
 impl FormatOptions {
-    /// The options of a session that says nothing of them: `ISO, YMD`, `postgres`, `hex`, `Etc/UTC` and 1.
+    /// The options of a session that says nothing of them: `ISO, YMD`, `postgres`, `hex`, `Etc/UTC`
+    /// and 1.
     pub fn new_default(alloc: Global) -> Result<FormatOptions, AllocError>
         ensures { IfOk result (λ options. options ≡ default_options) }
     {
@@ -49,9 +50,10 @@ impl FormatOptions {
         })
     }
 
-    /// The options of a session with these parameters, whose names are in lower case. `datestyle`, `intervalstyle`
-    /// and `bytea_output` are taken as they are, and `extra_float_digits` where it is an optional sign and digits
-    /// that an i8 holds. What is absent, and the time zone, is as `new_default` gives it.
+    /// The options of a session with these parameters, whose names are in lower case. `datestyle`,
+    /// `intervalstyle` and `bytea_output` are taken as they are, and `extra_float_digits` where it
+    /// is an optional sign and digits that an i8 holds. What is absent, and the time zone, is as
+    /// `new_default` gives it.
     pub fn from_client_metadata(
         alloc: Global,
         metadata_map: &BTreeMap<PgStr, PgStr>,
@@ -64,7 +66,8 @@ impl FormatOptions {
             ≡ unwrap_or (setting metadata_map.now (codes "bytea_output")) (codes "hex")) }
         ensures time_zone { IfOk result (λ options. options.time_zone ≡ codes "Etc/UTC") }
         ensures float_digits { IfOk result (λ options.
-            IsFloatDigits (setting metadata_map.now (codes "extra_float_digits")) options.extra_float_digits) }
+            IsFloatDigits (setting metadata_map.now (codes "extra_float_digits"))
+            options.extra_float_digits) }
     {
         Ok(FormatOptions {
             extra_float_digits: float_digits(setting(alloc, metadata_map, "extra_float_digits")?),
@@ -113,7 +116,8 @@ fn setting_or(
     name: &str,
     otherwise: &str,
 ) -> Result<PgStr, AllocError>
-    ensures { IfOk result (λ text. text ≡ unwrap_or (setting metadata_map.now name.now) otherwise.now) }
+    ensures { IfOk result (λ text. text
+        ≡ unwrap_or (setting metadata_map.now name.now) otherwise.now) }
 {
     match setting(alloc, metadata_map, name)? {
         Some(text) => PgStr::copy_of(alloc, text.as_str()),

@@ -14,7 +14,8 @@ loop-out-init g c = record {
 
 pub loop-out-preserved : goal.loop-out-preserved
 loop-out-preserved g c = record {
-  so_far = waits_on (g.Q.QueryState.told c.args.query.now) (g.Q.QueryState.told c.loop-out.query) (g.D.CancelDesk.told c.args.desk.now).calls
+  so_far = waits_on (g.Q.QueryState.told c.args.query.now) (g.Q.QueryState.told c.loop-out.query)
+      (g.D.CancelDesk.told c.args.desk.now).calls
       (g.D.CancelDesk.told c.loop-out.desk).calls c.args.turns.now c.loop-out.turns c.loop-out.invariant.so_far
       (g.Q.QueryState.told c.poll.new.self) (g.D.CancelDesk.told c.ask.new.self).calls c.spend.new.self
       (search rules) (search rules) (search rules) (search rules) (search rules);
@@ -34,7 +35,8 @@ returns-in_err-out-clause-asked g c =
 pub returns-in_err-out-clause-turns : goal.returns-in_err-out-clause-turns
 returns-in_err-out-clause-turns g c =
     let p = err_from_is_err_and c.from_residual.result c.from_residual.ensures.1 in
-    rw (p.1, p.2) (inl (spent_so_far (g.Q.QueryState.told c.args.query.now) (g.Q.QueryState.told c.loop-out.query) (g.D.CancelDesk.told c.args.desk.now).calls
+    rw (p.1, p.2) (inl (spent_so_far (g.Q.QueryState.told c.args.query.now) (g.Q.QueryState.told c.loop-out.query)
+    (g.D.CancelDesk.told c.args.desk.now).calls
     (g.D.CancelDesk.told c.loop-out.desk).calls c.args.turns.now c.loop-out.turns c.loop-out.invariant.so_far))
 
 pub returns-in_err-out-clause-bounded : goal.returns-in_err-out-clause-bounded
@@ -69,7 +71,8 @@ returns-then-not-spend-clause-turns g c =
     let kept : c.spend.new.self.spent ≡ c.loop-out.turns.spent = c.if-not-spend.ensures.kept in
     let limit : c.spend.new.self.limit ≡ c.loop-out.turns.limit = c.if-not-spend.ensures.limit in
     let none : c.loop-out.turns.limit ≤ c.loop-out.turns.spent = search rules in
-    let is = spent_so_far (g.Q.QueryState.told c.args.query.now) (g.Q.QueryState.told c.loop-out.query) (g.D.CancelDesk.told c.args.desk.now).calls
+    let is = spent_so_far (g.Q.QueryState.told c.args.query.now) (g.Q.QueryState.told c.loop-out.query)
+    (g.D.CancelDesk.told c.args.desk.now).calls
     (g.D.CancelDesk.told c.loop-out.desk).calls c.args.turns.now c.loop-out.turns c.loop-out.invariant.so_far in (
       turns_are c.spend.new.self _ _ (kept ∙ ap (λ t. t.spent) is) (limit ∙ ap (λ t. t.limit) is),
       (let same : c.loop-out.turns.limit ≡ c.args.turns.now.limit = ap (λ t. t.limit) is in omega (arith, kept, none, same)),
@@ -84,8 +87,10 @@ pub returns-in_err-ask-clause-asked : goal.returns-in_err-ask-clause-asked
 returns-in_err-ask-clause-asked g c =
     let p = err_from_is_err_and c.from_residual-in_err-ask.result c.from_residual-in_err-ask.ensures.1 in (
       Unanswered,
-      subst (λ calls. IsAsked (g.Q.QueryState.told c.args.query.now).owes (g.D.CancelDesk.told c.args.desk.now).calls calls Unanswered) (sym (ap (λ d. d.calls) c.in_err-ask.ensures.err))
-          (unanswered (g.Q.QueryState.told c.args.query.now) (g.Q.QueryState.told c.loop-out.query) (g.D.CancelDesk.told c.args.desk.now).calls
+      subst (λ calls. IsAsked (g.Q.QueryState.told c.args.query.now).owes (g.D.CancelDesk.told c.args.desk.now).calls calls Unanswered)
+          (sym (ap (λ d. d.calls) c.in_err-ask.ensures.err))
+          (unanswered (g.Q.QueryState.told c.args.query.now) (g.Q.QueryState.told c.loop-out.query)
+          (g.D.CancelDesk.told c.args.desk.now).calls
           (g.D.CancelDesk.told c.loop-out.desk).calls c.args.turns.now c.loop-out.turns c.loop-out.invariant.so_far (search rules)),
       rw (p.1, p.2) (inr refl),
     )
@@ -93,23 +98,34 @@ returns-in_err-ask-clause-asked g c =
 pub returns-in_err-ask-clause-turns : goal.returns-in_err-ask-clause-turns
 returns-in_err-ask-clause-turns g c =
     let p = err_from_is_err_and c.from_residual-in_err-ask.result c.from_residual-in_err-ask.ensures.1 in
-    let is = spent_in_vain (g.Q.QueryState.told c.args.query.now) (g.Q.QueryState.told c.loop-out.query) (g.D.CancelDesk.told c.args.desk.now).calls
-    (g.D.CancelDesk.told c.loop-out.desk).calls c.args.turns.now c.loop-out.turns c.loop-out.invariant.so_far c.spend.new.self (search rules) (search rules) in
-    rw (p.1, p.2) (inr (refl, is ∙ ap (λ calls. record { spent = c.args.turns.now.spent + questions_since (g.D.CancelDesk.told c.args.desk.now).calls calls + 1; limit = c.args.turns.now.limit }) (sym (ap (λ d. d.calls) c.in_err-ask.ensures.err))))
+    let is = spent_in_vain (g.Q.QueryState.told c.args.query.now) (g.Q.QueryState.told c.loop-out.query)
+    (g.D.CancelDesk.told c.args.desk.now).calls
+    (g.D.CancelDesk.told c.loop-out.desk).calls c.args.turns.now c.loop-out.turns c.loop-out.invariant.so_far c.spend.new.self
+    (search rules) (search rules) in
+    rw (p.1, p.2) (inr (
+      refl,
+      is ∙ ap (λ calls. record {
+        spent = c.args.turns.now.spent + questions_since (g.D.CancelDesk.told c.args.desk.now).calls calls + 1;
+        limit = c.args.turns.now.limit;
+      }) (sym (ap (λ d. d.calls) c.in_err-ask.ensures.err)),
+    ))
 
 pub returns-then-branch-clause-asked : goal.returns-then-branch-clause-asked
 returns-then-branch-clause-asked g c = (
   Canceled,
   canceled (g.Q.QueryState.told c.args.query.now) (g.Q.QueryState.told c.loop-out.query) (g.D.CancelDesk.told c.args.desk.now).calls
-      (g.D.CancelDesk.told c.loop-out.desk).calls c.args.turns.now c.loop-out.turns c.loop-out.invariant.so_far (g.D.CancelDesk.told c.ask.new.self).calls
+      (g.D.CancelDesk.told c.loop-out.desk).calls c.args.turns.now c.loop-out.turns c.loop-out.invariant.so_far
+      (g.D.CancelDesk.told c.ask.new.self).calls
       (search rules) (search rules),
   inl (refl, refl),
 )
 
 pub returns-then-branch-clause-turns : goal.returns-then-branch-clause-turns
 returns-then-branch-clause-turns g c =
-    inl (spent_at_yes (g.Q.QueryState.told c.args.query.now) (g.Q.QueryState.told c.loop-out.query) (g.D.CancelDesk.told c.args.desk.now).calls
-    (g.D.CancelDesk.told c.loop-out.desk).calls c.args.turns.now c.loop-out.turns c.loop-out.invariant.so_far (g.D.CancelDesk.told c.ask.new.self).calls
+    inl (spent_at_yes (g.Q.QueryState.told c.args.query.now) (g.Q.QueryState.told c.loop-out.query)
+    (g.D.CancelDesk.told c.args.desk.now).calls
+    (g.D.CancelDesk.told c.loop-out.desk).calls c.args.turns.now c.loop-out.turns c.loop-out.invariant.so_far
+    (g.D.CancelDesk.told c.ask.new.self).calls
     (search rules) c.spend.new.self (search rules) (search rules))
 
 pub returns-in_err-out-clause-caused : goal.returns-in_err-out-clause-caused
@@ -123,5 +139,6 @@ returns-in_err-ask-clause-caused g c =
 pub returns-then-branch-clause-caused : goal.returns-then-branch-clause-caused
 returns-then-branch-clause-caused g c =
     ends_with_yes (g.Q.QueryState.told c.args.query.now) (g.Q.QueryState.told c.loop-out.query) (g.D.CancelDesk.told c.args.desk.now).calls
-    (g.D.CancelDesk.told c.loop-out.desk).calls c.args.turns.now c.loop-out.turns c.loop-out.invariant.so_far (g.D.CancelDesk.told c.ask.new.self).calls
+    (g.D.CancelDesk.told c.loop-out.desk).calls c.args.turns.now c.loop-out.turns c.loop-out.invariant.so_far
+    (g.D.CancelDesk.told c.ask.new.self).calls
     (search rules)

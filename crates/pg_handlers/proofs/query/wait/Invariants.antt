@@ -5,7 +5,8 @@ use Rattle.pg_handlers.proofs.query.wait.Given as goal
 
 abbrev pub invariant-loop-out : goal.invariant-loop-out
 invariant-loop-out g l = record {
-  so_far : IsWaiting (g.Q.QueryState.told l.fn.query) (g.Q.QueryState.told l.query) (g.D.CancelDesk.told l.fn.desk).calls (g.D.CancelDesk.told l.desk).calls
+  so_far : IsWaiting (g.Q.QueryState.told l.fn.query) (g.Q.QueryState.told l.query) (g.D.CancelDesk.told l.fn.desk).calls
+      (g.D.CancelDesk.told l.desk).calls
       l.fn.turns l.turns;
   bounded : l.fn.turns.spent ≤ l.fn.turns.limit → l.turns.spent ≤ l.turns.limit;
   keeps : KeepsDesk (g.D.CancelDesk.told l.fn.desk) (g.D.CancelDesk.told l.desk);

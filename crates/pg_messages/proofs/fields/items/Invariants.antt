@@ -4,4 +4,5 @@ use Rattle.pg_messages.proofs.Loops.{with_front}
 use Rattle.pg_messages.proofs.fields.items.Given as goal
 
 abbrev pub invariant-loop : goal.invariant-loop
-invariant-loop g l = with_front l.items (items_at g.T.Field.field_at (l.count - l.counter) l.rest) ≡ items_at g.T.Field.field_at l.count l.bytes
+invariant-loop g l = with_front l.items (items_at g.T.Field.field_at (l.count - l.counter) l.rest)
+    ≡ items_at g.T.Field.field_at l.count l.bytes

@@ -29,5 +29,10 @@ returns-clause-found c =
       whole = record { told = told.0; there = told.1; good = told.2 };
       kind_is = c.code_and_body-code.ensures.code ∙ ap (λ (x : List ℕ). from_be_bytes w32 (take 4 (drop 4 x))) c.split_at.ensures.front;
       body_is = c.code_and_body-code.ensures.body ∙ ap (drop 8) c.split_at.ensures.front;
-    } in
-    (told.1, message_found true bytes len parts.0 parts.1.now c.in_ok-message.message h (λ i. omega (arith, c.type_inv.bytes i)) c.in_ok-message.ensures)
+    } in (
+      told.1,
+      message_found true bytes len parts.0 parts.1.now c.in_ok-message.message h (λ i. omega (
+        arith,
+        c.type_inv.bytes i,
+      )) c.in_ok-message.ensures,
+    )

@@ -5,4 +5,5 @@ use Rattle.pg_messages.specs.Frames.{type_bytes}
 use Rattle.pg_messages.proofs.headers.is_type.Goals as goal
 
 pub returns : goal.returns
-returns c = Decides-contains type_bytes c.args.byte c.contains.result (contains_decides eqb Decides-eqb type_bytes c.args.byte c.contains.result c.contains.ensures.cases)
+returns c = Decides-contains type_bytes c.args.byte c.contains.result
+    (contains_decides eqb Decides-eqb type_bytes c.args.byte c.contains.result c.contains.ensures.cases)

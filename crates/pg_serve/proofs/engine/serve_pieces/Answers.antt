@@ -13,16 +13,23 @@ use Rattle.pg_serve.proofs.engine.serve_pieces.Goals as goal
 
 pub returns-then-not-spend-clause-went : goal.returns-then-not-spend-clause-went
 returns-then-not-spend-clause-went g c =
-    let i = c.turns.invariant in
-    (i.served.called, i.served.grown, inl (run_of_taken (g.C.Conversation.told c.args.conversation.now).rules (g.C.Conversation.told c.args.conversation.now).state (g.S.Source.left c.args.source.now) (g.S.Source.left c.turns.source) i.takes i.served i.short))
+    let i = c.turns.invariant in (
+      i.served.called,
+      i.served.grown,
+      inl (run_of_taken (g.C.Conversation.told c.args.conversation.now).rules
+          (g.C.Conversation.told c.args.conversation.now).state (g.S.Source.left c.args.source.now) (g.S.Source.left c.turns.source)
+          i.takes i.served i.short),
+    )
 
 pub returns-in_default-clause-went : goal.returns-in_default-clause-went
 returns-in_default-clause-went g c =
     let i = c.turns.invariant in (
       i.served.called,
       i.served.grown,
-      run_of_taken (g.C.Conversation.told c.args.conversation.now).rules (g.C.Conversation.told c.args.conversation.now).state (g.S.Source.left c.args.source.now) (g.S.Source.left c.receive.new.self)
-          (subst (λ o. TakesFrom (g.S.Source.left c.args.source.now) o i.taken) (sym c.in_default.ensures.untouched) i.takes) i.served i.short,
+      run_of_taken (g.C.Conversation.told c.args.conversation.now).rules (g.C.Conversation.told c.args.conversation.now).state
+          (g.S.Source.left c.args.source.now) (g.S.Source.left c.receive.new.self)
+          (subst (λ o. TakesFrom (g.S.Source.left c.args.source.now) o i.taken) (sym c.in_default.ensures.untouched) i.takes) i.served
+          i.short,
     )
 
 pub returns-then-n-eq0-clause-went : goal.returns-then-n-eq0-clause-went
@@ -30,7 +37,9 @@ returns-then-n-eq0-clause-went g c =
     let i = c.turns.invariant in (
       i.served.called,
       i.served.grown,
-      ended_run (g.C.Conversation.told c.args.conversation.now).rules (g.C.Conversation.told c.args.conversation.now).state (g.S.Source.left c.args.source.now) (g.S.Source.left c.turns.source) (g.S.Source.left c.receive.new.self) c.in-Ok.n c.receive.new.into
+      ended_run (g.C.Conversation.told c.args.conversation.now).rules (g.C.Conversation.told c.args.conversation.now).state
+          (g.S.Source.left c.args.source.now) (g.S.Source.left c.turns.source) (g.S.Source.left c.receive.new.self) c.in-Ok.n
+          c.receive.new.into
           i.takes c.in-Ok.ensures.bytes c.if-n-eq0.true i.served i.short,
     )
 
@@ -42,7 +51,8 @@ turns-preserved g c =
     let new = g.C.Conversation.told c.feed.new.self in
     let took = c.in-Ok-More.ensures.fed in
     let fed = conversed first now new (g.met.C.Conversation.lawful c.args.conversation.now) i.rules i.unsent
-    i.taken c.front_of.result.now (g.K.Sink.written c.feed.new.sink) (g.D.CancelDesk.told c.feed.new.desk).calls (Ok c.in-Ok-More.field-0) i.served took in
+    i.taken c.front_of.result.now (g.K.Sink.written c.feed.new.sink) (g.D.CancelDesk.told c.feed.new.desk).calls (Ok c.in-Ok-More.field-0)
+    i.served took in
     let piece = took.1 in
     let stands = subst (λ o. Stands first.rules.awaits fed.0 new.state took.0 o) c.in-Ok-More.field-0-is fed.2 in
     let kept = took.2 (ap Ok c.in-Ok-More.field-0-is) in
@@ -61,7 +71,8 @@ turns-preserved g c =
           (sym c.front_of.ensures)
           (takes_more (g.S.Source.left c.args.source.now) (g.S.Source.left c.turns.source) (g.S.Source.left c.receive.new.self)
           i.taken c.in-Ok.n c.receive.new.into i.takes c.in-Ok.ensures.bytes);
-      served = goes_to first.rules first.state stands.0 (subst (λ r. IsServed first.rules first.state (i.taken ++ c.front_of.result.now) r fed.0
+      served = goes_to first.rules first.state stands.0
+          (subst (λ r. IsServed first.rules first.state (i.taken ++ c.front_of.result.now) r fed.0
           (g.K.Sink.written c.args.sink.now) (g.K.Sink.written c.feed.new.sink) [] []
           (g.D.CancelDesk.told c.args.desk.now).calls (g.D.CancelDesk.told c.feed.new.desk).calls) kept fed.1);
       short = subst (λ r. IsUnfinished (first.rules.awaits new.state) r) kept stands.1;
@@ -95,7 +106,8 @@ returns-in-Ok-Ended-clause-went g c =
     let new = g.C.Conversation.told c.feed.new.self in
     let took = c.in-Ok-Ended.ensures.fed in
     let fed = conversed first now new (g.met.C.Conversation.lawful c.args.conversation.now) i.rules i.unsent
-    i.taken c.front_of.result.now (g.K.Sink.written c.feed.new.sink) (g.D.CancelDesk.told c.feed.new.desk).calls (Ok c.in-Ok-Ended.field-0) i.served took in
+    i.taken c.front_of.result.now (g.K.Sink.written c.feed.new.sink) (g.D.CancelDesk.told c.feed.new.desk).calls (Ok c.in-Ok-Ended.field-0)
+    i.served took in
     let stands = subst (λ o. Stands first.rules.awaits fed.0 new.state took.0 o) c.in-Ok-Ended.field-0-is fed.2 in
     let takes = subst (λ p. TakesFrom (g.S.Source.left c.args.source.now) (g.S.Source.left c.receive.new.self) (i.taken ++ p))
     (sym c.front_of.ensures)
@@ -118,7 +130,8 @@ returns-in-Err-clause-went g c =
     let written = g.K.Sink.written c.args.sink.now in let new_written = g.K.Sink.written c.feed.new.sink in
     let calls = (g.D.CancelDesk.told c.args.desk.now).calls in let new_calls = (g.D.CancelDesk.told c.feed.new.desk).calls in
     let fed = conversed first now new (g.met.C.Conversation.lawful c.args.conversation.now) i.rules i.unsent
-    i.taken c.front_of.result.now (g.K.Sink.written c.feed.new.sink) (g.D.CancelDesk.told c.feed.new.desk).calls (Err c.in-Err.error) i.served took in
+    i.taken c.front_of.result.now (g.K.Sink.written c.feed.new.sink) (g.D.CancelDesk.told c.feed.new.desk).calls (Err c.in-Err.error)
+    i.served took in
     let cut = cut_by_error first.rules _ _ new.state took.0 _ _ _ _ _ c.in-Err.error fed in
     let takes = subst (λ p. TakesFrom old_left left (i.taken ++ p)) (sym c.front_of.ensures)
     (takes_more old_left (g.S.Source.left c.turns.source) left i.taken c.in-Ok.n c.receive.new.into i.takes c.in-Ok.ensures.bytes) in (
@@ -143,15 +156,24 @@ returns-in-Err-clause-cause g c =
     let below_limit : c.turns.turns.spent < c.args.turns.now.limit = omega (arith, below, same_limit) in
     let once = c.if-not-spend.ensures.spent in
     let kept_limit = c.if-not-spend.ensures.limit in
-    let off = cut_by_error (g.C.Conversation.told c.turns.conversation).rules _ _ (g.C.Conversation.told c.feed.new.self).state c.in-Err.ensures.fed.0 _ _ _ _ _
+    let off = cut_by_error (g.C.Conversation.told c.turns.conversation).rules _ _ (g.C.Conversation.told c.feed.new.self).state
+    c.in-Err.ensures.fed.0 _ _ _ _ _
     c.in-Err.error c.in-Err.ensures.fed.1 in
-    let over = questions_over (g.D.CancelDesk.told c.args.desk.now).calls (g.D.CancelDesk.told c.turns.desk).calls (g.D.CancelDesk.told c.feed.new.desk).calls i.served.called off.made i.served.grown off.grown in
-    caused_by c.in-Err.error c.args.turns.now.limit (questions_since (g.D.CancelDesk.told c.args.desk.now).calls (g.D.CancelDesk.told c.feed.new.desk).calls)
-    (counts_of g.S.Source.reads g.S.Source.faults g.K.Sink.faults c.args.source.now c.args.sink.now) (counts_of g.S.Source.reads g.S.Source.faults g.K.Sink.faults c.receive.new.self c.feed.new.sink)
+    let over = questions_over (g.D.CancelDesk.told c.args.desk.now).calls (g.D.CancelDesk.told c.turns.desk).calls
+    (g.D.CancelDesk.told c.feed.new.desk).calls i.served.called off.made i.served.grown off.grown in
+    caused_by c.in-Err.error c.args.turns.now.limit
+    (questions_since (g.D.CancelDesk.told c.args.desk.now).calls (g.D.CancelDesk.told c.feed.new.desk).calls)
+    (counts_of g.S.Source.reads g.S.Source.faults g.K.Sink.faults c.args.source.now c.args.sink.now)
+    (counts_of g.S.Source.reads g.S.Source.faults g.K.Sink.faults c.receive.new.self c.feed.new.sink)
     (λ q. c.in-Err.ensures.cause.no_read_fault (ap Err q))
-    (λ q. risen_since (g.K.Sink.faults c.args.sink.now) (g.K.Sink.faults c.turns.sink) (g.K.Sink.faults c.feed.new.sink) (let same = i.write_faults in omega (arith, same)) c.in-Err.ensures.cause.never_falls (c.in-Err.ensures.cause.write_fault (ap Err q)))
+    (λ q. risen_since (g.K.Sink.faults c.args.sink.now) (g.K.Sink.faults c.turns.sink) (g.K.Sink.faults c.feed.new.sink)
+    (let same = i.write_faults in omega (arith, same)) c.in-Err.ensures.cause.never_falls
+    (c.in-Err.ensures.cause.write_fault (ap Err q)))
     (λ q fits.
-    let more = counted_more c.in-Ok.n (g.S.Source.reads c.turns.source) (g.S.Source.reads c.receive.new.self) (g.S.Source.reads c.args.source.now) (questions_since (g.D.CancelDesk.told c.args.desk.now).calls (g.D.CancelDesk.told c.turns.desk).calls) c.turns.turns.spent c.args.turns.now.limit c.in-Ok.ensures.counts c.if-n-eq0.false (i.counted fits) below_limit fits in
+    let more = counted_more c.in-Ok.n (g.S.Source.reads c.turns.source) (g.S.Source.reads c.receive.new.self)
+    (g.S.Source.reads c.args.source.now) (questions_since (g.D.CancelDesk.told c.args.desk.now).calls
+    (g.D.CancelDesk.told c.turns.desk).calls) c.turns.turns.spent c.args.turns.now.limit c.in-Ok.ensures.counts c.if-n-eq0.false
+    (i.counted fits) below_limit fits in
     let fed = subst (λ e. HasFed {A = Progress} c.spend.new.self c.feed.new.turns asked (Err e)) q c.in-Err.ensures.turns in
     let all = all_spent c.spend.new.self c.feed.new.turns asked fed c.in-Err.ensures.bounded (omega (arith, once, kept_limit, below)) in
     omega (arith, more, over, all, once, kept_limit, same_limit))
@@ -167,9 +189,14 @@ returns-in-Ok-Ended-clause-cause g c = λ fits.
     let kept_limit = c.if-not-spend.ensures.limit in
     let took = c.in-Ok-Ended.ensures.fed in
     let served = took.1 in
-    let over = questions_over (g.D.CancelDesk.told c.args.desk.now).calls (g.D.CancelDesk.told c.turns.desk).calls (g.D.CancelDesk.told c.feed.new.desk).calls i.served.called served.1.called i.served.grown served.1.grown in
-    let stands = subst (λ o. Stands (g.C.Conversation.told c.turns.conversation).rules.awaits served.0 (g.C.Conversation.told c.feed.new.self).state took.0 o) c.in-Ok-Ended.field-0-is served.2 in
-    let more = counted_more c.in-Ok.n (g.S.Source.reads c.turns.source) (g.S.Source.reads c.receive.new.self) (g.S.Source.reads c.args.source.now) (questions_since (g.D.CancelDesk.told c.args.desk.now).calls (g.D.CancelDesk.told c.turns.desk).calls) c.turns.turns.spent c.args.turns.now.limit c.in-Ok.ensures.counts c.if-n-eq0.false (i.counted fits) below_limit fits in
+    let over = questions_over (g.D.CancelDesk.told c.args.desk.now).calls (g.D.CancelDesk.told c.turns.desk).calls
+    (g.D.CancelDesk.told c.feed.new.desk).calls i.served.called served.1.called i.served.grown served.1.grown in
+    let stands = subst (λ o. Stands (g.C.Conversation.told c.turns.conversation).rules.awaits served.0
+    (g.C.Conversation.told c.feed.new.self).state took.0 o) c.in-Ok-Ended.field-0-is served.2 in
+    let more = counted_more c.in-Ok.n (g.S.Source.reads c.turns.source) (g.S.Source.reads c.receive.new.self)
+    (g.S.Source.reads c.args.source.now) (questions_since (g.D.CancelDesk.told c.args.desk.now).calls
+    (g.D.CancelDesk.told c.turns.desk).calls) c.turns.turns.spent c.args.turns.now.limit c.in-Ok.ensures.counts c.if-n-eq0.false
+    (i.counted fits) below_limit fits in
     let none = no_end_turn c.in-Ok-Ended.kind stands.0 in
     let spent_is = ap (λ t. t.spent) c.in-Ok-Ended.ensures.turns in
     let limit_is = ap (λ t. t.limit) c.in-Ok-Ended.ensures.turns in
@@ -178,22 +205,29 @@ returns-in-Ok-Ended-clause-cause g c = λ fits.
 
 pub returns-then-n-eq0-clause-reads : goal.returns-then-n-eq0-clause-reads
 returns-then-n-eq0-clause-reads g c =
-    gave_more (g.S.Source.left c.args.source.now) (g.S.Source.left c.turns.source) (g.S.Source.left c.receive.new.self) (g.S.Source.reads c.args.source.now) (g.S.Source.reads c.turns.source) (g.S.Source.reads c.receive.new.self) c.in-Ok.n c.receive.new.into
+    gave_more (g.S.Source.left c.args.source.now) (g.S.Source.left c.turns.source) (g.S.Source.left c.receive.new.self)
+    (g.S.Source.reads c.args.source.now) (g.S.Source.reads c.turns.source) (g.S.Source.reads c.receive.new.self) c.in-Ok.n
+    c.receive.new.into
     c.turns.invariant.gave c.in-Ok.ensures.bytes c.in-Ok.ensures.counts
 
 pub returns-in-Ok-Ended-clause-reads : goal.returns-in-Ok-Ended-clause-reads
 returns-in-Ok-Ended-clause-reads g c =
-    gave_more (g.S.Source.left c.args.source.now) (g.S.Source.left c.turns.source) (g.S.Source.left c.receive.new.self) (g.S.Source.reads c.args.source.now) (g.S.Source.reads c.turns.source) (g.S.Source.reads c.receive.new.self) c.in-Ok.n c.receive.new.into
+    gave_more (g.S.Source.left c.args.source.now) (g.S.Source.left c.turns.source) (g.S.Source.left c.receive.new.self)
+    (g.S.Source.reads c.args.source.now) (g.S.Source.reads c.turns.source) (g.S.Source.reads c.receive.new.self) c.in-Ok.n
+    c.receive.new.into
     c.turns.invariant.gave c.in-Ok.ensures.bytes c.in-Ok.ensures.counts
 
 pub returns-in-Err-clause-reads : goal.returns-in-Err-clause-reads
 returns-in-Err-clause-reads g c =
-    gave_more (g.S.Source.left c.args.source.now) (g.S.Source.left c.turns.source) (g.S.Source.left c.receive.new.self) (g.S.Source.reads c.args.source.now) (g.S.Source.reads c.turns.source) (g.S.Source.reads c.receive.new.self) c.in-Ok.n c.receive.new.into
+    gave_more (g.S.Source.left c.args.source.now) (g.S.Source.left c.turns.source) (g.S.Source.left c.receive.new.self)
+    (g.S.Source.reads c.args.source.now) (g.S.Source.reads c.turns.source) (g.S.Source.reads c.receive.new.self) c.in-Ok.n
+    c.receive.new.into
     c.turns.invariant.gave c.in-Ok.ensures.bytes c.in-Ok.ensures.counts
 
 pub returns-in_default-clause-reads : goal.returns-in_default-clause-reads
 returns-in_default-clause-reads g c =
-    gave_unread (g.S.Source.left c.args.source.now) (g.S.Source.left c.turns.source) (g.S.Source.left c.receive.new.self) (g.S.Source.reads c.args.source.now) (g.S.Source.reads c.turns.source) (g.S.Source.reads c.receive.new.self)
+    gave_unread (g.S.Source.left c.args.source.now) (g.S.Source.left c.turns.source) (g.S.Source.left c.receive.new.self)
+    (g.S.Source.reads c.args.source.now) (g.S.Source.reads c.turns.source) (g.S.Source.reads c.receive.new.self)
     c.turns.invariant.gave c.in_default.ensures.untouched c.in_default.ensures.counts
 
 pub returns-then-not-spend-clause-reads : goal.returns-then-not-spend-clause-reads
@@ -203,13 +237,17 @@ pub turns-init : goal.turns-init
 turns-init g c = record {
   taken = [];
   takes = takes_none (g.S.Source.left c.args.source.now);
-  served = served_none (g.C.Conversation.told c.args.conversation.now).rules (g.C.Conversation.told c.args.conversation.now).state (g.C.Conversation.told c.args.conversation.now).rest (g.K.Sink.written c.args.sink.now) (g.D.CancelDesk.told c.args.desk.now).calls c.requires.rest;
-  short = short_none ((g.C.Conversation.told c.args.conversation.now).rules.awaits (g.C.Conversation.told c.args.conversation.now).state) (g.C.Conversation.told c.args.conversation.now).rest c.requires.rest;
+  served = served_none (g.C.Conversation.told c.args.conversation.now).rules (g.C.Conversation.told c.args.conversation.now).state
+      (g.C.Conversation.told c.args.conversation.now).rest (g.K.Sink.written c.args.sink.now) (g.D.CancelDesk.told c.args.desk.now).calls
+      c.requires.rest;
+  short = short_none ((g.C.Conversation.told c.args.conversation.now).rules.awaits (g.C.Conversation.told c.args.conversation.now).state)
+      (g.C.Conversation.told c.args.conversation.now).rest c.requires.rest;
   opened = c.requires.open;
   unsent = c.requires.unsent;
   rules = refl;
   limit = refl;
-  counted = λ fits. let none = none_asked (g.D.CancelDesk.told c.args.desk.now).calls in let fresh = c.requires.fresh in omega (arith, none, fresh);
+  counted = λ fits. let none = none_asked (g.D.CancelDesk.told c.args.desk.now).calls in let fresh = c.requires.fresh in
+      omega (arith, none, fresh);
   gave = gave_none (g.S.Source.left c.args.source.now) (g.S.Source.reads c.args.source.now);
   spent = let fresh = c.requires.fresh in omega (arith, fresh);
   read_faults = refl;
@@ -224,11 +262,15 @@ turns-init g c = record {
 pub returns-then-n-eq0-clause-last : goal.returns-then-n-eq0-clause-last
 returns-then-n-eq0-clause-last g c =
     let i = c.turns.invariant in
-    ends_with_input (g.C.Conversation.told c.args.conversation.now).rules (g.C.Conversation.told c.args.conversation.now).state (g.S.Source.left c.args.source.now)
-    (g.S.Source.left c.turns.source) (g.S.Source.left c.receive.new.self) c.in-Ok.n c.receive.new.into i.takes c.in-Ok.ensures.bytes c.if-n-eq0.true i.served i.short
+    ends_with_input (g.C.Conversation.told c.args.conversation.now).rules (g.C.Conversation.told c.args.conversation.now).state
+    (g.S.Source.left c.args.source.now)
+    (g.S.Source.left c.turns.source) (g.S.Source.left c.receive.new.self) c.in-Ok.n c.receive.new.into i.takes c.in-Ok.ensures.bytes
+    c.if-n-eq0.true i.served i.short
 
 pub returns-in-Ok-Ended-clause-last : goal.returns-in-Ok-Ended-clause-last
 returns-in-Ok-Ended-clause-last g c =
     let i = c.turns.invariant in
-    ends_at_last (g.C.Conversation.told c.args.conversation.now).rules (g.C.Conversation.told c.args.conversation.now).state (g.S.Source.left c.args.source.now)
-    (g.S.Source.left c.turns.source) (g.S.Source.left c.receive.new.self) c.in-Ok.n c.receive.new.into i.takes c.in-Ok.ensures.bytes c.if-n-eq0.false i.served i.short c.in-Ok-Ended.kind
+    ends_at_last (g.C.Conversation.told c.args.conversation.now).rules (g.C.Conversation.told c.args.conversation.now).state
+    (g.S.Source.left c.args.source.now)
+    (g.S.Source.left c.turns.source) (g.S.Source.left c.receive.new.self) c.in-Ok.n c.receive.new.into i.takes c.in-Ok.ensures.bytes
+    c.if-n-eq0.false i.served i.short c.in-Ok-Ended.kind

@@ -13,13 +13,18 @@ invariant-turns g l = record {
   taken : List ℕ;
   takes : TakesFrom (g.S.Source.left l.fn.source) (g.S.Source.left l.source) taken;
   served : IsServed (g.C.Conversation.told l.fn.conversation).rules
-      (g.C.Conversation.told l.fn.conversation).state taken (g.C.Conversation.told l.conversation).rest (Goes (g.C.Conversation.told l.conversation).state) (g.K.Sink.written l.fn.sink) (g.K.Sink.written l.sink) [] [] (g.D.CancelDesk.told l.fn.desk).calls (g.D.CancelDesk.told l.desk).calls;
-  short : IsUnfinished ((g.C.Conversation.told l.fn.conversation).rules.awaits (g.C.Conversation.told l.conversation).state) (g.C.Conversation.told l.conversation).rest;
+      (g.C.Conversation.told l.fn.conversation).state taken (g.C.Conversation.told l.conversation).rest
+      (Goes (g.C.Conversation.told l.conversation).state) (g.K.Sink.written l.fn.sink) (g.K.Sink.written l.sink) [] []
+      (g.D.CancelDesk.told l.fn.desk).calls (g.D.CancelDesk.told l.desk).calls;
+  short : IsUnfinished ((g.C.Conversation.told l.fn.conversation).rules.awaits (g.C.Conversation.told l.conversation).state)
+      (g.C.Conversation.told l.conversation).rest;
   opened : (g.C.Conversation.told l.conversation).is_open ≡ true;
   unsent : (g.C.Conversation.told l.conversation).unsent ≡ [];
   rules : (g.C.Conversation.told l.conversation).rules ≡ (g.C.Conversation.told l.fn.conversation).rules;
   limit : l.turns.limit ≡ l.fn.turns.limit;
-  counted : g.S.Source.reads l.fn.source + l.fn.turns.limit < 2 ^ 64 → g.S.Source.reads l.source + questions_since (g.D.CancelDesk.told l.fn.desk).calls (g.D.CancelDesk.told l.desk).calls ≡ g.S.Source.reads l.fn.source + l.turns.spent;
+  counted : g.S.Source.reads l.fn.source + l.fn.turns.limit < 2 ^ 64
+      → g.S.Source.reads l.source + questions_since (g.D.CancelDesk.told l.fn.desk).calls (g.D.CancelDesk.told l.desk).calls
+      ≡ g.S.Source.reads l.fn.source + l.turns.spent;
   gave : ReadsGaveBytes (g.S.Source.left l.fn.source) (g.S.Source.left l.source) (g.S.Source.reads l.fn.source) (g.S.Source.reads l.source);
   spent : l.turns.spent ≤ l.turns.limit;
   read_faults : g.S.Source.faults l.source ≡ g.S.Source.faults l.fn.source;

@@ -10,7 +10,9 @@ returns-in_err-end_copy-in-CopyDone-clause-good g c =
     let first = c.in_ok-on_copy_done-in-CopyDone.ensures in
     let behind = c.in_err-end_copy-in-CopyDone.ensures in
     good_parts (g.H.PgWireServerHandlers.told c.args.handlers.now).extended.parser s n.info n.statements n.portals
-    (behind.metadata ∙ ap (λ i. i.metadata) first.info) (ap (λ st. (g.St.PortalStore.maps st).statements) behind.store ∙ ap (λ m. m.statements) first.store) (ap (λ st. (g.St.PortalStore.maps st).portals) behind.store ∙ ap (λ m. m.portals) first.store) c.requires.good
+    (behind.metadata ∙ ap (λ i. i.metadata) first.info) (ap (λ st. (g.St.PortalStore.maps st).statements) behind.store
+    ∙ ap (λ m. m.statements) first.store) (ap (λ st. (g.St.PortalStore.maps st).portals) behind.store
+    ∙ ap (λ m. m.portals) first.store) c.requires.good
 
 pub returns-in_ok-end_copy-in-CopyDone-clause-good : goal.returns-in_ok-end_copy-in-CopyDone-clause-good
 returns-in_ok-end_copy-in-CopyDone-clause-good g c =
@@ -19,4 +21,6 @@ returns-in_ok-end_copy-in-CopyDone-clause-good g c =
     let first = c.in_ok-on_copy_done-in-CopyDone.ensures in
     let behind = c.in_ok-end_copy-in-CopyDone.ensures in
     good_parts (g.H.PgWireServerHandlers.told c.args.handlers.now).extended.parser s n.info n.statements n.portals
-    (behind.metadata ∙ ap (λ i. i.metadata) first.info) (ap (λ st. (g.St.PortalStore.maps st).statements) behind.store ∙ ap (λ m. m.statements) first.store) (ap (λ st. (g.St.PortalStore.maps st).portals) behind.store ∙ ap (λ m. m.portals) first.store) c.requires.good
+    (behind.metadata ∙ ap (λ i. i.metadata) first.info) (ap (λ st. (g.St.PortalStore.maps st).statements) behind.store
+    ∙ ap (λ m. m.statements) first.store) (ap (λ st. (g.St.PortalStore.maps st).portals) behind.store
+    ∙ ap (λ m. m.portals) first.store) c.requires.good

@@ -14,7 +14,8 @@ returns-in_err-on_query-in-Query-clause-good g c =
     let s = state_of g.St.PortalStore.maps c.args.client.now in
     let n = state_of g.St.PortalStore.maps c.on_query.new.client in
     good_parts (g.H.PgWireServerHandlers.told c.args.handlers.now).extended.parser s n.info n.statements n.portals
-    c.in_err-on_query-in-Query.ensures.metadata (ap (λ st. (g.St.PortalStore.maps st).statements) c.in_err-on_query-in-Query.ensures.store) (ap (λ st. (g.St.PortalStore.maps st).portals) c.in_err-on_query-in-Query.ensures.store) c.requires.good
+    c.in_err-on_query-in-Query.ensures.metadata (ap (λ st. (g.St.PortalStore.maps st).statements) c.in_err-on_query-in-Query.ensures.store)
+    (ap (λ st. (g.St.PortalStore.maps st).portals) c.in_err-on_query-in-Query.ensures.store) c.requires.good
 
 pub returns-in_err-on_query-in-Query-clause-refused : goal.returns-in_err-on_query-in-Query-clause-refused
 returns-in_err-on_query-in-Query-clause-refused g c =
@@ -24,7 +25,8 @@ returns-in_err-on_query-in-Query-clause-refused g c =
 
 pub returns-in_err-on_execute-in-Execute-clause-refused : goal.returns-in_err-on_execute-in-Execute-clause-refused
 returns-in_err-on_execute-in-Execute-clause-refused g c =
-    let p = err_from_is_err_and c.from_residual-in_err-on_execute-in-Execute.result c.from_residual-in_err-on_execute-in-Execute.ensures.1 in
+    let p = err_from_is_err_and c.from_residual-in_err-on_execute-in-Execute.result
+    c.from_residual-in_err-on_execute-in-Execute.ensures.1 in
     let refused = rw c.requires.ready at c.in_err-on_execute-in-Execute.ensures.refused in
     rw (p.1, p.2, c.in-Execute.is, ← c.extended_query_handler.ensures) refused
 
@@ -33,12 +35,14 @@ returns-in_ok-on_query-in-Query-clause-good g c =
     let s = state_of g.St.PortalStore.maps c.args.client.now in
     let n = state_of g.St.PortalStore.maps c.on_query.new.client in
     good_parts (g.H.PgWireServerHandlers.told c.args.handlers.now).extended.parser s n.info n.statements n.portals
-    c.in_ok-on_query-in-Query.ensures.metadata (ap (λ st. (g.St.PortalStore.maps st).statements) c.in_ok-on_query-in-Query.ensures.store) (ap (λ st. (g.St.PortalStore.maps st).portals) c.in_ok-on_query-in-Query.ensures.store) c.requires.good
+    c.in_ok-on_query-in-Query.ensures.metadata (ap (λ st. (g.St.PortalStore.maps st).statements) c.in_ok-on_query-in-Query.ensures.store)
+    (ap (λ st. (g.St.PortalStore.maps st).portals) c.in_ok-on_query-in-Query.ensures.store) c.requires.good
 
 pub returns-in-Terminate-clause-ok : goal.returns-in-Terminate-clause-ok
 returns-in-Terminate-clause-ok g c =
     let h = g.H.PgWireServerHandlers.told c.args.handlers.now in
-    ended_row h (state_of g.St.PortalStore.maps c.args.client.now) c.args.message c.in-Terminate.field-0 c.args.client.now.outbox (g.D.CancelDesk.told c.args.desk.now).calls c.in-Terminate.is
+    ended_row h (state_of g.St.PortalStore.maps c.args.client.now) c.args.message c.in-Terminate.field-0 c.args.client.now.outbox
+    (g.D.CancelDesk.told c.args.desk.now).calls c.in-Terminate.is
 
 pub returns-in-Ok : goal.returns-in-Ok
 returns-in-Ok g c =
@@ -62,7 +66,8 @@ returns-in-Err g c =
     let s = (state_of g.St.PortalStore.maps c.args.client.now) in
     record {
       ok = tt;
-      refused = same_refused _ _ c.args.client.now.outbox c.on_statement.new.client.outbox (g.D.CancelDesk.told c.args.desk.now).calls (g.D.CancelDesk.told c.args.desk.now).calls (state_of g.St.PortalStore.maps c.on_statement.new.client)
+      refused = same_refused _ _ c.args.client.now.outbox c.on_statement.new.client.outbox (g.D.CancelDesk.told c.args.desk.now).calls
+          (g.D.CancelDesk.told c.args.desk.now).calls (state_of g.St.PortalStore.maps c.on_statement.new.client)
           (session.Wire c.in-Err.error) (λ answers. plain_row h answers s c.args.message c.in_default.not-Query c.in_default.not-Execute)
           (silent_refused (statement_row h.extended s c.args.message) (g.D.CancelDesk.told c.args.desk.now).calls c.in-Err.ensures.refused);
       answerable = c.in-Err.ensures.answerable;

@@ -5,4 +5,5 @@ use Rattle.relation_demo.specs.Client as client
 use Rattle.relation_demo.proofs.client.demo_client.Given as goal
 
 abbrev pub invariant-loop-number : goal.invariant-loop-number
-invariant-loop-number l = l.bytes.items ≡ frame_bytes true 196608 (startup_body client.startup) ++ flat_map client.asking (range_with_len 0 l.number)
+invariant-loop-number l = l.bytes.items ≡ frame_bytes true 196608 (startup_body client.startup)
+    ++ flat_map client.asking (range_with_len 0 l.number)

@@ -4,8 +4,10 @@ use Rattle.relation_demo.proofs.counting.count_rows.Goals as goal
 
 pub loop-kind-preserved-then-kind-eq-DATA_ROW : goal.loop-kind-preserved-then-kind-eq-DATA_ROW
 loop-kind-preserved-then-kind-eq-DATA_ROW c = record {
-  left = λ messages e told. one_less c.loop-kind.rest.now c.in-Some.kind c.in-Some.behind.now c.loop-kind.rows (c.loop-kind.rows + 1) messages
-      c.in-Some.ensures.first (λ none. absurd (cc (c.in-Some.ensures.end none))) (one_more_row c.in-Some.kind c.loop-kind.rows c.if-kind-eq-DATA_ROW.true)
+  left = λ messages e told. one_less c.loop-kind.rest.now c.in-Some.kind c.in-Some.behind.now c.loop-kind.rows (c.loop-kind.rows + 1)
+      messages
+      c.in-Some.ensures.first (λ none. absurd (cc (c.in-Some.ensures.end none)))
+      (one_more_row c.in-Some.kind c.loop-kind.rows c.if-kind-eq-DATA_ROW.true)
       (c.loop-kind.invariant.left messages e told);
   few = omega (arith, c.in-Some.ensures.shorter, c.loop-kind.invariant.few);
 }
@@ -13,7 +15,8 @@ loop-kind-preserved-then-kind-eq-DATA_ROW c = record {
 pub loop-kind-preserved : goal.loop-kind-preserved
 loop-kind-preserved c = record {
   left = λ messages e told. one_less c.loop-kind.rest.now c.in-Some.kind c.in-Some.behind.now c.loop-kind.rows c.loop-kind.rows messages
-      c.in-Some.ensures.first (λ none. absurd (cc (c.in-Some.ensures.end none))) (no_more_row c.in-Some.kind c.loop-kind.rows c.if-kind-eq-DATA_ROW.false)
+      c.in-Some.ensures.first (λ none. absurd (cc (c.in-Some.ensures.end none)))
+      (no_more_row c.in-Some.kind c.loop-kind.rows c.if-kind-eq-DATA_ROW.false)
       (c.loop-kind.invariant.left messages e told);
   few = omega (arith, c.in-Some.ensures.shorter, c.loop-kind.invariant.few);
 }

@@ -9,7 +9,8 @@ use Rattle.relation_demo.proofs.relations.cell.Goals as goal
 pub returns-clause-cell : goal.returns-clause-cell
 returns-clause-cell c =
     let x = c.args.draws.now in
-    let second : draw c.span-months.new.draws 0 ≡ draw x 1 = next_draw x 1 1 c.span-months.new.draws c.span-months.ensures.after (omega arith) in
+    let second : draw c.span-months.new.draws 0 ≡ draw x 1 =
+    next_draw x 1 1 c.span-months.new.draws c.span-months.ensures.after (omega arith) in
     let two : c.span-days.new.draws ≡ after x 2 =
     after-more x 1 1 2 c.span-months.new.draws c.span-days.new.draws c.span-months.ensures.after c.span-days.ensures.after (omega arith) in
     let third : draw c.span-days.new.draws 0 ≡ draw x 2 = next_draw x 2 2 c.span-days.new.draws two (omega arith) in

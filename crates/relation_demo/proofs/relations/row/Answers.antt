@@ -14,5 +14,6 @@ cells-preserved c =
     record {
       row = each_below-more (λ n. load.cell (after x (3 * n))) k c.cells.row c.push.new.self c.cell.result c.cells.invariant.row
           c.in_ok-push.ensures.ok (c.cell.ensures.cell ∙ ap load.cell c.cells.invariant.after);
-      after = after-more x (3 * k) 3 (3 * (k + 1)) c.cells.draws c.cell.new.draws c.cells.invariant.after c.cell.ensures.after (omega arith);
+      after = after-more x (3 * k) 3 (3 * (k + 1)) c.cells.draws c.cell.new.draws c.cells.invariant.after c.cell.ensures.after
+          (omega arith);
     }

@@ -13,7 +13,8 @@ rows-preserved c =
     let width = c.args.width in
     let k = c.rows.counter in
     record {
-      rows = each_below-more (λ n. load.row (after x (3 * width * n)) width) k c.rows.rows c.push.new.self c.in_ok-row.field-0 c.rows.invariant.rows
+      rows = each_below-more (λ n. load.row (after x (3 * width * n)) width) k c.rows.rows c.push.new.self c.in_ok-row.field-0
+          c.rows.invariant.rows
           c.in_ok-push.ensures.ok (c.in_ok-row.ensures.row ∙ ap (λ y. load.row y width) c.rows.invariant.after);
       after = after-more x (3 * width * k) (3 * width) (3 * width * (k + 1)) c.rows.draws c.row.new.draws c.rows.invariant.after
           c.in_ok-row.ensures.after (omega arith);

@@ -12,7 +12,9 @@ use Rattle.relation_files.proofs.file.relations_in.Given as goal
 abbrev pub invariant-loop-line : goal.invariant-loop-line
 invariant-loop-line l = record {
   count : l.number ≡ length l.yielded;
-  told : all_after l.reader (map strip_carriage_return (drop (length l.yielded) (slice_split (λ byte. byte == 10) l.text))) ≡ relations_of (lines_of l.text);
-  first : bad_line_after (length l.yielded + 1) l.reader (map strip_carriage_return (drop (length l.yielded) (slice_split (λ byte. byte == 10) l.text)))
+  told : all_after l.reader (map strip_carriage_return (drop (length l.yielded) (slice_split (λ byte. byte == 10) l.text)))
+      ≡ relations_of (lines_of l.text);
+  first : bad_line_after (length l.yielded + 1) l.reader
+      (map strip_carriage_return (drop (length l.yielded) (slice_split (λ byte. byte == 10) l.text)))
       ≡ first_bad_line (lines_of l.text);
 }

@@ -16,7 +16,8 @@ intervals cells = map (λ cell. interval_or_zero (reading Postgres cell)) cells
 pub loop-cell-preserved : goal.loop-cell-preserved
 loop-cell-preserved c =
     let fields = fields_of c.args.text.now in
-    let here = YieldsList-turn (YieldsList-from_str_split 9 c.args.text.now (lit< tt) (cc) (cc) (cc)) c.loop-cell.yielded _ c.loop-cell.yielded_by _ _
+    let here = YieldsList-turn (YieldsList-from_str_split 9 c.args.text.now (lit< tt) (cc) (cc) (cc)) c.loop-cell.yielded _
+    c.loop-cell.yielded_by _ _
     c.in-Some.cell c.in-Some.is c.next.ensures.steps in
     let n = length c.loop-cell.yielded in
     let m = length (c.loop-cell.yielded ++ c.in-Some.cell ∷ []) in
@@ -26,7 +27,8 @@ loop-cell-preserved c =
     c.in_ok-push-in-Ok.ensures.ok ∙ ap (λ r. c.loop-cell.row ++ interval_or_zero r ∷ []) c.in-Ok.ensures in
     record {
       row = ap (λ l. l ++ intervals (drop m fields)) pushed
-          ∙ push-left intervals c.loop-cell.row (row_of c.args.text.now) fields n m cell (interval_or_zero (reading Postgres cell)) (λ l. refl)
+          ∙ push-left intervals c.loop-cell.row (row_of c.args.text.now) fields n m cell (interval_or_zero (reading Postgres cell))
+          (λ l. refl)
           c.loop-cell.invariant.row here count;
       reason = sym (cells_reason-step fields n m cell (Ok c.in-Ok.interval) here count c.in-Ok.ensures) ∙ c.loop-cell.invariant.reason;
     }
@@ -34,7 +36,8 @@ loop-cell-preserved c =
 pub returns-in-Err-clause-refused : goal.returns-in-Err-clause-refused
 returns-in-Err-clause-refused c =
     let fields = fields_of c.args.text.now in
-    let here = YieldsList-turn (YieldsList-from_str_split 9 c.args.text.now (lit< tt) (cc) (cc) (cc)) c.loop-cell.yielded _ c.loop-cell.yielded_by _ _
+    let here = YieldsList-turn (YieldsList-from_str_split 9 c.args.text.now (lit< tt) (cc) (cc) (cc)) c.loop-cell.yielded _
+    c.loop-cell.yielded_by _ _
     c.in-Some.cell c.in-Some.is c.next.ensures.steps in
     let n = length c.loop-cell.yielded in
     sym c.loop-cell.invariant.reason ∙ cells_reason-step fields n (n + 1) c.in-Some.cell.now (Err c.in-Err.error) here refl c.in-Err.ensures
@@ -42,13 +45,15 @@ returns-in-Err-clause-refused c =
 pub returns-clause-good : goal.returns-clause-good
 returns-clause-good c =
     let fields = fields_of c.args.text.now in
-    let end = YieldsList-end (YieldsList-from_str_split 9 c.args.text.now (lit< tt) (cc) (cc) (cc)) c.loop-cell.yielded _ c.loop-cell.yielded_by _ _
+    let end = YieldsList-end (YieldsList-from_str_split 9 c.args.text.now (lit< tt) (cc) (cc) (cc)) c.loop-cell.yielded _
+    c.loop-cell.yielded_by _ _
     c.in-None.is c.next.ensures.steps in
     sym c.loop-cell.invariant.reason ∙ cells_reason-end fields (length c.loop-cell.yielded) end.1
 
 pub returns-clause-row : goal.returns-clause-row
 returns-clause-row c =
     let fields = fields_of c.args.text.now in
-    let end = YieldsList-end (YieldsList-from_str_split 9 c.args.text.now (lit< tt) (cc) (cc) (cc)) c.loop-cell.yielded _ c.loop-cell.yielded_by _ _
+    let end = YieldsList-end (YieldsList-from_str_split 9 c.args.text.now (lit< tt) (cc) (cc) (cc)) c.loop-cell.yielded _
+    c.loop-cell.yielded_by _ _
     c.in-None.is c.next.ensures.steps in
     left-all intervals c.loop-cell.row (row_of c.args.text.now) fields (length c.loop-cell.yielded) refl c.loop-cell.invariant.row end.1

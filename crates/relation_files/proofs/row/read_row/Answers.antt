@@ -10,7 +10,8 @@ returns-in_default-clause-refused c =
 
 pub returns-clause-good : goal.returns-clause-good
 returns-clause-good c =
-    subst (λ o. IfOk c.read_fields.result (λ _. o ≡ None)) (sym (line_reason-text never (Some c.args.width) c.args.line.now c.in-Ok.text.now c.in-Ok.ensures.cases))
+    subst (λ o. IfOk c.read_fields.result (λ _. o ≡ None))
+    (sym (line_reason-text never (Some c.args.width) c.args.line.now c.in-Ok.text.now c.in-Ok.ensures.cases))
     c.read_fields.ensures.good
 
 pub returns-clause-row : goal.returns-clause-row
@@ -18,5 +19,6 @@ returns-clause-row c = subst (λ l. IfOk c.read_fields.result (λ row. row ≡ r
 
 pub returns-clause-refused : goal.returns-clause-refused
 returns-clause-refused c =
-    subst (λ o. IfErr c.read_fields.result (λ error. IsReason error o)) (sym (line_reason-text never (Some c.args.width) c.args.line.now c.in-Ok.text.now c.in-Ok.ensures.cases))
+    subst (λ o. IfErr c.read_fields.result (λ error. IsReason error o))
+    (sym (line_reason-text never (Some c.args.width) c.args.line.now c.in-Ok.text.now c.in-Ok.ensures.cases))
     c.read_fields.ensures.refused

@@ -12,5 +12,6 @@ returns-clause-sendable c =
     let r = relation_at c.args.relations.now c.args.place in
     IfOk-weaker c.new.result (λ response. response.command_tag ≡ codes "SELECT")
     (λ response. IsSendableResponse (rows_response c.args.client.now c.args.formats.now r))
-    (λ response e. sendable_rows c.args.client.now c.args.formats.now r (subst (λ x. IsSound x) c.at-relation.ensures.relation c.at-relation.ensures.sound))
+    (λ response e. sendable_rows c.args.client.now c.args.formats.now r
+    (subst (λ x. IsSound x) c.at-relation.ensures.relation c.at-relation.ensures.sound))
     c.new.ensures.tag

@@ -4,7 +4,8 @@ use Rattle.relation_laws.proofs.Runs.{talk_is, stays_served, served_code, never_
 use Rattle.relation_laws.proofs.laws.served_states_are_kept.Goals as goal
 
 pub returns-clause-served : goal.returns-clause-served
-returns-clause-served c relations registration answers messages s e = stays_served relations registration.0 registration.1 answers messages s e
+returns-clause-served c relations registration answers messages s e =
+    stays_served relations registration.0 registration.1 answers messages s e
 
 pub returns-clause-told : goal.returns-clause-told
 returns-clause-told c relations registration answers messages info at =

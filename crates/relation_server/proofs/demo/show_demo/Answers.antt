@@ -21,7 +21,9 @@ returns-clause-shown g c =
     λ file client faults reads read_faults.
     let h = c.in-Ok-register.handle in
     let told = c.in-Ok-register.ensures in
-    shown c.args.manager.now c.args.load h h.number c.in-Ok.relations c.in-Ok-demo_client.client c.serve_demo.result.0 c.serve_demo.result.1 _ _
+    shown c.args.manager.now c.args.load h h.number c.in-Ok.relations c.in-Ok-demo_client.client c.serve_demo.result.0 c.serve_demo.result.1
+    _ _
     c.in-Ok.ensures.table c.in-Ok-demo_client.ensures.client
-    (is_newcomer h c.args.manager.now demo_registration.0 demo_registration.1 c.register.new.door.seen told.handle.0 told.handle.1 told.handle.2 told.seen told.mine)
+    (is_newcomer h c.args.manager.now demo_registration.0 demo_registration.1 c.register.new.door.seen told.handle.0 told.handle.1
+    told.handle.2 told.seen told.mine)
     told.registered c.serve_demo.ensures.counted

@@ -16,7 +16,8 @@ returns g c =
         went = served.went.2;
         cause = subst (λ asked. HasCause c.serve_relations-answer.result c.args.turn_limit asked
             (counts_of g.S.Source.reads g.S.Source.faults g.K.Sink.faults c.args.source.now c.args.sink.now)
-            (counts_of g.S.Source.reads g.S.Source.faults g.K.Sink.faults c.serve_relations-answer.new.source c.serve_relations-answer.new.sink))
+            (counts_of g.S.Source.reads g.S.Source.faults g.K.Sink.faults c.serve_relations-answer.new.source
+            c.serve_relations-answer.new.sink))
             (since_made old.mine new.mine made served.went.1) served.cause;
         calm = served.calm;
         never_falls = served.never_falls;

@@ -40,8 +40,10 @@ returns-in_err-take_in-clause-ended g c =
     let i = c.connections.invariant in
     rw (p.1, p.2) (gives_up c.in_err-take_in.field-0.0 c.args.count
     (taking_of g.A.Acceptor.accepted g.A.Acceptor.faults g.P.Spawner.started g.P.Spawner.faults c.args.acceptor.now c.args.spawner.now)
-    (taking_of g.A.Acceptor.accepted g.A.Acceptor.faults g.P.Spawner.started g.P.Spawner.faults c.connections.acceptor c.connections.spawner)
-    (taking_of g.A.Acceptor.accepted g.A.Acceptor.faults g.P.Spawner.started g.P.Spawner.faults c.take_in.new.acceptor c.take_in.new.spawner)
+    (taking_of g.A.Acceptor.accepted g.A.Acceptor.faults g.P.Spawner.started g.P.Spawner.faults c.connections.acceptor
+    c.connections.spawner)
+    (taking_of g.A.Acceptor.accepted g.A.Acceptor.faults g.P.Spawner.started g.P.Spawner.faults c.take_in.new.acceptor
+    c.take_in.new.spawner)
     c.args.door.now.seen c.connections.door.seen c.take_in.new.door.seen c.connections.pid (c.connections.pid + 1) refl
     (omega (arith, c.connections-test.true, c.most_connections-most.ensures.count)) (i.accepted, i.started) i.registered i.falls
     c.take_in.ensures.never_falls c.in_err-take_in.ensures.taken)
@@ -50,7 +52,8 @@ pub returns-in_err-take_in-clause-exactly : goal.returns-in_err-take_in-clause-e
 returns-in_err-take_in-clause-exactly g c m =
     exactly_refused m c.from_residual.result c.args.count
     (taking_of g.A.Acceptor.accepted g.A.Acceptor.faults g.P.Spawner.started g.P.Spawner.faults c.args.acceptor.now c.args.spawner.now)
-    (taking_of g.A.Acceptor.accepted g.A.Acceptor.faults g.P.Spawner.started g.P.Spawner.faults c.take_in.new.acceptor c.take_in.new.spawner)
+    (taking_of g.A.Acceptor.accepted g.A.Acceptor.faults g.P.Spawner.started g.P.Spawner.faults c.take_in.new.acceptor
+    c.take_in.new.spawner)
     c.args.door.now.seen c.take_in.new.door.seen (returns-in_err-take_in-clause-ended g c)
 
 pub returns-in_err-take_in-clause-seen : goal.returns-in_err-take_in-clause-seen

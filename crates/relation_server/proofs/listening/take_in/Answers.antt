@@ -14,7 +14,8 @@ returns-in-Ok-register-clause-taken g c =
     let seen = c.args.door.now.seen in
     let seen' = c.register.new.door.seen in
     let fits : c.args.pid < 2 ^ 31 = omega (arith, c.requires.pid) in
-    let registered = subst (λ pid. Registers number (Register pid key) seen seen' Registered) (to_z_pos w32 c.args.pid fits) c.in-Ok-register.ensures.registered in
+    let registered = subst (λ pid. Registers number (Register pid key) seen seen' Registered) (to_z_pos w32 c.args.pid fits)
+    c.in-Ok-register.ensures.registered in
     took_in c.start.result c.args.pid
     (taking_of g.A.Acceptor.accepted g.A.Acceptor.faults g.P.Spawner.started g.P.Spawner.faults c.args.acceptor.now c.args.spawner.now)
     (taking_of g.A.Acceptor.accepted g.A.Acceptor.faults g.P.Spawner.started g.P.Spawner.faults c.accept.new.self c.start.new.spawner)

@@ -16,7 +16,8 @@ returns-in_default-clause-went g c = (
   [],
   sym (append-nil (g.D.CancelDesk.told c.args.desk.now).calls),
   went_by_tables c.args.relations.now (g.D.CancelDesk.told c.args.desk.now).registration
-      (even c.args.relations.now c.relations-valid.ensures.valid) _ (g.S.Source.left c.args.source.now) _ (g.K.Sink.written c.args.sink.now) _ []
+      (even c.args.relations.now c.relations-valid.ensures.valid) _ (g.S.Source.left c.args.source.now) _ (g.K.Sink.written c.args.sink.now)
+      _ []
       (none_went (whole_rules (relation_handlers c.args.relations.now))
       (first_state (g.D.CancelDesk.told c.args.desk.now).registration.0 (g.D.CancelDesk.told c.args.desk.now).registration.1)
       (g.S.Source.left c.args.source.now) (g.K.Sink.written c.args.sink.now) fault.NoMemory refl),
@@ -29,7 +30,8 @@ returns-clause-went g c =
       went.1,
       went_by_tables c.args.relations.now (g.D.CancelDesk.told c.args.desk.now).registration
           (even c.args.relations.now c.relations-valid.ensures.valid) c.serve_connection.result (g.S.Source.left c.args.source.now)
-          (g.S.Source.left c.serve_connection.new.source) (g.K.Sink.written c.args.sink.now) (g.K.Sink.written c.serve_connection.new.sink) went.0
+          (g.S.Source.left c.serve_connection.new.source) (g.K.Sink.written c.args.sink.now) (g.K.Sink.written c.serve_connection.new.sink)
+          went.0
           (subst (λ relations. WentSo (whole_rules (relation_handlers relations))
           (first_state (g.D.CancelDesk.told c.args.desk.now).registration.0 (g.D.CancelDesk.told c.args.desk.now).registration.1)
           c.serve_connection.result (g.S.Source.left c.args.source.now) (g.S.Source.left c.serve_connection.new.source)
@@ -51,7 +53,8 @@ returns-clause-complete g c =
     complete_serving c.args.relations.now (g.D.CancelDesk.told c.args.desk.now).registration c.args.turn_limit c.serve_connection.result
     (g.S.Source.left c.args.source.now) (g.S.Source.left c.serve_connection.new.source) (g.K.Sink.written c.args.sink.now)
     (g.K.Sink.written c.serve_connection.new.sink) went.0 before after
-    (cause_of_calls c.serve_connection.result c.args.turn_limit (g.D.CancelDesk.told c.args.desk.now).calls (g.D.CancelDesk.told c.serve_connection.new.desk).calls went.0
+    (cause_of_calls c.serve_connection.result c.args.turn_limit (g.D.CancelDesk.told c.args.desk.now).calls
+    (g.D.CancelDesk.told c.serve_connection.new.desk).calls went.0
     before after went.1 c.serve_connection.ensures.cause)
     c.serve_connection.ensures.reads
     (subst (λ relations. WentSo (whole_rules (relation_handlers relations))

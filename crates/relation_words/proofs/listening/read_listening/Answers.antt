@@ -21,7 +21,8 @@ five_words (_ ∷ _ ∷ _ ∷ _ ∷ _ ∷ _ ∷ more) _ _ _ _ _ _ _ _ _ _ most _
 pub returns-in-len5 : goal.returns-in-len5
 returns-in-len5 c =
     c.make_listening-in-len5.ensures
-    ∙ five_words c.args.words.now c.as_str-in-len5-2.result.now c.as_str-in-len5-3.result.now c.as_str-in-len5-4.result.now c.as_str-in-len5.result.now
+    ∙ five_words c.args.words.now c.as_str-in-len5-2.result.now c.as_str-in-len5-3.result.now c.as_str-in-len5-4.result.now
+    c.as_str-in-len5.result.now
     c.command-item-then-words-lt6.result c.kind-item-then-words-lt6.result c.place-item-then-words-lt6.result c.count-item.result
     c.read_bound-count.result c.in-len5.len_at_least c.in-len5.len_below
     c.as_str-in-len5-2.ensures c.command-item-then-words-lt6.is c.as_str-in-len5-3.ensures c.kind-item-then-words-lt6.is

@@ -26,11 +26,13 @@ returns c =
     let moved = c.sort_unstable.ensures.permutation in
     let is : c.from_vec.result ≡ dedup pair_eq sorted = c.from_vec.ensures ∙ dedup_is pair_eq _ _ c.dedup.ensures.filtered in
     let clash : (p : ℕ × ℕ) → Contains (dedup pair_eq sorted) p → Clash first second p.0 p.1 = λ p h.
-    elim (c.in_ok-pairs.ensures.only p (Contains-permutation sorted found p (IsPermutation-sym found sorted moved) (Contains-from_dedup pair_eq sorted p h))) [
+    elim (c.in_ok-pairs.ensures.only p (Contains-permutation sorted found p (IsPermutation-sym found sorted moved)
+    (Contains-from_dedup pair_eq sorted p h))) [
       | inl begun ↦ begun-clash first second fs ss vf vs hf hs p begun
       | inr running ↦ running-clash first second fs ss vf vs hf hs p running
     ] in
-    let has : (p : ℕ × ℕ) → Contains found p → Contains (dedup pair_eq sorted) p = λ p h. distinct_has sorted p (Contains-permutation found sorted p moved h) in
+    let has : (p : ℕ × ℕ) → Contains found p → Contains (dedup pair_eq sorted) p =
+    λ p h. distinct_has sorted p (Contains-permutation found sorted p moved h) in
     rw is (record {
       clash = λ k d h. clash (get_or (dedup pair_eq sorted) k d) (Contains-get_or (dedup pair_eq sorted) k d h);
       all = λ i j h. elim (clash-joined first second fs ss vf vs hf hs i j h) [

@@ -11,8 +11,10 @@ returns-then-to-from c =
     let xs = c.args.shifts.now in
     let from = c.partition_point-from.result in
     let to = c.partition_point-to.result in
-    let pf : SplitAt xs c.args.low from = IsPartitionPoint-from_clause (λ (s : Shift). nat_lt s.start c.args.low) xs from c.partition_point-from.ensures.partitioned (IsPartitionedBy-ltb start_of xs c.args.low c.requires) (λ a r q k. search rules) in
-    let pt : SplitAt xs c.args.high to = IsPartitionPoint-from_clause (λ (s : Shift). nat_lt s.start c.args.high) xs to c.partition_point-to.ensures.partitioned (IsPartitionedBy-ltb start_of xs c.args.high c.requires) (λ a r q k. search rules) in
+    let pf : SplitAt xs c.args.low from = IsPartitionPoint-from_clause (λ (s : Shift). nat_lt s.start c.args.low) xs from
+    c.partition_point-from.ensures.partitioned (IsPartitionedBy-ltb start_of xs c.args.low c.requires) (λ a r q k. search rules) in
+    let pt : SplitAt xs c.args.high to = IsPartitionPoint-from_clause (λ (s : Shift). nat_lt s.start c.args.high) xs to
+    c.partition_point-to.ensures.partitioned (IsPartitionedBy-ltb start_of xs c.args.high c.requires) (λ a r q k. search rules) in
     none_between xs c.args.low c.args.high from to pf pt c.if-to-from.true
 
 pub returns : goal.returns
@@ -20,6 +22,8 @@ returns c =
     let xs = c.args.shifts.now in
     let from = c.partition_point-from.result in
     let to = c.partition_point-to.result in
-    let pf : SplitAt xs c.args.low from = IsPartitionPoint-from_clause (λ (s : Shift). nat_lt s.start c.args.low) xs from c.partition_point-from.ensures.partitioned (IsPartitionedBy-ltb start_of xs c.args.low c.requires) (λ a r q k. search rules) in
-    let pt : SplitAt xs c.args.high to = IsPartitionPoint-from_clause (λ (s : Shift). nat_lt s.start c.args.high) xs to c.partition_point-to.ensures.partitioned (IsPartitionedBy-ltb start_of xs c.args.high c.requires) (λ a r q k. search rules) in
+    let pf : SplitAt xs c.args.low from = IsPartitionPoint-from_clause (λ (s : Shift). nat_lt s.start c.args.low) xs from
+    c.partition_point-from.ensures.partitioned (IsPartitionedBy-ltb start_of xs c.args.low c.requires) (λ a r q k. search rules) in
+    let pt : SplitAt xs c.args.high to = IsPartitionPoint-from_clause (λ (s : Shift). nat_lt s.start c.args.high) xs to
+    c.partition_point-to.ensures.partitioned (IsPartitionedBy-ltb start_of xs c.args.high c.requires) (λ a r q k. search rules) in
     those_between xs c.args.low c.args.high from to pf pt (omega (arith, c.if-to-from.false)) c.partition_point-to.ensures.bound

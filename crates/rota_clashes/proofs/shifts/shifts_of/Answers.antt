@@ -6,4 +6,5 @@ use Rattle.rota_clashes.proofs.shifts.shifts_of.Goals as goal
 
 pub returns-clause-in_order : goal.returns-clause-in_order
 returns-clause-in_order c =
-    IsNonDecreasingBy-from_sort_by_key start_of c.sort_unstable_by_key.new.self.items c.sort_unstable_by_key.ensures.sorted (λ a r q k. search rules)
+    IsNonDecreasingBy-from_sort_by_key start_of c.sort_unstable_by_key.new.self.items c.sort_unstable_by_key.ensures.sorted
+    (λ a r q k. search rules)

@@ -24,4 +24,8 @@ returns-in-Err c = λ date h same.
     let year_is = to_z_pos w16 c.args.year year in
     let month_is = to_z_pos w8 c.args.month month in
     let day_is = to_z_pos w8 c.args.day day in
-    true≢false (sym (c.in-Err.ensures.succeeds.1 (rw (year_is, month_is, day_is) (is_date date c.args.year c.args.month c.args.day h same))))
+    true≢false (sym (c.in-Err.ensures.succeeds.1 (rw (
+      year_is,
+      month_is,
+      day_is,
+    ) (is_date date c.args.year c.args.month c.args.day h same))))

@@ -10,10 +10,14 @@ pub loop-place-preserved : goal.loop-place-preserved
 loop-place-preserved c =
     let i = c.loop-place.invariant in
     let front = i.0 in
-    let moved = moved_at front c.args.steps.now c.loop-place.last c.in-Ok.next c.loop-place.place _ c.loop-place-test.true (sym c.in-Ok.ensures.value) in (
+    let moved = moved_at front c.args.steps.now c.loop-place.last c.in-Ok.next c.loop-place.place _ c.loop-place-test.true
+    (sym c.in-Ok.ensures.value) in (
       front ++ c.loop-place.last ∷ [],
       c.in_ok-push-2.ensures.ok ∙ ap (λ ms. ms ++ c.in-Ok.next ∷ []) i.1,
       omega (arith, length-append front (c.loop-place.last ∷ []), i.2),
       i.3 ∙ moved,
-      rw c.in_ok-push-2.ensures.ok (All-append IsMoment c.loop-place.moments (c.in-Ok.next ∷ []) i.4 (grind (arith, c.in-Ok.ensures.valid))),
+      rw c.in_ok-push-2.ensures.ok (All-append IsMoment c.loop-place.moments (c.in-Ok.next ∷ []) i.4 (grind (
+        arith,
+        c.in-Ok.ensures.valid,
+      ))),
     )

@@ -6,8 +6,12 @@ use Rattle.rota_moments.proofs.rotas.total.Goals as goal
 
 pub returns-in-None : goal.returns-in-None
 returns-in-None c =
-    let i = c.loop-place.invariant in
-    (c.loop-place-test.true, i.1, no_sum c.loop-place.sum c.args.steps.now c.loop-place.place _ c.loop-place-test.true i.0 c.in-None.ensures)
+    let i = c.loop-place.invariant in (
+      c.loop-place-test.true,
+      i.1,
+      no_sum c.loop-place.sum c.args.steps.now c.loop-place.place _ c.loop-place-test.true i.0
+          c.in-None.ensures,
+    )
 
 pub loop-place-preserved : goal.loop-place-preserved
 loop-place-preserved c =

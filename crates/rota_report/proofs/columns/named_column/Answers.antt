@@ -15,13 +15,16 @@ returns-in_default-place_of_column-clause-refused c =
     let found = place_within (λ r. bytes_eq c.args.relation.now r.name) c.args.relations.now c.in-Some.place (sym c.in-Some.ensures) in
     let r = c.index-relations-place.result in
     column_missing c.args.relations.now c.args.relation.now c.args.column.now c.in-Some.place r (sym c.in-Some.ensures)
-    (relation_read c.args.relations.now c.relations.result.now c.in-Some.place r c.relations.ensures.relations found c.index-relations-place.is)
-    (ap (λ columns. column_place columns c.args.column.now) (sym c.as_slice.ensures) ∙ sym c.place_of_column.ensures ∙ c.in_default-place_of_column.is)
+    (relation_read c.args.relations.now c.relations.result.now c.in-Some.place r c.relations.ensures.relations found
+    c.index-relations-place.is)
+    (ap (λ columns. column_place columns c.args.column.now) (sym c.as_slice.ensures) ∙ sym c.place_of_column.ensures
+    ∙ c.in_default-place_of_column.is)
 
 pub intervals_at-requires-clause-even : goal.intervals_at-requires-clause-even
 intervals_at-requires-clause-even c =
     let found = place_within (λ r. bytes_eq c.args.relation.now r.name) c.args.relations.now c.in-Some.place (sym c.in-Some.ensures) in
-    let good = IsSound-read c.args.relations.now c.relations.result.now c.in-Some.place c.index-relations-place.result c.relations.ensures.relations
+    let good = IsSound-read c.args.relations.now c.relations.result.now c.in-Some.place c.index-relations-place.result
+    c.relations.ensures.relations
     c.relations.ensures.valid found c.index-relations-place.is in
     good.rows
 
@@ -35,7 +38,9 @@ pub returns-clause-found : goal.returns-clause-found
 returns-clause-found c =
     let found = place_within (λ r. bytes_eq c.args.relation.now r.name) c.args.relations.now c.in-Some.place (sym c.in-Some.ensures) in
     let r = c.index-relations-place.result in
-    column_found c.args.relations.now c.args.relation.now c.args.column.now c.in-Some.place r c.in-Some-place_of_column.place (sym c.in-Some.ensures)
-    (relation_read c.args.relations.now c.relations.result.now c.in-Some.place r c.relations.ensures.relations found c.index-relations-place.is)
+    column_found c.args.relations.now c.args.relation.now c.args.column.now c.in-Some.place r c.in-Some-place_of_column.place
+    (sym c.in-Some.ensures)
+    (relation_read c.args.relations.now c.relations.result.now c.in-Some.place r c.relations.ensures.relations found
+    c.index-relations-place.is)
     (ap (λ columns. column_place columns c.args.column.now) (sym c.as_slice.ensures) ∙ sym c.in-Some-place_of_column.ensures)
     ∙ ap Some (sym c.in_ok-intervals_at.ensures)

@@ -4,4 +4,7 @@ use Rattle.rota_words.proofs.words.read_style.Goals as goal
 use Rattle.rota_words.proofs.words.read_style.Goals.{in-Ok, in-Err}
 
 pub returns : goal.returns
-returns c = elim c.match-try_from_text.branch [ in-Ok w ↦ w.result-is ∙ style_read c.args.word.now _ _ w.in-Ok.ensures | in-Err w ↦ w.result-is ∙ style_refused c.args.word.now _ _ w.in-Err.ensures ]
+returns c = elim c.match-try_from_text.branch [
+  | in-Ok w ↦ w.result-is ∙ style_read c.args.word.now _ _ w.in-Ok.ensures
+  | in-Err w ↦ w.result-is ∙ style_refused c.args.word.now _ _ w.in-Err.ensures
+]

@@ -14,7 +14,8 @@ loop-pair-preserved g c =
     let first = g.K.Sink.written c.args.sink.now in
     let new = g.K.Sink.written c.write_clash.new.sink in
     let P : List ℕ → Type 0 = λ t. IsOnItsWay first new t (string_bytes c.write_clash.new.text) in (
-      subst P (sym (clash_more c.args.pairs.now c.loop-pair.pair-index _ c.loop-pair-test.true)) (on.0 first (clash_text (take c.loop-pair.pair-index c.args.pairs.now)) way.0),
+      subst P (sym (clash_more c.args.pairs.now c.loop-pair.pair-index _ c.loop-pair-test.true))
+          (on.0 first (clash_text (take c.loop-pair.pair-index c.args.pairs.now)) way.0),
       on.1 ∙ way.1,
     )
 
@@ -27,6 +28,7 @@ returns-in-Err-clause-written g c =
     let i = c.loop-pair.pair-index in
     let rest = clash_text (drop (i + 1) c.args.pairs.now) in
     let P : List ℕ → Type 0 = λ t. GrowsByFront first new t in (
-      subst P (sym (clash_split c.args.pairs.now i _ c.loop-pair-test.true)) (front_more first new _ rest (on.0 first (clash_text (take i c.args.pairs.now)) way.0)),
+      subst P (sym (clash_split c.args.pairs.now i _ c.loop-pair-test.true))
+          (front_more first new _ rest (on.0 first (clash_text (take i c.args.pairs.now)) way.0)),
       cause_as c.in-Err.error _ _ _ way.1 on.1,
     )

@@ -16,12 +16,14 @@ loop-place-preserved g c =
     let before = c.loop-place.invariant in
     let first = g.K.Sink.written c.args.sink.now in
     let lines = before.0 in
-    let next = lines_step (printed_style c.args.style) c.args.total.now c.args.steps.now c.args.moments.now c.loop-place.place _ _ c.loop-place-test.true c.requires.one_more in (
+    let next = lines_step (printed_style c.args.style) c.args.total.now c.args.steps.now c.args.moments.now c.loop-place.place _ _
+    c.loop-place-test.true c.requires.one_more in (
       _,
       before.1 ∙ ap (λ l. lines ++ l) next ∙ sym (append_assoc lines _ _),
       on.0 first lines before.2,
       on.1 ∙ before.3,
-      All-more (Stands (printed_style c.args.style)) c.args.steps.now c.loop-place.place _ c.loop-place-test.true before.4 c.in-Ok.ensures.stands,
+      All-more (Stands (printed_style c.args.style)) c.args.steps.now c.loop-place.place _ c.loop-place-test.true before.4
+          c.in-Ok.ensures.stands,
     )
 
 pub returns-in-Err-clause-written : goal.returns-in-Err-clause-written
@@ -31,9 +33,11 @@ returns-in-Err-clause-written g c =
     let first = g.K.Sink.written c.args.sink.now in
     let new = g.K.Sink.written c.write_step.new.sink in
     let lines = before.0 in
-    let next = lines_step (printed_style c.args.style) c.args.total.now c.args.steps.now c.args.moments.now c.loop-place.place _ _ c.loop-place-test.true c.requires.one_more in
+    let next = lines_step (printed_style c.args.style) c.args.total.now c.args.steps.now c.args.moments.now c.loop-place.place _ _
+    c.loop-place-test.true c.requires.one_more in
     let P : List ℕ → Type 0 = λ t. GrowsByFront first new t in (
-      subst P (sym (before.1 ∙ ap (λ l. lines ++ l) next ∙ sym (append_assoc lines _ _))) (front_more first new _ _ (on.0 first lines before.2)),
+      subst P (sym (before.1 ∙ ap (λ l. lines ++ l) next
+          ∙ sym (append_assoc lines _ _))) (front_more first new _ _ (on.0 first lines before.2)),
       cause_as c.in-Err.error _ _ _ before.3 on.1,
     )
 

@@ -6,6 +6,7 @@ use Rattle.sample_handlers.proofs.answer.responses.Given as goal
 
 abbrev pub invariant-loop-statement : goal.invariant-loop-statement
 invariant-loop-statement l = record {
-  whole : told_responses (λ rows. rows) (λ c. data_left c.left) l.all ++ map (response_of format.UnifiedText) (drop l.statement-index l.statements)
+  whole : told_responses (λ rows. rows) (λ c. data_left c.left) l.all
+      ++ map (response_of format.UnifiedText) (drop l.statement-index l.statements)
       ≡ map (response_of format.UnifiedText) l.statements;
 }

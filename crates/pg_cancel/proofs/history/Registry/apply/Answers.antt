@@ -29,9 +29,11 @@ notes c =
     c.in_ok-answer.ensures.ok h c.args.number (was_legal c) index (place c)
     (subst (λ p. IsCaller h c.args.number p c.args.call) (sym pid) caller)
 
-items : (c : After-push_reserved) → c.push_reserved.new.self.items ≡ c.args.self.now ++ entry_of c.args.self.now c.args.number c.args.call c.in_ok-answer.answer ∷ []
+items : (c : After-push_reserved) → c.push_reserved.new.self.items
+    ≡ c.args.self.now ++ entry_of c.args.self.now c.args.number c.args.call c.in_ok-answer.answer ∷ []
 items c =
-    let number : c.entry_number-number.result ≡ entry_number c.args.self.now c.args.number c.args.call = c.entry_number-number.ensures c.args.self.now (place c) in
+    let number : c.entry_number-number.result ≡ entry_number c.args.self.now c.args.number c.args.call =
+    c.entry_number-number.ensures c.args.self.now (place c) in
     let before : c.reserve.new.self.items ≡ c.args.self.now = c.reserve.ensures.items ∙ c.self.view_is in
     rw (c.push_reserved.ensures.items, number, before)
 
@@ -67,11 +69,13 @@ returns-clause-determined c = λ other is.
 
 pub returns-clause-registered : goal.returns-clause-registered
 returns-clause-registered c = λ pid key same.
-    answered_when c.args.self.now c.args.number c.args.call (Register pid key) c.in_ok-answer.answer Registered (was_legal c) (notes c).told same
+    answered_when c.args.self.now c.args.number c.args.call (Register pid key) c.in_ok-answer.answer Registered (was_legal c) (notes c).told
+    same
 
 pub returns-clause-taken : goal.returns-clause-taken
 returns-clause-taken c = λ pid key m same.
-    answered_when c.args.self.now c.args.number c.args.call (Register pid key) c.in_ok-answer.answer (Taken m) (was_legal c) (notes c).told same
+    answered_when c.args.self.now c.args.number c.args.call (Register pid key) c.in_ok-answer.answer (Taken m) (was_legal c) (notes c).told
+    same
 
 pub returns-clause-ask_yes : goal.returns-clause-ask_yes
 returns-clause-ask_yes c = λ same.
@@ -91,16 +95,21 @@ returns-clause-cancel_no c = λ pid key same.
 
 pub returns-clause-done : goal.returns-clause-done
 returns-clause-done c = λ either. ⊎_elim
-    (λ same. (answered_when c.args.self.now c.args.number c.args.call Start c.in_ok-answer.answer Done (was_legal c) (notes c).told same).1 tt)
-    (λ same. (answered_when c.args.self.now c.args.number c.args.call Unregister c.in_ok-answer.answer Done (was_legal c) (notes c).told same).1 tt)
+    (λ same. (answered_when c.args.self.now c.args.number c.args.call Start c.in_ok-answer.answer Done (was_legal c) (notes c).told same).1
+    tt)
+    (λ same. (answered_when c.args.self.now c.args.number c.args.call Unregister c.in_ok-answer.answer Done (was_legal c) (notes c).told
+    same).1 tt)
     either
 
 pub returns-clause-lives : goal.returns-clause-lives
 returns-clause-lives c = λ ok.
     let h = c.args.self.now in
     let answer : c.in_ok-answer.answer ≡ Registered = cc (ok) in
-    let told : IsAnswer h c.args.number c.args.call Registered = subst (λ a. IsAnswer h c.args.number c.args.call a) answer (notes c).told in
-    let lives : IsLive (h ++ entry_of h c.args.number c.args.call c.in_ok-answer.answer ∷ []) (length h) = subst (λ a. IsLive (h ++ entry_of h c.args.number c.args.call a ∷ []) (length h)) (sym answer) (registered_lives h c.args.number c.args.call told) in
+    let told : IsAnswer h c.args.number c.args.call Registered =
+    subst (λ a. IsAnswer h c.args.number c.args.call a) answer (notes c).told in
+    let lives : IsLive (h ++ entry_of h c.args.number c.args.call c.in_ok-answer.answer ∷ []) (length h) =
+    subst (λ a. IsLive (h ++ entry_of h c.args.number c.args.call a ∷ []) (length h)) (sym answer)
+    (registered_lives h c.args.number c.args.call told) in
     subst (λ xs. IsLive xs (length h)) (sym (items c)) lives
 
 pub returns-clause-stays : goal.returns-clause-stays

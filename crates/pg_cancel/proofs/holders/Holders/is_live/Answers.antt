@@ -16,5 +16,8 @@ returns-in-None c =
     let m = c.args.self.now.by_pid in
     let pid = c.in-Register.held in
     let fits : FitsSigned w32 pid = search rules in
-    let at = read_at m pid None fits c.in-None.ensures.value in
-    (λ e. absurd (false≢true e), λ live. absurd (live_by_none c.args.history.now m c.args.number _ pid _ c.requires.index c.in-Register.is at live))
+    let at = read_at m pid None fits c.in-None.ensures.value in (
+      λ e. absurd (false≢true e),
+      λ live. absurd (live_by_none c.args.history.now m c.args.number _ pid _ c.requires.index c.in-Register.is
+          at live),
+    )

@@ -7,7 +7,8 @@ use Rattle.pg_cancel.proofs.manager.ConnectionManager.ask.Goals as goal
 
 pub returns-clause-exactly : goal.returns-clause-exactly
 returns-clause-exactly g c =
-    subst (λ (h : Connection). (c.is_yes-yes.result ≡ true) ↔ IsCanceled (before_last c.make_call.new.seat.me.0.seen) h.number) c.handle.view_is
+    subst (λ (h : Connection). (c.is_yes-yes.result ≡ true)
+    ↔ IsCanceled (before_last c.make_call.new.seat.me.0.seen) h.number) c.handle.view_is
     (asked_exactly _ _ _ _ _ _ _ c.is_yes-yes.result c.is_yes-yes.ensures c.in_ok-answer.ensures.ok.1)
 
 pub returns-clause-heard : goal.returns-clause-heard

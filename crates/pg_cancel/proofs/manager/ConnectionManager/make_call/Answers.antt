@@ -23,10 +23,12 @@ make_event-requires g c =
 
 pub returns-clause-ok : goal.returns-clause-ok
 returns-clause-ok g c =
-    call_ensures c.args.seat.now.me c.take_turn-roster.new.seat.me c.make_event.new.seat.me c.take_turn-roster.result c.args.number c.args.call
+    call_ensures c.args.seat.now.me c.take_turn-roster.new.seat.me c.make_event.new.seat.me c.take_turn-roster.result c.args.number
+    c.args.call
     c.make_event.result c.requires.call c.requires.handle c.take_turn-roster.ensures.out c.make_event.ensures.ok
 
 pub returns-clause-told : goal.returns-clause-told
 returns-clause-told g c =
-    told_ensures c.args.seat.now.me c.take_turn-roster.new.seat.me c.make_event.new.seat.me c.take_turn-roster.result c.args.number c.args.call
+    told_ensures c.args.seat.now.me c.take_turn-roster.new.seat.me c.make_event.new.seat.me c.take_turn-roster.result c.args.number
+    c.args.call
     c.make_event.result c.take_turn-roster.ensures.out c.make_event.ensures.ok

@@ -16,8 +16,10 @@ returns-in_err-count-clause-kept g c = kept_behind _ _ _ _ c.in_ok-send_copy_bot
 
 pub returns-in_err-send_copy_end-clause-kept : goal.returns-in_err-send_copy_end-clause-kept
 returns-in_err-send_copy_end-clause-kept g c =
-    kept_behind _ _ _ _ c.in_ok-send_copy_both_head.ensures.ok (kept_through _ _ _ c.in_ok-count.ensures.kept c.in_err-send_copy_end.ensures.kept)
+    kept_behind _ _ _ _ c.in_ok-send_copy_both_head.ensures.ok
+    (kept_through _ _ _ c.in_ok-count.ensures.kept c.in_err-send_copy_end.ensures.kept)
 
 pub returns-clause-kept : goal.returns-clause-kept
 returns-clause-kept g c =
-    kept_behind _ _ _ _ c.in_ok-send_copy_both_head.ensures.ok (kept_through _ _ _ c.in_ok-count.ensures.kept c.in_ok-send_copy_end.ensures.kept)
+    kept_behind _ _ _ _ c.in_ok-send_copy_both_head.ensures.ok
+    (kept_through _ _ _ c.in_ok-count.ensures.kept c.in_ok-send_copy_end.ensures.kept)

@@ -16,7 +16,10 @@ loop-left-preserved c =
       room = omega arith;
       within = omega arith;
       place = omega arith;
-      written = rw c.put_four-place.ensures.written (rw (decimal_four l.left c.loop-left-test.true l.auto.left-fits.fits, append_assoc) at l.invariant.written);
+      written = rw c.put_four-place.ensures.written (rw (
+        decimal_four l.left c.loop-left-test.true l.auto.left-fits.fits,
+        append_assoc,
+      ) at l.invariant.written);
     }
 
 pub put_up_to_four-requires : goal.put_up_to_four-requires

@@ -15,7 +15,8 @@ loop-digit-init c = record {
 pub loop-digit-preserved : goal.loop-digit-preserved
 loop-digit-preserved c =
     let l = c.loop-digit in
-    let long : length (drop l.place l.text) + l.place ≡ length (drop c.args.end c.args.text.now) + c.args.end = omega (arith, length-drop l.place l.text, length-drop c.args.end c.args.text.now) in
+    let long : length (drop l.place l.text) + l.place ≡ length (drop c.args.end c.args.text.now) + c.args.end =
+    omega (arith, length-drop l.place l.text, length-drop c.args.end c.args.text.now) in
     record {
       long = omega arith;
       left = digits_left _ _ _ l.invariant.left;

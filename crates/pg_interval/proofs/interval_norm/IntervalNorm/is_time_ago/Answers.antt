@@ -10,4 +10,5 @@ returns-else-unsigned_abs-ne0-2 c =
     let minutes : FitsSigned w64 c.args.self.now.minutes = search rules in
     c.is_second_negative.ensures ∙ sym (seconds_ago c.args.self.now
     (ap unsigned_abs (sym (to_z-of_z w64 c.args.self.now.hours hours)) ∙ sym c.unsigned_abs.ensures.value ∙ c.if-unsigned_abs-ne0.false)
-    (ap unsigned_abs (sym (to_z-of_z w64 c.args.self.now.minutes minutes)) ∙ sym c.unsigned_abs-else-unsigned_abs-ne0.ensures.value ∙ c.if-unsigned_abs-ne0-2.false))
+    (ap unsigned_abs (sym (to_z-of_z w64 c.args.self.now.minutes minutes)) ∙ sym c.unsigned_abs-else-unsigned_abs-ne0.ensures.value
+    ∙ c.if-unsigned_abs-ne0-2.false))

@@ -10,4 +10,5 @@ pub returns-then-text-ne80-clause-answer : goal.returns-then-text-ne80-clause-an
 returns-then-text-ne80-clause-answer c = sym (iso_broken_of c.args.text.now (omega arith) c.if-text-ne80.true)
 
 pub returns-clause-answer : goal.returns-clause-answer
-returns-clause-answer c = ap answered c.read_items.ensures.left ∙ sym (iso_whole_of c.args.text.now c.split_at.result.1.now (omega arith) c.if-text-ne80.false c.split_at.ensures.back)
+returns-clause-answer c = ap answered c.read_items.ensures.left
+    ∙ sym (iso_whole_of c.args.text.now c.split_at.result.1.now (omega arith) c.if-text-ne80.false c.split_at.ensures.back)

@@ -10,12 +10,14 @@ pub returns-then-run_len-digits : goal.returns-then-run_len-digits
 returns-then-run_len-digits c =
     let r = c.args.rest.now in
     let back = c.split_at.ensures.back in
-    let run : prefix_len is_digit (drop 1 r) ≢ length (drop 1 r) = omega (arith, c.run_len.ensures.run ∙ ap (prefix_len is_digit) back, ap length back) in
+    let run : prefix_len is_digit (drop 1 r) ≢ length (drop 1 r) =
+    omega (arith, c.run_len.ensures.run ∙ ap (prefix_len is_digit) back, ap length back) in
     fraction_no_digits r (omega arith) c.if-rest-ne46.false run
 
 pub returns : goal.returns
 returns c =
     let r = c.args.rest.now in
     let back = c.split_at.ensures.back in
-    let run : prefix_len is_digit (drop 1 r) ≡ length (drop 1 r) = omega (arith, c.run_len.ensures.run ∙ ap (prefix_len is_digit) back, ap length back, prefix_len-le-length is_digit (drop 1 r)) in
+    let run : prefix_len is_digit (drop 1 r) ≡ length (drop 1 r) =
+    omega (arith, c.run_len.ensures.run ∙ ap (prefix_len is_digit) back, ap length back, prefix_len-le-length is_digit (drop 1 r)) in
     fraction_yes r (omega arith) c.if-rest-ne46.false run ∙ ap Some (sym back)

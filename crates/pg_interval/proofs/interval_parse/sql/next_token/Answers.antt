@@ -4,4 +4,6 @@ use Rattle.pg_interval.proofs.ReadFields.{next_is}
 use Rattle.pg_interval.proofs.interval_parse.sql.next_token.Goals as goal
 
 pub returns : goal.returns
-returns c = next_is c.args.text.now c.cut.result.0.now c.cut.result.1.now (sym c.trim_start.ensures.rest ∙ c.cut.ensures.parts) c.cut.ensures.front c.cut.ensures.back (ap (begins is_whitespace) (sym c.trim_start.ensures.rest) ∙ c.trim_start.ensures.solid)
+returns c = next_is c.args.text.now c.cut.result.0.now c.cut.result.1.now (sym c.trim_start.ensures.rest
+    ∙ c.cut.ensures.parts) c.cut.ensures.front c.cut.ensures.back (ap (begins is_whitespace) (sym c.trim_start.ensures.rest)
+    ∙ c.trim_start.ensures.solid)

@@ -15,7 +15,8 @@ returns-then-is_empty-clause-answer c =
     let rd = c.next_token-3.result.1.now in
     let e = c.next_token-4.result.0.now in
     let re = c.next_token-4.result.1.now in
-    sym (ap (answer (Ok nothing)) (sql_none c.args.text.now a ra (len_zero a c.is_empty.result c.is_empty.ensures c.if-is_empty.true) c.next_token.ensures))
+    sym (ap (answer (Ok nothing)) (sql_none c.args.text.now a ra (len_zero a c.is_empty.result c.is_empty.ensures c.if-is_empty.true)
+    c.next_token.ensures))
 
 pub returns-then-is_empty-2-clause-answer : goal.returns-then-is_empty-2-clause-answer
 returns-then-is_empty-2-clause-answer c =
@@ -27,8 +28,11 @@ returns-then-is_empty-2-clause-answer c =
     let rd = c.next_token-3.result.1.now in
     let e = c.next_token-4.result.0.now in
     let re = c.next_token-4.result.1.now in
-    let shape = sql_one c.args.text.now a ra b rb c.next_token.ensures c.next_token-2.ensures (len_some a c.is_empty.result c.is_empty.ensures c.if-is_empty.false) (len_zero b c.is_empty-2.result c.is_empty-2.ensures c.if-is_empty-2.true) in
-    c.when.ensures.answer ∙ c.take_one-shaped.ensures.taken ∙ ap (λ r. answer r (pairs_of_one a)) c.new-totals.ensures.sums ∙ sym (ap (answer (Ok nothing)) shape)
+    let shape = sql_one c.args.text.now a ra b rb c.next_token.ensures c.next_token-2.ensures
+    (len_some a c.is_empty.result c.is_empty.ensures c.if-is_empty.false)
+    (len_zero b c.is_empty-2.result c.is_empty-2.ensures c.if-is_empty-2.true) in
+    c.when.ensures.answer ∙ c.take_one-shaped.ensures.taken ∙ ap (λ r. answer r (pairs_of_one a)) c.new-totals.ensures.sums
+    ∙ sym (ap (answer (Ok nothing)) shape)
 
 pub returns-then-is_empty-3-clause-answer : goal.returns-then-is_empty-3-clause-answer
 returns-then-is_empty-3-clause-answer c =
@@ -40,8 +44,12 @@ returns-then-is_empty-3-clause-answer c =
     let rd = c.next_token-3.result.1.now in
     let e = c.next_token-4.result.0.now in
     let re = c.next_token-4.result.1.now in
-    let shape = sql_two c.args.text.now a ra b rb d rd c.next_token.ensures c.next_token-2.ensures c.next_token-3.ensures (len_some a c.is_empty.result c.is_empty.ensures c.if-is_empty.false) (len_some b c.is_empty-2.result c.is_empty-2.ensures c.if-is_empty-2.false) (len_zero d c.is_empty-3.result c.is_empty-3.ensures c.if-is_empty-3.true) in
-    c.when-then-is_empty-3.ensures.answer ∙ c.take_two-shaped.ensures.taken ∙ ap (λ r. answer r (pairs_of_two a b)) c.new-totals.ensures.sums ∙ sym (ap (answer (Ok nothing)) shape)
+    let shape = sql_two c.args.text.now a ra b rb d rd c.next_token.ensures c.next_token-2.ensures c.next_token-3.ensures
+    (len_some a c.is_empty.result c.is_empty.ensures c.if-is_empty.false)
+    (len_some b c.is_empty-2.result c.is_empty-2.ensures c.if-is_empty-2.false)
+    (len_zero d c.is_empty-3.result c.is_empty-3.ensures c.if-is_empty-3.true) in
+    c.when-then-is_empty-3.ensures.answer ∙ c.take_two-shaped.ensures.taken
+    ∙ ap (λ r. answer r (pairs_of_two a b)) c.new-totals.ensures.sums ∙ sym (ap (answer (Ok nothing)) shape)
 
 pub returns-then-not-is_empty-clause-answer : goal.returns-then-not-is_empty-clause-answer
 returns-then-not-is_empty-clause-answer c =
@@ -53,7 +61,11 @@ returns-then-not-is_empty-clause-answer c =
     let rd = c.next_token-3.result.1.now in
     let e = c.next_token-4.result.0.now in
     let re = c.next_token-4.result.1.now in
-    sym (ap (answer (Ok nothing)) (sql_four c.args.text.now a ra b rb d rd e re c.next_token.ensures c.next_token-2.ensures c.next_token-3.ensures c.next_token-4.ensures (len_some a c.is_empty.result c.is_empty.ensures c.if-is_empty.false) (len_some b c.is_empty-2.result c.is_empty-2.ensures c.if-is_empty-2.false) (len_some d c.is_empty-3.result c.is_empty-3.ensures c.if-is_empty-3.false) (len_some e c.is_empty-4.result c.is_empty-4.ensures c.if-not-is_empty.true)))
+    sym (ap (answer (Ok nothing)) (sql_four c.args.text.now a ra b rb d rd e re c.next_token.ensures c.next_token-2.ensures
+    c.next_token-3.ensures c.next_token-4.ensures (len_some a c.is_empty.result c.is_empty.ensures c.if-is_empty.false)
+    (len_some b c.is_empty-2.result c.is_empty-2.ensures c.if-is_empty-2.false)
+    (len_some d c.is_empty-3.result c.is_empty-3.ensures c.if-is_empty-3.false)
+    (len_some e c.is_empty-4.result c.is_empty-4.ensures c.if-not-is_empty.true)))
 
 pub returns-clause-answer : goal.returns-clause-answer
 returns-clause-answer c =
@@ -65,5 +77,10 @@ returns-clause-answer c =
     let rd = c.next_token-3.result.1.now in
     let e = c.next_token-4.result.0.now in
     let re = c.next_token-4.result.1.now in
-    let shape = sql_three c.args.text.now a ra b rb d rd e re c.next_token.ensures c.next_token-2.ensures c.next_token-3.ensures c.next_token-4.ensures (len_some a c.is_empty.result c.is_empty.ensures c.if-is_empty.false) (len_some b c.is_empty-2.result c.is_empty-2.ensures c.if-is_empty-2.false) (len_some d c.is_empty-3.result c.is_empty-3.ensures c.if-is_empty-3.false) (len_zero e c.is_empty-4.result c.is_empty-4.ensures c.if-not-is_empty.false) in
-    c.when-2.ensures.answer ∙ c.take_three-shaped.ensures.taken ∙ ap (λ r. answer r (pairs_of_three a b d)) c.new-totals.ensures.sums ∙ sym (ap (answer (Ok nothing)) shape)
+    let shape = sql_three c.args.text.now a ra b rb d rd e re c.next_token.ensures c.next_token-2.ensures c.next_token-3.ensures
+    c.next_token-4.ensures (len_some a c.is_empty.result c.is_empty.ensures c.if-is_empty.false)
+    (len_some b c.is_empty-2.result c.is_empty-2.ensures c.if-is_empty-2.false)
+    (len_some d c.is_empty-3.result c.is_empty-3.ensures c.if-is_empty-3.false)
+    (len_zero e c.is_empty-4.result c.is_empty-4.ensures c.if-not-is_empty.false) in
+    c.when-2.ensures.answer ∙ c.take_three-shaped.ensures.taken ∙ ap (λ r. answer r (pairs_of_three a b d)) c.new-totals.ensures.sums
+    ∙ sym (ap (answer (Ok nothing)) shape)

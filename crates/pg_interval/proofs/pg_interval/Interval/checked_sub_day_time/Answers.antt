@@ -12,10 +12,15 @@ returns c =
     let minutes : FitsSigned w64 c.args.minutes = c.ranges.minutes in
     let nanoseconds : FitsSigned w64 c.args.nanoseconds = c.ranges.nanoseconds in
     let time : TimeFits c.args.hours c.args.minutes c.args.nanoseconds = simp to_z-of_z at c.in_ok-microseconds.ensures.0 in
-    let time_is : c.in_ok-microseconds.microseconds ≡ time_amount c.args.hours c.args.minutes c.args.nanoseconds = simp to_z-of_z at c.in_ok-microseconds.ensures.1 in
+    let time_is : c.in_ok-microseconds.microseconds ≡ time_amount c.args.hours c.args.minutes c.args.nanoseconds =
+    simp to_z-of_z at c.in_ok-microseconds.ensures.1 in
     let time_fits : FitsSigned w64 (time_amount c.args.hours c.args.minutes c.args.nanoseconds) = time.all_fits in
     SomeIff-interval _ _ _ _ c.checked_sub.ensures
-    (same_interval _ _ (simp c.new.ensures.months) (simp (to_z-of_z, c.new.ensures.days)) (simp (to_z-of_z, c.new.ensures.microseconds, time_is)))
+    (same_interval _ _ (simp c.new.ensures.months) (simp (to_z-of_z, c.new.ensures.days)) (simp (
+      to_z-of_z,
+      c.new.ensures.microseconds,
+      time_is,
+    )))
     (λ difference. (time, difference))
     (λ fits. fits.1)
 

@@ -12,10 +12,14 @@ returns c =
     let months : FitsSigned w32 c.args.months = c.ranges.months in
     let years_fit : FitsSigned w32 (months_of c.args.year) = simp to_z-of_z at c.in_ok-years_as_months.ensures.0 in
     let years_is : c.in_ok-years_as_months.years_as_months ≡ months_of c.args.year = simp to_z-of_z at c.in_ok-years_as_months.ensures.1 in
-    let first_is : interval_difference c.args.self c.new.result ≡ without_years c.args.self c.args.year = same_interval _ _ (simp (to_z-of_z, c.new.ensures.months, years_is)) (simp c.new.ensures.days) (simp c.new.ensures.microseconds) in
+    let first_is : interval_difference c.args.self c.new.result ≡ without_years c.args.self c.args.year =
+    same_interval _ _ (simp (to_z-of_z, c.new.ensures.months, years_is)) (simp c.new.ensures.days) (simp c.new.ensures.microseconds) in
     let first_fits : IsInterval (without_years c.args.self c.args.year) = subst IsInterval first_is c.in_ok-checked_sub.ensures.0 in
     let without : c.in_ok-checked_sub.field-0 ≡ without_years c.args.self c.args.year = c.in_ok-checked_sub.ensures.1 ∙ first_is in
     SomeIff-interval _ _ _ _ c.checked_sub-2.ensures
-    (same_interval _ _ (simp (to_z-of_z, c.new-2.ensures.months, without)) (simp (c.new-2.ensures.days, without)) (simp (c.new-2.ensures.microseconds, without)))
+    (same_interval _ _ (simp (to_z-of_z, c.new-2.ensures.months, without)) (simp (
+      c.new-2.ensures.days,
+      without,
+    )) (simp (c.new-2.ensures.microseconds, without)))
     (λ difference. record { years_fit = years_fit; first_fits = first_fits; second_fits = difference })
     (λ subtracts. subtracts.second_fits)

@@ -20,4 +20,8 @@ returns-clause-cell c =
 
 pub returns-clause-inverse : goal.returns-clause-inverse
 returns-clause-inverse c i fits same =
-    ap Some (interval_cell-injective _ i (record { months = search rules; days = search rules; microseconds = search rules }) fits (sym (returns-clause-cell c) ∙ same))
+    ap Some (interval_cell-injective _ i (record {
+      months = search rules;
+      days = search rules;
+      microseconds = search rules;
+    }) fits (sym (returns-clause-cell c) ∙ same))

@@ -10,7 +10,8 @@ returns-clause-printed c = c.postgres_verbose_text.ensures.printed ∙ ap verbos
 
 pub returns-clause-stands : goal.returns-clause-stands
 returns-clause-stands c =
-    stands_from PostgresVerbose _ c.args.self.now (verbose_stands c.args.self.now c.in_normal_form.ensures.within) (returns-clause-printed c)
+    stands_from PostgresVerbose _ c.args.self.now (verbose_stands c.args.self.now c.in_normal_form.ensures.within)
+    (returns-clause-printed c)
 
 pub returns-clause-distinct : goal.returns-clause-distinct
 returns-clause-distinct c =

@@ -8,7 +8,8 @@ use Rattle.pg_interval.proofs.pg_interval.Interval.to_iso_8601.Goals as goal
 
 pub returns-clause-printed : goal.returns-clause-printed
 returns-clause-printed c =
-    subst (λ n. IfOk c.into_iso_8601.result (λ text. string_bytes text ≡ iso_text n)) c.in_normal_form.ensures.form c.into_iso_8601.ensures.printed
+    subst (λ n. IfOk c.into_iso_8601.result (λ text. string_bytes text ≡ iso_text n)) c.in_normal_form.ensures.form
+    c.into_iso_8601.ensures.printed
 
 pub returns-clause-stands : goal.returns-clause-stands
 returns-clause-stands c =

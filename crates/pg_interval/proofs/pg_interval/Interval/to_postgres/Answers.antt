@@ -8,7 +8,8 @@ use Rattle.pg_interval.proofs.pg_interval.Interval.to_postgres.Goals as goal
 
 pub returns-clause-printed : goal.returns-clause-printed
 returns-clause-printed c =
-    subst (λ n. IfOk c.into_postgres.result (λ text. string_bytes text ≡ postgres_text n)) c.in_normal_form.ensures.form c.into_postgres.ensures.printed
+    subst (λ n. IfOk c.into_postgres.result (λ text. string_bytes text ≡ postgres_text n)) c.in_normal_form.ensures.form
+    c.into_postgres.ensures.printed
 
 pub returns-clause-stands : goal.returns-clause-stands
 returns-clause-stands c =

@@ -8,7 +8,8 @@ use Rattle.pg_interval.proofs.pg_interval.Interval.to_postgres_verbose.Goals as 
 
 pub returns-clause-printed : goal.returns-clause-printed
 returns-clause-printed c =
-    subst (λ n. IfOk c.into_postgres_verbose.result (λ text. string_bytes text ≡ verbose_text n)) c.in_normal_form.ensures.form c.into_postgres_verbose.ensures.printed
+    subst (λ n. IfOk c.into_postgres_verbose.result (λ text. string_bytes text ≡ verbose_text n)) c.in_normal_form.ensures.form
+    c.into_postgres_verbose.ensures.printed
 
 pub returns-clause-stands : goal.returns-clause-stands
 returns-clause-stands c =

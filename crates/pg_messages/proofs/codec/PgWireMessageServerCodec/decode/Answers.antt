@@ -8,4 +8,5 @@ use Rattle.pg_messages.proofs.codec.PgWireMessageServerCodec.decode.Goals as goa
 pub returns-in_err-found-clause-bad : goal.returns-in_err-found-clause-bad
 returns-in_err-found-clause-bad c =
     let p = err_from_is_err_and c.from_residual.result c.from_residual.ensures.1 in
-    rw (p.1, p.2) (λ e. subst (IsBad c.args.self.now.context.awaiting_startup) c.as_slice.ensures (c.in_err-found.ensures.bad (same_error c.in_err-found.field-0.0 errors.Bad e)))
+    rw (p.1, p.2) (λ e. subst (IsBad c.args.self.now.context.awaiting_startup) c.as_slice.ensures
+    (c.in_err-found.ensures.bad (same_error c.in_err-found.field-0.0 errors.Bad e)))

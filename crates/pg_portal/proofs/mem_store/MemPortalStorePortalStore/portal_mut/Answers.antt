@@ -20,12 +20,14 @@ returns-in-Some g c =
             ∙ map_values-insert (entry_map told) m c.args.name.now (Value w)
             ))),
         ap (maps_of statements) (
-            ap (map_values (entry_map told)) (at_some c.get_mut.result c.in-Some.entry c.in-Some.is (c.get_mut.follows.holds c.in-Some.entry.now)
+            ap (map_values (entry_map told)) (at_some c.get_mut.result c.in-Some.entry c.in-Some.is
+            (c.get_mut.follows.holds c.in-Some.entry.now)
             ∙ insert-same m c.args.name.now c.in-Some.entry.now (sym c.in-Some.ensures.value))
             ),
       ),
       ap (option_map told) c.value_mut.ensures.value ∙ value_of-map told c.in-Some.entry.now
-          ∙ ap value_under (ap (option_map (entry_map told)) c.in-Some.ensures.value ∙ sym (get-map_values (entry_map told) m c.args.name.now)),
+          ∙ ap value_under (ap (option_map (entry_map told)) c.in-Some.ensures.value
+          ∙ sym (get-map_values (entry_map told) m c.args.name.now)),
     )
 
 pub returns-in-None : goal.returns-in-None

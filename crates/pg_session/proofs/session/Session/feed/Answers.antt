@@ -21,4 +21,5 @@ returns-clause-fed g c =
 pub returns-clause-held : goal.returns-clause-held
 returns-clause-held g c = λ more.
     subst (λ v. length v.rest ≤ most_held (awaits v.state)) (sym c.self.view_is)
-    (held_after awaits _ c.take-outcome.new.self.state c.take-outcome.new.self.rest c.take-outcome.result c.take-outcome.ensures.served more)
+    (held_after awaits _ c.take-outcome.new.self.state c.take-outcome.new.self.rest c.take-outcome.result c.take-outcome.ensures.served
+    more)

@@ -13,7 +13,8 @@ returns-in-Err-TurnLimit-clause-err g c =
     let session = c.args.self.now in
     let h = g.H.PgWireServerHandlers.told session.handlers in
     let refused = rw c.in-Err-TurnLimit.field-0-is at c.in-Err-TurnLimit.ensures.refused in
-    cut_behind_stopped h session.state c.args.message (g.D.CancelDesk.told c.args.desk.now).calls (g.D.CancelDesk.told c.process_message.new.desk).calls
+    cut_behind_stopped h session.state c.args.message (g.D.CancelDesk.told c.args.desk.now).calls
+    (g.D.CancelDesk.told c.process_message.new.desk).calls
     session.unsent c.process_message.new.session.unsent refused
 
 pub returns-in-Err-TurnLimit-clause-stopped : goal.returns-in-Err-TurnLimit-clause-stopped
@@ -21,7 +22,8 @@ returns-in-Err-TurnLimit-clause-stopped g c = λ limit.
     let session = c.args.self.now in
     let h = g.H.PgWireServerHandlers.told session.handlers in
     let refused = rw c.in-Err-TurnLimit.field-0-is at c.in-Err-TurnLimit.ensures.refused in
-    stopped_row h session.state c.args.message (g.D.CancelDesk.told c.args.desk.now).calls (g.D.CancelDesk.told c.process_message.new.desk).calls
+    stopped_row h session.state c.args.message (g.D.CancelDesk.told c.args.desk.now).calls
+    (g.D.CancelDesk.told c.process_message.new.desk).calls
     session.unsent c.process_message.new.session.unsent refused
 
 pub returns-in-NoMemory-clause-err : goal.returns-in-NoMemory-clause-err
@@ -29,7 +31,8 @@ returns-in-NoMemory-clause-err g c =
     let session = c.args.self.now in
     let h = g.H.PgWireServerHandlers.told session.handlers in
     let refused = rw c.in-Err-Wire.field-0-is at c.in-Err-Wire.ensures.refused in
-    cut_refused h session.state c.args.message (g.D.CancelDesk.told c.args.desk.now).calls (g.D.CancelDesk.told c.process_message.new.desk).calls
+    cut_refused h session.state c.args.message (g.D.CancelDesk.told c.args.desk.now).calls
+    (g.D.CancelDesk.told c.process_message.new.desk).calls
     session.unsent c.process_message.new.session.unsent c.process_message.new.session.state c.in-Err-Wire.error refused
 
 pub returns-in-Ok-tell : goal.returns-in-Ok-tell
@@ -70,7 +73,8 @@ returns-in-Err g c =
     let turns = rw c.in-Err-Wire.field-0-is at c.in-Err-Wire.ensures.turns in
     record {
       answer = tt;
-      err = cut_refused h session.state c.args.message calls new_calls session.unsent c.process_message.new.session.unsent c.process_message.new.session.state
+      err = cut_refused h session.state c.args.message calls new_calls session.unsent c.process_message.new.session.unsent
+          c.process_message.new.session.state
           c.in-Err-Wire.error refused;
       stopped = search rules;
       only = inl refl;

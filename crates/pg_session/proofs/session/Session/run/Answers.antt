@@ -35,7 +35,8 @@ returns-in_err-step-clause-cut_off g c =
     let h = λ (x : g.row.H.Denot). g.H.PgWireServerHandlers.told x in
     let at = λ (x : g.row.H.Denot). whole_rules (h x) in
     let x = c.args.self.now.handlers in let law = whole_lawful (h x) in
-    let k = (g.D.CancelDesk.told c.args.desk.now).calls in let l = (g.D.CancelDesk.told c.messages.desk).calls in let m = (g.D.CancelDesk.told c.step.new.desk).calls in
+    let k = (g.D.CancelDesk.told c.args.desk.now).calls in let l = (g.D.CancelDesk.told c.messages.desk).calls in let m =
+    (g.D.CancelDesk.told c.step.new.desk).calls in
     let before = c.messages.self in let after = c.step.new.self in
     let written = g.K.Sink.written c.messages.sink in let now = g.K.Sink.written c.step.new.sink in
     let so_far = c.messages.invariant in
@@ -48,7 +49,8 @@ returns-in_err-step-clause-stopped g c =
     let h = λ (x : g.row.H.Denot). g.H.PgWireServerHandlers.told x in
     let at = λ (x : g.row.H.Denot). whole_rules (h x) in
     let x = c.args.self.now.handlers in let law = whole_lawful (h x) in
-    let k = (g.D.CancelDesk.told c.args.desk.now).calls in let l = (g.D.CancelDesk.told c.messages.desk).calls in let m = (g.D.CancelDesk.told c.step.new.desk).calls in
+    let k = (g.D.CancelDesk.told c.args.desk.now).calls in let l = (g.D.CancelDesk.told c.messages.desk).calls in let m =
+    (g.D.CancelDesk.told c.step.new.desk).calls in
     let before = c.messages.self in let after = c.step.new.self in
     let written = g.K.Sink.written c.messages.sink in let now = g.K.Sink.written c.step.new.sink in
     let so_far = c.messages.invariant in
@@ -62,7 +64,8 @@ returns-in_err-step-clause-turns g c =
     let h = λ (x : g.row.H.Denot). g.H.PgWireServerHandlers.told x in
     let at = λ (x : g.row.H.Denot). whole_rules (h x) in
     let x = c.args.self.now.handlers in let law = whole_lawful (h x) in
-    let k = (g.D.CancelDesk.told c.args.desk.now).calls in let l = (g.D.CancelDesk.told c.messages.desk).calls in let m = (g.D.CancelDesk.told c.step.new.desk).calls in
+    let k = (g.D.CancelDesk.told c.args.desk.now).calls in let l = (g.D.CancelDesk.told c.messages.desk).calls in let m =
+    (g.D.CancelDesk.told c.step.new.desk).calls in
     let before = c.messages.self in let after = c.step.new.self in
     let written = g.K.Sink.written c.messages.sink in let now = g.K.Sink.written c.step.new.sink in
     let so_far = c.messages.invariant in
@@ -78,7 +81,8 @@ returns-in_err-flush-in-Some-clause-cut_off g c =
     let h = λ (x : g.row.H.Denot). g.H.PgWireServerHandlers.told x in
     let at = λ (x : g.row.H.Denot). whole_rules (h x) in
     let x = c.args.self.now.handlers in let law = whole_lawful (h x) in
-    let k = (g.D.CancelDesk.told c.args.desk.now).calls in let l = (g.D.CancelDesk.told c.messages.desk).calls in let m = (g.D.CancelDesk.told c.step.new.desk).calls in
+    let k = (g.D.CancelDesk.told c.args.desk.now).calls in let l = (g.D.CancelDesk.told c.messages.desk).calls in let m =
+    (g.D.CancelDesk.told c.step.new.desk).calls in
     let before = c.messages.self in let after = c.step.new.self in
     let written = g.K.Sink.written c.messages.sink in let now = g.K.Sink.written c.step.new.sink in
     let so_far = c.messages.invariant in
@@ -95,7 +99,8 @@ returns-in_err-flush-in-Some-clause-turns g c =
     let h = λ (x : g.row.H.Denot). g.H.PgWireServerHandlers.told x in
     let at = λ (x : g.row.H.Denot). whole_rules (h x) in
     let x = c.args.self.now.handlers in let law = whole_lawful (h x) in
-    let k = (g.D.CancelDesk.told c.args.desk.now).calls in let l = (g.D.CancelDesk.told c.messages.desk).calls in let m = (g.D.CancelDesk.told c.step.new.desk).calls in
+    let k = (g.D.CancelDesk.told c.args.desk.now).calls in let l = (g.D.CancelDesk.told c.messages.desk).calls in let m =
+    (g.D.CancelDesk.told c.step.new.desk).calls in
     let before = c.messages.self in let after = c.step.new.self in
     let written = g.K.Sink.written c.messages.sink in let now = g.K.Sink.written c.step.new.sink in
     let so_far = c.messages.invariant in
@@ -115,7 +120,8 @@ returns-in-Some-clause-turns g c =
     let h = λ (x : g.row.H.Denot). g.H.PgWireServerHandlers.told x in
     let at = λ (x : g.row.H.Denot). whole_rules (h x) in
     let x = c.args.self.now.handlers in let law = whole_lawful (h x) in
-    let k = (g.D.CancelDesk.told c.args.desk.now).calls in let l = (g.D.CancelDesk.told c.messages.desk).calls in let m = (g.D.CancelDesk.told c.step.new.desk).calls in
+    let k = (g.D.CancelDesk.told c.args.desk.now).calls in let l = (g.D.CancelDesk.told c.messages.desk).calls in let m =
+    (g.D.CancelDesk.told c.step.new.desk).calls in
     let before = c.messages.self in let after = c.step.new.self in
     let written = g.K.Sink.written c.messages.sink in let now = g.K.Sink.written c.step.new.sink in
     let so_far = c.messages.invariant in
@@ -132,7 +138,8 @@ returns-in-Some-clause-served g c =
     let h = λ (x : g.row.H.Denot). g.H.PgWireServerHandlers.told x in
     let at = λ (x : g.row.H.Denot). whole_rules (h x) in
     let x = c.args.self.now.handlers in let law = whole_lawful (h x) in
-    let k = (g.D.CancelDesk.told c.args.desk.now).calls in let l = (g.D.CancelDesk.told c.messages.desk).calls in let m = (g.D.CancelDesk.told c.step.new.desk).calls in
+    let k = (g.D.CancelDesk.told c.args.desk.now).calls in let l = (g.D.CancelDesk.told c.messages.desk).calls in let m =
+    (g.D.CancelDesk.told c.step.new.desk).calls in
     let before = c.messages.self in let after = c.step.new.self in
     let written = g.K.Sink.written c.messages.sink in let now = g.K.Sink.written c.step.new.sink in
     let so_far = c.messages.invariant in
@@ -159,7 +166,8 @@ messages-preserved g c =
     let h = λ (x : g.row.H.Denot). g.H.PgWireServerHandlers.told x in
     let at = λ (x : g.row.H.Denot). whole_rules (h x) in
     let x = c.args.self.now.handlers in let law = whole_lawful (h x) in
-    let k = (g.D.CancelDesk.told c.args.desk.now).calls in let l = (g.D.CancelDesk.told c.messages.desk).calls in let m = (g.D.CancelDesk.told c.step.new.desk).calls in
+    let k = (g.D.CancelDesk.told c.args.desk.now).calls in let l = (g.D.CancelDesk.told c.messages.desk).calls in let m =
+    (g.D.CancelDesk.told c.step.new.desk).calls in
     let before = c.messages.self in let after = c.step.new.self in
     let written = g.K.Sink.written c.messages.sink in let now = g.K.Sink.written c.step.new.sink in
     let so_far = c.messages.invariant in

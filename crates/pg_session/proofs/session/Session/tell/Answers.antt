@@ -12,4 +12,5 @@ invariant_of-self g c = λ _.
     good_parts (g.H.PgWireServerHandlers.told (arc_value c.self.inside.handlers)).extended.parser
     (state_of g.St.PortalStore.maps old) new.info (g.St.PortalStore.maps new.store).statements
     (g.St.PortalStore.maps new.store).portals
-    told.metadata (ap (λ st. (g.St.PortalStore.maps st).statements) told.store) (ap (λ st. (g.St.PortalStore.maps st).portals) told.store) (c.self.invariant was_open)
+    told.metadata (ap (λ st. (g.St.PortalStore.maps st).statements) told.store) (ap (λ st. (g.St.PortalStore.maps st).portals) told.store)
+    (c.self.invariant was_open)

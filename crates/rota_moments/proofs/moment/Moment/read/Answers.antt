@@ -29,8 +29,12 @@ pub returns-in-Some-moment_of-clause-reading : goal.returns-in-Some-moment_of-cl
 returns-in-Some-moment_of-clause-reading c =
     let f = c.in-Some.fields in
     let form = form_from c.args.text.now f (ap fields_of (sym c.as_bytes.ensures.value) ∙ sym c.in-Some.ensures.value) in
-    let is = c.in-Some-moment_of.ensures.value in
-    (is.0, is.1, form.stands ∙ ap (λ d. civil_text d (clock_in f)) (sym is.2) ∙ ap (λ k. civil_text (date_of c.in-Some-moment_of.moment.day) k) (sym is.3))
+    let is = c.in-Some-moment_of.ensures.value in (
+      is.0,
+      is.1,
+      form.stands ∙ ap (λ d. civil_text d (clock_in f)) (sym is.2)
+          ∙ ap (λ k. civil_text (date_of c.in-Some-moment_of.moment.day) k) (sym is.3),
+    )
 
 pub returns-in-None-clause-complete : goal.returns-in-None-clause-complete
 returns-in-None-clause-complete c = λ m h.

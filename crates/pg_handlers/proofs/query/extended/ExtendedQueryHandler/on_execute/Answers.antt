@@ -29,6 +29,7 @@ returns-in_default g c =
 pub returns-in-ReadyForQuery-clause-refused : goal.returns-in-ReadyForQuery-clause-refused
 returns-in-ReadyForQuery-clause-refused g c =
     let s = state_of g.St.PortalStore.maps c.args.client.now in
-    ready_refused s (λ answers. on_execute (g.Self.ExtendedQueryHandler.told c.args.self.now) answers s c.args.message) c.args.client.now.outbox
+    ready_refused s (λ answers. on_execute (g.Self.ExtendedQueryHandler.told c.args.self.now) answers s c.args.message)
+    c.args.client.now.outbox
     c._on_execute.new.client.outbox (g.D.CancelDesk.told c.args.desk.now).calls (g.D.CancelDesk.told c._on_execute.new.desk).calls
     (state_of g.St.PortalStore.maps c._on_execute.new.client) c._on_execute.result c.in-ReadyForQuery.is c._on_execute.ensures.refused

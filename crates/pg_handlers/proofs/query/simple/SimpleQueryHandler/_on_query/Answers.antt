@@ -19,24 +19,34 @@ pub returns-in_err-send_empty_query_response-clause-refused : goal.returns-in_er
 returns-in_err-send_empty_query_response-clause-refused g c =
     let p = err_from_is_err_and c.from_residual.result c.from_residual.ensures.1 in
     let s = state_of g.St.PortalStore.maps c.args.client.now in
-    rw (p.1, p.2) (inl (refl, cut_at_none (λ answers. on_query (g.Self.SimpleQueryHandler.told c.args.self.now) answers s c.args.query) (g.D.CancelDesk.told c.args.desk.now).calls))
+    rw (p.1, p.2) (inl (
+      refl,
+      cut_at_none (λ answers. on_query (g.Self.SimpleQueryHandler.told c.args.self.now) answers s c.args.query)
+          (g.D.CancelDesk.told c.args.desk.now).calls,
+    ))
 
 pub returns-in_err-send_ready_for_query-clause-refused : goal.returns-in_err-send_ready_for_query-clause-refused
 returns-in_err-send_ready_for_query-clause-refused g c =
     let p = err_from_is_err_and c.from_residual-in_err-send_ready_for_query.result c.from_residual-in_err-send_ready_for_query.ensures.1 in
     let s = state_of g.St.PortalStore.maps c.args.client.now in
-    rw (p.1, p.2) (inl (refl, cut_at_none (λ answers. on_query (g.Self.SimpleQueryHandler.told c.args.self.now) answers s c.args.query) (g.D.CancelDesk.told c.args.desk.now).calls))
+    rw (p.1, p.2) (inl (
+      refl,
+      cut_at_none (λ answers. on_query (g.Self.SimpleQueryHandler.told c.args.self.now) answers s c.args.query)
+          (g.D.CancelDesk.told c.args.desk.now).calls,
+    ))
 
 pub returns-then-is_blank-clause-ok : goal.returns-then-is_blank-clause-ok
 returns-then-is_blank-clause-ok g c =
     let s = state_of g.St.PortalStore.maps c.args.client.now in
     let h = g.Self.SimpleQueryHandler.told c.args.self.now in
     let blank : is_blank c.args.query.query ≡ true = ap is_blank (sym c.as_str.ensures) ∙ sym c.is_blank.ensures ∙ c.if-is_blank.true in
-    silent_row (λ answers. on_query h answers s c.args.query) (says (server.EmptyQueryResponse (record {}) ∷ ready s.info.status ∷ []) s) (g.D.CancelDesk.told c.args.desk.now).calls
+    silent_row (λ answers. on_query h answers s c.args.query) (says (server.EmptyQueryResponse (record {}) ∷ ready s.info.status ∷ []) s)
+    (g.D.CancelDesk.told c.args.desk.now).calls
     (λ answers. rw blank refl)
     (record {
       replied = sent_behind c.args.client.now.outbox c.send_empty_query_response.new.outbox c.send_ready_for_query.new.outbox
-          (server.EmptyQueryResponse (record {}) ∷ []) (ready s.info.status ∷ []) c.in_ok-send_empty_query_response.ensures.ok c.in_ok-send_ready_for_query.ensures.ok;
+          (server.EmptyQueryResponse (record {}) ∷ []) (ready s.info.status ∷ []) c.in_ok-send_empty_query_response.ensures.ok
+          c.in_ok-send_ready_for_query.ensures.ok;
       came = refl;
     })
 
@@ -44,7 +54,11 @@ pub returns-in_err-start-clause-refused : goal.returns-in_err-start-clause-refus
 returns-in_err-start-clause-refused g c =
     let p = err_from_is_err_and c.from_residual-in_err-start.result c.from_residual-in_err-start.ensures.1 in
     let s = state_of g.St.PortalStore.maps c.args.client.now in
-    rw (p.1, p.2, c.in_err-start.ensures.err) (inl (refl, cut_at_none (λ answers. on_query (g.Self.SimpleQueryHandler.told c.args.self.now) answers s c.args.query) (g.D.CancelDesk.told c.args.desk.now).calls))
+    rw (p.1, p.2, c.in_err-start.ensures.err) (inl (
+      refl,
+      cut_at_none (λ answers. on_query (g.Self.SimpleQueryHandler.told c.args.self.now) answers s c.args.query)
+          (g.D.CancelDesk.told c.args.desk.now).calls,
+    ))
 
 pub returns-in_err-state-clause-refused : goal.returns-in_err-state-clause-refused
 returns-in_err-state-clause-refused g c =
@@ -54,8 +68,10 @@ returns-in_err-state-clause-refused g c =
     let blank : is_blank c.args.query.query ≡ false = ap is_blank (sym c.as_str.ensures) ∙ sym c.is_blank.ensures ∙ c.if-is_blank.false in
     rw (p.1, p.2) (inl (
       refl,
-      cut_as (λ answers. on_query h answers s c.args.query) (run_row q.owes (λ verdict. query_polled s verdict q.outcome)) (runs_query h s c.args.query blank)
-          (cut_started q.owes (λ verdict. query_polled s verdict q.outcome) (g.D.CancelDesk.told c.args.desk.now).calls (g.D.CancelDesk.told c.start.new.self).calls (ap (λ d. d.calls) c.in_ok-start.ensures.ok)),
+      cut_as (λ answers. on_query h answers s c.args.query) (run_row q.owes (λ verdict. query_polled s verdict q.outcome))
+          (runs_query h s c.args.query blank)
+          (cut_started q.owes (λ verdict. query_polled s verdict q.outcome) (g.D.CancelDesk.told c.args.desk.now).calls
+          (g.D.CancelDesk.told c.start.new.self).calls (ap (λ d. d.calls) c.in_ok-start.ensures.ok)),
     ))
 
 pub returns-in_err-wait-clause-refused : goal.returns-in_err-wait-clause-refused
@@ -65,20 +81,26 @@ returns-in_err-wait-clause-refused g c =
     let h = g.Self.SimpleQueryHandler.told c.args.self.now in let q = h s.info c.args.query.query in
     let blank : is_blank c.args.query.query ≡ false = ap is_blank (sym c.as_str.ensures) ∙ sym c.is_blank.ensures ∙ c.if-is_blank.false in
     let told = c.in_ok-state.ensures.told ∙ ap (h s.info) c.as_str-2.ensures in
-    let calls = (g.D.CancelDesk.told c.args.desk.now).calls in let begun = (g.D.CancelDesk.told c.start.new.self).calls in let done = (g.D.CancelDesk.told c.wait.new.desk).calls in
+    let calls = (g.D.CancelDesk.told c.args.desk.now).calls in let begun = (g.D.CancelDesk.told c.start.new.self).calls in let done =
+    (g.D.CancelDesk.told c.wait.new.desk).calls in
     let came = c.in_err-wait.ensures.asked in
     let asked : IsAsked q.owes begun done came.0 = subst (λ (owes : ℕ). IsAsked owes begun done came.0) (ap (λ t. t.owes) told) came.1 in
-    rw (p.1, p.2) (refused_as (λ answers. on_query h answers s c.args.query) (run_row q.owes (λ verdict. query_polled s verdict q.outcome)) c.args.client.now.outbox c.args.client.now.outbox calls done s c.in_err-wait.field-0.0 (runs_query h s c.args.query blank)
-    (wait_refused q.owes (λ verdict. query_polled s verdict q.outcome) calls begun (ap (λ d. d.calls) c.in_ok-start.ensures.ok) c.args.client.now.outbox (g.Self.Query.QueryState.told c.in_ok-state.state).outcome done came.0 s
+    rw (p.1, p.2) (refused_as (λ answers. on_query h answers s c.args.query) (run_row q.owes (λ verdict. query_polled s verdict q.outcome))
+    c.args.client.now.outbox c.args.client.now.outbox calls done s c.in_err-wait.field-0.0 (runs_query h s c.args.query blank)
+    (wait_refused q.owes (λ verdict. query_polled s verdict q.outcome) calls begun (ap (λ d. d.calls) c.in_ok-start.ensures.ok)
+    c.args.client.now.outbox (g.Self.Query.QueryState.told c.in_ok-state.state).outcome done came.0 s
     refl refl asked c.in_err-wait.field-0.0 came.2))
 
 pub returns-in_err-wait-clause-turns : goal.returns-in_err-wait-clause-turns
 returns-in_err-wait-clause-turns g c =
     let p = err_from_is_err_and c.from_residual-in_err-wait.result c.from_residual-in_err-wait.ensures.1 in
-    let calls = (g.D.CancelDesk.told c.args.desk.now).calls in let begun = (g.D.CancelDesk.told c.start.new.self).calls in let done = (g.D.CancelDesk.told c.wait.new.desk).calls in
+    let calls = (g.D.CancelDesk.told c.args.desk.now).calls in let begun = (g.D.CancelDesk.told c.start.new.self).calls in let done =
+    (g.D.CancelDesk.told c.wait.new.desk).calls in
     let came = c.in_err-wait.ensures.asked in
-    rw (p.1, p.2) (spent_as c.args.turns.now c.wait.new.turns (questions_since begun done) (questions_since calls done) c.in_err-wait.field-0.0
-    (asked_since (g.Self.Query.QueryState.told c.in_ok-state.state).owes calls begun (ap (λ d. d.calls) c.in_ok-start.ensures.ok) done came.0 came.1) c.in_err-wait.ensures.turns)
+    rw (p.1, p.2) (spent_as c.args.turns.now c.wait.new.turns (questions_since begun done) (questions_since calls done)
+    c.in_err-wait.field-0.0
+    (asked_since (g.Self.Query.QueryState.told c.in_ok-state.state).owes calls begun (ap (λ d. d.calls) c.in_ok-start.ensures.ok) done
+    came.0 came.1) c.in_err-wait.ensures.turns)
 
 pub returns-in_err-responses-clause-refused : goal.returns-in_err-responses-clause-refused
 returns-in_err-responses-clause-refused g c =
@@ -87,12 +109,17 @@ returns-in_err-responses-clause-refused g c =
     let h = g.Self.SimpleQueryHandler.told c.args.self.now in let q = h s.info c.args.query.query in
     let blank : is_blank c.args.query.query ≡ false = ap is_blank (sym c.as_str.ensures) ∙ sym c.is_blank.ensures ∙ c.if-is_blank.false in
     let told = c.in_ok-state.ensures.told ∙ ap (h s.info) c.as_str-2.ensures in
-    let calls = (g.D.CancelDesk.told c.args.desk.now).calls in let begun = (g.D.CancelDesk.told c.start.new.self).calls in let done = (g.D.CancelDesk.told c.wait.new.desk).calls in
+    let calls = (g.D.CancelDesk.told c.args.desk.now).calls in let begun = (g.D.CancelDesk.told c.start.new.self).calls in let done =
+    (g.D.CancelDesk.told c.wait.new.desk).calls in
     let came = c.in_ok-wait.ensures.asked in
     let asked : IsAsked q.owes begun done came.0 = subst (λ (owes : ℕ). IsAsked owes begun done came.0) (ap (λ t. t.owes) told) came.1 in
-    let is = sym (ap (λ t. t.outcome) told) ∙ ap (told_all g.Self.Rows.RowSource.items g.Self.CopyRows.CopySource.items) (sym came.2.1 ∙ c.in_err-responses.was) in
-    rw (p.1, p.2) (refused_as (λ answers. on_query h answers s c.args.query) (run_row q.owes (λ verdict. query_polled s verdict q.outcome)) c.args.client.now.outbox c.args.client.now.outbox calls done s (session.Wire c.in_err-responses.field-0.0) (runs_query h s c.args.query blank)
-    (run_refused q.owes (λ verdict. query_polled s verdict q.outcome) calls begun (ap (λ d. d.calls) c.in_ok-start.ensures.ok) done came.0 asked s c.in_err-responses.field-0.0
+    let is = sym (ap (λ t. t.outcome) told) ∙ ap (told_all g.Self.Rows.RowSource.items g.Self.CopyRows.CopySource.items) (sym came.2.1
+    ∙ c.in_err-responses.was) in
+    rw (p.1, p.2) (refused_as (λ answers. on_query h answers s c.args.query) (run_row q.owes (λ verdict. query_polled s verdict q.outcome))
+    c.args.client.now.outbox c.args.client.now.outbox calls done s (session.Wire c.in_err-responses.field-0.0)
+    (runs_query h s c.args.query blank)
+    (run_refused q.owes (λ verdict. query_polled s verdict q.outcome) calls begun (ap (λ d. d.calls) c.in_ok-start.ensures.ok) done came.0
+    asked s c.in_err-responses.field-0.0
     (query_failed s c.args.client.now.outbox came.0 q.outcome c.in_err-responses.field-0.0 came.2.0 is)))
 
 pub returns-in_err-answer_query-clause-refused : goal.returns-in_err-answer_query-clause-refused
@@ -102,25 +129,32 @@ returns-in_err-answer_query-clause-refused g c =
     let h = g.Self.SimpleQueryHandler.told c.args.self.now in let q = h s.info c.args.query.query in
     let blank : is_blank c.args.query.query ≡ false = ap is_blank (sym c.as_str.ensures) ∙ sym c.is_blank.ensures ∙ c.if-is_blank.false in
     let told = c.in_ok-state.ensures.told ∙ ap (h s.info) c.as_str-2.ensures in
-    let calls = (g.D.CancelDesk.told c.args.desk.now).calls in let begun = (g.D.CancelDesk.told c.start.new.self).calls in let done = (g.D.CancelDesk.told c.wait.new.desk).calls in
+    let calls = (g.D.CancelDesk.told c.args.desk.now).calls in let begun = (g.D.CancelDesk.told c.start.new.self).calls in let done =
+    (g.D.CancelDesk.told c.wait.new.desk).calls in
     let came = c.in_ok-wait.ensures.asked in
     let asked : IsAsked q.owes begun done came.0 = subst (λ (owes : ℕ). IsAsked owes begun done came.0) (ap (λ t. t.owes) told) came.1 in
     let responses = told_responses g.Self.Rows.RowSource.items g.Self.CopyRows.CopySource.items c.in_ok-responses.responses in
-    let is = sym (ap (λ t. t.outcome) told) ∙ ap (told_all g.Self.Rows.RowSource.items g.Self.CopyRows.CopySource.items) (sym came.2.1 ∙ c.in_ok-responses.was) in
+    let is = sym (ap (λ t. t.outcome) told) ∙ ap (told_all g.Self.Rows.RowSource.items g.Self.CopyRows.CopySource.items) (sym came.2.1
+    ∙ c.in_ok-responses.was) in
     let new_s = state_of g.St.PortalStore.maps c.answer_query.new.client in
     let e = c.in_err-answer_query.field-0.0 in
-    rw (p.1, p.2) (refused_as (λ answers. on_query h answers s c.args.query) (run_row q.owes (λ verdict. query_polled s verdict q.outcome)) c.args.client.now.outbox c.answer_query.new.client.outbox calls done new_s (session.Wire e) (runs_query h s c.args.query blank)
-    (run_refused q.owes (λ verdict. query_polled s verdict q.outcome) calls begun (ap (λ d. d.calls) c.in_ok-start.ensures.ok) done came.0 asked new_s e
-    (subst (λ effect. IsRefusedEffect effect c.args.client.now.outbox c.answer_query.new.client.outbox new_s e) (sym (query_passed s came.0 q.outcome responses came.2.0 is))
+    rw (p.1, p.2) (refused_as (λ answers. on_query h answers s c.args.query) (run_row q.owes (λ verdict. query_polled s verdict q.outcome))
+    c.args.client.now.outbox c.answer_query.new.client.outbox calls done new_s (session.Wire e) (runs_query h s c.args.query blank)
+    (run_refused q.owes (λ verdict. query_polled s verdict q.outcome) calls begun (ap (λ d. d.calls) c.in_ok-start.ensures.ok) done came.0
+    asked new_s e
+    (subst (λ effect. IsRefusedEffect effect c.args.client.now.outbox c.answer_query.new.client.outbox new_s e)
+    (sym (query_passed s came.0 q.outcome responses came.2.0 is))
     c.in_err-answer_query.ensures.refused)))
 
 pub returns-in_err-answer_query-clause-turns : goal.returns-in_err-answer_query-clause-turns
 returns-in_err-answer_query-clause-turns g c =
     let p = err_from_is_err_and c.from_residual-in_err-answer_query.result c.from_residual-in_err-answer_query.ensures.1 in
-    let calls = (g.D.CancelDesk.told c.args.desk.now).calls in let begun = (g.D.CancelDesk.told c.start.new.self).calls in let done = (g.D.CancelDesk.told c.wait.new.desk).calls in
+    let calls = (g.D.CancelDesk.told c.args.desk.now).calls in let begun = (g.D.CancelDesk.told c.start.new.self).calls in let done =
+    (g.D.CancelDesk.told c.wait.new.desk).calls in
     let came = c.in_ok-wait.ensures.asked in
     rw (p.1, p.2) (inl (spent_ok c.args.turns.now c.wait.new.turns (questions_since begun done) (questions_since calls done)
-    (asked_since (g.Self.Query.QueryState.told c.in_ok-state.state).owes calls begun (ap (λ d. d.calls) c.in_ok-start.ensures.ok) done came.0 came.1) c.in_ok-wait.ensures.turns))
+    (asked_since (g.Self.Query.QueryState.told c.in_ok-state.state).owes calls begun (ap (λ d. d.calls) c.in_ok-start.ensures.ok) done
+    came.0 came.1) c.in_ok-wait.ensures.turns))
 
 pub returns-clause-ok : goal.returns-clause-ok
 returns-clause-ok g c =
@@ -128,26 +162,33 @@ returns-clause-ok g c =
     let h = g.Self.SimpleQueryHandler.told c.args.self.now in let q = h s.info c.args.query.query in
     let blank : is_blank c.args.query.query ≡ false = ap is_blank (sym c.as_str.ensures) ∙ sym c.is_blank.ensures ∙ c.if-is_blank.false in
     let told = c.in_ok-state.ensures.told ∙ ap (h s.info) c.as_str-2.ensures in
-    let calls = (g.D.CancelDesk.told c.args.desk.now).calls in let begun = (g.D.CancelDesk.told c.start.new.self).calls in let done = (g.D.CancelDesk.told c.wait.new.desk).calls in
+    let calls = (g.D.CancelDesk.told c.args.desk.now).calls in let begun = (g.D.CancelDesk.told c.start.new.self).calls in let done =
+    (g.D.CancelDesk.told c.wait.new.desk).calls in
     let came = c.in_ok-wait.ensures.asked in
     let asked : IsAsked q.owes begun done came.0 = subst (λ (owes : ℕ). IsAsked owes begun done came.0) (ap (λ t. t.owes) told) came.1 in
     let responses = told_responses g.Self.Rows.RowSource.items g.Self.CopyRows.CopySource.items c.in_ok-responses.responses in
-    let is = sym (ap (λ t. t.outcome) told) ∙ ap (told_all g.Self.Rows.RowSource.items g.Self.CopyRows.CopySource.items) (sym came.2.1 ∙ c.in_ok-responses.was) in
+    let is = sym (ap (λ t. t.outcome) told) ∙ ap (told_all g.Self.Rows.RowSource.items g.Self.CopyRows.CopySource.items) (sym came.2.1
+    ∙ c.in_ok-responses.was) in
     let new_s = state_of g.St.PortalStore.maps c.answer_query.new.client in
-    row_as (λ answers. on_query h answers s c.args.query) (run_row q.owes (λ verdict. query_polled s verdict q.outcome)) (runs_query h s c.args.query blank)
+    row_as (λ answers. on_query h answers s c.args.query) (run_row q.owes (λ verdict. query_polled s verdict q.outcome))
+    (runs_query h s c.args.query blank)
     (run_was q.owes (λ verdict. query_polled s verdict q.outcome) calls begun (ap (λ d. d.calls) c.in_ok-start.ensures.ok) done came.0 asked
-    (subst (λ effect. IsEffect effect c.args.client.now.outbox c.answer_query.new.client.outbox (Done new_s)) (sym (query_passed s came.0 q.outcome responses came.2.0 is))
+    (subst (λ effect. IsEffect effect c.args.client.now.outbox c.answer_query.new.client.outbox (Done new_s))
+    (sym (query_passed s came.0 q.outcome responses came.2.0 is))
     c.in_ok-answer_query.ensures.ok))
 
 pub returns-clause-turns : goal.returns-clause-turns
 returns-clause-turns g c =
-    let calls = (g.D.CancelDesk.told c.args.desk.now).calls in let begun = (g.D.CancelDesk.told c.start.new.self).calls in let done = (g.D.CancelDesk.told c.wait.new.desk).calls in
+    let calls = (g.D.CancelDesk.told c.args.desk.now).calls in let begun = (g.D.CancelDesk.told c.start.new.self).calls in let done =
+    (g.D.CancelDesk.told c.wait.new.desk).calls in
     let came = c.in_ok-wait.ensures.asked in
     spent_ok c.args.turns.now c.wait.new.turns (questions_since begun done) (questions_since calls done)
-    (asked_since (g.Self.Query.QueryState.told c.in_ok-state.state).owes calls begun (ap (λ d. d.calls) c.in_ok-start.ensures.ok) done came.0 came.1) c.in_ok-wait.ensures.turns
+    (asked_since (g.Self.Query.QueryState.told c.in_ok-state.state).owes calls begun (ap (λ d. d.calls) c.in_ok-start.ensures.ok) done
+    came.0 came.1) c.in_ok-wait.ensures.turns
 
 pub returns-in_err-wait-clause-caused : goal.returns-in_err-wait-clause-caused
 returns-in_err-wait-clause-caused g c =
     let p = err_from_is_err_and c.from_residual-in_err-wait.result c.from_residual-in_err-wait.ensures.1 in
-    rw (p.1, p.2) (caused_since (g.D.CancelDesk.told c.args.desk.now).calls (g.D.CancelDesk.told c.start.new.self).calls (g.D.CancelDesk.told c.wait.new.desk).calls
+    rw (p.1, p.2) (caused_since (g.D.CancelDesk.told c.args.desk.now).calls (g.D.CancelDesk.told c.start.new.self).calls
+    (g.D.CancelDesk.told c.wait.new.desk).calls
     (ap (λ d. d.calls) c.in_ok-start.ensures.ok) c.in_err-wait.field-0.0 c.in_err-wait.ensures.caused)

@@ -12,7 +12,8 @@ returns-then-is_empty-clause-left c =
     let n = c.cut.result.0.now in
     let behind = c.cut.result.1.now in
     let none = len_zero behind c.is_empty.result c.is_empty.ensures c.if-is_empty.true in
-    sym (ap (left s.in_time r) (c.cut.ensures.parts ∙ number_alone n behind none) ∙ no_letter_left s.in_time r n (omega (arith, c.cut.ensures.long)) c.cut.ensures.front)
+    sym (ap (left s.in_time r) (c.cut.ensures.parts ∙ number_alone n behind none)
+    ∙ no_letter_left s.in_time r n (omega (arith, c.cut.ensures.long)) c.cut.ensures.front)
 
 pub returns-then-letter-ne84-clause-left : goal.returns-then-letter-ne84-clause-left
 returns-then-letter-ne84-clause-left c =
@@ -22,9 +23,12 @@ returns-then-letter-ne84-clause-left c =
     let behind = c.cut.result.1.now in
     let l = get_or behind 0 0 in
     let rest = c.split_at.result.1.now in
-    let cons : behind ≡ l ∷ rest = cons_of behind (len_some behind c.is_empty.result c.is_empty.ensures c.if-is_empty.false) ∙ ap (λ t. l ∷ t) (sym c.split_at.ensures.back) in
+    let cons : behind ≡ l ∷ rest = cons_of behind (len_some behind c.is_empty.result c.is_empty.ensures c.if-is_empty.false)
+    ∙ ap (λ t. l ∷ t) (sym c.split_at.ensures.back) in
     let whole : c.args.text.now ≡ n ++ l ∷ rest = c.cut.ensures.parts ∙ ap (λ t. n ++ t) cons in
-    c.take_item.ensures.left ∙ sym (ap (left s.in_time r) whole ∙ item_first s.in_time r n l rest c.cut.ensures.front (stop_of behind l rest cons c.cut.ensures.back) (other_mark l c.if-letter-ne84.true))
+    c.take_item.ensures.left ∙ sym (ap (left s.in_time r) whole
+    ∙ item_first s.in_time r n l rest c.cut.ensures.front (stop_of behind l rest cons c.cut.ensures.back)
+    (other_mark l c.if-letter-ne84.true))
 
 pub returns-then-self-clause-left : goal.returns-then-self-clause-left
 returns-then-self-clause-left c =
@@ -34,9 +38,11 @@ returns-then-self-clause-left c =
     let behind = c.cut.result.1.now in
     let l = get_or behind 0 0 in
     let rest = c.split_at.result.1.now in
-    let cons : behind ≡ l ∷ rest = cons_of behind (len_some behind c.is_empty.result c.is_empty.ensures c.if-is_empty.false) ∙ ap (λ t. l ∷ t) (sym c.split_at.ensures.back) in
+    let cons : behind ≡ l ∷ rest = cons_of behind (len_some behind c.is_empty.result c.is_empty.ensures c.if-is_empty.false)
+    ∙ ap (λ t. l ∷ t) (sym c.split_at.ensures.back) in
     let whole : c.args.text.now ≡ n ++ l ∷ rest = c.cut.ensures.parts ∙ ap (λ t. n ++ t) cons in
-    sym (ap (left s.in_time r) whole ∙ ap (λ b. left b r (n ++ l ∷ rest)) c.if-self.true ∙ second_mark r n l rest (the_mark l c.if-letter-ne84.false))
+    sym (ap (left s.in_time r) whole ∙ ap (λ b. left b r (n ++ l ∷ rest)) c.if-self.true
+    ∙ second_mark r n l rest (the_mark l c.if-letter-ne84.false))
 
 pub returns-then-not-is_empty-clause-left : goal.returns-then-not-is_empty-clause-left
 returns-then-not-is_empty-clause-left c =
@@ -46,9 +52,12 @@ returns-then-not-is_empty-clause-left c =
     let behind = c.cut.result.1.now in
     let l = get_or behind 0 0 in
     let rest = c.split_at.result.1.now in
-    let cons : behind ≡ l ∷ rest = cons_of behind (len_some behind c.is_empty.result c.is_empty.ensures c.if-is_empty.false) ∙ ap (λ t. l ∷ t) (sym c.split_at.ensures.back) in
+    let cons : behind ≡ l ∷ rest = cons_of behind (len_some behind c.is_empty.result c.is_empty.ensures c.if-is_empty.false)
+    ∙ ap (λ t. l ∷ t) (sym c.split_at.ensures.back) in
     let whole : c.args.text.now ≡ n ++ l ∷ rest = c.cut.ensures.parts ∙ ap (λ t. n ++ t) cons in
-    sym (ap (left s.in_time r) whole ∙ ap (λ b. left b r (n ++ l ∷ rest)) c.if-self.false ∙ number_before r n l rest (len_some n c.is_empty-2.result c.is_empty-2.ensures c.if-not-is_empty.true) c.cut.ensures.front (the_mark l c.if-letter-ne84.false))
+    sym (ap (left s.in_time r) whole ∙ ap (λ b. left b r (n ++ l ∷ rest)) c.if-self.false
+    ∙ number_before r n l rest (len_some n c.is_empty-2.result c.is_empty-2.ensures c.if-not-is_empty.true) c.cut.ensures.front
+    (the_mark l c.if-letter-ne84.false))
 
 pub returns-clause-left : goal.returns-clause-left
 returns-clause-left c =
@@ -58,7 +67,9 @@ returns-clause-left c =
     let behind = c.cut.result.1.now in
     let l = get_or behind 0 0 in
     let rest = c.split_at.result.1.now in
-    let cons : behind ≡ l ∷ rest = cons_of behind (len_some behind c.is_empty.result c.is_empty.ensures c.if-is_empty.false) ∙ ap (λ t. l ∷ t) (sym c.split_at.ensures.back) in
+    let cons : behind ≡ l ∷ rest = cons_of behind (len_some behind c.is_empty.result c.is_empty.ensures c.if-is_empty.false)
+    ∙ ap (λ t. l ∷ t) (sym c.split_at.ensures.back) in
     let whole : c.args.text.now ≡ n ++ l ∷ rest = c.cut.ensures.parts ∙ ap (λ t. n ++ t) cons in
     let alone = word_alone n (l ∷ rest) (len_zero n c.is_empty-2.result c.is_empty-2.ensures c.if-not-is_empty.false) in
-    sym (ap (left s.in_time r) (whole ∙ alone) ∙ ap (λ b. left b r (l ∷ rest)) c.if-self.false ∙ mark_first r l rest (the_mark l c.if-letter-ne84.false))
+    sym (ap (left s.in_time r) (whole ∙ alone) ∙ ap (λ b. left b r (l ∷ rest)) c.if-self.false
+    ∙ mark_first r l rest (the_mark l c.if-letter-ne84.false))

@@ -16,4 +16,6 @@ returns-then-contains-clause-taken c =
     ∙ one_time r c.args.first.now (sym c.is.ensures ∙ c.if-is.false) (sym c.contains.ensures.value ∙ c.if-contains.true)
 
 pub returns-clause-taken : goal.returns-clause-taken
-returns-clause-taken c = c.take_year_month.ensures.taken ∙ one_years (so_far c.args.self.now) c.args.first.now (sym c.is.ensures ∙ c.if-is.false) (sym c.contains.ensures.value ∙ c.if-contains.false)
+returns-clause-taken c = c.take_year_month.ensures.taken
+    ∙ one_years (so_far c.args.self.now) c.args.first.now (sym c.is.ensures ∙ c.if-is.false) (sym c.contains.ensures.value
+    ∙ c.if-contains.false)

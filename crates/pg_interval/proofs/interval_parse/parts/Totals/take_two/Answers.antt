@@ -12,7 +12,9 @@ returns-then-not-take_days-clause-taken c =
     let r = so_far c.args.self.now in
     let a = c.args.first.now in
     let b = c.args.second.now in
-    on_none c.take_days.result (so_far c.take_days.new.self) (answer r (day_pairs a)) (λ q. answer q (sql_time_pairs (begins is_minus (if begins is_sign b then b else a)) b)) c.if-not-take_days.true c.take_days.ensures.taken
+    on_none c.take_days.result (so_far c.take_days.new.self) (answer r (day_pairs a))
+    (λ q. answer q (sql_time_pairs (begins is_minus (if begins is_sign b then b else a)) b)) c.if-not-take_days.true
+    c.take_days.ensures.taken
     ∙ sym (two_answers r a b)
 
 pub returns-clause-taken : goal.returns-clause-taken
@@ -22,5 +24,7 @@ returns-clause-taken c =
     let b = c.args.second.now in
     c.take_time.ensures.taken
     ∙ ap (λ m. answer (so_far c.take_days.new.self) (sql_time_pairs m b)) c.sign_of_two.ensures
-    ∙ on_some c.take_days.result (so_far c.take_days.new.self) (answer r (day_pairs a)) (λ q. answer q (sql_time_pairs (begins is_minus (if begins is_sign b then b else a)) b)) c.if-not-take_days.false c.take_days.ensures.taken
+    ∙ on_some c.take_days.result (so_far c.take_days.new.self) (answer r (day_pairs a))
+    (λ q. answer q (sql_time_pairs (begins is_minus (if begins is_sign b then b else a)) b)) c.if-not-take_days.false
+    c.take_days.ensures.taken
     ∙ sym (two_answers r a b)
