@@ -149,7 +149,7 @@ second_number minus s z small below = elim (is_zero z) as
             places = length (six_digits (unsigned_abs z));
           })) (six_value (unsigned_abs z) below)
           ∙ ap (λ p. pair Second (record { negative = minus; whole = s; fraction = unsigned_abs z; places = p }))
-              (six_length (unsigned_abs z))
+          (six_length (unsigned_abs z))
     ]
 
 fraction_bare : (z : ℤ) → list_any is_designator (fraction_of z) ≡ false
