@@ -62,16 +62,28 @@ impl PgWireError {
             PgWireError::InvalidTargetType(byte) => invalid_target_type(alloc, byte),
             PgWireError::QueryCanceled => query_canceled(alloc),
             PgWireError::UserError(info) => Ok(info),
-            PgWireError::NotReadyForQuery => told(alloc, "08P01", "not ready for query", "", ""),
+            PgWireError::NotReadyForQuery => error_of_parts(
+                alloc,
+                "08P01",
+                "not ready for query",
+                "",
+                "",
+            ),
             PgWireError::InvalidOptionValue(value) => invalid_option_value(alloc, value.as_str()),
-            PgWireError::PortalNotStarted => told(alloc, "XX000", "portal is not started", "", ""),
+            PgWireError::PortalNotStarted => error_of_parts(
+                alloc,
+                "XX000",
+                "portal is not started",
+                "",
+                "",
+            ),
             PgWireError::InvalidRustTypeForParameter(name) => invalid_rust_type(
                 alloc,
                 name.as_str(),
             ),
             PgWireError::ParameterIndexOutOfBound(index) => index_out_of_bound(alloc, index),
             PgWireError::FailedToParseParameter(_cause) => {
-                told(alloc, "XX000", "failed to parse parameter", "", "")
+                error_of_parts(alloc, "XX000", "failed to parse parameter", "", "")
             }
             PgWireError::NoMemory => Err(AllocError),
         }
@@ -82,7 +94,7 @@ impl PgWireError {
 fn statement_not_found(alloc: Global, name: &str) -> Result<ErrorInfo, AllocError>
     ensures { IfOk result (λ info. info ≡ info_of (PgWireError.StatementNotFound name.now)) }
 {
-    told(
+    error_of_parts(
         alloc,
         "26000",
         "prepared statement \"",
@@ -95,7 +107,7 @@ fn statement_not_found(alloc: Global, name: &str) -> Result<ErrorInfo, AllocErro
 fn portal_not_found(alloc: Global, name: &str) -> Result<ErrorInfo, AllocError>
     ensures { IfOk result (λ info. info ≡ info_of (PgWireError.PortalNotFound name.now)) }
 {
-    told(alloc, "34000", "portal \"", name, "\" does not exist")
+    error_of_parts(alloc, "34000", "portal \"", name, "\" does not exist")
 }
 
 /// What is told of a byte that names nothing to describe.
@@ -103,7 +115,7 @@ fn invalid_target_type(alloc: Global, byte: u8) -> Result<ErrorInfo, AllocError>
     ensures { IfOk result (λ info. info ≡ info_of (PgWireError.InvalidTargetType byte)) }
 {
     let mut digits = Buffer::new();
-    told(
+    error_of_parts(
         alloc,
         "08P01",
         "invalid target type: ",
@@ -116,7 +128,7 @@ fn invalid_target_type(alloc: Global, byte: u8) -> Result<ErrorInfo, AllocError>
 fn query_canceled(alloc: Global) -> Result<ErrorInfo, AllocError>
     ensures { IfOk result (λ info. info ≡ info_of PgWireError.QueryCanceled) }
 {
-    told(
+    error_of_parts(
         alloc,
         "57014",
         "canceling statement due to user request",
@@ -129,7 +141,7 @@ fn query_canceled(alloc: Global) -> Result<ErrorInfo, AllocError>
 fn invalid_option_value(alloc: Global, value: &str) -> Result<ErrorInfo, AllocError>
     ensures { IfOk result (λ info. info ≡ info_of (PgWireError.InvalidOptionValue value.now)) }
 {
-    told(alloc, "22023", "invalid option value \"", value, "\"")
+    error_of_parts(alloc, "22023", "invalid option value \"", value, "\"")
 }
 
 /// What is told of a type, by its name, that isn't read as the value that was asked for.
@@ -137,7 +149,7 @@ fn invalid_rust_type(alloc: Global, name: &str) -> Result<ErrorInfo, AllocError>
     ensures { IfOk result (λ info. info
         ≡ info_of (PgWireError.InvalidRustTypeForParameter name.now)) }
 {
-    told(
+    error_of_parts(
         alloc,
         "XX000",
         "type ",
@@ -151,7 +163,7 @@ fn index_out_of_bound(alloc: Global, index: usize) -> Result<ErrorInfo, AllocErr
     ensures { IfOk result (λ info. info ≡ info_of (PgWireError.ParameterIndexOutOfBound index)) }
 {
     let mut digits = Buffer::new();
-    told(
+    error_of_parts(
         alloc,
         "XX000",
         "parameter index ",
@@ -161,7 +173,7 @@ fn index_out_of_bound(alloc: Global, index: usize) -> Result<ErrorInfo, AllocErr
 }
 
 /// An error of severity ERROR: its message is a text between two others.
-fn told(
+fn error_of_parts(
     alloc: Global,
     code: &str,
     before: &str,

@@ -11,24 +11,24 @@ use Rattle.pg_handlers.specs.declared.ends.EndKind.{EndKind}
 use Rattle.pg_handlers.specs.declared.ends.SessionError.TheVariants as session
 use Rattle.pg_handlers.specs.Effect.{Effect, Row, IsEffect, IsRefusedEffect, IsRow, IsRefusedRow, silent}
 use Rattle.pg_handlers.specs.State.{State}
-use Rattle.pg_session.specs.Messages.{outcome_of, told}
+use Rattle.pg_session.specs.Messages.{outcome_of, with_session_error}
 use Rattle.pg_session.proofs.Rows.{silent_row, silent_refused, same_row, same_refused}
 
-pub told_ok : {S : Type 0} (row : Row S) (e : Effect S) (out new_out : List ℕ) (calls : List DeskCall) (s : State S)
+pub with_session_error_ok : {S : Type 0} (row : Row S) (e : Effect S) (out new_out : List ℕ) (calls : List DeskCall) (s : State S)
     (answer : Result (Option EndKind) PgWireError)
     → ((answers : List Bool) → row answers ≡ silent e)
     → IfOk answer (λ end. IsEffect e out new_out (outcome_of end s))
-    → IfOk (told answer) (λ end. IsRow row out new_out calls calls (outcome_of end s))
-told_ok row e out new_out calls s (Ok end) same x = same_row same (silent_row e calls x)
-told_ok row e out new_out calls s (Err error) same x = tt
+    → IfOk (with_session_error answer) (λ end. IsRow row out new_out calls calls (outcome_of end s))
+with_session_error_ok row e out new_out calls s (Ok end) same x = same_row same (silent_row e calls x)
+with_session_error_ok row e out new_out calls s (Err error) same x = tt
 
-pub told_refused : {S : Type 0} (row : Row S) (e : Effect S) (out new_out : List ℕ) (calls : List DeskCall) (s : State S)
+pub with_session_error_refused : {S : Type 0} (row : Row S) (e : Effect S) (out new_out : List ℕ) (calls : List DeskCall) (s : State S)
     (answer : Result (Option EndKind) PgWireError)
     → ((answers : List Bool) → row answers ≡ silent e)
     → IfErr answer (IsRefusedEffect e out new_out s)
-    → IfErr (told answer) (IsRefusedRow row out new_out calls calls s)
-told_refused row e out new_out calls s (Ok end) same x = tt
-told_refused row e out new_out calls s (Err error) same x =
+    → IfErr (with_session_error answer) (IsRefusedRow row out new_out calls calls s)
+with_session_error_refused row e out new_out calls s (Ok end) same x = tt
+with_session_error_refused row e out new_out calls s (Err error) same x =
     same_refused row (λ answers. silent e) out new_out calls calls s (session.Wire error) same (silent_refused e calls x)
 
 -- ---- the row of a phase

@@ -31,6 +31,6 @@ next_of None s = Goes s
 next_of (Some kind) s = Ends kind
 
 -- the same answer, with an error of a message as one of a session
-abbrev pub told : Result (Option EndKind) PgWireError → Result (Option EndKind) SessionError
-told (Ok end) = Ok end
-told (Err error) = Err (session.Wire error)
+abbrev pub with_session_error : Result (Option EndKind) PgWireError → Result (Option EndKind) SessionError
+with_session_error (Ok end) = Ok end
+with_session_error (Err error) = Err (session.Wire error)

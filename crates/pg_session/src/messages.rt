@@ -13,7 +13,7 @@ ghost use Rattle.pg_handlers.specs.Sending.{IsAnswerableError};
 ghost use Rattle.pg_handlers.specs.State.{state_of};
 ghost use Rattle.pg_handlers.specs.Table.{message_row, ready_row, statement_row, IsPlain, awaiting_sync_row};
 ghost use Rattle.pg_handlers.specs.declared.ends.EndKind.TheVariants.{InputEnd};
-ghost use Rattle.pg_session.specs.Messages.{IsGivenIn, outcome_of, told};
+ghost use Rattle.pg_session.specs.Messages.{IsGivenIn, outcome_of, with_session_error};
 
 use crate::startup::{let_go, on_startup_phase};
 use pg_handlers::{
@@ -68,16 +68,20 @@ pub(crate) fn on_message<
         PgWireConnectionState::ReadyForQuery => {
             on_ready(alloc, handlers, client, desk, turns, message)
         }
-        PgWireConnectionState::AwaitingSync => { told(on_awaiting_sync(handlers, client, message)) }
+        PgWireConnectionState::AwaitingSync => {
+            with_session_error(on_awaiting_sync(handlers, client, message))
+        }
         PgWireConnectionState::CopyInProgress(is_extended) => {
-            told(on_copy(alloc, handlers, client, is_extended, message))
+            with_session_error(on_copy(alloc, handlers, client, is_extended, message))
         }
     }
 }
 
 /// The same answer, with an error of a message as one of a session.
-fn told(answer: Result<Option<EndKind>, PgWireError>) -> Result<Option<EndKind>, SessionError>
-    ensures { result ≡ told answer }
+fn with_session_error(
+    answer: Result<Option<EndKind>, PgWireError>,
+) -> Result<Option<EndKind>, SessionError>
+    ensures { result ≡ with_session_error answer }
 {
     match answer {
         Ok(end) => Ok(end),

@@ -11,11 +11,11 @@ use std::alloc::{AllocError, Global};
 pub(crate) fn unknown_relation(alloc: Global, name: &str) -> Result<ErrorInfo, AllocError>
     ensures { IfOk result (λ info. info ≡ unknown_relation name.now) }
 {
-    told(alloc, "42P01", "relation \"", name, "\" does not exist")
+    error_of_parts(alloc, "42P01", "relation \"", name, "\" does not exist")
 }
 
 /// An error of severity ERROR: its message is a text between two others.
-fn told(
+fn error_of_parts(
     alloc: Global,
     code: &str,
     before: &str,

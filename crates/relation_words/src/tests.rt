@@ -114,7 +114,7 @@ fn words_of(alloc: Global, line: &str) -> Result<PgList<PgStr>, AllocError> {
 }
 
 /// What the words order, as a line.
-fn told(alloc: Global, words: &[PgStr]) -> Result<String, AllocError> {
+fn command_as_line(alloc: Global, words: &[PgStr]) -> Result<String, AllocError> {
     let file = file_word(words).unwrap_or("-");
     match read_command(words) {
         Some(Command::Serve(service)) => {
@@ -124,12 +124,12 @@ fn told(alloc: Global, words: &[PgStr]) -> Result<String, AllocError> {
         Some(Command::Demo(Load { seed, count })) => format!(in alloc;
             "demo {file} {seed} {count}"
         ),
-        None => told_place(alloc, words, file),
+        None => place_as_line(alloc, words, file),
     }
 }
 
 /// Where words that are no command order to listen, as a line.
-fn told_place(alloc: Global, words: &[PgStr], file: &str) -> Result<String, AllocError> {
+fn place_as_line(alloc: Global, words: &[PgStr], file: &str) -> Result<String, AllocError> {
     let count = listen_count(words);
     match listen_place(words) {
         Some(ListenPlace::Tcp(port)) => format!(in alloc; "tcp {file} {port} {count:?}"),
@@ -141,10 +141,10 @@ fn told_place(alloc: Global, words: &[PgStr], file: &str) -> Result<String, Allo
 #[test]
 fn words_are_told(rt: HostRuntime) -> Result<(), Fail> {
     let alloc = rt.alloc();
-    assert!(rt; told(alloc, &[])?.as_str() == "usage - None");
+    assert!(rt; command_as_line(alloc, &[])?.as_str() == "usage - None");
     for (line, wanted) in ROWS {
         let words = words_of(alloc, line)?;
-        let told = told(alloc, words.as_slice())?;
+        let told = command_as_line(alloc, words.as_slice())?;
         assert!(rt; told.as_str() == wanted, "{line}: {told}");
     }
     Ok(())

@@ -36,7 +36,7 @@ on standard error.
 const VERSION: &str = "rota_report 0.1.0\n";
 
 /// What the one word asks for, if it asks to be told something.
-pub fn told(words: &[PgStr]) -> Option<&'static str> {
+pub fn help_or_version(words: &[PgStr]) -> Option<&'static str> {
     let [word] = words else {
         return None;
     };

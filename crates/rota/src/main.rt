@@ -5,7 +5,7 @@ mod files;
 mod help;
 
 use crate::files::OpenedFile;
-use crate::help::told;
+use crate::help::help_or_version;
 use pg_messages::{PgList, PgStr};
 use pg_serve::{ReaderSource, WriterSink};
 use pg_session::Sink;
@@ -77,7 +77,7 @@ fn main(rt: HostRuntime) -> ExitCode {
         return ended(7, "out of memory\n", &mut err);
     };
     let words = words.as_slice();
-    if let Some(text) = told(words) {
+    if let Some(text) = help_or_version(words) {
         return tell(text, &mut out, &mut err);
     }
     let mut file = open_file(&rt, alloc, words);

@@ -43,7 +43,7 @@ bound, or a connection can't be accepted; 13 a thread can't be started. Each but
 const VERSION: &str = "relation_server 0.1.0\n";
 
 /// What the one word asks for, if it asks to be told something.
-pub fn told(words: &[PgStr]) -> Option<&'static str> {
+pub fn help_or_version(words: &[PgStr]) -> Option<&'static str> {
     let [word] = words else {
         return None;
     };

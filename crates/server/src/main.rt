@@ -10,7 +10,7 @@ mod help;
 mod places;
 
 use crate::files::OpenedFile;
-use crate::help::told;
+use crate::help::help_or_version;
 use crate::places::{BoundPlace, bind_place, leave_place};
 use pg_cancel::ConnectionManager;
 use pg_messages::{PgList, PgStr};
@@ -162,7 +162,7 @@ fn main(rt: HostRuntime) -> ExitCode {
         return out_of_memory(&mut err);
     };
     let words = words.as_slice();
-    if let Some(text) = told(words) {
+    if let Some(text) = help_or_version(words) {
         return tell(text, &mut out, &mut err);
     }
     let Some(place) = listen_place(words) else {

@@ -7,5 +7,6 @@ use Rattle.pg_portal.proofs.error.statement_not_found.Goals as goal
 pub returns : goal.returns
 returns c =
     let name = c.args.name.now in
-    IfOk-weaker c.told.result (λ info. info ≡ error (codes "26000") (codes "prepared statement \"" ++ name ++ codes "\" does not exist"))
-    (λ info. info ≡ info_of (StatementNotFound name)) (λ info e. e ∙ simp append_assoc) c.told.ensures
+    IfOk-weaker c.error_of_parts.result (λ info. info
+    ≡ error (codes "26000") (codes "prepared statement \"" ++ name ++ codes "\" does not exist"))
+    (λ info. info ≡ info_of (StatementNotFound name)) (λ info e. e ∙ simp append_assoc) c.error_of_parts.ensures

@@ -5,7 +5,7 @@ use Rattle.pg_handlers.proofs.GoodStores.{Each}
 use Rattle.pg_handlers.specs.Good.{IsGoodStatement, IsGoodPortal}
 use Rattle.std.proofs.Common.{subst, sym}
 use Rattle.pg_session.proofs.StartupTurns.{startup_turns}
-use Rattle.pg_session.proofs.ToldRows.{told_ok, told_refused, sync_row, copy_phase_row}
+use Rattle.pg_session.proofs.ToldRows.{with_session_error_ok, with_session_error_refused, sync_row, copy_phase_row}
 use Rattle.pg_session.proofs.messages.on_message.Goals as goal
 
 pub returns-in-AwaitingStartup-clause-good : goal.returns-in-AwaitingStartup-clause-good
@@ -29,7 +29,8 @@ returns-in-AwaitingStartup-clause-turns g c =
 
 pub returns-in-AwaitingSync-clause-ok : goal.returns-in-AwaitingSync-clause-ok
 returns-in-AwaitingSync-clause-ok g c =
-    rw c.told.ensures (told_ok _ (awaiting_sync_row (state_of g.St.PortalStore.maps c.args.client.now) c.args.message)
+    rw c.with_session_error.ensures (with_session_error_ok _
+    (awaiting_sync_row (state_of g.St.PortalStore.maps c.args.client.now) c.args.message)
     c.args.client.now.outbox c.on_awaiting_sync.new.client.outbox (g.D.CancelDesk.told c.args.desk.now).calls
     (state_of g.St.PortalStore.maps c.on_awaiting_sync.new.client) c.on_awaiting_sync.result
     (λ answers. sync_row (g.H.PgWireServerHandlers.told c.args.handlers.now) answers (state_of g.St.PortalStore.maps c.args.client.now)
@@ -37,7 +38,8 @@ returns-in-AwaitingSync-clause-ok g c =
 
 pub returns-in-AwaitingSync-clause-refused : goal.returns-in-AwaitingSync-clause-refused
 returns-in-AwaitingSync-clause-refused g c =
-    rw c.told.ensures (told_refused _ (awaiting_sync_row (state_of g.St.PortalStore.maps c.args.client.now) c.args.message)
+    rw c.with_session_error.ensures (with_session_error_refused _
+    (awaiting_sync_row (state_of g.St.PortalStore.maps c.args.client.now) c.args.message)
     c.args.client.now.outbox c.on_awaiting_sync.new.client.outbox (g.D.CancelDesk.told c.args.desk.now).calls
     (state_of g.St.PortalStore.maps c.on_awaiting_sync.new.client) c.on_awaiting_sync.result
     (λ answers. sync_row (g.H.PgWireServerHandlers.told c.args.handlers.now) answers (state_of g.St.PortalStore.maps c.args.client.now)
@@ -45,7 +47,7 @@ returns-in-AwaitingSync-clause-refused g c =
 
 pub returns-in-CopyInProgress-clause-ok : goal.returns-in-CopyInProgress-clause-ok
 returns-in-CopyInProgress-clause-ok g c =
-    rw c.told-in-CopyInProgress.ensures (told_ok _
+    rw c.with_session_error-in-CopyInProgress.ensures (with_session_error_ok _
     (copy_row (g.H.PgWireServerHandlers.told c.args.handlers.now).copying c.in-CopyInProgress.is_extended
     (state_of g.St.PortalStore.maps c.args.client.now) c.args.message) c.args.client.now.outbox c.on_copy.new.client.outbox
     (g.D.CancelDesk.told c.args.desk.now).calls (state_of g.St.PortalStore.maps c.on_copy.new.client) c.on_copy.result
@@ -55,7 +57,7 @@ returns-in-CopyInProgress-clause-ok g c =
 
 pub returns-in-CopyInProgress-clause-refused : goal.returns-in-CopyInProgress-clause-refused
 returns-in-CopyInProgress-clause-refused g c =
-    rw c.told-in-CopyInProgress.ensures (told_refused _
+    rw c.with_session_error-in-CopyInProgress.ensures (with_session_error_refused _
     (copy_row (g.H.PgWireServerHandlers.told c.args.handlers.now).copying c.in-CopyInProgress.is_extended
     (state_of g.St.PortalStore.maps c.args.client.now) c.args.message) c.args.client.now.outbox c.on_copy.new.client.outbox
     (g.D.CancelDesk.told c.args.desk.now).calls (state_of g.St.PortalStore.maps c.on_copy.new.client) c.on_copy.result

@@ -7,5 +7,5 @@ use Rattle.relation_handlers.proofs.errors.unknown_relation.Goals as goal
 pub returns : goal.returns
 returns c =
     let name = c.args.name.now in
-    IfOk-weaker c.told.result (λ info. info ≡ error (codes "42P01") (codes "relation \"" ++ name ++ codes "\" does not exist"))
-    (λ info. info ≡ unknown_relation name) (λ info e. e ∙ simp append_assoc) c.told.ensures
+    IfOk-weaker c.error_of_parts.result (λ info. info ≡ error (codes "42P01") (codes "relation \"" ++ name ++ codes "\" does not exist"))
+    (λ info. info ≡ unknown_relation name) (λ info e. e ∙ simp append_assoc) c.error_of_parts.ensures
