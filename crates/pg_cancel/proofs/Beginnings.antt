@@ -15,7 +15,7 @@ use native.Mathlib.Decide.{ℕ_discrete}
 use Rattle.pg_cancel.proofs.Histories.{Registers, Cancels, live_within, last_keeps, determined}
 use Rattle.pg_cancel.proofs.Places.{at_within, at_old, at_from_taken, some_and, and_holds}
 use Rattle.pg_cancel.specs.Connections.{calls_of, is_register, before_last, entry, IsTheAnswer}
-use Rattle.pg_cancel.specs.Turns.{HasNoStray}
+use Rattle.pg_cancel.specs.RosterTable.{HasNoStray}
 use Rattle.pg_cancel.proofs.Prefixes.{prefix_get}
 
 -- a beginning of a legal history is legal

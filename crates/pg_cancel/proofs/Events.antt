@@ -17,7 +17,7 @@ use Rattle.pg_cancel.specs.declared.manager.RegisterError.TheVariants.{PidTaken,
 use Rattle.pg_cancel.specs.LegalHistory.{IsLegal, IsLive, IsLiveAs, HasPid, IsCanceled, IsAnswer, MayCall, entry_of}
 use Rattle.pg_cancel.specs.Index.{IsCaller}
 use Rattle.pg_cancel.specs.Connections.{calls_of, is_register, registers_of, entry, before_last, yes_if, Made, Registers, Begins}
-use Rattle.pg_cancel.specs.Turns.{Fits, holding, called, entered, refused, grown, HasOut, HasHappened, IsHolding, IsCalled, IsHandle, IsDoor, IsOpening, IsLeft, IsToldTo, MayMake}
+use Rattle.pg_cancel.specs.RosterTable.{Fits, holding, called, entered, refused, grown, HasOut, HasHappened, IsHolding, IsCalled, IsHandle, IsDoor, IsOpening, IsLeft, IsToldTo, MayMake}
 use Rattle.pg_cancel.proofs.Histories.{IsLegal-push, entry_follows, registered_once, registered_lives, stays_live}
 use Rattle.pg_cancel.proofs.Beginnings.{the_answer, before_of, heard_by, begins_registered}
 use Rattle.pg_cancel.proofs.Views.{Answered, called_fits, entered_fits, false_true, holding_fits}

@@ -19,7 +19,7 @@ use Rattle.pg_cancel.specs.declared.seat.View.{View}
 use Rattle.pg_cancel.specs.LegalHistory.{IsLegal, entry_of}
 use Rattle.pg_cancel.specs.Index.{IsRosterOf}
 use Rattle.pg_cancel.specs.Connections.{is_register}
-use Rattle.pg_cancel.specs.Turns.{Fits, IsHome, IsApart, InTurn, MayMake, first_door, reader, holding, idle, grown, without_number, handle, longer, joined, looked, compared, took, publishes, releases}
+use Rattle.pg_cancel.specs.RosterTable.{Fits, IsHome, IsApart, InTurn, MayMake, first_door, reader, holding, idle, grown, without_number, handle, longer, joined, looked, compared, took, publishes, releases}
 use Rattle.pg_cancel.proofs.Histories.{last_pushed}
 use Rattle.pg_cancel.proofs.Prefixes.{prefix_self, prefix_shorter, between_filter}
 use Rattle.pg_cancel.proofs.Beginnings.{legal_prefix, no_stray}

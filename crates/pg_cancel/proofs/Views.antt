@@ -15,7 +15,7 @@ use Rattle.pg_cancel.specs.declared.entries.RegistryAnswer.TheVariants.{Register
 use Rattle.pg_cancel.specs.declared.seat.View.{View}
 use Rattle.pg_cancel.specs.LegalHistory.{IsLegal, IsLive, IsAnswer, entry_of}
 use Rattle.pg_cancel.specs.Connections.{calls_of, is_register, registers_of}
-use Rattle.pg_cancel.specs.Turns.{Fits, IsApart, MayMake, reader, holding, idle, called, entered, refused, grown}
+use Rattle.pg_cancel.specs.RosterTable.{Fits, IsApart, MayMake, reader, holding, idle, called, entered, refused, grown}
 use Rattle.pg_cancel.proofs.Histories.{live_keeps}
 use Rattle.pg_cancel.proofs.Prefixes.{prefix_self, prefix_longer}
 use Rattle.pg_cancel.proofs.Beginnings.{calls_fresh}

@@ -1,4 +1,4 @@
 pub mod LegalHistory
 pub mod Index
 pub mod Connections
-pub mod Turns
+pub mod RosterTable

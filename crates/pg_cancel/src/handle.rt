@@ -4,7 +4,7 @@ ghost use Rattle.pg_cancel.specs.LegalHistory.{IsLegal, IsCanceled, IsConnected}
 ghost use Rattle.pg_cancel.specs.declared.entries.RegistryCall.{RegistryCall};
 ghost use Rattle.pg_cancel.specs.declared.entries.RegistryAnswer.{RegistryAnswer};
 ghost use Rattle.pg_cancel.specs.Connections.{HasMade, HasEnded, Made, Begins, IsSameConnection, before_last, calls_of, is_register, yes_if};
-ghost use Rattle.pg_cancel.specs.Turns.{IsHandle, IsLeft, IsToldTo};
+ghost use Rattle.pg_cancel.specs.RosterTable.{IsHandle, IsLeft, IsToldTo};
 
 use crate::entries::{RegistryAnswer, RegistryCall};
 use crate::manager::ConnectionManager;
@@ -32,7 +32,7 @@ pub struct ConnectionHandle {
 
 impl Model for ConnectionHandle {
     ghost use Rattle.pg_cancel.specs.Connections.{Connection, Begins};
-    ghost use Rattle.pg_cancel.specs.Turns.{IsHandle};
+    ghost use Rattle.pg_cancel.specs.RosterTable.{IsHandle};
 
     ghost Value = { Connection };
 
@@ -57,7 +57,7 @@ pub struct Note {
 
 impl Model for Note {
     ghost use Rattle.pg_cancel.specs.Connections.{Witness};
-    ghost use Rattle.pg_cancel.specs.Turns.{IsNote};
+    ghost use Rattle.pg_cancel.specs.RosterTable.{IsNote};
 
     ghost Value = { Witness };
 

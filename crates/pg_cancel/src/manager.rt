@@ -5,7 +5,7 @@ ghost use Rattle.pg_cancel.specs.declared.entries.RegistryCall.{RegistryCall};
 ghost use Rattle.pg_cancel.specs.declared.entries.RegistryAnswer.{RegistryAnswer};
 ghost use Rattle.pg_cancel.specs.declared.manager.RegisterError.{RegisterError};
 ghost use Rattle.pg_cancel.specs.Connections.{Registers, before_last, calls_of, entry, is_register};
-ghost use Rattle.pg_cancel.specs.Turns.{Fits, IsHolding, IsDoor, IsOpening, idle};
+ghost use Rattle.pg_cancel.specs.RosterTable.{Fits, IsHolding, IsDoor, IsOpening, idle};
 
 use crate::entries::{RegistryAnswer, RegistryCall};
 use crate::handle::ConnectionHandle;
@@ -43,7 +43,7 @@ pub struct Door {
 
 impl Model for Door {
     ghost use Rattle.pg_cancel.specs.Connections.{Witness};
-    ghost use Rattle.pg_cancel.specs.Turns.{IsDoor};
+    ghost use Rattle.pg_cancel.specs.RosterTable.{IsDoor};
 
     ghost Value = { Witness };
 

@@ -23,17 +23,17 @@ pub struct View {
     pub turn: Option<LinkedList<Entry>>,
 }
 
-pub struct Turns;
+pub struct RosterRule;
 
-impl TableRule<Roster, View, ()> for Turns {
-    ghost use Rattle.pg_cancel.specs.Turns.{InTurn, first_door};
+impl TableRule<Roster, View, ()> for RosterRule {
+    ghost use Rattle.pg_cancel.specs.RosterTable.{InTurn, first_door};
 
     ghost holds = { λ _. InTurn };
 
     ghost first = { λ _. first_door };
 }
 
-pub type Board = Table<Roster, View, (), Turns, Global>;
+pub type Board = Table<Roster, View, (), RosterRule, Global>;
 
 pub type Place = Seat<Roster, View>;
 
@@ -41,7 +41,7 @@ pub type Place = Seat<Roster, View>;
 pub struct Look;
 
 impl Play<Roster, View> for Look {
-    ghost use Rattle.pg_cancel.specs.Turns.{looked};
+    ghost use Rattle.pg_cancel.specs.RosterTable.{looked};
 
     ghost then = { looked };
 }
@@ -50,7 +50,7 @@ impl Play<Roster, View> for Look {
 pub struct Take;
 
 impl Play<Roster, View> for Take {
-    ghost use Rattle.pg_cancel.specs.Turns.{took};
+    ghost use Rattle.pg_cancel.specs.RosterTable.{took};
 
     ghost then = { took };
 }
@@ -59,7 +59,7 @@ impl Play<Roster, View> for Take {
 pub struct Publish;
 
 impl Play<Roster, View> for Publish {
-    ghost use Rattle.pg_cancel.specs.Turns.{publishes};
+    ghost use Rattle.pg_cancel.specs.RosterTable.{publishes};
 
     ghost then = { publishes };
 }
@@ -68,7 +68,7 @@ impl Play<Roster, View> for Publish {
 pub struct Release;
 
 impl Play<Roster, View> for Release {
-    ghost use Rattle.pg_cancel.specs.Turns.{releases};
+    ghost use Rattle.pg_cancel.specs.RosterTable.{releases};
 
     ghost then = { releases };
 }
@@ -77,7 +77,7 @@ impl Play<Roster, View> for Release {
 pub struct Copy;
 
 impl Split<View> for Copy {
-    ghost use Rattle.pg_cancel.specs.Turns.{reader};
+    ghost use Rattle.pg_cancel.specs.RosterTable.{reader};
 
     ghost left = { λ v. v };
 
@@ -88,7 +88,7 @@ impl Split<View> for Copy {
 pub struct PassOn;
 
 impl Split<View> for PassOn {
-    ghost use Rattle.pg_cancel.specs.Turns.{without_number, handle};
+    ghost use Rattle.pg_cancel.specs.RosterTable.{without_number, handle};
 
     ghost left = { without_number };
 
@@ -99,7 +99,7 @@ impl Split<View> for PassOn {
 pub struct TakeIn;
 
 impl Join<View> for TakeIn {
-    ghost use Rattle.pg_cancel.specs.Turns.{reader, joined};
+    ghost use Rattle.pg_cancel.specs.RosterTable.{reader, joined};
     ghost use Rattle.std.specs.Prelude.{[]};
 
     ghost both = { joined };
@@ -111,7 +111,7 @@ impl Join<View> for TakeIn {
 pub struct Compare;
 
 impl Play<Roster, View> for Compare {
-    ghost use Rattle.pg_cancel.specs.Turns.{compared};
+    ghost use Rattle.pg_cancel.specs.RosterTable.{compared};
 
     ghost then = { compared };
 }

@@ -168,24 +168,24 @@ fn ending<R: Wait>(
     }
 }
 
-/// The turns that two threads take.
+/// The step that two threads are at, for which each waits before its own.
 #[derive(Drop)]
-struct Turn {
-    of: Mutex<u32>,
+struct StepGate {
+    step: Mutex<u32>,
     moved: Condvar,
 }
 
-impl Turn {
+impl StepGate {
     fn wait<R: Wait>(&self, rt: &R, step: u32) {
-        let turn = self
+        let reached = self
             .moved
-            .wait_while(rt, self.of.lock(rt), |turn| *turn != step);
-        drop(turn);
+            .wait_while(rt, self.step.lock(rt), |now| *now != step);
+        drop(reached);
     }
 
-    fn give<R: Wait>(&self, rt: &R, step: u32) {
-        let mut turn = self.of.lock(rt);
-        *turn = step;
+    fn open<R: Wait>(&self, rt: &R, step: u32) {
+        let mut now = self.step.lock(rt);
+        *now = step;
         self.moved.notify_all();
     }
 }
@@ -199,8 +199,8 @@ fn both<R: Threads + Wait + Abort + Sync>(
     requires { (first.issuer ≡ manager.now) × (second.issuer ≡ manager.now) }
     ensures { (result.0.issuer ≡ manager.now) × (result.1.issuer ≡ manager.now) }
 {
-    let turn = Turn {
-        of: Mutex::new(0),
+    let gate = StepGate {
+        step: Mutex::new(0),
         moved: Condvar::new(),
     };
     let (a, b) = join(
@@ -208,11 +208,11 @@ fn both<R: Threads + Wait + Abort + Sync>(
         || -> (ConnectionHandle, Result<bool, AllocError>)
             requires { IsSync R.row × (first.issuer ≡ manager.now) }
             ensures { result.0.issuer ≡ manager.entry.now }
-        { asks(rt, manager, first, &turn) },
+        { asks(rt, manager, first, &gate) },
         || -> (ConnectionHandle, Result<bool, AllocError>)
             requires { IsSync R.row × (second.issuer ≡ manager.now) }
             ensures { result.0.issuer ≡ manager.entry.now }
-        { cancels(rt, manager, second, &turn) },
+        { cancels(rt, manager, second, &gate) },
     );
     let (first, asked) = a;
     let (second, hit) = b;
@@ -224,12 +224,12 @@ fn asks<R: Wait>(
     rt: &R,
     manager: &ConnectionManager,
     mut handle: ConnectionHandle,
-    turn: &Turn,
+    gate: &StepGate,
 ) -> (ConnectionHandle, Result<bool, AllocError>)
     requires { handle.issuer ≡ manager.now }
     ensures { result.0.issuer ≡ manager.now }
 {
-    let asked = ask_in_turn(rt, manager, &mut handle, turn);
+    let asked = ask_by_steps(rt, manager, &mut handle, gate);
     (handle, asked)
 }
 
@@ -237,48 +237,48 @@ fn cancels<R: Wait>(
     rt: &R,
     manager: &ConnectionManager,
     mut handle: ConnectionHandle,
-    turn: &Turn,
+    gate: &StepGate,
 ) -> (ConnectionHandle, Result<bool, AllocError>)
     requires { handle.issuer ≡ manager.now }
     ensures { result.0.issuer ≡ manager.now }
 {
-    let hit = cancel_in_turn(rt, manager, &mut handle, turn);
+    let hit = cancel_by_steps(rt, manager, &mut handle, gate);
     (handle, hit)
 }
 
-fn ask_in_turn<R: Wait>(
+fn ask_by_steps<R: Wait>(
     rt: &R,
     manager: &ConnectionManager,
     handle: &mut ConnectionHandle,
-    turn: &Turn,
+    gate: &StepGate,
 ) -> Result<bool, AllocError>
     requires { handle.old.issuer ≡ manager.now }
     ensures { handle.new.issuer ≡ handle.old.issuer }
 {
     manager.start_query(rt, handle)?;
     let early = manager.ask(rt, handle)?;
-    turn.give(rt, 1);
-    turn.wait(rt, 2);
+    gate.open(rt, 1);
+    gate.wait(rt, 2);
     let asked = manager.ask(rt, handle)?;
     manager.start_query(rt, handle)?;
     let again = manager.ask(rt, handle)?;
-    turn.give(rt, 3);
+    gate.open(rt, 3);
     Ok(!early && asked && !again)
 }
 
-fn cancel_in_turn<R: Wait>(
+fn cancel_by_steps<R: Wait>(
     rt: &R,
     manager: &ConnectionManager,
     handle: &mut ConnectionHandle,
-    turn: &Turn,
+    gate: &StepGate,
 ) -> Result<bool, AllocError>
     requires { handle.old.issuer ≡ manager.now }
     ensures { handle.new.issuer ≡ handle.old.issuer }
 {
-    turn.wait(rt, 1);
+    gate.wait(rt, 1);
     let hit = manager.cancel(rt, handle, 7, A)?;
-    turn.give(rt, 2);
-    turn.wait(rt, 3);
+    gate.open(rt, 2);
+    gate.wait(rt, 3);
     let other = manager.cancel(rt, handle, 7, ZERO)?;
     Ok(hit && !other)
 }

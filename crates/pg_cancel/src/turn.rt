@@ -1,7 +1,7 @@
 //! The turn: who has it holds the roster. The store that gives it back makes one event, or none.
 ghost use Rattle.std.specs.Prelude.{◌≡◌, ◌*◌, ◌<◌, ◌≤◌, ◌^◌, [], ◌∷◌, IfOk, OnErr};
 ghost use Rattle.pg_cancel.specs.declared.roster.Roster.{Roster};
-ghost use Rattle.pg_cancel.specs.Turns.{HasOut, HasHappened, IsCalled, IsFree, IsHolding, MayMake, idle};
+ghost use Rattle.pg_cancel.specs.RosterTable.{HasOut, HasHappened, IsCalled, IsFree, IsHolding, MayMake, idle};
 
 use crate::entries::{RegistryAnswer, RegistryCall};
 use crate::manager::ConnectionManager;

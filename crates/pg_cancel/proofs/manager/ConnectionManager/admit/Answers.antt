@@ -1,7 +1,7 @@
 use Rattle.std.proofs.Common.{◌≡◌, length, rules, ap, sym, subst}
 use Rattle.pg_cancel.specs.declared.entries.RegistryAnswer.TheVariants.{Registered, Taken}
 use Rattle.pg_cancel.specs.Connections.{Registers}
-use Rattle.pg_cancel.specs.Turns.{IsOpening}
+use Rattle.pg_cancel.specs.RosterTable.{IsOpening}
 use Rattle.pg_cancel.proofs.Events.{opened, entered_is, refused_is, opening, still_door, registers, calls_of_door, may_open, only_registered}
 use Rattle.pg_cancel.proofs.manager.ConnectionManager.admit.Goals as goal
 

@@ -1,6 +1,6 @@
 use Rattle.std.proofs.Common.{rules, ◌≡◌, w32, ap, sym, subst, ◌∙◌}
 use mir.Val.{to_z, of_z}
-use Rattle.pg_cancel.specs.Turns.{IsCalled}
+use Rattle.pg_cancel.specs.RosterTable.{IsCalled}
 use Rattle.pg_cancel.proofs.Events.{call_ensures, told_ensures, is_holding, calls_of_handle, may_make}
 use Rattle.pg_cancel.proofs.manager.ConnectionManager.make_call.Goals as goal
 

@@ -2,7 +2,7 @@ use Rattle.std.proofs.Common.{rules, ◌≡◌, ◌*◌, ◌∷◌, [], None, w3
 use mir.Val.{to_z, of_z}
 use Rattle.pg_cancel.specs.LegalHistory.{entry_of}
 use Rattle.pg_cancel.specs.Index.{IsCaller}
-use Rattle.pg_cancel.specs.Turns.{Happens, grown}
+use Rattle.pg_cancel.specs.RosterTable.{Happens, grown}
 use Rattle.pg_cancel.proofs.Histories.{last_pushed}
 use Rattle.pg_cancel.proofs.Noting.{may_ask, same_roster}
 use Rattle.pg_cancel.proofs.Events.{answered, one_log}
