@@ -1,8 +1,8 @@
 pub mod TableLemmas
 pub mod ColumnLemmas
 pub mod ValueLemmas
-pub mod LineLemmas
-pub mod AnswerLemmas
+pub mod CopyLineLemmas
+pub mod ResponseLemmas
 pub mod SharedLemmas
 pub mod ReadSoFar
 pub mod EvenRows

@@ -4,7 +4,7 @@ ghost use Rattle.std.specs.Prelude.{◌≡◌, map};
 ghost use Rattle.relation_tables.specs.RelationHandler.{line_item};
 ghost use Rattle.relation_handlers.specs.Tables.{IsSound};
 
-use crate::line::line_item;
+use crate::copy_line::line_item;
 use crate::style::SessionStyle;
 use pg_interval::Interval;
 use pg_messages::{CopyData, PgList};

@@ -5,14 +5,14 @@ ghost use Rattle.pg_messages.specs.Replies.{IsEncodable};
 ghost use Rattle.pg_handlers.specs.Replies.{parameter_description};
 ghost use Rattle.relation_tables.specs.RelationHandler.{given_types};
 
-use crate::answer::{answer, polls_of};
 use crate::columns::fields_of;
 use crate::copy::RelationCopy;
-use crate::meaning::meaning;
 use crate::parser::RelationParser;
 use crate::query::RelationQuery;
-use crate::rows::RelationRows;
+use crate::row_source::RelationRows;
 use crate::simple::{SimpleQuery, other_query, statement_query};
+use crate::statement_lookup::find_statement;
+use crate::statement_response::{polls_of, response_of};
 use crate::table::RelationTable;
 use pg_handlers::{ExtendedQueryHandler, NoopHandler, PgWireServerHandlers, SimpleQueryHandler};
 use pg_messages::PgList;
@@ -89,7 +89,7 @@ impl<'r> ExtendedQueryHandler for RelationHandler<'r> {
     ) -> Result<RelationQuery<Response<RelationRows<'r>, RelationCopy<'r>>>, AllocError> {
         let means = portal.statement.statement;
         let formats = &portal.result_column_format;
-        let response = answer(alloc, self.relations, client, formats, means)?;
+        let response = response_of(alloc, self.relations, client, formats, means)?;
         Ok(RelationQuery::new(polls_of(self.relations, means), Ok(response)))
     }
 }
@@ -112,7 +112,7 @@ impl<'r> SimpleQueryHandler for RelationHandler<'r> {
         client: &ClientInfo,
         query: &str,
     ) -> Result<SimpleQuery<'r>, AllocError> {
-        match meaning(self.relations, query) {
+        match find_statement(self.relations, query) {
             Some(means) => statement_query(alloc, self.relations, client, means),
             None => other_query(alloc, self.relations, client, trimmed(query)),
         }

@@ -2,19 +2,19 @@
 //! rows made on demand.
 #![tactic(auto)]
 
-mod answer;
 mod columns;
 mod copy;
+mod copy_line;
+mod data_row;
 mod errors;
 mod handler;
-mod line;
-mod meaning;
 mod parser;
 mod query;
-mod row;
-mod rows;
+mod row_source;
 mod shared;
 mod simple;
+mod statement_lookup;
+mod statement_response;
 mod style;
 mod table;
 mod within;
@@ -24,6 +24,6 @@ pub use copy::RelationCopy;
 pub use handler::RelationHandler;
 pub use parser::RelationParser;
 pub use query::RelationQuery;
-pub use rows::RelationRows;
+pub use row_source::RelationRows;
 pub use style::SessionStyle;
 pub use table::{RelationTable, TableError};

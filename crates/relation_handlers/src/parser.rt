@@ -8,7 +8,7 @@ ghost use Rattle.relation_tables.specs.RelationHandler.{told_parser};
 
 use crate::columns::fields_of;
 use crate::errors::unknown_relation;
-use crate::meaning::meaning;
+use crate::statement_lookup::find_statement;
 use crate::table::RelationTable;
 use pg_messages::PgList;
 use pg_portal::{ClientInfo, FieldInfo, Format, PgWireError, QueryParser};
@@ -39,7 +39,7 @@ impl<'r> QueryParser for RelationParser<'r> {
         sql: &str,
         _types: &[Option<PgType>],
     ) -> Result<Option<RelationStatement>, PgWireError> {
-        match meaning(self.relations, sql) {
+        match find_statement(self.relations, sql) {
             Some(means) => Ok(Some(means)),
             None => Err(PgWireError::UserError(unknown_relation(alloc, trimmed(sql))?)),
         }

@@ -12,11 +12,11 @@ ghost use Rattle.relation_tables.specs.Relations.{place_of, relation_at};
 ghost use Rattle.relation_handlers.specs.Queries.{is_given, query_told};
 ghost use Rattle.relation_handlers.specs.Tables.{IsSound};
 
-use crate::answer::{answer, polls_of};
 use crate::copy::RelationCopy;
 use crate::errors::unknown_relation;
 use crate::query::RelationQuery;
-use crate::rows::RelationRows;
+use crate::row_source::RelationRows;
+use crate::statement_response::{polls_of, response_of};
 use crate::table::RelationTable;
 use crate::words::copied_name;
 use pg_messages::PgList;
@@ -46,7 +46,7 @@ pub(crate) fn statement_query<'r>(
     ensures sendable { IfOk result (λ query.
         AreSendable (simple_of relations.now client.now [] (Some means)).outcome) }
 {
-    let response = answer(alloc, relations, client, &Format::UnifiedText, means)?;
+    let response = response_of(alloc, relations, client, &Format::UnifiedText, means)?;
     let responses = alone(alloc, response)?;
     Ok(RelationQuery::new(polls_of(relations, means), Ok(responses)))
 }

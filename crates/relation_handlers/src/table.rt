@@ -11,7 +11,7 @@ ghost use Rattle.relation_handlers.specs.Tables.{is_transaction_word, is_foreign
 
 use crate::shared::{SharedColumns, shared_columns};
 use crate::style::SessionStyle;
-use crate::within::read_relations;
+use crate::within::visit_relations;
 use pg_interval::Interval;
 use pg_messages::{PgList, PgStr};
 use pg_portal::{ClientInfo, Named};
@@ -88,7 +88,7 @@ impl RelationTable {
         let places = places_of(alloc, relations.as_slice())?;
         let columns = shared_columns(alloc, relations.as_slice())?;
         let style_name = PgStr::copy_of(alloc, "intervalstyle")?;
-        read_relations(relations.as_slice());
+        visit_relations(relations.as_slice());
         Ok(RelationTable {
             relations,
             places,

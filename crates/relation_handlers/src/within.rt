@@ -1,5 +1,5 @@
 //! The numbers of intervals lie in their types, which a table knows of its relations once it has
-//! read each.
+//! visited each.
 
 ghost use Rattle.pg_interval.specs.Cell.{IsInterval};
 ghost use Rattle.relation_handlers.specs.Tables.{IsRowWithin, AreRowsWithin, HoldIntervals};
@@ -8,38 +8,38 @@ use pg_interval::Interval;
 use pg_messages::PgList;
 use relation_tables::Relation;
 
-/// Reads each interval of relations.
+/// Visits each interval of relations.
 #[tactic(auto, using(crate::proofs::ReadSoFar::more, crate::proofs::ReadSoFar::whole, crate::proofs::ReadSoFar::none))]
-pub(crate) fn read_relations(relations: &[Relation])
+pub(crate) fn visit_relations(relations: &[Relation])
     ensures { HoldIntervals relations.now }
 {
     for relation in relations {
-        read_rows(relation.rows.as_slice());
+        visit_rows(relation.rows.as_slice());
     }
 }
 
-/// Reads each interval of rows.
+/// Visits each interval of rows.
 #[tactic(auto, using(crate::proofs::ReadSoFar::more, crate::proofs::ReadSoFar::whole, crate::proofs::ReadSoFar::none))]
-fn read_rows(rows: &[PgList<Interval>])
+fn visit_rows(rows: &[PgList<Interval>])
     ensures { AreRowsWithin rows.now }
 {
     for row in rows {
-        read_row(row.as_slice());
+        visit_row(row.as_slice());
     }
 }
 
-/// Reads each interval of a row.
+/// Visits each interval of a row.
 #[tactic(auto, using(crate::proofs::ReadSoFar::more, crate::proofs::ReadSoFar::whole, crate::proofs::ReadSoFar::none))]
-fn read_row(row: &[Interval])
+fn visit_row(row: &[Interval])
     ensures { IsRowWithin row.now }
 {
     for interval in row {
-        read(*interval);
+        visit_interval(*interval);
     }
 }
 
-/// Reads an interval.
-fn read(interval: Interval)
+/// Visits an interval.
+fn visit_interval(interval: Interval)
     ensures { IsInterval interval }
 {
     let _months = interval.months;

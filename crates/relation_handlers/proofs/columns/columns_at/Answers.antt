@@ -6,7 +6,7 @@ use Rattle.relation_tables.specs.declared.Relation.{Relation}
 use Rattle.relation_tables.specs.Relations.{relation_at}
 use Rattle.relation_handlers.specs.Shared.{told_columns}
 use Rattle.relation_handlers.specs.Told.{ToldColumns}
-use Rattle.relation_handlers.proofs.AnswerLemmas.{sendable_columns}
+use Rattle.relation_handlers.proofs.ResponseLemmas.{sendable_columns}
 use Rattle.relation_handlers.proofs.ColumnLemmas.{formats_len}
 use Rattle.relation_handlers.proofs.columns.columns_at.Goals as goal
 

@@ -2,7 +2,7 @@ use Rattle.std.proofs.Common.{◌++◌, ◌∙◌, ap, sym, arith}
 use Rattle.std.proofs.lemmas.List.{append-nil}
 use Rattle.relation_tables.specs.RelationHandler.{given_types}
 use Rattle.relation_handlers.proofs.ColumnLemmas.{drop_none}
-use Rattle.relation_handlers.proofs.AnswerLemmas.{sendable_types}
+use Rattle.relation_handlers.proofs.ResponseLemmas.{sendable_types}
 use Rattle.relation_handlers.proofs.handler.given_types.Goals as goal
 
 pub returns-clause-encodable : goal.returns-clause-encodable

@@ -9,15 +9,15 @@ use query_texts::trimmed;
 use relation_tables::RelationStatement;
 
 /// What a query means, whose whitespace and semicolons at both ends count for nothing.
-pub(crate) fn meaning(relations: &RelationTable, query: &str) -> Option<RelationStatement>
+pub(crate) fn find_statement(relations: &RelationTable, query: &str) -> Option<RelationStatement>
     ensures meaning { result ≡ meaning relations.now query.now }
     ensures given { IfSome result (λ s. IsTrue (is_statement_of relations.now s)) }
 {
-    meaning_of(relations, trimmed(query))
+    find_trimmed_statement(relations, trimmed(query))
 }
 
 /// What a trimmed text means: BEGIN and COMMIT in any ASCII case, or a relation by its very name.
-fn meaning_of(relations: &RelationTable, text: &str) -> Option<RelationStatement>
+fn find_trimmed_statement(relations: &RelationTable, text: &str) -> Option<RelationStatement>
     ensures meaning { result ≡ meaning_of relations.now text.now }
     ensures given { IfSome result (λ s. IsTrue (is_statement_of relations.now s)) }
 {

@@ -2,8 +2,8 @@ use Rattle.std.proofs.Common.{pos, arith, map}
 use Rattle.pg_interval.specs.declared.pg_interval.Interval.{Interval}
 use Rattle.relation_tables.specs.RelationHandler.{all_or_error, text_of}
 use Rattle.relation_handlers.specs.Values.{tab_joined}
-use Rattle.relation_handlers.proofs.LineLemmas.{texts_step}
-use Rattle.relation_handlers.proofs.line.texts.Goals as goal
+use Rattle.relation_handlers.proofs.CopyLineLemmas.{texts_step}
+use Rattle.relation_handlers.proofs.copy_line.line_texts.Goals as goal
 
 pub loop-index-preserved : goal.loop-index-preserved
 loop-index-preserved c =

@@ -32,7 +32,7 @@ pub(crate) fn row_item(
     ensures item { IfOk result (λ item. item ≡ row_item style.now formats.now row.now) }
     ensures sendable { IfOk result IsSendable }
 {
-    match row_of(alloc, style, formats, row) {
+    match data_row_of(alloc, style, formats, row) {
         Ok(row) => Ok(Ok(row)),
         Err(PgWireError::NoMemory) => Err(AllocError),
         Err(error) => Ok(Err(error)),
@@ -41,7 +41,7 @@ pub(crate) fn row_item(
 
 /// A row in these formats.
 #[inline(always)]
-fn row_of(
+fn data_row_of(
     alloc: Global,
     style: &SessionStyle,
     formats: &[FieldFormat],
@@ -53,7 +53,7 @@ fn row_of(
     ensures encodable { IfOk result (λ row. IsEncodable (server.DataRow row)) }
     ensures answerable { IfErr result IsAnswerableItem }
 {
-    let payload = values(alloc, style, formats, row)?;
+    let payload = row_values(alloc, style, formats, row)?;
     Ok(DataRow {
         payload: PgBytes::from_vec(payload),
         field_count: row.len() as i16,
@@ -62,7 +62,7 @@ fn row_of(
 
 /// The values of a row, one after another.
 #[inline(always)]
-fn values(
+fn row_values(
     alloc: Global,
     style: &SessionStyle,
     formats: &[FieldFormat],
@@ -77,7 +77,7 @@ fn values(
         (joined (all_or_error (map (λ p. value style.now p.0 p.1) (zip formats.now row.now))))) }
     ensures answerable { IfErr result IsAnswerableItem }
 {
-    let mut payload = payload_of(alloc, formats)?;
+    let mut payload = empty_payload(alloc, formats)?;
     for (index, interval) in row.iter().enumerate() {
         push_value(alloc, &mut payload, style, formats[index], interval)?;
     }
@@ -87,7 +87,7 @@ fn values(
 /// No value yet, with room for those of a row: a binary value has 20 bytes, and a text with its
 /// length at most 100. The first column's format decides, since mostly all are alike.
 #[inline(always)]
-fn payload_of(alloc: Global, formats: &[FieldFormat]) -> Result<Vec<u8>, AllocError>
+fn empty_payload(alloc: Global, formats: &[FieldFormat]) -> Result<Vec<u8>, AllocError>
     requires { length formats.now ≤ 1600 }
     ensures { IfOk result (λ payload. payload.items ≡ []) }
 {

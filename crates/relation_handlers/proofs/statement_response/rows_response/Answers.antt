@@ -4,8 +4,8 @@ use Rattle.pg_handlers.specs.Good.{IsSendableResponse}
 use Rattle.relation_handlers.specs.Tables.{IsSound}
 use Rattle.relation_tables.specs.RelationHandler.{rows_response}
 use Rattle.relation_tables.specs.Relations.{relation_at}
-use Rattle.relation_handlers.proofs.AnswerLemmas.{sendable_rows}
-use Rattle.relation_handlers.proofs.answer.rows_response.Goals as goal
+use Rattle.relation_handlers.proofs.ResponseLemmas.{sendable_rows}
+use Rattle.relation_handlers.proofs.statement_response.rows_response.Goals as goal
 
 pub returns-clause-sendable : goal.returns-clause-sendable
 returns-clause-sendable c =

@@ -5,7 +5,7 @@ ghost use Rattle.std.specs.Arc.{arc_value};
 ghost use Rattle.relation_tables.specs.RelationHandler.{row_item};
 ghost use Rattle.relation_handlers.specs.Tables.{IsSound};
 
-use crate::row::row_item;
+use crate::data_row::row_item;
 use crate::style::SessionStyle;
 use pg_interval::Interval;
 use pg_messages::{DataRow, PgList};

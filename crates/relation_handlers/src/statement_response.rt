@@ -12,7 +12,7 @@ ghost use Rattle.relation_handlers.specs.Queries.{polls_of};
 
 use crate::columns::columns_at;
 use crate::copy::RelationCopy;
-use crate::rows::RelationRows;
+use crate::row_source::RelationRows;
 use crate::table::RelationTable;
 use pg_portal::{ClientInfo, Format, QueryResponse, Response, Tag};
 use relation_tables::RelationStatement;
@@ -31,7 +31,7 @@ pub(crate) fn polls_of(relations: &RelationTable, means: RelationStatement) -> u
 }
 
 /// What a statement comes to, with its rows in these formats.
-pub(crate) fn answer<'r>(
+pub(crate) fn response_of<'r>(
     alloc: Global,
     relations: &'r RelationTable,
     client: &ClientInfo,

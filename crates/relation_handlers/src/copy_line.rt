@@ -26,7 +26,7 @@ pub(crate) fn line_item(
     ensures item { IfOk result (λ item. item ≡ line_item style.now row.now) }
     ensures sendable { IfOk result IsSendableCopy }
 {
-    match line_of(alloc, style, row) {
+    match copy_line_of(alloc, style, row) {
         Ok(line) => Ok(Ok(line)),
         Err(PgWireError::NoMemory) => Err(AllocError),
         Err(error) => Ok(Err(error)),
@@ -34,13 +34,17 @@ pub(crate) fn line_item(
 }
 
 /// A row as a line: its texts, split by tabs and ended by a newline.
-fn line_of(alloc: Global, style: &SessionStyle, row: &[Interval]) -> Result<CopyData, PgWireError>
+fn copy_line_of(
+    alloc: Global,
+    style: &SessionStyle,
+    row: &[Interval],
+) -> Result<CopyData, PgWireError>
     requires { length row.now ≤ 1600 }
     ensures outcome { IsOutcome (line_item style.now row.now) result }
     ensures encodable { IfOk result (λ line. IsEncodable (server.CopyData line)) }
     ensures answerable { IfErr result IsAnswerableItem }
 {
-    let mut payload = texts(alloc, style, row)?;
+    let mut payload = line_texts(alloc, style, row)?;
     payload.extend_from_slice(b"\n")?;
     Ok(CopyData {
         payload: PgBytes::from_vec(payload),
@@ -49,7 +53,7 @@ fn line_of(alloc: Global, style: &SessionStyle, row: &[Interval]) -> Result<Copy
 
 /// The texts of a row, split by tabs. There is room for them, each of at most 96 bytes, and for the
 /// newline.
-fn texts(alloc: Global, style: &SessionStyle, row: &[Interval]) -> Result<Vec<u8>, PgWireError>
+fn line_texts(alloc: Global, style: &SessionStyle, row: &[Interval]) -> Result<Vec<u8>, PgWireError>
     requires { length row.now ≤ 1600 }
     ensures texts { IfOk result (λ payload. Ok payload.items
         ≡ tab_joined (all_or_error (map (text_of style.now) row.now))) }
