@@ -7,8 +7,8 @@ use Rattle.pg_cancel.specs.declared.entries.RegistryCall.{RegistryCall}
 use Rattle.pg_cancel.specs.declared.entries.RegistryCall.TheVariants.{Register, Start, Ask, Cancel, Unregister}
 use Rattle.pg_cancel.specs.declared.entries.RegistryAnswer.TheVariants.{Registered, Taken}
 use Rattle.pg_cancel.specs.Connections.{is_register, registers_of, entry, Registers}
-use Rattle.relation_server.specs.declared.listening.ListenError.{ListenError}
-use Rattle.relation_server.specs.declared.listening.ListenError.TheVariants.{AcceptFault, SpawnFault, PidTaken, NoMemory}
+use Rattle.relation_server.specs.declared.accept_loop.ListenError.{ListenError}
+use Rattle.relation_server.specs.declared.accept_loop.ListenError.TheVariants.{AcceptFault, SpawnFault, PidTaken, NoMemory}
 use Rattle.relation_server.specs.Listening.{pids, pid_of_call, HasRegistered, IsRefusedAt, HasAdmitted, HasRefused, Taking, HasEndedSo, HasTakenIn, NeverFalls, HasTaken, connections_of}
 use Rattle.pg_session.specs.Streams.{HasRisen}
 use Rattle.pg_serve.proofs.Serving.{risen_since}

@@ -32,8 +32,8 @@ use Rattle.relation_words.specs.declared.commands.Load.{Load}
 use Rattle.relation_words.specs.declared.commands.Service.{Service}
 use Rattle.relation_server.specs.declared.outcome.Outcome.{Outcome}
 use Rattle.relation_server.specs.declared.outcome.Outcome.TheVariants.{Done, Usage, File, PidTaken, Conversation, AcceptFault, SpawnFault}
-use Rattle.relation_server.specs.declared.listening.ListenError.{ListenError}
-use Rattle.relation_server.specs.declared.listening.ListenError.TheVariants as listen
+use Rattle.relation_server.specs.declared.accept_loop.ListenError.{ListenError}
+use Rattle.relation_server.specs.declared.accept_loop.ListenError.TheVariants as listen
 use Rattle.relation_server.specs.Jobs.{HasConversed, IsLeftBehind}
 use Rattle.relation_server.specs.Listening.{Taking, HasEndedSo}
 

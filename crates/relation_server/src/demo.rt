@@ -9,7 +9,7 @@ ghost use Rattle.relation_server.specs.declared.outcome.Outcome.{Outcome};
 ghost use Rattle.relation_server.specs.Demo.{HasCounted, HasTold};
 ghost use Rattle.relation_server.specs.Program.{HasShown, counts, demo_lines, surroundings};
 
-use crate::job::serve_and_leave;
+use crate::connection_job::serve_and_leave;
 use crate::outcome::Outcome;
 use pg_cancel::{ConnectionHandle, ConnectionManager, Door, Note, RegisterError};
 use pg_messages::{PgBytes, PgList};

@@ -2,25 +2,25 @@
 //! job for a thread of its own, and the program.
 #![tactic(auto)]
 
-mod connection;
+mod accept_loop;
+mod connection_job;
 mod demo;
-mod job;
-mod listening;
+mod many_clients_program;
+mod one_client_program;
 mod outcome;
+mod registered_client;
 mod report;
-mod running;
-mod serving_many;
 mod spawner;
 
-pub use connection::serve_relations;
-pub use job::ConnectionJob;
-pub use listening::{ListenError, listen};
+pub use accept_loop::{ListenError, listen};
+pub use connection_job::ConnectionJob;
+pub use many_clients_program::run_listen;
+pub use one_client_program::run;
+pub use registered_client::serve_relations;
 pub use relation_files::{FileError, LineReason, read_relations};
 pub use relation_serving::{
     Relation, RelationHandler, RelationRows, RelationTable, TableError, built_in_table,
     serve_relations_on,
 };
 pub use relation_words::{ListenPlace, listen_place};
-pub use running::run;
-pub use serving_many::run_listen;
 pub use spawner::{JobThreads, StartJob, ThreadSpawner, Tries, jobs_cross_threads};

@@ -2,7 +2,7 @@
 
 ghost use Rattle.std.specs.Prelude.{◌≡◌};
 
-use crate::job::ConnectionJob;
+use crate::connection_job::ConnectionJob;
 use pg_cancel::ConnectionManager;
 use pg_serve::{MaybeTls, SpawnFailed, Spawner};
 use relation_handlers::RelationTable;

@@ -9,7 +9,7 @@ use Rattle.pg_serve.specs.Serving.{EndsAtLast}
 use Rattle.pg_serve.specs.Desk.{desk_calls}
 use Rattle.relation_serving.specs.Serving.{WentByTables}
 use Rattle.pg_serve.proofs.Calls.{calls_made}
-use Rattle.relation_server.proofs.connection.serve_relations.Goals as goal
+use Rattle.relation_server.proofs.registered_client.serve_relations.Goals as goal
 
 pub returns-clause-went : goal.returns-clause-went
 returns-clause-went g c =

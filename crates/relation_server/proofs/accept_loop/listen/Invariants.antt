@@ -1,7 +1,7 @@
 use Rattle.std.proofs.Common.{◌≡◌, ◌≤◌, ◌+◌, ◌-◌}
 use mathlib.Core.List.{IsPrefix}
 use Rattle.relation_server.specs.Listening.{HasRegistered, NeverFalls, taking_of}
-use Rattle.relation_server.proofs.listening.listen.Given as goal
+use Rattle.relation_server.proofs.accept_loop.listen.Given as goal
 
 -- one connection was taken in for each pid so far
 abbrev pub invariant-connections : goal.invariant-connections

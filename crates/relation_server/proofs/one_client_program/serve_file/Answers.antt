@@ -1,5 +1,5 @@
 use Rattle.relation_server.proofs.Registering.{file_served}
-use Rattle.relation_server.proofs.running.serve_file.Goals as goal
+use Rattle.relation_server.proofs.one_client_program.serve_file.Goals as goal
 
 pub returns-in-Ok-clause-served : goal.returns-in-Ok-clause-served
 returns-in-Ok-clause-served g c =

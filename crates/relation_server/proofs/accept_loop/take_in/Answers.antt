@@ -5,7 +5,7 @@ use Rattle.pg_cancel.specs.declared.entries.RegistryAnswer.TheVariants.{Register
 use Rattle.pg_cancel.specs.Connections.{Registers}
 use Rattle.relation_server.specs.Listening.{taking_of}
 use Rattle.relation_server.proofs.Taking.{admits, took_in}
-use Rattle.relation_server.proofs.listening.take_in.Goals as goal
+use Rattle.relation_server.proofs.accept_loop.take_in.Goals as goal
 
 pub returns-in-Ok-register-clause-taken : goal.returns-in-Ok-register-clause-taken
 returns-in-Ok-register-clause-taken g c =

@@ -10,8 +10,8 @@ ghost use Rattle.relation_server.specs.Outcomes.{status_of, line_of};
 ghost use Rattle.status_lines.specs.StatusLines.{IsReported};
 ghost use Rattle.relation_server.specs.Program.{HasListened, HasRunListening, listen_surroundings, outcome_of};
 
-use crate::job::ConnectionJob;
-use crate::listening::{ListenError, listen};
+use crate::accept_loop::{ListenError, listen};
+use crate::connection_job::ConnectionJob;
 use crate::outcome::Outcome;
 use crate::report::report;
 use pg_cancel::{ConnectionManager, Door};

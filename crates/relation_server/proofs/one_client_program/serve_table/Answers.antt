@@ -2,7 +2,7 @@ use Rattle.std.proofs.Common.{◌≡◌, ◌∙◌, Err, FitsSigned, w32, rules,
 use Rattle.std.proofs.lemmas.Int.{to_z-of_z}
 use Rattle.pg_cancel.specs.declared.manager.RegisterError.TheVariants as refusal
 use Rattle.relation_server.proofs.Registering.{was_taken}
-use Rattle.relation_server.proofs.running.serve_table.Goals as goal
+use Rattle.relation_server.proofs.one_client_program.serve_table.Goals as goal
 
 pub returns-in-Err-PidTaken-clause-served : goal.returns-in-Err-PidTaken-clause-served
 returns-in-Err-PidTaken-clause-served g c =

@@ -8,8 +8,8 @@ ghost use Rattle.relation_server.specs.Program.{HasRun, HasServed, HasServedFile
 ghost use Rattle.relation_server.specs.declared.outcome.Outcome.{Outcome};
 ghost use Rattle.relation_words.specs.Commands.{command_of};
 
+use crate::connection_job::serve_and_leave;
 use crate::demo::show_demo;
-use crate::job::serve_and_leave;
 use crate::outcome::Outcome;
 use crate::report::report;
 use pg_cancel::{ConnectionManager, Door, Note, RegisterError};

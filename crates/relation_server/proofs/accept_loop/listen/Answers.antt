@@ -3,7 +3,7 @@ use Rattle.std.proofs.lemmas.Result.{err_from_is_err_and}
 use Rattle.pg_cancel.proofs.Prefixes.{prefix_self, prefix_trans}
 use Rattle.relation_server.specs.Listening.{taking_of}
 use Rattle.relation_server.proofs.Taking.{exactly_refused, gives_up, none_registered, one_more, refused_never}
-use Rattle.relation_server.proofs.listening.listen.Goals as goal
+use Rattle.relation_server.proofs.accept_loop.listen.Goals as goal
 
 pub connections-init : goal.connections-init
 connections-init g c = record {

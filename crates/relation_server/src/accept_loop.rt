@@ -5,9 +5,9 @@ ghost use Rattle.std.specs.Arc.{arc_value};
 ghost use mathlib.Core.List.{IsPrefix};
 ghost use Rattle.relation_server.specs.Listening.{HasEndedSo, HasTakenIn, NeverFalls, IsRefusedAt, connections_of, taking_of};
 ghost use Rattle.pg_session.specs.Streams.{HasRisen, greatest_count};
-ghost use Rattle.relation_server.specs.declared.listening.ListenError.{ListenError};
+ghost use Rattle.relation_server.specs.declared.accept_loop.ListenError.{ListenError};
 
-use crate::job::ConnectionJob;
+use crate::connection_job::ConnectionJob;
 use pg_cancel::{ConnectionManager, Door, RegisterError};
 use pg_serve::{Acceptor, Job, KeySource, SpawnFailed, Spawner};
 use relation_handlers::RelationTable;
@@ -155,7 +155,7 @@ fn start<J: Job, P: Spawner<J>>(spawner: &mut P, job: J) -> Result<(), ListenErr
 
 impl From<AllocError> for ListenError {
     ghost use Rattle.std.specs.Prelude.{◌≡◌};
-    ghost use Rattle.relation_server.specs.declared.listening.ListenError.{ListenError};
+    ghost use Rattle.relation_server.specs.declared.accept_loop.ListenError.{ListenError};
 
     ghost from_gives = { λ _ error. error ≡ ListenError.NoMemory };
 

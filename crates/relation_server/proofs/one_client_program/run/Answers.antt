@@ -1,5 +1,5 @@
 use Rattle.relation_server.proofs.Completing.{reported_status, run_complete}
-use Rattle.relation_server.proofs.running.run.Goals as goal
+use Rattle.relation_server.proofs.one_client_program.run.Goals as goal
 
 pub returns-clause-complete : goal.returns-clause-complete
 returns-clause-complete g c =

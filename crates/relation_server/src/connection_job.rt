@@ -14,7 +14,7 @@ ghost use Rattle.relation_serving.specs.Completeness.{IsComplete};
 ghost use Rattle.relation_serving.specs.Serving.{WentByTables};
 ghost use Rattle.relation_server.specs.Jobs.{HasConversed, IsLeftBehind};
 
-use crate::connection::serve_relations;
+use crate::registered_client::serve_relations;
 use pg_cancel::{ConnectionHandle, ConnectionManager, Note};
 use pg_serve::Job;
 use pg_session::{EndKind, ServeError, Sink, Source};
