@@ -15,7 +15,7 @@ use Rattle.pg_messages.specs.declared.extendedquery.Execute.{Execute}
 use Rattle.pg_messages.specs.declared.frontend.PgWireFrontendMessage.{PgWireFrontendMessage}
 use Rattle.pg_messages.specs.declared.frontend.PgWireFrontendMessage.TheVariants as client
 use Rattle.pg_messages.specs.declared.backend.PgWireBackendMessage.TheVariants as server
-use Rattle.pg_messages.specs.Frames.{awaits_startup_after}
+use Rattle.pg_messages.specs.Frames.{awaits_startup_after, statement_target, portal_target}
 use Rattle.pg_text.specs.declared.format.interval_style.IntervalStyle.{IntervalStyle}
 use Rattle.pg_text.specs.Words.{interval_style_of}
 use Rattle.pg_portal.specs.declared.client.ClientInfo.{ClientInfo}
@@ -314,16 +314,17 @@ module _ (relations : List Relation) (within : HoldIntervals relations) (even : 
         let by_statement : Effect RelationStatement = described_statement told.extended s m.name (fin.get s.statements m.name) in
         let by_portal : Effect RelationStatement = described_portal told.extended s m.name (fin.get s.portals m.name) in
         let refused : Effect RelationStatement = refuses s (wire.InvalidTargetType m.target_type) in
-        either_effect IsText (m.target_type == 83) by_statement (if m.target_type == 80 then by_portal else refused)
+        either_effect IsText (m.target_type == statement_target) by_statement (if m.target_type == portal_target then by_portal
+        else refused)
         (statement_is m.name (fin.get s.statements m.name))
-        (either_effect IsText (m.target_type == 80) by_portal refused (portal_told_is m.name (fin.get s.portals m.name)) (tt, g))
+        (either_effect IsText (m.target_type == portal_target) by_portal refused (portal_told_is m.name (fin.get s.portals m.name)) (tt, g))
 
     close_is : (m : Close) → EffectIs IsText (on_close s m)
     close_is m = (
       (tt, tt),
-      either_good (m.target_type == 83) (without_statement s m.name)
-          (if m.target_type == 80 then without_portal s m.name else s) g
-          (either_good (m.target_type == 80) (without_portal s m.name) s (without_is m.name) g),
+      either_good (m.target_type == statement_target) (without_statement s m.name)
+          (if m.target_type == portal_target then without_portal s m.name else s) g
+          (either_good (m.target_type == portal_target) (without_portal s m.name) s (without_is m.name) g),
     )
 
     statement_row_is : (m : PgWireFrontendMessage) → Picks IsFormat m → EffectIs IsText (statement_row told.extended s m)

@@ -14,6 +14,7 @@ use Rattle.pg_messages.specs.declared.backend.PgWireBackendMessage.{PgWireBacken
 use Rattle.pg_messages.specs.declared.backend.PgWireBackendMessage.TheVariants as server
 use Rattle.pg_messages.specs.declared.codec.ProtocolVersion.{ProtocolVersion}
 use Rattle.pg_messages.specs.declared.codec.ProtocolVersion.TheVariants.{PROTOCOL3_0, PROTOCOL3_2}
+use Rattle.pg_messages.specs.Frames.{protocol_3_0, protocol_3_2}
 use Rattle.pg_text.specs.declared.format.interval_style.IntervalStyle.{IntervalStyle}
 use Rattle.pg_portal.specs.declared.error.PgWireError.TheVariants as wire
 use Rattle.pg_portal.specs.declared.portal.Format.{Format}
@@ -113,7 +114,7 @@ module _ (relations : List Relation) (within : HoldIntervals relations) (even : 
       (encryption_is messages kind (conversation table answers first messages).replies behind.0, behind.1)
   conversation_is answers (client.CancelRequest m ∷ messages) picked = cancel_is answers m messages
   conversation_is answers (client.Startup m ∷ messages) picked =
-      startup_is answers m messages (m.code == 196608) (m.code == 196610) picked.1
+      startup_is answers m messages (m.code == protocol_3_0) (m.code == protocol_3_2) picked.1
   conversation_is answers (m ∷ messages) picked = conversation_is answers messages picked.1
 
   -- ---- a message before the startup packet, and the startup packet, show nothing
@@ -138,7 +139,7 @@ module _ (relations : List Relation) (within : HoldIntervals relations) (even : 
   first_none style answers (client.SslNegotiation encryption.PostgresSsl) = (tt, tt)
   first_none style answers (client.SslNegotiation encryption.PostgresGss) = (tt, tt)
   first_none style answers (client.CancelRequest m) = cancel_none style answers m
-  first_none style answers (client.Startup m) = startup_none style m (m.code == 196608) (m.code == 196610)
+  first_none style answers (client.Startup m) = startup_none style m (m.code == protocol_3_0) (m.code == protocol_3_2)
   first_none style answers _ = tt
 
   message_is : (style : Option IntervalStyle) (answers : List Bool) (s : Talk) (m : PgWireFrontendMessage) → Picks IsFormat m

@@ -13,6 +13,7 @@ use Rattle.pg_messages.specs.declared.frontend.PgWireFrontendMessage.{PgWireFron
 use Rattle.pg_messages.specs.declared.frontend.PgWireFrontendMessage.TheVariants as client
 use Rattle.pg_messages.specs.declared.backend.PgWireBackendMessage.TheVariants as server
 use Rattle.pg_messages.specs.declared.codec.ProtocolVersion.TheVariants.{PROTOCOL3_0, PROTOCOL3_2}
+use Rattle.pg_messages.specs.Frames.{protocol_3_0, protocol_3_2, statement_target, portal_target}
 use Rattle.pg_portal.specs.declared.client.PgWireConnectionState.{PgWireConnectionState}
 use Rattle.pg_portal.specs.declared.client.PgWireConnectionState.TheVariants as phase
 use Rattle.pg_portal.specs.declared.error.PgWireError.{PgWireError}
@@ -139,8 +140,9 @@ module _ {S : Type 0} (h : Handlers S) (s : State S) (name : List ℕ) where
   startup_keeps R answers (client.CancelRequest m) = cancel_keeps R answers m
   startup_keeps R answers (client.Startup m) =
       let refused : Called S = silent (refuses s (wire.UserError (unsupported_version m.code))) in
-      either_called R (m.code == 196608) (accepts s PROTOCOL3_0 m) (if m.code == 196610 then accepts s PROTOCOL3_2 m else refused)
-      (stays R) (either_called R (m.code == 196610) (accepts s PROTOCOL3_2 m) refused (stays R) (stays R))
+      either_called R (m.code == protocol_3_0) (accepts s PROTOCOL3_0 m) (if m.code == protocol_3_2 then accepts s PROTOCOL3_2 m
+      else refused)
+      (stays R) (either_called R (m.code == protocol_3_2) (accepts s PROTOCOL3_2 m) refused (stays R) (stays R))
   startup_keeps R answers _ = stays R
 
   -- ---- Parse, Bind, Describe, Close
@@ -194,18 +196,22 @@ module _ {S : Type 0} (h : Handlers S) (s : State S) (name : List ℕ) where
       let by_statement : Effect S = described_statement h.extended s m.name (fin.get s.statements m.name) in
       let by_portal : Effect S = described_portal h.extended s m.name (fin.get s.portals m.name) in
       let refused : Effect S = refuses s (wire.InvalidTargetType m.target_type) in
-      either_keeps R (m.target_type == 83) by_statement (if m.target_type == 80 then by_portal else refused)
+      either_keeps R (m.target_type == statement_target) by_statement (if m.target_type == portal_target then by_portal else refused)
       (statement_keeps R m.name (fin.get s.statements m.name))
-      (either_keeps R (m.target_type == 80) by_portal refused (shown_keeps R m.name (fin.get s.portals m.name)) (stays R))
+      (either_keeps R (m.target_type == portal_target) by_portal refused (shown_keeps R m.name (fin.get s.portals m.name)) (stays R))
 
-  closed_keeps : (m : Close) (b : Bool) → (m.target_type == 80) ≡ b
+  closed_keeps : (m : Close) (b : Bool) → (m.target_type == portal_target) ≡ b
       → KeepsMap (Replaces h s name (client.Close m)) (if b then without_portal s m.name else s).portals
-  closed_keeps m true e = removed_keeps (Replaces h s name (client.Close m)) m.name (λ is. ((Decides-eqb m.target_type 80).0 e, is))
+  closed_keeps m true e = removed_keeps (Replaces h s name (client.Close m)) m.name (λ is. (
+    (Decides-eqb m.target_type portal_target).0 e,
+    is,
+  ))
   closed_keeps m false e = stays _
 
   close_keeps : (m : Close) → Keeps (Replaces h s name (client.Close m)) (on_close s m).outcome
-  close_keeps m = either_state _ (m.target_type == 83) (without_statement s m.name)
-      (if m.target_type == 80 then without_portal s m.name else s) (stays _) (closed_keeps m (m.target_type == 80) refl)
+  close_keeps m = either_state _ (m.target_type == statement_target) (without_statement s m.name)
+      (if m.target_type == portal_target then without_portal s m.name
+      else s) (stays _) (closed_keeps m (m.target_type == portal_target) refl)
 
   sync_keeps : (R : Type 0) → (name ≡ [] → R) → KeepsMap R (without_unnamed_portal s).portals
   sync_keeps R r = removed_keeps R [] (λ is. r (sym is))

@@ -13,6 +13,7 @@ use Rattle.pg_messages.specs.declared.backend.PgWireBackendMessage.{PgWireBacken
 use Rattle.pg_messages.specs.declared.backend.PgWireBackendMessage.TheVariants as server
 use Rattle.pg_messages.specs.declared.response.ErrorInfo.{ErrorInfo}
 use Rattle.pg_messages.specs.declared.response.TransactionStatus.{TransactionStatus}
+use Rattle.pg_messages.specs.Frames.{statement_target, portal_target}
 use Rattle.pg_portal.specs.declared.client.PgWireConnectionState.{PgWireConnectionState}
 use Rattle.pg_portal.specs.declared.client.PgWireConnectionState.TheVariants as phase
 use Rattle.pg_portal.specs.declared.error.PgWireError.{PgWireError}
@@ -132,9 +133,9 @@ module _ {S : Type 0} (h : Handlers S) (s : State S) where
       let by_statement : Effect S = described_statement h.extended s m.name (fin.get s.statements m.name) in
       let by_portal : Effect S = described_portal h.extended s m.name (fin.get s.portals m.name) in
       let refused : Effect S = refuses s (wire.InvalidTargetType m.target_type) in
-      either_quiet (m.target_type == 83) by_statement (if m.target_type == 80 then by_portal else refused)
+      either_quiet (m.target_type == statement_target) by_statement (if m.target_type == portal_target then by_portal else refused)
       (statement_quiet m.name (fin.get s.statements m.name))
-      (either_quiet (m.target_type == 80) by_portal refused (portal_quiet m.name (fin.get s.portals m.name)) refl)
+      (either_quiet (m.target_type == portal_target) by_portal refused (portal_quiet m.name (fin.get s.portals m.name)) refl)
 
   statement_row_quiet : (m : PgWireFrontendMessage) → IsQuiet (statement_row h.extended s m).replies
   statement_row_quiet (client.Parse m) = parsed_quiet m (prepared h.extended.parser s.info m)

@@ -7,6 +7,7 @@ use Rattle.pg_messages.specs.declared.extendedquery.Execute.{Execute}
 use Rattle.pg_messages.specs.declared.frontend.PgWireFrontendMessage.{PgWireFrontendMessage}
 use Rattle.pg_messages.specs.declared.frontend.PgWireFrontendMessage.TheVariants as client
 use Rattle.pg_messages.specs.declared.backend.PgWireBackendMessage.TheVariants as server
+use Rattle.pg_messages.specs.Frames.{portal_target}
 use Rattle.pg_portal.specs.declared.client.PgWireConnectionState.{PgWireConnectionState}
 use Rattle.pg_portal.specs.declared.client.PgWireConnectionState.TheVariants as phase
 use Rattle.pg_portal.specs.declared.error.PgWireError.{PgWireError}
@@ -115,7 +116,7 @@ EndsTransaction {S} h s m = (p : TablePortal S) × (tag : Tag) × (fin.get s.por
 -- a message that can put another portal in the place of that of a name, or remove it
 abbrev pub Replaces : {S : Type 0} → Handlers S → State S → List ℕ → PgWireFrontendMessage → Type 0
 Replaces h s name (client.Bind m) = m.portal_name ≡ name
-Replaces h s name (client.Close m) = (m.target_type ≡ 80) × (m.name ≡ name)
+Replaces h s name (client.Close m) = (m.target_type ≡ portal_target) × (m.name ≡ name)
 Replaces h s name (client.PgSync m) = name ≡ []
 Replaces h s name (client.Execute m) = (name ≡ []) × EndsTransaction h s m
 Replaces h s name _ = ⊥

@@ -5,7 +5,7 @@ use Rattle.std.proofs.Math.Facts.{to_z-of_z}
 use Rattle.pg_messages.specs.declared.frontend.PgWireFrontendMessage.{PgWireFrontendMessage}
 use Rattle.pg_messages.specs.declared.frontend.PgWireFrontendMessage.TheVariants as client
 use Rattle.pg_messages.specs.Fields.{string, count32}
-use Rattle.pg_messages.specs.Frames.{IsFrame, DividesInto, frame_bytes, awaits_startup_after}
+use Rattle.pg_messages.specs.Frames.{IsFrame, DividesInto, frame_bytes, awaits_startup_after, statement_target, portal_target}
 use Rattle.cursor_commands.specs.declared.command.CursorCommand.{CursorCommand}
 use Rattle.cursor_commands.specs.declared.command.CursorCommand.TheVariants.{Declare, Fetch, Close}
 use Rattle.cursor_commands.specs.Asking.{AppendsFrame, CanBeSent, parsing, binding, closing, describing, executing, sync}
@@ -75,13 +75,13 @@ synced before old new d e = joined before old new sync d (record { frame = 83 �
 pub declare_frames : (command : CursorCommand) (name relation name' relation' a b c d e f : List ℕ) → command ≡ Declare name relation
     → relation' ≡ relation
     → name' ≡ name → a ≡ [] → AppendsFrame a b (parsing relation') → AppendsFrame b c (binding name')
-    → AppendsFrame c d (closing 83 []) → e ≡ d
+    → AppendsFrame c d (closing statement_target []) → e ≡ d
     → f ≡ e ++ 83 ∷ 0 ∷ 0 ∷ 0 ∷ 4 ∷ [] → DividesInto false f (messages_of command) []
 declare_frames command name relation name' relation' a b c d e f is same_relation same_name none first second third same last =
     let one = joined [] a b (parsing relation') none first in
     let two = joined (parsing relation' ∷ []) b c (binding name') one second in
-    let three = joined (parsing relation' ∷ binding name' ∷ []) c d (closing 83 []) two third in
-    let four = synced (parsing relation' ∷ binding name' ∷ closing 83 [] ∷ []) d f three (last
+    let three = joined (parsing relation' ∷ binding name' ∷ []) c d (closing statement_target []) two third in
+    let four = synced (parsing relation' ∷ binding name' ∷ closing statement_target [] ∷ []) d f three (last
     ∙ ap (λ l. l ++ 83 ∷ 0 ∷ 0 ∷ 0 ∷ 4 ∷ []) same) in
     subst (λ k. DividesInto false f (messages_of k) []) (ap (λ n. Declare n relation') same_name
     ∙ (ap (λ r. Declare name r) same_relation ∙ sym is)) four
@@ -96,21 +96,23 @@ fitting command limit name is sent =
 
 pub fetch_frames : (command : CursorCommand) (limit limit' : ℤ) (name name' name'' a b c d e : List ℕ) → command ≡ Fetch limit name
     → limit' ≡ limit
-    → name' ≡ name → name'' ≡ name → a ≡ [] → AppendsFrame a b (describing 80 name') → AppendsFrame b c (executing name'' limit')
+    → name' ≡ name → name'' ≡ name → a ≡ [] → AppendsFrame a b (describing portal_target name') → AppendsFrame b c (executing name'' limit')
     → d ≡ c → e ≡ d ++ 83 ∷ 0 ∷ 0 ∷ 0 ∷ 4 ∷ []
     → DividesInto false e (messages_of command) []
 fetch_frames command limit limit' name name' name'' a b c d e is same_limit same_first same_second none first second same last =
-    let one = joined [] a b (describing 80 name') none first in
-    let two = joined (describing 80 name' ∷ []) b c (executing name'' limit') one second in
-    let three = synced (describing 80 name' ∷ executing name'' limit' ∷ []) c e two (last ∙ ap (λ l. l ++ 83 ∷ 0 ∷ 0 ∷ 0 ∷ 4 ∷ []) same) in
+    let one = joined [] a b (describing portal_target name') none first in
+    let two = joined (describing portal_target name' ∷ []) b c (executing name'' limit') one second in
+    let three = synced (describing portal_target name' ∷ executing name'' limit' ∷ []) c e two (last
+    ∙ ap (λ l. l ++ 83 ∷ 0 ∷ 0 ∷ 0 ∷ 4 ∷ []) same) in
     subst (λ k. DividesInto false e (messages_of k) []) (sym is)
-    (subst (λ n. DividesInto false e (describing 80 n ∷ executing name limit ∷ sync ∷ []) []) same_first
-    (subst (λ n. DividesInto false e (describing 80 name' ∷ executing n limit ∷ sync ∷ []) []) same_second
-    (subst (λ n. DividesInto false e (describing 80 name' ∷ executing name'' n ∷ sync ∷ []) []) same_limit three)))
+    (subst (λ n. DividesInto false e (describing portal_target n ∷ executing name limit ∷ sync ∷ []) []) same_first
+    (subst (λ n. DividesInto false e (describing portal_target name' ∷ executing n limit ∷ sync ∷ []) []) same_second
+    (subst (λ n. DividesInto false e (describing portal_target name' ∷ executing name'' n ∷ sync ∷ []) []) same_limit three)))
 
 pub close_frames : (command : CursorCommand) (name name' a b c d : List ℕ) → command ≡ Close name → name' ≡ name → a ≡ []
-    → AppendsFrame a b (closing 80 name') → c ≡ b → d ≡ c ++ 83 ∷ 0 ∷ 0 ∷ 0 ∷ 4 ∷ [] → DividesInto false d (messages_of command) []
+    → AppendsFrame a b (closing portal_target name') → c ≡ b → d ≡ c ++ 83 ∷ 0 ∷ 0 ∷ 0 ∷ 4 ∷ []
+    → DividesInto false d (messages_of command) []
 close_frames command name name' a b c d is same_name none first same last =
-    let one = joined [] a b (closing 80 name') none first in
-    let two = synced (closing 80 name' ∷ []) b d one (last ∙ ap (λ l. l ++ 83 ∷ 0 ∷ 0 ∷ 0 ∷ 4 ∷ []) same) in
+    let one = joined [] a b (closing portal_target name') none first in
+    let two = synced (closing portal_target name' ∷ []) b d one (last ∙ ap (λ l. l ++ 83 ∷ 0 ∷ 0 ∷ 0 ∷ 4 ∷ []) same) in
     subst (λ k. DividesInto false d (messages_of k) []) (ap (λ n. Close n) same_name ∙ sym is) two

@@ -5,6 +5,7 @@ use Rattle.std.specs.List.{list_any, flat_map, starts_with}
 use Rattle.pg_messages.specs.declared.frontend.PgWireFrontendMessage.{PgWireFrontendMessage}
 use Rattle.pg_messages.specs.declared.backend.PgWireBackendMessage.{PgWireBackendMessage}
 use Rattle.pg_messages.specs.declared.backend.PgWireBackendMessage.TheVariants as server
+use Rattle.pg_messages.specs.Frames.{statement_target, portal_target}
 use Rattle.pg_portal.specs.Tags.{spaced}
 use Rattle.cursor_commands.specs.declared.command.CursorCommand.{CursorCommand}
 use Rattle.cursor_commands.specs.declared.command.CursorCommand.TheVariants.{Declare, Fetch, Close}
@@ -25,9 +26,9 @@ fetched rows = done (codes "FETCH" ++ spaced rows)
 
 -- What a command asks of the session. DECLARE binds a portal to the unnamed statement, which then goes; FETCH and CLOSE are of that portal.
 abbrev pub messages_of : CursorCommand → List PgWireFrontendMessage
-messages_of (Declare name relation) = parsing relation ∷ binding name ∷ closing 83 [] ∷ sync ∷ []
-messages_of (Fetch limit name) = describing 80 name ∷ executing name limit ∷ sync ∷ []
-messages_of (Close name) = closing 80 name ∷ sync ∷ []
+messages_of (Declare name relation) = parsing relation ∷ binding name ∷ closing statement_target [] ∷ sync ∷ []
+messages_of (Fetch limit name) = describing portal_target name ∷ executing name limit ∷ sync ∷ []
+messages_of (Close name) = closing portal_target name ∷ sync ∷ []
 
 -- ---- its replies
 

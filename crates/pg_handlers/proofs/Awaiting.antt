@@ -13,7 +13,7 @@ use Rattle.pg_messages.specs.declared.frontend.PgWireFrontendMessage.{PgWireFron
 use Rattle.pg_messages.specs.declared.frontend.PgWireFrontendMessage.TheVariants as client
 use Rattle.pg_messages.specs.declared.backend.PgWireBackendMessage.TheVariants as server
 use Rattle.pg_messages.specs.declared.codec.ProtocolVersion.TheVariants.{PROTOCOL3_0, PROTOCOL3_2}
-use Rattle.pg_messages.specs.Frames.{awaits_startup_after}
+use Rattle.pg_messages.specs.Frames.{awaits_startup_after, protocol_3_0, protocol_3_2, statement_target, portal_target}
 use Rattle.pg_portal.specs.declared.client.PgWireConnectionState.{PgWireConnectionState}
 use Rattle.pg_portal.specs.declared.client.PgWireConnectionState.TheVariants as phase
 use Rattle.pg_portal.specs.declared.error.PgWireError.{PgWireError}
@@ -90,9 +90,10 @@ startup_keeps : {S : Type 0} (scope : Scope) (answers : List Bool) (s : State S)
 startup_keeps scope answers s (client.CancelRequest m) q = cancel_keeps scope answers m
 startup_keeps scope answers s (client.Startup m) q =
     let refused : Called _ = silent (refuses s (wire.UserError (unsupported_version m.code))) in
-    either_keeps scope false (m.code == 196608) (accepts s PROTOCOL3_0 m) (if m.code == 196610 then accepts s PROTOCOL3_2 m else refused)
+    either_keeps scope false (m.code == protocol_3_0) (accepts s PROTOCOL3_0 m) (if m.code == protocol_3_2 then accepts s PROTOCOL3_2 m
+    else refused)
     (goes_in _ false refl)
-    (either_keeps scope false (m.code == 196610) (accepts s PROTOCOL3_2 m) refused (goes_in _ false refl) (ends_in false end.Fatal))
+    (either_keeps scope false (m.code == protocol_3_2) (accepts s PROTOCOL3_2 m) refused (goes_in _ false refl) (ends_in false end.Fatal))
 startup_keeps scope answers s _ q = goes_in s true q
 
 -- ---- afterwards
@@ -171,14 +172,14 @@ module _ {S : Type 0} (h : Handlers S) (s : State S) (q : awaits s ≡ false) wh
       let by_statement : Effect S = described_statement h.extended s m.name (fin.get s.statements m.name) in
       let by_portal : Effect S = described_portal h.extended s m.name (fin.get s.portals m.name) in
       let refused : Effect S = refuses s (wire.InvalidTargetType m.target_type) in
-      either_starts (m.target_type == 83) by_statement (if m.target_type == 80 then by_portal else refused)
+      either_starts (m.target_type == statement_target) by_statement (if m.target_type == portal_target then by_portal else refused)
       (statement_starts m.name (fin.get s.statements m.name))
-      (either_starts (m.target_type == 80) by_portal refused (portal_starts m.name (fin.get s.portals m.name)) tt)
+      (either_starts (m.target_type == portal_target) by_portal refused (portal_starts m.name (fin.get s.portals m.name)) tt)
 
   close_starts : (m : Close) → HasStarted (on_close s m).outcome
-  close_starts m = either_awaits (m.target_type == 83) (without_statement s m.name)
-      (if m.target_type == 80 then without_portal s m.name else s) q
-      (either_awaits (m.target_type == 80) (without_portal s m.name) s q q)
+  close_starts m = either_awaits (m.target_type == statement_target) (without_statement s m.name)
+      (if m.target_type == portal_target then without_portal s m.name else s) q
+      (either_awaits (m.target_type == portal_target) (without_portal s m.name) s q q)
 
   statement_row_starts : (m : PgWireFrontendMessage) → HasStarted (statement_row h.extended s m).outcome
   statement_row_starts (client.Parse m) = parsed_starts m (prepared h.extended.parser s.info m)

@@ -4,6 +4,7 @@ use Rattle.std.specs.FinMap as fin
 use Rattle.std.specs.Option.{option_map}
 use Rattle.pg_messages.specs.declared.extendedquery.Describe.{Describe}
 use Rattle.pg_messages.specs.Replies.{replies_bytes}
+use Rattle.pg_messages.specs.Frames.{statement_target}
 use Rattle.pg_portal.specs.declared.store.Entry.{Entry}
 use Rattle.pg_portal.specs.declared.store.Entry.TheVariants as entry
 use Rattle.pg_portal.specs.Describing.{Described, no_data}
@@ -19,7 +20,7 @@ pub found_empty : {X Y : Type 0} (f : X → Y) (found : Option (Entry X)) (e : E
 found_empty f found e told h i j = sym h ∙ ap (λ o. option_map (entry_map f) o) (i ∙ ap Some j)
 
 pub empty_described : {S : Type 0} (h : ExtendedTold S) (s : State S) (m : Describe) (out new_out : List ℕ) (d : Described)
-    → m.target_type ≡ 83
+    → m.target_type ≡ statement_target
     → fin.get s.statements m.name ≡ Some entry.Empty → d ≡ no_data true → new_out ≡ out ++ replies_bytes (description d)
     → IsEffect (on_describe h s m) out new_out (Done s)
 empty_described h s m out new_out d i j k e = rw (i, j)

@@ -4,6 +4,7 @@ use Rattle.std.specs.Cmp.Lexicographic.{slice_cmp, nat_list_cmp_total}
 use Rattle.std.specs.Ordering.{nat_cmp, eq_by_cmp}
 use Rattle.std.specs.FinMap as fin
 use Rattle.pg_messages.specs.declared.extendedquery.Close.{Close}
+use Rattle.pg_messages.specs.Frames.{statement_target, portal_target}
 use Rattle.pg_portal.specs.Maps.{Maps, maps_without_statement, maps_without_portal}
 use Rattle.pg_portal.specs.Names.{NameMap}
 use Rattle.pg_portal.specs.declared.client.ClientInfo.{ClientInfo}
@@ -98,7 +99,8 @@ good_without_portal parser s name good = record {
 pub good_closed : {S : Type 0} (parser : ParserTold S) (info : ClientInfo) (old new : Maps S) (m : Close) → new ≡ maps_after_close old m
     → IsGoodState parser (state_in info old) → IsGoodState parser (state_in info new)
 good_closed {S} parser info old new m e good =
-    subst (λ maps. IsGoodState parser (state_in info maps)) (sym e) (by_byte (m.target_type == 83) (m.target_type == 80))
+    subst (λ maps. IsGoodState parser (state_in info maps)) (sym e)
+    (by_byte (m.target_type == statement_target) (m.target_type == portal_target))
   where
     by_byte : (is_statement is_portal : Bool)
         → IsGoodState parser (state_in info (if is_statement then maps_without_statement old m.name

@@ -9,6 +9,7 @@ use Rattle.pg_messages.specs.declared.frontend.PgWireFrontendMessage.{PgWireFron
 use Rattle.pg_messages.specs.declared.frontend.PgWireFrontendMessage.TheVariants as client
 use Rattle.pg_messages.specs.declared.backend.PgWireBackendMessage.TheVariants as server
 use Rattle.pg_messages.specs.declared.codec.ProtocolVersion.TheVariants.{PROTOCOL3_0, PROTOCOL3_2}
+use Rattle.pg_messages.specs.Frames.{protocol_3_0, protocol_3_2}
 use Rattle.pg_portal.specs.declared.client.PgWireConnectionState.{PgWireConnectionState}
 use Rattle.pg_portal.specs.declared.client.PgWireConnectionState.TheVariants as phase
 use Rattle.pg_portal.specs.declared.error.PgWireError.TheVariants as wire
@@ -162,8 +163,9 @@ module _ {S : Type 0} (h : Handlers S) (answers more : List Bool) (s : State S) 
   startup_takes : (m : Startup) → TakesFront (startup_row answers s (client.Startup m)).calls answers
   startup_takes m =
       let refused : Called S = silent (refuses s (wire.UserError (unsupported_version m.code))) in
-      either_takes (m.code == 196608) (accepts s PROTOCOL3_0 m) (if m.code == 196610 then accepts s PROTOCOL3_2 m else refused) refl
-      (either_takes (m.code == 196610) (accepts s PROTOCOL3_2 m) refused refl refl)
+      either_takes (m.code == protocol_3_0) (accepts s PROTOCOL3_0 m) (if m.code == protocol_3_2 then accepts s PROTOCOL3_2 m
+      else refused) refl
+      (either_takes (m.code == protocol_3_2) (accepts s PROTOCOL3_2 m) refused refl refl)
 
   row_takes : (m : PgWireFrontendMessage) (x : PgWireConnectionState) → TakesFront (row h answers s m x).calls answers
   row_takes (client.CancelRequest m) phase.AwaitingStartup = cancel_takes m answers

@@ -7,6 +7,7 @@ use Rattle.pg_messages.specs.declared.extendedquery.Describe.{Describe}
 use Rattle.pg_messages.specs.declared.extendedquery.Close.{Close}
 use Rattle.pg_messages.specs.declared.backend.PgWireBackendMessage.{PgWireBackendMessage}
 use Rattle.pg_messages.specs.declared.backend.PgWireBackendMessage.TheVariants as server
+use Rattle.pg_messages.specs.Frames.{statement_target, portal_target}
 use Rattle.pg_portal.specs.declared.error.PgWireError.{PgWireError}
 use Rattle.pg_portal.specs.declared.error.PgWireError.TheVariants as wire
 use Rattle.pg_portal.specs.declared.client.PgWireConnectionState.TheVariants as phase
@@ -134,8 +135,8 @@ described_portal h s name (Some (entry.Value p)) = described s portal_descriptio
 -- Describe: `S` is a statement, `P` a portal.
 abbrev pub on_describe : {S : Type 0} → ExtendedTold S → State S → Describe → Effect S
 on_describe h s m =
-    if m.target_type == 83 then described_statement h s m.name (fin.get s.statements m.name)
-    else if m.target_type == 80 then described_portal h s m.name (fin.get s.portals m.name)
+    if m.target_type == statement_target then described_statement h s m.name (fin.get s.statements m.name)
+    else if m.target_type == portal_target then described_portal h s m.name (fin.get s.portals m.name)
     else refuses s (wire.InvalidTargetType m.target_type)
 
 -- ---- Close, Sync
@@ -143,12 +144,14 @@ on_describe h s m =
 -- Close: `S` removes a statement, `P` a portal; portals of a removed statement stay.
 abbrev pub on_close : {S : Type 0} → State S → Close → Effect S
 on_close s m = says (server.CloseComplete (record {}) ∷ [])
-    (if m.target_type == 83 then without_statement s m.name else if m.target_type == 80 then without_portal s m.name else s)
+    (if m.target_type == statement_target then without_statement s m.name
+    else if m.target_type == portal_target then without_portal s m.name else s)
 
 -- the statements and portals that a Close leaves
 abbrev pub maps_after_close : {S : Type 0} → Maps S → Close → Maps S
 maps_after_close maps m =
-    if m.target_type == 83 then maps_without_statement maps m.name else if m.target_type == 80 then maps_without_portal maps m.name
+    if m.target_type == statement_target then maps_without_statement maps m.name
+    else if m.target_type == portal_target then maps_without_portal maps m.name
     else maps
 
 -- Sync: the unnamed portal goes, and the client is told that the server is ready.

@@ -13,6 +13,7 @@ use Rattle.pg_messages.specs.declared.backend.PgWireBackendMessage.TheVariants a
 use Rattle.pg_messages.specs.declared.response.TransactionStatus.TheVariants as status
 use Rattle.pg_messages.specs.declared.codec.ProtocolVersion.{ProtocolVersion}
 use Rattle.pg_messages.specs.declared.codec.ProtocolVersion.TheVariants.{PROTOCOL3_0, PROTOCOL3_2}
+use Rattle.pg_messages.specs.Frames.{protocol_3_0, protocol_3_2}
 use Rattle.pg_portal.specs.declared.error.PgWireError.TheVariants as wire
 use Rattle.pg_portal.specs.declared.client.PgWireConnectionState.TheVariants as phase
 use Rattle.pg_portal.specs.Names.{NameMap}
@@ -55,8 +56,8 @@ accepts s version m = silent (says (startup_replies s.info.pid s.info.secret_key
 -- Startup: versions 3.0 and 3.2 are accepted, and every other is refused.
 abbrev pub on_startup : {S : Type 0} → State S → Startup → Called S
 on_startup s m =
-    if m.code == 196608 then accepts s PROTOCOL3_0 m
-    else if m.code == 196610 then accepts s PROTOCOL3_2 m
+    if m.code == protocol_3_0 then accepts s PROTOCOL3_0 m
+    else if m.code == protocol_3_2 then accepts s PROTOCOL3_2 m
     else silent (refuses s (wire.UserError (unsupported_version m.code)))
 
 -- No other message has a frame in this phase.

@@ -7,7 +7,7 @@ use Rattle.std.proofs.lemmas.Option.{same_Some, none-some}
 use Rattle.pg_messages.specs.declared.startup.SslNegotiationKind.TheVariants.{PostgresSsl, PostgresGss}
 use Rattle.pg_messages.specs.declared.frontend.PgWireFrontendMessage.{PgWireFrontendMessage}
 use Rattle.pg_messages.specs.declared.frontend.PgWireFrontendMessage.TheVariants as client
-use Rattle.pg_messages.specs.Frames.{Carries, type_bytes, IsParameter, cancel_body, IsCancel, query_body, IsQuery, parse_body, IsParse, bind_body, IsBind, describe_body, IsDescribe, execute_body, IsExecute, close_body, IsClose, copy_fail_body, IsCopyFail}
+use Rattle.pg_messages.specs.Frames.{Carries, type_bytes, IsParameter, cancel_body, IsCancel, query_body, IsQuery, parse_body, IsParse, bind_body, IsBind, describe_body, IsDescribe, execute_body, IsExecute, close_body, IsClose, copy_fail_body, IsCopyFail, protocol_3_0, protocol_3_2}
 use Rattle.pg_messages.specs.Reading.{whole, told_as, bare, beside, startup_packet, startup_readings, typed_readings, message_at, all_parameters_at, cancel_at, query_at, parse_at, bind_at, describe_at, execute_at, close_at, copy_fail_at}
 use Rattle.pg_messages.proofs.Laws.{IsBytes, Reads, bind_some, whole_takes, whole_again}
 use Rattle.pg_messages.proofs.FieldLaws.{chosen, eqb-apart, parameters_bytes, Reads-parameters}
@@ -32,12 +32,12 @@ startup_read code body (client.Startup m) h =
           let at : (k : ℕ) → k ≡ m.code → message_at true k body ≡ Some (startup_packet k m.parameters)
           → message_at true code body ≡ Some (client.Startup m) =
           λ k e p. ap (λ (n : ℕ). message_at true n body) (h.0 ∙ sym e) ∙ p ∙ ap (λ (n : ℕ). Some (startup_packet n m.parameters)) e in
-          elim s.code [ inl e ↦ at 196608 (sym e) (read 196608) | inr e ↦ at 196610 (sym e) (read 196610) ]
+          elim s.code [ inl e ↦ at protocol_3_0 (sym e) (read protocol_3_0) | inr e ↦ at protocol_3_2 (sym e) (read protocol_3_2) ]
       | inr u ↦
           let other : (k : ℕ) → m.code ≢ k → eqb code k ≡ false = λ k apart. eqb-apart code k (λ e. apart (sym h.0 ∙ e)) in
           rw (
-            other 196608 u.unknown.0,
-            other 196610 u.unknown.1.0,
+            other protocol_3_0 u.unknown.0,
+            other protocol_3_2 u.unknown.1.0,
             other 80877102 u.unknown.1.1.0,
             other 80877103 u.unknown.1.1.1.0,
             other 80877104 u.unknown.1.1.1.1.0,
@@ -124,15 +124,15 @@ startup_carried : (code : ℕ) (body : List ℕ) (m : PgWireFrontendMessage) →
 unfolding message_at
 startup_carried code body m small fits e =
     let C : ℕ → PgWireFrontendMessage → Type 0 = λ k n. Carries true k body n in
-    let packet : (k : ℕ) → (k ≡ 196608) ⊎ (k ≡ 196610) → (n : PgWireFrontendMessage)
+    let packet : (k : ℕ) → (k ≡ protocol_3_0) ⊎ (k ≡ protocol_3_2) → (n : PgWireFrontendMessage)
     → told_as (startup_packet k) (whole (all_parameters_at body)) ≡ Some n → C k n =
     λ k spoken. told_takes (λ ps. AllByRecursion IsParameter ps) parameters_bytes all_parameters_at Reads-parameters (startup_packet k)
     (C k) body fits
     (λ ps layout good. (refl, inl (record { code = spoken; layout = layout; parameters = good }))) in
     elim (found_beside C code (Some (startup_packet code [])) (startup_readings body) m e (
-      packet 196608 (inl refl),
+      packet protocol_3_0 (inl refl),
       (
-        packet 196610 (inr refl),
+        packet protocol_3_2 (inr refl),
         (
           told_takes IsCancel cancel_body cancel_at Reads-cancel client.CancelRequest (C 80877102) body fits (λ x layout good. (
             refl,

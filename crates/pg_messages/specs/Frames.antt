@@ -21,6 +21,22 @@ use Rattle.pg_messages.specs.declared.copy.CopyFail.{CopyFail}
 use Rattle.pg_messages.specs.declared.frontend.PgWireFrontendMessage.{PgWireFrontendMessage}
 use Rattle.pg_messages.specs.declared.frontend.PgWireFrontendMessage.TheVariants as client
 
+-- the code of a startup packet of version 3.0: the major version in the upper sixteen bits, the minor in the lower
+abbrev pub protocol_3_0 : ℕ
+protocol_3_0 = 196608
+
+-- the code of a startup packet of version 3.2
+abbrev pub protocol_3_2 : ℕ
+protocol_3_2 = 196610
+
+-- the byte `S`, by which a Describe or a Close names a prepared statement
+abbrev pub statement_target : ℕ
+statement_target = 83
+
+-- the byte `P`, by which a Describe or a Close names a portal
+abbrev pub portal_target : ℕ
+portal_target = 80
+
 -- Startup, behind the code: pairs of Strings, and a zero byte.
 abbrev pub startup_body : Startup → List ℕ
 startup_body m = flat_map (λ pair. string pair.0 ++ string pair.1) m.parameters ++ 0 ∷ []
@@ -33,13 +49,13 @@ pub record IsParameter (pair : List ℕ × List ℕ) : Type 0 where
 
 -- A packet of a version that is spoken, 3.0 or 3.2, has this layout.
 pub record IsSpoken (body : List ℕ) (m : Startup) : Type 0 where
-  pub code : (m.code ≡ 196608) ⊎ (m.code ≡ 196610)
+  pub code : (m.code ≡ protocol_3_0) ⊎ (m.code ≡ protocol_3_2)
   pub layout : body ≡ startup_body m
   pub parameters : AllByRecursion IsParameter m.parameters
 
 -- the codes that say what the body is: the two versions, CancelRequest, SSLRequest and GSSENCRequest
 abbrev pub known_codes : List ℕ
-known_codes = 196608 ∷ 196610 ∷ 80877102 ∷ 80877103 ∷ 80877104 ∷ []
+known_codes = protocol_3_0 ∷ protocol_3_2 ∷ 80877102 ∷ 80877103 ∷ 80877104 ∷ []
 
 -- Any other code is a version that isn't spoken, and the body isn't looked at.
 pub record IsUnspoken (m : Startup) : Type 0 where
@@ -184,7 +200,7 @@ awaits_startup_after _ awaiting = awaiting
 
 -- the version that a startup packet's code asks for, where it is one that is spoken
 abbrev pub protocol_of : ℕ → ProtocolVersion → ProtocolVersion
-protocol_of code before = if code == 196608 then PROTOCOL3_0 else (if code == 196610 then PROTOCOL3_2 else before)
+protocol_of code before = if code == protocol_3_0 then PROTOCOL3_0 else (if code == protocol_3_2 then PROTOCOL3_2 else before)
 
 -- what the reading of frames depends on after a message
 abbrev pub context_after : PgWireFrontendMessage → DecodeContext → DecodeContext

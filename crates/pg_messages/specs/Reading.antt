@@ -18,6 +18,7 @@ use Rattle.pg_messages.specs.declared.copy.CopyFail.{CopyFail}
 use Rattle.pg_messages.specs.declared.startup.SslNegotiationKind.TheVariants.{PostgresSsl, PostgresGss}
 use Rattle.pg_messages.specs.declared.frontend.PgWireFrontendMessage.{PgWireFrontendMessage}
 use Rattle.pg_messages.specs.declared.frontend.PgWireFrontendMessage.TheVariants as client
+use Rattle.pg_messages.specs.Frames.{protocol_3_0, protocol_3_2}
 
 -- What a call returned, seen by view, is what reading gives, unless memory ran out.
 abbrev pub Gives : {X Y : Type 0} → (X → Y) → Result X FrameError → Option Y → Type 0
@@ -164,8 +165,8 @@ abbrev pub startup_packet : ℕ → List (List ℕ × List ℕ) → PgWireFronte
 startup_packet code parameters = client.Startup (record { code = code; parameters = parameters })
 
 abbrev pub startup_readings : List ℕ → List (ℕ × Option PgWireFrontendMessage)
-startup_readings body = (196608, told_as (startup_packet 196608) (whole (all_parameters_at body)))
-    ∷ (196610, told_as (startup_packet 196610) (whole (all_parameters_at body)))
+startup_readings body = (protocol_3_0, told_as (startup_packet protocol_3_0) (whole (all_parameters_at body)))
+    ∷ (protocol_3_2, told_as (startup_packet protocol_3_2) (whole (all_parameters_at body)))
     ∷ (80877102, told_as client.CancelRequest (whole (cancel_at body)))
     ∷ (80877103, bare body (client.SslNegotiation PostgresSsl))
     ∷ (80877104, bare body (client.SslNegotiation PostgresGss)) ∷ []

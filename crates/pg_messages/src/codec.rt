@@ -12,6 +12,7 @@ use crate::copy::CopyData;
 use crate::data::DataRow;
 use crate::frames::first_frame;
 use crate::frontend::PgWireFrontendMessage;
+use crate::startup::{PROTOCOL_3_0, PROTOCOL_3_2};
 use bytes::BytesMut;
 use std::alloc::{AllocError, Global};
 
@@ -212,8 +213,8 @@ fn after(message: &PgWireFrontendMessage, context: DecodeContext) -> DecodeConte
         return context;
     };
     let protocol = match startup.code {
-        196608 => ProtocolVersion::PROTOCOL3_0,
-        196610 => ProtocolVersion::PROTOCOL3_2,
+        PROTOCOL_3_0 => ProtocolVersion::PROTOCOL3_0,
+        PROTOCOL_3_2 => ProtocolVersion::PROTOCOL3_2,
         _ => context.protocol,
     };
     DecodeContext {

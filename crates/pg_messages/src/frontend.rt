@@ -9,7 +9,9 @@ use crate::copy::{CopyData, CopyDone, CopyFail};
 use crate::extendedquery::{Bind, Close, Describe, Execute, Flush, Parse, PgSync};
 use crate::fields::whole;
 use crate::simplequery::Query;
-use crate::startup::{CancelRequest, SslNegotiationKind, Startup, Terminate};
+use crate::startup::{
+    CancelRequest, PROTOCOL_3_0, PROTOCOL_3_2, SslNegotiationKind, Startup, Terminate,
+};
 use crate::values::{PgBytes, PgList};
 use std::alloc::Global;
 
@@ -63,7 +65,7 @@ pub fn startup_message(
     ensures { Gives (λ m. m) result (message_at true code body.now) }
 {
     match code {
-        196608 | 196610 => {
+        PROTOCOL_3_0 | PROTOCOL_3_2 => {
             let parameters = whole(alloc, body)?;
             Ok(PgWireFrontendMessage::Startup(Startup { code, parameters }))
         }

@@ -41,8 +41,8 @@ pub use response::{
 };
 pub use simplequery::Query;
 pub use startup::{
-    AuthenticationOk, BackendKeyData, CancelRequest, ParameterStatus, SslNegotiationKind, Startup,
-    Terminate,
+    AuthenticationOk, BackendKeyData, CancelRequest, PROTOCOL_3_0, PROTOCOL_3_2, ParameterStatus,
+    SslNegotiationKind, Startup, Terminate,
 };
 pub use values::{PgBytes, PgList, PgStr};
 

@@ -8,6 +8,12 @@ use crate::fields::Field;
 use crate::values::{PgList, PgStr};
 use std::alloc::Global;
 
+/// The code of protocol version 3.0.
+pub const PROTOCOL_3_0: u32 = 196608;
+
+/// The code of protocol version 3.2.
+pub const PROTOCOL_3_2: u32 = 196610;
+
 /// The first packet of a session. Protocol, "Message Formats", StartupMessage: Int32 length, which
 /// counts itself, Int32 version, pairs of Strings (name, value), and a zero byte. The packet of a
 /// version that isn't spoken, which is neither 196608 nor 196610, carries its code alone: what

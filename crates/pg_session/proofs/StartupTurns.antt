@@ -4,6 +4,7 @@ use Rattle.std.proofs.Math.Seq.{drop-append_seam}
 use Rattle.pg_messages.specs.declared.frontend.PgWireFrontendMessage.{PgWireFrontendMessage}
 use Rattle.pg_messages.specs.declared.frontend.PgWireFrontendMessage.TheVariants as client
 use Rattle.pg_messages.specs.declared.codec.ProtocolVersion.TheVariants.{PROTOCOL3_0, PROTOCOL3_2}
+use Rattle.pg_messages.specs.Frames.{protocol_3_0, protocol_3_2}
 use Rattle.pg_portal.specs.declared.error.PgWireError.TheVariants as wire
 use Rattle.pg_handlers.specs.declared.desk.DeskCall.{DeskCall}
 use Rattle.pg_handlers.specs.declared.desk.DeskCall.TheVariants as desk
@@ -28,9 +29,10 @@ startup_asks_nothing : {S : Type 0} (answers : List Bool) (s : State S) (m : PgW
 startup_asks_nothing [] s (client.CancelRequest m) = refl
 startup_asks_nothing (told ∷ answers) s (client.CancelRequest m) = refl
 startup_asks_nothing answers s (client.Startup m) =
-    asks_either (m.code == 196608) (accepts s PROTOCOL3_0 m)
-    (cond (m.code == 196610) (accepts s PROTOCOL3_2 m) (silent (refuses s (wire.UserError (unsupported_version m.code))))) refl
-    (asks_either (m.code == 196610) (accepts s PROTOCOL3_2 m) (silent (refuses s (wire.UserError (unsupported_version m.code)))) refl refl)
+    asks_either (m.code == protocol_3_0) (accepts s PROTOCOL3_0 m)
+    (cond (m.code == protocol_3_2) (accepts s PROTOCOL3_2 m) (silent (refuses s (wire.UserError (unsupported_version m.code))))) refl
+    (asks_either (m.code == protocol_3_2) (accepts s PROTOCOL3_2 m) (silent (refuses s (wire.UserError (unsupported_version m.code)))) refl
+    refl)
 startup_asks_nothing answers s _ = refl
 
 questions_front : (made rest : List DeskCall) → questions made ≤ questions (made ++ rest)

@@ -24,18 +24,12 @@ ghost use Rattle.pg_session.specs.Messages.{outcome_of};
 
 use pg_handlers::{CancelDesk, Client, EndKind, Outbox, SessionError, send_ready_for_query};
 use pg_messages::{
-    AuthenticationOk, BackendKeyData, CancelRequest, ErrorInfo, GssEncResponse, ParameterStatus,
-    PgStr, PgWireBackendMessage, PgWireFrontendMessage, ProtocolVersion, SslNegotiationKind,
-    SslResponse, Startup, TransactionStatus,
+    AuthenticationOk, BackendKeyData, CancelRequest, ErrorInfo, GssEncResponse, PROTOCOL_3_0,
+    PROTOCOL_3_2, ParameterStatus, PgStr, PgWireBackendMessage, PgWireFrontendMessage,
+    ProtocolVersion, SslNegotiationKind, SslResponse, Startup, TransactionStatus,
 };
 use pg_portal::{Metadata, PgWireConnectionState, PgWireError, PortalStore};
 use std::alloc::{AllocError, Global};
-
-/// The code of protocol version 3.0.
-const PROTOCOL_3_0: u32 = 196608;
-
-/// The code of protocol version 3.2.
-const PROTOCOL_3_2: u32 = 196610;
 
 /// A message while the startup packet is awaited.
 pub(crate) fn on_startup_phase<St: PortalStore, D: CancelDesk>(

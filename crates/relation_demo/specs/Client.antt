@@ -5,12 +5,12 @@ use Rattle.pg_messages.specs.declared.startup.Startup.{Startup}
 use Rattle.pg_messages.specs.declared.extendedquery.Parse.{Parse}
 use Rattle.pg_messages.specs.declared.extendedquery.Bind.{Bind}
 use Rattle.pg_messages.specs.declared.extendedquery.Execute.{Execute}
-use Rattle.pg_messages.specs.Frames.{frame_bytes, startup_body, parse_body, bind_body, execute_body}
+use Rattle.pg_messages.specs.Frames.{frame_bytes, startup_body, parse_body, bind_body, execute_body, protocol_3_0}
 use Rattle.relation_demo.specs.Load.{relation_name}
 
 -- version 3.0, for the user `demo`
 abbrev pub startup : Startup
-startup = record { code = 196608; parameters = (codes "user", codes "demo") ∷ [] }
+startup = record { code = protocol_3_0; parameters = (codes "user", codes "demo") ∷ [] }
 
 -- the unnamed statement of relation i
 abbrev pub parse : ℕ → Parse
@@ -37,5 +37,5 @@ asking i = frame_bytes false 80 (parse_body (parse i)) ++ frame_bytes false 66 (
 
 -- Demo client: the startup packet, the queries of so many relations in their order, and Terminate.
 unfoldable pub demo_client : ℕ → List ℕ
-demo_client count = frame_bytes true 196608 (startup_body startup) ++ flat_map asking (range_with_len 0 count)
+demo_client count = frame_bytes true protocol_3_0 (startup_body startup) ++ flat_map asking (range_with_len 0 count)
     ++ frame_bytes false 88 []

@@ -44,6 +44,7 @@ use Rattle.pg_handlers.specs.ExecuteRow.{at_stage, page_effect, fetched, execute
 use Rattle.pg_handlers.specs.ExtendedRows.{bind_complete, parsed, bound_portal, bound, described_statement, described_portal}
 use Rattle.pg_handlers.specs.Handlers.{Handlers}
 use Rattle.pg_messages.specs.declared.backend.PgWireBackendMessage.TheVariants as server
+use Rattle.pg_messages.specs.Frames.{protocol_3_0, protocol_3_2, statement_target, portal_target}
 use Rattle.pg_handlers.specs.Replies.{Replies, error_reply, ready, row_description, row_replies, done_with}
 use Rattle.pg_handlers.specs.ResponseRows.{sent, unless_error, copy_out_reply, copy_replies, copy_count, copy_end, not_empty}
 use Rattle.pg_handlers.specs.SimpleRows.{followed, answered, query_polled, query_run}
@@ -161,16 +162,17 @@ module _ (relations : List Relation) (answers : List Bool) (s : Talk) (g : IsSer
 
   -- ---- each cause
 
-  version_refused : (m : Startup) → (m.code ≢ 196608) → (m.code ≢ 196610) → (a b : Bool) → (m.code == 196608) ≡ a → (m.code == 196610) ≡ b
+  version_refused : (m : Startup) → (m.code ≢ protocol_3_0) → (m.code ≢ protocol_3_2) → (a b : Bool) → (m.code == protocol_3_0) ≡ a
+      → (m.code == protocol_3_2) ≡ b
       → Refused kind.Version (if a then accepts s PROTOCOL3_0 m else if b then accepts s PROTOCOL3_2 m
       else silent (refuses s (wire.UserError (unsupported_version m.code)))).effect.outcome
-  version_refused m not_first never true b e f = absurd (not_first (agree m.code 196608 e))
-  version_refused m not_first never false true e f = absurd (never (agree m.code 196610 f))
+  version_refused m not_first never true b e f = absurd (not_first (agree m.code protocol_3_0 e))
+  version_refused m not_first never false true e f = absurd (never (agree m.code protocol_3_2 f))
   version_refused m not_first never false false e f = (s, _, refl, known _ _ refl)
 
   other_version : (m : PgWireFrontendMessage) → IsOtherVersion m
       → Refused kind.Version (row told answers s m phase.AwaitingStartup).effect.outcome
-  other_version (client.Startup m) h = version_refused m h.0 h.1 (m.code == 196608) (m.code == 196610) refl refl
+  other_version (client.Startup m) h = version_refused m h.0 h.1 (m.code == protocol_3_0) (m.code == protocol_3_2) refl refl
   other_version _ h = absurd h
 
   no_statement : (m : PgWireFrontendMessage) → LacksStatement s m → Refused kind.Statement (ready_row told answers s m).effect.outcome
@@ -184,8 +186,8 @@ module _ (relations : List Relation) (answers : List Bool) (s : Talk) (g : IsSer
     s,
     wire.StatementNotFound m.name,
     ap (λ a. (if a then described_statement told.extended s m.name (fin.get s.statements m.name)
-        else if m.target_type == 80 then described_portal told.extended s m.name (fin.get s.portals m.name)
-        else refuses s (wire.InvalidTargetType m.target_type)).outcome) (ap (λ n. n == 83) lacks.0)
+        else if m.target_type == portal_target then described_portal told.extended s m.name (fin.get s.portals m.name)
+        else refuses s (wire.InvalidTargetType m.target_type)).outcome) (ap (λ n. n == statement_target) lacks.0)
         ∙ ap (λ x. (described_statement told.extended s m.name x).outcome) lacks.1,
     known _ _ refl,
   )
@@ -202,26 +204,27 @@ module _ (relations : List Relation) (answers : List Bool) (s : Talk) (g : IsSer
     s,
     wire.PortalNotFound m.name,
     ap (λ a. (if a then described_statement told.extended s m.name (fin.get s.statements m.name)
-        else if m.target_type == 80 then described_portal told.extended s m.name (fin.get s.portals m.name)
-        else refuses s (wire.InvalidTargetType m.target_type)).outcome) (ap (λ n. n == 83) lacks.0)
+        else if m.target_type == portal_target then described_portal told.extended s m.name (fin.get s.portals m.name)
+        else refuses s (wire.InvalidTargetType m.target_type)).outcome) (ap (λ n. n == statement_target) lacks.0)
         ∙ ap (λ a. (if a then described_portal told.extended s m.name (fin.get s.portals m.name)
-        else refuses s (wire.InvalidTargetType m.target_type)).outcome) (ap (λ n. n == 80) lacks.0)
+        else refuses s (wire.InvalidTargetType m.target_type)).outcome) (ap (λ n. n == portal_target) lacks.0)
         ∙ ap (λ x. (described_portal told.extended s m.name x).outcome) lacks.1,
     known _ _ refl,
   )
   no_portal _ lacks = absurd lacks
 
-  neither : (m : Describe) → (m.target_type ≢ 83) → (m.target_type ≢ 80) → (a b : Bool) → (m.target_type == 83) ≡ a
-      → (m.target_type == 80) ≡ b
+  neither : (m : Describe) → (m.target_type ≢ statement_target) → (m.target_type ≢ portal_target) → (a b : Bool)
+      → (m.target_type == statement_target) ≡ a
+      → (m.target_type == portal_target) ≡ b
       → Refused kind.Protocol (if a then described_statement told.extended s m.name (fin.get s.statements m.name)
       else if b then described_portal told.extended s m.name (fin.get s.portals m.name)
       else refuses s (wire.InvalidTargetType m.target_type)).outcome
-  neither m not_first never true b e f = absurd (not_first (agree m.target_type 83 e))
-  neither m not_first never false true e f = absurd (never (agree m.target_type 80 f))
+  neither m not_first never true b e f = absurd (not_first (agree m.target_type statement_target e))
+  neither m not_first never false true e f = absurd (never (agree m.target_type portal_target f))
   neither m not_first never false false e f = (s, _, refl, known _ _ refl)
 
   described_neither : (m : PgWireFrontendMessage) → DescribesNeither m → Refused kind.Protocol (ready_row told answers s m).effect.outcome
-  described_neither (client.Describe m) h = neither m h.0 h.1 (m.target_type == 83) (m.target_type == 80) refl refl
+  described_neither (client.Describe m) h = neither m h.0 h.1 (m.target_type == statement_target) (m.target_type == portal_target) refl refl
   described_neither _ h = absurd h
 
   values_given : (m : PgWireFrontendMessage) → GivesValuesToEmpty s m → Refused kind.Protocol (ready_row told answers s m).effect.outcome

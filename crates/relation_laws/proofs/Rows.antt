@@ -24,6 +24,7 @@ use Rattle.pg_messages.specs.declared.codec.ProtocolVersion.TheVariants.{PROTOCO
 use Rattle.pg_messages.specs.declared.frontend.PgWireFrontendMessage.{PgWireFrontendMessage}
 use Rattle.pg_messages.specs.declared.frontend.PgWireFrontendMessage.TheVariants as client
 use Rattle.pg_messages.specs.declared.backend.PgWireBackendMessage.TheVariants as server
+use Rattle.pg_messages.specs.Frames.{protocol_3_0, protocol_3_2, statement_target, portal_target}
 use Rattle.pg_text.specs.Words.{interval_style_of}
 use Rattle.pg_portal.specs.declared.client.PgWireConnectionState.{PgWireConnectionState}
 use Rattle.pg_portal.specs.declared.client.PgWireConnectionState.TheVariants as phase
@@ -236,13 +237,13 @@ module _ (relations : List Relation) (answers : List Bool) (s : Talk) (g : IsSer
       none_asked (Done (started_session s version m)),
     )
 
-    version_is : (m : Startup) (a b : Bool) → (m.code == 196608) ≡ a → (m.code == 196610) ≡ b
+    version_is : (m : Startup) (a b : Bool) → (m.code == protocol_3_0) ≡ a → (m.code == protocol_3_2) ≡ b
         → CalledIs (client.Startup m) (if a then accepts s PROTOCOL3_0 m else if b then accepts s PROTOCOL3_2 m
         else silent (refuses s (wire.UserError (unsupported_version m.code))))
     version_is m true b e f = accepts_is m PROTOCOL3_0
     version_is m false true e f = accepts_is m PROTOCOL3_2
     version_is m false false e f = refused (client.Startup m) (wire.UserError (unsupported_version m.code)) kind.Version
-        (q, (differ m.code 196608 e, differ m.code 196610 f))
+        (q, (differ m.code protocol_3_0 e, differ m.code protocol_3_2 f))
         (known _ _ refl)
 
     cancel_is : (given : List Bool) (m : CancelRequest) → CalledIs (client.CancelRequest m) (on_cancel_request given m)
@@ -260,7 +261,7 @@ module _ (relations : List Relation) (answers : List Bool) (s : Talk) (g : IsSer
     startup_is : (m : PgWireFrontendMessage) → CalledIs m (startup_row answers s m)
     startup_is (client.SslNegotiation x) = stays (client.SslNegotiation x) (no_encryption x ∷ []) (encryption_quiet x)
     startup_is (client.CancelRequest m) = cancel_is answers m
-    startup_is (client.Startup m) = version_is m (m.code == 196608) (m.code == 196610) refl refl
+    startup_is (client.Startup m) = version_is m (m.code == protocol_3_0) (m.code == protocol_3_2) refl refl
     startup_is m = stays m [] refl
 
   -- ---- behind an error, and in COPY
@@ -391,7 +392,7 @@ module _ (relations : List Relation) (answers : List Bool) (s : Talk) (g : IsSer
 
     -- ---- Describe, Close
 
-    statement_is : (m : Describe) → m.target_type ≡ 83 → (x : Option (Entry (StoredStatement RelationStatement)))
+    statement_is : (m : Describe) → m.target_type ≡ statement_target → (x : Option (Entry (StoredStatement RelationStatement)))
         → fin.get s.statements m.name ≡ x
         → EffectIs [] (client.Describe m) (described_statement told.extended s m.name x)
     statement_is m t None e = refused (client.Describe m) (wire.StatementNotFound m.name) kind.Statement (q, (t, e))
@@ -401,7 +402,8 @@ module _ (relations : List Relation) (answers : List Bool) (s : Talk) (g : IsSer
         stays (client.Describe m) (statement_description (statement_described relations x))
         (statement_quiet (statement_described relations x))
 
-    portal_is : (m : Describe) → m.target_type ≡ 80 → (x : Option (Entry (TablePortal RelationStatement))) → fin.get s.portals m.name ≡ x
+    portal_is : (m : Describe) → m.target_type ≡ portal_target → (x : Option (Entry (TablePortal RelationStatement)))
+        → fin.get s.portals m.name ≡ x
         → EffectIs [] (client.Describe m) (described_portal told.extended s m.name x)
     portal_is m t None e = refused (client.Describe m) (wire.PortalNotFound m.name) kind.Portal (q, (t, e))
         (known _ _ refl)
@@ -410,14 +412,14 @@ module _ (relations : List Relation) (answers : List Bool) (s : Talk) (g : IsSer
         stays (client.Describe m) (portal_description (portal_described relations p.bound))
         (portal_quiet (portal_described relations p.bound))
 
-    describe_is : (m : Describe) (a b : Bool) → (m.target_type == 83) ≡ a → (m.target_type == 80) ≡ b
+    describe_is : (m : Describe) (a b : Bool) → (m.target_type == statement_target) ≡ a → (m.target_type == portal_target) ≡ b
         → EffectIs [] (client.Describe m) (if a then described_statement told.extended s m.name (fin.get s.statements m.name)
         else if b then described_portal told.extended s m.name (fin.get s.portals m.name)
         else refuses s (wire.InvalidTargetType m.target_type))
-    describe_is m true b e f = statement_is m (agree m.target_type 83 e) (fin.get s.statements m.name) refl
-    describe_is m false true e f = portal_is m (agree m.target_type 80 f) (fin.get s.portals m.name) refl
+    describe_is m true b e f = statement_is m (agree m.target_type statement_target e) (fin.get s.statements m.name) refl
+    describe_is m false true e f = portal_is m (agree m.target_type portal_target f) (fin.get s.portals m.name) refl
     describe_is m false false e f = refused (client.Describe m) (wire.InvalidTargetType m.target_type) kind.Protocol
-        (q, inl (differ m.target_type 83 e, differ m.target_type 80 f))
+        (q, inl (differ m.target_type statement_target e, differ m.target_type portal_target f))
         (known _ _ refl)
 
     close_is : (m : Close) (a b : Bool)
@@ -432,8 +434,8 @@ module _ (relations : List Relation) (answers : List Bool) (s : Talk) (g : IsSer
     statement_row_is : (m : PgWireFrontendMessage) → EffectIs [] m (statement_row told.extended s m)
     statement_row_is (client.Parse m) = parse_is m (is_blank m.query) (meaning relations m.query) refl refl
     statement_row_is (client.Bind m) = bound_is m (fin.get s.statements m.statement_name) refl
-    statement_row_is (client.Describe m) = describe_is m (m.target_type == 83) (m.target_type == 80) refl refl
-    statement_row_is (client.Close m) = close_is m (m.target_type == 83) (m.target_type == 80)
+    statement_row_is (client.Describe m) = describe_is m (m.target_type == statement_target) (m.target_type == portal_target) refl refl
+    statement_row_is (client.Close m) = close_is m (m.target_type == statement_target) (m.target_type == portal_target)
     statement_row_is (client.PgSync m) = synced (client.PgSync m)
     statement_row_is (client.Terminate m) = ends (client.Terminate m)
     statement_row_is m = stays m [] refl

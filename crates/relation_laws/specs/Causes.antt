@@ -7,6 +7,7 @@ use Rattle.std.specs.FinMap as fin
 use Rattle.pg_interval.specs.declared.pg_interval.Interval.{Interval}
 use Rattle.pg_messages.specs.declared.frontend.PgWireFrontendMessage.{PgWireFrontendMessage}
 use Rattle.pg_messages.specs.declared.frontend.PgWireFrontendMessage.TheVariants as client
+use Rattle.pg_messages.specs.Frames.{protocol_3_0, protocol_3_2, statement_target, portal_target}
 use Rattle.pg_text.specs.declared.field_format.FieldFormat.{FieldFormat}
 use Rattle.pg_text.specs.declared.field_format.FieldFormat.TheVariants as field
 use Rattle.pg_text.specs.Words.{interval_style_of}
@@ -52,7 +53,7 @@ IsInCopy s = (is_extended : Bool) × (s.info.state ≡ phase.CopyInProgress is_e
 
 -- a startup packet of a version other than 3.0, which is 196608, and 3.2, which is 196610
 abbrev pub IsOtherVersion : PgWireFrontendMessage → Type 0
-IsOtherVersion (client.Startup m) = (m.code ≢ 196608) × (m.code ≢ 196610)
+IsOtherVersion (client.Startup m) = (m.code ≢ protocol_3_0) × (m.code ≢ protocol_3_2)
 IsOtherVersion _ = ⊥
 
 -- The session isn't started, and a version is asked for that isn't served.
@@ -64,7 +65,7 @@ AsksOtherVersion relations answers s m = (s.info.state ≡ phase.AwaitingStartup
 -- a Bind, or a Describe of a statement, whose name the map of statements lacks
 abbrev pub LacksStatement : State RelationStatement → PgWireFrontendMessage → Type 0
 LacksStatement s (client.Bind m) = fin.get s.statements m.statement_name ≡ None
-LacksStatement s (client.Describe m) = (m.target_type ≡ 83) × (fin.get s.statements m.name ≡ None)
+LacksStatement s (client.Describe m) = (m.target_type ≡ statement_target) × (fin.get s.statements m.name ≡ None)
 LacksStatement s _ = ⊥
 
 abbrev pub NamesNoStatement : Cause
@@ -73,7 +74,7 @@ NamesNoStatement relations answers s m = IsReady s × LacksStatement s m
 -- an Execute, or a Describe of a portal, whose name the map of portals lacks
 abbrev pub LacksPortal : State RelationStatement → PgWireFrontendMessage → Type 0
 LacksPortal s (client.Execute m) = fin.get s.portals m.name ≡ None
-LacksPortal s (client.Describe m) = (m.target_type ≡ 80) × (fin.get s.portals m.name ≡ None)
+LacksPortal s (client.Describe m) = (m.target_type ≡ portal_target) × (fin.get s.portals m.name ≡ None)
 LacksPortal s _ = ⊥
 
 abbrev pub NamesNoPortal : Cause
@@ -83,7 +84,7 @@ NamesNoPortal relations answers s m = IsReady s × LacksPortal s m
 
 -- a Describe whose byte is neither `S` nor `P`
 abbrev pub DescribesNeither : PgWireFrontendMessage → Type 0
-DescribesNeither (client.Describe m) = (m.target_type ≢ 83) × (m.target_type ≢ 80)
+DescribesNeither (client.Describe m) = (m.target_type ≢ statement_target) × (m.target_type ≢ portal_target)
 DescribesNeither _ = ⊥
 
 -- a Bind that gives values to an empty statement

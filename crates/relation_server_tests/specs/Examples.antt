@@ -2,10 +2,11 @@
 use Rattle.std.specs.Prelude.{pos, List, [], ◌∷◌, codes}
 use Rattle.pg_messages.specs.declared.frontend.PgWireFrontendMessage.{PgWireFrontendMessage}
 use Rattle.pg_messages.specs.declared.frontend.PgWireFrontendMessage.TheVariants as client
+use Rattle.pg_messages.specs.Frames.{protocol_3_0}
 
 abbrev pub first_path : List PgWireFrontendMessage
 first_path =
-    client.Startup (record { code = 196608; parameters = (codes "user", codes "demo") ∷ [] })
+    client.Startup (record { code = protocol_3_0; parameters = (codes "user", codes "demo") ∷ [] })
     ∷ client.Parse (record { name = []; query = codes "shifts"; type_oids = [] })
     ∷ client.Bind (record {
       portal_name = [];

@@ -8,6 +8,7 @@ use Rattle.pg_messages.specs.declared.extendedquery.Execute.{Execute}
 use Rattle.pg_messages.specs.declared.startup.CancelRequest.{CancelRequest}
 use Rattle.pg_messages.specs.declared.frontend.PgWireFrontendMessage.{PgWireFrontendMessage}
 use Rattle.pg_messages.specs.declared.frontend.PgWireFrontendMessage.TheVariants as client
+use Rattle.pg_messages.specs.Frames.{protocol_3_0, protocol_3_2}
 use Rattle.pg_portal.specs.declared.client.ClientInfo.{ClientInfo}
 use Rattle.pg_portal.specs.declared.client.PgWireConnectionState.{PgWireConnectionState}
 use Rattle.pg_portal.specs.declared.client.PgWireConnectionState.TheVariants as phase
@@ -90,7 +91,7 @@ startup_asks_nothing : {S : Type 0} (answers : List Bool) (s : State S) (m : PgW
     → questions (startup_row answers s m).calls ≤ 0
 startup_asks_nothing {S} answers s (client.CancelRequest m) = cancel_asks_nothing S answers m
 startup_asks_nothing answers s (client.Startup m) =
-    either_row (m.code == 196608) _ _ 0 (omega arith) (either_row (m.code == 196610) _ _ 0 (omega arith) (omega arith))
+    either_row (m.code == protocol_3_0) _ _ 0 (omega arith) (either_row (m.code == protocol_3_2) _ _ 0 (omega arith) (omega arith))
 startup_asks_nothing answers s _ = omega arith
 
 -- as many questions as a message may ask

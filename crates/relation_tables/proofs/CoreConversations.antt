@@ -7,6 +7,7 @@ use Rattle.pg_messages.specs.declared.startup.Startup.{Startup}
 use Rattle.pg_messages.specs.declared.startup.Terminate.{Terminate}
 use Rattle.pg_messages.specs.declared.frontend.PgWireFrontendMessage.{PgWireFrontendMessage}
 use Rattle.pg_messages.specs.declared.frontend.PgWireFrontendMessage.TheVariants as client
+use Rattle.pg_messages.specs.Frames.{protocol_3_0, protocol_3_2}
 use Rattle.pg_portal.specs.declared.client.PgWireConnectionState.{PgWireConnectionState}
 use Rattle.pg_portal.specs.declared.client.PgWireConnectionState.TheVariants as phase
 use Rattle.pg_portal.specs.declared.error.PgWireError.TheVariants as wire
@@ -108,5 +109,5 @@ module _ (setting : Setting) (even : HaveEvenRows setting.relations) where
       (conversation core answers first_core_state messages)
   core_conversations_alike answers [] each = record { replies = refl; calls = refl; next = refl }
   core_conversations_alike answers (client.Startup m ∷ messages) each =
-      alike false setting even _ _ (by_code answers m messages (m.code == 196608) (m.code == 196610) each)
+      alike false setting even _ _ (by_code answers m messages (m.code == protocol_3_0) (m.code == protocol_3_2) each)
   core_conversations_alike answers (m ∷ messages) each = absurd each

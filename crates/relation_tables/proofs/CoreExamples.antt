@@ -10,6 +10,7 @@ use Rattle.pg_messages.specs.declared.backend.PgWireBackendMessage.{PgWireBacken
 use Rattle.pg_messages.specs.declared.backend.PgWireBackendMessage.TheVariants as server
 use Rattle.pg_messages.specs.declared.response.TransactionStatus.TheVariants as status
 use Rattle.pg_messages.specs.Status.{to_error_state}
+use Rattle.pg_messages.specs.Frames.{protocol_3_2}
 use Rattle.pg_text.specs.declared.field_format.FieldFormat.TheVariants as field
 use Rattle.pg_portal.specs.declared.store.Entry.TheVariants as entry
 use Rattle.pg_handlers.specs.declared.desk.DeskCall.TheVariants as desk
@@ -175,7 +176,7 @@ module _ (s : CoreState) where
   abbrev startup : ℕ → Startup
   startup code = record { code = code; parameters = [] }
 
-  started_32 : core_startup setting s (startup 196610)
+  started_32 : core_startup setting s (startup protocol_3_2)
       ≡ record {
         replies = startup_replies (pos 7) (1 ∷ 2 ∷ 3 ∷ 4 ∷ []);
         calls = [];

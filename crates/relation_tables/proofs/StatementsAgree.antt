@@ -12,6 +12,7 @@ use Rattle.pg_messages.specs.declared.backend.PgWireBackendMessage.TheVariants a
 use Rattle.pg_messages.specs.declared.codec.ProtocolVersion.{ProtocolVersion}
 use Rattle.pg_messages.specs.declared.codec.ProtocolVersion.TheVariants.{PROTOCOL3_0, PROTOCOL3_2}
 use Rattle.pg_messages.specs.declared.response.TransactionStatus.TheVariants as status
+use Rattle.pg_messages.specs.Frames.{protocol_3_0, protocol_3_2, statement_target, portal_target}
 use Rattle.pg_text.specs.declared.pg_type.PgType.{PgType}
 use Rattle.pg_text.specs.declared.field_format.FieldFormat.TheVariants as field
 use Rattle.pg_text.specs.Types.{oid_of}
@@ -57,7 +58,7 @@ module _ (waits : Bool) (setting : Setting) (s : State RelationStatement) (c : C
   }
 
   pub startup_agrees : (out : Bool) (m : Startup) → AgreeCall out setting (on_startup s m) (core_startup setting c m)
-  startup_agrees out m = by_code (m.code == 196608) (m.code == 196610)
+  startup_agrees out m = by_code (m.code == protocol_3_0) (m.code == protocol_3_2)
     where
       by_code : (a b : Bool)
           → AgreeCall out setting (if a then accepts s PROTOCOL3_0 m else if b then accepts s PROTOCOL3_2 m
@@ -140,7 +141,7 @@ module _ (waits : Bool) (setting : Setting) (s : State RelationStatement) (c : C
   -- ---- Close, Sync
 
   pub close_agrees : (m : Close) → AgreeRow waits setting (on_close s m) (core_close c m)
-  close_agrees m = by_byte (m.target_type == 83) (m.target_type == 80)
+  close_agrees m = by_byte (m.target_type == statement_target) (m.target_type == portal_target)
     where
       by_byte : (a b : Bool)
           → AgreeRow waits setting
@@ -224,8 +225,8 @@ module _ (waits : Bool) (setting : Setting) (s : State RelationStatement) (c : C
   pub describe_agrees : (m : Describe)
       → AgreeRow waits setting (on_describe (told_extended setting.relations) s m) (core_describe setting c m)
   describe_agrees m =
-      either_row waits setting (m.target_type == 83) _ _ _ _
+      either_row waits setting (m.target_type == statement_target) _ _ _ _
       (described_statement_agrees m.name (fin.get s.statements m.name) (fin.get c.statements m.name) (h.statements m.name))
-      (either_row waits setting (m.target_type == 80) _ _ _ _
+      (either_row waits setting (m.target_type == portal_target) _ _ _ _
       (described_portal_agrees m.name (fin.get s.portals m.name) (fin.get c.portals m.name) (h.portals m.name))
       (refuses_agree waits setting (wire.InvalidTargetType m.target_type) refl s c h))

@@ -15,6 +15,7 @@ use Rattle.pg_messages.specs.declared.response.TransactionStatus.TheVariants as 
 use Rattle.pg_messages.specs.declared.backend.PgWireBackendMessage.{PgWireBackendMessage}
 use Rattle.pg_messages.specs.declared.backend.PgWireBackendMessage.TheVariants as server
 use Rattle.pg_messages.specs.Status.{to_error_state, to_in_transaction_state}
+use Rattle.pg_messages.specs.Frames.{protocol_3_0, protocol_3_2, statement_target, portal_target}
 use Rattle.pg_text.specs.declared.field_format.FieldFormat.{FieldFormat}
 use Rattle.pg_text.specs.declared.field_format.FieldFormat.TheVariants as field
 use Rattle.pg_text.specs.Types.{type_of_oid}
@@ -91,7 +92,7 @@ core_ends replies kind = record { replies = replies; calls = []; next = Ends kin
 
 -- the versions that are served, 3.0 and 3.2
 abbrev pub is_served : ℕ → Bool
-is_served code = code == 196608 || code == 196610
+is_served code = code == protocol_3_0 || code == protocol_3_2
 
 -- Startup: a version that is served, or the end. Nothing is stored yet.
 abbrev pub core_startup : Setting → CoreState → Startup → Answer CoreState
@@ -162,8 +163,8 @@ core_described_portal setting s name (Some (entry.Value p)) = core_portal_told s
 -- Describe: `S` is a statement, `P` a portal.
 abbrev pub core_describe : Setting → CoreState → Describe → Answer CoreState
 core_describe setting s m =
-    if m.target_type == 83 then core_described_statement setting s m.name (fin.get s.statements m.name)
-    else if m.target_type == 80 then core_described_portal setting s m.name (fin.get s.portals m.name)
+    if m.target_type == statement_target then core_described_statement setting s m.name (fin.get s.statements m.name)
+    else if m.target_type == portal_target then core_described_portal setting s m.name (fin.get s.portals m.name)
     else core_refuses s (wire.InvalidTargetType m.target_type)
 
 -- ---- Execute
@@ -236,8 +237,8 @@ core_execute setting answers s m = core_executed setting answers s m (fin.get s.
 -- Close: portals of a removed statement stay.
 abbrev pub core_close : CoreState → Close → Answer CoreState
 core_close s m = core_says (server.CloseComplete (record {}) ∷ [])
-    (if m.target_type == 83 then record s { statements = fin.remove s.statements m.name }
-    else if m.target_type == 80 then record s { portals = fin.remove s.portals m.name } else s)
+    (if m.target_type == statement_target then record s { statements = fin.remove s.statements m.name }
+    else if m.target_type == portal_target then record s { portals = fin.remove s.portals m.name } else s)
 
 -- Sync: the unnamed portal goes.
 abbrev pub core_sync : CoreState → Answer CoreState

@@ -1,6 +1,6 @@
 use Rattle.std.proofs.Common.{◌≡◌, [], ◌++◌, true, false, arith, ap, sym, ◌∙◌, append_assoc}
 use Rattle.std.specs.List.{flat_map, range_with_len}
-use Rattle.pg_messages.specs.Frames.{frame_bytes, startup_body}
+use Rattle.pg_messages.specs.Frames.{frame_bytes, startup_body, protocol_3_0}
 use Rattle.relation_demo.specs.Client as client
 use Rattle.relation_demo.specs.Client.{demo_client}
 use Rattle.relation_demo.proofs.ClientLemmas.{asking_more}
@@ -8,7 +8,7 @@ use Rattle.relation_demo.proofs.client.demo_client.Goals as goal
 
 pub loop-number-preserved : goal.loop-number-preserved
 loop-number-preserved c =
-    let front = frame_bytes true 196608 (startup_body client.startup) in
+    let front = frame_bytes true protocol_3_0 (startup_body client.startup) in
     let n = c.loop-number.number in
     c.in_ok-push_asking.ensures ∙ ap (λ l. l ++ client.asking n) c.loop-number.invariant
     ∙ append_assoc front (flat_map client.asking (range_with_len 0 n)) (client.asking n) ∙ ap (λ l. front ++ l) (sym (asking_more n))
@@ -16,7 +16,7 @@ loop-number-preserved c =
 pub returns-clause-client : goal.returns-clause-client
 unfolding demo_client
 returns-clause-client c =
-    let front = frame_bytes true 196608 (startup_body client.startup) in
+    let front = frame_bytes true protocol_3_0 (startup_body client.startup) in
     let all : c.loop-number.number ≡ c.args.count = omega arith in
     c.from_vec.ensures ∙ c.in_ok-extend_from_slice.ensures.items
     ∙ ap (λ l. l ++ frame_bytes false 88 []) (c.loop-number.invariant ∙ ap (λ n. front ++ flat_map client.asking (range_with_len 0 n)) all)
