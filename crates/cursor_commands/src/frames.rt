@@ -9,6 +9,7 @@ ghost use Rattle.cursor_commands.specs.Asking.{AppendsFrame, CanBeSent, parsing,
 
 use crate::command::CursorCommand;
 use bytes::BytesMut;
+use pg_messages::{TARGET_TYPE_BYTE_PORTAL, TARGET_TYPE_BYTE_STATEMENT};
 use std::alloc::{AllocError, Global};
 
 /// The frames of the messages that a command asks of the session, one behind another.
@@ -21,13 +22,17 @@ pub fn command_frames(alloc: Global, command: &CursorCommand) -> Result<BytesMut
         CursorCommand::Declare(name, relation) => {
             put_parse(relation.as_str(), &mut frames)?;
             put_bind(name.as_str(), &mut frames)?;
-            put_close(b'S', "", &mut frames)?;
+            put_close(TARGET_TYPE_BYTE_STATEMENT, "", &mut frames)?;
         }
         CursorCommand::Fetch(limit, name) => {
-            put_describe(b'P', name.as_str(), &mut frames)?;
+            put_describe(TARGET_TYPE_BYTE_PORTAL, name.as_str(), &mut frames)?;
             put_execute(name.as_str(), *limit, &mut frames)?;
         }
-        CursorCommand::Close(name) => put_close(b'P', name.as_str(), &mut frames)?,
+        CursorCommand::Close(name) => put_close(
+            TARGET_TYPE_BYTE_PORTAL,
+            name.as_str(),
+            &mut frames,
+        )?,
     }
     frames.extend_from_slice(&[b'S', 0, 0, 0, 4])?;
     Ok(frames)
