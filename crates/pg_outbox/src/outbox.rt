@@ -18,7 +18,7 @@ pub struct Outbox {
     // the chunks before the last
     whole: VecDeque<BytesMut>,
     last: BytesMut,
-    // a chunk that was sent and is to be written again
+    // the chunk that was sent last, which is to be written again
     spare: Option<BytesMut>,
     alloc: Global,
 }
@@ -84,23 +84,26 @@ impl Outbox {
         Some(self.last.as_slice())
     }
 
-    /// Forgets the first chunk, which was sent. Its memory is kept for the next chunk; where no
-    /// byte is left to send, that of one chunk is kept.
+    /// Forgets the first chunk, which was sent. Its memory is kept, and is that of the next chunk
+    /// that is begun, until `release` gives it back.
     pub fn drop_front(&mut self)
         requires { 0 < length self.old }
         ensures { self.new ≡ drop 65536 self.old }
     {
         match self.whole.pop_front() {
             Some(sent) => {
-                let is_more = !self.last.is_empty();
-                self.spare = is_more.then_some(sent);
+                self.spare = Some(sent);
                 settle(self.alloc, &mut self.whole);
             }
-            None => {
-                self.spare = None;
-                self.last.clear();
-            }
+            None => self.last.clear(),
         }
+    }
+
+    /// Gives back the memory of a chunk that was sent and not written again.
+    pub fn release(&mut self)
+        ensures { self.new ≡ self.old }
+    {
+        self.spare = None;
     }
 
     /// Takes back what was appended since so many bytes waited.

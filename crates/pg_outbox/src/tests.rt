@@ -68,3 +68,18 @@ fn a_sent_chunk_is_written_again(rt: HostRuntime) -> Result<(), Fail> {
     assert_eq!(rt; taken(&mut outbox), 0);
     Ok(())
 }
+
+#[test]
+fn what_is_released_is_no_byte(rt: HostRuntime) -> Result<(), Fail> {
+    let mut outbox = Outbox::new(rt.alloc())?;
+    outbox.push(&copied(rt.alloc(), 65536)?)?;
+    assert_eq!(rt; taken(&mut outbox), 65536);
+    outbox.release();
+    assert_eq!(rt; outbox.len(), 5);
+    outbox.push(&copied(rt.alloc(), 65536)?)?;
+    assert_eq!(rt; taken(&mut outbox), 65536);
+    assert_eq!(rt; taken(&mut outbox), 10);
+    outbox.release();
+    assert_eq!(rt; taken(&mut outbox), 0);
+    Ok(())
+}

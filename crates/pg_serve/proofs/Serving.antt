@@ -27,7 +27,7 @@ use Rattle.pg_serve.specs.Serving.{Counts, HasCause, end_turn}
 use Rattle.pg_session.specs.Run.{Rules, IsRun, IsCutRun, IsFed, EndsWith}
 use Rattle.pg_session.specs.Streams.{GrowsBy, GrowsByFront, GivesFront}
 use Rattle.pg_session.specs.Steps as steps
-use Rattle.pg_serve.specs.Serving.{TakesFrom, ReadsGaveBytes, IsServedRun, IsRunOfTaken, IsCutRunOfTaken, IsStoppedRun, IsStoppedRunOfTaken, GoesOnOver, EndsAtLast, WentSo}
+use Rattle.pg_serve.specs.Serving.{TakesFrom, ReadsGaveBytes, IsServedRun, IsRunOfTaken, IsRunOverTaken, IsCutRunOfTaken, IsStoppedRun, IsStoppedRunOfTaken, GoesOnOver, EndsAtLast, WentSo}
 
 -- what was served is a run over a text that begins with it
 is_run : {T : Type 0} (rules : Rules T) (first : T) {taken rest : List ℕ} {next : Next T} {w v : Option (List ℕ)} {k l : List DeskCall}
@@ -105,6 +105,41 @@ ended_run rules first {s} {taken} {rest} {w} {v} (Some text) mid new_left n into
           (all_sent x.flows.sent x.bytes x.flows.same)
           (is_run rules first x text [] end.InputEnd all (subst (λ r. IsUnfinished (rules.awaits s) r) (sym (append-nil rest)) short)),
     )
+
+-- the run over the taken bytes by themselves, where the conversation has ended whatever follows
+pub run_over_taken : {T : Type 0} (rules : Rules T) (first : T) {taken rest : List ℕ} {next : Next T} {w v : Option (List ℕ)}
+    {k l : List DeskCall} (left new_left : Option (List ℕ)) (kind : EndKind)
+    → TakesFrom left new_left taken → steps.IsServed rules first taken rest next w v [] [] k l
+    → EndsWith rules.awaits next (rest ++ []) kind → IsRunOverTaken rules first left new_left w v k l kind
+run_over_taken rules first {taken} {w = w} {v = v} left new_left kind t x h = (
+  taken,
+  t,
+  (
+    x.called,
+    x.grown,
+    grows_to w v x.flows.sent x.bytes (λ replies. IsRun rules first taken replies x.called kind) x.flows.grown
+        (all_sent x.flows.sent x.bytes x.flows.same)
+        (is_run rules first x taken [] kind (sym (append-nil taken)) h),
+  ),
+)
+
+-- no byte was given
+takes_as_before : (left mid new_left : Option (List ℕ)) (taken : List ℕ) (n : ℕ) (into : List ℕ) → TakesFrom left mid taken
+    → IfSome mid (λ bytes. GivesFront n into bytes new_left) → n ≡ 0 → TakesFrom left new_left taken
+takes_as_before None mid new_left taken n into t g z = tt
+takes_as_before (Some text) mid new_left taken n into t g z =
+    let given : GivesFront n into t.0 new_left = subst (λ o. IfSome o (λ bytes. GivesFront n into bytes new_left)) t.2 g in
+    (t.0, t.1, given.rest ∙ ap (λ m. Some (drop m t.0)) z)
+
+-- the same where the end of the input was read
+pub run_over_input : {T : Type 0} (rules : Rules T) (first : T) {s : T} {taken rest : List ℕ} {w v : Option (List ℕ)} {k l : List DeskCall}
+    (left mid new_left : Option (List ℕ)) (n : ℕ) (into : List ℕ)
+    → TakesFrom left mid taken → IfSome mid (λ bytes. GivesFront n into bytes new_left) → n ≡ 0
+    → steps.IsServed rules first taken rest (Goes s) w v [] [] k l → IsUnfinished (rules.awaits s) rest
+    → IsRunOverTaken rules first left new_left w v k l end.InputEnd
+run_over_input rules first {s} {taken} {rest} left mid new_left n into t g z x short =
+    run_over_taken rules first left new_left end.InputEnd (takes_as_before left mid new_left taken n into t g z) x
+    (subst (λ r. IsUnfinished (rules.awaits s) r) (sym (append-nil rest)) short)
 
 -- one more piece was taken
 pub takes_more : (left mid new_left : Option (List ℕ)) (taken : List ℕ) (n : ℕ) (into : List ℕ) → TakesFrom left mid taken

@@ -8,7 +8,7 @@ ghost use Rattle.pg_handlers.specs.declared.desk.DeskCall.{DeskCall};
 ghost use Rattle.pg_handlers.specs.Questions.{questions_since};
 ghost use Rattle.pg_handlers.specs.State.{first_state};
 ghost use Rattle.pg_session.specs.Session.{whole_rules};
-ghost use Rattle.pg_serve.specs.Serving.{WentSo, HasCause, EndsAtLast, FaultsNeverFall, IsCalm, ReadsGaveBytes, counts_of};
+ghost use Rattle.pg_serve.specs.Serving.{WentSo, HasCause, EndsAtLast, FaultsNeverFall, IsCalm, IsRunOverTaken, ReadsGaveBytes, counts_of};
 
 use crate::conversation::Conversation;
 use pg_portal::PortalStore;
@@ -65,6 +65,10 @@ pub fn serve_connection<
     ensures last { IfOk result (EndsAtLast (whole_rules (H.told (arc_value handlers)))
         (first_state (D.told desk.old).registration.0 (D.told desk.old).registration.1)
         (S.left source.old) (S.left source.new)) }
+    ensures taken { IfOk result (IsRunOverTaken (whole_rules (H.told (arc_value handlers)))
+        (first_state (D.told desk.old).registration.0 (D.told desk.old).registration.1)
+        (S.left source.old) (S.left source.new) (K.written sink.old) (K.written sink.new)
+        (D.told desk.old).calls (D.told desk.new).calls) }
     ensures calm { OnOk result (IsCalm (counts_of S.reads S.faults K.faults source.old sink.old)
         (counts_of S.reads S.faults K.faults source.new sink.new)) }
     ensures never_falls { FaultsNeverFall (counts_of S.reads S.faults K.faults source.old sink.old)
@@ -105,6 +109,10 @@ pub fn serve<C: Conversation, D: CancelDesk, S: Source, K: Sink>(
     ensures last { IfOk result (EndsAtLast (C.told conversation.old).rules
         (C.told conversation.old).state
         (S.left source.old) (S.left source.new)) }
+    ensures taken { IfOk result (IsRunOverTaken (C.told conversation.old).rules
+        (C.told conversation.old).state
+        (S.left source.old) (S.left source.new) (K.written sink.old) (K.written sink.new)
+        (D.told desk.old).calls (D.told desk.new).calls) }
     ensures calm { OnOk result (IsCalm (counts_of S.reads S.faults K.faults source.old sink.old)
         (counts_of S.reads S.faults K.faults source.new sink.new)) }
     ensures never_falls { FaultsNeverFall (counts_of S.reads S.faults K.faults source.old sink.old)
@@ -158,6 +166,10 @@ fn serve_pieces<C: Conversation, D: CancelDesk, S: Source, K: Sink>(
     ensures last { IfOk result (EndsAtLast (C.told conversation.old).rules
         (C.told conversation.old).state
         (S.left source.old) (S.left source.new)) }
+    ensures taken { IfOk result (IsRunOverTaken (C.told conversation.old).rules
+        (C.told conversation.old).state
+        (S.left source.old) (S.left source.new) (K.written sink.old) (K.written sink.new)
+        (D.told desk.old).calls (D.told desk.new).calls) }
     ensures calm { OnOk result (IsCalm (counts_of S.reads S.faults K.faults source.old sink.old)
         (counts_of S.reads S.faults K.faults source.new sink.new)) }
     ensures never_falls { FaultsNeverFall (counts_of S.reads S.faults K.faults source.old sink.old)

@@ -3,7 +3,6 @@
 #![tactic(auto)]
 
 mod ends;
-mod errors;
 mod laws;
 mod messages;
 mod session;

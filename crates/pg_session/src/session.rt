@@ -3,23 +3,18 @@
 ghost use Rattle.std.specs.Prelude.{◌≡◌, ◌≢◌, ◌≤◌, ◌<◌, ◌++◌, ◌⊎◌, [], true, false, length, Option, Some, None, IfOk, IfErr, OnOk, OnErr, IsErrOf};
 ghost use Rattle.std.specs.Arc.{arc_value};
 ghost use Rattle.std.specs.FinMap as fin;
-ghost use Rattle.pg_messages.specs.Replies.{replies_bytes};
 ghost use Rattle.pg_portal.specs.Maps.{no_maps};
-ghost use Rattle.pg_portal.specs.Errors.{info_of};
-ghost use Rattle.pg_portal.specs.Rows.{IsTellable};
 ghost use Rattle.pg_handlers.specs.Desk.{KeepsDesk};
-ghost use Rattle.pg_handlers.specs.Effect.{failed};
 ghost use Rattle.pg_handlers.specs.Questions.{HasSpent, questions_since};
 ghost use Rattle.pg_handlers.specs.State.{first_info, first_state};
 ghost use Rattle.pg_handlers.specs.Table.{whole_table, scope_in};
-ghost use Rattle.pg_handlers.specs.declared.ends.EndKind.TheVariants.{InputEnd, Fatal};
+ghost use Rattle.pg_handlers.specs.declared.ends.EndKind.TheVariants.{InputEnd};
 ghost use Rattle.pg_session.specs.Messages.{IsGivenIn, scope_for, next_of};
 ghost use Rattle.pg_session.specs.Session.{goes_on, HasFed};
 ghost use Rattle.pg_session.specs.Steps.{IsAnswered, IsCutAnswer, IsStoppedAnswer};
 ghost use Rattle.pg_session.specs.declared.ends.ServeError.TheVariants as serve;
 
 use crate::ends::ServeError;
-use crate::errors::tell_error;
 use bytes::BytesMut;
 use pg_handlers::{
     CancelDesk, Client, EndKind, ExtendedQueryHandler, Outbox, PgWireServerHandlers, SessionError,
@@ -178,30 +173,6 @@ impl<
         Rows = <H::Extended as ExtendedQueryHandler>::Rows,
     >,
 > Session<H, St> {
-    /// Tells the client an error, and does what follows it.
-    pub(crate) fn tell(
-        &mut self,
-        alloc: Global,
-        error: PgWireError,
-        wait_for_sync: bool,
-    ) -> Result<Option<EndKind>, AllocError>
-        requires open { self.old.is_open ≡ true }
-        requires tellable { IsTellable error }
-        ensures replied { OnOk result (self.new.unsent ≡ self.old.unsent ++ replies_bytes
-            (failed (scope_for wait_for_sync) [] [] self.old.state (info_of error)).replies) }
-        ensures next { IfOk result (λ end.
-            (failed (scope_for wait_for_sync) [] [] self.old.state (info_of error)).next
-            ≡ next_of end self.new.state) }
-        ensures ends { IfOk result (λ end. (end ≡ None) ⊎ (end ≡ Some Fatal)) }
-        ensures open { self.new.is_open ≡ goes_on result }
-        ensures handlers { self.new.handlers ≡ self.old.handlers }
-        ensures rest { self.new.rest ≡ self.old.rest }
-    {
-        let outcome = tell_error(alloc, &mut self.client, error, wait_for_sync);
-        self.opened = matches!(outcome, Ok(None));
-        outcome
-    }
-
     /// Answers a message, as the whole table says.
     fn respond<D: CancelDesk>(
         &mut self,
@@ -242,7 +213,7 @@ impl<
             Err(SessionError::TurnLimit) => Err(ServeError::TurnLimit),
             Err(SessionError::Wire(error)) => match error {
                 PgWireError::NoMemory => Err(ServeError::NoMemory),
-                error => match self.tell(alloc, error, wait_for_sync) {
+                error => match process_error(alloc, self, error, wait_for_sync) {
                     Ok(end) => Ok(end),
                     Err(_) => Err(ServeError::NoMemory),
                 },

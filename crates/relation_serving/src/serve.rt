@@ -5,7 +5,7 @@ ghost use Rattle.pg_handlers.specs.Desk.{KeepsDesk};
 ghost use Rattle.pg_handlers.specs.Questions.{questions_since};
 ghost use Rattle.pg_handlers.specs.State.{first_state};
 ghost use Rattle.pg_handlers.specs.declared.desk.DeskCall.{DeskCall};
-ghost use Rattle.pg_serve.specs.Serving.{HasCause, EndsAtLast, FaultsNeverFall, IsCalm, ReadsGaveBytes, counts_of};
+ghost use Rattle.pg_serve.specs.Serving.{HasCause, EndsAtLast, FaultsNeverFall, IsCalm, IsRunOverTaken, ReadsGaveBytes, counts_of};
 ghost use Rattle.pg_session.specs.Session.{whole_rules};
 ghost use Rattle.relation_serving.specs.Completeness.{IsComplete};
 ghost use Rattle.relation_tables.specs.RelationHandler.{relation_handlers};
@@ -58,6 +58,10 @@ pub fn serve_relations_on<D: CancelDesk, S: Source, K: Sink>(
     ensures last { IfOk result (EndsAtLast (whole_rules (relation_handlers relations.now))
         (first_state (D.told desk.old).registration.0 (D.told desk.old).registration.1)
         (S.left source.old) (S.left source.new)) }
+    ensures taken { IfOk result (IsRunOverTaken (whole_rules (relation_handlers relations.now))
+        (first_state (D.told desk.old).registration.0 (D.told desk.old).registration.1)
+        (S.left source.old) (S.left source.new) (K.written sink.old) (K.written sink.new)
+        (D.told desk.old).calls (D.told desk.new).calls) }
     ensures calm { OnOk result (IsCalm (counts_of S.reads S.faults K.faults source.old sink.old)
         (counts_of S.reads S.faults K.faults source.new sink.new)) }
     ensures never_falls { FaultsNeverFall (counts_of S.reads S.faults K.faults source.old sink.old)

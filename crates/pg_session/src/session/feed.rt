@@ -38,6 +38,19 @@ fn flush<K: Sink>(outbox: &mut Outbox, sink: &mut K) -> Result<(), ServeError>
     Ok(())
 }
 
+/// Sends what waits in the outbox, and gives back the memory that waited to be written again.
+fn flush_all<K: Sink>(outbox: &mut Outbox, sink: &mut K) -> Result<(), ServeError>
+    ensures empty { OnOk result (outbox.new ≡ []) }
+    ensures ok { OnOk result (GrowsBy (K.written sink.old) (K.written sink.new) outbox.old) }
+    ensures err { OnErr result (GrowsByFront (K.written sink.old) (K.written sink.new) outbox.old) }
+    ensures cause { HasFlushed (K.faults sink.old) (K.faults sink.new) result }
+    ensures sink { K.origin sink.new ≡ K.origin sink.old }
+{
+    let flushed = flush(outbox, sink);
+    outbox.release();
+    flushed
+}
+
 /// Sends what waits in the outbox where it is a chunk or more.
 fn flush_if_full<K: Sink>(outbox: &mut Outbox, sink: &mut K) -> Result<(), ServeError>
     ensures ok { OnOk result (Flows (K.written sink.old) (K.written sink.new) outbox.old outbox.new
@@ -170,7 +183,7 @@ impl<
             match self.step(alloc, desk, sink, turns)? {
                 None => {}
                 Some(told) => {
-                    flush(&mut self.client.outbox, sink)?;
+                    flush_all(&mut self.client.outbox, sink)?;
                     return Ok(told);
                 }
             }

@@ -6,10 +6,9 @@ ghost use Rattle.pg_portal.specs.Errors.{info_of};
 ghost use Rattle.pg_portal.specs.Rows.{IsTellable};
 ghost use Rattle.pg_handlers.specs.Desk.{KeepsDesk};
 ghost use Rattle.pg_handlers.specs.Effect.{IsRow, IsRefusedRow, failed};
-ghost use Rattle.pg_handlers.specs.Errors.{is_fatal};
 ghost use Rattle.pg_handlers.specs.Questions.{HasSpent, questions_since};
 ghost use Rattle.pg_handlers.specs.Sending.{IsAnswerableError};
-ghost use Rattle.pg_handlers.specs.Table.{message_row, awaits};
+ghost use Rattle.pg_handlers.specs.Table.{message_row};
 ghost use Rattle.pg_handlers.specs.declared.ends.EndKind.TheVariants.{InputEnd, Fatal};
 ghost use Rattle.pg_session.specs.Messages.{IsGivenIn, outcome_of, scope_for, next_of};
 ghost use Rattle.pg_session.specs.Session.{stays_open, goes_on};
@@ -18,9 +17,10 @@ use crate::messages::on_message;
 use crate::session::Session;
 use pg_handlers::{
     CancelDesk, EndKind, ExtendedQueryHandler, PgWireServerHandlers, SessionError, Turns,
+    send_ready_for_query,
 };
-use pg_messages::PgWireFrontendMessage;
-use pg_portal::{PgWireError, PortalStore};
+use pg_messages::{ErrorResponse, PgWireBackendMessage, PgWireFrontendMessage};
+use pg_portal::{PgWireConnectionState, PgWireError, PortalStore};
 use std::alloc::{AllocError, Global};
 
 /// Whether a session is open after a message.
@@ -93,7 +93,8 @@ pub fn process_message<
 /// Tells the client an error of a message, and does what follows it: ErrorResponse, and where the
 /// error's severity is FATAL the end; else the transaction status of an error, and the wait for
 /// Sync where that is wanted (after an extended message or in a COPY of one), or ReadyForQuery. The
-/// session is open, the error is no want of memory, and before the startup packet it is FATAL.
+/// session is open, and the error is no want of memory. Before the startup packet an error is FATAL:
+/// any other would leave the client without its startup replies.
 ///
 /// The replies wait for the next `feed`. An end closes the session, and so does AllocError, after
 /// which nothing more is said of what waits.
@@ -111,7 +112,6 @@ pub fn process_error<
 ) -> Result<Option<EndKind>, AllocError>
     requires open { session.old.is_open ≡ true }
     requires tellable { IsTellable error }
-    requires begun { (awaits session.old.state ≡ false) ⊎ (is_fatal (info_of error) ≡ true) }
     ensures replied { OnOk result (session.new.unsent ≡ session.old.unsent ++ replies_bytes
         (failed (scope_for wait_for_sync) [] [] session.old.state (info_of error)).replies) }
     ensures next { IfOk result (λ end.
@@ -122,5 +122,23 @@ pub fn process_error<
     ensures handlers { session.new.handlers ≡ session.old.handlers }
     ensures rest { session.new.rest ≡ session.old.rest }
 {
-    session.tell(alloc, error, wait_for_sync)
+    session.opened = false;
+    let info = error.into_info(alloc)?;
+    let is_fatal = info.is_fatal();
+    let told = PgWireBackendMessage::ErrorResponse(ErrorResponse { info });
+    session.client.outbox.push(&told)?;
+    if is_fatal {
+        return Ok(Some(EndKind::Fatal));
+    }
+    let status = session.client.info.status.to_error_state();
+    session.client.info.status = status;
+    if wait_for_sync {
+        session.client.info.state = PgWireConnectionState::AwaitingSync;
+        session.opened = true;
+        return Ok(None);
+    }
+    send_ready_for_query(&mut session.client.outbox, status)?;
+    session.client.info.state = PgWireConnectionState::ReadyForQuery;
+    session.opened = true;
+    Ok(None)
 }

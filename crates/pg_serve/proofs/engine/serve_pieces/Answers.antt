@@ -8,7 +8,7 @@ use Rattle.pg_session.specs.Steps.{IsServed, Stands, WasFed}
 use Rattle.pg_session.proofs.Feeding.{cut_by_error}
 use Rattle.pg_session.specs.declared.ends.Progress.{Progress}
 use Rattle.pg_serve.specs.Serving.{TakesFrom, IsStoppedRunOfTaken, counts_of}
-use Rattle.pg_serve.proofs.Serving.{run_of_taken, served_run, ended_run, takes_more, takes_none, served_none, short_none, none_asked, cut_run_of_taken, stopped_run_of_taken, went_by_error, caused_by, conversed, goes_to, counted_more, questions_over, gave_none, gave_more, gave_unread, risen_since, all_spent, no_end_turn, ends_with_input, ends_at_last}
+use Rattle.pg_serve.proofs.Serving.{run_of_taken, served_run, ended_run, takes_more, takes_none, served_none, short_none, none_asked, cut_run_of_taken, stopped_run_of_taken, went_by_error, caused_by, conversed, goes_to, counted_more, questions_over, gave_none, gave_more, gave_unread, risen_since, all_spent, no_end_turn, ends_with_input, ends_at_last, run_over_taken, run_over_input}
 use Rattle.pg_serve.proofs.engine.serve_pieces.Goals as goal
 
 pub returns-then-not-spend-clause-went : goal.returns-then-not-spend-clause-went
@@ -274,3 +274,28 @@ returns-in-Ok-Ended-clause-last g c =
     (g.S.Source.left c.args.source.now)
     (g.S.Source.left c.turns.source) (g.S.Source.left c.receive.new.self) c.in-Ok.n c.receive.new.into i.takes c.in-Ok.ensures.bytes
     c.if-n-eq0.false i.served i.short c.in-Ok-Ended.kind
+
+pub returns-then-n-eq0-clause-taken : goal.returns-then-n-eq0-clause-taken
+returns-then-n-eq0-clause-taken g c =
+    let i = c.turns.invariant in
+    run_over_input (g.C.Conversation.told c.args.conversation.now).rules (g.C.Conversation.told c.args.conversation.now).state
+    (g.S.Source.left c.args.source.now) (g.S.Source.left c.turns.source) (g.S.Source.left c.receive.new.self) c.in-Ok.n
+    c.receive.new.into i.takes c.in-Ok.ensures.bytes c.if-n-eq0.true i.served i.short
+
+pub returns-in-Ok-Ended-clause-taken : goal.returns-in-Ok-Ended-clause-taken
+returns-in-Ok-Ended-clause-taken g c =
+    let i = c.turns.invariant in
+    let first = g.C.Conversation.told c.args.conversation.now in
+    let now = g.C.Conversation.told c.turns.conversation in
+    let new = g.C.Conversation.told c.feed.new.self in
+    let took = c.in-Ok-Ended.ensures.fed in
+    let fed = conversed first now new (g.met.C.Conversation.lawful c.args.conversation.now) i.rules i.unsent
+    i.taken c.front_of.result.now (g.K.Sink.written c.feed.new.sink) (g.D.CancelDesk.told c.feed.new.desk).calls (Ok c.in-Ok-Ended.field-0)
+    i.served took in
+    let stands = subst (λ o. Stands first.rules.awaits fed.0 new.state took.0 o) c.in-Ok-Ended.field-0-is fed.2 in
+    let takes = subst (λ p. TakesFrom (g.S.Source.left c.args.source.now) (g.S.Source.left c.receive.new.self) (i.taken ++ p))
+    (sym c.front_of.ensures)
+    (takes_more (g.S.Source.left c.args.source.now) (g.S.Source.left c.turns.source) (g.S.Source.left c.receive.new.self)
+    i.taken c.in-Ok.n c.receive.new.into i.takes c.in-Ok.ensures.bytes) in
+    run_over_taken first.rules first.state (g.S.Source.left c.args.source.now) (g.S.Source.left c.receive.new.self)
+    c.in-Ok-Ended.kind takes fed.1 (stands.1 [])

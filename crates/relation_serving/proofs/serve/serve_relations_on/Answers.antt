@@ -5,7 +5,7 @@ use Rattle.pg_session.specs.Session.{whole_rules}
 use Rattle.pg_session.specs.declared.ends.ServeError.TheVariants as fault
 use Rattle.relation_tables.specs.RelationHandler.{relation_handlers}
 use Rattle.relation_handlers.proofs.EvenRows.{even}
-use Rattle.pg_serve.specs.Serving.{WentSo, EndsAtLast, counts_of}
+use Rattle.pg_serve.specs.Serving.{WentSo, IsRunOverTaken, EndsAtLast, counts_of}
 use Rattle.pg_serve.proofs.Serving.{none_went}
 use Rattle.relation_serving.proofs.CoreServing.{went_by_tables}
 use Rattle.relation_serving.proofs.Complete.{complete_serving, complete_at_want, cause_of_calls, none_gave}
@@ -72,3 +72,12 @@ returns-clause-last g c =
     (first_state (g.D.CancelDesk.told c.args.desk.now).registration.0 (g.D.CancelDesk.told c.args.desk.now).registration.1)
     (g.S.Source.left c.args.source.now) (g.S.Source.left c.serve_connection.new.source)))
     (ap (λ h. h.relations.now) c.in-Ok.ensures.ok) c.serve_connection.ensures.last
+
+pub returns-clause-taken : goal.returns-clause-taken
+returns-clause-taken g c =
+    subst (λ relations. IfOk c.serve_connection.result (IsRunOverTaken (whole_rules (relation_handlers relations))
+    (first_state (g.D.CancelDesk.told c.args.desk.now).registration.0 (g.D.CancelDesk.told c.args.desk.now).registration.1)
+    (g.S.Source.left c.args.source.now) (g.S.Source.left c.serve_connection.new.source) (g.K.Sink.written c.args.sink.now)
+    (g.K.Sink.written c.serve_connection.new.sink) (g.D.CancelDesk.told c.args.desk.now).calls
+    (g.D.CancelDesk.told c.serve_connection.new.desk).calls))
+    (ap (λ h. h.relations.now) c.in-Ok.ensures.ok) c.serve_connection.ensures.taken

@@ -35,8 +35,8 @@ returns-in-NoMemory-clause-err g c =
     (g.D.CancelDesk.told c.process_message.new.desk).calls
     session.unsent c.process_message.new.session.unsent c.process_message.new.session.state c.in-Err-Wire.error refused
 
-pub returns-in-Ok-tell : goal.returns-in-Ok-tell
-returns-in-Ok-tell g c =
+pub returns-in-Ok-process_error : goal.returns-in-Ok-process_error
+returns-in-Ok-process_error g c =
     let session = c.args.self.now in
     let h = g.H.PgWireServerHandlers.told session.handlers in
     let calls = (g.D.CancelDesk.told c.args.desk.now).calls in let new_calls = (g.D.CancelDesk.told c.process_message.new.desk).calls in
@@ -46,18 +46,18 @@ returns-in-Ok-tell g c =
     let row = row_where_told h session.state c.args.message calls new_calls session.unsent mid.unsent mid.state c.in-Err-Wire.error
     c.in_default.not-NoMemory refused in
     record {
-      answer = answered_by_error h session.state c.args.message calls new_calls session.unsent mid.unsent c.tell.new.self.unsent mid.state
+      answer = answered_by_error h session.state c.args.message calls new_calls session.unsent mid.unsent c.process_error.new.session.unsent mid.state
           c.in-Err-Wire.error
-          (scope_for c.waits_for_sync-wait_for_sync.result) (next_of c.in-Ok-tell.end c.tell.new.self.state) row
+          (scope_for c.waits_for_sync-wait_for_sync.result) (next_of c.in-Ok-process_error.end c.process_error.new.session.state) row
           (c.waits_for_sync-wait_for_sync.ensures ∙ ap (λ v. scope_in v.state.info.state c.args.message) c.self.view_is)
-          c.in-Ok-tell.ensures.replied c.in-Ok-tell.ensures.next;
+          c.in-Ok-process_error.ensures.replied c.in-Ok-process_error.ensures.next;
       err = tt;
       stopped = search rules;
       only = tt;
-      ends = none_or_fatal c.in-Ok-tell.end c.in-Ok-tell.ensures.ends;
-      «open» = c.in-Ok-tell.ensures.«open» ∙ goes_on_alike AllocError ServeError c.in-Ok-tell.end;
-      handlers = c.in-Ok-tell.ensures.handlers ∙ c.process_message.ensures.handlers;
-      rest = c.in-Ok-tell.ensures.rest ∙ c.process_message.ensures.rest;
+      ends = none_or_fatal c.in-Ok-process_error.end c.in-Ok-process_error.ensures.ends;
+      «open» = c.in-Ok-process_error.ensures.«open» ∙ goes_on_alike AllocError ServeError c.in-Ok-process_error.end;
+      handlers = c.in-Ok-process_error.ensures.handlers ∙ c.process_message.ensures.handlers;
+      rest = c.in-Ok-process_error.ensures.rest ∙ c.process_message.ensures.rest;
       turns = fed_where_told c.args.turns.now c.process_message.new.turns
           (questions_since calls new_calls) c.in-Err-Wire.error c.in_default.not-NoMemory turns;
       bounded = c.process_message.ensures.bounded;

@@ -76,8 +76,8 @@ returns-in_err-step-clause-turns g c =
     (Err c.in_err-step.field-0.0)
     so_far.served.grown cut.grown so_far.turns c.in_err-step.ensures.turns)
 
-pub returns-in_err-flush-in-Some-clause-cut_off : goal.returns-in_err-flush-in-Some-clause-cut_off
-returns-in_err-flush-in-Some-clause-cut_off g c =
+pub returns-in_err-flush_all-in-Some-clause-cut_off : goal.returns-in_err-flush_all-in-Some-clause-cut_off
+returns-in_err-flush_all-in-Some-clause-cut_off g c =
     let h = λ (x : g.row.H.Denot). g.H.PgWireServerHandlers.told x in
     let at = λ (x : g.row.H.Denot). whole_rules (h x) in
     let x = c.args.self.now.handlers in let law = whole_lawful (h x) in
@@ -89,13 +89,13 @@ returns-in_err-flush-in-Some-clause-cut_off g c =
     let step = c.in_ok-step.ensures.served in
     let served = subst (λ y. IsServed
     (at y) before.state before.rest after.rest step.0 written now before.unsent after.unsent l m) so_far.handlers step.1 in
-    let flushed = g.K.Sink.written c.flush.new.sink in
+    let flushed = g.K.Sink.written c.flush_all.new.sink in
     let waits = ap (λ v. v.unsent) c.self.view_is in
-    on_err_always c.from_residual-in_err-flush-in-Some.result (cut_served (at x) flushed (serves_then (at x) law so_far.served served)
-    (subst (λ o. GrowsByFront now flushed o) waits c.in_err-flush-in-Some.ensures.err))
+    on_err_always c.from_residual-in_err-flush_all-in-Some.result (cut_served (at x) flushed (serves_then (at x) law so_far.served served)
+    (subst (λ o. GrowsByFront now flushed o) waits c.in_err-flush_all-in-Some.ensures.err))
 
-pub returns-in_err-flush-in-Some-clause-turns : goal.returns-in_err-flush-in-Some-clause-turns
-returns-in_err-flush-in-Some-clause-turns g c =
+pub returns-in_err-flush_all-in-Some-clause-turns : goal.returns-in_err-flush_all-in-Some-clause-turns
+returns-in_err-flush_all-in-Some-clause-turns g c =
     let h = λ (x : g.row.H.Denot). g.H.PgWireServerHandlers.told x in
     let at = λ (x : g.row.H.Denot). whole_rules (h x) in
     let x = c.args.self.now.handlers in let law = whole_lawful (h x) in
@@ -110,10 +110,10 @@ returns-in_err-flush-in-Some-clause-turns g c =
     let spent = fed_then c.args.turns.now c.messages.turns c.step.new.turns k l m so_far.served.called served.called
     (Ok c.in_ok-step.field-0)
     so_far.served.grown served.grown so_far.turns c.in_ok-step.ensures.turns in
-    fed_unless_limit c.args.turns.now c.step.new.turns (questions_since k m) c.from_residual-in_err-flush-in-Some.result spent
-    (λ limit. c.in_err-flush-in-Some.ensures.cause.no_turn_limit
-    (ap Err (err_told c.from_residual-in_err-flush-in-Some.result c.in_err-flush-in-Some.field-0.0 serve.TurnLimit
-    c.from_residual-in_err-flush-in-Some.ensures.1 limit)))
+    fed_unless_limit c.args.turns.now c.step.new.turns (questions_since k m) c.from_residual-in_err-flush_all-in-Some.result spent
+    (λ limit. c.in_err-flush_all-in-Some.ensures.cause.no_turn_limit
+    (ap Err (err_told c.from_residual-in_err-flush_all-in-Some.result c.in_err-flush_all-in-Some.field-0.0 serve.TurnLimit
+    c.from_residual-in_err-flush_all-in-Some.ensures.1 limit)))
 
 pub returns-in-Some-clause-turns : goal.returns-in-Some-clause-turns
 returns-in-Some-clause-turns g c =
@@ -146,9 +146,9 @@ returns-in-Some-clause-served g c =
     let step = c.in_ok-step.ensures.served in
     let served = subst (λ y. IsServed
     (at y) before.state before.rest after.rest step.0 written now before.unsent after.unsent l m) so_far.handlers step.1 in
-    let flushed = g.K.Sink.written c.flush.new.sink in
+    let flushed = g.K.Sink.written c.flush_all.new.sink in
     let waits = ap (λ v. v.unsent) c.self.view_is in
-    let flow = Flows-sent now flushed after.unsent [] (subst (λ o. GrowsBy now flushed o) waits c.in_ok-flush-in-Some.ensures.ok) refl in (
+    let flow = Flows-sent now flushed after.unsent [] (subst (λ o. GrowsBy now flushed o) waits c.in_ok-flush_all-in-Some.ensures.ok) refl in (
       step.0,
       subst (λ r. IsServed (at x) c.args.self.now.state c.args.self.now.rest r step.0
           (g.K.Sink.written c.args.sink.now) flushed c.args.self.now.unsent [] k m)
