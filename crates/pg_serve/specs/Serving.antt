@@ -74,7 +74,7 @@ abbrev pub IsRunOverTaken : {T : Type 0} → Rules T → T → Option (List ℕ)
     → List DeskCall → List DeskCall → EndKind → Type 0
 IsRunOverTaken rules first left new_left old new calls new_calls kind = (taken : List ℕ) × TakesFrom left new_left taken
     × ((called : List DeskCall) × (new_calls ≡ calls ++ called)
-        × ((replies : List ℕ) × GrowsBy old new replies × IsRun rules first taken replies called kind))
+    × ((replies : List ℕ) × GrowsBy old new replies × IsRun rules first taken replies called kind))
 
 -- The conversation went on until the last bytes that were taken: before these the run over the bytes taken goes on, and they aren't none.
 -- So nothing was taken behind its end. Where it ended with the input, all that was taken went before.
