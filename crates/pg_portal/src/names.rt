@@ -11,22 +11,24 @@ use std::alloc::{AllocError, Global};
 use std::collections::BTreeMap;
 use std::marker::Model;
 
-/// Entries under names, which are compared by their bytes.
+/// Entries under names, which are compared by their bytes. The empty name has a place of its own,
+/// which takes no look-up and no memory.
 #[derive(Drop)]
 pub struct Named<T> {
-    entries: BTreeMap<String, T>,
+    unnamed: Option<T>,
+    others: BTreeMap<String, T>,
 }
 
 impl<T> Model for Named<T> {
     ghost use Rattle.std.specs.FinMap as fin;
     ghost use Rattle.std.specs.Coded.{coded_list, coded_ℕ};
-    ghost use Rattle.pg_portal.specs.Names.{NameMap, name_map};
+    ghost use Rattle.pg_portal.specs.Names.{NameMap, name_map, with_unnamed};
 
     ghost Value = { NameMap T };
 
     ghost coded = { fin.code (coded_list coded_ℕ) T.code };
 
-    ghost view = { λ n. name_map n.entries.entries };
+    ghost view = { λ n. with_unnamed n.unnamed (name_map n.others.entries) };
 }
 
 impl<T> Named<T> {
@@ -35,7 +37,8 @@ impl<T> Named<T> {
         ensures { result ≡ map.empty }
     {
         Named {
-            entries: BTreeMap::new(alloc),
+            unnamed: None,
+            others: BTreeMap::new(alloc),
         }
     }
 
@@ -43,7 +46,11 @@ impl<T> Named<T> {
     pub fn get(&self, name: &str) -> Option<&T>
         ensures { option_copied result ≡ map.get self.now name.now }
     {
-        self.entries.get(name)
+        if name.is_empty() {
+            self.unnamed.as_ref()
+        } else {
+            self.others.get(name)
+        }
     }
 
     /// Puts an entry under a name, in the place of one that is there. After an error nothing has
@@ -54,7 +61,11 @@ impl<T> Named<T> {
         ensures ok { OnOk result (self.new ≡ map.insert self.old name entry) }
         ensures err { OnErr result (self.new ≡ self.old) }
     {
-        self.entries.insert(name.into_string(), entry)?;
+        if name.as_str().is_empty() {
+            self.unnamed = Some(entry);
+        } else {
+            self.others.insert(name.into_string(), entry)?;
+        }
         Ok(())
     }
 
@@ -64,7 +75,11 @@ impl<T> Named<T> {
         T: Drop,
         ensures { self.new ≡ map.remove self.old name.now }
     {
-        self.entries.remove(name);
+        if name.is_empty() {
+            self.unnamed = None;
+        } else {
+            self.others.remove(name);
+        }
     }
 
     /// Removes all entries. No memory is taken.
@@ -73,7 +88,8 @@ impl<T> Named<T> {
         T: Drop,
         ensures { self.new ≡ map.empty }
     {
-        self.entries.clear();
+        self.unnamed = None;
+        self.others.clear();
     }
 
     /// The entry under a name, lent, or None exactly where there is none. What it is when the
@@ -83,6 +99,10 @@ impl<T> Named<T> {
             (λ n w. OnSome result (n ≡ map.insert self.old name.now w)) (λ n. n ≡ self.old)) }
         ensures value { option_copied_mut result ≡ map.get self.old name.now }
     {
-        self.entries.get_mut(name)
+        if name.is_empty() {
+            self.unnamed.as_mut()
+        } else {
+            self.others.get_mut(name)
+        }
     }
 }

@@ -1,20 +1,30 @@
-use Rattle.std.proofs.Common.{◌∙◌, sym, ap, refl, subst, OnSome, ◌≡◌}
-use Rattle.std.specs.FinMap as map
-use Rattle.pg_portal.specs.Names.{name_map}
-use Rattle.pg_portal.proofs.NameMaps.{get-name_map, name_map-written}
+use Rattle.std.proofs.Common.{◌∙◌, ap, refl, OnSome}
+use Rattle.std.specs.Option.{option_copied_mut}
+use Rattle.pg_portal.specs.Names.{name_map, with_unnamed}
+use Rattle.pg_portal.proofs.NameMaps.{get-then, get-else, insert-then, on_some, written-else}
 use Rattle.pg_portal.proofs.names.Named.get_mut.Goals as goal
 
-pub returns : goal.returns
-returns g c =
-    let got = c.get_mut.ensures.value ∙ sym (get-name_map c.self.inside.entries.entries c.args.name.now)
-    ∙ ap (λ m. map.get m c.args.name.now) c.self.view_is in (
+pub returns-then-is_empty : goal.returns-then-is_empty
+returns-then-is_empty g c = (
       (
         refl,
-        (λ w. subst (λ m. OnSome c.get_mut.result (name_map (c.get_mut.follows.lender w).entries ≡ map.insert m c.args.name.now w))
-            c.self.view_is
-            (name_map-written c.args.name.now c.self.inside.entries (c.get_mut.follows.lender w) w c.get_mut.result c.get_mut.ensures.value
-            (c.get_mut.follows.holds w))),
-        ap (λ m. name_map m.entries) c.get_mut.follows.holds-at-none ∙ c.self.view_is,
+        (λ w. on_some c.as_mut.result (
+            insert-then c.self.inside.unnamed c.self.inside.others c.args.self.now c.self.view_is c.args.name.now c.is_empty.result c.is_empty.ensures
+            c.if-is_empty.true w)),
+        c.self.view_is,
       ),
-      got,
+      c.as_mut.ensures.value ∙ get-then c.self.inside.unnamed c.self.inside.others c.args.self.now c.self.view_is c.args.name.now c.is_empty.result c.is_empty.ensures
+          c.if-is_empty.true,
+    )
+
+pub returns-else-is_empty : goal.returns-else-is_empty
+returns-else-is_empty g c = (
+      (
+        refl,
+        (λ w. written-else c.self.inside.unnamed c.self.inside.others c.args.self.now c.self.view_is c.args.name.now c.is_empty.result c.is_empty.ensures
+            c.if-is_empty.false (c.get_mut.follows.lender w) w c.get_mut.result c.get_mut.ensures.value (c.get_mut.follows.holds w)),
+        ap (λ m. with_unnamed c.self.inside.unnamed (name_map m.entries)) c.get_mut.follows.holds-at-none ∙ c.self.view_is,
+      ),
+      c.get_mut.ensures.value ∙ get-else c.self.inside.unnamed c.self.inside.others c.args.self.now c.self.view_is c.args.name.now c.is_empty.result c.is_empty.ensures
+          c.if-is_empty.false,
     )

@@ -1,9 +1,12 @@
-use Rattle.std.proofs.Common.{◌∙◌, ap}
-use Rattle.std.specs.FinMap as map
-use Rattle.pg_portal.proofs.NameMaps.{name_map-remove}
+use Rattle.pg_portal.proofs.NameMaps.{remove-then, remove-else}
 use Rattle.pg_portal.proofs.names.Named.remove.Goals as goal
 
-pub returns : goal.returns
-returns g c =
-    name_map-remove c.args.name.now c.self.inside.entries c.remove.new.self c.remove.ensures.updates
-    ∙ ap (λ m. map.remove m c.args.name.now) c.self.view_is
+pub returns-then-is_empty : goal.returns-then-is_empty
+returns-then-is_empty g c =
+    remove-then c.self.inside.unnamed c.self.inside.others c.args.self.now c.self.view_is c.args.name.now c.is_empty.result c.is_empty.ensures
+    c.if-is_empty.true
+
+pub returns-else-is_empty : goal.returns-else-is_empty
+returns-else-is_empty g c =
+    remove-else c.self.inside.unnamed c.self.inside.others c.args.self.now c.self.view_is c.args.name.now c.is_empty.result c.is_empty.ensures
+    c.if-is_empty.false c.remove.new.self c.remove.ensures.updates

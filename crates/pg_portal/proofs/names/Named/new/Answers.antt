@@ -1,0 +1,5 @@
+use Rattle.pg_portal.proofs.NameMaps.{with_unnamed-nothing}
+use Rattle.pg_portal.proofs.names.Named.new.Goals as goal
+
+pub returns : goal.returns
+returns g c = with_unnamed-nothing c.new.result.entries c.new.ensures.empty
