@@ -1,4 +1,5 @@
 pub mod NameMaps
+pub mod UnnamedEntries
 pub mod StoreMaps
 pub mod Paging
 pub mod Delivering

@@ -1,4 +1,5 @@
 pub mod Names
+pub mod Unnamed
 pub mod Texts
 pub mod Errors
 pub mod Clients

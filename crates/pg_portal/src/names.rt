@@ -22,7 +22,8 @@ pub struct Named<T> {
 impl<T> Model for Named<T> {
     ghost use Rattle.std.specs.FinMap as fin;
     ghost use Rattle.std.specs.Coded.{coded_list, coded_ℕ};
-    ghost use Rattle.pg_portal.specs.Names.{NameMap, name_map, with_unnamed};
+    ghost use Rattle.pg_portal.specs.Names.{NameMap, name_map};
+    ghost use Rattle.pg_portal.specs.Unnamed.{with_unnamed};
 
     ghost Value = { NameMap T };
 

@@ -1,4 +1,4 @@
-use Rattle.pg_portal.proofs.NameMaps.{with_unnamed-nothing}
+use Rattle.pg_portal.proofs.UnnamedEntries.{with_unnamed-nothing}
 use Rattle.pg_portal.proofs.names.Named.clear.Goals as goal
 
 pub returns : goal.returns

@@ -1,7 +1,7 @@
 use Rattle.std.proofs.Common.{◌∙◌, ap, sym, length, ◌==◌}
 use Rattle.std.specs.String.{string_bytes}
 use Rattle.std.specs.FinMap as map
-use Rattle.pg_portal.proofs.NameMaps.{insert-then, insert-else}
+use Rattle.pg_portal.proofs.UnnamedEntries.{insert-then, insert-else}
 use Rattle.pg_portal.proofs.names.Named.put.Goals as goal
 
 pub returns-then-is_empty-clause-ok : goal.returns-then-is_empty-clause-ok
