@@ -72,7 +72,7 @@ with_named-remove {X} o m k ks = alike (λ q. get-with_unnamed o (fin.remove m (
 
 pub with_unnamed-nothing : {A X : Type 0} (es : List (String A × X)) → es ≡ []
     → ◌≡◌ {A = NameMap X} (with_unnamed None (name_map es)) fin.empty
-with_unnamed-nothing es e = alike (λ q. fin.get-remove nat_list_cmp_total (name_map es) [] q ∙ at es e q
+with_unnamed-nothing {A} {X} es e = alike (λ q. fin.get-remove nat_list_cmp_total (name_map es) [] q ∙ at es e q
     ∙ sym (fin.get-empty (slice_cmp nat_cmp) q))
   where
     at : (es : List (String A × X)) → es ≡ [] → (q : List ℕ)
