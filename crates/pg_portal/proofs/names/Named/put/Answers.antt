@@ -14,9 +14,9 @@ pub returns-in_ok-insert-clause-ok : goal.returns-in_ok-insert-clause-ok
 returns-in_ok-insert-clause-ok g c =
     let key = string_bytes c.into_string.result in
     let inserted = insert-else c.self.inside.unnamed c.self.inside.others c.args.self.now c.self.view_is key c.is_empty.result
-        (c.is_empty.ensures ∙ ap (λ text. length text == 0) (c.as_str.ensures ∙ sym c.into_string.ensures)) c.if-is_empty.false
-        c.insert.new.self c.args.entry c.in_ok-insert.ensures.updates
-        ∙ ap (λ name. map.insert c.args.self.now name c.args.entry) c.into_string.ensures in
+    (c.is_empty.ensures ∙ ap (λ text. length text == 0) (c.as_str.ensures ∙ sym c.into_string.ensures)) c.if-is_empty.false
+    c.insert.new.self c.args.entry c.in_ok-insert.ensures.updates
+    ∙ ap (λ name. map.insert c.args.self.now name c.args.entry) c.into_string.ensures in
     elim c.match-branch-2.branch [
       | in-Some-2 w ↦ w.self-is ∙ inserted
       | in-None-2 w ↦ w.self-is ∙ inserted
