@@ -1,5 +1,5 @@
 -- Rows as they are made, cell by cell (protocol: Message Formats, DataRow).
-use Rattle.std.specs.Prelude.{ℕ, ◌+◌, ◌-◌, List, [], ◌++◌, length, Option, Some, None, pos, negsuc, Ok, Err, ◌≡◌, ◌⊎◌}
+use Rattle.std.specs.Prelude.{ℕ, zero, suc, ◌+◌, ◌-◌, List, [], ◌∷◌, ◌++◌, length, Option, Some, None, pos, negsuc, Ok, Err, ◌≡◌, ◌⊎◌}
 use Rattle.pg_messages.specs.declared.data.DataRow.{DataRow}
 use Rattle.pg_messages.specs.Fields.{int32, count32}
 use Rattle.pg_text.specs.declared.pg_type.PgType.{PgType}
@@ -24,10 +24,15 @@ no_cells fields = record { fields = fields; payload = []; cells = 0 }
 abbrev pub columns_left : RowSoFar → ℕ
 columns_left row = length row.fields - row.cells
 
+-- what stands before the bytes of a cell: Int32 length, and -1 for a null
+abbrev pub frame : Option ℕ → List ℕ
+frame None = int32 (negsuc 0)
+frame (Some n) = count32 n
+
 -- Int32 length and as many bytes; a null is the length -1 alone
 abbrev pub cell_bytes : Option (List ℕ) → List ℕ
-cell_bytes None = int32 (negsuc 0)
-cell_bytes (Some bytes) = count32 (length bytes) ++ bytes
+cell_bytes None = frame None
+cell_bytes (Some bytes) = frame (Some (length bytes)) ++ bytes
 
 abbrev pub with_cell : RowSoFar → Option (List ℕ) → RowSoFar
 with_cell row cell = record { fields = row.fields; payload = row.payload ++ cell_bytes cell; cells = row.cells + 1 }
@@ -41,6 +46,11 @@ field_cell binary text value ty Text options = text value ty options
 -- the row of the cells so far
 abbrev pub data_row : RowSoFar → DataRow
 data_row row = record { payload = row.payload; field_count = pos row.cells }
+
+-- a cell of a line of a COPY: a tab stands before each text but the first (protocol: COPY Operations)
+abbrev pub line_cell : ℕ → List ℕ → List ℕ
+line_cell zero text = text
+line_cell (suc index) text = 9 ∷ text
 
 -- why there is no cell: as it is told, or want of memory
 abbrev pub IsRefusal : Cell → CellError → Type 0

@@ -24,6 +24,7 @@ pub use names::Named;
 pub use on_demand::{CopyMaker, OnDemand, RowMaker};
 pub use page::{DeliveredPage, RowReceiver, deliver_page};
 pub use portal::{FetchResult, Format, Portal, PortalExecutionState};
+pub use results::cell::{push_cell, push_line_cell};
 pub use results::copy::{CopyResponse, CopySource, ListCopy, finish_copy_binary};
 pub use results::describe::{DescribePortalResponse, DescribeResponse, DescribeStatementResponse};
 pub use results::encoder::DataRowEncoder;

@@ -1,8 +1,9 @@
 -- What becomes of values that are appended one after another.
-use Rattle.std.specs.Prelude.{ℕ, zero, suc, List, [], ◌∷◌, ◌++◌, Result, Ok, Err, ◌≡◌, ◌⊎◌}
+use Rattle.std.specs.Prelude.{ℕ, List, ◌++◌, Result, Ok, Err, ◌≡◌, ◌⊎◌}
 use Rattle.std.specs.List.{concat, join_with_byte}
 use Rattle.pg_portal.specs.declared.error.PgWireError.{PgWireError}
 use Rattle.pg_portal.specs.declared.error.PgWireError.TheVariants as wire
+use Rattle.pg_portal.specs.Encoding.{line_cell}
 
 -- the bytes were appended
 abbrev pub IsPushed : Result (List ℕ) PgWireError → List ℕ → List ℕ → Type 0
@@ -21,14 +22,9 @@ joined (Err e) = Err e
 
 -- ---- lines
 
--- a tab before each text but the first
-abbrev pub tab : ℕ → List ℕ
-tab zero = []
-tab (suc n) = 9 ∷ []
-
--- the text at an index of a line, behind its tab
+-- the cell at an index of a line
 abbrev pub tabbed : ℕ → Result (List ℕ) PgWireError → Result (List ℕ) PgWireError
-tabbed index (Ok text) = Ok (tab index ++ text)
+tabbed index (Ok text) = Ok (line_cell index text)
 tabbed index (Err e) = Err e
 
 -- the texts, split by tabs

@@ -1,18 +1,18 @@
 //! Rows of relations as lines of a COPY (protocol: COPY Operations).
 
-ghost use Rattle.std.specs.Prelude.{◌≡◌, ◌≤◌, ◌+◌, ◌++◌, Ok, IfOk, IfErr, OnOk, length, map};
+ghost use Rattle.std.specs.Prelude.{◌≡◌, ◌≤◌, ◌+◌, Ok, IfOk, IfErr, OnOk, length, map};
 ghost use Rattle.pg_messages.specs.declared.backend.PgWireBackendMessage.TheVariants as server;
 ghost use Rattle.pg_messages.specs.Replies.{IsEncodable};
 ghost use Rattle.pg_portal.specs.Copying.{IsSendableCopy};
 ghost use Rattle.pg_portal.specs.Rows.{IsAnswerableItem};
 ghost use Rattle.pg_portal.specs.Told.{IsOutcome};
 ghost use Rattle.relation_tables.specs.RelationHandler.{all_or_error, text_of, line_item};
-ghost use Rattle.relation_handlers.specs.Values.{IsPushed, IsRefusedBy, tab, tabbed, tab_joined};
+ghost use Rattle.relation_handlers.specs.Values.{IsPushed, IsRefusedBy, tabbed, tab_joined};
 
 use crate::style::SessionStyle;
 use pg_interval::Interval;
 use pg_messages::{CopyData, PgBytes};
-use pg_portal::PgWireError;
+use pg_portal::{PgWireError, push_line_cell};
 use std::alloc::{AllocError, Global};
 
 /// A row as a line, or `InvalidOptionValue` in its place where the session's style isn't one. It
@@ -83,19 +83,6 @@ fn push_cell(
     ensures refused { IfErr result (IsRefusedBy (tabbed index (text_of style.now interval.now))) }
     ensures answerable { IfErr result IsAnswerableItem }
 {
-    let style = style.get(alloc)?;
-    push_tab(payload, index)?;
-    payload.extend_from_slice(style.text(interval).as_bytes())?;
-    Ok(())
-}
-
-/// Appends the tab before the text at an index, of which the first has none.
-fn push_tab(payload: &mut Vec<u8>, index: usize) -> Result<(), AllocError>
-    ensures tab { OnOk result (payload.new.items ≡ payload.old.items ++ tab index) }
-    ensures short { OnOk result (length payload.new.items ≤ length payload.old.items + 1) }
-{
-    if index == 0 {
-        return Ok(());
-    }
-    payload.extend_from_slice(b"\t")
+    let text = style.text(alloc, interval)?;
+    Ok(push_line_cell(payload, index, text.as_bytes())?)
 }

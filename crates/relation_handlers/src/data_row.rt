@@ -1,21 +1,18 @@
 //! Rows of relations as the protocol sends them (protocol: Message Formats, DataRow).
 
-ghost use Rattle.std.specs.Prelude.{◌≡◌, ◌≤◌, ◌+◌, ◌++◌, [], Ok, IfOk, IfErr, OnOk, length, map, zip};
-ghost use Rattle.pg_interval.specs.Printed.{printed};
-ghost use Rattle.pg_text.specs.Words.{printed_style};
+ghost use Rattle.std.specs.Prelude.{◌≡◌, ◌≤◌, ◌+◌, [], Ok, IfOk, IfErr, OnOk, length, map, zip};
 ghost use Rattle.pg_messages.specs.declared.backend.PgWireBackendMessage.TheVariants as server;
 ghost use Rattle.pg_messages.specs.Replies.{IsEncodable};
 ghost use Rattle.pg_portal.specs.Rows.{IsAnswerableItem, IsSendable};
 ghost use Rattle.pg_portal.specs.Told.{IsOutcome};
-ghost use Rattle.relation_tables.specs.Relations.{binary_value, text_value};
 ghost use Rattle.relation_tables.specs.RelationHandler.{all_or_error, value, row_item};
 ghost use Rattle.relation_handlers.specs.Values.{IsPushed, IsRefusedBy, joined};
 
 use crate::style::SessionStyle;
 use pg_interval::Interval;
 use pg_messages::{DataRow, PgBytes};
-use pg_portal::PgWireError;
-use pg_text::{FieldFormat, IntervalStyle};
+use pg_portal::{PgWireError, push_cell};
+use pg_text::FieldFormat;
 use std::alloc::{AllocError, Global};
 
 /// A row in these formats, one for each column, or `InvalidOptionValue` in its place where a column
@@ -113,37 +110,8 @@ fn push_value(
     ensures answerable { IfErr result IsAnswerableItem }
 {
     match format {
-        FieldFormat::Binary => Ok(push_binary(payload, interval)?),
-        FieldFormat::Text => {
-            let style = style.get(alloc)?;
-            Ok(push_text(payload, style, interval)?)
-        }
+        FieldFormat::Binary => push_cell(payload, &interval.to_cell())?,
+        FieldFormat::Text => push_cell(payload, style.text(alloc, interval)?.as_bytes())?,
     }
-}
-
-/// Appends a binary value: Int32 16, and the sixteen bytes of the interval.
-#[inline(always)]
-fn push_binary(payload: &mut Vec<u8>, interval: &Interval) -> Result<(), AllocError>
-    ensures pushed { OnOk result (payload.new.items
-        ≡ payload.old.items ++ binary_value interval.now) }
-    ensures short { OnOk result (length payload.new.items ≤ length payload.old.items + 20) }
-{
-    payload.extend_from_slice(&[0, 0, 0, 16])?;
-    payload.extend_from_slice(&interval.to_cell())
-}
-
-/// Appends a text value: Int32 length, and the text of the interval.
-fn push_text(
-    payload: &mut Vec<u8>,
-    style: IntervalStyle,
-    interval: &Interval,
-) -> Result<(), AllocError>
-    ensures pushed { OnOk result (payload.new.items
-        ≡ payload.old.items ++ text_value (printed (printed_style style) interval.now)) }
-    ensures short { OnOk result (length payload.new.items ≤ length payload.old.items + 4100) }
-{
-    let text = style.text(interval);
-    let len = text.as_bytes().len() as u32;
-    payload.extend_from_slice(&len.to_be_bytes())?;
-    payload.extend_from_slice(text.as_bytes())
+    Ok(())
 }

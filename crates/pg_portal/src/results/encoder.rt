@@ -1,16 +1,17 @@
 //! Rows as they are made, cell by cell.
 
-ghost use Rattle.std.specs.Prelude.{◌≡◌, ◌<◌, ◌≤◌, ◌++◌, OnOk, OnErr, IfOk, IfErr, IsSomeAnd, length, slice_get};
+ghost use Rattle.std.specs.Prelude.{◌≡◌, ◌<◌, ◌≤◌, OnOk, OnErr, IfOk, IfErr, IsSomeAnd, length, slice_get};
 ghost use Rattle.std.specs.Arc.{arc_value};
 ghost use Rattle.pg_messages.specs.declared.backend.PgWireBackendMessage.TheVariants as server;
 ghost use Rattle.pg_messages.specs.Replies.{IsEncodable};
-ghost use Rattle.pg_text.specs.Cells.{AtCell, IsShort};
-ghost use Rattle.pg_portal.specs.Encoding.{no_cells, columns_left, cell_bytes, with_cell, field_cell, data_row, IsRefusal};
+ghost use Rattle.pg_text.specs.Cells.{AtCell};
+ghost use Rattle.pg_portal.specs.Encoding.{no_cells, columns_left, with_cell, field_cell, data_row, IsRefusal};
 
+use crate::results::cell::push_value;
 use crate::results::field_info::FieldInfo;
 use bytes::BytesMut;
 use pg_messages::{DataRow, PgBytes, PgList};
-use pg_text::{CellError, FieldFormat, FormatOptions, IsNull, PgType, ToSql, ToSqlText};
+use pg_text::{CellError, FieldFormat, FormatOptions, PgType, ToSql, ToSqlText};
 use std::alloc::{AllocError, Global};
 use std::marker::Model;
 use std::sync::Arc;
@@ -84,7 +85,7 @@ impl DataRowEncoder {
     {
         let field = &self.fields.as_slice()[usize::from(self.cells)];
         let options = field.format_options();
-        push_cell(
+        push_value(
             &mut self.payload,
             value,
             field.datatype(),
@@ -112,7 +113,7 @@ impl DataRowEncoder {
         ensures refusal { IfErr result (IsRefusal
             (field_cell T.binary T.text value.now data_type format format_options.now)) }
     {
-        push_cell(&mut self.payload, value, data_type, format, format_options)?;
+        push_value(&mut self.payload, value, data_type, format, format_options)?;
         self.cells += 1;
         Ok(())
     }
@@ -142,44 +143,5 @@ impl DataRowEncoder {
     {
         let mut encoder = self;
         encoder.take_row()
-    }
-}
-
-/// Appends a value's cell, whose length is written once its bytes are there. After an error nothing
-/// is appended.
-fn push_cell<T: ToSql + ToSqlText>(
-    payload: &mut BytesMut,
-    value: &T,
-    data_type: PgType,
-    format: FieldFormat,
-    format_options: &FormatOptions,
-) -> Result<(), CellError>
-    ensures cell { OnOk result (AtCell
-        (field_cell T.binary T.text value.now data_type format format_options.now)
-        (λ cell. (payload.new.items ≡ payload.old.items ++ cell_bytes cell) × IsShort cell)) }
-    ensures unchanged { OnErr result (payload.new.items ≡ payload.old.items) }
-    ensures refusal { IfErr result (IsRefusal
-        (field_cell T.binary T.text value.now data_type format format_options.now)) }
-{
-    let start = payload.len();
-    payload.extend_from_slice(&[255; 4])?;
-    let answer = match format {
-        FieldFormat::Binary => value.to_sql(data_type, payload),
-        FieldFormat::Text => {
-            let alloc = *payload.allocator();
-            value.to_sql_text(alloc, data_type, payload, format_options)
-        }
-    };
-    match answer {
-        Ok(IsNull::Yes) => Ok(()),
-        Ok(IsNull::No) => {
-            let len = (payload.len() - start - 4) as u32;
-            payload.as_mut_slice()[start..start + 4].copy_from_slice(&len.to_be_bytes());
-            Ok(())
-        }
-        Err(error) => {
-            payload.truncate(start);
-            Err(error)
-        }
     }
 }

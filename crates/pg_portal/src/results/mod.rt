@@ -1,5 +1,6 @@
 //! What queries give: columns, rows, tags, and responses.
 
+pub mod cell;
 pub mod copy;
 pub mod describe;
 pub mod encoder;
