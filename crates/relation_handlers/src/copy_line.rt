@@ -83,6 +83,7 @@ fn push_cell(
     ensures refused { IfErr result (IsRefusedBy (tabbed index (text_of style.now interval.now))) }
     ensures answerable { IfErr result IsAnswerableItem }
 {
-    let text = style.text(alloc, interval)?;
+    let style = style.get(alloc)?;
+    let text = style.text(interval);
     Ok(push_line_cell(payload, index, text.as_bytes())?)
 }

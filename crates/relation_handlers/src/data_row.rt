@@ -1,8 +1,11 @@
 //! Rows of relations as the protocol sends them (protocol: Message Formats, DataRow).
 
-ghost use Rattle.std.specs.Prelude.{◌≡◌, ◌≤◌, ◌+◌, [], Ok, IfOk, IfErr, OnOk, length, map, zip};
+ghost use Rattle.std.specs.Prelude.{◌≡◌, ◌≤◌, ◌+◌, ◌++◌, [], Some, Ok, IfOk, IfErr, OnOk, length, map, zip};
+ghost use Rattle.pg_interval.specs.Printed.{printed};
+ghost use Rattle.pg_text.specs.Words.{printed_style};
 ghost use Rattle.pg_messages.specs.declared.backend.PgWireBackendMessage.TheVariants as server;
 ghost use Rattle.pg_messages.specs.Replies.{IsEncodable};
+ghost use Rattle.pg_portal.specs.Encoding.{cell_bytes};
 ghost use Rattle.pg_portal.specs.Rows.{IsAnswerableItem, IsSendable};
 ghost use Rattle.pg_portal.specs.Told.{IsOutcome};
 ghost use Rattle.relation_tables.specs.RelationHandler.{all_or_error, value, row_item};
@@ -12,7 +15,7 @@ use crate::style::SessionStyle;
 use pg_interval::Interval;
 use pg_messages::{DataRow, PgBytes};
 use pg_portal::{PgWireError, push_cell};
-use pg_text::FieldFormat;
+use pg_text::{FieldFormat, IntervalStyle};
 use std::alloc::{AllocError, Global};
 
 /// A row in these formats, one for each column, or `InvalidOptionValue` in its place where a column
@@ -111,7 +114,21 @@ fn push_value(
 {
     match format {
         FieldFormat::Binary => push_cell(payload, &interval.to_cell())?,
-        FieldFormat::Text => push_cell(payload, style.text(alloc, interval)?.as_bytes())?,
+        FieldFormat::Text => push_text(payload, style.get(alloc)?, interval)?,
     }
     Ok(())
+}
+
+/// Appends the text of an interval as a value of a row.
+fn push_text(
+    payload: &mut Vec<u8>,
+    style: IntervalStyle,
+    interval: &Interval,
+) -> Result<(), AllocError>
+    ensures pushed { OnOk result (payload.new.items ≡ payload.old.items
+        ++ cell_bytes (Some (printed (printed_style style) interval.now))) }
+    ensures short { OnOk result (length payload.new.items ≤ length payload.old.items + 4100) }
+{
+    let text = style.text(interval);
+    push_cell(payload, text.as_bytes())
 }

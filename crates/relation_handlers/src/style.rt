@@ -1,16 +1,16 @@
 //! The interval style that a session's startup parameters name.
 
-ghost use Rattle.std.specs.Prelude.{◌≡◌, ◌≤◌, IfOk, IfErr, codes, length, unwrap_or};
+ghost use Rattle.std.specs.Prelude.{◌≡◌, IfOk, IfErr, codes, unwrap_or};
 ghost use Rattle.std.specs.FinMap as fin;
 ghost use Rattle.pg_text.specs.Words.{interval_style_of};
+ghost use Rattle.pg_portal.specs.declared.error.PgWireError.TheVariants as wire;
 ghost use Rattle.pg_portal.specs.Clients.{HasShortMetadata};
 ghost use Rattle.pg_portal.specs.Rows.{IsAnswerableItem};
 ghost use Rattle.pg_portal.specs.Texts.{IsShortText};
 ghost use Rattle.pg_portal.specs.Told.{IsOutcome};
-ghost use Rattle.relation_tables.specs.RelationHandler.{or_refused, session_style, text_of};
+ghost use Rattle.relation_tables.specs.RelationHandler.{or_refused, session_style};
 ghost use Rattle.relation_handlers.specs.Told.{told_style};
 
-use pg_interval::{Interval, IntervalText};
 use pg_messages::PgStr;
 use pg_portal::{ClientInfo, PgWireError};
 use pg_text::{CellError, IntervalStyle};
@@ -64,33 +64,26 @@ impl SessionStyle {
     }
 
     /// The style, or `InvalidOptionValue` with the text that names none.
+    #[inline]
     pub fn get(&self, alloc: Global) -> Result<IntervalStyle, PgWireError>
         ensures outcome { IsOutcome self.now result }
         ensures answerable { IfErr result IsAnswerableItem }
     {
         match &self.style {
             Ok(style) => Ok(*style),
-            Err(text) => Err(PgWireError::InvalidOptionValue(PgStr::copy_of(
-                alloc,
-                text.as_str(),
-            )?)),
+            Err(text) => Err(refusal(alloc, text)?),
         }
     }
+}
 
-    /// An interval's text in the style, or `InvalidOptionValue` with the text that names none.
-    #[inline(always)]
-    pub(crate) fn text(
-        &self,
-        alloc: Global,
-        interval: &Interval,
-    ) -> Result<IntervalText, PgWireError>
-        ensures outcome { IsOutcome (text_of self.now interval.now) result }
-        ensures short { IfOk result (λ text. length text ≤ 96) }
-        ensures answerable { IfErr result IsAnswerableItem }
-    {
-        let style = self.get(alloc)?;
-        Ok(style.text(interval))
-    }
+/// The refusal of a text that names no style.
+#[cold]
+#[inline(never)]
+fn refusal(alloc: Global, text: &PgStr) -> Result<PgWireError, AllocError>
+    ensures { IfOk result (λ error. error ≡ wire.InvalidOptionValue text.now) }
+{
+    let text = PgStr::copy_of(alloc, text.as_str())?;
+    Ok(PgWireError::InvalidOptionValue(text))
 }
 
 /// The startup parameter of this name, and `postgres` without one.
