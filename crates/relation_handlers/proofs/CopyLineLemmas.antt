@@ -3,8 +3,9 @@ use Rattle.std.proofs.Common.{◌≡◌, ℕ, zero, suc, ◌+◌, ◌<◌, List,
 use Rattle.std.specs.List.{flat_map, join_with_byte}
 use Rattle.std.proofs.lemmas.List.{drop_more, append-nil}
 use Rattle.pg_portal.specs.declared.error.PgWireError.{PgWireError}
+use Rattle.pg_portal.specs.Encoding.{line_cell}
 use Rattle.relation_tables.specs.RelationHandler.{in_front, all_or_error}
-use Rattle.relation_handlers.specs.Values.{IsPushed, tab, tabbed}
+use Rattle.relation_handlers.specs.Values.{IsPushed, tabbed}
 use Rattle.relation_handlers.proofs.ValueLemmas.{Values}
 
 -- the texts behind an index
@@ -21,14 +22,14 @@ first_text text [] = sym (append-nil text)
 first_text text (t ∷ texts) = ap (λ l. text ++ (9 ∷ l)) (first_text t texts)
 
 next_text : (index : ℕ) (text : List ℕ) (texts : List (List ℕ))
-    → behind index (text ∷ texts) ≡ (tab index ++ text) ++ behind (suc index) texts
+    → behind index (text ∷ texts) ≡ line_cell index text ++ behind (suc index) texts
 next_text zero text texts = first_text text texts
 next_text (suc n) text texts = refl
 
 push_text : (index : ℕ) (v : Result (List ℕ) PgWireError) (old new : List ℕ) (rest : Values) → IsPushed (tabbed index v) old new
     → finish_line old index (in_front v rest) ≡ finish_line new (suc index) rest
 push_text index (Ok b) old new (Ok vs) h =
-    ap (λ l. Ok l) (ap (λ l. old ++ l) (next_text index b vs) ∙ sym (append_assoc old (tab index ++ b) (behind (suc index) vs))
+    ap (λ l. Ok l) (ap (λ l. old ++ l) (next_text index b vs) ∙ sym (append_assoc old (line_cell index b) (behind (suc index) vs))
     ∙ ap (λ l. l ++ behind (suc index) vs) (sym h))
 push_text index (Ok b) old new (Err e) h = refl
 push_text index (Err e) old new rest h = absurd h

@@ -1,7 +1,7 @@
 //! Cells as they are written: in a row behind their lengths (protocol: Message Formats, DataRow), in
 //! a line of a COPY behind tabs (protocol: COPY Operations).
 
-ghost use Rattle.std.specs.Prelude.{◌≡◌, ◌≤◌, ◌++◌, OnOk, OnErr, IfErr, Some, length};
+ghost use Rattle.std.specs.Prelude.{◌≡◌, ◌≤◌, ◌+◌, ◌++◌, OnOk, OnErr, IfErr, Some, length};
 ghost use Rattle.pg_text.specs.Cells.{AtCell, IsShort};
 ghost use Rattle.pg_portal.specs.Encoding.{frame, cell_bytes, field_cell, line_cell, IsRefusal};
 
@@ -24,7 +24,10 @@ fn frame(len: Option<u32>) -> [u8; 4]
 #[inline(always)]
 pub fn push_cell(payload: &mut Vec<u8>, bytes: &[u8]) -> Result<(), AllocError>
     requires { length bytes.now ≤ 2147483647 }
-    ensures { OnOk result (payload.new.items ≡ payload.old.items ++ cell_bytes (Some bytes.now)) }
+    ensures pushed { OnOk result (payload.new.items
+        ≡ payload.old.items ++ cell_bytes (Some bytes.now)) }
+    ensures len { OnOk result (length payload.new.items
+        ≡ length payload.old.items + 4 + length bytes.now) }
 {
     payload.extend_from_slice(&frame(Some(bytes.len() as u32)))?;
     payload.extend_from_slice(bytes)
@@ -34,7 +37,10 @@ pub fn push_cell(payload: &mut Vec<u8>, bytes: &[u8]) -> Result<(), AllocError>
 /// says: a tab stands before each but the first.
 #[inline(always)]
 pub fn push_line_cell(payload: &mut Vec<u8>, index: usize, text: &[u8]) -> Result<(), AllocError>
-    ensures { OnOk result (payload.new.items ≡ payload.old.items ++ line_cell index text.now) }
+    ensures pushed { OnOk result (payload.new.items
+        ≡ payload.old.items ++ line_cell index text.now) }
+    ensures len { OnOk result (length payload.new.items
+        ≤ length payload.old.items + 1 + length text.now) }
 {
     if index != 0 {
         payload.extend_from_slice(b"\t")?;
