@@ -78,7 +78,7 @@ with_unnamed-nothing {A} {X} es e = alike (λ q. fin.get-remove nat_list_cmp_tot
     at : (es : List (String A × X)) → es ≡ [] → (q : List ℕ)
         → cond (is_eq (slice_cmp nat_cmp q [])) None (fin.get (name_map es) q) ≡ None
     at [] e [] = refl
-    at [] e (k ∷ ks) = get-name_map [] (k ∷ ks)
+    at [] e (k ∷ ks) = get-name_map {A = A} {X = X} [] (k ∷ ks)
     at (x ∷ xs) e q = cc
 
 no_name : (name : List ℕ) (b : Bool) → b ≡ (length name == 0) → b ≡ true → name ≡ []
