@@ -75,11 +75,6 @@ fn what_is_released_is_no_byte(rt: HostRuntime) -> Result<(), Fail> {
     outbox.push(&copied(rt.alloc(), 65536)?)?;
     assert_eq!(rt; taken(&mut outbox), 65536);
     outbox.release();
-    assert_eq!(rt; outbox.len(), 5);
-    outbox.push(&copied(rt.alloc(), 65536)?)?;
-    assert_eq!(rt; taken(&mut outbox), 65536);
-    assert_eq!(rt; taken(&mut outbox), 10);
-    outbox.release();
-    assert_eq!(rt; taken(&mut outbox), 0);
+    assert_eq!(rt; taken(&mut outbox), 5);
     Ok(())
 }
