@@ -1,5 +1,5 @@
 -- Rows that call nothing, and rows that are the same.
-use Rattle.std.proofs.Common.{◌≡◌, ℕ, List, [], ◌∷◌, ◌++◌, Bool, Option, Result, IfErr, refl, sym, ap, subst, ◌∙◌, append-nil, ⊎_elim, inl, inr}
+use Rattle.std.proofs.Common.{◌≡◌, ℕ, List, [], ◌∷◌, ◌++◌, Bool, Option, Result, IfOk, IfErr, refl, sym, ap, subst, ◌∙◌, append-nil, ⊎_elim, inl, inr}
 use Rattle.pg_portal.specs.declared.error.PgWireError.{PgWireError}
 use Rattle.pg_handlers.specs.declared.desk.DeskCall.{DeskCall}
 use Rattle.pg_handlers.specs.declared.ends.EndKind.{EndKind}
@@ -16,6 +16,8 @@ use Rattle.pg_handlers.specs.Handlers.{Handlers}
 use Rattle.pg_handlers.specs.Table.{message_row, ready_row, statement_row}
 use Rattle.pg_handlers.specs.State.{State}
 use Rattle.pg_handlers.specs.Effect.{Effect, Outcome, Row, IsEffect, IsRefusedEffect, IsRow, IsCutRow, IsStoppedRow, IsRefusedRow, Over, Stopped, silent, over}
+use Rattle.pg_session.specs.Messages.{outcome_of}
+use Rattle.pg_session.specs.Session.{SessionValue}
 
 pub silent_row : {S : Type 0} (e : Effect S) {out new_out : List ℕ} (calls : List DeskCall) {o : Outcome S} → IsEffect e out new_out o
     → IsRow (λ answers. silent e) out new_out calls calls o
@@ -85,11 +87,22 @@ ended_row {S} h s m t out calls is =
     silent_row (over end.Terminate) calls (record { replied = sym (append-nil out); came = refl }) in
     subst (λ n. IsRow (λ answers. ready_row h answers s n) out out calls calls ended) (sym is) row
 
--- ---- the same handlers, state and outbox
+-- ---- the same session, by its fields inside and as a value
 
-pub refused_as : {S : Type 0} (h other : Handlers S) (s t : State S) (m : PgWireFrontendMessage) (out other_out new_out : List ℕ)
-    (calls new_calls : List DeskCall) (n : State S)
-    (answer : Result (Option EndKind) SessionError) → h ≡ other → s ≡ t → out ≡ other_out
-    → IfErr answer (IsRefusedRow (λ answers. message_row other answers t m) other_out new_out calls new_calls n)
-    → IfErr answer (IsRefusedRow (λ answers. message_row h answers s m) out new_out calls new_calls n)
-refused_as h other s t m out other_out new_out calls new_calls n answer p q r x = rw (p, q, r) x
+pub row_as : {H S : Type 0} (told : H → Handlers S) (inside now : SessionValue H S) (m : PgWireFrontendMessage) (new_out : List ℕ)
+    (calls new_calls : List DeskCall) (n : State S) (answer : Result (Option EndKind) SessionError) → inside ≡ now
+    → IfOk answer (λ end. IsRow (λ answers. message_row (told inside.handlers) answers inside.state m) inside.unsent new_out
+    calls new_calls (outcome_of end n))
+    → IfOk answer (λ end. IsRow (λ answers. message_row (told now.handlers) answers now.state m) now.unsent new_out
+    calls new_calls (outcome_of end n))
+row_as told inside now m new_out calls new_calls n answer same x = subst (λ v. IfOk answer (λ end. IsRow
+    (λ answers. message_row (told v.handlers) answers v.state m) v.unsent new_out calls new_calls (outcome_of end n))) same x
+
+pub refused_as : {H S : Type 0} (told : H → Handlers S) (inside now : SessionValue H S) (m : PgWireFrontendMessage) (new_out : List ℕ)
+    (calls new_calls : List DeskCall) (n : State S) (answer : Result (Option EndKind) SessionError) → inside ≡ now
+    → IfErr answer (IsRefusedRow (λ answers. message_row (told inside.handlers) answers inside.state m) inside.unsent new_out
+    calls new_calls n)
+    → IfErr answer (IsRefusedRow (λ answers. message_row (told now.handlers) answers now.state m) now.unsent new_out
+    calls new_calls n)
+refused_as told inside now m new_out calls new_calls n answer same x = subst (λ v. IfErr answer (IsRefusedRow
+    (λ answers. message_row (told v.handlers) answers v.state m) v.unsent new_out calls new_calls n)) same x

@@ -1,13 +1,14 @@
 -- Rows of a phase that calls nothing, told with an error of a session.
-use Rattle.std.proofs.Common.{◌≡◌, ℕ, List, Bool, Option, Result, Ok, Err, IfOk, IfErr, refl}
+use Rattle.std.proofs.Common.{◌≡◌, ℕ, List, Bool, Option, Result, Ok, Err, IfOk, IfErr, refl, subst, sym}
 use Rattle.pg_messages.specs.declared.frontend.PgWireFrontendMessage.{PgWireFrontendMessage}
 use Rattle.pg_portal.specs.declared.client.PgWireConnectionState.TheVariants as phase
 use Rattle.pg_handlers.specs.CopyRows.{copy_row}
 use Rattle.pg_handlers.specs.Handlers.{Handlers}
-use Rattle.pg_handlers.specs.Table.{message_row, awaiting_sync_row}
+use Rattle.pg_handlers.specs.Table.{message_row, row, ready_row, awaiting_sync_row}
 use Rattle.pg_portal.specs.declared.error.PgWireError.{PgWireError}
 use Rattle.pg_handlers.specs.declared.desk.DeskCall.{DeskCall}
 use Rattle.pg_handlers.specs.declared.ends.EndKind.{EndKind}
+use Rattle.pg_handlers.specs.declared.ends.SessionError.{SessionError}
 use Rattle.pg_handlers.specs.declared.ends.SessionError.TheVariants as session
 use Rattle.pg_handlers.specs.Effect.{Effect, Row, IsEffect, IsRefusedEffect, IsRow, IsRefusedRow, silent}
 use Rattle.pg_handlers.specs.State.{State}
@@ -32,6 +33,14 @@ with_session_error_refused row e out new_out calls s (Err error) same x =
     same_refused row (λ answers. silent e) out new_out calls calls s (session.Wire error) same (silent_refused e calls x)
 
 -- ---- the row of a phase
+
+pub ready_refused : {S : Type 0} (h : Handlers S) (s : State S) (m : PgWireFrontendMessage) (out new_out : List ℕ)
+    (calls new_calls : List DeskCall) (n : State S) (answer : Result (Option EndKind) SessionError)
+    → s.info.state ≡ phase.ReadyForQuery
+    → IfErr answer (IsRefusedRow (λ answers. ready_row h answers s m) out new_out calls new_calls n)
+    → IfErr answer (IsRefusedRow (λ answers. message_row h answers s m) out new_out calls new_calls n)
+ready_refused h s m out new_out calls new_calls n answer is x = subst (λ p. IfErr answer (IsRefusedRow
+    (λ answers. row h answers s m p) out new_out calls new_calls n)) (sym is) x
 
 pub sync_row : {S : Type 0} (h : Handlers S) (answers : List Bool) (s : State S) (m : PgWireFrontendMessage)
     → s.info.state ≡ phase.AwaitingSync

@@ -11,11 +11,11 @@ ghost use Rattle.pg_handlers.specs.Good.{IsGiven, IsGoodState};
 ghost use Rattle.pg_handlers.specs.Questions.{HasSpent, questions_since};
 ghost use Rattle.pg_handlers.specs.Sending.{IsAnswerableError};
 ghost use Rattle.pg_handlers.specs.State.{state_of};
-ghost use Rattle.pg_handlers.specs.Table.{message_row, ready_row, statement_row, IsPlain, awaiting_sync_row};
+ghost use Rattle.pg_handlers.specs.Table.{ready_row, statement_row, IsPlain, awaiting_sync_row};
 ghost use Rattle.pg_handlers.specs.declared.ends.EndKind.TheVariants.{InputEnd};
-ghost use Rattle.pg_session.specs.Messages.{IsGivenIn, outcome_of, with_session_error};
+ghost use Rattle.pg_session.specs.Messages.{outcome_of, with_session_error};
 
-use crate::startup::{let_go, on_startup_phase};
+use crate::startup::let_go;
 use pg_handlers::{
     CancelDesk, Client, CopyHandler, EndKind, ExtendedQueryHandler, PgWireServerHandlers,
     SessionError, SimpleQueryHandler, Turns, send_ready_for_query,
@@ -24,61 +24,8 @@ use pg_messages::PgWireFrontendMessage;
 use pg_portal::{PgWireConnectionState, PgWireError, PortalStore};
 use std::alloc::Global;
 
-/// Answers a message.
-pub(crate) fn on_message<
-    H: PgWireServerHandlers,
-    St: PortalStore<
-        Statement = <H::Extended as ExtendedQueryHandler>::Statement,
-        Rows = <H::Extended as ExtendedQueryHandler>::Rows,
-    >,
-    D: CancelDesk,
->(
-    alloc: Global,
-    handlers: &H,
-    client: &mut Client<St>,
-    desk: &mut D,
-    turns: &mut Turns,
-    message: PgWireFrontendMessage,
-) -> Result<Option<EndKind>, SessionError>
-    requires given { IsGivenIn (state_of St.maps client.old) message }
-    requires good { IsGoodState (H.told handlers.now).extended.parser
-        (state_of St.maps client.old) }
-    ensures ok { IfOk result (λ end. IsRow
-        (λ answers. message_row
-        (H.told handlers.now)
-        answers (state_of St.maps client.old) message)
-        client.old.outbox client.new.outbox (D.told desk.old).calls (D.told desk.new).calls
-        (outcome_of end (state_of St.maps client.new))) }
-    ensures refused { IfErr result (IsRefusedRow
-        (λ answers. message_row
-        (H.told handlers.now)
-        answers (state_of St.maps client.old) message)
-        client.old.outbox client.new.outbox (D.told desk.old).calls (D.told desk.new).calls
-        (state_of St.maps client.new)) }
-    ensures answerable { IfErr result IsAnswerableError }
-    ensures ends { IfOk result (λ end. end ≢ Some InputEnd) }
-    ensures good { IsGoodState (H.told handlers.now).extended.parser (state_of St.maps client.new) }
-    ensures turns { HasSpent turns.old turns.new
-        (questions_since (D.told desk.old).calls (D.told desk.new).calls) result }
-    ensures bounded { turns.old.spent ≤ turns.old.limit → turns.new.spent ≤ turns.new.limit }
-    ensures keeps { KeepsDesk (D.told desk.old) (D.told desk.new) }
-{
-    match client.info.state {
-        PgWireConnectionState::AwaitingStartup => on_startup_phase(alloc, client, desk, message),
-        PgWireConnectionState::ReadyForQuery => {
-            on_ready(alloc, handlers, client, desk, turns, message)
-        }
-        PgWireConnectionState::AwaitingSync => {
-            with_session_error(on_awaiting_sync(handlers, client, message))
-        }
-        PgWireConnectionState::CopyInProgress(is_extended) => {
-            with_session_error(on_copy(alloc, handlers, client, is_extended, message))
-        }
-    }
-}
-
 /// The same answer, with an error of a message as one of a session.
-fn with_session_error(
+pub(crate) fn with_session_error(
     answer: Result<Option<EndKind>, PgWireError>,
 ) -> Result<Option<EndKind>, SessionError>
     ensures { result ≡ with_session_error answer }
@@ -90,7 +37,7 @@ fn with_session_error(
 }
 
 /// A message of a session that is ready.
-fn on_ready<
+pub(crate) fn on_ready<
     H: PgWireServerHandlers,
     St: PortalStore<
         Statement = <H::Extended as ExtendedQueryHandler>::Statement,
@@ -197,7 +144,7 @@ fn on_statement<
 }
 
 /// A message after an error: all but Sync and Terminate is dropped.
-fn on_awaiting_sync<
+pub(crate) fn on_awaiting_sync<
     H: PgWireServerHandlers,
     St: PortalStore<
         Statement = <H::Extended as ExtendedQueryHandler>::Statement,
@@ -235,7 +182,7 @@ fn on_awaiting_sync<
 }
 
 /// A message of a COPY from the client: all but those of the COPY and Terminate are dropped.
-fn on_copy<
+pub(crate) fn on_copy<
     H: PgWireServerHandlers,
     St: PortalStore<
         Statement = <H::Extended as ExtendedQueryHandler>::Statement,

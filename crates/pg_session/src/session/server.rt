@@ -13,8 +13,9 @@ ghost use Rattle.pg_handlers.specs.declared.ends.EndKind.TheVariants.{InputEnd, 
 ghost use Rattle.pg_session.specs.Messages.{IsGivenIn, outcome_of, scope_for, next_of};
 ghost use Rattle.pg_session.specs.Session.{stays_open, goes_on};
 
-use crate::messages::on_message;
+use crate::messages::{on_awaiting_sync, on_copy, on_ready, with_session_error};
 use crate::session::Session;
+use crate::startup::on_startup_phase;
 use pg_handlers::{
     CancelDesk, EndKind, ExtendedQueryHandler, PgWireServerHandlers, SessionError, Turns,
     send_ready_for_query,
@@ -78,23 +79,49 @@ pub fn process_message<
     ensures bounded { turns.old.spent ≤ turns.old.limit → turns.new.spent ≤ turns.new.limit }
     ensures keeps { KeepsDesk (D.told desk.old) (D.told desk.new) }
 {
-    let outcome = on_message(
-        alloc,
-        &*session.handlers,
-        &mut session.client,
-        desk,
-        turns,
-        message,
-    );
-    session.opened = stays_open(&outcome);
-    outcome
+    match session.client.info.state {
+        PgWireConnectionState::AwaitingStartup => {
+            let outcome = on_startup_phase(alloc, &mut session.client, desk, message);
+            session.opened = stays_open(&outcome);
+            outcome
+        }
+        PgWireConnectionState::ReadyForQuery => {
+            let handlers = &*session.handlers;
+            let outcome = on_ready(alloc, handlers, &mut session.client, desk, turns, message);
+            session.opened = stays_open(&outcome);
+            outcome
+        }
+        PgWireConnectionState::AwaitingSync => {
+            let handlers = &*session.handlers;
+            let outcome = with_session_error(on_awaiting_sync(
+                handlers,
+                &mut session.client,
+                message,
+            ));
+            session.opened = stays_open(&outcome);
+            outcome
+        }
+        PgWireConnectionState::CopyInProgress(is_extended) => {
+            let handlers = &*session.handlers;
+            let client = &mut session.client;
+            let outcome = with_session_error(on_copy(
+                alloc,
+                handlers,
+                client,
+                is_extended,
+                message,
+            ));
+            session.opened = stays_open(&outcome);
+            outcome
+        }
+    }
 }
 
 /// Tells the client an error of a message, and does what follows it: ErrorResponse, and where the
 /// error's severity is FATAL the end; else the transaction status of an error, and the wait for
 /// Sync where that is wanted (after an extended message or in a COPY of one), or ReadyForQuery. The
-/// session is open, and the error is no want of memory. Before the startup packet an error is FATAL:
-/// any other would leave the client without its startup replies.
+/// session is open, and the error is no want of memory. Before the startup packet an error is
+/// FATAL: any other would leave the client without its startup replies.
 ///
 /// The replies wait for the next `feed`. An end closes the session, and so does AllocError, after
 /// which nothing more is said of what waits.
