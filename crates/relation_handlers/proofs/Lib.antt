@@ -6,3 +6,4 @@ pub mod ResponseLemmas
 pub mod SharedLemmas
 pub mod ReadSoFar
 pub mod EvenRows
+pub mod MadeLemmas

@@ -3,3 +3,4 @@ pub mod Queries
 pub mod Values
 pub mod Told
 pub mod Shared
+pub mod Made

@@ -1,69 +1,46 @@
-//! The lines of a relation, made one by one.
+//! The lines of a relation, for a COPY of it.
 
-ghost use Rattle.std.specs.Prelude.{◌≡◌, map};
-ghost use Rattle.relation_tables.specs.RelationHandler.{line_item};
-ghost use Rattle.relation_handlers.specs.Tables.{IsSound};
+ghost use Rattle.std.specs.Prelude.{◌≡◌};
+ghost use Rattle.relation_handlers.specs.Made.{lines_left};
 
-use crate::copy_line::line_item;
-use crate::style::SessionStyle;
-use pg_interval::Interval;
-use pg_messages::{CopyData, PgList};
-use pg_portal::{CopySource, PgWireError};
-use relation_tables::Relation;
-use std::alloc::{AllocError, Global};
+use crate::row_source::RelationRows;
+use pg_messages::CopyData;
+use pg_portal::{CopySource, OnDemand, PgWireError};
+use std::alloc::AllocError;
 use std::marker::Model;
 
-/// The lines of a relation from a position on, each made when it is asked for.
+/// The lines of a relation from a position on, each made when it is asked for from the memory of an
+/// allocator.
 #[derive(Drop)]
-pub struct RelationCopy<'r> {
-    alloc: Global,
-    rows: &'r [PgList<Interval>],
-    position: usize,
-    width: usize,
-    style: SessionStyle,
+pub struct RelationCopy<'r, A> {
+    lines: OnDemand<RelationRows<'r>>,
+    alloc: A,
 }
 
-impl<'r> Model for RelationCopy<'r> {
-    ghost use Rattle.std.specs.Prelude.{List, IsTrue, ◌≤◌, map, drop};
+impl<'r, A> Model for RelationCopy<'r, A> {
+    ghost use Rattle.std.specs.Prelude.{List};
     ghost use Rattle.pg_portal.specs.Copying.{CopyItem};
-    ghost use Rattle.relation_tables.specs.Relations.{are_even};
-    ghost use Rattle.relation_tables.specs.RelationHandler.{line_item};
+    ghost use Rattle.relation_handlers.specs.Made.{lines_left};
 
     ghost Value = { List CopyItem };
 
-    ghost view = { λ c. map (line_item c.style) (drop c.position c.rows.now) };
-
-    ghost invariant = { λ c. (c.width ≤ 1600) × IsTrue (are_even c.width c.rows.now) };
+    ghost view = { λ copy. lines_left copy.lines };
 }
 
-impl<'r> RelationCopy<'r> {
-    /// The lines of a relation from its first on.
-    pub fn new(alloc: Global, relation: &'r Relation, style: SessionStyle) -> RelationCopy<'r>
-        requires { IsSound relation.now }
-        ensures { result ≡ map (line_item style) relation.now.rows }
+impl<'r, A: Drop> RelationCopy<'r, A> {
+    /// The lines that a maker makes.
+    pub(crate) fn new(alloc: A, lines: OnDemand<RelationRows<'r>>) -> RelationCopy<'r, A>
+        ensures { result ≡ lines_left lines.entry }
     {
-        RelationCopy {
-            alloc,
-            rows: relation.rows.as_slice(),
-            position: 0,
-            width: relation.columns.len(),
-            style,
-        }
+        RelationCopy { lines, alloc }
     }
 }
 
-impl<'r> CopySource for RelationCopy<'r> {
+impl<'r, A: Drop> CopySource for RelationCopy<'r, A> {
     ghost items = { λ items. items };
 
     /// One line is made. After want of memory it is still to come.
     fn next(&mut self) -> Result<Option<Result<CopyData, PgWireError>>, AllocError> {
-        match self.rows.get(self.position) {
-            Some(row) => {
-                let item = line_item(self.alloc, &self.style, row.as_slice())?;
-                self.position += 1;
-                Ok(Some(item))
-            }
-            None => Ok(None),
-        }
+        CopySource::next(&mut self.lines)
     }
 }

@@ -6,10 +6,8 @@ ghost use Rattle.pg_handlers.specs.Replies.{parameter_description};
 ghost use Rattle.relation_tables.specs.RelationHandler.{given_types};
 
 use crate::columns::fields_of;
-use crate::copy::RelationCopy;
-use crate::parser::RelationParser;
-use crate::query::RelationQuery;
-use crate::row_source::RelationRows;
+use crate::query::{RelationQuery, RelationResponse};
+use crate::served::ServedRelations;
 use crate::simple::{SimpleQuery, other_query, statement_query};
 use crate::statement_lookup::find_statement;
 use crate::statement_response::{polls_of, response_of};
@@ -18,7 +16,7 @@ use pg_handlers::{ExtendedQueryHandler, NoopHandler, PgWireServerHandlers, Simpl
 use pg_messages::PgList;
 use pg_portal::{
     ClientInfo, DescribePortalResponse, DescribeStatementResponse, Format, PgWireError, Portal,
-    Response, StoredStatement,
+    StoredStatement,
 };
 use pg_text::PgType;
 use query_texts::trimmed;
@@ -29,31 +27,33 @@ use std::sync::Arc;
 /// It serves relations: extended queries of them, and simple queries of them, which may be `COPY
 /// name TO STDOUT`. COPY from the client is left to another handler.
 #[derive(Drop)]
-pub struct RelationHandler<'r> {
+pub struct RelationHandlerOver<B> {
     /// The relations.
-    pub relations: &'r RelationTable,
+    pub relations: B,
     /// The handler of COPY.
     pub copying: NoopHandler,
 }
 
-impl<'r> ExtendedQueryHandler for RelationHandler<'r> {
+/// The handlers of a table of relations, whose rows are made on demand.
+pub type RelationHandler<'r> = RelationHandlerOver<&'r RelationTable>;
+
+impl<B: ServedRelations> ExtendedQueryHandler for RelationHandlerOver<B> {
     ghost use Rattle.relation_tables.specs.RelationHandler.{told_extended};
 
     type Statement = RelationStatement;
 
-    type QueryParser = RelationParser<'r>;
+    type QueryParser = B::Parser;
 
-    type Rows = RelationRows<'r>;
+    type Rows = B::Rows;
 
-    type CopyRows = RelationCopy<'r>;
+    type CopyRows = B::Lines;
 
-    type Query = RelationQuery<Response<RelationRows<'r>, RelationCopy<'r>>>;
+    type Query = RelationQuery<RelationResponse<B>>;
 
-    ghost told = { λ handler. told_extended handler.relations.now };
+    ghost told = { λ handler. told_extended (B.told handler.relations) };
 
-    fn query_parser(&self, alloc: Global) -> Result<Arc<RelationParser<'r>>, AllocError> {
-        let relations = self.relations;
-        Ok(Arc::new(alloc, RelationParser { relations })?)
+    fn query_parser(&self, alloc: Global) -> Result<Arc<B::Parser>, AllocError> {
+        self.relations.parser(alloc)
     }
 
     /// Parameters have the types that they were given, and `unknown` without one.
@@ -65,7 +65,7 @@ impl<'r> ExtendedQueryHandler for RelationHandler<'r> {
     ) -> Result<DescribeStatementResponse, PgWireError> {
         let parameters = given_types(alloc, target.parameter_types.as_slice())?;
         let formats = Format::UnifiedText;
-        let fields = fields_of(alloc, self.relations, target.statement, &formats)?;
+        let fields = fields_of(alloc, self.relations.table(), target.statement, &formats)?;
         Ok(DescribeStatementResponse::new(parameters, fields))
     }
 
@@ -73,10 +73,15 @@ impl<'r> ExtendedQueryHandler for RelationHandler<'r> {
         &self,
         alloc: Global,
         _client: &ClientInfo,
-        target: &Portal<RelationStatement, RelationRows<'r>>,
+        target: &Portal<RelationStatement, B::Rows>,
     ) -> Result<DescribePortalResponse, PgWireError> {
         let means = target.statement.statement;
-        let fields = fields_of(alloc, self.relations, means, &target.result_column_format)?;
+        let fields = fields_of(
+            alloc,
+            self.relations.table(),
+            means,
+            &target.result_column_format,
+        )?;
         Ok(DescribePortalResponse::new(fields))
     }
 
@@ -84,26 +89,26 @@ impl<'r> ExtendedQueryHandler for RelationHandler<'r> {
         &self,
         alloc: Global,
         client: &ClientInfo,
-        portal: &Portal<RelationStatement, RelationRows<'r>>,
+        portal: &Portal<RelationStatement, B::Rows>,
         _max_rows: i32,
-    ) -> Result<RelationQuery<Response<RelationRows<'r>, RelationCopy<'r>>>, AllocError> {
+    ) -> Result<RelationQuery<RelationResponse<B>>, AllocError> {
         let means = portal.statement.statement;
         let formats = &portal.result_column_format;
-        let response = response_of(alloc, self.relations, client, formats, means)?;
-        Ok(RelationQuery::new(polls_of(self.relations, means), Ok(response)))
+        let response = response_of(alloc, &self.relations, client, formats, means)?;
+        Ok(RelationQuery::new(polls_of(self.relations.table(), means), Ok(response)))
     }
 }
 
-impl<'r> SimpleQueryHandler for RelationHandler<'r> {
+impl<B: ServedRelations> SimpleQueryHandler for RelationHandlerOver<B> {
     ghost use Rattle.relation_tables.specs.RelationHandler.{told_simple};
 
-    type Rows = RelationRows<'r>;
+    type Rows = B::Rows;
 
-    type CopyRows = RelationCopy<'r>;
+    type CopyRows = B::Lines;
 
-    type Query = SimpleQuery<'r>;
+    type Query = SimpleQuery<B>;
 
-    ghost told = { λ handler. told_simple handler.relations.now };
+    ghost told = { λ handler. told_simple (B.told handler.relations) };
 
     /// A statement, whose rows are text, or `COPY name TO STDOUT`.
     fn do_query(
@@ -111,30 +116,30 @@ impl<'r> SimpleQueryHandler for RelationHandler<'r> {
         alloc: Global,
         client: &ClientInfo,
         query: &str,
-    ) -> Result<SimpleQuery<'r>, AllocError> {
-        match find_statement(self.relations, query) {
-            Some(means) => statement_query(alloc, self.relations, client, means),
-            None => other_query(alloc, self.relations, client, trimmed(query)),
+    ) -> Result<SimpleQuery<B>, AllocError> {
+        match find_statement(self.relations.table(), query) {
+            Some(means) => statement_query(alloc, &self.relations, client, means),
+            None => other_query(alloc, &self.relations, client, trimmed(query)),
         }
     }
 }
 
-impl<'r> PgWireServerHandlers for RelationHandler<'r> {
+impl<B: ServedRelations> PgWireServerHandlers for RelationHandlerOver<B> {
     ghost use Rattle.relation_tables.specs.RelationHandler.{relation_handlers};
 
-    type Simple = RelationHandler<'r>;
+    type Simple = RelationHandlerOver<B>;
 
-    type Extended = RelationHandler<'r>;
+    type Extended = RelationHandlerOver<B>;
 
     type Copying = NoopHandler;
 
-    ghost told = { λ handler. relation_handlers handler.relations.now };
+    ghost told = { λ handler. relation_handlers (B.told handler.relations) };
 
-    fn simple_query_handler(&self) -> &RelationHandler<'r> {
+    fn simple_query_handler(&self) -> &RelationHandlerOver<B> {
         self
     }
 
-    fn extended_query_handler(&self) -> &RelationHandler<'r> {
+    fn extended_query_handler(&self) -> &RelationHandlerOver<B> {
         self
     }
 

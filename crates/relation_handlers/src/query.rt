@@ -3,9 +3,16 @@
 ghost use Rattle.std.specs.Prelude.{◌≡◌, false, Some};
 ghost use Rattle.relation_handlers.specs.Queries.{query_told};
 
+use crate::served::ServedRelations;
 use pg_handlers::{QueryState, Turn};
-use pg_portal::PgWireError;
+use pg_portal::{PgWireError, Response};
 use std::alloc::AllocError;
+
+/// What is answered of relations.
+pub(crate) type RelationResponse<B> = Response<
+    <B as ServedRelations>::Rows,
+    <B as ServedRelations>::Lines,
+>;
 
 /// A query that is found unready by so many polls, and then gives its outcome once.
 #[derive(Drop)]

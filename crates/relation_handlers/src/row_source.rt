@@ -1,82 +1,151 @@
-//! The rows of a relation, made one by one.
+//! The rows of a relation, made one by one: rows of a query, or lines of a COPY.
 
-ghost use Rattle.std.specs.Prelude.{◌≡◌, ◌≤◌, IsTrue, length, map};
+ghost use Rattle.std.specs.Prelude.{◌≡◌, ◌≤◌, ◌<◌, Some, IfOk, length, slice_get};
 ghost use Rattle.std.specs.Arc.{arc_value};
-ghost use Rattle.relation_tables.specs.RelationHandler.{row_item};
-ghost use Rattle.relation_handlers.specs.Tables.{IsSound};
+ghost use Rattle.pg_portal.specs.Texts.{IsShortText};
+ghost use Rattle.relation_tables.specs.Relations.{relation_at};
+ghost use Rattle.relation_tables.specs.RelationHandler.{column_formats};
+ghost use Rattle.relation_handlers.specs.Made.{ToldMaker, GivesFormats, relation_of, row_items, style_in};
 
+use crate::copy_line::line_item;
 use crate::data_row::row_item;
 use crate::style::SessionStyle;
+use crate::table::RelationTable;
 use pg_interval::Interval;
-use pg_messages::{DataRow, PgList};
-use pg_portal::{PgWireError, RowSource};
-use pg_text::FieldFormat;
-use relation_tables::Relation;
+use pg_messages::{CopyData, DataRow, PgList};
+use pg_portal::{CopyMaker, Format, PgWireError, RowMaker};
+use pg_text::{FieldFormat, FormatOptions};
 use std::alloc::{AllocError, Global};
 use std::marker::Model;
 use std::sync::Arc;
 
-/// The rows of a relation from a position on, each made when it is asked for.
+/// What makes the rows of a relation, and the lines of a COPY of it, each by its index. It keeps
+/// none of them.
 #[derive(Drop)]
 pub struct RelationRows<'r> {
-    alloc: Global,
-    rows: &'r [PgList<Interval>],
-    position: usize,
-    formats: Arc<PgList<FieldFormat>>,
+    /// The table.
+    pub relations: &'r RelationTable,
+    /// The place of the relation in the table.
+    pub relation: u32,
+    /// The formats of the columns in a row. A line is text.
+    pub formats: Format,
+    /// The options of the session, whose interval style a text has.
+    pub options: Arc<FormatOptions>,
+    // the format of each column, judged once
+    each_format: Arc<PgList<FieldFormat>>,
+    // the style of the options, judged once
     style: SessionStyle,
+    alloc: Global,
 }
 
 impl<'r> Model for RelationRows<'r> {
-    ghost use Rattle.std.specs.Prelude.{List, IsTrue, ◌≤◌, length, map, drop};
     ghost use Rattle.std.specs.Arc.{arc_value};
-    ghost use Rattle.pg_portal.specs.Rows.{RowItem};
-    ghost use Rattle.relation_tables.specs.Relations.{are_even};
-    ghost use Rattle.relation_tables.specs.RelationHandler.{row_item};
+    ghost use Rattle.relation_handlers.specs.Made.{ToldMaker, IsMaker};
 
-    ghost Value = { List RowItem };
+    ghost Value = { ToldMaker };
 
-    ghost view = { λ r. map (row_item r.style (arc_value r.formats)) (drop r.position r.rows.now) };
+    ghost view = { λ r. record {
+      relations = r.relations.now;
+      relation = r.relation;
+      formats = r.formats;
+      options = arc_value r.options;
+    } };
 
-    ghost invariant = { λ r. (length (arc_value r.formats) ≤ 1600)
-        × IsTrue (are_even (length (arc_value r.formats)) r.rows.now) };
+    ghost invariant = { λ r. IsMaker (record {
+      relations = r.relations.now;
+      relation = r.relation;
+      formats = r.formats;
+      options = arc_value r.options;
+    }) (arc_value r.each_format) r.style };
 }
 
 impl<'r> RelationRows<'r> {
-    /// The rows of a relation from its first on, in as many formats as it has columns.
-    pub fn new(
+    /// What makes the rows of the relation at a place, where the format of each column and the
+    /// style of the options are judged already. It takes no memory.
+    pub(crate) fn new(
         alloc: Global,
-        relation: &'r Relation,
-        formats: Arc<PgList<FieldFormat>>,
+        relations: &'r RelationTable,
+        relation: u32,
+        formats: Format,
+        options: Arc<FormatOptions>,
+        each_format: Arc<PgList<FieldFormat>>,
         style: SessionStyle,
     ) -> RelationRows<'r>
-        requires sound { IsSound relation.now }
-        requires same { length (arc_value formats) ≡ length relation.now.columns }
-        ensures { result ≡ map (row_item style (arc_value formats)) relation.now.rows }
+        requires place { relation < length relations.now }
+        requires formats { GivesFormats formats
+            (length (relation_at relations.now relation).columns) }
+        requires short_style { IsShortText (arc_value options).interval_style }
+        requires judged { arc_value each_format
+            ≡ column_formats formats (relation_at relations.now relation).columns }
+        requires style { style ≡ style_in (arc_value options) }
+        ensures relations { result.relations ≡ relations.now }
+        ensures relation { result.relation ≡ relation }
+        ensures formats { result.formats ≡ formats }
+        ensures options { result.options ≡ arc_value options }
     {
         RelationRows {
-            alloc,
-            rows: relation.rows.as_slice(),
-            position: 0,
+            relations,
+            relation,
             formats,
+            options,
+            each_format,
             style,
+            alloc,
         }
+    }
+
+    /// How many rows the relation has.
+    #[inline(always)]
+    fn len(&self) -> usize
+        ensures { result ≡ length (relation_of self.now).rows }
+    {
+        self.relations.at(self.relation).rows.len()
+    }
+
+    /// The intervals of the row at an index, one for each column.
+    #[inline(always)]
+    fn row(&self, index: usize) -> &[Interval]
+        requires { index < length (relation_of self.now).rows }
+        ensures row { slice_get (relation_of self.now).rows index ≡ Some result.now }
+        ensures wide { length result.now ≡ length (relation_of self.now).columns }
+        ensures narrow { length result.now ≤ 1600 }
+    {
+        let relation = self.relations.at(self.relation);
+        relation.rows.as_slice()[index].as_slice()
     }
 }
 
-impl<'r> RowSource for RelationRows<'r> {
-    ghost items = { λ rows. rows };
+impl<'r> RowMaker for RelationRows<'r> {
+    ghost use Rattle.relation_handlers.specs.Made.{row_items};
 
-    /// One row is made. After want of memory it is still to come.
+    ghost items = { row_items };
+
+    /// How many rows the relation has.
     #[inline(always)]
-    fn next(&mut self) -> Result<Option<Result<DataRow, PgWireError>>, AllocError> {
-        match self.rows.get(self.position) {
-            Some(row) => {
-                let formats = self.formats.as_slice();
-                let item = row_item(self.alloc, &self.style, formats, row.as_slice())?;
-                self.position += 1;
-                Ok(Some(item))
-            }
-            None => Ok(None),
-        }
+    fn rows(&self) -> usize {
+        self.len()
+    }
+
+    /// The row at an index.
+    #[inline(always)]
+    fn make(&self, index: usize) -> Result<Result<DataRow, PgWireError>, AllocError> {
+        let formats = self.each_format.as_slice();
+        row_item(self.alloc, &self.style, formats, self.row(index))
+    }
+}
+
+impl<'r> CopyMaker for RelationRows<'r> {
+    ghost use Rattle.relation_handlers.specs.Made.{line_items};
+
+    ghost items = { line_items };
+
+    /// How many rows the relation has, each of which is a line.
+    fn data_len(&self) -> usize {
+        self.len()
+    }
+
+    /// The line at an index.
+    fn make_data(&self, index: usize) -> Result<Result<CopyData, PgWireError>, AllocError> {
+        line_item(self.alloc, &self.style, self.row(index))
     }
 }

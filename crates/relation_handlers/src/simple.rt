@@ -10,45 +10,39 @@ ghost use Rattle.relation_tables.specs.Queries.{words, copied_name};
 ghost use Rattle.relation_tables.specs.RelationHandler.{copy_of, copy_or_unknown, copy_response, is_statement_of, refused_query, simple_of};
 ghost use Rattle.relation_tables.specs.Relations.{place_of, relation_at};
 ghost use Rattle.relation_handlers.specs.Queries.{is_given, query_told};
-ghost use Rattle.relation_handlers.specs.Tables.{IsSound};
 
-use crate::copy::RelationCopy;
 use crate::errors::unknown_relation;
-use crate::query::RelationQuery;
-use crate::row_source::RelationRows;
+use crate::query::{RelationQuery, RelationResponse};
+use crate::served::ServedRelations;
 use crate::statement_response::{polls_of, response_of};
-use crate::table::RelationTable;
 use crate::words::copied_name;
 use pg_messages::PgList;
-use pg_portal::{ClientInfo, CopyResponse, Format, PgWireError, Response};
-use relation_tables::{Relation, RelationStatement};
+use pg_portal::{ClientInfo, CopySource, Format, PgWireError, Response, RowSource};
+use relation_tables::RelationStatement;
 use std::alloc::{AllocError, Global};
 
 /// A simple query of relations.
-pub(crate) type SimpleQuery<'r> = RelationQuery<
-    PgList<Response<RelationRows<'r>, RelationCopy<'r>>>,
->;
+pub(crate) type SimpleQuery<B> = RelationQuery<PgList<RelationResponse<B>>>;
 
 /// The query of a statement, whose rows are text.
-pub(crate) fn statement_query<'r>(
+pub(crate) fn statement_query<B: ServedRelations>(
     alloc: Global,
-    relations: &'r RelationTable,
+    served: &B,
     client: &ClientInfo,
     means: RelationStatement,
-) -> Result<SimpleQuery<'r>, AllocError>
-    requires given { IsTrue (is_statement_of relations.now means) }
+) -> Result<SimpleQuery<B>, AllocError>
+    requires given { IsTrue (is_statement_of (B.told served.now) means) }
     requires short_metadata { HasShortMetadata client.now }
     ensures unspent { IfOk result (λ query. is_given query.outcome ≡ false) }
     ensures told { IfOk result (λ query.
-        told_query (told_all (λ rows. rows) (λ items. items))
-        (query_told query.unready query.outcome)
-        ≡ simple_of relations.now client.now [] (Some means)) }
+        told_query (told_all B.Rows.items B.Lines.items) (query_told query.unready query.outcome)
+        ≡ simple_of (B.told served.now) client.now [] (Some means)) }
     ensures sendable { IfOk result (λ query.
-        AreSendable (simple_of relations.now client.now [] (Some means)).outcome) }
+        AreSendable (simple_of (B.told served.now) client.now [] (Some means)).outcome) }
 {
-    let response = response_of(alloc, relations, client, &Format::UnifiedText, means)?;
+    let response = response_of(alloc, served, client, &Format::UnifiedText, means)?;
     let responses = alone(alloc, response)?;
-    Ok(RelationQuery::new(polls_of(relations, means), Ok(responses)))
+    Ok(RelationQuery::new(polls_of(served.table(), means), Ok(responses)))
 }
 
 /// A list of one item.
@@ -62,84 +56,80 @@ fn alone<T: Drop>(alloc: Global, item: T) -> Result<PgList<T>, AllocError>
 
 /// The query of a trimmed text that is no statement: a COPY of a relation, or the error 42P01 with
 /// the text, or with the name that was to be copied.
-pub(crate) fn other_query<'r>(
+pub(crate) fn other_query<B: ServedRelations>(
     alloc: Global,
-    relations: &'r RelationTable,
+    served: &B,
     client: &ClientInfo,
     text: &str,
-) -> Result<SimpleQuery<'r>, AllocError>
+) -> Result<SimpleQuery<B>, AllocError>
     requires short_metadata { HasShortMetadata client.now }
     requires short_text { IsShortText text.now }
     ensures unspent { IfOk result (λ query. is_given query.outcome ≡ false) }
     ensures told { IfOk result (λ query.
-        told_query (told_all (λ rows. rows) (λ items. items))
-        (query_told query.unready query.outcome)
-        ≡ copy_or_unknown relations.now client.now text.now (copied_name (words text.now))) }
+        told_query (told_all B.Rows.items B.Lines.items) (query_told query.unready query.outcome)
+        ≡ copy_or_unknown (B.told served.now) client.now text.now (copied_name (words text.now))) }
     ensures sendable { IfOk result (λ query.
-        AreSendable (copy_or_unknown relations.now client.now text.now
+        AreSendable (copy_or_unknown (B.told served.now) client.now text.now
         (copied_name (words text.now))).outcome) }
 {
     match copied_name(text) {
-        Some(name) => copy_query(alloc, relations, client, name),
+        Some(name) => copy_query(alloc, served, client, name),
         None => refused_query(alloc, text),
     }
 }
 
 /// The query of a COPY of the relation of this name, or the error 42P01 with the name.
-fn copy_query<'r>(
+fn copy_query<B: ServedRelations>(
     alloc: Global,
-    relations: &'r RelationTable,
+    served: &B,
     client: &ClientInfo,
     name: &str,
-) -> Result<SimpleQuery<'r>, AllocError>
+) -> Result<SimpleQuery<B>, AllocError>
     requires short_metadata { HasShortMetadata client.now }
     requires short_name { IsShortText name.now }
     ensures unspent { IfOk result (λ query. is_given query.outcome ≡ false) }
     ensures told { IfOk result (λ query.
-        told_query (told_all (λ rows. rows) (λ items. items))
-        (query_told query.unready query.outcome)
-        ≡ copy_of relations.now client.now name.now (place_of relations.now name.now)) }
+        told_query (told_all B.Rows.items B.Lines.items) (query_told query.unready query.outcome)
+        ≡ copy_of (B.told served.now) client.now name.now (place_of (B.told served.now) name.now)) }
     ensures sendable { IfOk result (λ query.
-        AreSendable (copy_of relations.now client.now name.now
-        (place_of relations.now name.now)).outcome) }
+        AreSendable (copy_of (B.told served.now) client.now name.now
+        (place_of (B.told served.now) name.now)).outcome) }
 {
+    let relations = served.table();
     match relations.find(name) {
         Some(place) => {
-            let relation = relations.at(place);
-            let responses = copy_responses(alloc, relations, relation, client)?;
-            Ok(RelationQuery::new(relation.unready, Ok(responses)))
+            let responses = copy_responses(alloc, served, place, client)?;
+            Ok(RelationQuery::new(relations.at(place).unready, Ok(responses)))
         }
         None => refused_query(alloc, name),
     }
 }
 
-/// What a COPY of a relation is answered: its lines as text.
-fn copy_responses<'r>(
+/// What a COPY of the relation at a place is answered: its lines as text.
+fn copy_responses<B: ServedRelations>(
     alloc: Global,
-    relations: &RelationTable,
-    relation: &'r Relation,
+    served: &B,
+    place: u32,
     client: &ClientInfo,
-) -> Result<PgList<Response<RelationRows<'r>, RelationCopy<'r>>>, AllocError>
-    requires sound { IsSound relation.now }
+) -> Result<PgList<RelationResponse<B>>, AllocError>
+    requires place { place < length (B.told served.now) }
     requires short_metadata { HasShortMetadata client.now }
-    ensures { IfOk result (λ responses. told_responses (λ rows. rows) (λ items. items) responses
-        ≡ copy_response client.now relation.now ∷ []) }
+    ensures { IfOk result (λ responses. told_responses B.Rows.items B.Lines.items responses
+        ≡ copy_response client.now (relation_at (B.told served.now) place) ∷ []) }
 {
-    let style = relations.style_of(alloc, client)?;
-    let lines = RelationCopy::new(alloc, relation, style);
-    alone(
-        alloc,
-        Response::CopyOut(CopyResponse::new(0, relation.columns.len(), lines)),
-    )
+    let lines = served.lines(alloc, client, place)?;
+    alone(alloc, Response::CopyOut(lines))
 }
 
 /// The query that the error 42P01 refuses, with a text.
-fn refused_query<'r>(alloc: Global, text: &str) -> Result<SimpleQuery<'r>, AllocError>
+fn refused_query<R: RowSource, C: CopySource>(
+    alloc: Global,
+    text: &str,
+) -> Result<RelationQuery<PgList<Response<R, C>>>, AllocError>
     requires { IsShortText text.now }
     ensures unspent { IfOk result (λ query. is_given query.outcome ≡ false) }
     ensures told { IfOk result (λ query.
-        told_query (told_all (λ rows. rows) (λ items. items))
-        (query_told query.unready query.outcome)
+        told_query (told_all R.items C.items) (query_told query.unready query.outcome)
         ≡ refused_query text.now) }
     ensures sendable { IfOk result (λ query. AreSendable (refused_query text.now).outcome) }
 {

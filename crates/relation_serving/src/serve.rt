@@ -1,11 +1,12 @@
 //! A client of relations is served.
 
 ghost use Rattle.std.specs.Prelude.{◌≡◌, ◌++◌, List, IfOk, OnOk};
+ghost use Rattle.std.specs.Arc.{arc_value};
 ghost use Rattle.pg_handlers.specs.Desk.{KeepsDesk};
 ghost use Rattle.pg_handlers.specs.Questions.{questions_since};
 ghost use Rattle.pg_handlers.specs.State.{first_state};
 ghost use Rattle.pg_handlers.specs.declared.desk.DeskCall.{DeskCall};
-ghost use Rattle.pg_serve.specs.Serving.{HasCause, EndsAtLast, FaultsNeverFall, IsCalm, IsRunOverTaken, ReadsGaveBytes, counts_of};
+ghost use Rattle.pg_serve.specs.Serving.{WentSo, HasCause, EndsAtLast, FaultsNeverFall, IsCalm, IsRunOverTaken, ReadsGaveBytes, counts_of};
 ghost use Rattle.pg_session.specs.Session.{whole_rules};
 ghost use Rattle.relation_serving.specs.Completeness.{IsComplete};
 ghost use Rattle.relation_tables.specs.RelationHandler.{relation_handlers};
@@ -14,7 +15,7 @@ ghost use Rattle.relation_serving.specs.Serving.{WentByTables};
 use pg_handlers::NoopHandler;
 use pg_portal::MemPortalStore;
 use pg_serve::serve_connection;
-use pg_session::{CancelDesk, EndKind, ServeError, Sink, Source};
+use pg_session::{CancelDesk, EndKind, PgWireServerHandlers, ServeError, Sink, Source};
 use relation_handlers::{RelationHandler, RelationTable};
 use std::alloc::Global;
 use std::sync::Arc;
@@ -78,6 +79,46 @@ pub fn serve_relations_on<D: CancelDesk, S: Source, K: Sink>(
     let Ok(handlers) = Arc::new(alloc, RelationHandler { relations, copying }) else {
         return Err(ServeError::NoMemory);
     };
+    serve_by(alloc, handlers, desk, source, sink, turn_limit)
+}
+
+/// Serves a client by these handlers, with a store in memory: `serve_connection`, where the
+/// handlers are any, so that no check has to compare what their types are made of.
+fn serve_by<H: PgWireServerHandlers, D: CancelDesk, S: Source, K: Sink>(
+    alloc: Global,
+    handlers: Arc<H>,
+    desk: &mut D,
+    source: &mut S,
+    sink: &mut K,
+    turn_limit: u64,
+) -> Result<EndKind, ServeError>
+    ensures went { (calls : List DeskCall)
+        × ((D.told desk.new).calls ≡ (D.told desk.old).calls ++ calls)
+        × WentSo (whole_rules (H.told (arc_value handlers)))
+        (first_state (D.told desk.old).registration.0 (D.told desk.old).registration.1)
+        result (S.left source.old) (S.left source.new)
+        (K.written sink.old) (K.written sink.new) calls }
+    ensures cause { HasCause result turn_limit
+        (questions_since (D.told desk.old).calls (D.told desk.new).calls)
+        (counts_of S.reads S.faults K.faults source.old sink.old)
+        (counts_of S.reads S.faults K.faults source.new sink.new) }
+    ensures last { IfOk result (EndsAtLast (whole_rules (H.told (arc_value handlers)))
+        (first_state (D.told desk.old).registration.0 (D.told desk.old).registration.1)
+        (S.left source.old) (S.left source.new)) }
+    ensures taken { IfOk result (IsRunOverTaken (whole_rules (H.told (arc_value handlers)))
+        (first_state (D.told desk.old).registration.0 (D.told desk.old).registration.1)
+        (S.left source.old) (S.left source.new) (K.written sink.old) (K.written sink.new)
+        (D.told desk.old).calls (D.told desk.new).calls) }
+    ensures calm { OnOk result (IsCalm (counts_of S.reads S.faults K.faults source.old sink.old)
+        (counts_of S.reads S.faults K.faults source.new sink.new)) }
+    ensures never_falls { FaultsNeverFall (counts_of S.reads S.faults K.faults source.old sink.old)
+        (counts_of S.reads S.faults K.faults source.new sink.new) }
+    ensures reads { ReadsGaveBytes (S.left source.old) (S.left source.new) (S.reads source.old)
+        (S.reads source.new) }
+    ensures keeps { KeepsDesk (D.told desk.old) (D.told desk.new) }
+    ensures source { S.origin source.new ≡ S.origin source.old }
+    ensures sink { K.origin sink.new ≡ K.origin sink.old }
+{
     let store = MemPortalStore::new(alloc);
     serve_connection(alloc, handlers, store, desk, source, sink, turn_limit)
 }

@@ -1,6 +1,14 @@
-use Rattle.std.proofs.Common.{sym, ◌∙◌}
+use Rattle.std.proofs.Common.{◌≡◌, Some, subst, sym, ◌∙◌}
+use Rattle.relation_tables.specs.Relations.{place_of}
 use Rattle.relation_tables.proofs.Meanings.{place_inside}
 use Rattle.relation_handlers.proofs.simple.copy_query.Goals as goal
 
-pub at-relation-requires : goal.at-relation-requires
-at-relation-requires c = place_inside c.args.relations.now c.args.name.now c.in-Some.place (sym c.find.ensures ∙ c.in-Some.is)
+pub copy_responses-requires-clause-place : goal.copy_responses-requires-clause-place
+copy_responses-requires-clause-place g c =
+    place_inside (g.B.ServedRelations.told c.args.served.now) c.args.name.now c.in-Some.place
+    (subst (λ relations. place_of relations c.args.name.now ≡ Some c.in-Some.place) c.table-relations.ensures
+    (sym c.find.ensures ∙ c.in-Some.is))
+
+pub at-requires : goal.at-requires
+at-requires g c =
+    place_inside c.table-relations.result.now c.args.name.now c.in-Some.place (sym c.find.ensures ∙ c.in-Some.is)

@@ -25,17 +25,16 @@ returns-in_default-clause-went g c = (
 
 pub returns-clause-went : goal.returns-clause-went
 returns-clause-went g c =
-    let went = c.serve_connection.ensures.went in (
+    let went = c.serve_by.ensures.went in (
       went.0,
       went.1,
       went_by_tables c.args.relations.now (g.D.CancelDesk.told c.args.desk.now).registration
-          (even c.args.relations.now c.relations-valid.ensures.valid) c.serve_connection.result (g.S.Source.left c.args.source.now)
-          (g.S.Source.left c.serve_connection.new.source) (g.K.Sink.written c.args.sink.now) (g.K.Sink.written c.serve_connection.new.sink)
-          went.0
+          (even c.args.relations.now c.relations-valid.ensures.valid) c.serve_by.result (g.S.Source.left c.args.source.now)
+          (g.S.Source.left c.serve_by.new.source) (g.K.Sink.written c.args.sink.now) (g.K.Sink.written c.serve_by.new.sink) went.0
           (subst (λ relations. WentSo (whole_rules (relation_handlers relations))
           (first_state (g.D.CancelDesk.told c.args.desk.now).registration.0 (g.D.CancelDesk.told c.args.desk.now).registration.1)
-          c.serve_connection.result (g.S.Source.left c.args.source.now) (g.S.Source.left c.serve_connection.new.source)
-          (g.K.Sink.written c.args.sink.now) (g.K.Sink.written c.serve_connection.new.sink) went.0)
+          c.serve_by.result (g.S.Source.left c.args.source.now) (g.S.Source.left c.serve_by.new.source)
+          (g.K.Sink.written c.args.sink.now) (g.K.Sink.written c.serve_by.new.sink) went.0)
           (ap (λ h. h.relations.now) c.in-Ok.ensures.ok) went.2),
     )
 
@@ -47,20 +46,20 @@ returns-in_default-clause-complete g c =
 
 pub returns-clause-complete : goal.returns-clause-complete
 returns-clause-complete g c =
-    let went = c.serve_connection.ensures.went in
+    let went = c.serve_by.ensures.went in
     let before = counts_of g.S.Source.reads g.S.Source.faults g.K.Sink.faults c.args.source.now c.args.sink.now in
-    let after = counts_of g.S.Source.reads g.S.Source.faults g.K.Sink.faults c.serve_connection.new.source c.serve_connection.new.sink in
-    complete_serving c.args.relations.now (g.D.CancelDesk.told c.args.desk.now).registration c.args.turn_limit c.serve_connection.result
-    (g.S.Source.left c.args.source.now) (g.S.Source.left c.serve_connection.new.source) (g.K.Sink.written c.args.sink.now)
-    (g.K.Sink.written c.serve_connection.new.sink) went.0 before after
-    (cause_of_calls c.serve_connection.result c.args.turn_limit (g.D.CancelDesk.told c.args.desk.now).calls
-    (g.D.CancelDesk.told c.serve_connection.new.desk).calls went.0
-    before after went.1 c.serve_connection.ensures.cause)
-    c.serve_connection.ensures.reads
+    let after = counts_of g.S.Source.reads g.S.Source.faults g.K.Sink.faults c.serve_by.new.source c.serve_by.new.sink in
+    complete_serving c.args.relations.now (g.D.CancelDesk.told c.args.desk.now).registration c.args.turn_limit c.serve_by.result
+    (g.S.Source.left c.args.source.now) (g.S.Source.left c.serve_by.new.source) (g.K.Sink.written c.args.sink.now)
+    (g.K.Sink.written c.serve_by.new.sink) went.0 before after
+    (cause_of_calls c.serve_by.result c.args.turn_limit (g.D.CancelDesk.told c.args.desk.now).calls
+    (g.D.CancelDesk.told c.serve_by.new.desk).calls went.0
+    before after went.1 c.serve_by.ensures.cause)
+    c.serve_by.ensures.reads
     (subst (λ relations. WentSo (whole_rules (relation_handlers relations))
     (first_state (g.D.CancelDesk.told c.args.desk.now).registration.0 (g.D.CancelDesk.told c.args.desk.now).registration.1)
-    c.serve_connection.result (g.S.Source.left c.args.source.now) (g.S.Source.left c.serve_connection.new.source)
-    (g.K.Sink.written c.args.sink.now) (g.K.Sink.written c.serve_connection.new.sink) went.0)
+    c.serve_by.result (g.S.Source.left c.args.source.now) (g.S.Source.left c.serve_by.new.source)
+    (g.K.Sink.written c.args.sink.now) (g.K.Sink.written c.serve_by.new.sink) went.0)
     (ap (λ h. h.relations.now) c.in-Ok.ensures.ok) went.2)
 
 pub returns-in_default-clause-reads : goal.returns-in_default-clause-reads
@@ -68,16 +67,16 @@ returns-in_default-clause-reads g c = none_gave (g.S.Source.left c.args.source.n
 
 pub returns-clause-last : goal.returns-clause-last
 returns-clause-last g c =
-    subst (λ relations. IfOk c.serve_connection.result (EndsAtLast (whole_rules (relation_handlers relations))
+    subst (λ relations. IfOk c.serve_by.result (EndsAtLast (whole_rules (relation_handlers relations))
     (first_state (g.D.CancelDesk.told c.args.desk.now).registration.0 (g.D.CancelDesk.told c.args.desk.now).registration.1)
-    (g.S.Source.left c.args.source.now) (g.S.Source.left c.serve_connection.new.source)))
-    (ap (λ h. h.relations.now) c.in-Ok.ensures.ok) c.serve_connection.ensures.last
+    (g.S.Source.left c.args.source.now) (g.S.Source.left c.serve_by.new.source)))
+    (ap (λ h. h.relations.now) c.in-Ok.ensures.ok) c.serve_by.ensures.last
 
 pub returns-clause-taken : goal.returns-clause-taken
 returns-clause-taken g c =
-    subst (λ relations. IfOk c.serve_connection.result (IsRunOverTaken (whole_rules (relation_handlers relations))
+    subst (λ relations. IfOk c.serve_by.result (IsRunOverTaken (whole_rules (relation_handlers relations))
     (first_state (g.D.CancelDesk.told c.args.desk.now).registration.0 (g.D.CancelDesk.told c.args.desk.now).registration.1)
-    (g.S.Source.left c.args.source.now) (g.S.Source.left c.serve_connection.new.source) (g.K.Sink.written c.args.sink.now)
-    (g.K.Sink.written c.serve_connection.new.sink) (g.D.CancelDesk.told c.args.desk.now).calls
-    (g.D.CancelDesk.told c.serve_connection.new.desk).calls))
-    (ap (λ h. h.relations.now) c.in-Ok.ensures.ok) c.serve_connection.ensures.taken
+    (g.S.Source.left c.args.source.now) (g.S.Source.left c.serve_by.new.source) (g.K.Sink.written c.args.sink.now)
+    (g.K.Sink.written c.serve_by.new.sink) (g.D.CancelDesk.told c.args.desk.now).calls
+    (g.D.CancelDesk.told c.serve_by.new.desk).calls))
+    (ap (λ h. h.relations.now) c.in-Ok.ensures.ok) c.serve_by.ensures.taken

@@ -1,4 +1,4 @@
-use Rattle.std.proofs.Common.{◌∙◌, sym, ap, length, arith}
+use Rattle.std.proofs.Common.{◌∙◌, ap, length, arith}
 use Rattle.relation_tables.specs.Relations.{relation_at}
 use Rattle.relation_handlers.specs.Shared.{shared_columns}
 use Rattle.relation_handlers.proofs.SharedLemmas.{columns_read}

@@ -1,5 +1,0 @@
-use Rattle.relation_tables.proofs.ShortTexts.{trimmed_short}
-use Rattle.relation_handlers.proofs.handler.RelationHandlerSimpleQueryHandler.do_query.Goals as goal
-
-pub other_query-requires-clause-short_text : goal.other_query-requires-clause-short_text
-other_query-requires-clause-short_text c = rw c.trimmed.ensures (trimmed_short c.args.query.now c.requires.short_query)

@@ -1,0 +1,198 @@
+//! Relations that are served: their rows, and their lines in a COPY, made on demand.
+
+ghost use Rattle.std.specs.Prelude.{◌≡◌, ◌<◌, List, IfOk, length, map};
+ghost use Rattle.std.specs.Arc.{arc_value};
+ghost use Rattle.pg_portal.specs.Clients.{HasShortMetadata};
+ghost use Rattle.pg_portal.specs.Responses as response;
+ghost use Rattle.pg_portal.specs.Responses.{told_copy};
+ghost use Rattle.pg_portal.specs.Told.{told_rows};
+ghost use Rattle.pg_handlers.specs.Good.{IsSendableResponse};
+ghost use Rattle.relation_tables.specs.Relations.{relation_at};
+ghost use Rattle.relation_tables.specs.RelationHandler.{column_formats, copy_response, line_item, row_item, rows_response, session_style, told_parser};
+ghost use Rattle.relation_tables.specs.declared.Relation.{Relation};
+ghost use Rattle.relation_handlers.specs.Made.{GivesFormats, line_items, lines_left, row_items, rows_left};
+
+use crate::columns::columns_at;
+use crate::copy::RelationCopy;
+use crate::parser::RelationParser;
+use crate::row_source::RelationRows;
+use crate::table::RelationTable;
+use pg_messages::PgList;
+use pg_portal::{
+    ClientInfo, CopyResponse, CopySource, Format, OnDemand, QueryParser, QueryResponse, RowSource,
+};
+use pg_text::FieldFormat;
+use relation_tables::RelationStatement;
+use std::alloc::{AllocError, Global};
+use std::sync::Arc;
+
+/// Relations that are served. Handlers are generic in them, and used with a `&RelationTable` alone.
+pub trait ServedRelations: Drop {
+    /// The parser of queries of them.
+    type Parser: QueryParser<Statement = RelationStatement> + Drop;
+
+    /// Where the rows of a relation come from.
+    type Rows: RowSource;
+
+    /// Where the lines of a relation come from.
+    type Lines: CopySource;
+
+    // the relations
+    ghost told: { Self → List Relation };
+
+    /// The table of them.
+    fn table(&self) -> &RelationTable
+        ensures { result.now ≡ told self.now };
+
+    /// The parser of queries of them.
+    fn parser(&self, alloc: Global) -> Result<Arc<Self::Parser>, AllocError>
+        ensures { IfOk result (λ parser.
+            Self.Parser.told (arc_value parser) ≡ told_parser (told self.now)) };
+
+    /// The rows of the relation at a place in these formats, under their columns and the tag
+    /// SELECT.
+    fn rows(
+        &self,
+        alloc: Global,
+        client: &ClientInfo,
+        formats: &Format,
+        place: u32,
+    ) -> Result<QueryResponse<Self::Rows>, AllocError>
+        requires place { place < length (told self.now) }
+        requires formats { GivesFormats formats.now
+            (length (relation_at (told self.now) place).columns) }
+        requires short_metadata { HasShortMetadata client.now }
+        ensures told { IfOk result (λ rows. response.Query (told_rows Self.Rows.items rows)
+            ≡ rows_response client.now formats.now (relation_at (told self.now) place)) }
+        ensures sendable { IfOk result (λ rows. IsSendableResponse
+            (rows_response client.now formats.now (relation_at (told self.now) place))) };
+
+    /// The lines of the relation at a place, as text.
+    fn lines(
+        &self,
+        alloc: Global,
+        client: &ClientInfo,
+        place: u32,
+    ) -> Result<CopyResponse<Self::Lines>, AllocError>
+        requires place { place < length (told self.now) }
+        requires short_metadata { HasShortMetadata client.now }
+        ensures { IfOk result (λ lines. response.CopyOut (told_copy Self.Lines.items lines)
+            ≡ copy_response client.now (relation_at (told self.now) place)) };
+}
+
+impl<'r> ServedRelations for &'r RelationTable {
+    type Parser = RelationParser<'r>;
+
+    type Rows = OnDemand<RelationRows<'r>>;
+
+    type Lines = RelationCopy<'r, Global>;
+
+    ghost told = { λ relations. relations.now };
+
+    fn table(&self) -> &RelationTable {
+        *self
+    }
+
+    fn parser(&self, alloc: Global) -> Result<Arc<RelationParser<'r>>, AllocError> {
+        let relations = *self;
+        Ok(Arc::new(alloc, RelationParser { relations })?)
+    }
+
+    fn rows(
+        &self,
+        alloc: Global,
+        client: &ClientInfo,
+        formats: &Format,
+        place: u32,
+    ) -> Result<QueryResponse<OnDemand<RelationRows<'r>>>, AllocError> {
+        rows_response(alloc, *self, client, formats, place)
+    }
+
+    fn lines(
+        &self,
+        alloc: Global,
+        client: &ClientInfo,
+        place: u32,
+    ) -> Result<CopyResponse<RelationCopy<'r, Global>>, AllocError> {
+        copy_response(alloc, *self, client, place)
+    }
+}
+
+/// The rows of the relation at a place in these formats, under their columns and the tag SELECT.
+fn rows_response<'r>(
+    alloc: Global,
+    relations: &'r RelationTable,
+    client: &ClientInfo,
+    formats: &Format,
+    place: u32,
+) -> Result<QueryResponse<OnDemand<RelationRows<'r>>>, AllocError>
+    requires place { place < length relations.now }
+    requires formats { GivesFormats formats.now
+        (length (relation_at relations.now place).columns) }
+    requires short_metadata { HasShortMetadata client.now }
+    ensures told { IfOk result (λ rows. response.Query (told_rows rows_left rows)
+        ≡ rows_response client.now formats.now (relation_at relations.now place)) }
+    ensures sendable { IfOk result (λ rows. IsSendableResponse
+        (rows_response client.now formats.now (relation_at relations.now place))) }
+{
+    let columns = columns_at(alloc, relations, place, formats)?;
+    let (fields, each_format) = columns.into_parts();
+    let formats = formats.copy_of(alloc)?;
+    let rows = rows_from_first(alloc, relations, client, place, formats, each_format)?;
+    QueryResponse::new(alloc, fields, rows)
+}
+
+/// The lines of the relation at a place, as text.
+fn copy_response<'r>(
+    alloc: Global,
+    relations: &'r RelationTable,
+    client: &ClientInfo,
+    place: u32,
+) -> Result<CopyResponse<RelationCopy<'r, Global>>, AllocError>
+    requires place { place < length relations.now }
+    requires short_metadata { HasShortMetadata client.now }
+    ensures { IfOk result (λ lines. response.CopyOut (told_copy (λ items. items) lines)
+        ≡ copy_response client.now (relation_at relations.now place)) }
+{
+    let formats = Format::UnifiedText;
+    let (_fields, each_format) = columns_at(alloc, relations, place, &formats)?.into_parts();
+    let lines = rows_from_first(alloc, relations, client, place, formats, each_format)?;
+    let lines = RelationCopy::new(alloc, lines);
+    Ok(CopyResponse::new(0, relations.at(place).columns.len(), lines))
+}
+
+/// The rows of the relation at a place from the first on, in the options of a client. The format of
+/// each column is judged already.
+fn rows_from_first<'r>(
+    alloc: Global,
+    relations: &'r RelationTable,
+    client: &ClientInfo,
+    place: u32,
+    formats: Format,
+    each_format: Arc<PgList<FieldFormat>>,
+) -> Result<OnDemand<RelationRows<'r>>, AllocError>
+    requires place { place < length relations.now }
+    requires formats { GivesFormats formats (length (relation_at relations.now place).columns) }
+    requires judged { arc_value each_format
+        ≡ column_formats formats (relation_at relations.now place).columns }
+    requires short_metadata { HasShortMetadata client.now }
+    ensures rows { IfOk result (λ rows. rows_left rows ≡ map
+        (row_item (session_style client.now)
+        (column_formats formats (relation_at relations.now place).columns))
+        (relation_at relations.now place).rows) }
+    ensures lines { IfOk result (λ rows. lines_left rows
+        ≡ map (line_item (session_style client.now)) (relation_at relations.now place).rows) }
+{
+    let options = relations.options_of(alloc, client)?;
+    let style = relations.style_of(alloc, client)?;
+    let maker = RelationRows::new(
+        alloc,
+        relations,
+        place,
+        formats,
+        options,
+        each_format,
+        style,
+    );
+    Ok(OnDemand::new(maker))
+}
