@@ -7,3 +7,4 @@ pub mod SharedLemmas
 pub mod ReadSoFar
 pub mod EvenRows
 pub mod MadeLemmas
+pub mod RefusedRows

@@ -33,7 +33,8 @@ pub(crate) fn line_item(
     }
 }
 
-/// A row as a line: its texts, split by tabs and ended by a newline.
+/// A row as a line: its texts, split by tabs and ended by a newline. One that is refused takes no
+/// memory but for its error.
 fn copy_line_of(
     alloc: Global,
     style: &SessionStyle,
@@ -44,6 +45,9 @@ fn copy_line_of(
     ensures encodable { IfOk result (λ line. IsEncodable (server.CopyData line)) }
     ensures answerable { IfErr result IsAnswerableItem }
 {
+    if style.is_refused() && !row.is_empty() {
+        style.get(alloc)?;
+    }
     let mut payload = line_texts(alloc, style, row)?;
     payload.extend_from_slice(b"\n")?;
     Ok(CopyData {

@@ -1,11 +1,13 @@
 //! Rows of relations as the protocol sends them (protocol: Message Formats, DataRow).
 
 ghost use Rattle.std.specs.Prelude.{◌≡◌, ◌≤◌, ◌+◌, ◌++◌, [], Some, Ok, IfOk, IfErr, OnOk, length, map, zip};
+ghost use Rattle.std.specs.List.{list_any};
 ghost use Rattle.pg_interval.specs.Printed.{printed};
 ghost use Rattle.pg_text.specs.Words.{printed_style};
 ghost use Rattle.pg_messages.specs.declared.backend.PgWireBackendMessage.TheVariants as server;
 ghost use Rattle.pg_messages.specs.Replies.{IsEncodable};
 ghost use Rattle.pg_portal.specs.Encoding.{cell_bytes};
+ghost use Rattle.pg_portal.specs.Formats.{is_text};
 ghost use Rattle.pg_portal.specs.Rows.{IsAnswerableItem, IsSendable};
 ghost use Rattle.pg_portal.specs.Told.{IsOutcome};
 ghost use Rattle.relation_tables.specs.RelationHandler.{all_or_error, value, row_item};
@@ -39,7 +41,7 @@ pub(crate) fn row_item(
     }
 }
 
-/// A row in these formats.
+/// A row in these formats. One that is refused takes no memory but for its error.
 #[inline(always)]
 fn data_row_of(
     alloc: Global,
@@ -53,11 +55,23 @@ fn data_row_of(
     ensures encodable { IfOk result (λ row. IsEncodable (server.DataRow row)) }
     ensures answerable { IfErr result IsAnswerableItem }
 {
+    if style.is_refused() && have_text(formats) {
+        style.get(alloc)?;
+    }
     let payload = row_values(alloc, style, formats, row)?;
     Ok(DataRow {
         payload: PgBytes::from_vec(payload),
         field_count: row.len() as i16,
     })
+}
+
+/// Whether one of the formats is text.
+fn have_text(formats: &[FieldFormat]) -> bool
+    ensures { result ≡ list_any is_text formats.now }
+{
+    formats
+        .iter()
+        .any(|format| matches!(format, FieldFormat::Text))
 }
 
 /// The values of a row, one after another.

@@ -2,6 +2,7 @@
 
 ghost use Rattle.std.specs.Prelude.{◌≡◌, IfOk, IfErr, codes, unwrap_or};
 ghost use Rattle.std.specs.FinMap as fin;
+ghost use Rattle.std.specs.Result.{is_err};
 ghost use Rattle.pg_text.specs.Words.{interval_style_of};
 ghost use Rattle.pg_portal.specs.declared.error.PgWireError.TheVariants as wire;
 ghost use Rattle.pg_portal.specs.Clients.{HasShortMetadata};
@@ -61,6 +62,14 @@ impl SessionStyle {
     {
         let style = judged(alloc, text_under(client, name))?;
         Ok(SessionStyle { style })
+    }
+
+    /// Whether the text names none of the four styles.
+    #[inline(always)]
+    pub(crate) fn is_refused(&self) -> bool
+        ensures { result ≡ is_err self.now }
+    {
+        self.style.is_err()
     }
 
     /// The style, or `InvalidOptionValue` with the text that names none.
