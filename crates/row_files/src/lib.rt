@@ -1,0 +1,19 @@
+//! Files of rows: how the programs that try tables of cases read a row's parts, bytes and numbers, and how they tell what
+//! came of each row and how many there were.
+#![tactic(auto)]
+
+mod escapes;
+mod fault;
+mod hexadecimal;
+mod judge;
+mod lines;
+mod parts;
+mod tally;
+
+pub use escapes::{push_repeated, push_shown, push_unescaped};
+pub use fault::Fault;
+pub use hexadecimal::{push_digits, push_hex, push_hex_words};
+pub use judge::{Judge, judge_blocks, judge_lines};
+pub use lines::{lines_of, name_of, number_told, numbers_of, told, told_by};
+pub use parts::{common_len, last_part, next_part, parsed, part, three_numbers, times_and_rest, unexpected};
+pub use tally::Tally;
