@@ -2,7 +2,7 @@
 
 use crate::fault::Fault;
 use crate::lines::name_of;
-use crate::parts::part;
+use crate::parts::row_name;
 use crate::tally::Tally;
 use std::alloc::Global;
 use std::io;
@@ -19,7 +19,7 @@ pub trait Judge {
 }
 
 /// Judges each line of standard input but empty ones and comments, and prints a line for each and their number. A row's
-/// first part is its name.
+/// name stands before its first bar.
 pub fn judge_lines<R: Print + Input, J: Judge>(
     rt: &R,
     alloc: Global,
@@ -30,8 +30,7 @@ pub fn judge_lines<R: Print + Input, J: Judge>(
     let mut tally = Tally::new();
     for row in text.lines() {
         if !row.is_empty() && !row.starts_with("#") {
-            let name = part(row, 0).unwrap_or(row);
-            tally.tell(rt, name, judge.difference(alloc, text, row))?;
+            tally.tell(rt, row_name(row), judge.difference(alloc, text, row))?;
         }
     }
     tally.tell_count(rt)

@@ -1,5 +1,7 @@
 //! The parts of a row, its numbers and what it expects.
 
+ghost use Rattle.std.specs.Prelude.{◌≡◌, MatchOption, string_bytes, ◌≤◌, length};
+
 use crate::fault::Fault;
 use std::str::FromStr;
 
@@ -9,6 +11,12 @@ pub fn part<'t>(row: &'t str, place: usize) -> Result<&'t str, Fault<'t>> {
         Some(part) => Ok(part.trim()),
         None => Err(Fault::Line(row)),
     }
+}
+
+/// A row's name, which stands before its first bar. Spaces round that bar count for nothing where one stands behind it.
+pub(crate) fn row_name(row: &str) -> &str {
+    let (name, rest) = row.split_once("|").unwrap_or((row, ""));
+    if rest.starts_with(" ") { name.trim() } else { name }
 }
 
 /// What stands before the first bar, and behind it.
@@ -56,7 +64,10 @@ pub fn times_and_rest(word: &str) -> (u32, &str) {
 }
 
 /// The answer, where it isn't the one that a row expects.
-pub fn unexpected(answer: String, expected: &[u8]) -> Option<String> {
+pub fn unexpected(answer: String, expected: &[u8]) -> Option<String>
+    ensures { MatchOption result (string_bytes answer ≡ expected.now)
+        (λ told. (told ≡ answer) × ¬ (string_bytes answer ≡ expected.now)) }
+{
     if answer.as_bytes() == expected {
         None
     } else {

@@ -1,5 +1,8 @@
 //! What is told of rows: a line for each, and their number.
 
+ghost use Rattle.std.specs.Prelude.{◌≡◌};
+ghost use Rattle.row_files.specs.Tallies.{as_expected, counted};
+
 use crate::fault::Fault;
 use std::io;
 
@@ -12,7 +15,10 @@ pub struct Tally {
 
 impl Tally {
     /// No row so far.
-    pub fn new() -> Tally {
+    pub fn new() -> Tally
+        ensures no_row { result.rows ≡ 0 }
+        ensures none_good { result.good ≡ 0 }
+    {
         Tally { rows: 0, good: 0 }
     }
 
@@ -22,7 +28,10 @@ impl Tally {
         rt: &R,
         name: &str,
         found: Result<Option<String>, Fault<'t>>,
-    ) -> io::Result<()> {
+    ) -> io::Result<()>
+        ensures rows { self.new.rows ≡ counted self.old.rows 1 }
+        ensures good { self.new.good ≡ counted self.old.good (as_expected found.entry) }
+    {
         self.count(&found);
         match found {
             Ok(None) => println!(rt; "{name}: ok"),
@@ -33,11 +42,16 @@ impl Tally {
     }
 
     /// Counts a row.
-    fn count<'t>(&mut self, found: &Result<Option<String>, Fault<'t>>) {
+    fn count<'t>(&mut self, found: &Result<Option<String>, Fault<'t>>)
+        ensures rows { self.new.rows ≡ counted self.old.rows 1 }
+        ensures good { self.new.good ≡ counted self.old.good (as_expected found.now) }
+    {
+        let more = match found {
+            Ok(None) => 1,
+            _ => 0,
+        };
         self.rows = self.rows.saturating_add(1);
-        if let Ok(None) = found {
-            self.good = self.good.saturating_add(1);
-        }
+        self.good = self.good.saturating_add(more);
     }
 
     /// Prints how many rows there were.
