@@ -7,6 +7,7 @@ mod fault;
 mod hexadecimal;
 mod judge;
 mod lines;
+mod lists;
 mod parts;
 mod tally;
 
@@ -15,5 +16,6 @@ pub use fault::Fault;
 pub use hexadecimal::{push_digits, push_hex, push_hex_words};
 pub use judge::{Judge, judge_blocks, judge_lines};
 pub use lines::{lines_of, name_of, number_told, numbers_of, told, told_by};
+pub use lists::{singles, up_to_one};
 pub use parts::{common_len, last_part, next_part, parsed, part, three_numbers, times_and_rest, unexpected};
 pub use tally::Tally;
