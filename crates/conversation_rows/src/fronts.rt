@@ -112,7 +112,8 @@ pub fn front_of_calls(steps: &[Step], call: usize) -> Front {
     front
 }
 
-/// What comes in so many turns, where each read gives one byte: up to the byte or the question that finds none left.
+/// What comes in so many turns, where each read gives one byte: up to the byte or the question that
+/// finds none left.
 pub fn front_of_turns(steps: &[Step], turns: usize) -> Front {
     let mut front = Front::empty();
     let mut left = turns;

@@ -96,7 +96,11 @@ impl PgWireServerHandlers for NoopHandlers {
 
     type Copying = NoopHandler;
 
-    ghost told = { λ _. record { extended = noop_extended; simple = noop_simple; copying = noop_copy } };
+    ghost told = { λ _. record {
+        extended = noop_extended;
+        simple = noop_simple;
+        copying = noop_copy;
+    } };
 
     fn simple_query_handler(&self) -> &NoopHandler {
         &self.handler
@@ -111,7 +115,8 @@ impl PgWireServerHandlers for NoopHandlers {
     }
 }
 
-/// The handler of sample queries, whose COPY from the client is left to the handler that implements nothing.
+/// The handler of sample queries, whose COPY from the client is left to the handler that implements
+/// nothing.
 #[derive(Drop)]
 struct RefusedCopyHandlers {
     queries: SampleHandler,
@@ -128,7 +133,11 @@ impl PgWireServerHandlers for RefusedCopyHandlers {
 
     type Copying = NoopHandler;
 
-    ghost told = { λ _. record { extended = told_extended; simple = told_simple; copying = noop_copy } };
+    ghost told = { λ _. record {
+        extended = told_extended;
+        simple = told_simple;
+        copying = noop_copy;
+    } };
 
     fn simple_query_handler(&self) -> &SampleHandler {
         &self.queries

@@ -1,6 +1,6 @@
-//! Rows of conversations, as data on standard input: each is served over relations or by handlers that the row names.
-//! A line tells whether its replies, its end and its registry calls are the ones that the row expects. The head of
-//! `stdin` has the format.
+//! Rows of conversations, as data on standard input: each is served over relations or by handlers
+//! that the row names. A line tells whether its replies, its end and its registry calls are the
+//! ones that the row expects. The head of `stdin` has the format.
 #![tactic(auto)]
 
 mod cases;

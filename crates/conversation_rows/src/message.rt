@@ -62,7 +62,8 @@ fn layout_of(name: &str) -> Option<(&'static str, &'static str)> {
     None
 }
 
-/// Appends the bytes of a message: its name and its fields, with a bar before each field; or `hex` and its bytes.
+/// Appends the bytes of a message: its name and its fields, with a bar before each field; or `hex`
+/// and its bytes.
 pub fn put_message<'t>(alloc: Global, bytes: &mut Vec<u8>, line: &'t str) -> Result<(), Fault<'t>> {
     match line.strip_prefix("hex ") {
         Some(digits) => push_hex(bytes, digits),
@@ -106,7 +107,8 @@ fn put_fields<'t>(
     Ok(())
 }
 
-/// Appends what a letter of a layout says of the fields, the first of which stands at this place of the line.
+/// Appends what a letter of a layout says of the fields, the first of which stands at this place of
+/// the line.
 fn put_kind<'t>(
     alloc: Global,
     body: &mut Vec<u8>,

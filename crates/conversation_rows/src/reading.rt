@@ -5,8 +5,9 @@ use pg_interval::{Interval, ParseError};
 use row_files::{Fault, told, told_by};
 use std::alloc::Global;
 
-/// Whether the cells of each row that the lines expect are read back, in the style that they tell, as the intervals
-/// of the row of the same place among the lines that tell rows. Lines that tell no style have no such cells.
+/// Whether the cells of each row that the lines expect are read back, in the style that they tell,
+/// as the intervals of the row of the same place among the lines that tell rows. Lines that tell no
+/// style have no such cells.
 pub fn is_read_back<'t>(alloc: Global, lines: &[&'t str]) -> Result<bool, Fault<'t>> {
     let Some(style) = told(lines, "read_back") else {
         return Ok(true);
@@ -15,7 +16,8 @@ pub fn is_read_back<'t>(alloc: Global, lines: &[&'t str]) -> Result<bool, Fault<
     are_rows_read(alloc, style, lines, rows.as_slice())
 }
 
-/// Whether the cells of each row that the lines expect are read as the intervals of the row of the same place.
+/// Whether the cells of each row that the lines expect are read as the intervals of the row of the
+/// same place.
 fn are_rows_read<'t>(
     alloc: Global,
     style: &'t str,

@@ -102,7 +102,8 @@ fn push_equal_rows<'t>(
     Ok(())
 }
 
-/// Intervals with a bar between them, each by its months, days and microseconds. No words tell no interval.
+/// Intervals with a bar between them, each by its months, days and microseconds. No words tell no
+/// interval.
 pub fn intervals_of<'t>(alloc: Global, words: &'t str) -> Result<Vec<Interval>, Fault<'t>> {
     let mut intervals = Vec::new(alloc);
     if words.is_empty() {

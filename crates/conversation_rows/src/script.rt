@@ -72,7 +72,8 @@ fn put_messages<'t>(
     Ok(bytes.len().saturating_sub(before))
 }
 
-/// The registry call of these words: `start`; `ask` and its answer; or `cancel`, its answer, the pid and the key.
+/// The registry call of these words: `start`; `ask` and its answer; or `cancel`, its answer, the
+/// pid and the key.
 fn call_of<'t>(words: &'t str) -> Result<DeskCall, Fault<'t>> {
     match words {
         "start" => Ok(DeskCall::Start),

@@ -9,8 +9,8 @@ use pg_session::{EndKind, ServeError};
 use row_files::{Fault, numbers_of, singles, told, up_to_one};
 use std::alloc::{AllocError, Global};
 
-/// How a row is served: the bytes of each read, the calls of source, sink (with the bytes that a failing write takes)
-/// and desk that fail, and the turns.
+/// How a row is served: the bytes of each read, the calls of source, sink (with the bytes that a
+/// failing write takes) and desk that fail, and the turns.
 #[derive(Clone, Copy)]
 pub struct Plan<'t> {
     pub reads: Reads<'t>,
@@ -51,8 +51,8 @@ pub struct Outcome {
     pub place: Place,
 }
 
-/// Serves a client's bytes by the plan, with the handlers and the answers that the lines tell. The steps tell where the
-/// messages end.
+/// Serves a client's bytes by the plan, with the handlers and the answers that the lines tell. The
+/// steps tell where the messages end.
 pub fn serve<'t>(
     alloc: Global,
     lines: &[&'t str],

@@ -34,7 +34,8 @@ fn judge_told<'t>(
     Ok(Finding::of(0, found))
 }
 
-/// Serves a case, and tells what is otherwise than expected; a line tells the lengths of the writes, or none does.
+/// Serves a case, and tells what is otherwise than expected; a line tells the lengths of the
+/// writes, or none does.
 fn found_in<'t>(
     alloc: Global,
     lines: &[&'t str],
@@ -74,8 +75,8 @@ fn judge_swept<'t>(
     }
 }
 
-/// Where another number of bytes answers a front of the client's bytes than the words tell: two numbers say how many
-/// answer so many bytes and more.
+/// Where another number of bytes answers a front of the client's bytes than the words tell: two
+/// numbers say how many answer so many bytes and more.
 fn amounts_differ<'t>(
     alloc: Global,
     words: &'t str,

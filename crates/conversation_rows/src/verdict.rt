@@ -27,8 +27,8 @@ impl Between {
     }
 }
 
-/// What is expected of a conversation: its end, how many bytes of the replies are written, and how many of the
-/// registry's calls are made.
+/// What is expected of a conversation: its end, how many bytes of the replies are written, and how
+/// many of the registry's calls are made.
 #[derive(Clone, Copy)]
 pub struct Expected<'t> {
     pub end: &'t str,
@@ -36,9 +36,9 @@ pub struct Expected<'t> {
     pub calls: Between,
 }
 
-/// The first difference between an outcome and what is expected, if there is one. Another end is told only where what
-/// was written and called is a front of the conversation. No write is empty, and they are as long as the words tell,
-/// where there are such words.
+/// The first difference between an outcome and what is expected, if there is one. Another end is
+/// told only where what was written and called is a front of the conversation. No write is empty,
+/// and they are as long as the words tell, where there are such words.
 pub fn difference(
     script: &Script,
     outcome: &Outcome,

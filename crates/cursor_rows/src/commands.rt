@@ -19,7 +19,8 @@ pub fn answer_of<'t>(alloc: Global, row: &'t str) -> Result<String, Fault<'t>> {
     }
 }
 
-/// The command that the query is: `declare NAME RELATION`, `fetch LIMIT NAME`, `close NAME`; `none` where it is none.
+/// The command that the query is: `declare NAME RELATION`, `fetch LIMIT NAME`, `close NAME`; `none`
+/// where it is none.
 fn command_answer(alloc: Global, query: &str) -> Result<String, AllocError> {
     match read_cursor(alloc, query)? {
         None => String::from_str(alloc, "none"),

@@ -1,6 +1,7 @@
-// Tells of generated loads, one for each row `SEED N` of standard input: a line for each relation with the polls that it
-// owes, its columns, how many rows it has and its first cell; then the sums over all relations and all cells, and how
-// many bytes the client sends and their sum. A row `SEED N totals` has the sums alone.
+// Tells of generated loads, one for each row `SEED N` of standard input: a line for each relation
+// with the polls that it owes, its columns, how many rows it has and its first cell; then the sums
+// over all relations and all cells, and how many bytes the client sends and their sum. A row `SEED
+// N totals` has the sums alone.
 #![tactic(auto)]
 
 use pg_interval::Interval;
@@ -59,7 +60,8 @@ fn print_load(
     println!(rt; "client {} bytes, of sum {sum}", client.len())
 }
 
-/// A relation's name, the polls that it owes, its columns, how many rows it has, and its first cell.
+/// A relation's name, the polls that it owes, its columns, how many rows it has, and its first
+/// cell.
 fn told(alloc: Global, relation: &Relation) -> Result<String, AllocError> {
     let name = relation.name.as_str();
     let unready = relation.unready;

@@ -1,5 +1,5 @@
-//! Rows of relation files, as data on standard input: each is read, and a line tells whether the answer is the one that
-//! the row expects. The head of `stdin` has the format.
+//! Rows of relation files, as data on standard input: each is read, and a line tells whether the
+//! answer is the one that the row expects. The head of `stdin` has the format.
 #![tactic(auto)]
 
 mod given;

@@ -33,7 +33,8 @@ fn told_line(alloc: Global, number: u64, reason: &LineReason) -> Result<String, 
     }
 }
 
-/// The relations, of each its name, its unready polls, its columns and its rows; or that there is none.
+/// The relations, of each its name, its unready polls, its columns and its rows; or that there is
+/// none.
 fn told_relations(alloc: Global, relations: &[Relation]) -> Result<String, AllocError> {
     if relations.is_empty() {
         return String::from_str(alloc, "no relation");

@@ -1,9 +1,10 @@
-// Reads rows, each a frame or a reply under a name, and prints what the codec makes of it. The rows and what
-// they must give are in the files stdin and stdout; tools/message_rows.py tells the latter apart from this.
+// Reads rows, each a frame or a reply under a name, and prints what the codec makes of it. The rows
+// and what they must give are in the files stdin and stdout; tools/message_rows.py tells the latter
+// apart from this.
 //
-// A row is `NAME: PHASE PARTS`, where PHASE is `startup`, `typed` or the name of a reply, and the parts are
-// words (parts.rt). Any other line is printed as it is. The word COUNT, if there is one, asks for the times
-// of so many decodes and encodes of each row instead (times.rt).
+// A row is `NAME: PHASE PARTS`, where PHASE is `startup`, `typed` or the name of a reply, and the
+// parts are words (parts.rt). Any other line is printed as it is. The word COUNT, if there is one,
+// asks for the times of so many decodes and encodes of each row instead (times.rt).
 #![tactic(auto)]
 
 mod parts;
@@ -75,8 +76,8 @@ fn words_of(alloc: Global, row: &str) -> Result<Vec<&str>, AllocError> {
     Ok(words)
 }
 
-/// Prints the first answer that isn't None while the bytes come one by one, and how many had come; and what
-/// is left where they all come at once.
+/// Prints the first answer that isn't None while the bytes come one by one, and how many had come;
+/// and what is left where they all come at once.
 fn answer_frame(rt: &HostRuntime, awaiting: bool, parts: &[&str]) -> io::Result<()> {
     let Some(bytes) = bytes_of(rt.alloc(), parts)? else {
         return println!(rt; "not of the form");

@@ -75,7 +75,8 @@ fn show_texts(rt: &HostRuntime, kind: &str, texts: &[&PgStr]) -> io::Result<()> 
     Ok(())
 }
 
-/// Prints a text of at most 40 bytes, and of a longer one how many bytes there are, the first and the last.
+/// Prints a text of at most 40 bytes, and of a longer one how many bytes there are, the first and
+/// the last.
 fn show_text(rt: &HostRuntime, text: &str) -> io::Result<()> {
     if text.len() <= 40 {
         return print!(rt; " '{text}'");

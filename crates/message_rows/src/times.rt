@@ -1,4 +1,5 @@
-//! How long the codec takes: each frame of the rows decoded, each reply encoded, and a stream of frames.
+//! How long the codec takes: each frame of the rows decoded, each reply encoded, and a stream of
+//! frames.
 
 ghost use Rattle.std.specs.Prelude.{◌<◌};
 ghost use Rattle.pg_messages.specs.Replies.{IsEncodable};
@@ -13,7 +14,8 @@ use std::alloc::{AllocError, Global};
 use std::io;
 use std::time::{Clock, Instant};
 
-/// Prints the nanoseconds of each row's good frame or reply, over so many, and of a frame of each stream.
+/// Prints the nanoseconds of each row's good frame or reply, over so many, and of a frame of each
+/// stream.
 pub fn time_rows(rt: &HostRuntime, count: u32, rows: &str) -> io::Result<()> {
     for line in rows.lines() {
         if let Some((name, row)) = line.split_once(": ") {

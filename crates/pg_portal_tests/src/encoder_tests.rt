@@ -35,7 +35,8 @@ fn is_encoded<T: ToSql + ToSqlText>(rows: &mut DataRowEncoder, value: &T) -> boo
     rows.columns_left() > 0 && rows.encode_field(value).is_ok()
 }
 
-/// Appends a day and the same day that may be a null, and tells whether there was a column for both and for no third.
+/// Appends a day and the same day that may be a null, and tells whether there was a column for both
+/// and for no third.
 fn are_days_encoded(rows: &mut DataRowEncoder) -> bool {
     let day = Interval::new(0, 1, 0);
     is_encoded(rows, &day) && is_encoded(rows, &Some(day)) && !is_encoded(rows, &day)

@@ -39,7 +39,8 @@ fn styled(alloc: Global, style: &str) -> Result<FieldInfo, AllocError> {
     Ok(column(alloc)?.with_format_options(options))
 }
 
-/// Whether a description has this name, these places in a table, type, size and modifier, and format.
+/// Whether a description has this name, these places in a table, type, size and modifier, and
+/// format.
 fn is_told(
     told: &FieldDescription,
     name: &str,

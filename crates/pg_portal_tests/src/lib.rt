@@ -1,4 +1,5 @@
-//! Tests of statements and portals: worked values for what no clause says, and each generic call at a concrete type.
+//! Tests of statements and portals: worked values for what no clause says, and each generic call at
+//! a concrete type.
 #![tactic(auto)]
 
 #[cfg(test)]

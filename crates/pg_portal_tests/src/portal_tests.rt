@@ -9,7 +9,8 @@ use pg_messages::{DataRow, PgList, PgStr};
 use pg_portal::{FetchResult, ListRows, PgWireError, Portal, PortalExecutionState};
 use std::alloc::{AllocError, Global};
 
-/// Whether the next page has such rows, of one byte each, is suspended or not, and has this tag and number.
+/// Whether the next page has such rows, of one byte each, is suspended or not, and has this tag and
+/// number.
 fn is_next(
     portal: &mut Portal<PgStr, ListRows>,
     alloc: Global,

@@ -34,7 +34,8 @@ impl<'p> Clock for Pauses<'p> {
 /// The number of a call that is made.
 const MADE: i32 = 0;
 
-/// A listener whose calls, in their order, fail with these numbers of the system. Those past them are made.
+/// A listener whose calls, in their order, fail with these numbers of the system. Those past them
+/// are made.
 #[derive(Drop)]
 struct Failing<'f> {
     numbers: &'f [i32],
@@ -88,8 +89,8 @@ fn is_given(acceptor: &mut SocketAcceptor<Failing<'_>, Pauses<'_>>) -> bool
     }
 }
 
-/// What an acceptor does whose calls fail so: whether it gives a connection, without delay; and how many calls failed and
-/// how many pauses were taken.
+/// What an acceptor does whose calls fail so: whether it gives a connection, without delay; and how
+/// many calls failed and how many pauses were taken.
 fn accepted(rt: &HostRuntime, numbers: &[i32]) -> io::Result<(bool, u64, u64)> {
     let listener = TcpListener::bind(rt, "127.0.0.1:0")?;
     let _client = TcpStream::connect(rt, listener.local_addr()?)?;
@@ -109,8 +110,9 @@ fn is_accepted(rt: &HostRuntime, numbers: &[i32], told: (bool, u64, u64)) -> boo
     accepted(rt, numbers).is_ok_and(|answer| answer == told)
 }
 
-/// A call that fails for want of descriptors, buffers or memory, since it was interrupted, or since the connection was
-/// given up, is made again after a pause. One on a bad descriptor, or where nobody listens, is told at once.
+/// A call that fails for want of descriptors, buffers or memory, since it was interrupted, or since
+/// the connection was given up, is made again after a pause. One on a bad descriptor, or where
+/// nobody listens, is told at once.
 #[test]
 fn failures_that_pass_are_waited_out(rt: HostRuntime) {
     assert!(rt; is_accepted(&rt, &[], (true, 0, 0)));

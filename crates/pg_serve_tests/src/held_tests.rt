@@ -324,7 +324,8 @@ fn is_heard<R: Wait + Threads + Copy + Send + 'static>(
     Ok(canceler.join(&rt) && told)
 }
 
-/// Whether a cancel is made at this moment, and heard by the one query that the handler was asked for.
+/// Whether a cancel is made at this moment, and heard by the one query that the handler was asked
+/// for.
 fn is_canceled<R: Wait + Threads + Copy + Send + 'static>(
     rt: R,
     alloc: Global,
@@ -343,8 +344,8 @@ fn a_query_is_canceled_while_it_is_polled(rt: HostRuntime) -> Result<(), Fail> {
     Ok(())
 }
 
-/// A cancel is made while the handler makes the query, and heard at its first poll: the query had been started before.
-/// The handler was asked once.
+/// A cancel is made while the handler makes the query, and heard at its first poll: the query had
+/// been started before. The handler was asked once.
 #[test]
 fn a_query_is_canceled_while_it_is_made(rt: HostRuntime) -> Result<(), Fail> {
     assert!(rt; is_canceled(rt, rt.alloc(), Moment::Query)?);

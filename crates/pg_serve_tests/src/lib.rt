@@ -1,5 +1,5 @@
-//! Tests of the session, of what handlers send, and of the engine: what no row of a table program can say, and each
-//! public call that takes memory or is generic at a concrete type.
+//! Tests of the session, of what handlers send, and of the engine: what no row of a table program
+//! can say, and each public call that takes memory or is generic at a concrete type.
 #![tactic(auto)]
 
 #[cfg(test)]

@@ -41,7 +41,8 @@ fn a_sink_in_memory_takes_a_front_and_fails(rt: HostRuntime) -> Result<(), Fail>
     Ok(())
 }
 
-/// A reader and writer that gives and takes at most so many bytes at a time, and fails at the call of this number.
+/// A reader and writer that gives and takes at most so many bytes at a time, and fails at the call
+/// of this number.
 #[derive(Drop)]
 struct Narrow {
     calls: usize,

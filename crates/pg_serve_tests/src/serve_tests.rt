@@ -13,7 +13,8 @@ use std::sync::Arc;
 /// The reply to a startup packet and to a Query, at which a client sends more.
 const READY: &[u8] = b"Z\0\0\0\x05I";
 
-/// A client that sends its first piece, and the next only where the server was ready for a query by then; else it ends.
+/// A client that sends its first piece, and the next only where the server was ready for a query by
+/// then; else it ends.
 #[derive(Drop)]
 struct PatientSource<'f> {
     source: MemorySource,
@@ -60,7 +61,8 @@ impl<'f> Sink for NotingSink<'f> {
     }
 }
 
-/// The replies to a Query of `pair`: RowDescription of `name` and `span`, two DataRows, CommandComplete, ReadyForQuery.
+/// The replies to a Query of `pair`: RowDescription of `name` and `span`, two DataRows,
+/// CommandComplete, ReadyForQuery.
 const PAIR: &[u8] = b"T\0\0\0\x34\0\x02\
 name\0\0\0\0\0\0\0\0\0\0\x19\xff\xff\xff\xff\xff\xff\0\0\
 span\0\0\0\0\0\0\0\0\0\x04\xa2\0\x10\xff\xff\xff\xff\0\0\

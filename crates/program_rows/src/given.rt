@@ -99,7 +99,8 @@ fn source_of<'t>(
     Ok(MemorySource::new(PgBytes::from_vec(bytes), pieces, fails))
 }
 
-/// The most that each read gives: one byte where the word is `single`; the number of the word at first; else all.
+/// The most that each read gives: one byte where the word is `single`; the number of the word at
+/// first; else all.
 fn pieces_of<'t>(
     alloc: Global,
     reads: Option<&'t str>,

@@ -1,5 +1,6 @@
-//! Rows of the program over one client, as data on standard input: a row runs commands over memory, one after another at
-//! one registry, and a line tells whether each ends as the row expects. The head of `stdin` has the format.
+//! Rows of the program over one client, as data on standard input: a row runs commands over memory,
+//! one after another at one registry, and a line tells whether each ends as the row expects. The
+//! head of `stdin` has the format.
 #![tactic(auto)]
 
 mod command;

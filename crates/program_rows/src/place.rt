@@ -75,7 +75,8 @@ impl Place {
         (status, note.is_some())
     }
 
-    /// How many calls the registry got so far, which is the number of a registration more, under the pid 0.
+    /// How many calls the registry got so far, which is the number of a registration more, under
+    /// the pid 0.
     pub fn calls<R: Wait>(&mut self, rt: &R) -> Result<u64, RegisterError> {
         let handle = self.manager.register(rt, &mut self.door, 0, [0; 4])?;
         Ok(handle.number())

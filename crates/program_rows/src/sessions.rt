@@ -100,7 +100,8 @@ impl Client {
     }
 }
 
-/// The client of an example that sends all at once, or single bytes, with this many turns; a read may fail, or a write.
+/// The client of an example that sends all at once, or single bytes, with this many turns; a read
+/// may fail, or a write.
 fn client_of(
     alloc: Global,
     bytes: &[u8],
@@ -159,8 +160,8 @@ fn error_of(failing: Failing) -> ServeError {
     }
 }
 
-/// Whether the first session fails, with a front of the replies, and the second one on the same connection is served
-/// whole.
+/// Whether the first session fails, with a front of the replies, and the second one on the same
+/// connection is served whole.
 fn is_served_again<'t, R: Wait>(
     rt: &R,
     alloc: Global,
@@ -192,8 +193,8 @@ fn ends_of<'t, R: Wait>(
     place.serve_both(rt, alloc, table, first, second).map_err(fault_of)
 }
 
-/// Serves the client in each case of what the word names, and again on the same connection, and tells in which case that
-/// goes otherwise.
+/// Serves the client in each case of what the word names, and again on the same connection, and
+/// tells in which case that goes otherwise.
 pub fn sessions_difference<'t, R: Wait>(
     rt: &R,
     alloc: Global,

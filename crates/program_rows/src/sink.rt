@@ -46,8 +46,8 @@ pub fn sinks_of<'t>(alloc: Global, lines: &[&'t str]) -> Result<Sinks, Fault<'t>
     })
 }
 
-/// A sink of which a call fails after so many bytes, if a line with the first word tells one, and a call finds no memory,
-/// if a line with the second word tells one.
+/// A sink of which a call fails after so many bytes, if a line with the first word tells one, and a
+/// call finds no memory, if a line with the second word tells one.
 fn sink_of<'t>(
     alloc: Global,
     lines: &[&'t str],

@@ -37,7 +37,8 @@ fn occupy<'t, R: Wait>(rt: &R, place: &mut Place, lines: &[&'t str]) -> Result<(
     Ok(())
 }
 
-/// Runs a command, whose words stand in the first line, and tells what is otherwise than the further lines expect.
+/// Runs a command, whose words stand in the first line, and tells what is otherwise than the
+/// further lines expect.
 fn part_difference<'t, R: Wait>(
     rt: &R,
     alloc: Global,

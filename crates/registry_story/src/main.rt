@@ -1,5 +1,6 @@
-//! The story of a cancel registry: its calls one after another, each printed with its answer. A call that finds no memory
-//! says so in a line of its own and is made once more, since it has given the turn back with nothing done.
+//! The story of a cancel registry: its calls one after another, each printed with its answer. A
+//! call that finds no memory says so in a line of its own and is made once more, since it has given
+//! the turn back with nothing done.
 #![tactic(auto)]
 
 mod calls;

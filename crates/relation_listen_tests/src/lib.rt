@@ -1,4 +1,5 @@
-//! Tests of what takes in connections: the calls over fakes of acceptors, spawners and keys, and jobs in threads.
+//! Tests of what takes in connections: the calls over fakes of acceptors, spawners and keys, and
+//! jobs in threads.
 #![tactic(auto)]
 
 #[cfg(test)]

@@ -202,7 +202,8 @@ fn a_failed_accept_leaves_one_job(rt: HostRuntime) -> Result<(), Fail> {
     Ok(())
 }
 
-/// What the program is given: its words, the relation file, who has which pid before, and the calls that fail.
+/// What the program is given: its words, the relation file, who has which pid before, and the calls
+/// that fail.
 #[derive(Clone, Copy)]
 struct Given {
     words: &'static str,
@@ -323,7 +324,8 @@ fn status_of<R: Wait>(rt: &R, alloc: Global, given: &Given, stage: &mut Stage) -
     stage.run(rt, alloc, &mut registry)
 }
 
-/// What a program tells: its status and its line, and how many connections were accepted and good jobs started.
+/// What a program tells: its status and its line, and how many connections were accepted and good
+/// jobs started.
 type Told = (u8, &'static str, u64, usize);
 
 /// Whether the program answers so.
@@ -409,8 +411,8 @@ fn the_program_takes_in_connections(rt: HostRuntime) -> Result<(), Fail> {
 }
 
 /// The line that tells the commands.
-const USAGE: &str =
-    "usage: relation_server serve FILE PID KEY [TURNS], demo SEED N, listen tcp PORT FILE [COUNT], listen unix PATH FILE [COUNT]\n";
+const USAGE: &str = "usage: relation_server serve FILE PID KEY [TURNS], demo SEED N, \
+    listen tcp PORT FILE [COUNT], listen unix PATH FILE [COUNT]\n";
 
 /// Words over this file, whose read of this number fails, with somebody under pid 1.
 fn refused(words: &'static str, file: &'static str, read_fails_at: u64) -> Given {

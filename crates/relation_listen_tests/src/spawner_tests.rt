@@ -104,8 +104,8 @@ fn refused<R: thread::Threads + Wait + Clock + Net + Copy + Send + 'static>(
     Ok(without_room.start(rt, job))
 }
 
-/// What is answered to a job, for whose thread there is no room, while another runs that ends after a while: how many
-/// tries failed, and whether the other's client had left then.
+/// What is answered to a job, for whose thread there is no room, while another runs that ends after
+/// a while: how many tries failed, and whether the other's client had left then.
 fn waited_for<R: thread::Threads + Wait + Clock + Net + Copy + Send + 'static>(
     rt: R,
     alloc: Global,
@@ -121,8 +121,8 @@ fn waited_for<R: thread::Threads + Wait + Clock + Net + Copy + Send + 'static>(
     Ok((tries, is_ended))
 }
 
-/// Where no thread can be started, a job that runs is waited for, and the job is refused behind five tries while none
-/// runs.
+/// Where no thread can be started, a job that runs is waited for, and the job is refused behind
+/// five tries while none runs.
 #[test]
 fn a_job_waits_for_room(rt: HostRuntime) -> Result<(), Fail> {
     let alloc = rt.alloc();
@@ -186,7 +186,8 @@ fn finish_two<R: thread::Threads + Wait + Clock + Net + Copy + Send + 'static>(
     Ok(is_over)
 }
 
-/// `finish` waits for each client that stays, and behind it the jobs have given their registrations back.
+/// `finish` waits for each client that stays, and behind it the jobs have given their registrations
+/// back.
 #[test]
 fn finish_waits_for_a_client_that_stays(rt: HostRuntime) -> Result<(), Fail> {
     let alloc = rt.alloc();
@@ -197,7 +198,8 @@ fn finish_waits_for_a_client_that_stays(rt: HostRuntime) -> Result<(), Fail> {
     Ok(())
 }
 
-/// The count of faults of a spawner whose one job is answered so, and whether that was taken as started.
+/// The count of faults of a spawner whose one job is answered so, and whether that was taken as
+/// started.
 fn counted<T: Drop, R: Wait + Net>(
     rt: &R,
     alloc: Global,

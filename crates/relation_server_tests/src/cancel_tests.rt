@@ -88,7 +88,8 @@ fn source(alloc: Global) -> Result<MemorySource, AllocError> {
     source_of(alloc, bytes.as_slice())
 }
 
-/// How many of the queries were canceled, where each was answered by its row or by that, and nothing else was written.
+/// How many of the queries were canceled, where each was answered by its row or by that, and
+/// nothing else was written.
 fn canceled_among(replies: &[u8]) -> Option<u32> {
     let mut rest = replies.strip_prefix(FIRST_REPLIES.get(..131)?)?;
     let mut canceled = 0u32;

@@ -24,8 +24,9 @@ E\0\0\0\x09\0\0\0\0\0\
 S\0\0\0\x04\
 X\0\0\0\x04";
 
-/// The replies to it under the pid 7 and the key 01020304: AuthenticationOk, four ParameterStatus, BackendKeyData,
-/// ReadyForQuery; ParseComplete, BindComplete, three DataRows, CommandComplete, ReadyForQuery.
+/// The replies to it under the pid 7 and the key 01020304: AuthenticationOk, four ParameterStatus,
+/// BackendKeyData, ReadyForQuery; ParseComplete, BindComplete, three DataRows, CommandComplete,
+/// ReadyForQuery.
 pub(crate) const FIRST_REPLIES: &[u8] = b"R\0\0\0\x08\0\0\0\0\
 S\0\0\0\x18server_version\016.0\0\
 S\0\0\0\x19server_encoding\0UTF8\0\

@@ -53,8 +53,9 @@ fn is_canceled<R: Wait>(
     Ok(is_next && is_made && registry.manager.ask(rt, handle)?)
 }
 
-/// A client that binds all rows of `shifts` as binary and reads them is answered. Its one query is started in the registry:
-/// that is one call behind its registration, and what a cancel by its pid and key then cancels.
+/// A client that binds all rows of `shifts` as binary and reads them is answered. Its one query is
+/// started in the registry: that is one call behind its registration, and what a cancel by its pid
+/// and key then cancels.
 #[test]
 fn first_path_through_the_registry(rt: HostRuntime) -> Result<(), Fail> {
     let mut registry = Registry::new(rt.alloc())?;

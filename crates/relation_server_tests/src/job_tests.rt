@@ -38,7 +38,8 @@ fn is_served<R: Wait>(rt: &R, alloc: Global, job: &mut MemoryJob, end: EndKind) 
     job.serve(rt, alloc) == Ok(end) && job.sink.bytes() == FIRST_REPLIES
 }
 
-/// A job is served, and then once more: its client's bytes were read, and its handle is still registered.
+/// A job is served, and then once more: its client's bytes were read, and its handle is still
+/// registered.
 #[test]
 fn a_job_is_served(rt: HostRuntime) -> Result<(), Fail> {
     let alloc = rt.alloc();
@@ -56,8 +57,8 @@ fn is_run<R: Wait>(rt: &R, alloc: Global, job: MemoryJob) -> bool {
     answer == Ok(EndKind::Terminate) && sink.bytes() == FIRST_REPLIES && is_read(&mut source)
 }
 
-/// A job is run to its end: it hands back the source, of which all was read, and the sink with the replies, and its
-/// registration is gone.
+/// A job is run to its end: it hands back the source, of which all was read, and the sink with the
+/// replies, and its registration is gone.
 #[test]
 fn a_job_is_run(rt: HostRuntime) -> Result<(), Fail> {
     let alloc = rt.alloc();

@@ -1,5 +1,5 @@
-//! Tests of what a server of relations offers, one for each call that takes memory or is generic. Conversations are rows
-//! of a program of their own.
+//! Tests of what a server of relations offers, one for each call that takes memory or is generic.
+//! Conversations are rows of a program of their own.
 #![tactic(auto)]
 
 mod examples;

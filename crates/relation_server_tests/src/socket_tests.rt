@@ -180,8 +180,9 @@ fn cancel<R: Net<Stream = TcpStream>>(
     Ok(())
 }
 
-/// Whether a query that never ends is canceled by one of fifty other connections. The pid and the key are the last eight
-/// of the 125 bytes up to the end of BackendKeyData; six bytes of ReadyForQuery follow.
+/// Whether a query that never ends is canceled by one of fifty other connections. The pid and the
+/// key are the last eight of the 125 bytes up to the end of BackendKeyData; six bytes of
+/// ReadyForQuery follow.
 fn is_canceled<R: Net<Stream = TcpStream>>(rt: &R, server: SocketAddr) -> io::Result<bool> {
     let mut stream = TcpStream::connect(rt, server)?;
     stream.write_all(STARTUP)?;
@@ -230,8 +231,8 @@ fn are_free<R: Wait>(rt: &R, registry: &mut Registry) -> bool {
     registry.is_free(rt, 1) && registry.is_free(rt, 2) && registry.is_free(rt, 51)
 }
 
-/// A query that never ends is canceled while its connection is being served and others come. Each job then ends, and
-/// gives its registration back.
+/// A query that never ends is canceled while its connection is being served and others come. Each
+/// job then ends, and gives its registration back.
 #[test]
 fn a_query_is_canceled_over_tcp(rt: HostRuntime) -> Result<(), Fail> {
     jobs_cross_threads();

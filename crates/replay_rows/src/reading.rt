@@ -15,7 +15,8 @@ pub fn answer_of<'t>(alloc: Global, row: &'t str) -> Result<String, Fault<'t>> {
     }
 }
 
-/// What the reader answers to the bytes: `ok` where it reads a recording whose text they are, or its refusal.
+/// What the reader answers to the bytes: `ok` where it reads a recording whose text they are, or
+/// its refusal.
 fn read_answer(alloc: Global, bytes: &[u8]) -> Result<String, AllocError> {
     match read_recording(alloc, bytes) {
         Ok(recording) => String::from_str(alloc, written_again(alloc, &recording, bytes)?),
@@ -43,8 +44,8 @@ fn written_again(
     }
 }
 
-/// What the reader answers to every front of the bytes but the whole, where that is the same; else the first that isn't
-/// `truncated`.
+/// What the reader answers to every front of the bytes but the whole, where that is the same; else
+/// the first that isn't `truncated`.
 fn fronts_answer(alloc: Global, bytes: &[u8]) -> Result<String, AllocError> {
     for len in 0..bytes.len() {
         let answer = read_answer(alloc, &bytes[..len])?;

@@ -8,7 +8,8 @@ use row_files::{Fault, next_part, push_shown};
 use std::alloc::{AllocError, Global};
 use std::fmt::Write;
 
-/// What the program tells of a row's words and file: its status, what it wrote, and the line of errors.
+/// What the program tells of a row's words and file: its status, what it wrote, and the line of
+/// errors.
 pub fn answer_of<'t>(alloc: Global, given: &'t str) -> Result<String, Fault<'t>> {
     let (words, given) = next_part(given)?;
     let (file, given) = next_part(given)?;

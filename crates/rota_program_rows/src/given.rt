@@ -26,7 +26,8 @@ fn word_of(alloc: Global, text: &str) -> Result<PgStr, AllocError> {
     PgStr::copy_of(alloc, word.as_str())
 }
 
-/// A file of this text, of which the read of a number fails, if one is told. `*N TEXT` is a text N times.
+/// A file of this text, of which the read of a number fails, if one is told. `*N TEXT` is a text N
+/// times.
 pub fn file_of<'t>(
     alloc: Global,
     text: &'t str,

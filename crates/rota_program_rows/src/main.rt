@@ -1,5 +1,5 @@
-//! Rows of the program that tells rotas, as data on standard input: each runs the program over memory, and a line tells
-//! whether it ends as the row expects. The head of `stdin` has the format.
+//! Rows of the program that tells rotas, as data on standard input: each runs the program over
+//! memory, and a line tells whether it ends as the row expects. The head of `stdin` has the format.
 #![tactic(auto)]
 
 mod answers;

@@ -1,5 +1,5 @@
-//! Rows of rotas, as data on standard input: each is answered, and a line tells whether the answer is the one that the
-//! row expects. The head of `stdin` has the format.
+//! Rows of rotas, as data on standard input: each is answered, and a line tells whether the answer
+//! is the one that the row expects. The head of `stdin` has the format.
 #![tactic(auto)]
 
 mod answers;

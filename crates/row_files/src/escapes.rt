@@ -4,8 +4,9 @@ use crate::fault::Fault;
 use crate::hexadecimal::hex_byte;
 use std::alloc::{AllocError, Global};
 
-/// Appends the bytes of a text. `\s`, `\t`, `\n`, `\v`, `\f` and `\r` are whitespace, the bytes 20 and 09 to 0D, and
-/// `\x7c` is the byte of that hexadecimal number; the byte FF where nothing stands behind `\x` or another `\`.
+/// Appends the bytes of a text. `\s`, `\t`, `\n`, `\v`, `\f` and `\r` are whitespace, the bytes 20
+/// and 09 to 0D, and `\x7c` is the byte of that hexadecimal number; the byte FF where nothing
+/// stands behind `\x` or another `\`.
 pub fn push_unescaped<'t>(bytes: &mut Vec<u8>, text: &'t str) -> Result<(), Fault<'t>> {
     for (place, part) in text.split("\\").enumerate() {
         if place == 0 {
@@ -32,7 +33,8 @@ pub fn push_repeated<'t>(
     Ok(())
 }
 
-/// Appends the byte that stands behind a backslash, and what follows; false where none stands there.
+/// Appends the byte that stands behind a backslash, and what follows; false where none stands
+/// there.
 fn push_escaped(bytes: &mut Vec<u8>, part: &[u8]) -> Result<bool, AllocError> {
     match escaped(part) {
         None => Ok(false),

@@ -33,7 +33,7 @@ pub fn push_hex_words<'t>(bytes: &mut Vec<u8>, words: &'t str) -> Result<(), Fau
 }
 
 /// Appends the bytes of pairs of digits; false where a pair is none.
-fn push_pairs(bytes: &mut Vec<u8>, digits: &[u8]) -> Result<bool, AllocError> {
+pub fn push_pairs(bytes: &mut Vec<u8>, digits: &[u8]) -> Result<bool, AllocError> {
     for pair in digits.chunks(2) {
         let Some(byte) = byte_of(pair) else {
             return Ok(false);

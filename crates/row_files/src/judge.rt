@@ -18,8 +18,8 @@ pub trait Judge {
     ) -> Result<Option<String>, Fault<'t>>;
 }
 
-/// Judges each line of standard input but empty ones and comments, and prints a line for each and their number. A row's
-/// name stands before its first bar.
+/// Judges each line of standard input but empty ones and comments, and prints a line for each and
+/// their number. A row's name stands before its first bar.
 pub fn judge_lines<R: Print + Input, J: Judge>(
     rt: &R,
     alloc: Global,
@@ -36,8 +36,8 @@ pub fn judge_lines<R: Print + Input, J: Judge>(
     tally.tell_count(rt)
 }
 
-/// Judges each block of standard input, between empty lines, that begins with `row` and a name, and prints a line for each
-/// and their number.
+/// Judges each block of standard input, between empty lines, that begins with `row` and a name, and
+/// prints a line for each and their number.
 pub fn judge_blocks<R: Print + Input, J: Judge>(
     rt: &R,
     alloc: Global,

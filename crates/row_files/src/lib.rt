@@ -1,5 +1,5 @@
-//! Files of rows: how the programs that try tables of cases read a row's parts, bytes and numbers, and how they tell what
-//! came of each row and how many there were.
+//! Files of rows: how the programs that try tables of cases read a row's parts, bytes and numbers,
+//! and how they tell what came of each row and how many there were.
 #![tactic(auto)]
 
 mod escapes;
@@ -13,7 +13,7 @@ mod tally;
 
 pub use escapes::{push_repeated, push_shown, push_unescaped};
 pub use fault::Fault;
-pub use hexadecimal::{push_digits, push_hex, push_hex_words};
+pub use hexadecimal::{push_digits, push_hex, push_hex_words, push_pairs};
 pub use judge::{Judge, judge_blocks, judge_lines};
 pub use lines::{lines_of, name_of, number_told, numbers_of, told, told_by};
 pub use lists::{singles, up_to_one};

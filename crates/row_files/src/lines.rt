@@ -25,8 +25,8 @@ pub fn name_of<'t>(block: &'t str, word: &str) -> Option<&'t str> {
     None
 }
 
-/// The lines of a block that say something, where each `use` stands for the lines of the block that it names. Each line
-/// begins with one of the words.
+/// The lines of a block that say something, where each `use` stands for the lines of the block that
+/// it names. Each line begins with one of the words.
 pub fn lines_of<'t>(
     alloc: Global,
     text: &'t str,

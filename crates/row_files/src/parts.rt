@@ -5,7 +5,8 @@ ghost use Rattle.std.specs.Prelude.{◌≡◌, MatchOption, string_bytes, ◌≤
 use crate::fault::Fault;
 use std::str::FromStr;
 
-/// The part of a row with this place, from 0, without the whitespace round it. Bars split the parts.
+/// The part of a row with this place, from 0, without the whitespace round it. Bars split the
+/// parts.
 pub fn part<'t>(row: &'t str, place: usize) -> Result<&'t str, Fault<'t>> {
     match row.split("|").nth(place) {
         Some(part) => Ok(part.trim()),
@@ -13,7 +14,8 @@ pub fn part<'t>(row: &'t str, place: usize) -> Result<&'t str, Fault<'t>> {
     }
 }
 
-/// A row's name, which stands before its first bar. Spaces round that bar count for nothing where one stands behind it.
+/// A row's name, which stands before its first bar. Spaces round that bar count for nothing where
+/// one stands behind it.
 pub(crate) fn row_name(row: &str) -> &str {
     let (name, rest) = row.split_once("|").unwrap_or((row, ""));
     if rest.starts_with(" ") { name.trim() } else { name }
@@ -52,7 +54,8 @@ pub fn three_numbers<'t>(text: &'t str) -> Result<(i32, i32, i64), Fault<'t>> {
     }
 }
 
-/// How many times a word says what stands behind its `*`, and that; once where it has no number and `*`.
+/// How many times a word says what stands behind its `*`, and that; once where it has no number and
+/// `*`.
 pub fn times_and_rest(word: &str) -> (u32, &str) {
     match word.split_once("*") {
         Some((count, rest)) => match count.parse::<u32>() {

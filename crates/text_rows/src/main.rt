@@ -1,5 +1,5 @@
-// Rows on options and cells, one a line, which it answers. A row is a word and its fields, split by `|`; what is
-// told of a cell begins with the byte `>`, which stands in the buffer before.
+// Rows on options and cells, one a line, which it answers. A row is a word and its fields, split by
+// `|`; what is told of a cell begins with the byte `>`, which stands in the buffer before.
 #![tactic(auto)]
 
 mod cells;
