@@ -2,13 +2,12 @@
 
 use bytes::BytesMut;
 use cursor_commands::{CursorCommand, put_replies, read_cursor};
-use row_files::{Fault, part, push_digits, push_hex_words, push_unescaped};
+use row_files::{Fault, hex_words, part, push_digits, unescaped};
 use std::alloc::{AllocError, Global};
 
 /// The answer to what a row asks of its query.
 pub fn answer_of<'t>(alloc: Global, row: &'t str) -> Result<String, Fault<'t>> {
-    let mut query = Vec::new(alloc);
-    push_unescaped(&mut query, part(row, 2)?)?;
+    let query = unescaped(alloc, part(row, 2)?)?;
     let Ok(query) = str::from_utf8(query.as_slice()) else {
         return Err(Fault::Line(row));
     };
@@ -24,16 +23,22 @@ pub fn answer_of<'t>(alloc: Global, row: &'t str) -> Result<String, Fault<'t>> {
 fn command_answer(alloc: Global, query: &str) -> Result<String, AllocError> {
     match read_cursor(alloc, query)? {
         None => String::from_str(alloc, "none"),
-        Some(CursorCommand::Declare(name, relation)) => {
-            let name = name.as_str();
-            let relation = relation.as_str();
+        Some(command) => command_text(alloc, &command),
+    }
+}
+
+/// The text of a command.
+fn command_text(alloc: Global, command: &CursorCommand) -> Result<String, AllocError> {
+    match command {
+        CursorCommand::Declare(name, relation) => {
+            let (name, relation) = (name.as_str(), relation.as_str());
             format!(in alloc; "declare {name} {relation}")
         }
-        Some(CursorCommand::Fetch(limit, name)) => {
+        CursorCommand::Fetch(limit, name) => {
             let name = name.as_str();
             format!(in alloc; "fetch {limit} {name}")
         }
-        Some(CursorCommand::Close(name)) => {
+        CursorCommand::Close(name) => {
             let name = name.as_str();
             format!(in alloc; "close {name}")
         }
@@ -42,12 +47,19 @@ fn command_answer(alloc: Global, query: &str) -> Result<String, AllocError> {
 
 /// What the command makes of the row's replies to its messages, in hexadecimal digits.
 fn replies_answer<'t>(alloc: Global, query: &str, row: &'t str) -> Result<String, Fault<'t>> {
-    let mut replies = Vec::new(alloc);
-    push_hex_words(&mut replies, part(row, 3)?)?;
-    let Some(command) = read_cursor(alloc, query)? else {
-        return Err(Fault::Line(row));
-    };
-    Ok(digits_of(alloc, &command, replies.as_slice())?)
+    let replies = hex_words(alloc, part(row, 3)?)?;
+    match replied(alloc, query, replies.as_slice())? {
+        None => Err(Fault::Line(row)),
+        Some(digits) => Ok(digits),
+    }
+}
+
+/// What a query's command makes of replies; None where it is none.
+fn replied(alloc: Global, query: &str, replies: &[u8]) -> Result<Option<String>, AllocError> {
+    match read_cursor(alloc, query)? {
+        None => Ok(None),
+        Some(command) => Ok(Some(digits_of(alloc, &command, replies)?)),
+    }
 }
 
 /// What a command makes of replies, in hexadecimal digits.

@@ -3,16 +3,9 @@
 use pg_messages::{PgBytes, PgList, PgStr};
 use pg_serve::MemorySource;
 use row_files::{
-    Fault, number_told, parsed, push_hex, push_unescaped, singles, told, told_by, up_to_one,
+    Fault, number_told, parsed, push_hex, singles, told, told_by, unescaped, up_to_one,
 };
 use std::alloc::{AllocError, Global};
-
-/// The bytes of a text, in which a backslash and a letter stand for a byte.
-pub fn text_bytes<'t>(alloc: Global, text: &'t str) -> Result<Vec<u8>, Fault<'t>> {
-    let mut bytes = Vec::new(alloc);
-    push_unescaped(&mut bytes, text)?;
-    Ok(bytes)
-}
 
 /// The bytes of words: each is a name that a line `bytes NAME ..` gives, or in hexadecimal.
 pub fn message_bytes<'t>(
@@ -71,7 +64,7 @@ pub fn sources_of<'t>(
 
 /// The relation file.
 fn file_of<'t>(alloc: Global, lines: &[&'t str]) -> Result<MemorySource, Fault<'t>> {
-    let bytes = text_bytes(alloc, told(lines, "file").unwrap_or(""))?;
+    let bytes = unescaped(alloc, told(lines, "file").unwrap_or(""))?;
     let fails = number_told(lines, "file_fails")?;
     source_of(alloc, bytes, told(lines, "file_reads"), fails)
 }

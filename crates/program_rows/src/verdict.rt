@@ -1,11 +1,11 @@
 //! What is otherwise than a row expects.
 
 use crate::command::{Answer, answer_to};
-use crate::given::{message_bytes, text_bytes};
+use crate::given::message_bytes;
 use crate::place::{Place, fault_of};
 use crate::sink::RowSink;
 use crate::WORDS;
-use row_files::{Fault, common_len, lines_of, number_told, told, told_by};
+use row_files::{Fault, common_len, lines_of, number_told, told, told_by, unescaped};
 use std::alloc::{AllocError, Global};
 use std::sync::Wait;
 
@@ -96,7 +96,7 @@ fn output_difference<'t>(
     lines: &[&'t str],
     answer: &Answer,
 ) -> Result<Option<String>, Fault<'t>> {
-    let err = text_bytes(alloc, told(lines, "err").unwrap_or(""))?;
+    let err = unescaped(alloc, told(lines, "err").unwrap_or(""))?;
     if answer.sinks.err.sink.bytes() != err.as_slice() {
         return Ok(Some(told_err(alloc, words, &answer.sinks.err)?));
     }
@@ -128,7 +128,7 @@ fn out_difference(
 /// The output that the lines expect: a text, or else messages.
 fn output_told<'t>(alloc: Global, text: &'t str, lines: &[&'t str]) -> Result<Vec<u8>, Fault<'t>> {
     match told(lines, "out_text") {
-        Some(out) => text_bytes(alloc, out),
+        Some(out) => unescaped(alloc, out),
         None => message_bytes(alloc, text, told(lines, "out").unwrap_or("")),
     }
 }

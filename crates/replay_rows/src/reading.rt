@@ -1,13 +1,12 @@
 //! Recordings read and written again.
 
 use recording_text::{ReadError, Recording, read_recording, write_recording};
-use row_files::{Fault, part, push_hex_words};
+use row_files::{Fault, hex_words, part};
 use std::alloc::{AllocError, Global};
 
 /// The answer to what a row asks of its bytes.
 pub fn answer_of<'t>(alloc: Global, row: &'t str) -> Result<String, Fault<'t>> {
-    let mut bytes = Vec::new(alloc);
-    push_hex_words(&mut bytes, part(row, 2)?)?;
+    let bytes = hex_words(alloc, part(row, 2)?)?;
     match part(row, 1)? {
         "read" => Ok(read_answer(alloc, bytes.as_slice())?),
         "fronts" => Ok(fronts_answer(alloc, bytes.as_slice())?),

@@ -18,6 +18,13 @@ pub fn push_unescaped<'t>(bytes: &mut Vec<u8>, text: &'t str) -> Result<(), Faul
     Ok(())
 }
 
+/// The bytes of a text, with those that stand behind backslashes.
+pub fn unescaped<'t>(alloc: Global, text: &'t str) -> Result<Vec<u8>, Fault<'t>> {
+    let mut bytes = Vec::new(alloc);
+    push_unescaped(&mut bytes, text)?;
+    Ok(bytes)
+}
+
 /// Appends the bytes of a text so many times.
 pub fn push_repeated<'t>(
     alloc: Global,
@@ -25,8 +32,7 @@ pub fn push_repeated<'t>(
     times: u32,
     text: &'t str,
 ) -> Result<(), Fault<'t>> {
-    let mut piece = Vec::new(alloc);
-    push_unescaped(&mut piece, text)?;
+    let piece = unescaped(alloc, text)?;
     for _ in 0..times {
         bytes.extend_from_slice(piece.as_slice())?;
     }

@@ -2,7 +2,7 @@
 
 use crate::fault::Fault;
 use crate::parts::times_and_rest;
-use std::alloc::AllocError;
+use std::alloc::{AllocError, Global};
 
 /// The byte of two hexadecimal digits.
 pub(crate) fn hex_byte(high: u8, low: u8) -> Option<u8> {
@@ -21,13 +21,20 @@ pub fn push_hex<'t>(bytes: &mut Vec<u8>, digits: &'t str) -> Result<(), Fault<'t
     Ok(())
 }
 
-/// Appends the bytes of words: hexadecimal digits, or `N*` and digits, whose bytes stand N times.
-pub fn push_hex_words<'t>(bytes: &mut Vec<u8>, words: &'t str) -> Result<(), Fault<'t>> {
+/// The bytes of words: hexadecimal digits, or `N*` and digits, whose bytes stand N times.
+pub fn hex_words<'t>(alloc: Global, words: &'t str) -> Result<Vec<u8>, Fault<'t>> {
+    let mut bytes = Vec::new(alloc);
     for word in words.split_whitespace() {
-        let (times, digits) = times_and_rest(word);
-        for _ in 0..times {
-            push_hex(bytes, digits)?;
-        }
+        push_word(&mut bytes, word)?;
+    }
+    Ok(bytes)
+}
+
+/// Appends the bytes of a word: hexadecimal digits, or `N*` and digits, whose bytes stand N times.
+fn push_word<'t>(bytes: &mut Vec<u8>, word: &'t str) -> Result<(), Fault<'t>> {
+    let (times, digits) = times_and_rest(word);
+    for _ in 0..times {
+        push_hex(bytes, digits)?;
     }
     Ok(())
 }

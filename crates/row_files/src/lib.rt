@@ -11,9 +11,9 @@ mod lists;
 mod parts;
 mod tally;
 
-pub use escapes::{push_repeated, push_shown, push_unescaped};
+pub use escapes::{push_repeated, push_shown, push_unescaped, unescaped};
 pub use fault::Fault;
-pub use hexadecimal::{push_digits, push_hex, push_hex_words, push_pairs};
+pub use hexadecimal::{hex_words, push_digits, push_hex, push_pairs};
 pub use judge::{Judge, judge_blocks, judge_lines};
 pub use lines::{lines_of, name_of, number_told, numbers_of, told, told_by};
 pub use lists::{singles, up_to_one};
