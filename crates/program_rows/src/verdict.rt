@@ -3,7 +3,7 @@
 use crate::command::{Answer, answer_to};
 use crate::given::message_bytes;
 use crate::place::{Place, fault_of};
-use crate::sink::RowSink;
+use crate::sink::{RowSink, Sinks};
 use crate::WORDS;
 use row_files::{Fault, common_len, lines_of, number_told, told, told_by, unescaped};
 use std::alloc::{AllocError, Global};
@@ -62,13 +62,10 @@ fn command_difference<'t, R: Wait>(
 ) -> Result<Option<String>, Fault<'t>> {
     let (status, note) = expected_of(lines)?;
     let answer = answer_to(rt, alloc, place, words, text, lines)?;
-    if status != answer.status as u64 {
-        return Ok(Some(told_status(alloc, words, &answer)?));
+    match status_difference(alloc, words, status, note, &answer)? {
+        None => output_difference(alloc, words, text, lines, &answer.sinks),
+        Some(difference) => Ok(Some(difference)),
     }
-    if note != answer.is_noted {
-        return Ok(Some(format!(in alloc; "{words}: otherwise noted")?));
-    }
-    output_difference(alloc, words, text, lines, &answer)
 }
 
 /// The status that the lines expect, and whether they expect a note.
@@ -82,10 +79,22 @@ fn expected_of<'t>(lines: &[&'t str]) -> Result<(u64, bool), Fault<'t>> {
     }
 }
 
-/// The status of an answer to these words.
-fn told_status(alloc: Global, words: &str, answer: &Answer) -> Result<String, AllocError> {
-    let status = answer.status;
-    format!(in alloc; "{words}: status {status}")
+/// Where an answer has another status, or a note against what is expected.
+fn status_difference(
+    alloc: Global,
+    words: &str,
+    status: u64,
+    note: bool,
+    answer: &Answer,
+) -> Result<Option<String>, AllocError> {
+    let told = answer.status;
+    if status != u64::from(told) {
+        return Ok(Some(format!(in alloc; "{words}: status {told}")?));
+    }
+    if note != answer.is_noted {
+        return Ok(Some(format!(in alloc; "{words}: otherwise noted")?));
+    }
+    Ok(None)
 }
 
 /// What was written otherwise than the lines expect, if anything was.
@@ -94,14 +103,30 @@ fn output_difference<'t>(
     words: &'t str,
     text: &'t str,
     lines: &[&'t str],
-    answer: &Answer,
+    sinks: &Sinks,
 ) -> Result<Option<String>, Fault<'t>> {
-    let err = unescaped(alloc, told(lines, "err").unwrap_or(""))?;
-    if answer.sinks.err.sink.bytes() != err.as_slice() {
-        return Ok(Some(told_err(alloc, words, &answer.sinks.err)?));
+    match err_difference(alloc, words, lines, &sinks.err)? {
+        None => {
+            let out = output_told(alloc, text, lines)?;
+            Ok(out_difference(alloc, words, &sinks.out, out.as_slice())?)
+        }
+        Some(difference) => Ok(Some(difference)),
     }
-    let out = output_told(alloc, text, lines)?;
-    Ok(out_difference(alloc, words, &answer.sinks.out, out.as_slice())?)
+}
+
+/// Where the line of errors is other than the lines expect.
+fn err_difference<'t>(
+    alloc: Global,
+    words: &'t str,
+    lines: &[&'t str],
+    err: &RowSink,
+) -> Result<Option<String>, Fault<'t>> {
+    let expected = unescaped(alloc, told(lines, "err").unwrap_or(""))?;
+    if err.sink.bytes() == expected.as_slice() {
+        Ok(None)
+    } else {
+        Ok(Some(told_err(alloc, words, err)?))
+    }
 }
 
 /// The line of errors that was written.
@@ -141,16 +166,26 @@ fn registry_difference<'t, R: Wait>(
     lines: &[&'t str],
 ) -> Result<Option<String>, Fault<'t>> {
     let calls = place.calls(rt).map_err(fault_of)?;
-    if number_told(lines, "calls")?.is_some_and(|told| told != calls) {
-        return Ok(Some(format!(in alloc; "{calls} calls")?));
+    match number_told(lines, "calls")? {
+        Some(told) if told != calls => Ok(Some(format!(in alloc; "{calls} calls")?)),
+        _ => pids_difference(rt, alloc, place, lines),
     }
+}
+
+/// A pid that is taken where the lines expect that it is free, or free where they expect that it is taken.
+fn pids_difference<'t, R: Wait>(
+    rt: &R,
+    alloc: Global,
+    place: &mut Place,
+    lines: &[&'t str],
+) -> Result<Option<String>, Fault<'t>> {
     if let Some(pid) = pid_that_is(rt, place, told(lines, "free").unwrap_or(""), true)? {
         return Ok(Some(format!(in alloc; "the pid {pid} is taken")?));
     }
-    if let Some(pid) = pid_that_is(rt, place, told(lines, "taken").unwrap_or(""), false)? {
-        return Ok(Some(format!(in alloc; "the pid {pid} is free")?));
+    match pid_that_is(rt, place, told(lines, "taken").unwrap_or(""), false)? {
+        None => Ok(None),
+        Some(pid) => Ok(Some(format!(in alloc; "the pid {pid} is free")?)),
     }
-    Ok(None)
 }
 
 /// The first of the pids that is taken, or that is free.
