@@ -172,7 +172,8 @@ fn registry_difference<'t, R: Wait>(
     }
 }
 
-/// A pid that is taken where the lines expect that it is free, or free where they expect that it is taken.
+/// A pid that is taken where the lines expect that it is free, or free where they expect that it is
+/// taken.
 fn pids_difference<'t, R: Wait>(
     rt: &R,
     alloc: Global,
