@@ -9,20 +9,21 @@ use std::alloc::{AllocError, Global};
 /// The built-in relations; or those that the lines tell, where there are such lines.
 pub fn table_of<'t>(alloc: Global, lines: &[&'t str]) -> Result<RelationTable, Fault<'t>> {
     if told(lines, "relation").is_none() {
-        return built_in_table(alloc).map_err(fault_of);
+        return served(built_in_table(alloc));
     }
     let relations = relations_of(alloc, lines)?;
     if relations.len() > 1000 {
         return Err(Fault::Line("too many relations"));
     }
-    RelationTable::try_new(alloc, PgList::from_vec(relations)).map_err(fault_of)
+    served(RelationTable::try_new(alloc, PgList::from_vec(relations)))
 }
 
-/// Why relations are none that can be served.
-fn fault_of<'t>(error: TableError) -> Fault<'t> {
-    match error {
-        TableError::NoMemory => Fault::NoMemory,
-        _ => Fault::Line("a relation that is refused"),
+/// Relations that can be served.
+fn served<'t>(table: Result<RelationTable, TableError>) -> Result<RelationTable, Fault<'t>> {
+    match table {
+        Ok(table) => Ok(table),
+        Err(TableError::NoMemory) => Err(Fault::NoMemory),
+        Err(_) => Err(Fault::Line("a relation that is refused")),
     }
 }
 

@@ -77,9 +77,11 @@ impl Place {
 
     /// How many calls the registry got so far, which is the number of a registration more, under
     /// the pid 0.
-    pub fn calls<R: Wait>(&mut self, rt: &R) -> Result<u64, RegisterError> {
-        let handle = self.manager.register(rt, &mut self.door, 0, [0; 4])?;
-        Ok(handle.number())
+    pub fn calls<'t, R: Wait>(&mut self, rt: &R) -> Result<u64, Fault<'t>> {
+        match self.manager.register(rt, &mut self.door, 0, [0; 4]) {
+            Ok(handle) => Ok(handle.number()),
+            Err(error) => Err(fault_of(error)),
+        }
     }
 
     /// Whether somebody is registered under a pid. It is taken then in any case.

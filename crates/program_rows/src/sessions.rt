@@ -190,7 +190,10 @@ fn ends_of<'t, R: Wait>(
     second: &mut Client,
 ) -> Result<Ends, Fault<'t>> {
     let mut place = Place::new(alloc)?;
-    place.serve_both(rt, alloc, table, first, second).map_err(fault_of)
+    match place.serve_both(rt, alloc, table, first, second) {
+        Ok(ends) => Ok(ends),
+        Err(error) => Err(fault_of(error)),
+    }
 }
 
 /// Serves the client in each case of what the word names, and again on the same connection, and

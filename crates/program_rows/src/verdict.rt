@@ -2,7 +2,7 @@
 
 use crate::command::{Answer, answer_to};
 use crate::given::message_bytes;
-use crate::place::{Place, fault_of};
+use crate::place::Place;
 use crate::sink::{RowSink, Sinks};
 use crate::WORDS;
 use row_files::{Fault, common_len, lines_of, number_told, told, told_by, unescaped};
@@ -165,7 +165,7 @@ fn registry_difference<'t, R: Wait>(
     place: &mut Place,
     lines: &[&'t str],
 ) -> Result<Option<String>, Fault<'t>> {
-    let calls = place.calls(rt).map_err(fault_of)?;
+    let calls = place.calls(rt)?;
     match number_told(lines, "calls")? {
         Some(told) if told != calls => Ok(Some(format!(in alloc; "{calls} calls")?)),
         _ => pids_difference(rt, alloc, place, lines),
