@@ -3,7 +3,7 @@
 use pg_messages::{PgBytes, PgList};
 use pg_serve::MemorySource;
 use row_files::{Fault, part, push_repeated, push_unescaped, times_and_rest};
-use std::alloc::Global;
+use std::alloc::{AllocError, Global};
 use std::str::FromStr;
 
 /// The row's file: its bytes, the most that each read gives, and the reads that fail.
@@ -41,13 +41,30 @@ where
 {
     let mut bytes = Vec::new(alloc);
     push_repeats(alloc, &mut bytes, text)?;
+    match numbers_in(alloc, bytes.as_slice())? {
+        None => Err(Fault::Line(text)),
+        Some(numbers) => Ok(numbers),
+    }
+}
+
+/// The numbers of a text; None where a word is none.
+fn numbers_in<T: FromStr + Drop>(
+    alloc: Global,
+    bytes: &[u8],
+) -> Result<Option<PgList<T>>, AllocError>
+where
+    <T as FromStr>::Err: Drop,
+{
     let mut numbers = PgList::new(alloc);
-    for word in bytes.as_slice().split(|byte| *byte == b' ') {
+    for word in bytes.split(|byte| *byte == b' ') {
         if !word.is_empty() {
-            numbers.push(number_of(word).ok_or(Fault::Line(text))?)?;
+            let Some(number) = number_of(word) else {
+                return Ok(None);
+            };
+            numbers.push(number)?;
         }
     }
-    Ok(numbers)
+    Ok(Some(numbers))
 }
 
 /// The number of decimal digits.

@@ -22,7 +22,7 @@ fn read_answer(alloc: Global, bytes: &[u8]) -> Result<String, AllocError> {
         Err(ReadError::Truncated) => String::from_str(alloc, "truncated"),
         Err(ReadError::BadField(place)) => format!(in alloc; "bad field {place}"),
         Err(ReadError::Trailing(place)) => format!(in alloc; "trailing {place}"),
-        Err(ReadError::NoMemory) => String::from_str(alloc, "no memory"),
+        Err(ReadError::NoMemory) => String::from_str(alloc, "out of memory"),
     }
 }
 
