@@ -52,8 +52,8 @@ fn wait_for_a_feed<
     let startup = message(alloc, true, STARTUP)?;
     let mut session = Session::new(alloc, handlers, store, 7, KEY)?;
     let mut turns = Turns { spent: 0, limit: 9 };
-    let is_taken = takes(alloc, &mut session, desk, &mut turns, startup);
-    Ok(is_taken && goes_on(alloc, &mut session, desk, &mut turns, sink))
+    let is_answered = takes(alloc, &mut session, desk, &mut turns, startup);
+    Ok(is_answered && goes_on(alloc, &mut session, desk, &mut turns, sink))
 }
 
 /// Whether a session answers a message without an end.
@@ -74,7 +74,8 @@ fn takes<
     requires open { session.old.is_open ≡ true }
     requires given { IsGivenIn session.old.state message }
 {
-    is_taken(process_message(alloc, session, desk, turns, message))
+    let answer = process_message(alloc, session, desk, turns, message);
+    is_taken(answer)
 }
 
 /// Whether a session that is open goes on after a feed of nothing.
@@ -92,8 +93,11 @@ fn goes_on<
     turns: &mut Turns,
     sink: &mut MemorySink,
 ) -> bool {
-    session.is_open()
-        && matches!(session.feed(alloc, desk, &[], sink, turns), Ok(Progress::More))
+    if !session.is_open() {
+        return false;
+    }
+    let progress = session.feed(alloc, desk, &[], sink, turns);
+    matches!(progress, Ok(Progress::More))
 }
 
 /// Whether a message was answered without an end.
