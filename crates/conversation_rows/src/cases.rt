@@ -86,12 +86,7 @@ pub fn count_of(sweep: Sweep, swept: Swept<'_>) -> usize {
 }
 
 /// The case of a sweep at this place.
-pub fn case_of<'t>(
-    sweep: Sweep,
-    swept: Swept<'t>,
-    steps: &[Step],
-    place: usize,
-) -> Case<'t> {
+pub fn case_of<'t>(sweep: Sweep, swept: Swept<'t>, steps: &[Step], place: usize) -> Case<'t> {
     match sweep {
         Sweep::Cuts => swept.served(Reads::First(place.saturating_add(1))),
         Sweep::Headers => swept.served(Reads::Messages(place)),

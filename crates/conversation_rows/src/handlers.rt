@@ -48,7 +48,9 @@ fn serve_relations<'t>(
 
 /// Serves a client by the handler that implements nothing.
 fn serve_noop(alloc: Global, place: &mut Place, turns: u64) -> Result<Ending, AllocError> {
-    let handlers = NoopHandlers { handler: NoopHandler };
+    let handlers = NoopHandlers {
+        handler: NoopHandler,
+    };
     serve_by(alloc, handlers, place, turns)
 }
 
@@ -97,9 +99,9 @@ impl PgWireServerHandlers for NoopHandlers {
     type Copying = NoopHandler;
 
     ghost told = { λ _. record {
-        extended = noop_extended;
-        simple = noop_simple;
-        copying = noop_copy;
+      extended = noop_extended;
+      simple = noop_simple;
+      copying = noop_copy;
     } };
 
     fn simple_query_handler(&self) -> &NoopHandler {
@@ -134,9 +136,9 @@ impl PgWireServerHandlers for RefusedCopyHandlers {
     type Copying = NoopHandler;
 
     ghost told = { λ _. record {
-        extended = told_extended;
-        simple = told_simple;
-        copying = noop_copy;
+      extended = told_extended;
+      simple = told_simple;
+      copying = noop_copy;
     } };
 
     fn simple_query_handler(&self) -> &SampleHandler {

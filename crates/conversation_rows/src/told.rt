@@ -69,10 +69,7 @@ fn plan_told<'t>(alloc: Global, lines: &[&'t str]) -> Result<Plan<'t>, Fault<'t>
 }
 
 /// The write that fails, if the lines tell one.
-fn failing_write<'t>(
-    alloc: Global,
-    lines: &[&'t str],
-) -> Result<Option<(u64, usize)>, Fault<'t>> {
+fn failing_write<'t>(alloc: Global, lines: &[&'t str]) -> Result<Option<(u64, usize)>, Fault<'t>> {
     match told(lines, "write_fails") {
         None => Ok(None),
         Some(words) => Ok(Some(pair_of(alloc, words)?)),

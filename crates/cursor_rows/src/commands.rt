@@ -63,11 +63,7 @@ fn replied(alloc: Global, query: &str, replies: &[u8]) -> Result<Option<String>,
 }
 
 /// What a command makes of replies, in hexadecimal digits.
-fn digits_of(
-    alloc: Global,
-    command: &CursorCommand,
-    replies: &[u8],
-) -> Result<String, AllocError> {
+fn digits_of(alloc: Global, command: &CursorCommand, replies: &[u8]) -> Result<String, AllocError> {
     let mut out = BytesMut::new(alloc);
     put_replies(alloc, command, replies, &mut out)?;
     let mut digits = String::new(alloc);

@@ -153,11 +153,7 @@ fn ends<
         Rows = <H::Extended as ExtendedQueryHandler>::Rows,
     >
         + Drop,
->(
-    alloc: Global,
-    session: &mut Session<H, St>,
-    error: PgWireError,
-) -> Result<bool, AllocError>
+>(alloc: Global, session: &mut Session<H, St>, error: PgWireError) -> Result<bool, AllocError>
     requires open { session.old.is_open ≡ true }
     requires tellable { IsTellable error }
     requires fatal { is_fatal (info_of error) ≡ true }

@@ -45,11 +45,7 @@ struct Example {
 }
 
 /// The example that the lines tell.
-fn example_of<'t>(
-    alloc: Global,
-    text: &'t str,
-    lines: &[&'t str],
-) -> Result<Example, Fault<'t>> {
+fn example_of<'t>(alloc: Global, text: &'t str, lines: &[&'t str]) -> Result<Example, Fault<'t>> {
     Ok(Example {
         client: message_bytes(alloc, text, told(lines, "client").unwrap_or(""))?,
         replies: message_bytes(alloc, text, told(lines, "out").unwrap_or(""))?,

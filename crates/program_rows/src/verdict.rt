@@ -1,10 +1,10 @@
 //! What is otherwise than a row expects.
 
+use crate::WORDS;
 use crate::command::{Answer, answer_to};
 use crate::given::message_bytes;
 use crate::place::Place;
 use crate::sink::{RowSink, Sinks};
-use crate::WORDS;
 use row_files::{Fault, common_len, lines_of, number_told, told, told_by, unescaped};
 use std::alloc::{AllocError, Global};
 use std::sync::Wait;

@@ -20,11 +20,7 @@ pub trait Judge {
 
 /// Judges each line of standard input but empty ones and comments, and prints a line for each and
 /// their number. A row's name stands before its first bar.
-pub fn judge_lines<R: Print + Input, J: Judge>(
-    rt: &R,
-    alloc: Global,
-    judge: &J,
-) -> io::Result<()> {
+pub fn judge_lines<R: Print + Input, J: Judge>(rt: &R, alloc: Global, judge: &J) -> io::Result<()> {
     let text = io::read_to_string(alloc, rt.reader())?;
     let text = text.as_str();
     let mut tally = Tally::new();

@@ -17,5 +17,7 @@ pub use hexadecimal::{hex_words, push_digits, push_hex, push_pairs};
 pub use judge::{Judge, judge_blocks, judge_lines};
 pub use lines::{lines_of, name_of, number_told, numbers_of, told, told_by};
 pub use lists::{singles, up_to_one};
-pub use parts::{common_len, last_part, next_part, parsed, part, three_numbers, times_and_rest, unexpected};
+pub use parts::{
+    common_len, last_part, next_part, parsed, part, three_numbers, times_and_rest, unexpected,
+};
 pub use tally::Tally;

@@ -7,7 +7,11 @@ use std::alloc::Global;
 /// What a line says behind this word, or None where it begins with another.
 pub fn told_by<'t>(line: &'t str, word: &str) -> Option<&'t str> {
     let (first, rest) = line.split_once(" ").unwrap_or((line, ""));
-    if first == word { Some(rest.trim()) } else { None }
+    if first == word {
+        Some(rest.trim())
+    } else {
+        None
+    }
 }
 
 /// Whether a line says nothing: it is empty, or a comment.
@@ -66,11 +70,7 @@ fn push_lines<'t>(
 }
 
 /// Appends a line that begins with one of the words; one that says nothing is left out.
-fn push_line<'t>(
-    lines: &mut Vec<&'t str>,
-    line: &'t str,
-    words: &[&str],
-) -> Result<(), Fault<'t>> {
+fn push_line<'t>(lines: &mut Vec<&'t str>, line: &'t str, words: &[&str]) -> Result<(), Fault<'t>> {
     if is_silent(line) {
         return Ok(());
     }

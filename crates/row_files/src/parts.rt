@@ -18,7 +18,11 @@ pub fn part<'t>(row: &'t str, place: usize) -> Result<&'t str, Fault<'t>> {
 /// one stands behind it.
 pub(crate) fn row_name(row: &str) -> &str {
     let (name, rest) = row.split_once("|").unwrap_or((row, ""));
-    if rest.starts_with(" ") { name.trim() } else { name }
+    if rest.starts_with(" ") {
+        name.trim()
+    } else {
+        name
+    }
 }
 
 /// What stands before the first bar, and behind it.
