@@ -1,14 +1,13 @@
 //! A client is served by the handlers that a row names.
 
-use crate::counting::CountingSink;
-use crate::fault::Fault;
 use crate::relations::table_of;
-use crate::row::told;
+use crate::serving::{Ending, Place};
 use pg_handlers::NoopHandler;
 use pg_portal::MemPortalStore;
-use pg_serve::{FlakyDesk, MemorySource, serve_connection};
-use pg_session::{EndKind, PgWireServerHandlers, ServeError};
+use pg_serve::serve_connection;
+use pg_session::PgWireServerHandlers;
 use relation_serving::serve_relations_on;
+use row_files::{Fault, told};
 use sample_handlers::SampleHandler;
 use std::alloc::{AllocError, Global};
 use std::sync::Arc;
@@ -17,45 +16,71 @@ use std::sync::Arc;
 pub fn serve_told<'t>(
     alloc: Global,
     lines: &[&'t str],
-    desk: &mut FlakyDesk,
-    source: &mut MemorySource,
-    sink: &mut CountingSink,
+    place: &mut Place,
     turns: u64,
-) -> Result<Result<EndKind, ServeError>, Fault<'t>> {
-    let (noop, sample) = (NoopHandler, SampleHandler);
+) -> Result<Ending, Fault<'t>> {
     match told(lines, "handlers") {
-        None => {
-            let table = table_of(alloc, lines)?;
-            Ok(serve_relations_on(alloc, desk, &table, source, sink, turns))
-        }
-        Some("noop") => {
-            let handlers = NoopHandlers { handler: noop };
-            Ok(serve_by(alloc, handlers, desk, source, sink, turns)?)
-        }
-        Some("sample") => Ok(serve_by(alloc, sample, desk, source, sink, turns)?),
-        Some("refused_copy") => {
-            let handlers = RefusedCopyHandlers {
-                queries: sample,
-                copying: noop,
-            };
-            Ok(serve_by(alloc, handlers, desk, source, sink, turns)?)
-        }
+        None => serve_relations(alloc, lines, place, turns),
+        Some("noop") => Ok(serve_noop(alloc, place, turns)?),
+        Some("sample") => Ok(serve_by(alloc, SampleHandler, place, turns)?),
+        Some("refused_copy") => Ok(serve_refused_copy(alloc, place, turns)?),
         Some(other) => Err(Fault::Line(other)),
     }
+}
+
+/// Serves a client over the relations that the lines tell.
+fn serve_relations<'t>(
+    alloc: Global,
+    lines: &[&'t str],
+    place: &mut Place,
+    turns: u64,
+) -> Result<Ending, Fault<'t>> {
+    let table = table_of(alloc, lines)?;
+    Ok(serve_relations_on(
+        alloc,
+        &mut place.desk,
+        &table,
+        &mut place.source,
+        &mut place.sink,
+        turns,
+    ))
+}
+
+/// Serves a client by the handler that implements nothing.
+fn serve_noop(alloc: Global, place: &mut Place, turns: u64) -> Result<Ending, AllocError> {
+    let handlers = NoopHandlers {
+        handler: NoopHandler,
+    };
+    serve_by(alloc, handlers, place, turns)
+}
+
+/// Serves a client by the handler of sample queries, with no COPY from the client.
+fn serve_refused_copy(alloc: Global, place: &mut Place, turns: u64) -> Result<Ending, AllocError> {
+    let handlers = RefusedCopyHandlers {
+        queries: SampleHandler,
+        copying: NoopHandler,
+    };
+    serve_by(alloc, handlers, place, turns)
 }
 
 /// Serves a client by these handlers.
 fn serve_by<H: PgWireServerHandlers>(
     alloc: Global,
     handlers: H,
-    desk: &mut FlakyDesk,
-    source: &mut MemorySource,
-    sink: &mut CountingSink,
+    place: &mut Place,
     turns: u64,
-) -> Result<Result<EndKind, ServeError>, AllocError> {
+) -> Result<Ending, AllocError> {
     let handlers = Arc::new(alloc, handlers)?;
     let store = MemPortalStore::new(alloc);
-    Ok(serve_connection(alloc, handlers, store, desk, source, sink, turns))
+    Ok(serve_connection(
+        alloc,
+        handlers,
+        store,
+        &mut place.desk,
+        &mut place.source,
+        &mut place.sink,
+        turns,
+    ))
 }
 
 /// The handler that implements nothing, of every kind.

@@ -3,86 +3,68 @@
 //! ones that the row expects. The head of `stdin` has the format.
 #![tactic(auto)]
 
+mod cases;
 mod counting;
-mod fault;
+mod finding;
 mod fronts;
 mod handlers;
 mod message;
 mod reading;
 mod relations;
-mod row;
 mod script;
 mod serving;
 mod sweeps;
+mod told;
 mod verdict;
 
-use crate::fault::{Difference, Fault, Finding};
-use crate::row::{lines_of, name_of};
 use crate::sweeps::judge;
+use row_files::{Fault, Judge, judge_blocks, lines_of};
 use std::alloc::Global;
 use std::io;
 
-/// What is told of a row.
-fn verdict_of<'t>(
-    alloc: Global,
-    text: &'t str,
-    block: &'t str,
-) -> Result<Option<Finding>, Fault<'t>> {
-    let lines = lines_of(alloc, text, block)?;
-    judge(alloc, lines.as_slice())
-}
+/// The words that lines begin with.
+const WORDS: [&str; 21] = [
+    "row",
+    "define",
+    "client",
+    "reply",
+    "call",
+    "end",
+    "reads",
+    "turns",
+    "answers",
+    "read_fails",
+    "write_fails",
+    "desk_fails",
+    "written",
+    "prefix",
+    "writes",
+    "relation",
+    "rows",
+    "handlers",
+    "read_back",
+    "sweep",
+    "amounts",
+];
 
-/// Prints what came out otherwise than a row tells, and in which case of a sweep.
-fn print_finding(rt: &impl Print, name: &str, found: Finding) -> io::Result<()> {
-    let case = found.case;
-    match found.difference {
-        Difference::End(end) => println!(rt; "{name}: {case}: ends with {end}"),
-        Difference::Replies(place) => println!(rt;
-            "{name}: {case}: other replies from byte {place} on"
-        ),
-        Difference::Calls => println!(rt; "{name}: {case}: other registry calls"),
-        Difference::Writes => println!(rt; "{name}: {case}: other lengths of writes"),
-        Difference::Cell => println!(rt; "{name}: {case}: a cell that is read as another interval"),
-    }
-}
+/// Judges rows of conversations.
+struct ConversationRows;
 
-/// Prints the line of a row, and answers whether all was as expected.
-fn print_row(
-    rt: &impl Print,
-    alloc: Global,
-    text: &str,
-    name: &str,
-    block: &str,
-) -> io::Result<bool> {
-    match verdict_of(alloc, text, block) {
-        Ok(None) => {
-            println!(rt; "{name}: ok")?;
-            return Ok(true);
-        }
-        Ok(Some(found)) => print_finding(rt, name, found)?,
-        Err(Fault::Line(line)) => println!(rt; "{name}: what is {line}")?,
-        Err(Fault::NoMemory) => println!(rt; "{name}: out of memory")?,
-    }
-    Ok(false)
-}
-
-/// Judges each row, and prints a line for each and their number.
-fn print_rows(rt: &impl Print, alloc: Global, text: &str) -> io::Result<()> {
-    let mut rows = 0u64;
-    let mut good = 0u64;
-    for block in text.split("\n\n") {
-        if let Some(name) = name_of(block, "row") {
-            rows = rows.saturating_add(1);
-            if print_row(rt, alloc, text, name, block)? {
-                good = good.saturating_add(1);
-            }
+impl Judge for ConversationRows {
+    fn difference<'t>(
+        &self,
+        alloc: Global,
+        text: &'t str,
+        row: &'t str,
+    ) -> Result<Option<String>, Fault<'t>> {
+        let lines = lines_of(alloc, text, row, &WORDS)?;
+        match judge(alloc, lines.as_slice())? {
+            None => Ok(None),
+            Some(finding) => Ok(Some(finding.told(alloc)?)),
         }
     }
-    println!(rt; "{good} of {rows} rows are as expected")
 }
 
 fn main(rt: HostRuntime) -> io::Result<()> {
-    let alloc = rt.alloc();
-    let text = io::read_to_string(alloc, rt.reader())?;
-    print_rows(&rt, alloc, text.as_str())
+    judge_blocks(&rt, rt.alloc(), &ConversationRows)
 }

@@ -1,9 +1,8 @@
 //! Text cells are read back.
 
-use crate::fault::Fault;
 use crate::relations::intervals_of;
-use crate::row::{told, told_by};
 use pg_interval::{Interval, ParseError};
+use row_files::{Fault, told, told_by};
 use std::alloc::Global;
 
 /// Whether the cells of each row that the lines expect are read back, in the style that they tell,
@@ -14,12 +13,21 @@ pub fn is_read_back<'t>(alloc: Global, lines: &[&'t str]) -> Result<bool, Fault<
         return Ok(true);
     };
     let rows = rows_told(alloc, lines)?;
+    are_rows_read(alloc, style, lines, rows.as_slice())
+}
+
+/// Whether the cells of each row that the lines expect are read as the intervals of the row of the
+/// same place.
+fn are_rows_read<'t>(
+    alloc: Global,
+    style: &'t str,
+    lines: &[&'t str],
+    rows: &[&'t str],
+) -> Result<bool, Fault<'t>> {
     let mut count = 0usize;
     for line in lines {
-        if let Some(reply) = told_by(line, "reply")
-            && let Some(cells) = reply.strip_prefix("DataRow | ")
-        {
-            let words = rows.as_slice().get(count).copied().unwrap_or("");
+        if let Some(cells) = cells_of(line) {
+            let words = rows.get(count).copied().unwrap_or("");
             if !are_read(alloc, style, cells, words)? {
                 return Ok(false);
             }
@@ -27,6 +35,14 @@ pub fn is_read_back<'t>(alloc: Global, lines: &[&'t str]) -> Result<bool, Fault<
         }
     }
     Ok(count > 0)
+}
+
+/// The cells of a row that a line expects, if it expects one.
+fn cells_of<'t>(line: &'t str) -> Option<&'t str> {
+    match told_by(line, "reply") {
+        Some(reply) => reply.strip_prefix("DataRow | "),
+        None => None,
+    }
 }
 
 /// The intervals of each line that tells a row.

@@ -1,22 +1,30 @@
 //! The relations that the lines of a row tell.
 
-use crate::fault::Fault;
-use crate::row::{told, told_by};
 use pg_interval::Interval;
 use pg_messages::{PgList, PgStr};
-use relation_serving::{Relation, RelationTable, built_in_table};
-use std::alloc::Global;
+use relation_serving::{Relation, RelationTable, TableError, built_in_table};
+use row_files::{Fault, parsed, three_numbers, told, told_by};
+use std::alloc::{AllocError, Global};
 
 /// The built-in relations; or those that the lines tell, where there are such lines.
 pub fn table_of<'t>(alloc: Global, lines: &[&'t str]) -> Result<RelationTable, Fault<'t>> {
     if told(lines, "relation").is_none() {
-        return Ok(built_in_table(alloc)?);
+        return served(built_in_table(alloc));
     }
     let relations = relations_of(alloc, lines)?;
     if relations.len() > 1000 {
         return Err(Fault::Line("too many relations"));
     }
-    Ok(RelationTable::try_new(alloc, PgList::from_vec(relations))?)
+    served(RelationTable::try_new(alloc, PgList::from_vec(relations)))
+}
+
+/// Relations that can be served.
+fn served<'t>(table: Result<RelationTable, TableError>) -> Result<RelationTable, Fault<'t>> {
+    match table {
+        Ok(table) => Ok(table),
+        Err(TableError::NoMemory) => Err(Fault::NoMemory),
+        Err(_) => Err(Fault::Line("a relation that is refused")),
+    }
 }
 
 /// The relations that the lines tell.
@@ -30,60 +38,66 @@ fn relations_of<'t>(alloc: Global, lines: &[&'t str]) -> Result<Vec<Relation>, F
     Ok(relations)
 }
 
-/// A relation: its name, how many polls find it unready, and its columns; its rows stand behind its
-/// place.
+/// A relation, whose rows stand behind its place.
 fn relation_of<'t>(
     alloc: Global,
     head: &'t str,
     lines: &[&'t str],
     place: usize,
 ) -> Result<Relation, Fault<'t>> {
-    let mut words = head.split_whitespace();
-    let name = words.next().unwrap_or("");
-    let Ok(unready) = words.next().unwrap_or("").parse::<u32>() else {
-        return Err(Fault::Line(head));
-    };
-    let mut columns = PgList::new(alloc);
-    for word in words {
-        columns.push(PgStr::copy_of(alloc, word)?)?;
-    }
+    let mut relation = empty_of(alloc, head)?;
+    push_rows(alloc, &mut relation.rows, lines, place.saturating_add(1))?;
+    Ok(relation)
+}
+
+/// A relation without rows: its name, how many polls find it unready, and its columns.
+fn empty_of<'t>(alloc: Global, head: &'t str) -> Result<Relation, Fault<'t>> {
+    let (name, rest) = head.split_once(" ").ok_or(Fault::Line(head))?;
+    let (unready, names) = rest.split_once(" ").unwrap_or((rest, ""));
+    let unready = parsed(unready)?;
     Ok(Relation {
         name: PgStr::copy_of(alloc, name)?,
         unready,
-        columns,
-        rows: rows_of(alloc, lines, place)?,
+        columns: columns_of(alloc, names)?,
+        rows: PgList::new(alloc),
     })
 }
 
-/// The rows that stand behind a place, up to the next relation.
-fn rows_of<'t>(
+/// The columns of these names.
+fn columns_of(alloc: Global, names: &str) -> Result<PgList<PgStr>, AllocError> {
+    let mut columns = PgList::new(alloc);
+    for name in names.split_whitespace() {
+        columns.push(PgStr::copy_of(alloc, name)?)?;
+    }
+    Ok(columns)
+}
+
+/// Appends the rows that stand from a place on, up to the next relation.
+fn push_rows<'t>(
     alloc: Global,
+    rows: &mut PgList<PgList<Interval>>,
     lines: &[&'t str],
     place: usize,
-) -> Result<PgList<PgList<Interval>>, Fault<'t>> {
-    let mut rows = PgList::new(alloc);
-    for line in lines.iter().skip(place.saturating_add(1)) {
+) -> Result<(), Fault<'t>> {
+    for line in lines.iter().skip(place) {
         if told_by(line, "relation").is_some() {
-            return Ok(rows);
+            return Ok(());
         }
         if let Some(words) = told_by(line, "rows") {
-            push_rows(alloc, &mut rows, words)?;
+            push_equal_rows(alloc, rows, words)?;
         }
     }
-    Ok(rows)
+    Ok(())
 }
 
 /// Appends so many equal rows as a number tells, each of the intervals behind it.
-fn push_rows<'t>(
+fn push_equal_rows<'t>(
     alloc: Global,
     rows: &mut PgList<PgList<Interval>>,
     words: &'t str,
 ) -> Result<(), Fault<'t>> {
     let (count, intervals) = words.split_once(" ").unwrap_or((words, ""));
-    let Ok(count) = count.parse::<u32>() else {
-        return Err(Fault::Line(words));
-    };
-    for _ in 0..count {
+    for _ in 0..parsed::<u32>(count)? {
         rows.push(PgList::from_vec(intervals_of(alloc, intervals)?))?;
     }
     Ok(())
@@ -97,19 +111,8 @@ pub fn intervals_of<'t>(alloc: Global, words: &'t str) -> Result<Vec<Interval>, 
         return Ok(intervals);
     }
     for part in words.split("|") {
-        intervals.push(interval_of(part)?)?;
+        let (months, days, microseconds) = three_numbers(part)?;
+        intervals.push(Interval::new(months, days, microseconds))?;
     }
     Ok(intervals)
-}
-
-/// The interval of these months, days and microseconds.
-fn interval_of<'t>(words: &'t str) -> Result<Interval, Fault<'t>> {
-    let mut parts = words.split_whitespace();
-    let months = parts.next().unwrap_or("").parse::<i32>();
-    let days = parts.next().unwrap_or("").parse::<i32>();
-    let microseconds = parts.next().unwrap_or("").parse::<i64>();
-    match (months, days, microseconds) {
-        (Ok(months), Ok(days), Ok(microseconds)) => Ok(Interval::new(months, days, microseconds)),
-        _ => Err(Fault::Line(words)),
-    }
 }

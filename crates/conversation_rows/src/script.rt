@@ -1,9 +1,8 @@
 //! What a row tells of a conversation, in its order.
 
-use crate::fault::Fault;
 use crate::message::put_message;
-use crate::row::told_by;
 use pg_session::DeskCall;
+use row_files::{Fault, parsed};
 use std::alloc::Global;
 
 /// A step of a conversation.
@@ -43,18 +42,15 @@ pub fn script_of<'t>(alloc: Global, lines: &[&'t str]) -> Result<Script, Fault<'
 
 /// Appends what a line tells.
 fn push_line<'t>(alloc: Global, script: &mut Script, line: &'t str) -> Result<(), Fault<'t>> {
-    if let Some(message) = told_by(line, "client") {
-        let len = put_messages(alloc, &mut script.client, message)?;
-        script.steps.push(Step::Client(len))?;
-    }
-    if let Some(message) = told_by(line, "reply") {
-        let len = put_messages(alloc, &mut script.replies, message)?;
-        script.steps.push(Step::Reply(len))?;
-    }
-    if let Some(words) = told_by(line, "call") {
-        script.steps.push(Step::Call(call_of(words)?))?;
-    }
-    Ok(())
+    let (word, rest) = line.split_once(" ").unwrap_or((line, ""));
+    let rest = rest.trim();
+    let step = match word {
+        "client" => Step::Client(put_messages(alloc, &mut script.client, rest)?),
+        "reply" => Step::Reply(put_messages(alloc, &mut script.replies, rest)?),
+        "call" => Step::Call(call_of(rest)?),
+        _ => return Ok(()),
+    };
+    Ok(script.steps.push(step)?)
 }
 
 /// Appends a message as often as the number before it says, and answers how many bytes that are.

@@ -1,12 +1,13 @@
+//! A conversation is served.
+
 use crate::counting::CountingSink;
-use crate::fault::Fault;
 use crate::handlers::serve_told;
-use crate::row::{numbers_of, told};
 use crate::script::Step;
 use pg_messages::{PgBytes, PgList};
 use pg_serve::{FlakyDesk, MemorySink, MemorySource};
 use pg_session::{EndKind, ServeError};
-use std::alloc::Global;
+use row_files::{Fault, numbers_of, singles, told, up_to_one};
+use std::alloc::{AllocError, Global};
 
 /// How a row is served: the bytes of each read, the calls of source, sink (with the bytes that a
 /// failing write takes) and desk that fail, and the turns.
@@ -32,12 +33,22 @@ pub enum Reads<'t> {
     Messages(usize),
 }
 
+/// How a conversation ends.
+pub type Ending = Result<EndKind, ServeError>;
+
+/// Where a client's bytes come from and the replies go, and the registry.
+#[derive(Drop)]
+pub struct Place {
+    pub source: MemorySource,
+    pub sink: CountingSink,
+    pub desk: FlakyDesk,
+}
+
 /// What came of serving a row.
 #[derive(Drop)]
 pub struct Outcome {
-    pub end: Result<EndKind, ServeError>,
-    pub sink: CountingSink,
-    pub desk: FlakyDesk,
+    pub end: Ending,
+    pub place: Place,
 }
 
 /// Serves a client's bytes by the plan, with the handlers and the answers that the lines tell. The
@@ -49,34 +60,44 @@ pub fn serve<'t>(
     client: &[u8],
     plan: Plan<'t>,
 ) -> Result<Outcome, Fault<'t>> {
-    let mut source = source_of(alloc, steps, client, plan)?;
-    let mut sink = sink_of(alloc, plan.sink_fails)?;
-    let mut desk = desk_of(alloc, lines, plan.desk_fails)?;
-    let end = serve_told(alloc, lines, &mut desk, &mut source, &mut sink, plan.turns)?;
-    Ok(Outcome { end, sink, desk })
+    let source = source_of(alloc, steps, client, plan)?;
+    let mut place = place_of(alloc, lines, source, plan)?;
+    let end = serve_told(alloc, lines, &mut place, plan.turns)?;
+    Ok(Outcome { end, place })
 }
 
-/// The registry, with the answers that the lines tell.
-fn desk_of<'t>(
+/// The place of a source, with a sink and a registry as the plan has them.
+fn place_of<'t>(
     alloc: Global,
     lines: &[&'t str],
-    fails: Option<u64>,
-) -> Result<FlakyDesk, Fault<'t>> {
-    let mut answers = PgList::new(alloc);
-    for word in told(lines, "answers").unwrap_or("").split_whitespace() {
-        answers.push(word == "yes")?;
-    }
-    let fails = calls_of(alloc, fails)?;
+    source: MemorySource,
+    plan: Plan<'t>,
+) -> Result<Place, AllocError> {
+    let sink = sink_of(alloc, plan.sink_fails)?;
+    let desk = desk_of(alloc, told(lines, "answers").unwrap_or(""), plan.desk_fails)?;
+    Ok(Place { source, sink, desk })
+}
+
+/// The registry, with the answers that words tell.
+fn desk_of(alloc: Global, words: &str, fails: Option<u64>) -> Result<FlakyDesk, AllocError> {
+    let answers = answers_of(alloc, words)?;
+    let fails = PgList::from_vec(up_to_one(alloc, fails)?);
     Ok(FlakyDesk::new(alloc, 7, [1, 2, 3, 4], answers, fails))
 }
 
-fn sink_of<'t>(alloc: Global, fails: Option<(u64, usize)>) -> Result<CountingSink, Fault<'t>> {
-    let mut told = PgList::new(alloc);
-    if let Some(call) = fails {
-        told.push(call)?;
+/// The answers that words tell.
+fn answers_of(alloc: Global, words: &str) -> Result<PgList<bool>, AllocError> {
+    let mut answers = PgList::new(alloc);
+    for word in words.split_whitespace() {
+        answers.push(word == "yes")?;
     }
+    Ok(answers)
+}
+
+fn sink_of(alloc: Global, fails: Option<(u64, usize)>) -> Result<CountingSink, AllocError> {
+    let fails = PgList::from_vec(up_to_one(alloc, fails)?);
     Ok(CountingSink {
-        sink: MemorySink::new(alloc, told),
+        sink: MemorySink::new(alloc, fails),
         lengths: Vec::new(alloc),
     })
 }
@@ -87,17 +108,18 @@ fn source_of<'t>(
     client: &[u8],
     plan: Plan<'t>,
 ) -> Result<MemorySource, Fault<'t>> {
-    let pieces = pieces_of(alloc, plan.reads, steps, client.len())?;
-    let fails = calls_of(alloc, plan.source_fails)?;
-    Ok(MemorySource::new(PgBytes::copy_of(alloc, client)?, pieces, fails))
+    let pieces = PgList::from_vec(pieces_of(alloc, plan.reads, steps, client.len())?);
+    Ok(source_with(alloc, client, pieces, plan.source_fails)?)
 }
 
-fn calls_of<'t>(alloc: Global, call: Option<u64>) -> Result<PgList<u64>, Fault<'t>> {
-    let mut calls = PgList::new(alloc);
-    if let Some(call) = call {
-        calls.push(call)?;
-    }
-    Ok(calls)
+fn source_with(
+    alloc: Global,
+    client: &[u8],
+    pieces: PgList<usize>,
+    fails: Option<u64>,
+) -> Result<MemorySource, AllocError> {
+    let fails = PgList::from_vec(up_to_one(alloc, fails)?);
+    Ok(MemorySource::new(PgBytes::copy_of(alloc, client)?, pieces, fails))
 }
 
 fn pieces_of<'t>(
@@ -105,38 +127,37 @@ fn pieces_of<'t>(
     reads: Reads<'t>,
     steps: &[Step],
     len: usize,
-) -> Result<PgList<usize>, Fault<'t>> {
-    let mut pieces = PgList::new(alloc);
+) -> Result<Vec<usize>, Fault<'t>> {
     match reads {
-        Reads::Told(words) => return Ok(PgList::from_vec(numbers_of(alloc, words)?)),
-        Reads::First(first) => pieces.push(first)?,
-        Reads::Single => {
-            for _ in 0..len {
-                pieces.push(1)?;
-            }
+        Reads::Told(words) => numbers_of(alloc, words),
+        Reads::First(first) => Ok(up_to_one(alloc, Some(first))?),
+        Reads::Single => Ok(singles(alloc, len)?),
+        Reads::Messages(front) => Ok(pieces_of_messages(alloc, steps, front)?),
+    }
+}
+
+/// The pieces of each message.
+fn pieces_of_messages(
+    alloc: Global,
+    steps: &[Step],
+    front: usize,
+) -> Result<Vec<usize>, AllocError> {
+    let mut pieces = Vec::new(alloc);
+    for step in steps {
+        if let Step::Client(len) = *step {
+            push_message(&mut pieces, len, front)?;
         }
-        Reads::Messages(front) => push_messages(&mut pieces, steps, front)?,
     }
     Ok(pieces)
 }
 
-/// Appends the pieces of each message.
-fn push_messages<'t>(
-    pieces: &mut PgList<usize>,
-    steps: &[Step],
-    front: usize,
-) -> Result<(), Fault<'t>> {
-    for step in steps {
-        if let Step::Client(len) = *step {
-            if 0 < front && front < len {
-                pieces.push(front)?;
-            }
-            pieces.push(if front < len {
-                len.saturating_sub(front)
-            } else {
-                len
-            })?;
-        }
+/// Appends the pieces of a message of this length.
+fn push_message(pieces: &mut Vec<usize>, len: usize, front: usize) -> Result<(), AllocError> {
+    if front >= len {
+        return Ok(pieces.push(len)?);
     }
-    Ok(())
+    if front > 0 {
+        pieces.push(front)?;
+    }
+    Ok(pieces.push(len.saturating_sub(front))?)
 }

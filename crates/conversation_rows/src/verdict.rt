@@ -1,7 +1,10 @@
-use crate::fault::Difference;
+//! What is otherwise than expected of a conversation.
+
+use crate::finding::Difference;
 use crate::script::{Script, Step};
-use crate::serving::Outcome;
+use crate::serving::{Ending, Outcome};
 use pg_session::{DeskCall, EndKind, ServeError};
+use row_files::common_len;
 
 /// How many there may be.
 #[derive(Clone, Copy)]
@@ -42,46 +45,61 @@ pub fn difference(
     expected: Expected<'_>,
     writes: Option<&str>,
 ) -> Option<Difference> {
-    let sent = outcome.sink.sink.bytes();
+    let sent = outcome.place.sink.sink.bytes();
+    let calls = outcome.place.desk.calls();
+    let found = other_content(script, sent, calls);
+    if found.is_some() {
+        return found;
+    }
+    let found = other_extent(end_name(outcome.end), sent.len(), calls.len(), expected);
+    if found.is_some() {
+        return found;
+    }
+    other_writes(outcome.place.sink.lengths.as_slice(), writes)
+}
+
+/// Where what was sent or called is no front of the conversation.
+fn other_content(script: &Script, sent: &[u8], calls: &[DeskCall]) -> Option<Difference> {
     let replies = script.replies.as_slice();
-    let calls = outcome.desk.calls();
     if !replies.starts_with(sent) {
         return Some(Difference::Replies(common_len(sent, replies)));
     }
     if !are_first_calls(calls, script.steps.as_slice()) {
         return Some(Difference::Calls);
     }
-    let ended = end_name(outcome.end);
+    None
+}
+
+/// Where the end is another, or other numbers of bytes and calls than expected.
+fn other_extent(
+    ended: &'static str,
+    sent: usize,
+    calls: usize,
+    expected: Expected<'_>,
+) -> Option<Difference> {
     if ended != expected.end {
         return Some(Difference::End(ended));
     }
-    if !expected.written.has(sent.len()) {
-        return Some(Difference::Replies(sent.len()));
+    if !expected.written.has(sent) {
+        return Some(Difference::Replies(sent));
     }
-    if !expected.calls.has(calls.len()) {
+    if !expected.calls.has(calls) {
         return Some(Difference::Calls);
     }
-    let lengths = outcome.sink.lengths.as_slice();
+    None
+}
+
+/// Where a write is empty, or the writes have other lengths than the words tell.
+fn other_writes(lengths: &[usize], writes: Option<&str>) -> Option<Difference> {
     let are_told = match writes {
         None => true,
         Some(words) => are_lengths(lengths, words),
     };
     if lengths.contains(&0) || !are_told {
-        return Some(Difference::Writes);
+        Some(Difference::Writes)
+    } else {
+        None
     }
-    None
-}
-
-/// How many bytes are equal at the front of both.
-fn common_len(one: &[u8], other: &[u8]) -> usize {
-    let mut len = 0usize;
-    for (a, b) in one.iter().zip(other.iter()) {
-        if *a != *b {
-            return len;
-        }
-        len = len.saturating_add(1);
-    }
-    len
 }
 
 /// Whether the writes are as long as the words tell.
@@ -113,7 +131,7 @@ fn are_first_calls(calls: &[DeskCall], steps: &[Step]) -> bool {
 }
 
 /// The word for an end.
-fn end_name(end: Result<EndKind, ServeError>) -> &'static str {
+fn end_name(end: Ending) -> &'static str {
     match end {
         Ok(EndKind::Terminate) => "Terminate",
         Ok(EndKind::InputEnd) => "InputEnd",

@@ -1,53 +1,72 @@
 //! What queries and replies come to.
 
-ghost use Rattle.std.specs.Prelude.{◌<◌};
-
-use crate::fault::Fault;
 use bytes::BytesMut;
 use cursor_commands::{CursorCommand, put_replies, read_cursor};
-use std::alloc::Global;
+use row_files::{Fault, hex_words, part, push_digits, unescaped};
+use std::alloc::{AllocError, Global};
+
+/// The answer to what a row asks of its query.
+pub fn answer_of<'t>(alloc: Global, row: &'t str) -> Result<String, Fault<'t>> {
+    let query = unescaped(alloc, part(row, 2)?)?;
+    let Ok(query) = str::from_utf8(query.as_slice()) else {
+        return Err(Fault::Line(row));
+    };
+    match part(row, 1)? {
+        "read" => Ok(command_answer(alloc, query)?),
+        "replies" => replies_answer(alloc, query, row),
+        other => Err(Fault::Line(other)),
+    }
+}
 
 /// The command that the query is: `declare NAME RELATION`, `fetch LIMIT NAME`, `close NAME`; `none`
 /// where it is none.
-pub fn command_answer(alloc: Global, query: &str) -> Result<String, Fault> {
+fn command_answer(alloc: Global, query: &str) -> Result<String, AllocError> {
     match read_cursor(alloc, query)? {
-        None => Ok(String::from_str(alloc, "none")?),
-        Some(CursorCommand::Declare(name, relation)) => {
-            let name = name.as_str();
-            let relation = relation.as_str();
-            Ok(format!(in alloc; "declare {name} {relation}")?)
+        None => String::from_str(alloc, "none"),
+        Some(command) => command_text(alloc, &command),
+    }
+}
+
+/// The text of a command.
+fn command_text(alloc: Global, command: &CursorCommand) -> Result<String, AllocError> {
+    match command {
+        CursorCommand::Declare(name, relation) => {
+            let (name, relation) = (name.as_str(), relation.as_str());
+            format!(in alloc; "declare {name} {relation}")
         }
-        Some(CursorCommand::Fetch(limit, name)) => {
+        CursorCommand::Fetch(limit, name) => {
             let name = name.as_str();
-            Ok(format!(in alloc; "fetch {limit} {name}")?)
+            format!(in alloc; "fetch {limit} {name}")
         }
-        Some(CursorCommand::Close(name)) => {
+        CursorCommand::Close(name) => {
             let name = name.as_str();
-            Ok(format!(in alloc; "close {name}")?)
+            format!(in alloc; "close {name}")
         }
     }
 }
 
-/// What the command makes of the replies to its messages, in hexadecimal digits.
-pub fn replies_answer(alloc: Global, query: &str, replies: &[u8]) -> Result<String, Fault> {
-    let Some(command) = read_cursor(alloc, query)? else {
-        return Err(Fault::Row);
-    };
+/// What the command makes of the row's replies to its messages, in hexadecimal digits.
+fn replies_answer<'t>(alloc: Global, query: &str, row: &'t str) -> Result<String, Fault<'t>> {
+    let replies = hex_words(alloc, part(row, 3)?)?;
+    match replied(alloc, query, replies.as_slice())? {
+        None => Err(Fault::Line(row)),
+        Some(digits) => Ok(digits),
+    }
+}
+
+/// What a query's command makes of replies; None where it is none.
+fn replied(alloc: Global, query: &str, replies: &[u8]) -> Result<Option<String>, AllocError> {
+    match read_cursor(alloc, query)? {
+        None => Ok(None),
+        Some(command) => Ok(Some(digits_of(alloc, &command, replies)?)),
+    }
+}
+
+/// What a command makes of replies, in hexadecimal digits.
+fn digits_of(alloc: Global, command: &CursorCommand, replies: &[u8]) -> Result<String, AllocError> {
     let mut out = BytesMut::new(alloc);
-    put_replies(alloc, &command, replies, &mut out)?;
+    put_replies(alloc, command, replies, &mut out)?;
     let mut digits = String::new(alloc);
-    for byte in out.as_slice() {
-        push_digit(&mut digits, byte / 16)?;
-        push_digit(&mut digits, byte % 16)?;
-    }
+    push_digits(&mut digits, out.as_slice())?;
     Ok(digits)
-}
-
-/// Appends the hexadecimal digit of a number below 16.
-fn push_digit(digits: &mut String, number: u8) -> Result<(), Fault>
-    requires { number < 16 }
-{
-    let digit = std::char::from_digit(u32::from(number), 16).ok_or(Fault::Row)?;
-    digits.push(digit)?;
-    Ok(())
 }

@@ -1,7 +1,9 @@
-// Answers rows about interval texts, a line for each row of standard input: read|STYLE|COUNT|PIECE
-//  what the text of COUNT times PIECE stands for: months, days and microseconds, or the refusal
-// print|MONTHS|DAYS|MICROSECONDS   the text in each style, and whether each is read back as the
-// same interval error|PART|REASON   what a refusal displays
+// Answers rows about interval texts, a line for each row of standard input:
+//   read|STYLE|COUNT|PIECE   what the text of COUNT times PIECE stands for: months, days and
+//       microseconds, or the refusal
+//   print|MONTHS|DAYS|MICROSECONDS   the text in each style, and whether each is read back as the
+//       same interval
+//   error|PART|REASON   what a refusal displays
 #![tactic(auto)]
 
 use pg_interval::{DecimalError, IntError, Interval, ParseError, Reason};

@@ -5,6 +5,7 @@
 //! - `N*PART`: the part N times.
 
 use pg_messages::{PgList, PgStr};
+use row_files::{push_pairs, times_and_rest};
 use std::alloc::{AllocError, Global};
 use std::str::FromStr;
 
@@ -12,9 +13,9 @@ use std::str::FromStr;
 pub fn bytes_of(alloc: Global, words: &[&str]) -> Result<Option<Vec<u8>>, AllocError> {
     let mut bytes = Vec::new(alloc);
     for word in words {
-        let (times, part) = times_and_part(word);
+        let (times, part) = times_and_rest(word);
         for _ in 0..times {
-            if !put_part(alloc, part, &mut bytes)? {
+            if !put_part(part, &mut bytes)? {
                 return Ok(None);
             }
         }
@@ -22,23 +23,13 @@ pub fn bytes_of(alloc: Global, words: &[&str]) -> Result<Option<Vec<u8>>, AllocE
     Ok(Some(bytes))
 }
 
-/// How many times a word says its part, and the part.
-pub fn times_and_part(word: &str) -> (u32, &str) {
-    if let Some((count, part)) = word.split_once("*") {
-        if let Ok(times) = count.parse::<u32>() {
-            return (times, part);
-        }
-    }
-    (1, word)
-}
-
 /// Appends the bytes of a part; false where it is not of the form.
-fn put_part(alloc: Global, part: &str, bytes: &mut Vec<u8>) -> Result<bool, AllocError> {
+fn put_part(part: &str, bytes: &mut Vec<u8>) -> Result<bool, AllocError> {
     if let Some(text) = part.strip_prefix("'") {
         return put_text(text, bytes);
     }
     if let Some(digits) = part.strip_prefix("x") {
-        return put_hex(alloc, digits, bytes);
+        return push_pairs(bytes, digits.as_bytes());
     }
     if let Some(Ok(number)) = part.strip_prefix("h:").map(|n| n.parse::<i16>()) {
         bytes.extend_from_slice(&number.to_be_bytes())?;
@@ -56,15 +47,6 @@ fn put_text(text: &str, bytes: &mut Vec<u8>) -> Result<bool, AllocError> {
     for byte in text.as_bytes() {
         bytes.push(if *byte == b'_' { b' ' } else { *byte })?;
     }
-    Ok(true)
-}
-
-/// Appends the bytes of the digits; false where these are none.
-fn put_hex(alloc: Global, digits: &str, bytes: &mut Vec<u8>) -> Result<bool, AllocError> {
-    let Ok(given) = hex::decode(alloc, digits) else {
-        return Ok(false);
-    };
-    bytes.extend_from_slice(given.as_slice())?;
     Ok(true)
 }
 
@@ -89,7 +71,7 @@ where
 {
     let mut numbers = PgList::new(alloc);
     for word in words {
-        let (times, part) = times_and_part(word);
+        let (times, part) = times_and_rest(word);
         let Ok(number) = part.parse::<T>() else {
             return Ok(None);
         };

@@ -1,6 +1,6 @@
 //! Replies from the words of a row.
 
-use crate::parts::{bytes_of, numbers_of, text_of, times_and_part};
+use crate::parts::{bytes_of, numbers_of, text_of};
 use pg_messages::{
     AuthenticationOk, BackendKeyData, BindComplete, CloseComplete, CommandComplete,
     CopyBothResponse, CopyData, CopyDone, CopyInResponse, CopyOutResponse, DataRow,
@@ -9,6 +9,7 @@ use pg_messages::{
     PgWireBackendMessage, PortalSuspended, ReadyForQuery, RowDescription, SslResponse,
     TransactionStatus,
 };
+use row_files::times_and_rest;
 use std::alloc::{AllocError, Global};
 
 /// A reply, or None where the words are not of the form.
@@ -123,7 +124,7 @@ fn types(alloc: Global, parts: &[&str]) -> Made {
 fn columns(alloc: Global, parts: &[&str]) -> Made {
     let mut fields = PgList::new(alloc);
     for word in parts {
-        let (times, part) = times_and_part(word);
+        let (times, part) = times_and_rest(word);
         for _ in 0..times {
             let Some(field) = field_of(alloc, part)? else {
                 return Ok(None);

@@ -9,6 +9,7 @@ ghost use Rattle.pg_handlers.specs.Errors.{is_fatal};
 ghost use Rattle.pg_handlers.specs.Good.{IsGoodState, IsGiven};
 ghost use Rattle.pg_handlers.specs.State.{state_of};
 ghost use Rattle.pg_messages.specs.declared.frontend.PgWireFrontendMessage.TheVariants as frontend;
+ghost use Rattle.pg_session.specs.Messages.{IsGivenIn};
 ghost use Rattle.sample_handlers.specs.Told.{told_parser};
 
 use crate::fixtures::{KEY, STARTED, STARTUP, desk, message};
@@ -48,16 +49,55 @@ fn wait_for_a_feed<
 ) -> Result<bool, Fail>
     requires empty { St.maps store ≡ no_maps }
 {
+    let startup = message(alloc, true, STARTUP)?;
     let mut session = Session::new(alloc, handlers, store, 7, KEY)?;
     let mut turns = Turns { spent: 0, limit: 9 };
-    let startup = message(alloc, true, STARTUP)?;
-    let answer = process_message(alloc, &mut session, desk, &mut turns, startup);
-    let mut sent = is_taken(answer);
-    if session.is_open() {
-        let progress = session.feed(alloc, desk, &[], sink, &mut turns);
-        sent = sent && matches!(progress, Ok(Progress::More));
+    let is_answered = takes(alloc, &mut session, desk, &mut turns, startup);
+    Ok(is_answered && goes_on(alloc, &mut session, desk, &mut turns, sink))
+}
+
+/// Whether a session answers a message without an end.
+fn takes<
+    H: PgWireServerHandlers + Drop,
+    St: PortalStore<
+        Statement = <H::Extended as ExtendedQueryHandler>::Statement,
+        Rows = <H::Extended as ExtendedQueryHandler>::Rows,
+    >
+        + Drop,
+>(
+    alloc: Global,
+    session: &mut Session<H, St>,
+    desk: &mut ScriptDesk,
+    turns: &mut Turns,
+    message: PgWireFrontendMessage,
+) -> bool
+    requires open { session.old.is_open ≡ true }
+    requires given { IsGivenIn session.old.state message }
+{
+    let answer = process_message(alloc, session, desk, turns, message);
+    is_taken(answer)
+}
+
+/// Whether a session that is open goes on after a feed of nothing.
+fn goes_on<
+    H: PgWireServerHandlers + Drop,
+    St: PortalStore<
+        Statement = <H::Extended as ExtendedQueryHandler>::Statement,
+        Rows = <H::Extended as ExtendedQueryHandler>::Rows,
+    >
+        + Drop,
+>(
+    alloc: Global,
+    session: &mut Session<H, St>,
+    desk: &mut ScriptDesk,
+    turns: &mut Turns,
+    sink: &mut MemorySink,
+) -> bool {
+    if !session.is_open() {
+        return false;
     }
-    Ok(sent)
+    let progress = session.feed(alloc, desk, &[], sink, turns);
+    matches!(progress, Ok(Progress::More))
 }
 
 /// Whether a message was answered without an end.
@@ -100,8 +140,25 @@ fn is_closed<
 >(alloc: Global, handlers: Arc<H>, store: St) -> Result<bool, AllocError>
     requires empty { St.maps store ≡ no_maps }
 {
+    let error = fatal(alloc)?;
     let mut session = Session::new(alloc, handlers, store, 7, KEY)?;
-    let end = process_error(alloc, &mut session, fatal(alloc)?, false)?;
+    ends(alloc, &mut session, error)
+}
+
+/// Whether an error ends a session, and closes it.
+fn ends<
+    H: PgWireServerHandlers + Drop,
+    St: PortalStore<
+        Statement = <H::Extended as ExtendedQueryHandler>::Statement,
+        Rows = <H::Extended as ExtendedQueryHandler>::Rows,
+    >
+        + Drop,
+>(alloc: Global, session: &mut Session<H, St>, error: PgWireError) -> Result<bool, AllocError>
+    requires open { session.old.is_open ≡ true }
+    requires tellable { IsTellable error }
+    requires fatal { is_fatal (info_of error) ≡ true }
+{
+    let end = process_error(alloc, session, error, false)?;
     Ok(end == Some(EndKind::Fatal) && !session.is_open())
 }
 

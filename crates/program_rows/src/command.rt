@@ -1,13 +1,9 @@
 //! A command of a row is run.
 
-use crate::bytes::{message_bytes, text_bytes};
-use crate::fault::Fault;
-use crate::lines::Lines;
+use crate::given::{Sources, sources_of, words_of};
 use crate::place::Place;
-use crate::sink::{RowSink, sink_of};
-use crate::source::source_of;
-use pg_messages::{PgList, PgStr};
-use pg_serve::MemorySource;
+use crate::sink::{Sinks, sinks_of};
+use row_files::Fault;
 use std::alloc::{AllocError, Global};
 use std::sync::Wait;
 
@@ -16,8 +12,7 @@ use std::sync::Wait;
 pub struct Answer {
     pub status: u8,
     pub is_noted: bool,
-    pub out: RowSink,
-    pub err: RowSink,
+    pub sinks: Sinks,
 }
 
 /// Runs the words with the file, the client and the faults that the lines tell.
@@ -26,51 +21,36 @@ pub fn answer_to<'t, R: Wait>(
     alloc: Global,
     place: &mut Place,
     words: &'t str,
-    lines: Lines<'t>,
+    text: &'t str,
+    lines: &[&'t str],
 ) -> Result<Answer, Fault<'t>> {
-    let words = words_of(alloc, words)?;
-    let mut file = file_of(alloc, lines)?;
-    let mut client = client_of(alloc, lines)?;
-    let mut out = sink_of(alloc, lines.told("out_fails"), lines.number("out_short")?)?;
-    let mut err = sink_of(alloc, lines.told("err_fails"), lines.number("err_short")?)?;
-    let (status, is_noted) = place.run(
-        rt,
-        alloc,
-        words.as_slice(),
-        &mut file,
-        &mut client,
-        &mut out,
-        &mut err,
-    );
+    let mut sources = sources_of(alloc, text, lines)?;
+    let mut sinks = sinks_of(alloc, lines)?;
+    let (status, is_noted) = run_words(rt, alloc, place, words, &mut sources, &mut sinks)?;
     Ok(Answer {
         status,
         is_noted,
-        out,
-        err,
+        sinks,
     })
 }
 
-/// The words, which stand apart by single spaces; `-` is no word.
-fn words_of(alloc: Global, text: &str) -> Result<PgList<PgStr>, AllocError> {
-    let mut words = PgList::new(alloc);
-    if text != "-" {
-        for word in text.split(' ') {
-            words.push(PgStr::copy_of(alloc, word)?)?;
-        }
-    }
-    Ok(words)
-}
-
-/// The relation file.
-fn file_of<'t>(alloc: Global, lines: Lines<'t>) -> Result<MemorySource, Fault<'t>> {
-    let bytes = text_bytes(alloc, lines.told("file").unwrap_or(""))?;
-    let fails = lines.number("file_fails")?;
-    source_of(alloc, bytes, lines.told("file_reads"), fails)
-}
-
-/// The client's bytes.
-fn client_of<'t>(alloc: Global, lines: Lines<'t>) -> Result<MemorySource, Fault<'t>> {
-    let bytes = message_bytes(alloc, lines.text, lines.told("client").unwrap_or(""))?;
-    let fails = lines.number("client_fails")?;
-    source_of(alloc, bytes, lines.told("client_reads"), fails)
+/// Runs the words, and answers the status, and whether there is a note.
+fn run_words<R: Wait>(
+    rt: &R,
+    alloc: Global,
+    place: &mut Place,
+    words: &str,
+    sources: &mut Sources,
+    sinks: &mut Sinks,
+) -> Result<(u8, bool), AllocError> {
+    let words = words_of(alloc, words)?;
+    Ok(place.run(
+        rt,
+        alloc,
+        words.as_slice(),
+        &mut sources.file,
+        &mut sources.client,
+        &mut sinks.out,
+        &mut sinks.err,
+    ))
 }

@@ -2,12 +2,12 @@
 
 ghost use Rattle.std.specs.Prelude.{◌≡◌};
 
-use crate::fault::Fault;
 use crate::sessions::{Client, Ends};
 use pg_cancel::{ConnectionManager, Door, RegisterError};
 use pg_messages::PgStr;
 use pg_session::{Sink, Source};
 use relation_server::{RelationTable, run};
+use row_files::{Fault, parsed};
 use std::alloc::{AllocError, Global};
 use std::sync::Wait;
 
@@ -28,11 +28,11 @@ impl Place {
 
     /// Registers a pid, which stays.
     pub fn occupy<'t, R: Wait>(&mut self, rt: &R, digits: &'t str) -> Result<(), Fault<'t>> {
-        let Ok(pid) = digits.parse::<i32>() else {
-            return Err(Fault::Line(digits));
-        };
-        let _handle = self.manager.register(rt, &mut self.door, pid, [0; 4])?;
-        Ok(())
+        let pid = parsed::<i32>(digits)?;
+        match self.manager.register(rt, &mut self.door, pid, [0; 4]) {
+            Ok(_) => Ok(()),
+            Err(error) => Err(fault_of(error)),
+        }
     }
 
     /// Serves two clients in turn through one connection of the pid 7 and the key 01020304.
@@ -77,20 +77,28 @@ impl Place {
 
     /// How many calls the registry got so far, which is the number of a registration more, under
     /// the pid 0.
-    pub fn calls<R: Wait>(&mut self, rt: &R) -> Result<u64, RegisterError> {
-        let handle = self.manager.register(rt, &mut self.door, 0, [0; 4])?;
-        Ok(handle.number())
+    pub fn calls<'t, R: Wait>(&mut self, rt: &R) -> Result<u64, Fault<'t>> {
+        match self.manager.register(rt, &mut self.door, 0, [0; 4]) {
+            Ok(handle) => Ok(handle.number()),
+            Err(error) => Err(fault_of(error)),
+        }
     }
 
     /// Whether somebody is registered under a pid. It is taken then in any case.
     pub fn is_taken<'t, R: Wait>(&mut self, rt: &R, digits: &'t str) -> Result<bool, Fault<'t>> {
-        let Ok(pid) = digits.parse::<i32>() else {
-            return Err(Fault::Line(digits));
-        };
+        let pid = parsed::<i32>(digits)?;
         match self.manager.register(rt, &mut self.door, pid, [0; 4]) {
             Ok(_) => Ok(false),
             Err(RegisterError::PidTaken(_)) => Ok(true),
             Err(RegisterError::NoMemory) => Err(Fault::NoMemory),
         }
+    }
+}
+
+/// Why a registration has no verdict.
+pub fn fault_of<'t>(error: RegisterError) -> Fault<'t> {
+    match error {
+        RegisterError::NoMemory => Fault::NoMemory,
+        RegisterError::PidTaken(_) => Fault::Line("a pid that is live already"),
     }
 }

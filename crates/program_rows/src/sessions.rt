@@ -2,15 +2,14 @@
 
 ghost use Rattle.std.specs.Prelude.{◌≡◌};
 
-use crate::bytes::message_bytes;
-use crate::fault::Fault;
-use crate::lines::Lines;
-use crate::place::Place;
+use crate::given::message_bytes;
+use crate::place::{Place, fault_of};
 use pg_cancel::{ConnectionHandle, ConnectionManager};
 use pg_messages::{PgBytes, PgList};
 use pg_serve::{MemorySink, MemorySource};
 use pg_session::{EndKind, ServeError};
-use relation_server::{RelationTable, built_in_table, serve_relations};
+use relation_server::{RelationTable, TableError, built_in_table, serve_relations};
+use row_files::{Fault, singles, told, up_to_one};
 use std::alloc::{AllocError, Global};
 use std::sync::Wait;
 
@@ -45,15 +44,22 @@ struct Example {
     table: RelationTable,
 }
 
-fn example_of<'t>(alloc: Global, lines: Lines<'t>) -> Result<Example, Fault<'t>> {
-    let client = message_bytes(alloc, lines.text, lines.told("client").unwrap_or(""))?;
-    let replies = message_bytes(alloc, lines.text, lines.told("out").unwrap_or(""))?;
-    let table = built_in_table(alloc)?;
+/// The example that the lines tell.
+fn example_of<'t>(alloc: Global, text: &'t str, lines: &[&'t str]) -> Result<Example, Fault<'t>> {
     Ok(Example {
-        client,
-        replies,
-        table,
+        client: message_bytes(alloc, text, told(lines, "client").unwrap_or(""))?,
+        replies: message_bytes(alloc, text, told(lines, "out").unwrap_or(""))?,
+        table: table_of(alloc)?,
     })
+}
+
+/// The built-in relations.
+fn table_of<'t>(alloc: Global) -> Result<RelationTable, Fault<'t>> {
+    match built_in_table(alloc) {
+        Ok(table) => Ok(table),
+        Err(TableError::NoMemory) => Err(Fault::NoMemory),
+        Err(_) => Err(Fault::Line("a relation that is refused")),
+    }
 }
 
 /// A client that is served: what it sends, where the replies go, and the turns.
@@ -101,13 +107,10 @@ fn client_of(
     write_fails: Option<usize>,
 ) -> Result<Client, AllocError> {
     let source = source_of(alloc, bytes, is_single, read_fails)?;
-    let mut failures = PgList::new(alloc);
-    if let Some(taken) = write_fails {
-        failures.push((0, taken))?;
-    }
+    let sink = sink_of(alloc, write_fails)?;
     Ok(Client {
         source,
-        sink: MemorySink::new(alloc, failures),
+        sink,
         turns,
     })
 }
@@ -118,17 +121,16 @@ fn source_of(
     is_single: bool,
     read_fails: Option<u64>,
 ) -> Result<MemorySource, AllocError> {
-    let mut pieces = PgList::new(alloc);
-    if is_single {
-        for _ in bytes {
-            pieces.push(1)?;
-        }
-    }
-    let mut fails = PgList::new(alloc);
-    if let Some(call) = read_fails {
-        fails.push(call)?;
-    }
+    let count = if is_single { bytes.len() } else { 0 };
+    let pieces = PgList::from_vec(singles(alloc, count)?);
+    let fails = PgList::from_vec(up_to_one(alloc, read_fails)?);
     Ok(MemorySource::new(PgBytes::copy_of(alloc, bytes)?, pieces, fails))
+}
+
+/// A sink, whose first write fails behind so many bytes, if a number is told.
+fn sink_of(alloc: Global, write_fails: Option<usize>) -> Result<MemorySink, AllocError> {
+    let fails = up_to_one(alloc, write_fails.map(|taken| (0, taken)))?;
+    Ok(MemorySink::new(alloc, PgList::from_vec(fails)))
 }
 
 /// The client whose session fails in this case.
@@ -166,8 +168,7 @@ fn is_served_again<'t, R: Wait>(
     let bytes = example.client.as_slice();
     let mut first = failing_client(alloc, bytes, failing, case)?;
     let mut second = client_of(alloc, bytes, false, 1000, None, None)?;
-    let mut place = Place::new(alloc)?;
-    let ends = place.serve_both(rt, alloc, &example.table, &mut first, &mut second)?;
+    let ends = ends_of(rt, alloc, &example.table, &mut first, &mut second)?;
     let replies = example.replies.as_slice();
     Ok(
         ends == (Err(error_of(failing)), Ok(EndKind::Terminate))
@@ -176,16 +177,32 @@ fn is_served_again<'t, R: Wait>(
     )
 }
 
+/// How the sessions of two clients end that one connection of a new registry serves in turn.
+fn ends_of<'t, R: Wait>(
+    rt: &R,
+    alloc: Global,
+    table: &RelationTable,
+    first: &mut Client,
+    second: &mut Client,
+) -> Result<Ends, Fault<'t>> {
+    let mut place = Place::new(alloc)?;
+    match place.serve_both(rt, alloc, table, first, second) {
+        Ok(ends) => Ok(ends),
+        Err(error) => Err(fault_of(error)),
+    }
+}
+
 /// Serves the client in each case of what the word names, and again on the same connection, and
 /// tells in which case that goes otherwise.
 pub fn sessions_difference<'t, R: Wait>(
     rt: &R,
     alloc: Global,
+    text: &'t str,
+    lines: &[&'t str],
     word: &'t str,
-    lines: Lines<'t>,
 ) -> Result<Option<String>, Fault<'t>> {
     let failing = failing_of(word)?;
-    let example = example_of(alloc, lines)?;
+    let example = example_of(alloc, text, lines)?;
     let count = match failing {
         Failing::Writes => example.replies.len(),
         _ => example.client.len(),

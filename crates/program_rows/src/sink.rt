@@ -2,11 +2,10 @@
 
 ghost use Rattle.std.specs.Prelude.{Some};
 
-use crate::fault::Fault;
-use crate::lines::number_of;
 use pg_messages::PgList;
 use pg_serve::MemorySink;
 use pg_session::{Sink, SinkError};
+use row_files::{Fault, number_told, parsed, told, up_to_one};
 use std::alloc::Global;
 
 /// A sink in memory, of which a call may fail, and a call may find no memory.
@@ -32,16 +31,32 @@ impl Sink for RowSink {
     }
 }
 
-/// A sink of which one call fails after so many bytes, and the call of this number finds no memory.
-pub fn sink_of<'t>(
+/// Where a command writes: its output, and the line of errors.
+#[derive(Drop)]
+pub struct Sinks {
+    pub out: RowSink,
+    pub err: RowSink,
+}
+
+/// The sinks that the lines tell.
+pub fn sinks_of<'t>(alloc: Global, lines: &[&'t str]) -> Result<Sinks, Fault<'t>> {
+    Ok(Sinks {
+        out: sink_of(alloc, lines, "out_fails", "out_short")?,
+        err: sink_of(alloc, lines, "err_fails", "err_short")?,
+    })
+}
+
+/// A sink of which a call fails after so many bytes, if a line with the first word tells one, and a
+/// call finds no memory, if a line with the second word tells one.
+fn sink_of<'t>(
     alloc: Global,
-    fails: Option<&'t str>,
-    short_at: Option<u64>,
+    lines: &[&'t str],
+    fails: &str,
+    short: &str,
 ) -> Result<RowSink, Fault<'t>> {
-    let mut failures = PgList::new(alloc);
-    if let Some(words) = fails {
-        failures.push(failure_of(words)?)?;
-    }
+    let failure = failure_of(told(lines, fails))?;
+    let short_at = number_told(lines, short)?;
+    let failures = PgList::from_vec(up_to_one(alloc, failure)?);
     Ok(RowSink {
         sink: MemorySink::new(alloc, failures),
         calls: 0,
@@ -50,11 +65,12 @@ pub fn sink_of<'t>(
 }
 
 /// The number of a call, and how many bytes it takes.
-fn failure_of<'t>(words: &'t str) -> Result<(u64, usize), Fault<'t>> {
+fn failure_of<'t>(words: Option<&'t str>) -> Result<Option<(u64, usize)>, Fault<'t>> {
+    let Some(words) = words else {
+        return Ok(None);
+    };
     let (call, bytes) = words.split_once(" ").unwrap_or((words, ""));
-    let call = number_of(call)?;
-    match bytes.parse::<usize>() {
-        Ok(bytes) => Ok((call, bytes)),
-        Err(_) => Err(Fault::Line(words)),
-    }
+    let call = parsed::<u64>(call)?;
+    let bytes = parsed::<usize>(bytes)?;
+    Ok(Some((call, bytes)))
 }

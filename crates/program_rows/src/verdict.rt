@@ -1,101 +1,192 @@
 //! What is otherwise than a row expects.
 
-use crate::bytes::{message_bytes, text_bytes};
+use crate::WORDS;
 use crate::command::{Answer, answer_to};
-use crate::fault::Fault;
-use crate::lines::Lines;
+use crate::given::message_bytes;
 use crate::place::Place;
+use crate::sink::{RowSink, Sinks};
+use row_files::{Fault, common_len, lines_of, number_told, told, told_by, unescaped};
 use std::alloc::{AllocError, Global};
 use std::sync::Wait;
 
+/// Runs the commands of a row, and tells what is otherwise than it expects, if anything is.
+pub fn commands_difference<'t, R: Wait>(
+    rt: &R,
+    alloc: Global,
+    text: &'t str,
+    block: &'t str,
+    lines: &[&'t str],
+) -> Result<Option<String>, Fault<'t>> {
+    let mut place = Place::new(alloc)?;
+    occupy(rt, &mut place, lines)?;
+    for part in block.split("\nwords ").skip(1) {
+        if let Some(difference) = part_difference(rt, alloc, &mut place, text, part)? {
+            return Ok(Some(difference));
+        }
+    }
+    registry_difference(rt, alloc, &mut place, lines)
+}
+
+/// Registers the pids that are live before the commands.
+fn occupy<'t, R: Wait>(rt: &R, place: &mut Place, lines: &[&'t str]) -> Result<(), Fault<'t>> {
+    for line in lines {
+        if let Some(pid) = told_by(line, "live") {
+            place.occupy(rt, pid)?;
+        }
+    }
+    Ok(())
+}
+
+/// Runs a command, whose words stand in the first line, and tells what is otherwise than the
+/// further lines expect.
+fn part_difference<'t, R: Wait>(
+    rt: &R,
+    alloc: Global,
+    place: &mut Place,
+    text: &'t str,
+    part: &'t str,
+) -> Result<Option<String>, Fault<'t>> {
+    let (words, own) = part.split_once("\n").unwrap_or((part, ""));
+    let lines = lines_of(alloc, text, own, &WORDS)?;
+    command_difference(rt, alloc, place, words, text, lines.as_slice())
+}
+
 /// Runs the words, and tells what is otherwise than the lines expect, if anything is.
-pub fn command_difference<'t, R: Wait>(
+fn command_difference<'t, R: Wait>(
     rt: &R,
     alloc: Global,
     place: &mut Place,
     words: &'t str,
-    lines: Lines<'t>,
+    text: &'t str,
+    lines: &[&'t str],
 ) -> Result<Option<String>, Fault<'t>> {
-    let answer = answer_to(rt, alloc, place, words, lines)?;
-    let Some(status) = lines.number("status")? else {
-        return Err(Fault::Line("a command without a status"));
-    };
-    let Some(note) = lines.told("note") else {
-        return Err(Fault::Line("a command without a note"));
-    };
-    if status != answer.status as u64 {
-        return Ok(Some(told_status(alloc, words, &answer)?));
+    let (status, note) = expected_of(lines)?;
+    let answer = answer_to(rt, alloc, place, words, text, lines)?;
+    match status_difference(alloc, words, status, note, &answer)? {
+        None => output_difference(alloc, words, text, lines, &answer.sinks),
+        Some(difference) => Ok(Some(difference)),
     }
-    if (note == "yes") != answer.is_noted {
-        return Ok(Some(format!(in alloc; "{words}: otherwise noted")?));
-    }
-    output_difference(alloc, words, lines, &answer)
 }
 
-/// The status of an answer to these words.
-fn told_status(alloc: Global, words: &str, answer: &Answer) -> Result<String, AllocError> {
-    let status = answer.status;
-    format!(in alloc; "{words}: status {status}")
+/// The status that the lines expect, and whether they expect a note.
+fn expected_of<'t>(lines: &[&'t str]) -> Result<(u64, bool), Fault<'t>> {
+    let Some(status) = number_told(lines, "status")? else {
+        return Err(Fault::Line("a command without a status"));
+    };
+    match told(lines, "note") {
+        None => Err(Fault::Line("a command without a note")),
+        Some(note) => Ok((status, note == "yes")),
+    }
+}
+
+/// Where an answer has another status, or a note against what is expected.
+fn status_difference(
+    alloc: Global,
+    words: &str,
+    status: u64,
+    note: bool,
+    answer: &Answer,
+) -> Result<Option<String>, AllocError> {
+    let told = answer.status;
+    if status != u64::from(told) {
+        return Ok(Some(format!(in alloc; "{words}: status {told}")?));
+    }
+    if note != answer.is_noted {
+        return Ok(Some(format!(in alloc; "{words}: otherwise noted")?));
+    }
+    Ok(None)
 }
 
 /// What was written otherwise than the lines expect, if anything was.
 fn output_difference<'t>(
     alloc: Global,
     words: &'t str,
-    lines: Lines<'t>,
-    answer: &Answer,
+    text: &'t str,
+    lines: &[&'t str],
+    sinks: &Sinks,
 ) -> Result<Option<String>, Fault<'t>> {
-    let err = text_bytes(alloc, lines.told("err").unwrap_or(""))?;
-    if answer.err.sink.bytes() != err.as_slice() {
-        let told = str::from_utf8(answer.err.sink.bytes()).unwrap_or("other bytes");
-        return Ok(Some(format!(in alloc; "{words}: the line {told}")?));
+    match err_difference(alloc, words, lines, &sinks.err)? {
+        None => {
+            let out = output_told(alloc, text, lines)?;
+            Ok(out_difference(alloc, words, &sinks.out, out.as_slice())?)
+        }
+        Some(difference) => Ok(Some(difference)),
     }
-    let out = output_told(alloc, lines)?;
-    if answer.out.sink.bytes() != out.as_slice() {
-        let len = common_len(answer.out.sink.bytes(), out.as_slice());
-        return Ok(Some(format!(in alloc; "{words}: other output from byte {len} on")?));
+}
+
+/// Where the line of errors is other than the lines expect.
+fn err_difference<'t>(
+    alloc: Global,
+    words: &'t str,
+    lines: &[&'t str],
+    err: &RowSink,
+) -> Result<Option<String>, Fault<'t>> {
+    let expected = unescaped(alloc, told(lines, "err").unwrap_or(""))?;
+    if err.sink.bytes() == expected.as_slice() {
+        Ok(None)
+    } else {
+        Ok(Some(told_err(alloc, words, err)?))
     }
-    Ok(None)
+}
+
+/// The line of errors that was written.
+fn told_err(alloc: Global, words: &str, err: &RowSink) -> Result<String, AllocError> {
+    let told = str::from_utf8(err.sink.bytes()).unwrap_or("other bytes");
+    format!(in alloc; "{words}: the line {told}")
+}
+
+/// Where the output is other than these bytes.
+fn out_difference(
+    alloc: Global,
+    words: &str,
+    out: &RowSink,
+    expected: &[u8],
+) -> Result<Option<String>, AllocError> {
+    let written = out.sink.bytes();
+    if written == expected {
+        return Ok(None);
+    }
+    let len = common_len(written, expected);
+    Ok(Some(format!(in alloc; "{words}: other output from byte {len} on")?))
 }
 
 /// The output that the lines expect: a text, or else messages.
-fn output_told<'t>(alloc: Global, lines: Lines<'t>) -> Result<Vec<u8>, Fault<'t>> {
-    match lines.told("out_text") {
-        Some(text) => text_bytes(alloc, text),
-        None => message_bytes(alloc, lines.text, lines.told("out").unwrap_or("")),
+fn output_told<'t>(alloc: Global, text: &'t str, lines: &[&'t str]) -> Result<Vec<u8>, Fault<'t>> {
+    match told(lines, "out_text") {
+        Some(out) => unescaped(alloc, out),
+        None => message_bytes(alloc, text, told(lines, "out").unwrap_or("")),
     }
-}
-
-/// How many bytes are equal at the front of both.
-fn common_len(one: &[u8], other: &[u8]) -> usize {
-    let mut len = 0usize;
-    for (a, b) in one.iter().zip(other.iter()) {
-        if *a != *b {
-            return len;
-        }
-        len = len.saturating_add(1);
-    }
-    len
 }
 
 /// What the registry has got otherwise than the lines expect, if anything is.
-pub fn registry_difference<'t, R: Wait>(
+fn registry_difference<'t, R: Wait>(
     rt: &R,
     alloc: Global,
     place: &mut Place,
-    lines: Lines<'t>,
+    lines: &[&'t str],
 ) -> Result<Option<String>, Fault<'t>> {
     let calls = place.calls(rt)?;
-    if lines.number("calls")?.is_some_and(|told| told != calls) {
-        return Ok(Some(format!(in alloc; "{calls} calls")?));
+    match number_told(lines, "calls")? {
+        Some(told) if told != calls => Ok(Some(format!(in alloc; "{calls} calls")?)),
+        _ => pids_difference(rt, alloc, place, lines),
     }
-    if let Some(pid) = pid_that_is(rt, place, lines.told("free").unwrap_or(""), true)? {
+}
+
+/// A pid that is taken where the lines expect that it is free, or free where they expect that it is
+/// taken.
+fn pids_difference<'t, R: Wait>(
+    rt: &R,
+    alloc: Global,
+    place: &mut Place,
+    lines: &[&'t str],
+) -> Result<Option<String>, Fault<'t>> {
+    if let Some(pid) = pid_that_is(rt, place, told(lines, "free").unwrap_or(""), true)? {
         return Ok(Some(format!(in alloc; "the pid {pid} is taken")?));
     }
-    if let Some(pid) = pid_that_is(rt, place, lines.told("taken").unwrap_or(""), false)? {
-        return Ok(Some(format!(in alloc; "the pid {pid} is free")?));
+    match pid_that_is(rt, place, told(lines, "taken").unwrap_or(""), false)? {
+        None => Ok(None),
+        Some(pid) => Ok(Some(format!(in alloc; "the pid {pid} is free")?)),
     }
-    Ok(None)
 }
 
 /// The first of the pids that is taken, or that is free.
@@ -105,7 +196,7 @@ fn pid_that_is<'t, R: Wait>(
     pids: &'t str,
     taken: bool,
 ) -> Result<Option<&'t str>, Fault<'t>> {
-    for pid in pids.split(' ') {
+    for pid in pids.split(" ") {
         if !pid.is_empty() && place.is_taken(rt, pid)? == taken {
             return Ok(Some(pid));
         }

@@ -166,10 +166,14 @@ fn is_heard<R: Wait>(
     registry: &mut Registry,
     job: &mut ConnectionJob<MemorySource, MemorySink>,
 ) -> Result<bool, Fail> {
-    let mut other = registry.register(rt, 9)?;
     job.manager.start_query(rt, &mut job.handle)?;
-    let is_made = registry.manager.cancel(rt, &mut other, 1, key_of(1))?;
-    Ok(is_made && job.manager.ask(rt, &mut job.handle)?)
+    Ok(cancels_the_first(rt, registry)? && job.manager.ask(rt, &mut job.handle)?)
+}
+
+/// Whether a cancel of pid 1 through this registry is made.
+fn cancels_the_first<R: Wait>(rt: &R, registry: &mut Registry) -> Result<bool, Fail> {
+    let mut other = registry.register(rt, 9)?;
+    Ok(registry.manager.cancel(rt, &mut other, 1, key_of(1))?)
 }
 
 /// Whether there is one job alone, which has what it was given, and hears a cancel.
@@ -183,14 +187,18 @@ fn is_one_job<R: Wait>(rt: &R, registry: &mut Registry, spawner: &mut Jobs) -> R
     }
 }
 
+/// Whether three connections, of which the second can't be accepted, leave one job.
+fn is_one_job_left<R: Wait>(rt: &R, alloc: Global) -> Result<bool, Fail> {
+    let mut registry = Registry::new(alloc)?;
+    let mut spawner = Keeping::new(alloc, NEVER);
+    let answer = listen_for_three(rt, alloc, &mut registry, &mut spawner)?;
+    Ok(answer == Err(ListenError::AcceptFault) && is_one_job(rt, &mut registry, &mut spawner)?)
+}
+
 /// A job has what it was given, and its registry is the given one: a cancel through that is heard.
 #[test]
 fn a_failed_accept_leaves_one_job(rt: HostRuntime) -> Result<(), Fail> {
-    let mut registry = Registry::new(rt.alloc())?;
-    let mut spawner = Keeping::new(rt.alloc(), NEVER);
-    let answer = listen_for_three(&rt, rt.alloc(), &mut registry, &mut spawner)?;
-    assert!(rt; answer == Err(ListenError::AcceptFault));
-    assert!(rt; is_one_job(&rt, &mut registry, &mut spawner)?);
+    assert!(rt; is_one_job_left(&rt, rt.alloc())?);
     Ok(())
 }
 
@@ -322,9 +330,23 @@ type Told = (u8, &'static str, u64, usize);
 
 /// Whether the program answers so.
 fn is_answered<R: Wait>(rt: &R, alloc: Global, given: &Given, told: Told) -> Result<bool, Fail> {
-    let (status, line, accepted, started) = told;
     let mut stage = Stage::new(alloc, given)?;
-    let answer = status_of(rt, alloc, given, &mut stage)?;
+    is_run(rt, alloc, given, &mut stage, told)
+}
+
+/// Whether the program, which starts on this stage, answers so.
+fn is_run<R: Wait>(
+    rt: &R,
+    alloc: Global,
+    given: &Given,
+    stage: &mut Stage,
+    told: Told,
+) -> Result<bool, Fail>
+    requires accepted { stage.old.acceptor.accepted ≡ 0 }
+    requires started { stage.old.spawner.started ≡ 0 }
+{
+    let (status, line, accepted, started) = told;
+    let answer = status_of(rt, alloc, given, stage)?;
     Ok(answer == status && stage.has(line, accepted, started))
 }
 
@@ -389,8 +411,8 @@ fn the_program_takes_in_connections(rt: HostRuntime) -> Result<(), Fail> {
 }
 
 /// The line that tells the commands.
-const USAGE: &str =
-    "usage: relation_server serve FILE PID KEY [TURNS], demo SEED N, listen tcp PORT FILE [COUNT], listen unix PATH FILE [COUNT]\n";
+const USAGE: &str = "usage: relation_server serve FILE PID KEY [TURNS], demo SEED N, \
+    listen tcp PORT FILE [COUNT], listen unix PATH FILE [COUNT]\n";
 
 /// Words over this file, whose read of this number fails, with somebody under pid 1.
 fn refused(words: &'static str, file: &'static str, read_fails_at: u64) -> Given {

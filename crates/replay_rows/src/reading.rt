@@ -1,18 +1,28 @@
 //! Recordings read and written again.
 
-use crate::fault::Fault;
 use recording_text::{ReadError, Recording, read_recording, write_recording};
-use std::alloc::Global;
+use row_files::{Fault, hex_words, part};
+use std::alloc::{AllocError, Global};
+
+/// The answer to what a row asks of its bytes.
+pub fn answer_of<'t>(alloc: Global, row: &'t str) -> Result<String, Fault<'t>> {
+    let bytes = hex_words(alloc, part(row, 2)?)?;
+    match part(row, 1)? {
+        "read" => Ok(read_answer(alloc, bytes.as_slice())?),
+        "fronts" => Ok(fronts_answer(alloc, bytes.as_slice())?),
+        other => Err(Fault::Line(other)),
+    }
+}
 
 /// What the reader answers to the bytes: `ok` where it reads a recording whose text they are, or
 /// its refusal.
-pub fn read_answer(alloc: Global, bytes: &[u8]) -> Result<String, Fault> {
+fn read_answer(alloc: Global, bytes: &[u8]) -> Result<String, AllocError> {
     match read_recording(alloc, bytes) {
-        Ok(recording) => Ok(String::from_str(alloc, written_again(alloc, &recording, bytes)?)?),
-        Err(ReadError::Truncated) => Ok(String::from_str(alloc, "truncated")?),
-        Err(ReadError::BadField(place)) => Ok(format!(in alloc; "bad field {place}")?),
-        Err(ReadError::Trailing(place)) => Ok(format!(in alloc; "trailing {place}")?),
-        Err(ReadError::NoMemory) => Err(Fault::NoMemory),
+        Ok(recording) => String::from_str(alloc, written_again(alloc, &recording, bytes)?),
+        Err(ReadError::Truncated) => String::from_str(alloc, "truncated"),
+        Err(ReadError::BadField(place)) => format!(in alloc; "bad field {place}"),
+        Err(ReadError::Trailing(place)) => format!(in alloc; "trailing {place}"),
+        Err(ReadError::NoMemory) => String::from_str(alloc, "out of memory"),
     }
 }
 
@@ -21,7 +31,7 @@ fn written_again(
     alloc: Global,
     recording: &Recording,
     bytes: &[u8],
-) -> Result<&'static str, Fault> {
+) -> Result<&'static str, AllocError> {
     if recording.calls.len() > u32::MAX as usize {
         return Ok("too many calls");
     }
@@ -35,12 +45,12 @@ fn written_again(
 
 /// What the reader answers to every front of the bytes but the whole, where that is the same; else
 /// the first that isn't `truncated`.
-pub fn fronts_answer(alloc: Global, bytes: &[u8]) -> Result<String, Fault> {
+fn fronts_answer(alloc: Global, bytes: &[u8]) -> Result<String, AllocError> {
     for len in 0..bytes.len() {
         let answer = read_answer(alloc, &bytes[..len])?;
         if answer.as_str() != "truncated" {
-            return Ok(format!(in alloc; "front {len}: {answer}")?);
+            return format!(in alloc; "front {len}: {answer}");
         }
     }
-    Ok(String::from_str(alloc, "truncated")?)
+    String::from_str(alloc, "truncated")
 }

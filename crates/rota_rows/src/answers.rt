@@ -1,76 +1,76 @@
 //! The answers of rows.
 
-ghost use Rattle.std.specs.Prelude.{IfOk, All};
+ghost use Rattle.std.specs.Prelude.{All, length, ◌<◌, ◌^◌};
 ghost use Rattle.rota_moments.specs.Moments.{IsMoment};
 
-use crate::fault::Fault;
-use crate::given::{interval, intervals, moment, next_field, reason_text};
+use crate::given::{interval, intervals, moment, moments_from, reason_text, style_of};
 use pg_interval::Interval;
-use pg_messages::PgList;
 use pg_text::IntervalStyle;
 use rota_clashes::clashes;
 use rota_lines::{put_clash, put_end, put_step};
 use rota_moments::{Moment, MomentError, RotaError, rota, total};
+use row_files::{Fault, next_part, push_shown};
 use std::alloc::{AllocError, Global};
 use std::fmt::Write;
 
 /// The answer to what a row asks.
-pub fn answer_of(alloc: Global, asked: &str) -> Result<String, Fault> {
-    let (question, given) = next_field(asked)?;
+pub fn answer_of<'t>(alloc: Global, asked: &'t str) -> Result<String, Fault<'t>> {
+    let mut answer = String::new(alloc);
+    put_answer(alloc, &mut answer, asked)?;
+    Ok(answer)
+}
+
+/// Puts the answer to what a row asks.
+fn put_answer<'t>(alloc: Global, answer: &mut String, asked: &'t str) -> Result<(), Fault<'t>> {
+    let (question, given) = next_part(asked)?;
     match question {
-        "read" => read(alloc, given),
-        "add" => add(alloc, given),
-        "rota" => moments_of(alloc, given),
-        "total" => total_of(alloc, given),
-        "lines" => lines_of(alloc, given),
-        "clashes" => clashes_of(alloc, given),
-        _ => Err(Fault::Row),
+        "read" => Ok(put_read(answer, given)?),
+        "add" => put_later(answer, given),
+        "rota" => put_rota(alloc, answer, given),
+        "total" => put_total(alloc, answer, given),
+        "lines" => put_lines(alloc, answer, given),
+        "clashes" => put_clashes(alloc, answer, given),
+        _ => Err(Fault::Line(question)),
     }
 }
 
 /// `TEXT`: the day, the microseconds and the printed text of the moment, or the refusal.
-fn read(alloc: Global, text: &str) -> Result<String, Fault> {
-    let mut answer = String::new(alloc);
+fn put_read(answer: &mut String, text: &str) -> Result<(), AllocError> {
     match Moment::read(text) {
         Ok(moment) => {
             let Moment { day, micro } = moment;
             write!(answer, "{day} {micro} ")?;
-            moment.put(&mut answer)?;
+            moment.put(answer)
         }
-        Err(MomentError::Shape) => answer.push_str("shape")?,
-        Err(MomentError::Field) => answer.push_str("field")?,
+        Err(MomentError::Shape) => answer.push_str("shape"),
+        Err(MomentError::Field) => answer.push_str("field"),
     }
-    Ok(answer)
 }
 
 /// `START|STEP`: the moment after the step, or the part that leads out of the years.
-fn add(alloc: Global, given: &str) -> Result<String, Fault> {
-    let (start, step) = next_field(given)?;
+fn put_later<'t>(answer: &mut String, given: &'t str) -> Result<(), Fault<'t>> {
+    let (start, step) = next_part(given)?;
     let start = moment(start)?;
     let step = interval(step)?;
-    let mut answer = String::new(alloc);
     match start.add(step) {
-        Ok(later) => later.put(&mut answer)?,
-        Err(reason) => answer.push_str(reason_text(reason))?,
+        Ok(later) => Ok(later.put(answer)?),
+        Err(reason) => Ok(answer.push_str(reason_text(reason))?),
     }
-    Ok(answer)
 }
 
 /// `START|STEPS`: the moments, or the first step that is refused.
-fn moments_of(alloc: Global, given: &str) -> Result<String, Fault> {
-    let (start, steps) = next_field(given)?;
+fn put_rota<'t>(alloc: Global, answer: &mut String, given: &'t str) -> Result<(), Fault<'t>> {
+    let (start, steps) = next_part(given)?;
     let start = moment(start)?;
     let steps = intervals(alloc, steps)?;
-    let mut answer = String::new(alloc);
     match rota(alloc, start, steps.as_slice()) {
-        Ok(moments) => put_moments(&mut answer, moments.as_slice())?,
+        Ok(moments) => Ok(put_moments(answer, moments.as_slice())?),
         Err(RotaError::OutOfRange(place, reason)) => {
             let word = reason_text(reason);
-            write!(answer, "{place} {word}")?;
+            Ok(write!(answer, "{place} {word}")?)
         }
-        Err(RotaError::NoMemory) => return Err(Fault::NoMemory),
+        Err(RotaError::NoMemory) => Err(Fault::NoMemory),
     }
-    Ok(answer)
 }
 
 /// Puts moments, split by commas.
@@ -87,9 +87,8 @@ fn put_moments(answer: &mut String, moments: &[Moment]) -> Result<(), AllocError
 }
 
 /// `STEPS`: the total, or the first step that it overflows with.
-fn total_of(alloc: Global, given: &str) -> Result<String, Fault> {
+fn put_total<'t>(alloc: Global, answer: &mut String, given: &'t str) -> Result<(), Fault<'t>> {
     let steps = intervals(alloc, given)?;
-    let mut answer = String::new(alloc);
     match total(steps.as_slice()) {
         Ok(sum) => {
             let Interval {
@@ -97,37 +96,53 @@ fn total_of(alloc: Global, given: &str) -> Result<String, Fault> {
                 days,
                 microseconds,
             } = sum;
-            write!(answer, "{months} {days} {microseconds}")?;
+            Ok(write!(answer, "{months} {days} {microseconds}")?)
         }
-        Err(place) => write!(answer, "{place}")?,
+        Err(place) => Ok(write!(answer, "{place}")?),
     }
-    Ok(answer)
 }
 
 /// `START|STYLE|STEPS`: the lines of the rota, with `\t` and `\n` for tabs and line ends.
-fn lines_of(alloc: Global, given: &str) -> Result<String, Fault> {
-    let (start, rest) = next_field(given)?;
-    let (style, steps) = next_field(rest)?;
+fn put_lines<'t>(alloc: Global, answer: &mut String, given: &'t str) -> Result<(), Fault<'t>> {
+    let (start, rest) = next_part(given)?;
+    let (style, steps) = next_part(rest)?;
     let start = moment(start)?;
-    let Ok(style) = IntervalStyle::try_from_text(alloc, style) else {
-        return Err(Fault::Row);
-    };
+    let style = style_of(alloc, style)?;
     let steps = intervals(alloc, steps)?;
-    let Ok(moments) = rota(alloc, start, steps.as_slice()) else {
-        return Err(Fault::Row);
-    };
-    let mut text = String::new(alloc);
-    put_lines(&mut text, steps.as_slice(), moments.as_slice(), style)?;
-    escaped(alloc, text.as_str())
+    match rota_lines(alloc, start, steps.as_slice(), style)? {
+        None => Err(Fault::Line(given)),
+        Some(lines) => Ok(put_shown(answer, lines.as_str())?),
+    }
 }
 
-/// Puts the lines of these steps, moments and their total.
-fn put_lines(
+/// The lines of a rota, and its end's; None where it is refused.
+fn rota_lines(
+    alloc: Global,
+    start: Moment,
+    steps: &[Interval],
+    style: IntervalStyle,
+) -> Result<Option<String>, AllocError>
+    requires { IsMoment start }
+{
+    let Ok(moments) = rota(alloc, start, steps) else {
+        return Ok(None);
+    };
+    let mut text = String::new(alloc);
+    put_steps(&mut text, steps, moments.as_slice(), style)?;
+    if put_last(&mut text, steps, moments.as_slice(), style)? {
+        Ok(Some(text))
+    } else {
+        Ok(None)
+    }
+}
+
+/// Puts the lines of these steps.
+fn put_steps(
     text: &mut String,
     steps: &[Interval],
     moments: &[Moment],
     style: IntervalStyle,
-) -> Result<(), Fault>
+) -> Result<(), AllocError>
     requires { All IsMoment moments.now }
 {
     for place in 0..steps.len() {
@@ -135,63 +150,61 @@ fn put_lines(
             put_step(text, place as u64, &moments[place], &steps[place], style)?;
         }
     }
-    let Ok(sum) = total(steps) else {
-        return Err(Fault::Row);
-    };
-    if moments.is_empty() {
-        return Err(Fault::Row);
-    }
-    put_end(text, &moments[moments.len() - 1], &sum, style)?;
     Ok(())
 }
 
-/// A text with `\t` and `\n` for tabs and line ends.
-fn escaped(alloc: Global, text: &str) -> Result<String, Fault> {
-    let mut out = String::new(alloc);
-    for c in text.chars() {
-        match c {
-            '\t' => out.push_str("\\t")?,
-            '\n' => out.push_str("\\n")?,
-            _ => out.push(c)?,
-        }
+/// Puts the line of the end, with the last moment and the total; false where there is none.
+fn put_last(
+    text: &mut String,
+    steps: &[Interval],
+    moments: &[Moment],
+    style: IntervalStyle,
+) -> Result<bool, AllocError>
+    requires { All IsMoment moments.now }
+{
+    let Ok(sum) = total(steps) else {
+        return Ok(false);
+    };
+    if moments.is_empty() {
+        return Ok(false);
     }
-    Ok(out)
+    put_end(text, &moments[moments.len() - 1], &sum, style)?;
+    Ok(true)
+}
+
+/// Puts a text with `\t` and `\n` for tabs and line ends.
+fn put_shown(answer: &mut String, text: &str) -> Result<(), AllocError> {
+    for c in text.chars() {
+        push_shown(answer, c)?;
+    }
+    Ok(())
 }
 
 /// `START|STEPS|START|STEPS`: the lines of the clashes, with `\n` for line ends.
-fn clashes_of(alloc: Global, given: &str) -> Result<String, Fault> {
-    let (start, rest) = next_field(given)?;
-    let (steps, rest) = next_field(rest)?;
+fn put_clashes<'t>(alloc: Global, answer: &mut String, given: &'t str) -> Result<(), Fault<'t>> {
+    let (start, rest) = next_part(given)?;
+    let (steps, rest) = next_part(rest)?;
     let first = moments_from(alloc, start, steps)?;
-    let (start, steps) = next_field(rest)?;
+    let (start, steps) = next_part(rest)?;
     let second = moments_from(alloc, start, steps)?;
-    pairs_text(alloc, first.as_slice(), second.as_slice())
-}
-
-/// The moments of a rota that isn't refused.
-fn moments_from(alloc: Global, start: &str, steps: &str) -> Result<PgList<Moment>, Fault>
-    ensures { IfOk result (All IsMoment) }
-{
-    let start = moment(start)?;
-    let steps = intervals(alloc, steps)?;
-    match rota(alloc, start, steps.as_slice()) {
-        Ok(moments) => Ok(moments),
-        Err(_) => Err(Fault::Row),
+    if first.len() > 4_294_967_295 || second.len() > 4_294_967_295 {
+        return Err(Fault::Line(given));
     }
+    let lines = clash_lines(alloc, first.as_slice(), second.as_slice())?;
+    Ok(put_shown(answer, lines.as_str())?)
 }
 
-/// The text of the clashes of two rotas.
-fn pairs_text(alloc: Global, first: &[Moment], second: &[Moment]) -> Result<String, Fault>
+/// The lines of the clashes of two rotas.
+fn clash_lines(alloc: Global, first: &[Moment], second: &[Moment]) -> Result<String, AllocError>
     requires first_valid { All IsMoment first.now }
     requires second_valid { All IsMoment second.now }
+    requires first_few { length first.now < 2 ^ 32 }
+    requires second_few { length second.now < 2 ^ 32 }
 {
-    if first.len() > 4_294_967_295 || second.len() > 4_294_967_295 {
-        return Err(Fault::Row);
-    }
     let pairs = clashes(alloc, first, second)?;
     let mut text = String::new(alloc);
     for pair in pairs.as_slice() {
         put_clash(&mut text, pair.0, pair.1)?;
     }
-    escaped(alloc, text.as_str())
+    Ok(text)
 }

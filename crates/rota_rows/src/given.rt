@@ -3,51 +3,63 @@
 ghost use Rattle.std.specs.Prelude.{IfOk, All};
 ghost use Rattle.rota_moments.specs.Moments.{IsMoment};
 
-use crate::fault::Fault;
 use pg_interval::Interval;
 use pg_messages::PgList;
-use rota_moments::{Moment, RangeError};
+use pg_text::IntervalStyle;
+use rota_moments::{Moment, RangeError, rota};
+use row_files::{Fault, three_numbers};
 use std::alloc::Global;
 
-/// The next field of a row, and those behind it.
-pub fn next_field(row: &str) -> Result<(&str, &str), Fault> {
-    row.split_once('|').ok_or(Fault::Row)
-}
-
-/// A moment that a text stands for.
-pub fn moment(text: &str) -> Result<Moment, Fault>
+/// The moment of a text.
+pub fn moment<'t>(text: &'t str) -> Result<Moment, Fault<'t>>
     ensures { IfOk result IsMoment }
 {
     match Moment::read(text) {
         Ok(moment) => Ok(moment),
-        Err(_) => Err(Fault::Row),
+        Err(_) => Err(Fault::Line(text)),
     }
 }
 
 /// An interval of three numbers: months, days, microseconds.
-pub fn interval(text: &str) -> Result<Interval, Fault> {
-    let (months, rest) = text.split_once(' ').ok_or(Fault::Row)?;
-    let (days, microseconds) = rest.split_once(' ').ok_or(Fault::Row)?;
-    let (Ok(months), Ok(days), Ok(microseconds)) = (
-        months.parse::<i32>(),
-        days.parse::<i32>(),
-        microseconds.parse::<i64>(),
-    ) else {
-        return Err(Fault::Row);
-    };
+pub fn interval<'t>(text: &'t str) -> Result<Interval, Fault<'t>> {
+    let (months, days, microseconds) = three_numbers(text)?;
     Ok(Interval::new(months, days, microseconds))
 }
 
 /// Intervals, split by commas; `-` is none.
-pub fn intervals(alloc: Global, text: &str) -> Result<PgList<Interval>, Fault> {
+pub fn intervals<'t>(alloc: Global, text: &'t str) -> Result<PgList<Interval>, Fault<'t>> {
     let mut all = PgList::new(alloc);
     if text == "-" {
         return Ok(all);
     }
-    for part in text.split(',') {
+    for part in text.split(",") {
         all.push(interval(part)?)?;
     }
     Ok(all)
+}
+
+/// The style of this name.
+pub fn style_of<'t>(alloc: Global, name: &'t str) -> Result<IntervalStyle, Fault<'t>> {
+    match IntervalStyle::try_from_text(alloc, name) {
+        Ok(style) => Ok(style),
+        Err(_) => Err(Fault::Line(name)),
+    }
+}
+
+/// The moments of a rota that isn't refused.
+pub fn moments_from<'t>(
+    alloc: Global,
+    start: &'t str,
+    steps: &'t str,
+) -> Result<PgList<Moment>, Fault<'t>>
+    ensures { IfOk result (All IsMoment) }
+{
+    let first = moment(start)?;
+    let steps = intervals(alloc, steps)?;
+    match rota(alloc, first, steps.as_slice()) {
+        Ok(moments) => Ok(moments),
+        Err(_) => Err(Fault::Line(start)),
+    }
 }
 
 /// The word for the part of an interval that leads out of the years.

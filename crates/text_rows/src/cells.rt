@@ -6,6 +6,7 @@ use jiff::SignedDuration;
 use pg_interval::Interval;
 use pg_messages::PgStr;
 use pg_text::{CellError, FormatOptions, FromSql, FromSqlText, IsNull, PgType, ToSql, ToSqlText};
+use row_files::{push_digits, push_pairs, three_numbers};
 use std::alloc::{AllocError, Global};
 
 /// What a row on cells is answered.
@@ -32,15 +33,10 @@ pub(crate) fn answer(alloc: Global, word: &str, fields: &str) -> Result<String, 
     }
 }
 
-/// Months, days and microseconds, split by spaces.
+/// Months, days and microseconds, split by spaces; zeros where the text is no such.
 fn interval_of(text: &str) -> Interval {
-    let (months, rest) = text.split_once(' ').unwrap_or((text, ""));
-    let (days, microseconds) = rest.split_once(' ').unwrap_or((rest, ""));
-    Interval::new(
-        months.parse::<i32>().unwrap_or(0),
-        days.parse::<i32>().unwrap_or(0),
-        microseconds.parse::<i64>().unwrap_or(0),
-    )
+    let (months, days, microseconds) = three_numbers(text).unwrap_or((0, 0, 0));
+    Interval::new(months, days, microseconds)
 }
 
 /// Nanoseconds.
@@ -79,8 +75,13 @@ fn binary<T: ToSql>(alloc: Global, value: &T, oid: &str) -> Result<String, Alloc
     let mut out = marked(alloc)?;
     let answer = value.to_sql_checked(ty, &mut out);
     let told = answer_told(alloc, answer)?;
-    let held = hex::encode(alloc, out.as_slice())?;
-    format!(in alloc; "{told}{held}")
+    put_digits(told, out.as_slice())
+}
+
+/// A text with hexadecimal digits behind it.
+fn put_digits(mut text: String, bytes: &[u8]) -> Result<String, AllocError> {
+    push_digits(&mut text, bytes)?;
+    Ok(text)
 }
 
 fn type_of(oid: &str) -> PgType {
@@ -98,10 +99,11 @@ fn answer_told(alloc: Global, answer: Result<IsNull, CellError>) -> Result<Strin
 
 /// The bytes of a binary cell.
 fn cell_of(alloc: Global, text: &str) -> Result<Vec<u8>, AllocError> {
-    match hex::decode(alloc, text.as_bytes()) {
-        Ok(bytes) => Ok(bytes),
-        Err(_) => Ok(Vec::new(alloc)),
+    let mut bytes = Vec::new(alloc);
+    if !push_pairs(&mut bytes, text.as_bytes())? {
+        bytes.clear();
     }
+    Ok(bytes)
 }
 
 fn read(alloc: Global, text: &str) -> Result<String, AllocError> {

@@ -1,0 +1,51 @@
+//! What came out otherwise than a row tells.
+
+use std::alloc::{AllocError, Global};
+
+/// What came out otherwise.
+#[derive(Clone, Copy, Debug)]
+pub enum Difference {
+    /// The conversation ended so.
+    End(&'static str),
+    /// The replies are others from this byte on.
+    Replies(usize),
+    /// The registry calls are others.
+    Calls,
+    /// The writes have other lengths.
+    Writes,
+    /// A cell isn't read as the interval that it was made of.
+    Cell,
+}
+
+/// What came out otherwise in the case of this number.
+#[derive(Clone, Copy, Debug)]
+pub struct Finding {
+    pub case: usize,
+    pub difference: Difference,
+}
+
+impl Finding {
+    /// The finding of a case, if there is a difference.
+    pub fn of(case: usize, found: Option<Difference>) -> Option<Finding> {
+        match found {
+            None => None,
+            Some(difference) => Some(Finding { case, difference }),
+        }
+    }
+
+    /// The case and what came out otherwise.
+    pub fn told(self, alloc: Global) -> Result<String, AllocError> {
+        let case = self.case;
+        match self.difference {
+            Difference::End(end) => format!(in alloc; "{case}: ends with {end}"),
+            Difference::Replies(place) => {
+                format!(in alloc; "{case}: other replies from byte {place} on")
+            }
+            Difference::Calls => format!(in alloc; "{case}: other registry calls"),
+            Difference::Writes => format!(in alloc; "{case}: other lengths of writes"),
+            Difference::Cell => {
+                format!(in alloc; "{case}: a cell that is read as another interval")
+            }
+        }
+    }
+}

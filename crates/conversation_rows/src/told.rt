@@ -1,0 +1,96 @@
+//! The case that the lines of a row tell.
+
+use crate::cases::Case;
+use crate::fronts::{Front, all_of};
+use crate::script::Step;
+use crate::serving::{Plan, Reads};
+use crate::verdict::{Between, Expected};
+use row_files::{Fault, number_told, numbers_of, told};
+use std::alloc::Global;
+
+/// The one case that the lines tell.
+pub fn case_told<'t>(
+    alloc: Global,
+    lines: &[&'t str],
+    steps: &[Step],
+) -> Result<Case<'t>, Fault<'t>> {
+    let all = all_of(steps);
+    Ok(Case {
+        client: all.client,
+        plan: plan_told(alloc, lines)?,
+        expected: expected_of(lines, all)?,
+    })
+}
+
+/// The end that the lines tell.
+pub fn end_told<'t>(lines: &[&'t str]) -> &'t str {
+    told(lines, "end").unwrap_or("Terminate")
+}
+
+/// What the lines expect.
+fn expected_of<'t>(lines: &[&'t str], all: Front) -> Result<Expected<'t>, Fault<'t>> {
+    let end = end_told(lines);
+    Ok(Expected {
+        end,
+        written: written_told(lines, all)?,
+        calls: calls_told(end, all),
+    })
+}
+
+/// How many bytes of the replies the lines expect.
+fn written_told<'t>(lines: &[&'t str], all: Front) -> Result<Between, Fault<'t>> {
+    let most = number_told(lines, "written")?.unwrap_or(all.replies as u64) as usize;
+    let least = match told(lines, "prefix") {
+        None => most,
+        Some(_) => 0,
+    };
+    Ok(Between { least, most })
+}
+
+/// How many registry calls are expected behind this end.
+fn calls_told(end: &str, all: Front) -> Between {
+    let least = if end == "WriteFault" { 0 } else { all.calls };
+    Between {
+        least,
+        most: all.calls,
+    }
+}
+
+/// The plan that the lines tell.
+fn plan_told<'t>(alloc: Global, lines: &[&'t str]) -> Result<Plan<'t>, Fault<'t>> {
+    let sink_fails = failing_write(alloc, lines)?;
+    Ok(Plan {
+        reads: reads_told(lines),
+        source_fails: number_told(lines, "read_fails")?,
+        sink_fails,
+        desk_fails: number_told(lines, "desk_fails")?,
+        turns: number_told(lines, "turns")?.unwrap_or(100),
+    })
+}
+
+/// The write that fails, if the lines tell one.
+fn failing_write<'t>(alloc: Global, lines: &[&'t str]) -> Result<Option<(u64, usize)>, Fault<'t>> {
+    match told(lines, "write_fails") {
+        None => Ok(None),
+        Some(words) => Ok(Some(pair_of(alloc, words)?)),
+    }
+}
+
+/// How many bytes each read gives, as the lines tell.
+fn reads_told<'t>(lines: &[&'t str]) -> Reads<'t> {
+    match told(lines, "reads") {
+        Some("single") => Reads::Single,
+        Some("messages") => Reads::Messages(0),
+        Some(words) => Reads::Told(words),
+        None => Reads::Told(""),
+    }
+}
+
+/// The number of a call, and how many bytes it takes.
+fn pair_of<'t>(alloc: Global, words: &'t str) -> Result<(u64, usize), Fault<'t>> {
+    let numbers = numbers_of(alloc, words)?;
+    match numbers.as_slice() {
+        [call, taken] => Ok((*call as u64, *taken)),
+        _ => Err(Fault::Line(words)),
+    }
+}
