@@ -15,6 +15,7 @@ pub mod PartTexts
 pub mod PostgresReads
 pub mod PrintedLemmas
 pub mod PutDigits
+mod SqlLengths
 pub mod SqlReads
 pub mod Stands
 mod TextsPrinted
