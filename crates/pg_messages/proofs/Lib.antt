@@ -2,6 +2,8 @@ pub mod Utf8
 pub mod Loops
 pub mod Laws
 pub mod FieldLaws
+pub mod EmptyText
+pub mod AnyOf
 pub mod MessageLaws
 pub mod KindLaws
 pub mod FrameLaws

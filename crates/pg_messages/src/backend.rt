@@ -47,6 +47,7 @@ pub enum PgWireBackendMessage {
 impl PgWireBackendMessage {
     /// How many bytes stand behind the length; from the greatest u64 on that number. A reply can be
     /// sent where there are at most 1,073,741,823.
+    #[inline(always)]
     pub fn body_len(&self) -> u64
         ensures { result ≡ min (length (reply_body self.now)) (2 ^ 64 - 1) }
     {
@@ -72,6 +73,7 @@ impl PgWireBackendMessage {
 }
 
 /// The type byte of a reply.
+#[inline(always)]
 pub fn type_byte(item: &PgWireBackendMessage) -> u8
     ensures { result ≡ reply_type item.now }
 {
@@ -102,6 +104,7 @@ pub fn type_byte(item: &PgWireBackendMessage) -> u8
 }
 
 /// Whether the type byte is the whole reply.
+#[inline(always)]
 pub fn is_one_byte(item: &PgWireBackendMessage) -> bool
     ensures { result ≡ is_one_byte item.now }
 {
@@ -112,6 +115,7 @@ pub fn is_one_byte(item: &PgWireBackendMessage) -> bool
 }
 
 /// Appends what stands behind the length.
+#[inline(always)]
 pub fn put_body(item: &PgWireBackendMessage, dst: &mut BytesMut)
     requires fits { IsEncodable item.now }
     requires room { length (reply_body item.now) ≤ dst.old.spare }

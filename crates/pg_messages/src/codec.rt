@@ -118,7 +118,7 @@ impl PgWireMessageServerCodec {
     /// byte, and the body (protocol, "Message Formats"). The room is made at once, so want of
     /// memory is the only error, and after it the bytes are as they were. The buffer's whole room,
     /// its bytes and what it has spare, never falls.
-    #[inline]
+    #[inline(always)]
     pub fn encode(
         &mut self,
         item: &PgWireBackendMessage,
@@ -139,9 +139,12 @@ impl PgWireMessageServerCodec {
     }
 }
 
-// Rows are most of what is sent: one growth, the head in one piece, and the cells as they stand.
+/// Appends the bytes of a DataRow, as `encode` does of the reply: Byte1 `D`, Int32 length, Int16
+/// count of cells, and the cells as they stand. Rows are most of what is sent, so the room is made
+/// at once and nothing is dispatched. Want of memory is the only error, and after it the bytes are
+/// as they were. The buffer's whole room, its bytes and what it has spare, never falls.
 #[inline(always)]
-fn put_row(row: &DataRow, dst: &mut BytesMut) -> Result<(), AllocError>
+pub fn put_row(row: &DataRow, dst: &mut BytesMut) -> Result<(), AllocError>
     requires { IsEncodable (server.DataRow row.now) }
     ensures ok { OnOk result
         (dst.new.items ≡ dst.old.items ++ reply_bytes (server.DataRow row.now)) }
@@ -186,6 +189,8 @@ fn put_copied(copied: &CopyData, dst: &mut BytesMut) -> Result<(), AllocError>
     Ok(())
 }
 
+// Inlined into each push, so that a reply whose kind is known there is told apart before it runs.
+#[inline(always)]
 fn put_reply(item: &PgWireBackendMessage, dst: &mut BytesMut) -> Result<(), AllocError>
     requires { IsEncodable item.now }
     ensures ok { OnOk result (dst.new.items ≡ dst.old.items ++ reply_bytes item.now) }

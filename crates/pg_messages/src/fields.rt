@@ -2,7 +2,7 @@
 
 ghost use Rattle.std.specs.Prelude.{◌≡◌, ◌<◌, ◌==◌, ℕ, List, Option, IfSome, length, position};
 ghost use Rattle.std.specs.Int.{w16, w32};
-ghost use Rattle.pg_messages.specs.Reading.{Gives, whole, count_at, items_at, list_at};
+ghost use Rattle.pg_messages.specs.Reading.{Gives, whole, string_at, count_at, items_at, list_at};
 
 use crate::codec::FrameError;
 use crate::values::{PgBytes, PgList, PgStr};
@@ -92,17 +92,14 @@ impl Field for PgStr {
 
     ghost field_at = { string_at };
 
-    #[tactic(auto, using(crate::proofs::Utf8::utf8_tests), unfolding(crate::specs::Reading::string_at))]
+    // Most names are empty, which takes no search, no test and no memory.
+    #[inline(always)]
+    #[tactic(auto, unfolding(crate::specs::Reading::string_at))]
     fn read(alloc: Global, bytes: &[u8]) -> Result<(PgStr, &[u8]), FrameError> {
-        let Some(end) = first_zero(bytes) else {
-            return Err(FrameError::Bad);
-        };
-        let Ok(text) = str::from_utf8(&bytes[..end]) else {
-            return Err(FrameError::Bad);
-        };
-        let text = PgStr::copy_of(alloc, text)?;
-        let (_, rest) = bytes.split_at(end + 1);
-        Ok((text, rest))
+        match bytes {
+            [byte, rest @ ..] if *byte == 0 => Ok((PgStr::from_string(String::new(alloc)), rest)),
+            _ => text(alloc, bytes),
+        }
     }
 }
 
@@ -132,6 +129,23 @@ impl Field for (PgStr, PgStr) {
         let (second, rest) = PgStr::read(alloc, rest)?;
         Ok(((first, second), rest))
     }
+}
+
+// A text up to its zero byte.
+#[inline(never)]
+#[tactic(auto, using(crate::proofs::Utf8::utf8_tests), unfolding(crate::specs::Reading::string_at))]
+fn text(alloc: Global, bytes: &[u8]) -> Result<(PgStr, &[u8]), FrameError>
+    ensures { Gives (λ x. (x.0, x.1.now)) result (string_at bytes.now) }
+{
+    let Some(end) = first_zero(bytes) else {
+        return Err(FrameError::Bad);
+    };
+    let Ok(text) = str::from_utf8(&bytes[..end]) else {
+        return Err(FrameError::Bad);
+    };
+    let text = PgStr::copy_of(alloc, text)?;
+    let (_, rest) = bytes.split_at(end + 1);
+    Ok((text, rest))
 }
 
 fn first_zero(bytes: &[u8]) -> Option<usize>

@@ -50,5 +50,16 @@ pub fn typed_len(bytes: &[u8]) -> Result<Option<usize>, FrameError>
 fn is_type(byte: u8) -> bool
     ensures { IsTrue result ↔ Contains type_bytes byte }
 {
-    b"QPBDECHSXdcf".contains(&byte)
+    (b'Q' == byte)
+        | (b'P' == byte)
+        | (b'B' == byte)
+        | (b'D' == byte)
+        | (b'E' == byte)
+        | (b'C' == byte)
+        | (b'H' == byte)
+        | (b'S' == byte)
+        | (b'X' == byte)
+        | (b'd' == byte)
+        | (b'c' == byte)
+        | (b'f' == byte)
 }

@@ -2,10 +2,11 @@
 
 ghost use Rattle.std.specs.Prelude.{◌≡◌, ◌≤◌, ◌<◌, ◌++◌, [], length, take, drop, IfOk, OnOk, OnErr, IfSome, IfNone, OnSome};
 ghost use Rattle.pg_messages.specs.Replies.{IsEncodable, reply_bytes};
+ghost use Rattle.pg_messages.specs.declared.backend.PgWireBackendMessage.TheVariants as server;
 
 use crate::chunk::{CHUNK, MOST_CHUNKS, chunk_of, next_chunk, reply_len, settle};
 use bytes::BytesMut;
-use pg_messages::{PgWireBackendMessage, PgWireMessageServerCodec};
+use pg_messages::{DataRow, PgWireBackendMessage, PgWireMessageServerCodec, put_row};
 use std::alloc::{AllocError, Global};
 use std::collections::VecDeque;
 use std::marker::Model;
@@ -60,6 +61,20 @@ impl Outbox {
             return codec.encode(message, &mut self.last);
         }
         self.spill(message)
+    }
+
+    /// Appends the bytes of a DataRow, as `push` does of the reply with that row. After an error
+    /// the outbox is as it was.
+    #[inline(always)]
+    pub fn push_row(&mut self, row: &DataRow) -> Result<(), AllocError>
+        requires { IsEncodable (server.DataRow row.now) }
+        ensures ok { OnOk result (self.new ≡ self.old ++ reply_bytes (server.DataRow row.now)) }
+        ensures err { OnErr result (self.new ≡ self.old) }
+    {
+        if row.payload.len() as u64 + 7 <= (CHUNK - self.last.len()) as u64 {
+            return put_row(row, &mut self.last);
+        }
+        self.spill_row(row)
     }
 
     /// How many bytes wait.
@@ -134,8 +149,29 @@ impl Outbox {
         let mut reply = BytesMut::new(self.alloc);
         let mut codec = PgWireMessageServerCodec::new();
         codec.encode(message, &mut reply)?;
+        self.append_all(reply.as_slice())
+    }
+
+    // Appends a row that reaches behind the end of the chunk.
+    #[cold]
+    #[inline(never)]
+    fn spill_row(&mut self, row: &DataRow) -> Result<(), AllocError>
+        requires { IsEncodable (server.DataRow row.now) }
+        ensures ok { OnOk result (self.new ≡ self.old ++ reply_bytes (server.DataRow row.now)) }
+        ensures err { OnErr result (self.new ≡ self.old) }
+    {
+        let mut reply = BytesMut::new(self.alloc);
+        put_row(row, &mut reply)?;
+        self.append_all(reply.as_slice())
+    }
+
+    // Appends bytes; after an error the outbox is as it was.
+    fn append_all(&mut self, bytes: &[u8]) -> Result<(), AllocError>
+        ensures ok { OnOk result (self.new ≡ self.old ++ bytes.now) }
+        ensures err { OnErr result (self.new ≡ self.old) }
+    {
         let len = self.len();
-        let appended = self.append(reply.as_slice());
+        let appended = self.append(bytes);
         if appended.is_err() {
             self.truncate(len);
         }

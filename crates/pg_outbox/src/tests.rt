@@ -2,9 +2,10 @@
 // the ends of chunks.
 ghost use Rattle.std.specs.Prelude.{◌≤◌, IfOk};
 ghost use Rattle.pg_messages.specs.Replies.{IsEncodable};
+ghost use Rattle.pg_messages.specs.declared.backend.PgWireBackendMessage.TheVariants as server;
 
 use super::*;
-use pg_messages::{CopyData, PgBytes, PgWireBackendMessage};
+use pg_messages::{CopyData, DataRow, PgBytes, PgWireBackendMessage};
 use std::alloc::{AllocError, Global};
 use std::test::*;
 
@@ -18,6 +19,19 @@ fn copied(alloc: Global, len: usize) -> Result<PgWireBackendMessage, AllocError>
     Ok(PgWireBackendMessage::CopyData(CopyData {
         payload: PgBytes::from_vec(bytes),
     }))
+}
+
+// A row of one column, whose cells have so many bytes.
+fn row(alloc: Global, len: usize) -> Result<DataRow, AllocError>
+    requires { len ≤ 200000 }
+    ensures { IfOk result (λ row. IsEncodable (server.DataRow row)) }
+{
+    let mut bytes = Vec::new(alloc);
+    bytes.resize(len, 7)?;
+    Ok(DataRow {
+        payload: PgBytes::from_vec(bytes),
+        field_count: 1,
+    })
 }
 
 // Takes the first chunk, and tells how long it was.
@@ -76,5 +90,17 @@ fn what_is_released_is_no_byte(rt: HostRuntime) -> Result<(), Fail> {
     assert_eq!(rt; taken(&mut outbox), 65536);
     outbox.release();
     assert_eq!(rt; taken(&mut outbox), 5);
+    Ok(())
+}
+
+#[test]
+fn a_row_in_a_chunk_and_over_its_end(rt: HostRuntime) -> Result<(), Fail> {
+    let mut outbox = Outbox::new(rt.alloc())?;
+    outbox.push_row(&row(rt.alloc(), 20)?)?;
+    assert_eq!(rt; outbox.len(), 27);
+    outbox.push_row(&row(rt.alloc(), 100000)?)?;
+    assert_eq!(rt; taken(&mut outbox), 65536);
+    assert_eq!(rt; taken(&mut outbox), 34498);
+    assert_eq!(rt; taken(&mut outbox), 0);
     Ok(())
 }
