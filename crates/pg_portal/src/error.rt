@@ -172,8 +172,8 @@ fn index_out_of_bound(alloc: Global, index: usize) -> Result<ErrorInfo, AllocErr
     )
 }
 
-/// An error of severity ERROR: its message is a text between two others.
-fn error_of_parts(
+/// An error of severity ERROR with a code: its message is a text between two others.
+pub fn error_of_parts(
     alloc: Global,
     code: &str,
     before: &str,

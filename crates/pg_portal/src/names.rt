@@ -1,6 +1,6 @@
 //! Entries under names.
 
-ghost use Rattle.std.specs.Prelude.{◌≡◌, OnOk, OnErr, OnSome};
+ghost use Rattle.std.specs.Prelude.{◌≡◌, ◌==◌, false, length, OnOk, OnErr, OnSome};
 ghost use Rattle.std.specs.Option.{option_copied, option_copied_mut};
 ghost use Rattle.std.specs.Borrow.{LendsSo, sem};
 ghost use Rattle.pg_portal.specs.contracts.names.Named.{the_row};
@@ -56,6 +56,7 @@ impl<T> Named<T> {
 
     /// Puts an entry under a name, in the place of one that is there. After an error nothing has
     /// changed.
+    #[inline(always)]
     pub fn put(&mut self, name: PgStr, entry: T) -> Result<(), AllocError>
     where
         T: Drop,
@@ -64,13 +65,28 @@ impl<T> Named<T> {
     {
         if name.as_str().is_empty() {
             self.unnamed = Some(entry);
+            Ok(())
         } else {
-            self.others.insert(name.into_string(), entry)?;
+            self.put_named(name, entry)
         }
+    }
+
+    // Puts an entry under a name that isn't empty, apart from what most calls do.
+    #[cold]
+    #[inline(never)]
+    fn put_named(&mut self, name: PgStr, entry: T) -> Result<(), AllocError>
+    where
+        T: Drop,
+        requires { (length name == 0) ≡ false }
+        ensures ok { OnOk result (self.new ≡ map.insert self.old name entry) }
+        ensures err { OnErr result (self.new ≡ self.old) }
+    {
+        self.others.insert(name.into_string(), entry)?;
         Ok(())
     }
 
     /// Removes the entry under a name, if there is one.
+    #[inline(always)]
     pub fn remove(&mut self, name: &str)
     where
         T: Drop,
@@ -79,8 +95,20 @@ impl<T> Named<T> {
         if name.is_empty() {
             self.unnamed = None;
         } else {
-            self.others.remove(name);
+            self.remove_named(name);
         }
+    }
+
+    // Removes the entry under a name that isn't empty, apart from what most calls do.
+    #[cold]
+    #[inline(never)]
+    fn remove_named(&mut self, name: &str)
+    where
+        T: Drop,
+        requires { (length name.now == 0) ≡ false }
+        ensures { self.new ≡ map.remove self.old name.now }
+    {
+        self.others.remove(name);
     }
 
     /// Removes all entries. No memory is taken.

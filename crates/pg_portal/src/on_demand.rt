@@ -1,7 +1,6 @@
 //! Rows, and data of a COPY, that are made at their turn.
 
-ghost use Rattle.std.specs.Prelude.{◌≡◌, ◌<◌, ◌+◌, ◌^◌, List, Some, IfOk, IfSome, OnErr, length, drop, slice_get};
-ghost use Rattle.std.specs.Result.{result_map_both};
+ghost use Rattle.std.specs.Prelude.{◌≡◌, ◌<◌, List, Some, IfOk, IfSome, length, drop, slice_get};
 ghost use Rattle.pg_portal.specs.Making.{position_after};
 ghost use Rattle.pg_portal.specs.Copying.{CopyItem, IsNextCopy, IsSendableCopy};
 ghost use Rattle.pg_portal.specs.Rows.{RowItem, IsNext, IsSendable};
@@ -83,8 +82,18 @@ impl<M: RowMaker> RowSource for OnDemand<M> {
         ensures maker { self.new.maker ≡ self.old.maker }
     {
         if self.position < self.maker.rows() {
-            let made = self.maker.make(self.position);
-            given(&mut self.position, made)
+            // A row is moved alone, without the room that an error in its place would take.
+            match self.maker.make(self.position) {
+                Ok(Ok(row)) => {
+                    self.position += 1;
+                    Ok(Some(Ok(row)))
+                }
+                Ok(Err(error)) => {
+                    self.position += 1;
+                    Ok(Some(Err(error)))
+                }
+                Err(error) => Err(error),
+            }
         } else {
             Ok(None)
         }
@@ -104,22 +113,19 @@ impl<M: CopyMaker> CopySource for OnDemand<M> {
         ensures maker { self.new.maker ≡ self.old.maker }
     {
         if self.position < self.maker.data_len() {
-            let made = self.maker.make_data(self.position);
-            given(&mut self.position, made)
+            match self.maker.make_data(self.position) {
+                Ok(Ok(copied)) => {
+                    self.position += 1;
+                    Ok(Some(Ok(copied)))
+                }
+                Ok(Err(error)) => {
+                    self.position += 1;
+                    Ok(Some(Err(error)))
+                }
+                Err(error) => Err(error),
+            }
         } else {
             Ok(None)
         }
     }
-}
-
-/// Gives what was made at a position, which moves on by one. Where nothing could be made it stays.
-#[inline(always)]
-fn given<T>(position: &mut usize, made: Result<T, AllocError>) -> Result<Option<T>, AllocError>
-    requires { position.old + 1 < 2 ^ 64 }
-    ensures given { result ≡ result_map_both Some (λ e. e) made }
-    ensures position { position.new ≡ position_after position.old result }
-{
-    let item = made?;
-    *position += 1;
-    Ok(Some(item))
 }

@@ -100,15 +100,16 @@ pub fn deliver_page<R: RowSource, T: RowReceiver>(
 {
     let mut count = 0;
     while !is_reached(max_rows, count) {
-        match rows.next()? {
-            None => {
+        match rows.next() {
+            Ok(Some(Ok(row))) => receiver.receive(row)?,
+            Ok(Some(Err(error))) => return Err(error),
+            Ok(None) => {
                 return Ok(DeliveredPage {
                     suspended: false,
                     delivered: delivered_after(delivered, count),
                 });
             }
-            Some(Err(error)) => return Err(error),
-            Some(Ok(row)) => receiver.receive(row)?,
+            Err(_) => return Err(PgWireError::NoMemory),
         }
         // No list is so long that the count stands still; a receiver that counts rows alone may see
         // it.

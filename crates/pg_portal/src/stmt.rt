@@ -221,8 +221,9 @@ pub fn is_blank(query: &str) -> bool
     query.as_bytes().iter().all(|byte| is_padding(*byte))
 }
 
-/// Whether a byte counts for nothing round a query.
-fn is_padding(byte: u8) -> bool
+/// Whether a byte counts for nothing round a query: whitespace, which is the bytes 09 to 0D and 20,
+/// or a semicolon.
+pub fn is_padding(byte: u8) -> bool
     ensures { result ≡ is_padding byte }
 {
     matches!(byte, 9..=13 | b' ' | b';')

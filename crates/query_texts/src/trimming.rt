@@ -2,8 +2,9 @@
 
 ghost use Rattle.std.specs.Prelude.{◌≡◌, take, drop};
 ghost use Rattle.std.specs.Str.{IsCharBoundary};
-ghost use Rattle.pg_portal.specs.Texts.{is_padding};
 ghost use Rattle.query_texts.specs.QueryTexts.{without_front_padding, without_end_padding, trimmed};
+
+use pg_portal::is_padding;
 
 /// The query without the whitespace and semicolons at both ends.
 pub fn trimmed(query: &str) -> &str
@@ -11,13 +12,6 @@ pub fn trimmed(query: &str) -> &str
 {
     let rest = &query[front_padding(query)..];
     &rest[..end_padding(rest)]
-}
-
-/// Whether a byte is whitespace or a semicolon.
-fn is_padding(byte: u8) -> bool
-    ensures { result ≡ is_padding byte }
-{
-    (9 <= byte && byte <= 13) || byte == b' ' || byte == b';'
 }
 
 /// The number of bytes of padding at the front.

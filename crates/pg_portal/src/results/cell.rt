@@ -1,5 +1,5 @@
-//! Cells as they are written: in a row behind their lengths (protocol: Message Formats, DataRow), in
-//! a line of a COPY behind tabs (protocol: COPY Operations).
+//! Cells as they are written: in a row behind their lengths (protocol: Message Formats, DataRow),
+//! in a line of a COPY behind tabs (protocol: COPY Operations).
 
 ghost use Rattle.std.specs.Prelude.{◌≡◌, ◌≤◌, ◌+◌, ◌++◌, OnOk, OnErr, IfErr, Some, length};
 ghost use Rattle.pg_text.specs.Cells.{AtCell, IsShort};
@@ -31,6 +31,19 @@ pub fn push_cell(payload: &mut Vec<u8>, bytes: &[u8]) -> Result<(), AllocError>
 {
     payload.extend_from_slice(&frame(Some(bytes.len() as u32)))?;
     payload.extend_from_slice(bytes)
+}
+
+/// Appends the cell of sixteen bytes to a row's, at once with its length.
+#[inline(always)]
+pub fn push_cell_of_sixteen(payload: &mut Vec<u8>, bytes: [u8; 16]) -> Result<(), AllocError>
+    ensures pushed { OnOk result (payload.new.items
+        ≡ payload.old.items ++ cell_bytes (Some bytes)) }
+    ensures len { OnOk result (length payload.new.items ≡ length payload.old.items + 20) }
+{
+    let mut cell = [0; 20];
+    cell[..4].copy_from_slice(&frame(Some(16)));
+    cell[4..].copy_from_slice(&bytes);
+    payload.extend_from_slice(&cell)
 }
 
 /// Appends the cell of this text to those of a line, whose cells so far are as many as its index

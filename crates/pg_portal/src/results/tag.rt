@@ -21,7 +21,7 @@ impl Tag {
         ensures { IfOk result (λ tag. tag ≡ tag_of command.now) }
     {
         Ok(Tag {
-            command: PgStr::copy_of(alloc, command)?,
+            command: with_room(alloc, command)?,
             oid: None,
             rows: None,
         })
@@ -47,7 +47,7 @@ impl Tag {
 
     /// The reply with the tag's text: `command oid rows` with both numbers, `command rows` with
     /// rows alone, else `command`.
-    pub fn into_command_complete(self, alloc: Global) -> Result<CommandComplete, AllocError>
+    pub fn into_command_complete(self, _alloc: Global) -> Result<CommandComplete, AllocError>
         ensures { IfOk result (λ reply. reply.tag ≡ tag_text self) }
     {
         let Tag { command, oid, rows } = self;
@@ -59,7 +59,7 @@ impl Tag {
             push_number(&mut text, rows as u64)?;
         }
         Ok(CommandComplete {
-            tag: PgStr::copy_of(alloc, text.as_str())?,
+            tag: PgStr::from_string(text),
         })
     }
 
@@ -68,11 +68,21 @@ impl Tag {
         ensures { IfOk result (λ copy. copy ≡ self.now) }
     {
         Ok(Tag {
-            command: PgStr::copy_of(alloc, self.command.as_str())?,
+            command: with_room(alloc, self.command.as_str())?,
             oid: self.oid,
             rows: self.rows,
         })
     }
+}
+
+/// A copy of a command's name, with room behind it for what both numbers take: a space and at most
+/// ten digits, a space and at most twenty.
+fn with_room(alloc: Global, command: &str) -> Result<PgStr, AllocError>
+    ensures { IfOk result (λ copy. copy ≡ command.now) }
+{
+    let mut text = String::with_capacity(alloc, command.len().saturating_add(32))?;
+    text.push_str(command)?;
+    Ok(PgStr::from_string(text))
 }
 
 /// Appends a space and a number.

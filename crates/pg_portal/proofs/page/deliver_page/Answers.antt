@@ -4,60 +4,60 @@ use Rattle.std.proofs.lemmas.Result.{err_from_is_err_and}
 use Rattle.pg_portal.proofs.Delivering.{ended_at_limit, ended_at_end, cut_at_error, cut_behind}
 use Rattle.pg_portal.proofs.page.deliver_page.Goals as goal
 
-pub returns-in-None-clause-ended : goal.returns-in-None-clause-ended
-returns-in-None-clause-ended g c =
+pub returns-in-Ok-None-clause-ended : goal.returns-in-Ok-None-clause-ended
+returns-in-Ok-None-clause-ended g c =
     let fits = c.ranges.max_rows in
     let l = simp to_z-of_z at c.loop-rows.invariant in
     (ended_at_end g.T.RowReceiver.with_rows g.met.T.RowReceiver.none g.met.T.RowReceiver.more
     c.args.max_rows fits (g.R.RowSource.items c.args.rows.now) c.args.receiver.now
     _ _ _ l _ _ c.is_reached.ensures c.loop-rows-test.true refl (g.R.RowSource.items c.next.new.self)
-    (let taken = c.in_ok-next.ensures.next in search rules) c.args.delivered _ c.delivered_after.ensures).ended
+    (let taken = rw c.in-Ok-None.field-0-is at c.in-Ok-None.ensures.next in search rules) c.args.delivered _ c.delivered_after.ensures).ended
 
-pub returns-in-None-clause-delivered : goal.returns-in-None-clause-delivered
-returns-in-None-clause-delivered g c =
+pub returns-in-Ok-None-clause-delivered : goal.returns-in-Ok-None-clause-delivered
+returns-in-Ok-None-clause-delivered g c =
     let fits = c.ranges.max_rows in
     let l = simp to_z-of_z at c.loop-rows.invariant in
     (ended_at_end g.T.RowReceiver.with_rows g.met.T.RowReceiver.none g.met.T.RowReceiver.more
     c.args.max_rows fits (g.R.RowSource.items c.args.rows.now) c.args.receiver.now
     _ _ _ l _ _ c.is_reached.ensures c.loop-rows-test.true refl (g.R.RowSource.items c.next.new.self)
-    (let taken = c.in_ok-next.ensures.next in search rules) c.args.delivered _ c.delivered_after.ensures).delivered
+    (let taken = rw c.in-Ok-None.field-0-is at c.in-Ok-None.ensures.next in search rules) c.args.delivered _ c.delivered_after.ensures).delivered
 
-pub returns-in-None-clause-received : goal.returns-in-None-clause-received
-returns-in-None-clause-received g c =
+pub returns-in-Ok-None-clause-received : goal.returns-in-Ok-None-clause-received
+returns-in-Ok-None-clause-received g c =
     let fits = c.ranges.max_rows in
     let l = simp to_z-of_z at c.loop-rows.invariant in
     (ended_at_end g.T.RowReceiver.with_rows g.met.T.RowReceiver.none g.met.T.RowReceiver.more
     c.args.max_rows fits (g.R.RowSource.items c.args.rows.now) c.args.receiver.now
     _ _ _ l _ _ c.is_reached.ensures c.loop-rows-test.true refl (g.R.RowSource.items c.next.new.self)
-    (let taken = c.in_ok-next.ensures.next in search rules) c.args.delivered _ c.delivered_after.ensures).received
+    (let taken = rw c.in-Ok-None.field-0-is at c.in-Ok-None.ensures.next in search rules) c.args.delivered _ c.delivered_after.ensures).received
 
-pub returns-in-None-clause-taken : goal.returns-in-None-clause-taken
-returns-in-None-clause-taken g c =
+pub returns-in-Ok-None-clause-taken : goal.returns-in-Ok-None-clause-taken
+returns-in-Ok-None-clause-taken g c =
     let fits = c.ranges.max_rows in
     let l = simp to_z-of_z at c.loop-rows.invariant in
     (ended_at_end g.T.RowReceiver.with_rows g.met.T.RowReceiver.none g.met.T.RowReceiver.more
     c.args.max_rows fits (g.R.RowSource.items c.args.rows.now) c.args.receiver.now
     _ _ _ l _ _ c.is_reached.ensures c.loop-rows-test.true refl (g.R.RowSource.items c.next.new.self)
-    (let taken = c.in_ok-next.ensures.next in search rules) c.args.delivered _ c.delivered_after.ensures).taken
+    (let taken = rw c.in-Ok-None.field-0-is at c.in-Ok-None.ensures.next in search rules) c.args.delivered _ c.delivered_after.ensures).taken
 
-pub returns-in-Some-Err-clause-cut_short : goal.returns-in-Some-Err-clause-cut_short
-returns-in-Some-Err-clause-cut_short g c =
+pub returns-in-Ok-Some-Err-clause-cut_short : goal.returns-in-Ok-Some-Err-clause-cut_short
+returns-in-Ok-Some-Err-clause-cut_short g c =
     let fits = c.ranges.max_rows in
     let l = simp to_z-of_z at c.loop-rows.invariant in
     cut_at_error g.T.RowReceiver.with_rows g.met.T.RowReceiver.none g.met.T.RowReceiver.more
     c.args.max_rows fits (g.R.RowSource.items c.args.rows.now) c.args.receiver.now
-    _ _ _ l _ _ c.is_reached.ensures c.loop-rows-test.true refl c.in-Some-Err.error (g.R.RowSource.items c.next.new.self)
-    (let taken = c.in_ok-next.ensures.next in search rules)
+    _ _ _ l _ _ c.is_reached.ensures c.loop-rows-test.true refl c.in-Ok-Some-Err.error (g.R.RowSource.items c.next.new.self)
+    (let taken = rw (c.in-Ok-Some-Err.field-0-is, c.in-Ok-Some-Err.field-0-0-is) at c.in-Ok-Some-Err.ensures.next in search rules)
 
-pub returns-in_err-receive-in-Some-Ok-clause-cut_short : goal.returns-in_err-receive-in-Some-Ok-clause-cut_short
-returns-in_err-receive-in-Some-Ok-clause-cut_short g c =
+pub returns-in_err-receive-in-Ok-Some-Ok-clause-cut_short : goal.returns-in_err-receive-in-Ok-Some-Ok-clause-cut_short
+returns-in_err-receive-in-Ok-Some-Ok-clause-cut_short g c =
     let fits = c.ranges.max_rows in
     let l = simp to_z-of_z at c.loop-rows.invariant in
-    let p = err_from_is_err_and c.from_residual-in_err-receive-in-Some-Ok.result c.from_residual-in_err-receive-in-Some-Ok.ensures.1 in
+    let p = err_from_is_err_and c.from_residual.result c.from_residual.ensures.1 in
     rw p.1 (cut_behind g.T.RowReceiver.with_rows g.met.T.RowReceiver.none g.met.T.RowReceiver.more
     c.args.max_rows fits (g.R.RowSource.items c.args.rows.now) c.args.receiver.now
-    _ _ _ l p.0 c.in-Some-Ok.row (g.R.RowSource.items c.next.new.self) c.receive.new.self p.2
-    (let taken = c.in_ok-next.ensures.next in search rules) c.in_err-receive-in-Some-Ok.ensures.err)
+    _ _ _ l p.0 c.in-Ok-Some-Ok.row (g.R.RowSource.items c.next.new.self) c.receive.new.self p.2
+    (let taken = rw (c.in-Ok-Some-Ok.field-0-is, c.in-Ok-Some-Ok.field-0-0-is) at c.in-Ok-Some-Ok.ensures.next in search rules) c.in_err-receive-in-Ok-Some-Ok.ensures.err)
 
 pub returns-clause-ended : goal.returns-clause-ended
 returns-clause-ended g c =

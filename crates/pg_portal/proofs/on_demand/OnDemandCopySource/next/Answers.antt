@@ -1,8 +1,13 @@
-use Rattle.pg_portal.proofs.Taking.{next_data}
+use Rattle.std.proofs.Common.{Ok, Err}
+use Rattle.pg_portal.proofs.Taking.{taken}
 use Rattle.pg_portal.proofs.on_demand.OnDemandCopySource.next.Goals as goal
 
-pub returns-then-self-data_len-clause-next : goal.returns-then-self-data_len-clause-next
-returns-then-self-data_len-clause-next g c =
-    next_data (g.M.CopyMaker.items c.args.self.now.maker) c.args.self.now.position c.given.new.position c.make_data-made.result
-    c.given.result
-    c.make_data-made.ensures.item c.given.ensures.given c.given.ensures.position
+pub returns-in-Ok-Ok-clause-next : goal.returns-in-Ok-Ok-clause-next
+returns-in-Ok-Ok-clause-next g c =
+    let item = rw c.in-Ok-Ok.field-0-is at c.in-Ok-Ok.ensures.item in
+    taken (g.M.CopyMaker.items c.args.self.now.maker) c.args.self.now.position (Ok c.in-Ok-Ok.copied) item
+
+pub returns-in-Ok-Err-clause-next : goal.returns-in-Ok-Err-clause-next
+returns-in-Ok-Err-clause-next g c =
+    let item = rw c.in-Ok-Err.field-0-is at c.in-Ok-Err.ensures.item in
+    taken (g.M.CopyMaker.items c.args.self.now.maker) c.args.self.now.position (Err c.in-Ok-Err.error) item

@@ -1,7 +1,13 @@
-use Rattle.pg_portal.proofs.Taking.{next_row}
+use Rattle.std.proofs.Common.{Ok, Err}
+use Rattle.pg_portal.proofs.Taking.{taken}
 use Rattle.pg_portal.proofs.on_demand.OnDemandRowSource.next.Goals as goal
 
-pub returns-then-self-rows-clause-next : goal.returns-then-self-rows-clause-next
-returns-then-self-rows-clause-next g c =
-    next_row (g.M.RowMaker.items c.args.self.now.maker) c.args.self.now.position c.given.new.position c.make-made.result c.given.result
-    c.make-made.ensures.item c.given.ensures.given c.given.ensures.position
+pub returns-in-Ok-Ok-clause-next : goal.returns-in-Ok-Ok-clause-next
+returns-in-Ok-Ok-clause-next g c =
+    let item = rw c.in-Ok-Ok.field-0-is at c.in-Ok-Ok.ensures.item in
+    taken (g.M.RowMaker.items c.args.self.now.maker) c.args.self.now.position (Ok c.in-Ok-Ok.row) item
+
+pub returns-in-Ok-Err-clause-next : goal.returns-in-Ok-Err-clause-next
+returns-in-Ok-Err-clause-next g c =
+    let item = rw c.in-Ok-Err.field-0-is at c.in-Ok-Err.ensures.item in
+    taken (g.M.RowMaker.items c.args.self.now.maker) c.args.self.now.position (Err c.in-Ok-Err.error) item
