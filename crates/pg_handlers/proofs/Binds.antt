@@ -1,6 +1,6 @@
 -- Bind of a statement: too few codes are refused, and a portal that is bound is good.
-use Rattle.std.proofs.Common.{◌≡◌, ℕ, ℤ, nat_le, List, [], ◌∷◌, ◌⊎◌, inl, inr, None, Result, Ok, Err, length, sym, ap, subst, arith, append-nil, if◌then◌else◌}
-use Rattle.std.proofs.lemmas.Bool.{le-leb, lt-ltb}
+use Rattle.std.proofs.Common.{◌≡◌, ◌<◌, ℕ, ℤ, Bool, true, false, nat_le, List, [], ◌∷◌, ◌⊎◌, inl, inr, None, Result, Ok, Err, length, refl, sym, ap, subst, arith, append-nil, if◌then◌else◌}
+use Rattle.std.proofs.lemmas.Bool.{le-leb, lt-ltb, le-ltb, leb-true}
 use Rattle.pg_messages.specs.declared.extendedquery.Bind.{Bind}
 use Rattle.pg_portal.specs.declared.error.PgWireError.{PgWireError}
 use Rattle.pg_portal.specs.declared.error.PgWireError.TheVariants as wire
@@ -68,3 +68,22 @@ few_refused parser s m statement there n e out i j (inr few) =
     let told = subst (λ (x : StoredStatement _). IsTooFew (length m.result_column_format_codes)
     (parser.columns x.statement None) e) i first in
     inr (with_columns s m statement (parser.columns statement.statement None) e out (bound_portal s m statement) told)
+
+-- where there are enough codes the row makes a portal
+with_enough : {S : Type 0} (s : State S) (m : Bind) (statement : StoredStatement S) (columns : Result (List Field) PgWireError)
+    (asked : Bool) → nat_le 2 (length m.result_column_format_codes) ≡ asked → HasEnough (length m.result_column_format_codes) columns
+    → (if asked then bound_with_columns s m statement columns else bound_portal s m statement) ≡ bound_portal s m statement
+with_enough s m statement columns false is enough = refl
+with_enough s m statement (Err e) true is enough = absurd (enough (leb-true 2 (length m.result_column_format_codes) is))
+with_enough s m statement (Ok fields) true is enough =
+    rw (le-ltb (length m.result_column_format_codes) (length fields) (enough (leb-true 2 (length m.result_column_format_codes) is))) refl
+
+pub bound_enough : {S : Type 0} (parser : ParserTold S) (s : State S) (m : Bind) (statement : StoredStatement S)
+    → HasEnough (length m.result_column_format_codes) (parser.columns statement.statement None)
+    → bound_statement parser s m statement ≡ bound_portal s m statement
+bound_enough parser s m statement enough =
+    with_enough s m statement (parser.columns statement.statement None) (nat_le 2 (length m.result_column_format_codes)) refl enough
+
+-- none and one code are always enough
+pub few_are_enough : (n : ℕ) (columns : Result (List Field) PgWireError) → n < 2 → HasEnough n columns
+few_are_enough n columns few several = absurd (omega (arith, few, several))

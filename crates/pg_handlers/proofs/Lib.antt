@@ -11,8 +11,11 @@ pub mod ErrorTexts
 pub mod Executes
 pub mod GoodStores
 pub mod Lends
+pub mod PagesSent
 pub mod Parsing
 pub mod Rows
 pub mod Scripts
 pub mod Sent
 pub mod Steady
+pub mod Telling
+pub mod Waits

@@ -35,3 +35,18 @@ parsed_is_good parser there info m None i few outcome given x e = cc
 parsed_is_good parser there info m (Some y) i few outcome given x e =
     let same : y ≡ x = cc in let count = types_told there info m y outcome in
     subst (IsGoodStatement parser) same (record { given = subst (λ p. IsTrue (p.gives y.statement)) i given; types = omega arith })
+
+-- it stands under the name that the message tells
+named_so : {S : Type 0} (m : Parse) (r : Result (Option S) PgWireError) (is_blank : Bool) (x : StoredStatement S)
+    → Ok (Some x) ≡ (if is_blank then Ok None else stored m r) → x.id ≡ m.name
+named_so m r true x e = cc
+named_so m (Ok (Some told)) false x e =
+    let same : x ≡ record { id = m.name; statement = told; parameter_types = map type_of_oid m.type_oids } = cc in ap (λ s. s.id) same
+named_so m (Ok None) false x e = cc
+named_so m (Err told) false x e = cc
+
+pub parsed_named : {S : Type 0} (parser : ParserTold S) (info : ClientInfo) (m : Parse) (found : Option (StoredStatement S))
+    → IsOutcome (prepared parser info m) (Ok found) → IfSome found (λ x. x.id ≡ m.name)
+parsed_named parser info m None outcome = tt
+parsed_named parser info m (Some x) (inl e) = named_so m _ _ x e
+parsed_named parser info m (Some x) (inr e) = cc

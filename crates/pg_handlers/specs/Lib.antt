@@ -12,11 +12,13 @@ pub mod StartupRows
 pub mod ExtendedRows
 pub mod ResponseRows
 pub mod Sending
+pub mod PageEnd
 pub mod ExecuteRow
 pub mod Executing
 pub mod SimpleRows
 pub mod CopyRows
 pub mod Table
+pub mod Telling
 pub mod Good
 pub mod Noop
 pub mod Lawful

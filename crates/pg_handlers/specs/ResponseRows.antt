@@ -58,6 +58,10 @@ is_trailer copied = bytes_eq copied.payload (255 ∷ 255 ∷ [])
 abbrev pub copy_items : ToldCopy → List CopyItem
 copy_items c = if c.trailer_left then c.items ++ Ok trailer ∷ [] else c.items
 
+-- the end of binary data where it is still to come
+abbrev pub trailer_items : Bool → List CopyItem
+trailer_items left = if left then Ok trailer ∷ [] else []
+
 -- empty data is skipped
 abbrev pub not_empty : List CopyData → List CopyData
 not_empty copied = filter (λ d. not (is_empty_list d.payload)) copied

@@ -30,10 +30,10 @@ use crate::ends::{SessionError, Turns};
 use crate::query::QueryState;
 use crate::query::respond::{is_unstarted, respond, send_page};
 use crate::query::run::run_portal;
-use crate::query::send::{send_describe_response, send_ready_for_query};
+use crate::query::send::{push_reply, send_described, send_ready_for_query, send_told};
 use crate::query::statements::{
-    bind_empty, bind_statement, close, execute_no_portal, missing_portal, missing_statement,
-    store_parsed,
+    bind_checked, bind_empty, bind_statement, close, execute_no_portal, missing_portal,
+    missing_statement, name_of, no_statement, parse_by, store_parsed,
 };
 use pg_messages::{
     Bind, Close, CloseComplete, Describe, Execute, Flush, Parse, PgSync, PgWireBackendMessage,
@@ -45,6 +45,7 @@ use pg_portal::{
     RowSource, StoredStatement,
 };
 use std::alloc::{AllocError, Global};
+use std::mem::drop;
 use std::sync::Arc;
 
 /// What a server does for extended queries. What it tells of its queries and descriptions is its
@@ -153,8 +154,9 @@ pub trait ExtendedQueryHandler {
         ensures good { IsGoodState (told self.now).parser (state_of St.maps client.new) }
     {
         let parser = self.query_parser(alloc)?;
-        let found = StoredStatement::parse(alloc, &client.info, &message, &*parser)?;
-        store_parsed(alloc, client, message.name.as_str(), found)?;
+        let found = parse_by(alloc, &client.info, &message, parser)?;
+        let name = name_of(message);
+        store_parsed(alloc, client, name.as_str(), found)?;
         Ok(())
     }
 
@@ -182,14 +184,17 @@ pub trait ExtendedQueryHandler {
         ensures waiting { OnErr result (client.new.outbox ≡ client.old.outbox) }
         ensures good { IsGoodState (told self.now).parser (state_of St.maps client.new) }
     {
-        let parser = self.query_parser(alloc)?;
         match client.store.get_statement(message.statement_name.as_str()) {
             Some(Entry::Value(statement)) => {
                 let statement = statement.clone()?;
-                bind_statement(alloc, client, &*parser, message, statement)
+                if message.result_column_format_codes.len() < 2 {
+                    return bind_statement(alloc, client, message, statement);
+                }
+                let parser = self.query_parser(alloc)?;
+                bind_checked(alloc, client, parser, message, statement)
             }
-            Some(Entry::Empty) => bind_empty(alloc, client, message),
-            None => Err(missing_statement(message.statement_name)),
+            Some(Entry::Empty) => bind_empty(alloc, client, &message),
+            None => Err(no_statement(message)),
         }
     }
 
@@ -290,14 +295,15 @@ pub trait ExtendedQueryHandler {
         let Some(portal) = client.store.portal_mut(message.name.as_str()) else {
             return Ok(execute_no_portal(client, message.name)?);
         };
+        let limit = message.max_rows;
+        drop(message);
         if !is_unstarted(&*portal) {
-            return Ok(send_page(alloc, &mut client.outbox, portal, message.max_rows)?);
+            return Ok(send_page(alloc, &mut client.outbox, portal, limit)?);
         }
         desk.start()?;
-        let mut query = self.do_query(alloc, &client.info, portal, message.max_rows)?;
+        let query = self.do_query(alloc, &client.info, portal, limit)?;
         let outbox = &mut client.outbox;
-        let limit = message.max_rows;
-        match run_portal(alloc, outbox, portal, &mut query, desk, turns, limit)? {
+        match run_portal(alloc, outbox, portal, query, desk, turns, limit)? {
             Some(response) => Ok(respond(alloc, client, response)?),
             None => Ok(()),
         }
@@ -351,30 +357,38 @@ pub trait ExtendedQueryHandler {
         ensures waiting { OnErr result (client.new.outbox ≡ client.old.outbox) }
         ensures good { IsGoodState (told self.now).parser (state_of St.maps client.new) }
     {
+        let name = message.name;
         match message.target_type {
-            TARGET_TYPE_BYTE_STATEMENT => match client.store.get_statement(message.name.as_str()) {
+            TARGET_TYPE_BYTE_STATEMENT => match client.store.get_statement(name.as_str()) {
                 Some(Entry::Value(statement)) => {
-                    let told = self.do_describe_statement(alloc, &client.info, &*statement)?;
-                    Ok(send_describe_response(alloc, &mut client.outbox, &told)?)
+                    drop(name);
+                    let told = self.do_describe_statement(alloc, &client.info, &*statement);
+                    send_told(alloc, &mut client.outbox, told)
                 }
                 Some(Entry::Empty) => {
+                    drop(name);
                     let told = DescribeStatementResponse::no_data(alloc);
-                    Ok(send_describe_response(alloc, &mut client.outbox, &told)?)
+                    Ok(send_described(alloc, &mut client.outbox, told)?)
                 }
-                None => Err(missing_statement(message.name)),
+                None => Err(missing_statement(name)),
             },
-            TARGET_TYPE_BYTE_PORTAL => match client.store.get_portal(message.name.as_str()) {
+            TARGET_TYPE_BYTE_PORTAL => match client.store.get_portal(name.as_str()) {
                 Some(Entry::Value(portal)) => {
-                    let told = self.do_describe_portal(alloc, &client.info, portal)?;
-                    Ok(send_describe_response(alloc, &mut client.outbox, &told)?)
+                    drop(name);
+                    let told = self.do_describe_portal(alloc, &client.info, portal);
+                    send_told(alloc, &mut client.outbox, told)
                 }
                 Some(Entry::Empty) => {
+                    drop(name);
                     let told = DescribePortalResponse::no_data(alloc);
-                    Ok(send_describe_response(alloc, &mut client.outbox, &told)?)
+                    Ok(send_described(alloc, &mut client.outbox, told)?)
                 }
-                None => Err(missing_portal(message.name)),
+                None => Err(missing_portal(name)),
             },
-            byte => Err(PgWireError::InvalidTargetType(byte)),
+            byte => {
+                drop(name);
+                Err(PgWireError::InvalidTargetType(byte))
+            }
         }
     }
 
@@ -445,9 +459,10 @@ pub trait ExtendedQueryHandler {
         ensures waiting { OnErr result (client.new.outbox ≡ client.old.outbox) }
         ensures good { IsGoodState (told self.now).parser (state_of St.maps client.new) }
     {
-        client
-            .outbox
-            .push(&PgWireBackendMessage::CloseComplete(CloseComplete {}))?;
+        push_reply(
+            &mut client.outbox,
+            PgWireBackendMessage::CloseComplete(CloseComplete {}),
+        )?;
         close(&mut client.store, message);
         Ok(())
     }

@@ -45,7 +45,7 @@ pub trait QueryState: Drop {
 /// Waits for a query: each poll that finds it unready spends a turn, and the desk is then asked
 /// whether the query was canceled. Where it was, the error is QueryCanceled. TurnLimit comes where
 /// no turn is left and one more was met.
-pub(crate) fn wait<Q: QueryState, D: CancelDesk>(
+fn wait<Q: QueryState, D: CancelDesk>(
     query: &mut Q,
     desk: &mut D,
     turns: &mut Turns,
@@ -72,4 +72,24 @@ pub(crate) fn wait<Q: QueryState, D: CancelDesk>(
             return Err(SessionError::Wire(PgWireError::QueryCanceled));
         }
     }
+}
+
+/// Waits for a query as `wait`, and lets it go.
+pub(crate) fn wait_for<Q: QueryState, D: CancelDesk>(
+    query: Q,
+    desk: &mut D,
+    turns: &mut Turns,
+) -> Result<Q::Out, SessionError>
+    requires { (Q.told query).is_spent ≡ false }
+    ensures asked { (verdict : Verdict)
+        × IsAsked (Q.told query).owes (D.told desk.old).calls (D.told desk.new).calls verdict
+        × IsVerdict (Q.told query).outcome verdict result }
+    ensures caused { IfErr result (IsCausedSo (D.told desk.old).calls (D.told desk.new).calls) }
+    ensures turns { HasSpent turns.old turns.new
+        (questions_since (D.told desk.old).calls (D.told desk.new).calls) result }
+    ensures bounded { turns.old.spent ≤ turns.old.limit → turns.new.spent ≤ turns.new.limit }
+    ensures keeps { KeepsDesk (D.told desk.old) (D.told desk.new) }
+{
+    let mut query = query;
+    wait(&mut query, desk, turns)
 }

@@ -22,7 +22,7 @@ ghost use Rattle.pg_handlers.specs.State.{state_of};
 
 use crate::client::Client;
 use crate::query::send::{
-    send_copy_both_response, send_copy_in_response, send_copy_out_response, send_done,
+    push_reply, send_copy_both_response, send_copy_in, send_copy_out_response, send_done,
     send_execution_response, send_next_page, send_query_response,
 };
 use pg_messages::{
@@ -61,7 +61,10 @@ pub(crate) fn send_empty_query_response(outbox: &mut Outbox) -> Result<(), Alloc
         ++ replies_bytes (server.EmptyQueryResponse (record {}) ∷ [])) }
     ensures err { OnErr result (outbox.new ≡ outbox.old) }
 {
-    outbox.push(&PgWireBackendMessage::EmptyQueryResponse(EmptyQueryResponse {}))
+    push_reply(
+        outbox,
+        PgWireBackendMessage::EmptyQueryResponse(EmptyQueryResponse {}),
+    )
 }
 
 /// Appends ErrorResponse.
@@ -70,7 +73,10 @@ pub(crate) fn send_error(outbox: &mut Outbox, info: ErrorInfo) -> Result<(), All
     ensures ok { OnOk result (outbox.new ≡ outbox.old ++ replies_bytes (error_reply info ∷ [])) }
     ensures err { OnErr result (outbox.new ≡ outbox.old) }
 {
-    outbox.push(&PgWireBackendMessage::ErrorResponse(ErrorResponse { info }))
+    push_reply(
+        outbox,
+        PgWireBackendMessage::ErrorResponse(ErrorResponse { info }),
+    )
 }
 
 /// Appends what a response sends where the transaction status is this, and answers what it left. An
@@ -89,39 +95,55 @@ pub(crate) fn send_response<R: RowSource, C: CopySource>(
     ensures answerable { IfErr result IsAnswerableItem }
     ensures kept { take (length outbox.old) outbox.new ≡ outbox.old }
 {
+    let left = left_by(status, &response);
+    send_replies(alloc, outbox, response)?;
+    Ok(left)
+}
+
+/// What a response leaves where the transaction status is this and all of it is sent.
+fn left_by<R: RowSource, C: CopySource>(
+    status: TransactionStatus,
+    response: &Response<R, C>,
+) -> Behind
+    ensures { (responded status (told_response R.items C.items response.now)).refusal ≡ None
+        → result ≡ behind (responded status (told_response R.items C.items response.now)) }
+{
     match response {
-        Response::EmptyQuery => send_empty_query_response(outbox)?,
-        Response::Query(rows) => send_query_response(alloc, outbox, rows, true)?,
-        Response::Execution(tag) => send_execution_response(alloc, outbox, tag)?,
-        Response::TransactionStart(tag) => {
-            send_execution_response(alloc, outbox, tag)?;
-            return Ok(Behind::at(status.to_in_transaction_state()));
-        }
-        Response::TransactionEnd(tag) => {
-            send_execution_response(alloc, outbox, tag)?;
-            return Ok(Behind::at(status.to_idle_state()));
-        }
-        Response::Error(info) => {
-            send_error(outbox, info)?;
-            return Ok(Behind::at(status.to_error_state()));
-        }
-        Response::CopyIn(copy) => {
-            send_copy_in_response(alloc, outbox, &copy)?;
-            return Ok(Behind {
-                status,
-                copying: true,
-            });
-        }
-        Response::CopyOut(copy) => send_copy_out_response(alloc, outbox, copy)?,
-        Response::CopyBoth(copy) => {
-            send_copy_both_response(alloc, outbox, copy)?;
-            return Ok(Behind {
-                status,
-                copying: true,
-            });
-        }
+        Response::TransactionStart(_) => Behind::at(status.to_in_transaction_state()),
+        Response::TransactionEnd(_) => Behind::at(status.to_idle_state()),
+        Response::Error(_) => Behind::at(status.to_error_state()),
+        Response::CopyIn(_) | Response::CopyBoth(_) => Behind {
+            status,
+            copying: true,
+        },
+        Response::EmptyQuery | Response::Query(_) | Response::Execution(_) | Response::CopyOut(_) =>
+            Behind::at(status),
     }
-    Ok(Behind::at(status))
+}
+
+/// Appends what a response sends, whatever the transaction status is.
+fn send_replies<R: RowSource, C: CopySource>(
+    alloc: Global,
+    outbox: &mut Outbox,
+    response: Response<R, C>,
+) -> Result<(), PgWireError>
+    requires { IsSendableResponse (told_response R.items C.items response) }
+    ensures sent { (now : TransactionStatus) → IsAllSent
+        (responded now (told_response R.items C.items response)) outbox.old outbox.new result }
+    ensures answerable { IfErr result IsAnswerableItem }
+    ensures kept { take (length outbox.old) outbox.new ≡ outbox.old }
+{
+    match response {
+        Response::EmptyQuery => Ok(send_empty_query_response(outbox)?),
+        Response::Query(rows) => send_query_response(alloc, outbox, rows, true),
+        Response::Execution(tag)
+        | Response::TransactionStart(tag)
+        | Response::TransactionEnd(tag) => { Ok(send_execution_response(alloc, outbox, tag)?) }
+        Response::Error(info) => Ok(send_error(outbox, info)?),
+        Response::CopyIn(copy) => Ok(send_copy_in(alloc, outbox, copy)?),
+        Response::CopyOut(copy) => send_copy_out_response(alloc, outbox, copy),
+        Response::CopyBoth(copy) => send_copy_both_response(alloc, outbox, copy),
+    }
 }
 
 /// Appends what several responses send, in their order, up to the first error in the place of a row

@@ -13,7 +13,7 @@ ghost use Rattle.pg_handlers.specs.Sending.{IsAnswerableError};
 use crate::desk::CancelDesk;
 use crate::ends::{SessionError, Turns};
 use crate::query::respond::send_page;
-use crate::query::{QueryState, wait};
+use crate::query::{QueryState, wait_for};
 use pg_outbox::Outbox;
 use pg_portal::{CopySource, PgWireError, Portal, Response, RowSource};
 use std::alloc::Global;
@@ -31,19 +31,19 @@ pub(crate) fn run_portal<
     alloc: Global,
     outbox: &mut Outbox,
     portal: &mut Portal<S, R>,
-    query: &mut Q,
+    query: Q,
     desk: &mut D,
     turns: &mut Turns,
     max_rows: i32,
 ) -> Result<Option<Response<R, C>>, SessionError>
-    requires unspent { (Q.told query.old).is_spent ≡ false }
-    requires sendable { IsSendableOutcome (told_one R.items C.items (Q.told query.old).outcome) }
+    requires unspent { (Q.told query).is_spent ≡ false }
+    requires sendable { IsSendableOutcome (told_one R.items C.items (Q.told query).outcome) }
     requires tag { HasGoodTag (stage_of R.items portal.old) }
     ensures ran { (verdict : Verdict)
-        × IsAsked (Q.told query.old).owes (D.told desk.old).calls (D.told desk.new).calls verdict
+        × IsAsked (Q.told query).owes (D.told desk.old).calls (D.told desk.new).calls verdict
         × IsPortalRun (told_response R.items C.items)
         (portal_run max_rows (stage_of R.items portal.old) verdict
-        (told_one R.items C.items (Q.told query.old).outcome))
+        (told_one R.items C.items (Q.told query).outcome))
         (stage_of R.items portal.old) (stage_of R.items portal.new)
         outbox.old outbox.new result }
     ensures without_rows { IfOk result (λ left. IfSome left (λ response.
@@ -60,7 +60,8 @@ pub(crate) fn run_portal<
     ensures bounded { turns.old.spent ≤ turns.old.limit → turns.new.spent ≤ turns.new.limit }
     ensures keeps { KeepsDesk (D.told desk.old) (D.told desk.new) }
 {
-    match wait(query, desk, turns)?? {
+    let response = wait_for(query, desk, turns)??;
+    match response {
         Response::Query(rows) => {
             portal.start(rows);
             send_page(alloc, outbox, portal, max_rows)?;

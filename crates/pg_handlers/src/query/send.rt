@@ -1,7 +1,7 @@
 //! Replies to queries, appended to the outbox.
 
-ghost use Rattle.std.specs.Prelude.{◌≡◌, ◌≤◌, ◌<◌, ◌+◌, ◌^◌, ◌++◌, ◌⊎◌, [], ◌∷◌, Some, None, true, false, length, map, take, Bool, codes, IfOk, IfErr, IfSome, OnOk, OnErr};
-ghost use Rattle.pg_messages.specs.Replies.{IsEncodable, replies_bytes};
+ghost use Rattle.std.specs.Prelude.{◌≡◌, ◌≤◌, ◌<◌, ◌+◌, ◌^◌, ◌++◌, ◌⊎◌, [], ◌∷◌, Some, None, true, false, length, map, take, Bool, List, Ok, codes, IfOk, IfErr, IfSome, OnOk, OnErr};
+ghost use Rattle.pg_messages.specs.Replies.{IsEncodable, reply_bytes, replies_bytes};
 ghost use Rattle.std.specs.Arc.{arc_value};
 ghost use Rattle.std.proofs.Common.{ap, append-nil};
 ghost use Rattle.pg_messages.specs.declared.response.TransactionStatus.{TransactionStatus};
@@ -10,8 +10,8 @@ ghost use Rattle.pg_messages.specs.declared.backend.PgWireBackendMessage.TheVari
 ghost use Rattle.pg_portal.specs.Fields.{description_of};
 ghost use Rattle.pg_portal.specs.Responses.{told_copy};
 ghost use Rattle.pg_portal.specs.Copying.{IsNextCopy, IsSendableCopy};
-ghost use Rattle.pg_portal.specs.Rows.{IsAnswerableItem};
-ghost use Rattle.pg_portal.specs.Page.{delivered_after, item_page, before_error};
+ghost use Rattle.pg_portal.specs.Rows.{IsAnswerable, IsAnswerableItem};
+ghost use Rattle.pg_portal.specs.Page.{CutsPage, EndsPage, delivered_after, item_page, before_error};
 ghost use Rattle.pg_portal.specs.Tags.{spaced, tag_text};
 ghost use Rattle.pg_portal.specs.Fetching.{IsRest};
 ghost use Rattle.pg_portal.specs.Told.{told_rows};
@@ -20,9 +20,11 @@ ghost use Rattle.pg_handlers.specs.Good.{IsTag};
 ghost use Rattle.pg_handlers.specs.Replies.{ready, done, done_with, row_description, row_replies, parameter_description};
 ghost use Rattle.pg_handlers.specs.ExtendedRows.{columns_reply, description};
 ghost use Rattle.pg_handlers.specs.ExecuteRow.{page_replies};
-ghost use Rattle.pg_handlers.specs.ResponseRows.{sent_rows_behind, rows_front, sent_copy, copy_in_reply, copy_out_reply, copy_both_reply, copy_items, copy_count, copy_replies, copy_end, not_empty};
+ghost use Rattle.pg_handlers.specs.PageEnd.{page_end};
+ghost use Rattle.pg_handlers.specs.ResponseRows.{sent_rows_behind, rows_front, sent_copy, copy_in_reply, copy_out_reply, copy_both_reply, copy_items, trailer_items, copy_count, copy_replies, copy_end, not_empty};
 ghost use Rattle.pg_handlers.specs.Sending.{IsSentPage, IsMetError, IsSentData, IsRefusedData, IsAllSent};
 ghost use Rattle.pg_handlers.specs.RowSending.{rows_behind};
+ghost use Rattle.pg_handlers.specs.Telling.{IsToldSo};
 
 use itoa::Buffer;
 use pg_messages::{
@@ -38,6 +40,16 @@ use pg_portal::{
 use pg_text::PgType;
 use std::alloc::{AllocError, Global};
 
+/// Appends a reply, and lets it go. A reply of any kind is dropped here, and nowhere else.
+#[inline(always)]
+pub(crate) fn push_reply(outbox: &mut Outbox, reply: PgWireBackendMessage) -> Result<(), AllocError>
+    requires { IsEncodable reply }
+    ensures ok { OnOk result (outbox.new ≡ outbox.old ++ reply_bytes reply) }
+    ensures err { OnErr result (outbox.new ≡ outbox.old) }
+{
+    outbox.push(&reply)
+}
+
 /// Appends ReadyForQuery with a transaction status. After an error the outbox is as it was.
 pub fn send_ready_for_query(
     outbox: &mut Outbox,
@@ -47,9 +59,12 @@ pub fn send_ready_for_query(
         (outbox.new ≡ outbox.old ++ replies_bytes (ready transaction_status ∷ [])) }
     ensures err { OnErr result (outbox.new ≡ outbox.old) }
 {
-    outbox.push(&PgWireBackendMessage::ReadyForQuery(ReadyForQuery {
-        status: transaction_status,
-    }))
+    push_reply(
+        outbox,
+        PgWireBackendMessage::ReadyForQuery(ReadyForQuery {
+            status: transaction_status,
+        }),
+    )
 }
 
 /// Appends CommandComplete with the tag's text. After an error the outbox is as it was.
@@ -64,7 +79,7 @@ pub fn send_execution_response(
     ensures err { OnErr result (outbox.new ≡ outbox.old) }
 {
     let complete = tag.into_command_complete(alloc)?;
-    outbox.push(&PgWireBackendMessage::CommandComplete(complete))
+    push_reply(outbox, PgWireBackendMessage::CommandComplete(complete))
 }
 
 /// Appends CommandComplete of a command with so many rows.
@@ -80,7 +95,10 @@ pub(crate) fn send_done(
     ensures err { OnErr result (outbox.new ≡ outbox.old) }
 {
     let tag = tag_with_rows(alloc, command, rows)?;
-    outbox.push(&PgWireBackendMessage::CommandComplete(CommandComplete { tag }))
+    push_reply(
+        outbox,
+        PgWireBackendMessage::CommandComplete(CommandComplete { tag }),
+    )
 }
 
 /// The text of a command's tag with so many rows. Its room is made at once.
@@ -118,7 +136,10 @@ fn send_row_description(
     ensures err { OnErr result (outbox.new ≡ outbox.old) }
 {
     let fields = descriptions(alloc, fields)?;
-    outbox.push(&PgWireBackendMessage::RowDescription(RowDescription { fields }))
+    push_reply(
+        outbox,
+        PgWireBackendMessage::RowDescription(RowDescription { fields }),
+    )
 }
 
 /// The numbers of types.
@@ -144,7 +165,10 @@ fn send_parameter_description(
     ensures err { OnErr result (outbox.new ≡ outbox.old) }
 {
     let types = oids(alloc, types)?;
-    outbox.push(&PgWireBackendMessage::ParameterDescription(ParameterDescription { types }))
+    push_reply(
+        outbox,
+        PgWireBackendMessage::ParameterDescription(ParameterDescription { types }),
+    )
 }
 
 /// Appends what the columns of a statement or a portal are: RowDescription, or NoData where there
@@ -160,7 +184,7 @@ fn send_columns<DR: DescribeResponse>(
     ensures err { OnErr result (outbox.new ≡ outbox.old) }
 {
     if describe_response.is_no_data() {
-        return outbox.push(&PgWireBackendMessage::NoData(NoData {}));
+        return push_reply(outbox, PgWireBackendMessage::NoData(NoData {}));
     }
     send_row_description(alloc, outbox, describe_response.fields())
 }
@@ -191,6 +215,41 @@ pub fn send_describe_response<DR: DescribeResponse>(
     Ok(())
 }
 
+/// Appends what describes a statement or a portal, as `send_describe_response`, and lets it go.
+pub(crate) fn send_described<DR: DescribeResponse + Drop>(
+    alloc: Global,
+    outbox: &mut Outbox,
+    described: DR,
+) -> Result<(), AllocError>
+    requires parameters { IfSome (DR.told described).parameters
+        (λ types. IsEncodable (parameter_description types)) }
+    requires fields { IsEncodable (row_description (DR.told described).fields) }
+    ensures ok { OnOk result (outbox.new
+        ≡ outbox.old ++ replies_bytes (description (DR.told described))) }
+    ensures err { OnErr result (outbox.new ≡ outbox.old) }
+{
+    send_describe_response(alloc, outbox, &described)
+}
+
+/// Appends what describes a statement or a portal, or answers the error that was told in its place.
+/// After an error the outbox is as it was.
+pub(crate) fn send_told<DR: DescribeResponse + Drop>(
+    alloc: Global,
+    outbox: &mut Outbox,
+    told: Result<DR, PgWireError>,
+) -> Result<(), PgWireError>
+    requires parameters { IfOk told (λ d. IfSome (DR.told d).parameters
+        (λ types. IsEncodable (parameter_description types))) }
+    requires fields { IfOk told (λ d. IsEncodable (row_description (DR.told d).fields)) }
+    requires answerable { IfErr told IsAnswerable }
+    ensures sent { IsToldSo (λ d. description (DR.told d)) told outbox.old outbox.new result }
+    ensures answerable { IfErr result IsAnswerable }
+    ensures waiting { OnErr result (outbox.new ≡ outbox.old) }
+{
+    send_described(alloc, outbox, told?)?;
+    Ok(())
+}
+
 /// Sends the rows that it receives, each as a reply.
 #[derive(Drop)]
 struct RowSender<'a> {
@@ -207,7 +266,7 @@ impl<'a> RowReceiver for RowSender<'a> {
     /// Appends DataRow.
     #[inline(always)]
     fn receive(&mut self, row: DataRow) -> Result<(), AllocError> {
-        self.outbox.push(&PgWireBackendMessage::DataRow(row))
+        self.outbox.push_row(&row)
     }
 
     ghost none = { λ sender. ap (λ now. record sender
@@ -256,17 +315,57 @@ pub(crate) fn send_next_page<R: RowSource>(
     ensures begins { length outbox.old ≤ length outbox.new }
     ensures kept { take (length outbox.old) outbox.new ≡ outbox.old }
 {
-    let mut sender = RowSender { outbox };
-    let page = deliver_page(&mut results.data_rows, &mut sender, delivered, max_rows)?;
+    let page = deliver_to(outbox, &mut results.data_rows, delivered, max_rows)?;
     // A length is a usize, and the rows are no more than their bytes, so that their number doesn't
     // stand still.
     let _waiting = outbox.len();
-    if page.suspended {
-        outbox.push(&PgWireBackendMessage::PortalSuspended(PortalSuspended {}))?;
-    } else {
-        send_done(alloc, outbox, results.command_tag.as_str(), page.delivered)?;
-    }
+    send_page_end(alloc, outbox, results.command_tag.as_str(), page)?;
     Ok(page)
+}
+
+/// Appends the rows of the next page, as `deliver_page` delivers them.
+fn deliver_to<R: RowSource>(
+    outbox: &mut Outbox,
+    rows: &mut R,
+    delivered: u64,
+    max_rows: i32,
+) -> Result<DeliveredPage, PgWireError>
+    ensures ended { IfOk result (λ page. EndsPage (item_page max_rows (R.items rows.old)).ending
+        page.suspended (R.items rows.new)) }
+    ensures delivered { IfOk result (λ page. page.delivered
+        ≡ delivered_after delivered (length (item_page max_rows (R.items rows.old)).rows)) }
+    ensures sent { OnOk result (outbox.new ≡ outbox.old
+        ++ replies_bytes (row_replies (item_page max_rows (R.items rows.old)).rows)) }
+    ensures taken { OnOk result (R.items rows.old
+        ≡ map Ok (item_page max_rows (R.items rows.old)).rows ++ R.items rows.new) }
+    ensures cut_short { IfErr result (λ error. (received : List DataRow)
+        × CutsPage max_rows (R.items rows.old) received error (R.items rows.new)
+        × (outbox.new ≡ outbox.old ++ replies_bytes (row_replies received))) }
+    ensures own { IfErr result IsAnswerableItem }
+{
+    let mut sender = RowSender { outbox };
+    let page = deliver_page(rows, &mut sender, delivered, max_rows)?;
+    Ok(page)
+}
+
+/// Appends the end of a page: PortalSuspended where its limit was reached, or else CommandComplete
+/// with the command and the number of rows delivered.
+fn send_page_end(
+    alloc: Global,
+    outbox: &mut Outbox,
+    command: &str,
+    page: DeliveredPage,
+) -> Result<(), AllocError>
+    requires { IsTag command.now }
+    ensures ok { OnOk result (outbox.new ≡ outbox.old
+        ++ replies_bytes (page_end command.now page.delivered page.suspended)) }
+    ensures err { OnErr result (outbox.new ≡ outbox.old) }
+{
+    if page.suspended {
+        let suspended = PgWireBackendMessage::PortalSuspended(PortalSuspended {});
+        return push_reply(outbox, suspended);
+    }
+    send_done(alloc, outbox, command, page.delivered)
 }
 
 /// Appends a page of rows: at most so many DataRows, and below 1 all of them; then PortalSuspended
@@ -342,13 +441,28 @@ fn next_data<C: CopySource>(
     ensures format { resp.new.format ≡ resp.old.format }
     ensures columns { resp.new.columns ≡ resp.old.columns }
 {
-    let next = resp.data_stream.next()?;
-    if next.is_none() && resp.trailer_left {
-        let trailer = finish_copy_binary(alloc)?;
-        resp.trailer_left = false;
-        return Ok(Some(Ok(trailer)));
+    match resp.data_stream.next()? {
+        Some(item) => Ok(Some(item)),
+        None => next_trailer(alloc, &mut resp.trailer_left),
     }
-    Ok(next)
+}
+
+/// The trailer of binary data where it is still to come, which it isn't then. After an error it
+/// still is.
+fn next_trailer(
+    alloc: Global,
+    trailer_left: &mut bool,
+) -> Result<Option<Result<CopyData, PgWireError>>, AllocError>
+    ensures next { IsNextCopy (trailer_items trailer_left.old) result
+        (trailer_items trailer_left.new) }
+    ensures sendable { IfOk result (λ found. IfSome found IsSendableCopy) }
+{
+    if !*trailer_left {
+        return Ok(None);
+    }
+    let trailer = finish_copy_binary(alloc)?;
+    *trailer_left = false;
+    Ok(Some(Ok(trailer)))
 }
 
 /// Appends data of a COPY and counts them: empty data are skipped, and the trailer isn't counted.
@@ -366,7 +480,7 @@ fn push_data(outbox: &mut Outbox, copied: CopyData, count: usize) -> Result<usiz
         return Ok(count);
     }
     let is_trailer = bytes == [255, 255].as_slice();
-    outbox.push(&PgWireBackendMessage::CopyData(copied))?;
+    push_reply(outbox, PgWireBackendMessage::CopyData(copied))?;
     // A length is a usize, so that the count, which is no larger, doesn't wrap.
     let _waiting = outbox.len();
     if is_trailer {
@@ -403,7 +517,7 @@ fn send_copy_end(alloc: Global, outbox: &mut Outbox, count: usize) -> Result<(),
     ensures ok { OnOk result (outbox.new ≡ outbox.old ++ replies_bytes (copy_end count)) }
     ensures kept { take (length outbox.old) outbox.new ≡ outbox.old }
 {
-    outbox.push(&PgWireBackendMessage::CopyDone(CopyDone {}))?;
+    push_reply(outbox, PgWireBackendMessage::CopyDone(CopyDone {}))?;
     send_done(alloc, outbox, "COPY", count as u64)?;
     Ok(())
 }
@@ -424,7 +538,21 @@ pub fn send_copy_in_response<C: CopySource>(
         columns: resp.columns as i16,
         column_formats: resp.column_formats(alloc)?,
     };
-    outbox.push(&PgWireBackendMessage::CopyInResponse(head))
+    push_reply(outbox, PgWireBackendMessage::CopyInResponse(head))
+}
+
+/// Appends CopyInResponse, as `send_copy_in_response`, and lets the COPY go.
+pub(crate) fn send_copy_in<C: CopySource>(
+    alloc: Global,
+    outbox: &mut Outbox,
+    resp: CopyResponse<C>,
+) -> Result<(), AllocError>
+    requires { resp.columns ≤ 32767 }
+    ensures ok { OnOk result (outbox.new
+        ≡ outbox.old ++ replies_bytes (copy_in_reply (told_copy C.items resp) ∷ [])) }
+    ensures err { OnErr result (outbox.new ≡ outbox.old) }
+{
+    send_copy_in_response(alloc, outbox, &resp)
 }
 
 /// Appends CopyOutResponse.
@@ -443,7 +571,7 @@ fn send_copy_out_head<C: CopySource>(
         columns: resp.columns as i16,
         column_formats: resp.column_formats(alloc)?,
     };
-    outbox.push(&PgWireBackendMessage::CopyOutResponse(head))
+    push_reply(outbox, PgWireBackendMessage::CopyOutResponse(head))
 }
 
 /// Appends CopyBothResponse.
@@ -462,7 +590,7 @@ fn send_copy_both_head<C: CopySource>(
         columns: resp.columns as i16,
         column_formats: resp.column_formats(alloc)?,
     };
-    outbox.push(&PgWireBackendMessage::CopyBothResponse(head))
+    push_reply(outbox, PgWireBackendMessage::CopyBothResponse(head))
 }
 
 /// Appends a COPY to the client: CopyOutResponse, CopyData for each data that isn't empty,

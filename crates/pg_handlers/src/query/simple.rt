@@ -24,13 +24,14 @@ use crate::desk::CancelDesk;
 use crate::ends::{SessionError, Turns};
 use crate::query::respond::{send_empty_query_response, send_responses};
 use crate::query::send::send_ready_for_query;
-use crate::query::{QueryState, wait};
+use crate::query::{QueryState, wait_for};
 use pg_messages::{PgList, Query};
 use pg_portal::{
     ClientInfo, CopySource, PgWireConnectionState, PgWireError, PortalStore, Response, RowSource,
     is_blank,
 };
 use std::alloc::{AllocError, Global};
+use std::mem::drop;
 
 /// What a server does for simple queries. What it tells of its queries is its own; the `on_` calls
 /// have the protocol's rules as their bodies.
@@ -154,13 +155,15 @@ pub trait SimpleQueryHandler {
         ensures keeps { KeepsDesk (D.told desk.old) (D.told desk.new) }
     {
         if is_blank(query.query.as_str()) {
+            drop(query);
             send_empty_query_response(&mut client.outbox)?;
             send_ready_for_query(&mut client.outbox, client.info.status)?;
             return Ok(());
         }
         desk.start()?;
-        let mut state = self.do_query(alloc, &client.info, query.query.as_str())?;
-        let responses = wait(&mut state, desk, turns)??;
+        let state = self.do_query(alloc, &client.info, query.query.as_str());
+        drop(query);
+        let responses = wait_for(state?, desk, turns)??;
         Ok(answer_query(alloc, client, responses)?)
     }
 }

@@ -4,7 +4,9 @@ ghost use Rattle.std.specs.Prelude.{◌≡◌, ◌≤◌, ◌⊎◌, ◌++◌, �
 ghost use Rattle.pg_messages.specs.Replies.{replies_bytes};
 ghost use Rattle.pg_portal.specs.Errors.{error as error_info};
 ghost use Rattle.pg_portal.specs.Maps.{maps_with_statement};
-ghost use Rattle.pg_portal.specs.Told.{ParserTold, portal_of, value_under};
+ghost use Rattle.pg_portal.specs.Told.{IsOutcome, ParserTold, portal_of, value_under};
+ghost use Rattle.pg_portal.specs.Clients.{HasShortMetadata};
+ghost use Rattle.pg_portal.specs.Statements.{prepared};
 ghost use Rattle.pg_handlers.specs.Errors.{values_for_empty, too_few_codes};
 ghost use Rattle.std.specs.Arc.{arc_value};
 ghost use Rattle.std.specs.FinMap as fin;
@@ -15,20 +17,24 @@ ghost use Rattle.pg_portal.specs.declared.error.PgWireError.{PgWireError};
 ghost use Rattle.pg_portal.specs.declared.error.PgWireError.TheVariants as wire;
 ghost use Rattle.pg_portal.specs.declared.store.Entry.TheVariants as entry;
 ghost use Rattle.pg_handlers.specs.Effect.{IsEffect, IsRefusedEffect, Done};
-ghost use Rattle.pg_handlers.specs.ExtendedRows.{parse_complete, bind_complete, bound_empty, bound_statement, entry_of, maps_after_close, HasEnough, IsTooFew};
+ghost use Rattle.pg_handlers.specs.ExtendedRows.{parse_complete, bind_complete, bound_empty, bound_portal, bound_statement, entry_of, maps_after_close, HasEnough, IsTooFew};
 ghost use Rattle.pg_handlers.specs.ExecuteRow.{executed_nothing};
 ghost use Rattle.pg_handlers.specs.Good.{IsGiven, IsGoodStatement, IsGoodState};
 ghost use Rattle.pg_handlers.specs.State.{state_of, with_portal, with_statement};
 
 use crate::client::Client;
 use crate::query::respond::send_empty_query_response;
+use crate::query::send::push_reply;
 use pg_messages::{
-    Bind, BindComplete, Close, ErrorInfo, ParseComplete, PgStr, PgWireBackendMessage,
+    Bind, BindComplete, Close, ErrorInfo, Parse, ParseComplete, PgStr, PgWireBackendMessage,
     TARGET_TYPE_BYTE_PORTAL, TARGET_TYPE_BYTE_STATEMENT,
 };
 use pg_outbox::Outbox;
-use pg_portal::{Entry, PgWireError, Portal, PortalStore, QueryParser, StoredStatement};
+use pg_portal::{
+    ClientInfo, Entry, PgWireError, Portal, PortalStore, QueryParser, StoredStatement,
+};
 use std::alloc::{AllocError, Global};
+use std::mem::drop;
 use std::sync::Arc;
 
 /// No statement has this name.
@@ -38,6 +44,40 @@ pub(crate) fn missing_statement(name: PgStr) -> PgWireError
     ensures answerable { IsAnswerable result }
 {
     PgWireError::StatementNotFound(name)
+}
+
+/// No statement has the name that a Bind tells.
+pub(crate) fn no_statement(message: Bind) -> PgWireError
+    requires { IsGiven (frontend.Bind message) }
+    ensures error { result ≡ wire.StatementNotFound message.statement_name }
+    ensures answerable { IsAnswerable result }
+{
+    missing_statement(message.statement_name)
+}
+
+/// The name that a Parse tells.
+pub(crate) fn name_of(message: Parse) -> PgStr
+    ensures { result ≡ message.name }
+{
+    message.name
+}
+
+/// The statement of a Parse, as `StoredStatement::parse`, and the parser is let go.
+pub(crate) fn parse_by<Q: QueryParser + Drop>(
+    alloc: Global,
+    client: &ClientInfo,
+    message: &Parse,
+    parser: Arc<Q>,
+) -> Result<Option<StoredStatement<Q::Statement>>, PgWireError>
+    requires short_metadata { HasShortMetadata client.now }
+    requires short_query { IsShortText message.now.query }
+    ensures outcome { IsOutcome
+        (prepared (Q.told (arc_value parser)) client.now message.now) result }
+    ensures given { IfOk result (λ found. IfSome found
+        (λ stored. IsTrue ((Q.told (arc_value parser)).gives stored.statement))) }
+    ensures answerable { IfErr result IsAnswerable }
+{
+    StoredStatement::parse(alloc, client, message, &*parser)
 }
 
 /// No portal has this name.
@@ -88,9 +128,10 @@ pub(crate) fn store_parsed<St: PortalStore>(
     ensures waiting { OnErr result (client.new.outbox ≡ client.old.outbox) }
 {
     let start = client.outbox.len();
-    client
-        .outbox
-        .push(&PgWireBackendMessage::ParseComplete(ParseComplete {}))?;
+    push_reply(
+        &mut client.outbox,
+        PgWireBackendMessage::ParseComplete(ParseComplete {}),
+    )?;
     if let Err(error) = store_statement(alloc, &mut client.store, name, found) {
         client.outbox.truncate(start);
         return Err(error);
@@ -138,14 +179,14 @@ fn too_few_codes(alloc: Global, count: usize, columns: usize) -> Result<PgWireEr
 pub(crate) fn bind_empty<St: PortalStore>(
     alloc: Global,
     client: &mut Client<St>,
-    message: Bind,
+    message: &Bind,
 ) -> Result<(), PgWireError>
-    requires given { IsGiven (frontend.Bind message) }
+    requires given { IsGiven (frontend.Bind message.now) }
     ensures ok { OnOk result (IsEffect
-        (bound_empty (state_of St.maps client.old) message)
+        (bound_empty (state_of St.maps client.old) message.now)
         client.old.outbox client.new.outbox (Done (state_of St.maps client.new))) }
     ensures refused { IfErr result (IsRefusedEffect
-        (bound_empty (state_of St.maps client.old) message)
+        (bound_empty (state_of St.maps client.old) message.now)
         client.old.outbox client.new.outbox (state_of St.maps client.new)) }
     ensures answerable { IfErr result IsAnswerable }
     ensures kept { OnErr result
@@ -189,39 +230,63 @@ fn check_codes<Q: QueryParser>(
     Ok(())
 }
 
-/// Bind of a statement: a portal of it, unstarted.
-pub(crate) fn bind_statement<St: PortalStore, Q: QueryParser<Statement = St::Statement>>(
+/// Bind of a statement with two result codes or more, of which the parser is asked: as
+/// `bind_statement` where they are enough.
+pub(crate) fn bind_checked<St: PortalStore, Q: QueryParser<Statement = St::Statement> + Drop>(
     alloc: Global,
     client: &mut Client<St>,
-    parser: &Q,
+    parser: Arc<Q>,
     message: Bind,
     statement: Arc<StoredStatement<St::Statement>>,
 ) -> Result<(), PgWireError>
     requires given { IsGiven (frontend.Bind message) }
-    requires good { IsGoodStatement (Q.told parser.now) (arc_value statement) }
+    requires good { IsGoodStatement (Q.told (arc_value parser)) (arc_value statement) }
     ensures ok { OnOk result (IsEffect
-        (bound_statement (Q.told parser.now) (state_of St.maps client.old) message
+        (bound_statement (Q.told (arc_value parser)) (state_of St.maps client.old) message
         (arc_value statement))
         client.old.outbox client.new.outbox (Done (state_of St.maps client.new))) }
     ensures refused { IfErr result (IsRefusedEffect
-        (bound_statement (Q.told parser.now) (state_of St.maps client.old) message
+        (bound_statement (Q.told (arc_value parser)) (state_of St.maps client.old) message
         (arc_value statement))
         client.old.outbox client.new.outbox (state_of St.maps client.new)) }
     ensures answerable { IfErr result IsAnswerable }
     ensures kept { OnErr result
         (state_of St.maps client.new ≡ state_of St.maps client.old) }
     ensures waiting { OnErr result (client.new.outbox ≡ client.old.outbox) }
-    ensures good { IsGoodState (Q.told parser.now) (state_of St.maps client.old)
-        → IsGoodState (Q.told parser.now) (state_of St.maps client.new) }
+    ensures good { IsGoodState (Q.told (arc_value parser)) (state_of St.maps client.old)
+        → IsGoodState (Q.told (arc_value parser)) (state_of St.maps client.new) }
 {
-    check_codes(
-        alloc,
-        parser,
-        &*statement,
-        message.result_column_format_codes.len(),
-    )?;
-    let portal = Portal::try_new(alloc, &message, statement)?;
-    store_portal(alloc, client, portal)?;
+    let codes = message.result_column_format_codes.len();
+    let checked = check_codes(alloc, &*parser, &*statement, codes);
+    drop(parser);
+    checked?;
+    bind_statement(alloc, client, message, statement)
+}
+
+/// Bind of a statement of whose columns there are enough result codes: a portal of it, unstarted.
+/// The only error is NoMemory.
+pub(crate) fn bind_statement<St: PortalStore>(
+    alloc: Global,
+    client: &mut Client<St>,
+    message: Bind,
+    statement: Arc<StoredStatement<St::Statement>>,
+) -> Result<(), PgWireError>
+    ensures ok { OnOk result (IsEffect
+        (bound_portal (state_of St.maps client.old) message (arc_value statement))
+        client.old.outbox client.new.outbox (Done (state_of St.maps client.new))) }
+    ensures refused { IfErr result (λ e. e ≡ wire.NoMemory) }
+    ensures kept { OnErr result
+        (state_of St.maps client.new ≡ state_of St.maps client.old) }
+    ensures waiting { OnErr result (client.new.outbox ≡ client.old.outbox) }
+    ensures good { (parser : ParserTold St.Statement) → IsGoodStatement parser (arc_value statement)
+        → HasEnough (length message.result_column_format_codes)
+        (parser.columns (arc_value statement).statement None)
+        → IsGoodState parser (state_of St.maps client.old)
+        → IsGoodState parser (state_of St.maps client.new) }
+{
+    let portal = Portal::try_new(alloc, &message, statement);
+    drop(message);
+    store_portal(alloc, client, portal?)?;
     Ok(())
 }
 
@@ -277,7 +342,7 @@ fn push_bind_complete(outbox: &mut Outbox) -> Result<(), AllocError>
     ensures ok { OnOk result (outbox.new ≡ outbox.old ++ replies_bytes bind_complete) }
     ensures err { OnErr result (outbox.new ≡ outbox.old) }
 {
-    outbox.push(&PgWireBackendMessage::BindComplete(BindComplete {}))
+    push_reply(outbox, PgWireBackendMessage::BindComplete(BindComplete {}))
 }
 
 /// Execute where no portal has this name, or an empty one.

@@ -9,13 +9,13 @@ pub send_done-requires : goal.send_done-requires
 send_done-requires c = copy_is_tag
 
 pub returns-in_err-send_done-clause-kept : goal.returns-in_err-send_done-clause-kept
-returns-in_err-send_done-clause-kept c = kept_in_front _ _ _ (c.in_err-send_done.ensures.err ∙ c.in_ok-push.ensures.ok)
+returns-in_err-send_done-clause-kept c = kept_in_front _ _ _ (c.in_err-send_done.ensures.err ∙ c.in_ok-push_reply.ensures.ok)
 
 pub returns-clause-ok : goal.returns-clause-ok
 returns-clause-ok c =
-    one_behind _ _ _ (server.CopyDone (record {})) (done_with (codes "COPY") c.args.count ∷ []) c.in_ok-push.ensures.ok
+    one_behind _ _ _ (server.CopyDone (record {})) (done_with (codes "COPY") c.args.count ∷ []) c.in_ok-push_reply.ensures.ok
     c.in_ok-send_done.ensures.ok
 
 pub returns-clause-kept : goal.returns-clause-kept
 returns-clause-kept c = kept_in_front _ _ _ (one_behind _ _ _ (server.CopyDone (record {})) (done_with (codes "COPY") c.args.count ∷ [])
-    c.in_ok-push.ensures.ok c.in_ok-send_done.ensures.ok)
+    c.in_ok-push_reply.ensures.ok c.in_ok-send_done.ensures.ok)

@@ -3,8 +3,8 @@ use Rattle.std.specs.Int.{w8, w16}
 use Rattle.pg_handlers.proofs.Encodable.{copy_body, copy_counts}
 use Rattle.pg_handlers.proofs.query.send.send_copy_out_head.Goals as goal
 
-pub push-requires : goal.push-requires
-push-requires g c =
+pub push_reply-requires : goal.push_reply-requires
+push_reply-requires g c =
     let resp = c.args.resp.now in
     record {
       body = copy_body (to_z w8 (of_z w8 resp.format)) (to_z w16 resp.columns) resp.format resp.columns _ c.in_ok-column_formats.ensures

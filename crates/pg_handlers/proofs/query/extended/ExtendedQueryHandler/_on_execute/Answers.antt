@@ -11,9 +11,10 @@ use Rattle.pg_handlers.specs.Questions.{questions_since}
 use Rattle.pg_handlers.specs.Effect.{IsEffect, IsRefusedEffect, Done}
 use Rattle.pg_handlers.specs.State.{State, state_in, state_of}
 use Rattle.pg_handlers.proofs.Executes.{silent_row, silent_refused, cut_at_none, asked_since, spent_as, spent_ok, no_turn_started}
-use Rattle.pg_handlers.proofs.Causes.{caused_since}
+use Rattle.pg_handlers.proofs.Causes.{caused_since, item_answerable, item_caused}
 use Rattle.pg_handlers.proofs.Rows.{no_turn}
-use Rattle.pg_handlers.proofs.Sent.{kept_as}
+use Rattle.pg_handlers.proofs.Desks.{keeps_none, keeps_after, keeps_as, keeps_then}
+use Rattle.pg_handlers.proofs.Sent.{kept_as, kept_through}
 use Rattle.pg_handlers.proofs.Lends.{lent, left_lent, comes_from_unstarted, no_portal, started_ok, started_refused, unstarted_is, good_written, good_responded, refused_begun, start_refused, start_stays, start_paged, start_handed}
 use Rattle.pg_handlers.proofs.query.extended.ExtendedQueryHandler._on_execute.Goals as goal
 
@@ -84,22 +85,22 @@ returns-in_err-send_page g c =
     c.in_err-send_page.ensures.bound in
     let limit_is = to_z-of_z w32 m.max_rows c.requires.given.1.carries.2.max_rows in
     record {
-      ok = search rules;
+      ok = rw u.1 tt;
       refused = rw (u.1, u.2) (started_refused s m p c.args.client.now.outbox c.send_page.new.outbox w.stage _ l.written l.found h
           (g.D.CancelDesk.told c.args.desk.now).calls p.stage c.in_err-send_page.field-0.0 refl (sym c.is_unstarted.ensures
           ∙ c.if-not-is_unstarted.true)
           (subst (λ (z : ℤ). IsPageOf {A = Bool} (page_result z p.stage) w.stage c.args.client.now.outbox c.send_page.new.outbox
           (Err c.in_err-send_page.field-0.0)) limit_is c.in_err-send_page.ensures.page));
-      answerable = search rules;
-      caused = search rules;
-      limit = search rules;
-      info = search rules;
+      answerable = rw (u.1, u.2) (item_answerable _ c.in_err-send_page.ensures.answerable);
+      caused = rw (u.1, u.2) (item_caused _ _ _ c.in_err-send_page.ensures.answerable);
+      limit = rw (u.1, u.2) tt;
+      info = rw u.1 refl;
       left = rw u.1 (left_lent s.info (maps c.args.client.now.store) _ m.name p w.stage l c.in_err-send_page.ensures.stays);
-      kept = search rules;
+      kept = c.in_err-send_page.ensures.kept;
       good = good_written h.parser s c.requires.good m.name p w.stage _ l.found l.written c.in_err-send_page.ensures.tag;
       turns = rw (u.1, u.2) (inl (no_turn c.args.turns.now (g.D.CancelDesk.told c.args.desk.now).calls));
-      bounded = search rules;
-      keeps = search rules;
+      bounded = λ h. h;
+      keeps = keeps_none _;
     }
 
 pub returns-then-not-is_unstarted : goal.returns-then-not-is_unstarted
@@ -118,17 +119,17 @@ returns-then-not-is_unstarted g c =
           (g.D.CancelDesk.told c.args.desk.now).calls p.stage refl (sym c.is_unstarted.ensures ∙ c.if-not-is_unstarted.true)
           (subst (λ (z : ℤ). IsPageOf {A = Bool} (page_result z p.stage) w.stage c.args.client.now.outbox c.send_page.new.outbox (Ok true))
           limit_is c.in_ok-send_page.ensures.page);
-      refused = search rules;
-      answerable = search rules;
-      caused = search rules;
-      limit = search rules;
-      info = search rules;
-      left = search rules;
-      kept = search rules;
+      refused = tt;
+      answerable = tt;
+      caused = tt;
+      limit = tt;
+      info = tt;
+      left = tt;
+      kept = c.in_ok-send_page.ensures.kept;
       good = good_written h.parser s c.requires.good m.name p w.stage _ l.found l.written c.in_ok-send_page.ensures.tag;
       turns = no_turn c.args.turns.now (g.D.CancelDesk.told c.args.desk.now).calls;
-      bounded = search rules;
-      keeps = search rules;
+      bounded = λ h. h;
+      keeps = keeps_none _;
     }
 
 pub returns-in_err-start : goal.returns-in_err-start
@@ -143,21 +144,21 @@ returns-in_err-start g c =
     (at_some c.portal_mut.result c.in-Some.portal c.in-Some.is (c.portal_mut.follows.holds c.in-Some.portal.now)) refl in
     let fresh : p.stage ≡ Unstarted = unstarted_is p.stage (sym c.is_unstarted.ensures ∙ c.if-not-is_unstarted.false) in
     record {
-      ok = search rules;
+      ok = rw u.1 tt;
       refused = rw (u.1, u.2, c.in_err-start.ensures.err) (inl (
         refl,
         cut_at_none (λ answers. on_execute h answers s m) (g.D.CancelDesk.told c.args.desk.now).calls,
       ));
-      answerable = search rules;
-      caused = search rules;
-      limit = search rules;
-      info = search rules;
+      answerable = rw (u.1, u.2) (inl refl);
+      caused = rw (u.1, u.2) tt;
+      limit = rw (u.1, u.2) tt;
+      info = rw u.1 refl;
       left = rw u.1 (left_lent s.info (maps c.args.client.now.store) _ m.name p w.stage l (comes_from_unstarted p.stage w.stage fresh));
       kept = kept_as c.args.client.now.outbox _ refl;
       good = good_written h.parser s c.requires.good m.name p w.stage _ l.found l.written (c.requires.good.portals m.name p l.found).tag;
       turns = rw (u.1, u.2, c.in_err-start.ensures.err) (inl (no_turn c.args.turns.now (g.D.CancelDesk.told c.args.desk.now).calls));
-      bounded = search rules;
-      keeps = search rules;
+      bounded = λ h. h;
+      keeps = keeps_as _ _ c.in_err-start.ensures.err;
     }
 
 pub returns-in_err-query : goal.returns-in_err-query
@@ -172,23 +173,23 @@ returns-in_err-query g c =
     (at_some c.portal_mut.result c.in-Some.portal c.in-Some.is (c.portal_mut.follows.holds c.in-Some.portal.now)) refl in
     let fresh : p.stage ≡ Unstarted = unstarted_is p.stage (sym c.is_unstarted.ensures ∙ c.if-not-is_unstarted.false) in
     record {
-      ok = search rules;
+      ok = rw u.1 tt;
       refused = rw (u.1, u.2) (inl (
         refl,
         refused_begun (told_response R g.Self.CopyRows.CopySource.items) h s m p l.found fresh (g.D.CancelDesk.told c.args.desk.now).calls
             (g.D.CancelDesk.told c.start.new.self).calls (ap (λ d. d.calls) c.in_ok-start.ensures.ok),
       ));
-      answerable = search rules;
-      caused = search rules;
-      limit = search rules;
-      info = search rules;
+      answerable = rw (u.1, u.2) (inl refl);
+      caused = rw (u.1, u.2) tt;
+      limit = rw (u.1, u.2) tt;
+      info = rw u.1 refl;
       left = rw u.1 (left_lent s.info (maps c.args.client.now.store) _ m.name p w.stage l (comes_from_unstarted p.stage w.stage fresh));
       kept = kept_as c.args.client.now.outbox _ refl;
       good = good_written h.parser s c.requires.good m.name p w.stage _ l.found l.written (c.requires.good.portals m.name p l.found).tag;
       turns = rw (u.1, u.2) (inl (no_turn_started c.args.turns.now (g.D.CancelDesk.told c.args.desk.now).calls
           (g.D.CancelDesk.told c.start.new.self).calls (ap (λ d. d.calls) c.in_ok-start.ensures.ok)));
-      bounded = search rules;
-      keeps = search rules;
+      bounded = λ h. h;
+      keeps = keeps_after _ _ _ c.in_ok-start.ensures.ok;
     }
 
 pub returns-in_err-response : goal.returns-in_err-response
@@ -208,24 +209,24 @@ returns-in_err-response g c =
     let calls = (g.D.CancelDesk.told c.args.desk.now).calls in let begun = (g.D.CancelDesk.told c.start.new.self).calls in
     let done = (g.D.CancelDesk.told c.run_portal.new.desk).calls in let starts = ap (λ d. d.calls) c.in_ok-start.ensures.ok in
     record {
-      ok = search rules;
+      ok = rw u.1 tt;
       refused = rw (u.1, u.2) (start_refused told h s m p w.stage _ l fresh calls begun done starts c.args.client.now.outbox
           c.run_portal.new.outbox _ limit_is _
           c.in_ok-query.ensures.told c.in_err-response.field-0.0 c.in_err-response.ensures.ran);
-      answerable = search rules;
+      answerable = rw (u.1, u.2) c.in_err-response.ensures.answerable;
       caused = rw (u.1, u.2) (caused_since calls begun done starts c.in_err-response.field-0.0 c.in_err-response.ensures.caused);
       limit = rw (u.1, u.2) (start_stays told h s m p w.stage _ l fresh calls begun done starts c.args.client.now.outbox
           c.run_portal.new.outbox _ limit_is _
           c.in_ok-query.ensures.told c.in_err-response.field-0.0 c.in_err-response.ensures.ran);
-      info = search rules;
+      info = rw u.1 refl;
       left = rw u.1 (left_lent s.info (maps c.args.client.now.store) _ m.name p w.stage l (comes_from_unstarted p.stage w.stage fresh));
-      kept = search rules;
+      kept = c.in_err-response.ensures.kept;
       good = good_written h.parser s c.requires.good m.name p w.stage _ l.found l.written c.in_err-response.ensures.tag;
       turns = rw (u.1, u.2) (spent_as c.args.turns.now c.run_portal.new.turns (questions_since begun done) (questions_since calls done)
           c.in_err-response.field-0.0 (asked_since _ calls begun starts done c.in_err-response.ensures.ran.0
           c.in_err-response.ensures.ran.1) c.in_err-response.ensures.turns);
-      bounded = search rules;
-      keeps = search rules;
+      bounded = c.in_err-response.ensures.bounded;
+      keeps = keeps_then _ _ _ (keeps_after _ _ _ c.in_ok-start.ensures.ok) c.in_err-response.ensures.keeps;
     }
 
 pub returns-in_err-respond-in-Some-2 : goal.returns-in_err-respond-in-Some-2
@@ -248,29 +249,29 @@ returns-in_err-respond-in-Some-2 g c =
     limit_is _
     c.in_ok-query.ensures.told c.in-Some-2.response _ c.in-Some-2.is c.in_ok-response.ensures.ran in
     record {
-      ok = search rules;
+      ok = rw u.1 tt;
       refused = rw (u.1, u.2) (handed.refused c.respond.new.client.outbox (state_of maps c.respond.new.client)
           c.in_err-respond-in-Some-2.field-0.0
           c.in_err-respond-in-Some-2.ensures.refused);
-      answerable = search rules;
-      caused = search rules;
-      limit = search rules;
-      info = search rules;
+      answerable = rw (u.1, u.2) (item_answerable _ c.in_err-respond-in-Some-2.ensures.answerable);
+      caused = rw (u.1, u.2) (item_caused _ _ _ c.in_err-respond-in-Some-2.ensures.answerable);
+      limit = rw (u.1, u.2) tt;
+      info = rw u.1 c.in_err-respond-in-Some-2.ensures.info;
       left = rw (u.1, c.in_err-respond-in-Some-2.ensures.left)
           (left_lent s.info (maps c.args.client.now.store) _ m.name p w.stage l (comes_from_unstarted p.stage w.stage fresh));
-      kept = search rules;
+      kept = kept_through _ _ _ c.in_ok-response.ensures.kept c.in_err-respond-in-Some-2.ensures.kept;
       good = good_responded h.parser s c.requires.good s.info (maps (c.portal_mut.follows.lender c.run_portal.new.portal)) handed.same
           c.respond.new.client.info (maps c.respond.new.client.store) c.in_err-respond-in-Some-2.ensures.metadata
           c.in_err-respond-in-Some-2.ensures.store;
       turns = rw (u.1, u.2) (inl (spent_ok c.args.turns.now c.run_portal.new.turns (questions_since begun done) (questions_since calls done)
           (asked_since _ calls begun starts done c.in_ok-response.ensures.ran.0 c.in_ok-response.ensures.ran.1)
           c.in_ok-response.ensures.turns));
-      bounded = search rules;
-      keeps = search rules;
+      bounded = c.in_ok-response.ensures.bounded;
+      keeps = keeps_then _ _ _ (keeps_after _ _ _ c.in_ok-start.ensures.ok) c.in_ok-response.ensures.keeps;
     }
 
-pub returns-in-Some-2 : goal.returns-in-Some-2
-returns-in-Some-2 g c =
+pub returns-in_ok-respond-in-Some-2 : goal.returns-in_ok-respond-in-Some-2
+returns-in_ok-respond-in-Some-2 g c =
     let R = g.Self.Rows.RowSource.items in let maps = g.St.PortalStore.maps in
     let s = state_of maps c.args.client.now in let h = g.Self.ExtendedQueryHandler.told c.args.self.now in let m = c.args.message in
     let p = portal_of R c.in-Some.portal.now in let w = portal_of R c.run_portal.new.portal in
@@ -289,25 +290,25 @@ returns-in-Some-2 g c =
     c.in_ok-query.ensures.told c.in-Some-2.response _ c.in-Some-2.is c.in_ok-response.ensures.ran in
     record {
       ok = handed.ok c.respond.new.client.outbox (state_of maps c.respond.new.client) c.in_ok-respond-in-Some-2.ensures.ok;
-      refused = search rules;
-      answerable = search rules;
-      caused = search rules;
-      limit = search rules;
-      info = search rules;
-      left = search rules;
-      kept = search rules;
+      refused = tt;
+      answerable = tt;
+      caused = tt;
+      limit = tt;
+      info = tt;
+      left = tt;
+      kept = kept_through _ _ _ c.in_ok-response.ensures.kept c.in_ok-respond-in-Some-2.ensures.kept;
       good = good_responded h.parser s c.requires.good s.info (maps (c.portal_mut.follows.lender c.run_portal.new.portal)) handed.same
           c.respond.new.client.info (maps c.respond.new.client.store) c.in_ok-respond-in-Some-2.ensures.metadata
           c.in_ok-respond-in-Some-2.ensures.store;
       turns = spent_ok c.args.turns.now c.run_portal.new.turns (questions_since begun done) (questions_since calls done)
           (asked_since _ calls begun starts done c.in_ok-response.ensures.ran.0 c.in_ok-response.ensures.ran.1)
           c.in_ok-response.ensures.turns;
-      bounded = search rules;
-      keeps = search rules;
+      bounded = c.in_ok-response.ensures.bounded;
+      keeps = keeps_then _ _ _ (keeps_after _ _ _ c.in_ok-start.ensures.ok) c.in_ok-response.ensures.keeps;
     }
 
-pub returns : goal.returns
-returns g c =
+pub returns-in-None : goal.returns-in-None
+returns-in-None g c =
     let R = g.Self.Rows.RowSource.items in let maps = g.St.PortalStore.maps in
     let s = state_of maps c.args.client.now in let h = g.Self.ExtendedQueryHandler.told c.args.self.now in let m = c.args.message in
     let p = portal_of R c.in-Some.portal.now in let w = portal_of R c.run_portal.new.portal in
@@ -324,17 +325,17 @@ returns g c =
     record {
       ok = start_paged told h s m p w.stage _ l fresh calls begun done starts c.args.client.now.outbox c.run_portal.new.outbox _ limit_is _
           c.in_ok-query.ensures.told _ c.in-None.is c.in_ok-response.ensures.ran;
-      refused = search rules;
-      answerable = search rules;
-      caused = search rules;
-      limit = search rules;
-      info = search rules;
-      left = search rules;
-      kept = search rules;
+      refused = tt;
+      answerable = tt;
+      caused = tt;
+      limit = tt;
+      info = tt;
+      left = tt;
+      kept = c.in_ok-response.ensures.kept;
       good = good_written h.parser s c.requires.good m.name p w.stage _ l.found l.written c.in_ok-response.ensures.tag;
       turns = spent_ok c.args.turns.now c.run_portal.new.turns (questions_since begun done) (questions_since calls done)
           (asked_since _ calls begun starts done c.in_ok-response.ensures.ran.0 c.in_ok-response.ensures.ran.1)
           c.in_ok-response.ensures.turns;
-      bounded = search rules;
-      keeps = search rules;
+      bounded = c.in_ok-response.ensures.bounded;
+      keeps = keeps_then _ _ _ (keeps_after _ _ _ c.in_ok-start.ensures.ok) c.in_ok-response.ensures.keeps;
     }

@@ -1,0 +1,54 @@
+-- Describe of a statement or a portal, by what its handler told.
+use Rattle.std.proofs.Common.{◌≡◌, ◌++◌, ◌∙◌, ℕ, List, [], Option, Some, Result, Ok, Err, inl, inr, refl, sym, ap, append-nil}
+use Rattle.std.specs.Prelude.{OnOk, IfErr}
+use Rattle.std.specs.FinMap as fin
+use Rattle.std.specs.Option.{option_map}
+use Rattle.pg_messages.specs.declared.extendedquery.Describe.{Describe}
+use Rattle.pg_messages.specs.Frames.{statement_target, portal_target}
+use Rattle.pg_portal.specs.declared.error.PgWireError.{PgWireError}
+use Rattle.pg_portal.specs.declared.error.PgWireError.TheVariants as wire
+use Rattle.pg_portal.specs.declared.stmt.StoredStatement.{StoredStatement}
+use Rattle.pg_portal.specs.declared.store.Entry.{Entry}
+use Rattle.pg_portal.specs.declared.store.Entry.TheVariants as entry
+use Rattle.pg_portal.specs.Told.{IsOutcome, TablePortal, entry_map}
+use Rattle.pg_handlers.specs.Effect.{IsEffect, IsRefusedEffect, Done, Failed}
+use Rattle.pg_handlers.specs.ExtendedRows.{on_describe, described, statement_description, portal_description}
+use Rattle.pg_handlers.specs.Handlers.{ExtendedTold}
+use Rattle.pg_handlers.specs.Replies.{Replies}
+use Rattle.pg_handlers.specs.State.{State}
+use Rattle.pg_handlers.specs.Telling.{IsToldSo}
+
+-- where a store found a value under a name it tells it
+pub found_entry : {X Y : Type 0} (f : X → Y) (found : Option (Entry X)) (e : Entry X) (x : X) (told : Option (Entry Y))
+    → option_map (entry_map f) found ≡ told → found ≡ Some e → e ≡ entry.Value x → told ≡ Some (entry.Value (f x))
+found_entry f found e x told h i j = sym h ∙ ap (λ o. option_map (entry_map f) o) (i ∙ ap Some j)
+
+pub describes_statement : {S : Type 0} (h : ExtendedTold S) (s : State S) (m : Describe) (statement : StoredStatement S)
+    → m.target_type ≡ statement_target → fin.get s.statements m.name ≡ Some (entry.Value statement)
+    → on_describe h s m ≡ described s statement_description (h.describe_statement s.info statement)
+describes_statement h s m statement i j = rw (i, j) refl
+
+pub describes_portal : {S : Type 0} (h : ExtendedTold S) (s : State S) (m : Describe) (p : TablePortal S)
+    → m.target_type ≡ portal_target → fin.get s.portals m.name ≡ Some (entry.Value p)
+    → on_describe h s m ≡ described s portal_description (h.describe_portal s.info p.bound)
+describes_portal h s m p i j = rw (i, j) refl
+
+told_as : {S D : Type 0} (s : State S) (shown : D → Replies) (d spec : Result D PgWireError) → d ≡ spec
+    → described s shown spec ≡ described s shown d
+told_as s shown d spec same = ap (described s shown) (sym same)
+
+module _ {S D A : Type 0} (s : State S) (shown : D → Replies) (out new_out : List ℕ) where
+  pub told_ok : (spec told : Result D PgWireError) (result : Result A PgWireError) → IsOutcome spec told
+      → IsToldSo shown told out new_out result → OnOk result (IsEffect (described s shown spec) out new_out (Done s))
+  told_ok spec (Ok d) (Ok x) (inl same) sent = rw (told_as s shown (Ok d) spec same) (record { replied = sent; came = refl })
+  told_ok spec (Ok d) (Ok x) (inr none) sent = cc
+  told_ok spec (Err t) (Ok x) told sent = absurd sent
+  told_ok spec told (Err e) outcome sent = tt
+
+  pub told_refused : (spec told : Result D PgWireError) (result : Result A PgWireError) → IsOutcome spec told
+      → IsToldSo shown told out new_out result → IfErr result (λ e. IsRefusedEffect (described s shown spec) out new_out s e)
+  told_refused spec told (Ok x) outcome sent = tt
+  told_refused spec (Ok d) (Err e) outcome sent = inl sent.0
+  told_refused spec (Err t) (Err e) (inl same) sent =
+      inr (rw (told_as s shown (Err t) spec same) (record { replied = sent.1 ∙ sym (append-nil out); came = ap (Failed s) (sym sent.0) }))
+  told_refused spec (Err t) (Err e) (inr none) sent = inl (let no : t ≡ wire.NoMemory = cc in sent.0 ∙ no)
