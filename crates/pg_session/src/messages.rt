@@ -25,6 +25,7 @@ use pg_portal::{PgWireConnectionState, PgWireError, PortalStore};
 use std::alloc::Global;
 
 /// The same answer, with an error of a message as one of a session.
+#[inline(always)]
 pub(crate) fn with_session_error(
     answer: Result<Option<EndKind>, PgWireError>,
 ) -> Result<Option<EndKind>, SessionError>
@@ -37,6 +38,7 @@ pub(crate) fn with_session_error(
 }
 
 /// A message of a session that is ready.
+#[inline(always)]
 pub(crate) fn on_ready<
     H: PgWireServerHandlers,
     St: PortalStore<
@@ -98,6 +100,7 @@ pub(crate) fn on_ready<
 }
 
 /// A message of a session that is ready, which calls nothing and doesn't end the conversation.
+#[inline(always)]
 fn on_statement<
     H: PgWireServerHandlers,
     St: PortalStore<
@@ -144,6 +147,7 @@ fn on_statement<
 }
 
 /// A message after an error: all but Sync and Terminate is dropped.
+#[inline(never)]
 pub(crate) fn on_awaiting_sync<
     H: PgWireServerHandlers,
     St: PortalStore<
@@ -182,6 +186,7 @@ pub(crate) fn on_awaiting_sync<
 }
 
 /// A message of a COPY from the client: all but those of the COPY and Terminate are dropped.
+#[inline(never)]
 pub(crate) fn on_copy<
     H: PgWireServerHandlers,
     St: PortalStore<

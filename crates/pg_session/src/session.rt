@@ -154,6 +154,7 @@ mod server;
 pub use server::{process_error, process_message};
 
 /// Whether an error of a message waits for Sync: in an extended message, and in a COPY of one.
+#[inline(always)]
 fn waits_for_sync(state: PgWireConnectionState, message: &PgWireFrontendMessage) -> bool
     ensures { scope_for result ≡ scope_in state message.now }
 {
@@ -174,6 +175,7 @@ impl<
     >,
 > Session<H, St> {
     /// Answers a message, as the whole table says.
+    #[inline(always)]
     fn respond<D: CancelDesk>(
         &mut self,
         alloc: Global,

@@ -32,6 +32,8 @@ use pg_portal::{Metadata, PgWireConnectionState, PgWireError, PortalStore};
 use std::alloc::{AllocError, Global};
 
 /// A message while the startup packet is awaited.
+#[cold]
+#[inline(never)]
 pub(crate) fn on_startup_phase<St: PortalStore, D: CancelDesk>(
     alloc: Global,
     client: &mut Client<St>,

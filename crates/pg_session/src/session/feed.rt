@@ -52,6 +52,7 @@ fn flush_all<K: Sink>(outbox: &mut Outbox, sink: &mut K) -> Result<(), ServeErro
 }
 
 /// Sends what waits in the outbox where it is a chunk or more.
+#[inline(always)]
 fn flush_if_full<K: Sink>(outbox: &mut Outbox, sink: &mut K) -> Result<(), ServeError>
     ensures ok { OnOk result (Flows (K.written sink.old) (K.written sink.new) outbox.old outbox.new
         []) }
@@ -66,6 +67,7 @@ fn flush_if_full<K: Sink>(outbox: &mut Outbox, sink: &mut K) -> Result<(), Serve
 }
 
 /// Whether the startup packet is still awaited.
+#[inline(always)]
 fn awaits_startup(state: PgWireConnectionState) -> bool
     ensures { result ≡ is_startup_phase state }
 {
@@ -73,6 +75,7 @@ fn awaits_startup(state: PgWireConnectionState) -> bool
 }
 
 /// The progress that an end tells, if there is one.
+#[inline(always)]
 fn ended_by(end: Option<EndKind>) -> Option<Progress>
     ensures { result ≡ option_map (λ kind. Progress.Ended kind) end }
 {
@@ -80,6 +83,7 @@ fn ended_by(end: Option<EndKind>) -> Option<Progress>
 }
 
 /// Whether the session goes on.
+#[inline(always)]
 fn is_more(outcome: &Result<Progress, ServeError>) -> bool
     ensures { result ≡ is_more outcome.now }
 {
@@ -95,6 +99,7 @@ impl<
 > Session<H, St> {
     /// Takes the next message off the bytes and answers it. None says that the conversation goes on
     /// with the next one.
+    #[inline(always)]
     fn step<D: CancelDesk, K: Sink>(
         &mut self,
         alloc: Global,

@@ -25,6 +25,7 @@ use pg_portal::{PgWireConnectionState, PgWireError, PortalStore};
 use std::alloc::{AllocError, Global};
 
 /// Whether a session is open after a message.
+#[inline(always)]
 fn stays_open(outcome: &Result<Option<EndKind>, SessionError>) -> bool
     ensures { result ≡ stays_open outcome.now }
 {
@@ -41,6 +42,7 @@ fn stays_open(outcome: &Result<Option<EndKind>, SessionError>) -> bool
 /// error of the message leaves the session open, without its ErrorResponse and all that follows it:
 /// `process_error` does that. TurnLimit comes where a query wants a turn and none is left. An end,
 /// want of memory and TurnLimit close the session.
+#[inline(always)]
 pub fn process_message<
     H: PgWireServerHandlers,
     St: PortalStore<
@@ -125,6 +127,8 @@ pub fn process_message<
 ///
 /// The replies wait for the next `feed`. An end closes the session, and so does AllocError, after
 /// which nothing more is said of what waits.
+#[cold]
+#[inline(never)]
 pub fn process_error<
     H: PgWireServerHandlers,
     St: PortalStore<

@@ -46,8 +46,8 @@ returns-in-Ok-process_error g c =
     let row = row_where_told h session.state c.args.message calls new_calls session.unsent mid.unsent mid.state c.in-Err-Wire.error
     c.in_default.not-NoMemory refused in
     record {
-      answer = answered_by_error h session.state c.args.message calls new_calls session.unsent mid.unsent c.process_error.new.session.unsent mid.state
-          c.in-Err-Wire.error
+      answer = answered_by_error h session.state c.args.message calls new_calls session.unsent mid.unsent
+          c.process_error.new.session.unsent mid.state c.in-Err-Wire.error
           (scope_for c.waits_for_sync-wait_for_sync.result) (next_of c.in-Ok-process_error.end c.process_error.new.session.state) row
           (c.waits_for_sync-wait_for_sync.ensures ∙ ap (λ v. scope_in v.state.info.state c.args.message) c.self.view_is)
           c.in-Ok-process_error.ensures.replied c.in-Ok-process_error.ensures.next;

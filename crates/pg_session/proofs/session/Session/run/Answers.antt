@@ -148,7 +148,8 @@ returns-in-Some-clause-served g c =
     (at y) before.state before.rest after.rest step.0 written now before.unsent after.unsent l m) so_far.handlers step.1 in
     let flushed = g.K.Sink.written c.flush_all.new.sink in
     let waits = ap (λ v. v.unsent) c.self.view_is in
-    let flow = Flows-sent now flushed after.unsent [] (subst (λ o. GrowsBy now flushed o) waits c.in_ok-flush_all-in-Some.ensures.ok) refl in (
+    let sent = subst (λ o. GrowsBy now flushed o) waits c.in_ok-flush_all-in-Some.ensures.ok in
+    let flow = Flows-sent now flushed after.unsent [] sent refl in (
       step.0,
       subst (λ r. IsServed (at x) c.args.self.now.state c.args.self.now.rest r step.0
           (g.K.Sink.written c.args.sink.now) flushed c.args.self.now.unsent [] k m)
