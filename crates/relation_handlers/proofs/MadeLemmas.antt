@@ -1,5 +1,5 @@
 -- Rows that are made one by one: their places and their formats.
-use Rattle.std.proofs.Common.{◌≡◌, ℕ, suc, ◌+◌, ◌<◌, IsTrue, is_some, List, [], ◌∷◌, Some, ℤ, pos, Result, Ok, length, map, slice_get, refl, sym, ap, ◌∙◌, arith}
+use Rattle.std.proofs.Common.{◌≡◌, ℕ, suc, ◌+◌, ◌<◌, IsTrue, is_some, List, [], ◌∷◌, Some, ℤ, pos, Result, Ok, length, map, get_or, slice_get, refl, sym, ap, ◌∙◌, arith}
 use Rattle.std.specs.List.{zip}
 use Rattle.std.specs.Option.{option_map}
 use Rattle.std.proofs.lemmas.Option.{slice_get-get_or, slice_get-map}
@@ -28,6 +28,12 @@ pub row_made : (m : ToldMaker) (formats : List FieldFormat) (style : Result Inte
     → slice_get (relation_of m).rows index ≡ Some row → slice_get (row_items m) index ≡ Some (row_item style formats row)
 row_made m formats style index row e s h =
     rw (e, s) (made_at (row_item (style_in m.options) (column_formats m.formats (relation_of m).columns)) (relation_of m).rows index row h)
+
+-- what is read of the rows that are kept is a row of the relation
+pub row_kept : (m : ToldMaker) (kept : List (List Interval)) (index : ℕ) (item row : List Interval) → kept ≡ (relation_of m).rows
+    → index < length (relation_of m).rows → item ≡ get_or kept index item → row ≡ item → slice_get (relation_of m).rows index ≡ Some row
+row_kept m kept index item row e inside is same = slice_get-get_or (relation_of m).rows index item inside
+    ∙ ap Some (sym (same ∙ is ∙ ap (λ rows. get_or rows index item) e))
 
 -- there are as many formats as values
 pub as_many : (m : ToldMaker) (formats : List FieldFormat) (row : List Interval)

@@ -1,5 +1,5 @@
--- A row with a text in a style that is refused.
-use Rattle.std.proofs.Common.{◌≡◌, ◌<◌, true, List, [], ◌∷◌, Result, Ok, Err, inl, inr, length, map, refl, arith}
+-- Rows and lines where the session's style is refused.
+use Rattle.std.proofs.Common.{◌≡◌, ◌<◌, true, false, List, [], ◌∷◌, Ok, Err, length, map, refl, ap, arith}
 use Rattle.std.specs.List.{list_any, zip}
 use Rattle.pg_interval.specs.declared.pg_interval.Interval.{Interval}
 use Rattle.pg_text.specs.declared.field_format.FieldFormat.{FieldFormat}
@@ -7,8 +7,8 @@ use Rattle.pg_text.specs.declared.field_format.FieldFormat.TheVariants as field
 use Rattle.pg_text.specs.declared.format.interval_style.IntervalStyle.{IntervalStyle}
 use Rattle.pg_portal.specs.declared.error.PgWireError.{PgWireError}
 use Rattle.pg_portal.specs.Formats.{is_text}
-use Rattle.pg_portal.specs.Told.{IsOutcome}
-use Rattle.relation_tables.specs.RelationHandler.{all_or_error, line_item, row_item, value}
+use Rattle.relation_tables.specs.RelationHandler.{all_or_error, line_item, row_item, row_of_values, value}
+use Rattle.relation_tables.specs.Relations.{binary_value}
 
 refused : (e : PgWireError) (formats : List FieldFormat) (row : List Interval) → length formats ≡ length row
     → list_any is_text formats ≡ true → all_or_error (map (λ p. value (Err e) p.0 p.1) (zip formats row)) ≡ Err e
@@ -17,17 +17,32 @@ refused e (f ∷ formats) [] same any = absurd (omega (arith, same))
 refused e (field.Text ∷ formats) (i ∷ row) same any = refl
 refused e (field.Binary ∷ formats) (i ∷ row) same any = rw (refused e formats row (omega (arith, same)) any) refl
 
-pub early_row : (style : Result IntervalStyle PgWireError) (formats : List FieldFormat) (row : List Interval) (e : PgWireError)
-    → length formats ≡ length row → list_any is_text formats ≡ true → IsOutcome style (Err e) → IsOutcome (row_item style formats row) (Err e)
-early_row (Ok style) formats row e same any (inl h) = cc
-early_row (Ok style) formats row e same any (inr h) = inr cc
-early_row (Err told) formats row e same any (inl h) = inl (rw (refused told formats row same any) cc)
-early_row (Err told) formats row e same any (inr h) = inr cc
+-- a row with a text is refused
+pub refused_row : (e : PgWireError) (formats : List FieldFormat) (row : List Interval) → length formats ≡ length row
+    → list_any is_text formats ≡ true → row_item (Err e) formats row ≡ Err e
+refused_row e formats row same any = rw (refused e formats row same any) refl
 
-pub early_line : (style : Result IntervalStyle PgWireError) (row : List Interval) (e : PgWireError) → 0 < length row
-    → IsOutcome style (Err e) → IsOutcome (line_item style row) (Err e)
-early_line style [] e some h = absurd (omega (arith, some))
-early_line (Ok style) (i ∷ row) e some (inl h) = cc
-early_line (Ok style) (i ∷ row) e some (inr h) = inr cc
-early_line (Err told) (i ∷ row) e some (inl h) = inl cc
-early_line (Err told) (i ∷ row) e some (inr h) = inr cc
+without_text : (e : PgWireError) (style : IntervalStyle) (formats : List FieldFormat) (row : List Interval)
+    → list_any is_text formats ≡ false
+    → map (λ p. value (Err e) p.0 p.1) (zip formats row) ≡ map (λ p. value (Ok style) p.0 p.1) (zip formats row)
+without_text e style [] row none = refl
+without_text e style (f ∷ formats) [] none = refl
+without_text e style (field.Text ∷ formats) (i ∷ row) none = cc
+without_text e style (field.Binary ∷ formats) (i ∷ row) none =
+    ap (λ values. Ok (binary_value i) ∷ values) (without_text e style formats row none)
+
+-- a row without a text is the same in any style
+pub row_without_text : (e : PgWireError) (style : IntervalStyle) (formats : List FieldFormat) (row : List Interval)
+    → list_any is_text formats ≡ false → row_item (Err e) formats row ≡ row_item (Ok style) formats row
+row_without_text e style formats row none =
+    ap (λ values. row_of_values (length row) (all_or_error values)) (without_text e style formats row none)
+
+-- a line with a text is refused, and one without is the same in any style
+pub refused_line : (e : PgWireError) (row : List Interval) → 0 < length row → line_item (Err e) row ≡ Err e
+refused_line e [] some = absurd (omega (arith, some))
+refused_line e (i ∷ row) some = refl
+
+pub line_without_text : (e : PgWireError) (style : IntervalStyle) (row : List Interval) → length row ≡ 0
+    → line_item (Err e) row ≡ line_item (Ok style) row
+line_without_text e style [] none = refl
+line_without_text e style (i ∷ row) none = absurd (omega (arith, none))

@@ -1,5 +1,6 @@
 -- The rows of a relation, and its lines, as they are made on demand.
 use Rattle.std.specs.Prelude.{ℕ, ◌≡◌, ◌<◌, IsTrue, is_some, List, Result, map, drop, length}
+use Rattle.pg_interval.specs.declared.pg_interval.Interval.{Interval}
 use Rattle.pg_text.specs.declared.field_format.FieldFormat.{FieldFormat}
 use Rattle.pg_text.specs.declared.format.FormatOptions.{FormatOptions}
 use Rattle.pg_text.specs.declared.format.interval_style.IntervalStyle.{IntervalStyle}
@@ -15,6 +16,7 @@ use Rattle.pg_portal.specs.Texts.{IsShortText}
 use Rattle.relation_tables.specs.declared.Relation.{Relation}
 use Rattle.relation_tables.specs.Relations.{relation_at}
 use Rattle.relation_tables.specs.RelationHandler.{column_formats, line_item, or_refused, row_item, style_text}
+use Rattle.relation_handlers.specs.Tables.{IsSound}
 use Rattle.pg_portal.specs.declared.on_demand.OnDemand.{OnDemand}
 
 -- what makes the rows of a relation: the table and the relation's place in it, the formats of a row, and the options of a text
@@ -50,12 +52,15 @@ lines_left source = drop source.position (line_items source.maker)
 abbrev pub GivesFormats : Format → ℕ → Type 0
 GivesFormats formats count = (index : ℕ) → index < count → IsTrue (is_some (format_for formats index))
 
--- What is true of each maker: its relation is in the table, each column has a format, and the style's text is short; what it keeps
--- beside are the formats of the columns and the style.
-pub record IsMaker (m : ToldMaker) (kept_formats : List FieldFormat) (kept_style : Result IntervalStyle PgWireError) : Type 0 where
+-- What is true of each maker: its relation is in the table and sound, each column has a format, and the style's text is short; what it
+-- keeps beside are the relation's rows, the formats of the columns and the style.
+pub record IsMaker (m : ToldMaker) (kept_rows : List (List Interval)) (kept_formats : List FieldFormat)
+    (kept_style : Result IntervalStyle PgWireError) : Type 0 where
   pub place : m.relation < length m.relations
+  pub sound : IsSound (relation_of m)
   pub formats : GivesFormats m.formats (length (relation_of m).columns)
   pub short_style : IsShortText m.options.interval_style
+  pub rows : kept_rows ≡ (relation_of m).rows
   pub each_format : kept_formats ≡ column_formats m.formats (relation_of m).columns
   pub style : kept_style ≡ style_in m.options
 

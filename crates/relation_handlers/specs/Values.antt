@@ -1,19 +1,13 @@
 -- What becomes of values that are appended one after another.
-use Rattle.std.specs.Prelude.{ℕ, List, ◌++◌, Result, Ok, Err, ◌≡◌, ◌⊎◌}
+use Rattle.std.specs.Prelude.{ℕ, List, ◌++◌, Result, Ok, Err, ◌≡◌}
 use Rattle.std.specs.List.{concat, join_with_byte}
 use Rattle.pg_portal.specs.declared.error.PgWireError.{PgWireError}
-use Rattle.pg_portal.specs.declared.error.PgWireError.TheVariants as wire
 use Rattle.pg_portal.specs.Encoding.{line_cell}
 
 -- the bytes were appended
 abbrev pub IsPushed : Result (List ℕ) PgWireError → List ℕ → List ℕ → Type 0
 IsPushed (Ok bytes) old new = new ≡ old ++ bytes
 IsPushed (Err e) old new = ⊥
-
--- the error that is told, or want of memory
-abbrev pub IsRefusedBy : {A : Type 0} → Result A PgWireError → PgWireError → Type 0
-IsRefusedBy (Ok x) e = e ≡ wire.NoMemory
-IsRefusedBy (Err told) e = (e ≡ told) ⊎ (e ≡ wire.NoMemory)
 
 -- the values one after another
 abbrev pub joined : Result (List (List ℕ)) PgWireError → Result (List ℕ) PgWireError

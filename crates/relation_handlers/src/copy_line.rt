@@ -1,22 +1,24 @@
 //! Rows of relations as lines of a COPY (protocol: COPY Operations).
 
-ghost use Rattle.std.specs.Prelude.{◌≡◌, ◌≤◌, ◌+◌, Ok, IfOk, IfErr, OnOk, length, map};
+ghost use Rattle.std.specs.Prelude.{◌≡◌, ◌≤◌, ◌+◌, Ok, Err, IfOk, OnOk, length, map};
 ghost use Rattle.pg_messages.specs.declared.backend.PgWireBackendMessage.TheVariants as server;
 ghost use Rattle.pg_messages.specs.Replies.{IsEncodable};
 ghost use Rattle.pg_portal.specs.Copying.{IsSendableCopy};
-ghost use Rattle.pg_portal.specs.Rows.{IsAnswerableItem};
-ghost use Rattle.pg_portal.specs.Told.{IsOutcome};
+ghost use Rattle.pg_portal.specs.Texts.{IsShortText};
+ghost use Rattle.pg_portal.specs.declared.error.PgWireError.TheVariants as wire;
 ghost use Rattle.relation_tables.specs.RelationHandler.{all_or_error, text_of, line_item};
-ghost use Rattle.relation_handlers.specs.Values.{IsPushed, IsRefusedBy, tabbed, tab_joined};
+ghost use Rattle.relation_handlers.specs.Values.{IsPushed, tabbed, tab_joined};
 
-use crate::style::SessionStyle;
+use crate::style::{SessionStyle, refusal};
 use pg_interval::Interval;
-use pg_messages::{CopyData, PgBytes};
+use pg_messages::{CopyData, PgBytes, PgStr};
 use pg_portal::{PgWireError, push_line_cell};
+use pg_text::IntervalStyle;
 use std::alloc::{AllocError, Global};
 
 /// A row as a line, or `InvalidOptionValue` in its place where the session's style isn't one. It
 /// can be sent as a reply.
+#[inline(always)]
 pub(crate) fn line_item(
     alloc: Global,
     style: &SessionStyle,
@@ -26,28 +28,48 @@ pub(crate) fn line_item(
     ensures item { IfOk result (λ item. item ≡ line_item style.now row.now) }
     ensures sendable { IfOk result IsSendableCopy }
 {
-    match copy_line_of(alloc, style, row) {
-        Ok(line) => Ok(Ok(line)),
-        Err(PgWireError::NoMemory) => Err(AllocError),
-        Err(error) => Ok(Err(error)),
+    match style.or_text() {
+        Ok(style) => match copy_line_of(alloc, style, row) {
+            Ok(line) => Ok(Ok(line)),
+            Err(error) => Err(error),
+        },
+        Err(text) => line_without_style(alloc, text, row),
     }
 }
 
-/// A row as a line: its texts, split by tabs and ended by a newline. One that is refused takes no
-/// memory but for its error.
+/// A row as a line where the session's style is a text that names none: `InvalidOptionValue` in its
+/// place where it has a column. One that is refused takes no memory but for its error.
+#[cold]
+#[inline(never)]
+fn line_without_style(
+    alloc: Global,
+    text: &PgStr,
+    row: &[Interval],
+) -> Result<Result<CopyData, PgWireError>, AllocError>
+    requires narrow { length row.now ≤ 1600 }
+    requires short { IsShortText text.now }
+    ensures item { IfOk result (λ item.
+        item ≡ line_item (Err (wire.InvalidOptionValue text.now)) row.now) }
+    ensures sendable { IfOk result IsSendableCopy }
+{
+    if !row.is_empty() {
+        return Ok(Err(refusal(alloc, text)?));
+    }
+    // Without a text any style will do.
+    Ok(Ok(copy_line_of(alloc, IntervalStyle::Postgres, row)?))
+}
+
+/// A row as a line: its texts in a style, split by tabs and ended by a newline.
+#[inline(always)]
 fn copy_line_of(
     alloc: Global,
-    style: &SessionStyle,
+    style: IntervalStyle,
     row: &[Interval],
-) -> Result<CopyData, PgWireError>
+) -> Result<CopyData, AllocError>
     requires { length row.now ≤ 1600 }
-    ensures outcome { IsOutcome (line_item style.now row.now) result }
-    ensures encodable { IfOk result (λ line. IsEncodable (server.CopyData line)) }
-    ensures answerable { IfErr result IsAnswerableItem }
+    ensures item { IfOk result (λ made. Ok made ≡ line_item (Ok style) row.now) }
+    ensures encodable { IfOk result (λ made. IsEncodable (server.CopyData made)) }
 {
-    if style.is_refused() && !row.is_empty() {
-        style.get(alloc)?;
-    }
     let mut payload = line_texts(alloc, style, row)?;
     payload.extend_from_slice(b"\n")?;
     Ok(CopyData {
@@ -57,37 +79,32 @@ fn copy_line_of(
 
 /// The texts of a row, split by tabs. There is room for them, each of at most 96 bytes, and for the
 /// newline.
-fn line_texts(alloc: Global, style: &SessionStyle, row: &[Interval]) -> Result<Vec<u8>, PgWireError>
+#[inline(always)]
+fn line_texts(alloc: Global, style: IntervalStyle, row: &[Interval]) -> Result<Vec<u8>, AllocError>
     requires { length row.now ≤ 1600 }
     ensures texts { IfOk result (λ payload. Ok payload.items
-        ≡ tab_joined (all_or_error (map (text_of style.now) row.now))) }
+        ≡ tab_joined (all_or_error (map (text_of (Ok style)) row.now))) }
     ensures short { IfOk result (λ payload. length payload.items ≤ 6560000) }
-    ensures refused { IfErr result (IsRefusedBy
-        (tab_joined (all_or_error (map (text_of style.now) row.now)))) }
-    ensures answerable { IfErr result IsAnswerableItem }
 {
     let mut payload = Vec::with_capacity(alloc, 97 * row.len() + 1)?;
     for (index, interval) in row.iter().enumerate() {
-        push_cell(alloc, &mut payload, style, index, interval)?;
+        push_cell(&mut payload, style, index, interval)?;
     }
     Ok(payload)
 }
 
 /// Appends the text at an index of a line, behind its tab.
+#[inline(always)]
 fn push_cell(
-    alloc: Global,
     payload: &mut Vec<u8>,
-    style: &SessionStyle,
+    style: IntervalStyle,
     index: usize,
     interval: &Interval,
-) -> Result<(), PgWireError>
-    ensures pushed { OnOk result (IsPushed (tabbed index (text_of style.now interval.now))
+) -> Result<(), AllocError>
+    ensures pushed { OnOk result (IsPushed (tabbed index (text_of (Ok style) interval.now))
         payload.old.items payload.new.items) }
     ensures short { OnOk result (length payload.new.items ≤ length payload.old.items + 4100) }
-    ensures refused { IfErr result (IsRefusedBy (tabbed index (text_of style.now interval.now))) }
-    ensures answerable { IfErr result IsAnswerableItem }
 {
-    let style = style.get(alloc)?;
     let text = style.text(interval);
-    Ok(push_line_cell(payload, index, text.as_bytes())?)
+    push_line_cell(payload, index, text.as_bytes())
 }

@@ -1,6 +1,6 @@
 //! Rows of relations as the protocol sends them (protocol: Message Formats, DataRow).
 
-ghost use Rattle.std.specs.Prelude.{◌≡◌, ◌≤◌, ◌+◌, ◌++◌, [], Some, Ok, IfOk, IfErr, OnOk, length, map, zip};
+ghost use Rattle.std.specs.Prelude.{◌≡◌, ◌≤◌, ◌+◌, ◌++◌, [], Some, Ok, Err, IfOk, OnOk, length, map, zip};
 ghost use Rattle.std.specs.List.{list_any};
 ghost use Rattle.pg_interval.specs.Printed.{printed};
 ghost use Rattle.pg_text.specs.Words.{printed_style};
@@ -8,15 +8,16 @@ ghost use Rattle.pg_messages.specs.declared.backend.PgWireBackendMessage.TheVari
 ghost use Rattle.pg_messages.specs.Replies.{IsEncodable};
 ghost use Rattle.pg_portal.specs.Encoding.{cell_bytes};
 ghost use Rattle.pg_portal.specs.Formats.{is_text};
-ghost use Rattle.pg_portal.specs.Rows.{IsAnswerableItem, IsSendable};
-ghost use Rattle.pg_portal.specs.Told.{IsOutcome};
+ghost use Rattle.pg_portal.specs.Rows.{IsSendable};
+ghost use Rattle.pg_portal.specs.Texts.{IsShortText};
+ghost use Rattle.pg_portal.specs.declared.error.PgWireError.TheVariants as wire;
 ghost use Rattle.relation_tables.specs.RelationHandler.{all_or_error, value, row_item};
-ghost use Rattle.relation_handlers.specs.Values.{IsPushed, IsRefusedBy, joined};
+ghost use Rattle.relation_handlers.specs.Values.{IsPushed, joined};
 
-use crate::style::SessionStyle;
+use crate::style::{SessionStyle, refusal};
 use pg_interval::Interval;
-use pg_messages::{DataRow, PgBytes};
-use pg_portal::{PgWireError, push_cell};
+use pg_messages::{DataRow, PgBytes, PgStr};
+use pg_portal::{PgWireError, push_cell, push_cell_of_sixteen};
 use pg_text::{FieldFormat, IntervalStyle};
 use std::alloc::{AllocError, Global};
 
@@ -34,30 +35,52 @@ pub(crate) fn row_item(
     ensures item { IfOk result (λ item. item ≡ row_item style.now formats.now row.now) }
     ensures sendable { IfOk result IsSendable }
 {
-    match data_row_of(alloc, style, formats, row) {
-        Ok(row) => Ok(Ok(row)),
-        Err(PgWireError::NoMemory) => Err(AllocError),
-        Err(error) => Ok(Err(error)),
+    match style.or_text() {
+        Ok(style) => match data_row_of(alloc, style, formats, row) {
+            Ok(row) => Ok(Ok(row)),
+            Err(error) => Err(error),
+        },
+        Err(text) => item_without_style(alloc, text, formats, row),
     }
 }
 
-/// A row in these formats. One that is refused takes no memory but for its error.
+/// A row where the session's style is a text that names none: `InvalidOptionValue` in its place
+/// where a column is text. One that is refused takes no memory but for its error.
+#[cold]
+#[inline(never)]
+fn item_without_style(
+    alloc: Global,
+    text: &PgStr,
+    formats: &[FieldFormat],
+    row: &[Interval],
+) -> Result<Result<DataRow, PgWireError>, AllocError>
+    requires same { length formats.now ≡ length row.now }
+    requires narrow { length row.now ≤ 1600 }
+    requires short { IsShortText text.now }
+    ensures item { IfOk result (λ item.
+        item ≡ row_item (Err (wire.InvalidOptionValue text.now)) formats.now row.now) }
+    ensures sendable { IfOk result IsSendable }
+{
+    if have_text(formats) {
+        return Ok(Err(refusal(alloc, text)?));
+    }
+    // Without a text any style will do.
+    Ok(Ok(data_row_of(alloc, IntervalStyle::Postgres, formats, row)?))
+}
+
+/// A row in these formats, whose texts are in a style.
 #[inline(always)]
 fn data_row_of(
     alloc: Global,
-    style: &SessionStyle,
+    style: IntervalStyle,
     formats: &[FieldFormat],
     row: &[Interval],
-) -> Result<DataRow, PgWireError>
+) -> Result<DataRow, AllocError>
     requires same { length formats.now ≡ length row.now }
     requires narrow { length row.now ≤ 1600 }
-    ensures outcome { IsOutcome (row_item style.now formats.now row.now) result }
-    ensures encodable { IfOk result (λ row. IsEncodable (server.DataRow row)) }
-    ensures answerable { IfErr result IsAnswerableItem }
+    ensures item { IfOk result (λ made. Ok made ≡ row_item (Ok style) formats.now row.now) }
+    ensures encodable { IfOk result (λ made. IsEncodable (server.DataRow made)) }
 {
-    if style.is_refused() && have_text(formats) {
-        style.get(alloc)?;
-    }
     let payload = row_values(alloc, style, formats, row)?;
     Ok(DataRow {
         payload: PgBytes::from_vec(payload),
@@ -78,22 +101,19 @@ fn have_text(formats: &[FieldFormat]) -> bool
 #[inline(always)]
 fn row_values(
     alloc: Global,
-    style: &SessionStyle,
+    style: IntervalStyle,
     formats: &[FieldFormat],
     row: &[Interval],
-) -> Result<Vec<u8>, PgWireError>
+) -> Result<Vec<u8>, AllocError>
     requires same { length formats.now ≡ length row.now }
     requires narrow { length row.now ≤ 1600 }
     ensures values { IfOk result (λ payload. Ok payload.items
-        ≡ joined (all_or_error (map (λ p. value style.now p.0 p.1) (zip formats.now row.now)))) }
+        ≡ joined (all_or_error (map (λ p. value (Ok style) p.0 p.1) (zip formats.now row.now)))) }
     ensures short { IfOk result (λ payload. length payload.items ≤ 6560000) }
-    ensures refused { IfErr result (IsRefusedBy
-        (joined (all_or_error (map (λ p. value style.now p.0 p.1) (zip formats.now row.now))))) }
-    ensures answerable { IfErr result IsAnswerableItem }
 {
     let mut payload = empty_payload(alloc, formats)?;
     for (index, interval) in row.iter().enumerate() {
-        push_value(alloc, &mut payload, style, formats[index], interval)?;
+        push_value(&mut payload, style, formats[index], interval)?;
     }
     Ok(payload)
 }
@@ -114,23 +134,19 @@ fn empty_payload(alloc: Global, formats: &[FieldFormat]) -> Result<Vec<u8>, Allo
 /// Appends an interval as a value of a row.
 #[inline(always)]
 fn push_value(
-    alloc: Global,
     payload: &mut Vec<u8>,
-    style: &SessionStyle,
+    style: IntervalStyle,
     format: FieldFormat,
     interval: &Interval,
-) -> Result<(), PgWireError>
-    ensures pushed { OnOk result (IsPushed (value style.now format interval.now)
+) -> Result<(), AllocError>
+    ensures pushed { OnOk result (IsPushed (value (Ok style) format interval.now)
         payload.old.items payload.new.items) }
     ensures short { OnOk result (length payload.new.items ≤ length payload.old.items + 4100) }
-    ensures refused { IfErr result (IsRefusedBy (value style.now format interval.now)) }
-    ensures answerable { IfErr result IsAnswerableItem }
 {
     match format {
-        FieldFormat::Binary => push_cell(payload, &interval.to_cell())?,
-        FieldFormat::Text => push_text(payload, style.get(alloc)?, interval)?,
+        FieldFormat::Binary => push_cell_of_sixteen(payload, interval.to_cell()),
+        FieldFormat::Text => push_text(payload, style, interval),
     }
-    Ok(())
 }
 
 /// Appends the text of an interval as a value of a row.

@@ -8,6 +8,7 @@ mod copy_line;
 mod data_row;
 mod errors;
 mod handler;
+mod options;
 mod parser;
 mod query;
 mod row_source;

@@ -31,6 +31,8 @@ pub struct RelationRows<'r> {
     pub formats: Format,
     /// The options of the session, whose interval style a text has.
     pub options: Arc<FormatOptions>,
+    // the rows of the relation, looked up once
+    rows: &'r PgList<PgList<Interval>>,
     // the format of each column, judged once
     each_format: Arc<PgList<FieldFormat>>,
     // the style of the options, judged once
@@ -56,7 +58,7 @@ impl<'r> Model for RelationRows<'r> {
       relation = r.relation;
       formats = r.formats;
       options = arc_value r.options;
-    }) (arc_value r.each_format) r.style };
+    }) r.rows.now (arc_value r.each_format) r.style };
 }
 
 impl<'r> RelationRows<'r> {
@@ -83,11 +85,13 @@ impl<'r> RelationRows<'r> {
         ensures formats { result.formats ≡ formats }
         ensures options { result.options ≡ arc_value options }
     {
+        let rows = &relations.at(relation).rows;
         RelationRows {
             relations,
             relation,
             formats,
             options,
+            rows,
             each_format,
             style,
             alloc,
@@ -99,7 +103,7 @@ impl<'r> RelationRows<'r> {
     fn len(&self) -> usize
         ensures { result ≡ length (relation_of self.now).rows }
     {
-        self.relations.at(self.relation).rows.len()
+        self.rows.len()
     }
 
     /// The intervals of the row at an index, one for each column.
@@ -110,8 +114,8 @@ impl<'r> RelationRows<'r> {
         ensures wide { length result.now ≡ length (relation_of self.now).columns }
         ensures narrow { length result.now ≤ 1600 }
     {
-        let relation = self.relations.at(self.relation);
-        relation.rows.as_slice()[index].as_slice()
+        let rows = self.rows.as_slice();
+        rows[index].as_slice()
     }
 }
 

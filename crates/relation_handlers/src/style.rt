@@ -1,8 +1,7 @@
 //! The interval style that a session's startup parameters name.
 
-ghost use Rattle.std.specs.Prelude.{◌≡◌, IfOk, IfErr, codes, unwrap_or};
+ghost use Rattle.std.specs.Prelude.{◌≡◌, Ok, Err, IfOk, IfErr, codes, unwrap_or};
 ghost use Rattle.std.specs.FinMap as fin;
-ghost use Rattle.std.specs.Result.{is_err};
 ghost use Rattle.pg_text.specs.Words.{interval_style_of};
 ghost use Rattle.pg_portal.specs.declared.error.PgWireError.TheVariants as wire;
 ghost use Rattle.pg_portal.specs.Clients.{HasShortMetadata};
@@ -64,12 +63,18 @@ impl SessionStyle {
         Ok(SessionStyle { style })
     }
 
-    /// Whether the text names none of the four styles.
+    /// The style, or the text that names none.
     #[inline(always)]
-    pub(crate) fn is_refused(&self) -> bool
-        ensures { result ≡ is_err self.now }
+    pub(crate) fn or_text(&self) -> Result<IntervalStyle, &PgStr>
+        ensures known { IfOk result (λ style. self.now ≡ Ok style) }
+        ensures refused { IfErr result (λ text.
+            self.now ≡ Err (wire.InvalidOptionValue text.now)) }
+        ensures short { IfErr result (λ text. IsShortText text.now) }
     {
-        self.style.is_err()
+        match &self.style {
+            Ok(style) => Ok(*style),
+            Err(text) => Err(text),
+        }
     }
 
     /// The style, or `InvalidOptionValue` with the text that names none.
@@ -88,7 +93,7 @@ impl SessionStyle {
 /// The refusal of a text that names no style.
 #[cold]
 #[inline(never)]
-fn refusal(alloc: Global, text: &PgStr) -> Result<PgWireError, AllocError>
+pub(crate) fn refusal(alloc: Global, text: &PgStr) -> Result<PgWireError, AllocError>
     ensures { IfOk result (λ error. error ≡ wire.InvalidOptionValue text.now) }
 {
     let text = PgStr::copy_of(alloc, text.as_str())?;
@@ -96,7 +101,7 @@ fn refusal(alloc: Global, text: &PgStr) -> Result<PgWireError, AllocError>
 }
 
 /// The startup parameter of this name, and `postgres` without one.
-fn text_under<'c>(client: &'c ClientInfo, name: &PgStr) -> &'c str
+pub(crate) fn text_under<'c>(client: &'c ClientInfo, name: &PgStr) -> &'c str
     ensures { result.now ≡ unwrap_or (fin.get client.now.metadata name.now) (codes "postgres") }
 {
     match client.metadata.get(name) {

@@ -5,15 +5,15 @@ ghost use Rattle.std.specs.Arc.{arc_value};
 ghost use Rattle.std.specs.FinMap as map;
 ghost use Rattle.std.specs.List.{list_all};
 ghost use Rattle.pg_portal.specs.Clients.{HasShortMetadata};
-ghost use Rattle.pg_text.specs.Options.{default_options};
 ghost use Rattle.relation_tables.specs.RelationHandler.{session_style};
 ghost use Rattle.relation_tables.specs.Relations.{are_even, place_of, relation_at};
 ghost use Rattle.relation_handlers.specs.Made.{session_options};
 ghost use Rattle.relation_handlers.specs.Shared.{shared_columns};
 ghost use Rattle.relation_handlers.specs.Tables.{is_transaction_word, is_foreign_to_names, is_name, is_column_name, are_columns, refusal_at, refusal, HoldIntervals, IsSound, IsValid, IsCause};
 
+use crate::options::{StyledOptions, options_under, shared_options};
 use crate::shared::{SharedColumns, shared_columns};
-use crate::style::SessionStyle;
+use crate::style::{SessionStyle, text_under};
 use crate::within::visit_relations;
 use pg_interval::Interval;
 use pg_messages::{PgList, PgStr};
@@ -58,16 +58,14 @@ pub struct RelationTable {
     columns: PgList<SharedColumns>,
     // the name of the startup parameter `intervalstyle`
     style_name: PgStr,
-    // the options of a client that doesn't give it
-    options: Arc<FormatOptions>,
+    // the options of clients, by the style that they give
+    options: PgList<StyledOptions>,
 }
 
 impl Model for RelationTable {
     ghost use Rattle.std.specs.Prelude.{List, ℕ, ◌≡◌, codes};
     ghost use Rattle.std.specs.Prelude as list;
-    ghost use Rattle.std.specs.Arc.{arc_value};
     ghost use Rattle.std.specs.FinMap as map;
-    ghost use Rattle.pg_text.specs.Options.{default_options};
     ghost use Rattle.relation_tables.specs.declared.Relation.{Relation};
 
     ghost Value = { List Relation };
@@ -82,7 +80,6 @@ impl Model for RelationTable {
         × ((name : List ℕ) → map.get t.places name ≡ place_of t.relations name)
         × (t.columns ≡ list.map shared_columns t.relations)
         × (t.style_name ≡ codes "intervalstyle")
-        × (arc_value t.options ≡ default_options)
         × HoldIntervals t.relations };
 }
 
@@ -98,7 +95,7 @@ impl RelationTable {
         let places = places_of(alloc, relations.as_slice())?;
         let columns = shared_columns(alloc, relations.as_slice())?;
         let style_name = PgStr::copy_of(alloc, "intervalstyle")?;
-        let options = options_in(alloc, "postgres")?;
+        let options = shared_options(alloc)?;
         visit_relations(relations.as_slice());
         Ok(RelationTable {
             relations,
@@ -145,8 +142,8 @@ impl RelationTable {
         SessionStyle::under(alloc, client, &self.style_name)
     }
 
-    /// The options of a client. Those of all clients that name no interval style are shared, which
-    /// takes no memory.
+    /// The options of a client. Where its interval style is one of the four by its very name, as it
+    /// is without one, they are shared, which takes no memory.
     pub(crate) fn options_of(
         &self,
         alloc: Global,
@@ -154,10 +151,8 @@ impl RelationTable {
     ) -> Result<Arc<FormatOptions>, AllocError>
         ensures { IfOk result (λ options. arc_value options ≡ session_options client.now) }
     {
-        match client.metadata.get(&self.style_name) {
-            Some(style) => options_in(alloc, style.as_str()),
-            None => self.options.clone(),
-        }
+        let style = text_under(client, &self.style_name);
+        options_under(alloc, self.options.as_slice(), style)
     }
 
     /// The relations, in their order.
@@ -168,16 +163,6 @@ impl RelationTable {
     {
         self.relations.as_slice()
     }
-}
-
-/// The default options, but for their interval style.
-fn options_in(alloc: Global, style: &str) -> Result<Arc<FormatOptions>, AllocError>
-    ensures { IfOk result (λ options.
-        arc_value options ≡ record default_options { interval_style = style.now }) }
-{
-    let mut options = FormatOptions::new_default(alloc)?;
-    options.interval_style = PgStr::copy_of(alloc, style)?;
-    Ok(Arc::new(alloc, options)?)
 }
 
 /// Where each name stands among relations that keep the rules.

@@ -137,15 +137,18 @@ told_parser relations = record {
 abbrev pub given_types : List (Option PgType) → List PgType
 given_types types = map (λ given. unwrap_or given type.Unknown) types
 
+-- what there is to describe of a statement: the types of its parameters, and its columns as text
 abbrev pub statement_described : List Relation → StoredStatement RelationStatement → DescribeStatementResponse
 statement_described relations s = record {
   parameters = given_types s.parameter_types;
   fields = fields_of relations s.statement format.UnifiedText;
 }
 
+-- what there is to describe of a portal: its columns in its formats
 abbrev pub portal_described : List Relation → BoundPortal RelationStatement → DescribePortalResponse
 portal_described relations p = record { fields = fields_of relations p.statement.statement p.result_column_format }
 
+-- the response to a query of a relation: its columns in the formats, and its rows in their order
 abbrev pub rows_response : ClientInfo → Format → Relation → ToldResponse
 rows_response client formats r = response.Query (record {
   command_tag = codes "SELECT";
@@ -171,6 +174,7 @@ told_extended relations = record {
 
 -- ---- simple queries
 
+-- the response to the COPY of a relation: as many columns, all text, and its rows as lines in their order
 abbrev pub copy_response : ClientInfo → Relation → ToldResponse
 copy_response client r = response.CopyOut (record {
   format = pos 0;
@@ -179,15 +183,18 @@ copy_response client r = response.CopyOut (record {
   trailer_left = false;
 })
 
+-- a query of a relation that there isn't is refused at once
 abbrev pub refused_query : List ℕ → ToldQuery (List ToldResponse)
 refused_query name = record { owes = 0; outcome = Err (wire.UserError (unknown_relation name)) }
 
+-- what the COPY of a name comes to, by the place of its relation
 abbrev pub copy_of : List Relation → ClientInfo → List ℕ → Option ℕ → ToldQuery (List ToldResponse)
 copy_of relations client name None = refused_query name
 copy_of relations client name (Some place) =
     let r = relation_at relations place in
     record { owes = r.unready; outcome = Ok (copy_response client r ∷ []) }
 
+-- what a text comes to that is a COPY of a name, or no query at all
 abbrev pub copy_or_unknown : List Relation → ClientInfo → List ℕ → Option (List ℕ) → ToldQuery (List ToldResponse)
 copy_or_unknown relations client text None = refused_query text
 copy_or_unknown relations client text (Some name) = copy_of relations client name (place_of relations name)

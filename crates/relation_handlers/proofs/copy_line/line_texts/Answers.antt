@@ -1,5 +1,7 @@
-use Rattle.std.proofs.Common.{pos, arith, map}
+use Rattle.std.proofs.Common.{pos, arith, map, Result, Ok}
 use Rattle.pg_interval.specs.declared.pg_interval.Interval.{Interval}
+use Rattle.pg_text.specs.declared.format.interval_style.IntervalStyle.{IntervalStyle}
+use Rattle.pg_portal.specs.declared.error.PgWireError.{PgWireError}
 use Rattle.relation_tables.specs.RelationHandler.{all_or_error, text_of}
 use Rattle.relation_handlers.specs.Values.{tab_joined}
 use Rattle.relation_handlers.proofs.CopyLineLemmas.{texts_step}
@@ -7,7 +9,7 @@ use Rattle.relation_handlers.proofs.copy_line.line_texts.Goals as goal
 
 pub loop-index-preserved : goal.loop-index-preserved
 loop-index-preserved c =
-    let style = c.args.style.now in
+    let style : Result IntervalStyle PgWireError = Ok c.args.style in
     let row = c.args.row.now in
     let none : Interval = record { months = pos 0; days = pos 0; microseconds = pos 0 } in
     record {
