@@ -2,6 +2,7 @@
 
 use crate::relations::table_of;
 use crate::serving::{Ending, Place};
+use crate::versions::VersionHandlers;
 use pg_handlers::NoopHandler;
 use pg_portal::MemPortalStore;
 use pg_serve::serve_connection;
@@ -23,6 +24,7 @@ pub fn serve_told<'t>(
         None => serve_relations(alloc, lines, place, turns),
         Some("noop") => Ok(serve_noop(alloc, place, turns)?),
         Some("sample") => Ok(serve_by(alloc, SampleHandler, place, turns)?),
+        Some("versions") => Ok(serve_by(alloc, VersionHandlers::new(), place, turns)?),
         Some("refused_copy") => Ok(serve_refused_copy(alloc, place, turns)?),
         Some(other) => Err(Fault::Line(other)),
     }

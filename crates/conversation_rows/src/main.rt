@@ -16,6 +16,7 @@ mod serving;
 mod sweeps;
 mod told;
 mod verdict;
+mod versions;
 
 use crate::sweeps::judge;
 use row_files::{Fault, Judge, judge_blocks, lines_of};
