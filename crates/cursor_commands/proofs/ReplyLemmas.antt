@@ -10,9 +10,9 @@ use Rattle.pg_messages.specs.Fields.{count32}
 use Rattle.pg_messages.specs.Frames.{told_len}
 use Rattle.pg_messages.specs.declared.backend.PgWireBackendMessage.{PgWireBackendMessage}
 use Rattle.pg_messages.specs.declared.backend.PgWireBackendMessage.TheVariants as server
-use Rattle.pg_messages.specs.Replies.{IsEncodable, is_one_byte, reply_type, reply_body, reply_bytes, replies_bytes}
+use Rattle.pg_messages.specs.Replies.{is_one_byte, reply_type, reply_body, reply_bytes, replies_bytes}
 use Rattle.cursor_commands.specs.Cursors.{Replies, is_error, is_row}
-use Rattle.cursor_commands.specs.Rewriting.{TellsLen, IsSurvey}
+use Rattle.cursor_commands.specs.Rewriting.{FitsLen, TellsLen, IsSurvey}
 
 -- ---- the length of a reply
 
@@ -22,12 +22,12 @@ one_by_type (server.GssEncResponse m) = refl
 one_by_type _ = refl
 
 -- the length by the type byte and the bytes behind it
-len_by_type : (m : PgWireBackendMessage) (others : List ℕ) (one : Bool) → is_one_byte m ≡ one → IsEncodable m
+len_by_type : (m : PgWireBackendMessage) (others : List ℕ) (one : Bool) → is_one_byte m ≡ one → FitsLen m
     → length (reply_bytes m) ≡ (if one then 1 else told_len false (reply_bytes m ++ others))
 len_by_type m others true one can = rw one refl
 len_by_type m others false one can =
     let n = 4 + length (reply_body m) in
-    let told : from_be_bytes w32 (count32 n) ≡ n = from_be_bytes-to_be_bytes_4 n (omega (arith, can.body)) in
+    let told : from_be_bytes w32 (count32 n) ≡ n = from_be_bytes-to_be_bytes_4 n (omega (arith, can)) in
     rw one (omega (arith, told, length-append (count32 n) (reply_body m)))
 
 apart : (m : PgWireBackendMessage) → is_one_byte m ≡ false → reply_type m ≢ 78
@@ -41,7 +41,7 @@ long m others one = rw one (omega (
       (count32 (4 + length (reply_body m))) (reply_body m),
 ))
 
-by_one : (m : PgWireBackendMessage) (others : List ℕ) (n : ℕ) (one : Bool) → is_one_byte m ≡ one → IsEncodable m
+by_one : (m : PgWireBackendMessage) (others : List ℕ) (n : ℕ) (one : Bool) → is_one_byte m ≡ one → FitsLen m
     → TellsLen (reply_bytes m ++ others) n
     → n ≡ length (reply_bytes m)
 by_one m others n true one can tells =
@@ -52,7 +52,7 @@ by_one m others n false one can tells =
     omega (arith, len, length-append (reply_bytes m) others) in
     tells.told (apart m one) (long m others one) within ∙ sym len
 
-pub is_len : (bytes : List ℕ) (n : ℕ) (m : PgWireBackendMessage) (others : List ℕ) → TellsLen bytes n → IsEncodable m
+pub is_len : (bytes : List ℕ) (n : ℕ) (m : PgWireBackendMessage) (others : List ℕ) → TellsLen bytes n → FitsLen m
     → bytes ≡ reply_bytes m ++ others
     → n ≡ length (reply_bytes m)
 is_len bytes n m others tells can e = by_one m others n (is_one_byte m) refl can (subst (λ b. TellsLen b n) e tells)
@@ -64,13 +64,13 @@ pub record HasFront (bytes : List ℕ) (n : ℕ) (replies : Replies) : Type 0 wh
   pub first : PgWireBackendMessage
   pub others : Replies
   pub split : replies ≡ first ∷ others
-  pub encodable : IsEncodable first
-  pub others_encodable : AllByRecursion IsEncodable others
+  pub fits : FitsLen first
+  pub others_fit : AllByRecursion FitsLen others
   pub kind : slice_index bytes 0 ≡ reply_type first
   pub reply : take n bytes ≡ reply_bytes first
   pub behind : drop n bytes ≡ replies_bytes others
 
-pub front : (bytes : List ℕ) (n : ℕ) (replies : Replies) → 0 < length bytes → TellsLen bytes n → AllByRecursion IsEncodable replies
+pub front : (bytes : List ℕ) (n : ℕ) (replies : Replies) → 0 < length bytes → TellsLen bytes n → AllByRecursion FitsLen replies
     → bytes ≡ replies_bytes replies → HasFront bytes n replies
 front bytes n [] some tells can e = absurd (omega (arith, ap length e))
 front bytes n (m ∷ others) some tells can e =
@@ -79,8 +79,8 @@ front bytes n (m ∷ others) some tells can e =
       first = m;
       others = others;
       split = refl;
-      encodable = can.0;
-      others_encodable = can.1;
+      fits = can.0;
+      others_fit = can.1;
       kind = ap (λ b. slice_index b 0) e;
       reply = ap (λ k. take k bytes) len ∙ (ap (λ b. take (length (reply_bytes m)) b) e
           ∙ take-append_seam (reply_bytes m) (replies_bytes others));
@@ -101,17 +101,17 @@ row_by_type _ = refl
 -- What was seen of replies, and what is left of their bytes.
 pub record IsSeen (replies : Replies) (rest : List ℕ) (failed : Bool) (rows : ℕ) : Type 0 where
   pub left : Replies
-  pub encodable : AllByRecursion IsEncodable left
+  pub fits : AllByRecursion FitsLen left
   pub bytes : rest ≡ replies_bytes left
   pub errors : list_any is_error replies ≡ (failed || list_any is_error left)
   pub counted : count_by is_row replies ≡ rows + count_by is_row left
 
 abbrev pub AreSeen : List ℕ → List ℕ → Bool → ℕ → Type 0
-AreSeen bytes rest failed rows = (replies : Replies) → AllByRecursion IsEncodable replies → bytes ≡ replies_bytes replies
+AreSeen bytes rest failed rows = (replies : Replies) → AllByRecursion FitsLen replies → bytes ≡ replies_bytes replies
     → IsSeen replies rest failed rows
 
 pub none_seen : (bytes : List ℕ) → AreSeen bytes bytes false 0
-none_seen bytes replies can e = record { left = replies; encodable = can; bytes = e; errors = refl; counted = omega arith }
+none_seen bytes replies can e = record { left = replies; fits = can; bytes = e; errors = refl; counted = omega arith }
 
 or_assoc : (a b c : Bool) → (a || (b || c)) ≡ ((a || b) || c)
 or_assoc true b c = refl
@@ -123,10 +123,10 @@ pub one_seen : (bytes rest behind : List ℕ) (n : ℕ) (failed new_failed : Boo
     → behind ≡ drop n rest → AreSeen bytes behind new_failed new_rows
 one_seen bytes rest behind n failed new_failed rows new_rows seen some tells f r is replies can e =
     let was = seen replies can e in
-    let at = front rest n was.left some tells was.encodable was.bytes in
+    let at = front rest n was.left some tells was.fits was.bytes in
     record {
       left = at.others;
-      encodable = at.others_encodable;
+      fits = at.others_fit;
       bytes = is ∙ at.behind;
       errors =
           was.errors ∙ (ap (λ l. failed || list_any is_error l) at.split
@@ -145,7 +145,7 @@ or_false true = refl
 or_false false = refl
 
 -- no byte is left, so no reply is
-ends : (replies : Replies) (rest : List ℕ) (failed : Bool) (rows : ℕ) → length rest ≡ 0 → (left : Replies) → AllByRecursion IsEncodable left
+ends : (replies : Replies) (rest : List ℕ) (failed : Bool) (rows : ℕ) → length rest ≡ 0 → (left : Replies) → AllByRecursion FitsLen left
     → rest ≡ replies_bytes left → list_any is_error replies ≡ (failed || list_any is_error left)
     → count_by is_row replies ≡ rows + count_by is_row left
     → (failed ≡ list_any is_error replies) × (rows ≡ count_by is_row replies)
@@ -162,7 +162,7 @@ pub all_seen : (bytes rest : List ℕ) (failed : Bool) (rows : ℕ) → AreSeen 
     → IsSurvey bytes failed rows
 all_seen bytes rest failed rows seen none replies can e =
     let was = seen replies can e in
-    ends replies rest failed rows none was.left was.encodable was.bytes was.errors was.counted
+    ends replies rest failed rows none was.left was.fits was.bytes was.errors was.counted
 
 -- ---- whether bytes are left
 

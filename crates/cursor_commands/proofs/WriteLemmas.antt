@@ -4,7 +4,7 @@ use Rattle.std.specs.List.{AllByRecursion, list_any, flat_map, starts_with}
 use Rattle.std.proofs.lemmas.Grind.{flat_map-append}
 use Rattle.pg_messages.specs.declared.backend.PgWireBackendMessage.{PgWireBackendMessage}
 use Rattle.pg_messages.specs.declared.backend.PgWireBackendMessage.TheVariants as server
-use Rattle.pg_messages.specs.Replies.{IsEncodable, reply_type, reply_bytes, replies_bytes}
+use Rattle.pg_messages.specs.Replies.{reply_type, reply_bytes, replies_bytes}
 use Rattle.pg_messages.proofs.FieldLaws.{eqb-apart}
 use Rattle.pg_portal.specs.declared.results.tag.Tag.{Tag}
 use Rattle.pg_portal.specs.Tags.{spaced, tag_of, tag_with_rows, tag_text}
@@ -12,7 +12,7 @@ use Rattle.cursor_commands.specs.declared.command.CursorCommand.{CursorCommand}
 use Rattle.cursor_commands.specs.declared.command.CursorCommand.TheVariants.{Declare, Fetch, Close}
 use Rattle.cursor_commands.specs.declared.rewrite.Change.TheVariants.{Ready, Failed, Fetched}
 use Rattle.cursor_commands.specs.Cursors.{Replies, done, fetched, is_error, is_ready, is_left_by_error, fetch_reply, success_replies, replies_of}
-use Rattle.cursor_commands.specs.Rewriting.{TellsLen, IsSurvey, AppendsReply, AppendsReplies, kept, changed, ends_rows}
+use Rattle.cursor_commands.specs.Rewriting.{FitsLen, TellsLen, IsSurvey, AppendsReply, AppendsReplies, kept, changed, ends_rows}
 use Rattle.cursor_commands.proofs.ReplyLemmas.{front}
 
 abbrev pub Change' : Type 0
@@ -21,16 +21,16 @@ Change' = PgWireBackendMessage → Replies
 -- So far the bytes have grown by what becomes of the replies whose bytes aren't left.
 pub record IsWritten (change : Change') (replies : Replies) (rest old out : List ℕ) : Type 0 where
   pub left : Replies
-  pub encodable : AllByRecursion IsEncodable left
+  pub fits : AllByRecursion FitsLen left
   pub bytes : rest ≡ replies_bytes left
   pub written : old ++ replies_bytes (flat_map change replies) ≡ out ++ replies_bytes (flat_map change left)
 
 abbrev pub AreWritten : Change' → List ℕ → List ℕ → List ℕ → List ℕ → Type 0
-AreWritten change bytes rest old out = (replies : Replies) → AllByRecursion IsEncodable replies → bytes ≡ replies_bytes replies
+AreWritten change bytes rest old out = (replies : Replies) → AllByRecursion FitsLen replies → bytes ≡ replies_bytes replies
     → IsWritten change replies rest old out
 
 pub none_written : (change : Change') (bytes old : List ℕ) → AreWritten change bytes bytes old old
-none_written change bytes old replies can e = record { left = replies; encodable = can; bytes = e; written = refl }
+none_written change bytes old replies can e = record { left = replies; fits = can; bytes = e; written = refl }
 
 pub one_written : (change : Change') (bytes rest reply behind : List ℕ) (n : ℕ) (old out new : List ℕ)
     → AreWritten change bytes rest old out
@@ -38,11 +38,11 @@ pub one_written : (change : Change') (bytes rest reply behind : List ℕ) (n : �
     → AreWritten change bytes behind old new
 one_written change bytes rest reply behind n old out new written some tells is_front is_behind appends replies can e =
     let was = written replies can e in
-    let at = front rest n was.left some tells was.encodable was.bytes in
-    let grown = appends at.first at.encodable (is_front ∙ at.reply) in
+    let at = front rest n was.left some tells was.fits was.bytes in
+    let grown = appends at.first at.fits (is_front ∙ at.reply) in
     record {
       left = at.others;
-      encodable = at.others_encodable;
+      fits = at.others_fit;
       bytes = is_behind ∙ at.behind;
       written =
           was.written ∙ (ap (λ l. out ++ replies_bytes (flat_map change l)) at.split

@@ -1,1 +1,2 @@
-pub mod CursorTable
+pub mod Program
+pub mod Statuses

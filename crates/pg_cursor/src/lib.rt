@@ -1,7 +1,11 @@
-//! Cursors in simple queries: DECLARE, FETCH and CLOSE over the portals of a session.
+//! Cursors in simple queries: DECLARE, FETCH and CLOSE over the portals of a session, and the
+//! program that serves them over a relation file.
 #![tactic(auto)]
 
-mod laws;
+mod outcome;
+mod running;
+mod telling;
 
-pub use cursor_commands::{CursorCommand, command_frames, put_replies, read_cursor};
-pub use laws::{cursor_table_is_lawful, frames_answer_commands};
+pub use cursor_commands::{CursorCommand, read_cursor};
+pub use cursor_serving::serve_cursors_on;
+pub use running::run_cursors;

@@ -1,0 +1,49 @@
+//! What the program tells of itself.
+
+use pg_messages::PgStr;
+
+/// What `--help` writes.
+const HELP: &str = "\
+pg_cursor serves relations of intervals to one client that speaks PostgreSQL's protocol, with cursors in simple queries.
+
+usage: pg_cursor serve FILE PID KEY [TURNS]
+       pg_cursor --help | --version
+
+serve   serves one client: its bytes come on standard input, the replies go to standard output. The client is told
+        PID (1 to 2147483647) and KEY (eight hexadecimal digits). It has TURNS reads and polls (default 1000000000).
+
+Queries are a relation's name, BEGIN, COMMIT, and COPY name TO STDOUT, and the commands of cursors:
+
+  DECLARE c CURSOR FOR name   makes the portal c over a relation
+  FETCH n FROM c              its next n rows (1 to 2147483647)
+  FETCH ALL FROM c            its rows that are left
+  CLOSE c                     the portal goes; one that isn't there is no error
+
+Key words are in either case, and whitespace and semicolons at both ends count for nothing. A cursor needs no transaction.
+Any other words are a query: DECLARE c NO SCROLL CURSOR WITH HOLD FOR name is none of these commands.
+
+A relation in FILE is a header line (name, number of unready polls, column names), then a line for each row, of
+intervals as PostgreSQL prints them; fields stand apart by tabs, relations by an empty line.
+
+Examples:
+  pg_cursor serve data/relations 7 01020304 < client > replies
+  pg_cursor --version
+
+Exit status: 0 done; 2 other words; 3 FILE is refused; 4 a read failed; 5 a write failed; 6 TURNS were spent;
+7 out of memory; 9 FILE can't be read; 10 a bad frame; 11 a fatal error. Each but 0 is told by a line on standard error.
+";
+
+/// What `--version` writes.
+const VERSION: &str = "pg_cursor 0.1.0\n";
+
+/// What the one word asks for, if it asks to be told something.
+pub fn help_or_version(words: &[PgStr]) -> Option<&'static str> {
+    let [word] = words else {
+        return None;
+    };
+    match word.as_str() {
+        "--help" => Some(HELP),
+        "--version" => Some(VERSION),
+        _ => None,
+    }
+}

@@ -1,0 +1,3 @@
+pub mod RelationQuestions
+pub mod Questions
+pub mod Complete

@@ -1,0 +1,17 @@
+-- What the server of cursors owes its client: the answer of the cursor table over the relations.
+use Rattle.std.specs.Prelude.{ℕ, ℤ, List, Option, Result}
+use Rattle.pg_handlers.specs.declared.desk.DeskCall.{DeskCall}
+use Rattle.pg_handlers.specs.declared.ends.EndKind.{EndKind}
+use Rattle.pg_handlers.specs.State.{first_state}
+use Rattle.pg_session.specs.declared.ends.ServeError.{ServeError}
+use Rattle.pg_serve.specs.Serving.{WentSo}
+use Rattle.cursor_table.specs.CursorTable.{cursor_rules}
+use Rattle.relation_tables.specs.declared.Relation.{Relation}
+use Rattle.relation_tables.specs.RelationHandler.{relation_handlers}
+
+-- what was written and called is the cursor table's answer
+abbrev pub WentByCursors : List Relation → ℤ × List ℕ → Result EndKind ServeError → Option (List ℕ) → Option (List ℕ) → Option (List ℕ)
+    → Option (List ℕ)
+    → List DeskCall → Type 0
+WentByCursors relations registration answer left new_left old new calls =
+    WentSo (cursor_rules (relation_handlers relations)) (first_state registration.0 registration.1) answer left new_left old new calls

@@ -1,0 +1,129 @@
+//! A client of relations is served, with cursors in simple queries.
+
+ghost use Rattle.std.specs.Prelude.{◌≡◌, ◌++◌, List, IfOk, OnOk};
+ghost use Rattle.std.specs.Arc.{arc_value};
+ghost use Rattle.pg_handlers.specs.Desk.{KeepsDesk};
+ghost use Rattle.pg_handlers.specs.Questions.{questions_since};
+ghost use Rattle.pg_handlers.specs.State.{first_state};
+ghost use Rattle.pg_handlers.specs.declared.desk.DeskCall.{DeskCall};
+ghost use Rattle.pg_serve.specs.Serving.{WentSo, HasCause, EndsAtLast, FaultsNeverFall, IsCalm, IsRunOverTaken, ReadsGaveBytes, counts_of};
+ghost use Rattle.relation_serving.specs.Completeness.{IsComplete};
+ghost use Rattle.cursor_table.specs.CursorTable.{cursor_rules};
+ghost use Rattle.relation_tables.specs.RelationHandler.{relation_handlers};
+ghost use Rattle.cursor_serving.specs.Serving.{WentByCursors};
+
+use cursor_session::CursorSession;
+use pg_handlers::NoopHandler;
+use pg_portal::MemPortalStore;
+use pg_serve::serve;
+use pg_session::{CancelDesk, EndKind, PgWireServerHandlers, ServeError, Sink, Source};
+use relation_handlers::{RelationHandler, RelationTable};
+use std::alloc::Global;
+use std::sync::Arc;
+
+/// Serves a client over relations, as `serve_relations_on` of relation_serving does, with cursors:
+/// a simple query that is `DECLARE c CURSOR FOR r`, `FETCH n FROM c`, `FETCH ALL FROM c` or `CLOSE
+/// c`, taken while the server is ready for a query, is answered as the extended messages are that
+/// it stands for, with their replies changed. A portal that DECLARE or Bind made is fetched from by
+/// FETCH and Execute in any mix. A read that gives at least one byte or the end costs one turn, and
+/// so does each poll that finds a query unready.
+///
+/// Ok tells how the conversation ended, with all of its replies written. ReadFault comes where a
+/// read failed, and the whole answer to the frames taken before is written; WriteFault where a
+/// write failed, TurnLimit where all turns were spent and one more was needed, NoMemory where
+/// memory ran out: then a front of the answer is written.
+pub fn serve_cursors_on<D: CancelDesk, S: Source, K: Sink>(
+    alloc: Global,
+    desk: &mut D,
+    relations: &RelationTable,
+    source: &mut S,
+    sink: &mut K,
+    turn_limit: u64,
+) -> Result<EndKind, ServeError>
+
+    // The bytes written and the new calls are the cursor table's answer to the client's bytes,
+    // however cut.
+    ensures went { (calls : List DeskCall)
+        × ((D.told desk.new).calls ≡ (D.told desk.old).calls ++ calls)
+        × WentByCursors relations.now (D.told desk.old).registration result (S.left source.old)
+        (S.left source.new)
+        (K.written sink.old) (K.written sink.new) calls }
+    ensures cause { HasCause result turn_limit
+        (questions_since (D.told desk.old).calls (D.told desk.new).calls)
+        (counts_of S.reads S.faults K.faults source.old sink.old)
+        (counts_of S.reads S.faults K.faults source.new sink.new) }
+
+    // With turns enough, and where no read and no write fails, any bytes are served to their end: a
+    // Query costs turns as an Execute does.
+    ensures complete { IsComplete relations.now turn_limit result (S.left source.old)
+        (counts_of S.reads S.faults K.faults source.old sink.old)
+        (counts_of S.reads S.faults K.faults source.new sink.new) }
+
+    // Each read that was counted gave a byte.
+    ensures last { IfOk result (EndsAtLast (cursor_rules (relation_handlers relations.now))
+        (first_state (D.told desk.old).registration.0 (D.told desk.old).registration.1)
+        (S.left source.old) (S.left source.new)) }
+    ensures taken { IfOk result (IsRunOverTaken (cursor_rules (relation_handlers relations.now))
+        (first_state (D.told desk.old).registration.0 (D.told desk.old).registration.1)
+        (S.left source.old) (S.left source.new) (K.written sink.old) (K.written sink.new)
+        (D.told desk.old).calls (D.told desk.new).calls) }
+    ensures calm { OnOk result (IsCalm (counts_of S.reads S.faults K.faults source.old sink.old)
+        (counts_of S.reads S.faults K.faults source.new sink.new)) }
+    ensures never_falls { FaultsNeverFall (counts_of S.reads S.faults K.faults source.old sink.old)
+        (counts_of S.reads S.faults K.faults source.new sink.new) }
+    ensures reads { ReadsGaveBytes (S.left source.old) (S.left source.new) (S.reads source.old)
+        (S.reads source.new) }
+
+    ensures keeps { KeepsDesk (D.told desk.old) (D.told desk.new) }
+    ensures source { S.origin source.new ≡ S.origin source.old }
+    ensures sink { K.origin sink.new ≡ K.origin sink.old }
+{
+    let copying = NoopHandler;
+    let Ok(handlers) = Arc::new(alloc, RelationHandler { relations, copying }) else {
+        return Err(ServeError::NoMemory);
+    };
+    serve_by(alloc, handlers, desk, source, sink, turn_limit)
+}
+
+/// Serves a client by these handlers with cursors, and with a store in memory. The handlers are
+/// any, so that no check has to compare what their types are made of.
+fn serve_by<H: PgWireServerHandlers, D: CancelDesk, S: Source, K: Sink>(
+    alloc: Global,
+    handlers: Arc<H>,
+    desk: &mut D,
+    source: &mut S,
+    sink: &mut K,
+    turn_limit: u64,
+) -> Result<EndKind, ServeError>
+    ensures went { (calls : List DeskCall)
+        × ((D.told desk.new).calls ≡ (D.told desk.old).calls ++ calls)
+        × WentSo (cursor_rules (H.told (arc_value handlers)))
+        (first_state (D.told desk.old).registration.0 (D.told desk.old).registration.1)
+        result (S.left source.old) (S.left source.new)
+        (K.written sink.old) (K.written sink.new) calls }
+    ensures cause { HasCause result turn_limit
+        (questions_since (D.told desk.old).calls (D.told desk.new).calls)
+        (counts_of S.reads S.faults K.faults source.old sink.old)
+        (counts_of S.reads S.faults K.faults source.new sink.new) }
+    ensures last { IfOk result (EndsAtLast (cursor_rules (H.told (arc_value handlers)))
+        (first_state (D.told desk.old).registration.0 (D.told desk.old).registration.1)
+        (S.left source.old) (S.left source.new)) }
+    ensures taken { IfOk result (IsRunOverTaken (cursor_rules (H.told (arc_value handlers)))
+        (first_state (D.told desk.old).registration.0 (D.told desk.old).registration.1)
+        (S.left source.old) (S.left source.new) (K.written sink.old) (K.written sink.new)
+        (D.told desk.old).calls (D.told desk.new).calls) }
+    ensures calm { OnOk result (IsCalm (counts_of S.reads S.faults K.faults source.old sink.old)
+        (counts_of S.reads S.faults K.faults source.new sink.new)) }
+    ensures never_falls { FaultsNeverFall (counts_of S.reads S.faults K.faults source.old sink.old)
+        (counts_of S.reads S.faults K.faults source.new sink.new) }
+    ensures reads { ReadsGaveBytes (S.left source.old) (S.left source.new) (S.reads source.old)
+        (S.reads source.new) }
+    ensures keeps { KeepsDesk (D.told desk.old) (D.told desk.new) }
+    ensures source { S.origin source.new ≡ S.origin source.old }
+    ensures sink { K.origin sink.new ≡ K.origin sink.old }
+{
+    let store = MemPortalStore::new(alloc);
+    let (pid, key) = desk.identity();
+    let mut front = CursorSession::new(alloc, handlers, store, pid, key)?;
+    serve(alloc, &mut front, desk, source, sink, turn_limit)
+}

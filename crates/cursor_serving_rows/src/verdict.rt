@@ -1,0 +1,89 @@
+//! What is otherwise than a row expects.
+
+use crate::row::Row;
+use crate::serving::{Ending, Outcome};
+use pg_session::{DeskCall, EndKind, ServeError};
+use row_files::common_len;
+use std::alloc::{AllocError, Global};
+
+/// What came out otherwise.
+#[derive(Clone, Copy, Debug)]
+pub enum Difference {
+    /// The conversation ended so.
+    End(&'static str),
+    /// The replies are others from this byte on.
+    Replies(usize),
+    /// The registry calls are others.
+    Calls,
+}
+
+/// The first difference between an outcome and what the row expects, if there is one. Where the row
+/// has the option `front`, any first bytes of the replies are expected; where a write fails, any
+/// first calls.
+pub fn first_difference(row: &Row<'_>, outcome: &Outcome) -> Option<Difference> {
+    let sent = outcome.sink.bytes();
+    let replies = row.replies.as_slice();
+    if !replies.starts_with(sent) {
+        return Some(Difference::Replies(common_len(sent, replies)));
+    }
+    if sent.len() < replies.len() && row.option("front").is_none() {
+        return Some(Difference::Replies(sent.len()));
+    }
+    if end_name(outcome.end) != row.end {
+        return Some(Difference::End(end_name(outcome.end)));
+    }
+    if !are_calls(outcome.desk.calls(), row.calls, row.end == "WriteFault") {
+        return Some(Difference::Calls);
+    }
+    None
+}
+
+/// Whether these are the calls that words tell, or the first of them where that is enough.
+fn are_calls(calls: &[DeskCall], words: &str, first: bool) -> bool {
+    let mut count = 0usize;
+    for word in words.split_whitespace() {
+        match calls.get(count) {
+            None => return first,
+            Some(call) if word == call_name(*call) => {}
+            Some(_) => return false,
+        }
+        count = count.saturating_add(1);
+    }
+    count == calls.len()
+}
+
+/// The word for a call.
+fn call_name(call: DeskCall) -> &'static str {
+    match call {
+        DeskCall::Start => "start",
+        DeskCall::Ask(true) => "yes",
+        DeskCall::Ask(false) => "no",
+        DeskCall::Cancel(_, _, _) => "cancel",
+    }
+}
+
+/// The word for an end.
+fn end_name(end: Ending) -> &'static str {
+    match end {
+        Ok(EndKind::Terminate) => "Terminate",
+        Ok(EndKind::InputEnd) => "InputEnd",
+        Ok(EndKind::BadFrame) => "BadFrame",
+        Ok(EndKind::Fatal) => "Fatal",
+        Ok(EndKind::CancelServed) => "CancelServed",
+        Err(ServeError::ReadFault) => "ReadFault",
+        Err(ServeError::WriteFault) => "WriteFault",
+        Err(ServeError::TurnLimit) => "TurnLimit",
+        Err(ServeError::NoMemory) => "NoMemory",
+    }
+}
+
+/// The case and what came out otherwise.
+pub fn finding(alloc: Global, case: usize, found: Difference) -> Result<String, AllocError> {
+    match found {
+        Difference::End(end) => format!(in alloc; "{case}: ends with {end}"),
+        Difference::Replies(place) => {
+            format!(in alloc; "{case}: other replies from byte {place} on")
+        }
+        Difference::Calls => format!(in alloc; "{case}: other registry calls"),
+    }
+}

@@ -1,0 +1,9 @@
+pub mod Divisions
+pub mod Alike
+pub mod Passing
+pub mod Taking
+pub mod Rows
+pub mod Asking
+pub mod Exchanging
+pub mod Heads
+pub mod Steps

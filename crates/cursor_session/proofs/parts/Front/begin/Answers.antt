@@ -1,0 +1,37 @@
+use Rattle.std.proofs.Common.{◌≡◌, ◌++◌, ◌-◌, ap, sym, subst, ◌∙◌, length}
+use Rattle.pg_messages.specs.Frames.{told_len}
+use Rattle.pg_handlers.specs.Table.{is_startup_phase}
+use Rattle.cursor_session.specs.Fronts.{BeginsNoCommand, IsBegun}
+use Rattle.cursor_session.proofs.Taking.{no_memory_told}
+use Rattle.cursor_session.proofs.Heads.{asked_can_be_sent, asked_some, if_none, begins_so, owed_so}
+use Rattle.cursor_session.proofs.parts.Front.begin.Goals as goal
+
+pub returns-in_err-command-clause-took : goal.returns-in_err-command-clause-took
+returns-in_err-command-clause-took g c =
+    no_memory_told c.from_residual.result c.in_err-command.field-0.0 c.from_residual.ensures.1 c.in_err-command.ensures.error
+
+pub answer-requires-clause-sent : goal.answer-requires-clause-sent
+answer-requires-clause-sent g c =
+    let x = asked_some c.state-state.result c.args.bytes.now c.in_ok-command.field-0 c.in-Some.command c.in-Some.is
+    c.in_ok-command.ensures.some in
+    asked_can_be_sent c.args.bytes.now x.1.0 c.in-Some.command x.1.1 x.1.2
+
+pub pass-requires-clause-begun : goal.pass-requires-clause-begun
+pass-requires-clause-begun g c =
+    let now = c.args.self.now.inner.state.info.state in
+    let bytes = c.args.bytes.now in
+    let st : c.state-state.result ≡ now =
+    (let e = c.state-state.ensures in let f = ap (λ v. v.inner.state.info.state) c.self.view_is in cc) in
+    let owed : c.owed_by-owed.result ≡ told_len (is_startup_phase now) bytes - length bytes =
+    c.owed_by-owed.ensures ∙ ap (λ b. told_len b bytes - length bytes) (c.awaits_startup.ensures ∙ ap is_startup_phase st) in
+    let plain = subst (λ p. BeginsNoCommand p bytes) st
+    (if_none c.in_ok-command.field-0 c.in-None.is c.in_ok-command.ensures.none) in
+    subst (λ r. IsBegun now (r ++ bytes) c.owed_by-owed.result) (sym c.requires.none)
+    (begins_so now bytes c.owed_by-owed.result c.requires.header c.requires.fits
+    (owed_so (told_len (is_startup_phase now) bytes) (length bytes) c.owed_by-owed.result owed) plain)
+
+pub returns-in-Some-clause-took : goal.returns-in-Some-clause-took
+returns-in-Some-clause-took g c =
+    let x = asked_some c.state-state.result c.args.bytes.now c.in_ok-command.field-0 c.in-Some.command c.in-Some.is
+    c.in_ok-command.ensures.some in
+    c.answer.ensures.took c.args.bytes.now x.1.0 x.1.1 x.1.2

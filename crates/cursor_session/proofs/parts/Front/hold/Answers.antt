@@ -1,0 +1,28 @@
+use Rattle.std.proofs.Common.{◌≡◌, ◌++◌, [], ap, sym, subst, ◌∙◌, Ok}
+use Rattle.pg_session.specs.declared.ends.Progress.TheVariants as progress
+use Rattle.pg_messages.specs.Frames.{IsUnfinished}
+use Rattle.pg_handlers.specs.Table.{is_startup_phase}
+use Rattle.cursor_table.specs.CursorTable.{cursor_rules}
+use Rattle.cursor_session.specs.Fronts.{Takes, around}
+use Rattle.cursor_session.proofs.Taking.{no_memory_taken, takes_none}
+use Rattle.cursor_session.proofs.parts.Front.hold.Goals as goal
+
+pub returns-in_err-extend_from_slice-clause-took : goal.returns-in_err-extend_from_slice-clause-took
+returns-in_err-extend_from_slice-clause-took g c = no_memory_taken c.from_residual.result c.from_residual.ensures.1
+
+pub returns-then-is_short-clause-took : goal.returns-then-is_short-clause-took
+returns-then-is_short-clause-took g c =
+    let old = c.self.inside.inner in
+    let held = c.extend_from_slice.new.self.items in
+    let rules = cursor_rules (g.H.PgWireServerHandlers.told old.handlers) in
+    let a = around g.K.Sink.written g.K.Sink.faults g.K.Sink.origin g.D.CancelDesk.told c.args.sink.now c.args.desk.now c.args.turns.now in
+    let none : old.rest ≡ [] = ap (λ v. v.inner.rest) c.self.view_is ∙ c.requires.none in
+    let grown : held ≡ c.self.inside.held.items ++ c.args.part.now = c.in_ok-extend_from_slice.ensures.ok in
+    subst (λ v. Takes (cursor_rules (g.H.PgWireServerHandlers.told v.inner.handlers)) v.inner.state (v.held ++ c.args.part.now) old.state
+    (old.rest ++ held) a a (Ok progress.More)) c.self.view_is
+    (subst (λ l. Takes rules old.state l old.state (old.rest ++ held) a a (Ok progress.More)) grown
+    (subst (λ r. Takes rules old.state held old.state (r ++ held) a a (Ok progress.More)) (sym none)
+    (takes_none rules old.state held a
+    (subst (λ l. IsUnfinished (is_startup_phase old.state.info.state) l) c.as_slice.ensures
+    (subst (λ p. IsUnfinished (is_startup_phase p) c.as_slice.result.now) c.state.ensures
+    (c.is_short.ensures.short c.if-is_short.true))))))

@@ -1,0 +1,190 @@
+//! Which frame comes, and how many of its bytes.
+
+ghost use Rattle.std.specs.Prelude.{◌≡◌, ◌≢◌, ◌≤◌, ◌<◌, ◌++◌, ◌-◌, ◌⊎◌, ℕ, List, [], true, false, None, Some, length, take, slice_index, IfOk, IfErr, IfSome, IfNone};
+ghost use Rattle.pg_messages.specs.Frames.{IsFrame, IsUnfinished, IsGoodHeader, header_len, told_len};
+ghost use Rattle.pg_messages.specs.declared.frontend.PgWireFrontendMessage.{PgWireFrontendMessage};
+ghost use Rattle.pg_handlers.specs.Table.{is_startup_phase};
+ghost use Rattle.cursor_table.specs.CursorTable.{asked_command, is_ready_phase};
+ghost use Rattle.cursor_session.specs.Fronts.{BeginsNoCommand, FitsFrame};
+
+use bytes::BytesMut;
+use cursor_commands::{CursorCommand, read_cursor};
+use pg_messages::{FrameError, PgWireFrontendMessage, PgWireMessageServerCodec, Query};
+use pg_portal::PgWireConnectionState;
+use pg_session::ServeError;
+use std::alloc::Global;
+
+/// Whether the startup packet is still awaited.
+pub(crate) fn awaits_startup(state: PgWireConnectionState) -> bool
+    ensures { result ≡ is_startup_phase state }
+{
+    matches!(state, PgWireConnectionState::AwaitingStartup)
+}
+
+/// Whether the server is ready for a query.
+pub(crate) fn is_ready(state: PgWireConnectionState) -> bool
+    ensures { result ≡ is_ready_phase state }
+{
+    matches!(state, PgWireConnectionState::ReadyForQuery)
+}
+
+/// How many bytes the header of a frame has.
+pub(crate) fn header_len(awaiting: bool) -> usize
+    ensures { result ≡ header_len awaiting }
+{
+    if awaiting { 4 } else { 5 }
+}
+
+/// How many bytes the frame in front has by its header.
+pub(crate) fn told_len(awaiting: bool, bytes: &[u8]) -> usize
+    requires { header_len awaiting ≤ length bytes.now }
+    ensures { result ≡ told_len awaiting bytes.now }
+{
+    if awaiting {
+        u32::from_be_bytes([bytes[0], bytes[1], bytes[2], bytes[3]]) as usize
+    } else {
+        u32::from_be_bytes([bytes[1], bytes[2], bytes[3], bytes[4]]) as usize + 1
+    }
+}
+
+/// How many of the bytes belong to the frame that they begin with; of a header that isn't whole all
+/// of them.
+pub(crate) fn front_len(awaiting: bool, bytes: &[u8]) -> usize
+    requires { 0 < length bytes.now }
+    ensures some { 0 < result }
+    ensures within { result ≤ length bytes.now }
+    ensures fits { FitsFrame awaiting (take result bytes.now) }
+{
+    let header = header_len(awaiting);
+    if bytes.len() <= header {
+        return bytes.len();
+    }
+    bytes.len().min(told_len(awaiting, bytes).max(header))
+}
+
+/// How many of so many bytes belong to the frame of which these are held.
+pub(crate) fn behind_len(awaiting: bool, held: &[u8], len: usize) -> usize
+    requires some { 0 < len }
+    requires short { IsUnfinished awaiting held.now }
+    ensures some { 0 < result }
+    ensures within { result ≤ len }
+    ensures fits { (bytes : List ℕ) → length bytes ≡ result → FitsFrame awaiting (held.now ++ bytes) }
+{
+    let header = header_len(awaiting);
+    if held.len() < header {
+        return len.min(header - held.len());
+    }
+    len.min(told_len(awaiting, held) - held.len())
+}
+
+/// How many bytes of the frame in front are to come; none of a frame with a bad header.
+pub(crate) fn owed_by(awaiting: bool, bytes: &[u8]) -> usize
+    requires { header_len awaiting ≤ length bytes.now }
+    ensures { result ≡ told_len awaiting bytes.now - length bytes.now }
+{
+    told_len(awaiting, bytes).saturating_sub(bytes.len())
+}
+
+/// Whether the bytes, which begin no more than one frame, are held: its header isn't whole, or it
+/// is a Query frame that may be a command and isn't whole.
+pub(crate) fn is_short(state: PgWireConnectionState, bytes: &[u8]) -> bool
+    ensures short { result ≡ true → IsUnfinished (is_startup_phase state) bytes.now }
+    ensures header { result ≡ false → header_len (is_startup_phase state) ≤ length bytes.now }
+    ensures query { result ≡ false → is_ready_phase state ≡ true → slice_index bytes.now 0 ≡ 81
+        → IsGoodHeader false bytes.now → told_len false bytes.now ≤ length bytes.now }
+{
+    if bytes.len() < header_len(awaits_startup(state)) {
+        return true;
+    }
+    is_ready(state) && is_query_begun(bytes)
+}
+
+/// Whether the bytes begin a Query frame that isn't whole, with a good header.
+fn is_query_begun(bytes: &[u8]) -> bool
+    requires { 5 ≤ length bytes.now }
+    ensures begun { result ≡ true → IsUnfinished false bytes.now }
+    ensures query { result ≡ false → slice_index bytes.now 0 ≡ 81 → IsGoodHeader false bytes.now
+        → told_len false bytes.now ≤ length bytes.now }
+{
+    let len = told_len(false, bytes);
+    bytes[0] == b'Q' && 5 <= len && len <= 1_048_577 && bytes.len() < len
+}
+
+/// The command that these bytes are, which begin no more than one frame and aren't short. None
+/// says that no command begins so.
+pub(crate) fn command_asked(
+    alloc: Global,
+    state: PgWireConnectionState,
+    bytes: &[u8],
+) -> Result<Option<CursorCommand>, ServeError>
+    requires header { header_len (is_startup_phase state) ≤ length bytes.now }
+    requires query { is_ready_phase state ≡ true → slice_index bytes.now 0 ≡ 81
+        → IsGoodHeader false bytes.now → told_len false bytes.now ≤ length bytes.now }
+    ensures some { IfOk result (λ found. IfSome found (λ command. (is_ready_phase state ≡ true)
+        × ((m : PgWireFrontendMessage) × IsFrame false bytes.now m
+        × (asked_command m ≡ Some command)))) }
+    ensures none { IfOk result (λ found. IfNone found (BeginsNoCommand state bytes.now)) }
+    ensures error { IfErr result (λ e. e ≡ ServeError.NoMemory) }
+{
+    if !is_ready(state) || bytes[0] != b'Q' {
+        return Ok(None);
+    }
+    command_in(alloc, bytes)
+}
+
+/// The command that a frame is.
+fn command_in(alloc: Global, frame: &[u8]) -> Result<Option<CursorCommand>, ServeError>
+    ensures some { IfOk result (λ found. IfSome found (λ command. (m : PgWireFrontendMessage)
+        × IsFrame false frame.now m × (asked_command m ≡ Some command))) }
+    ensures none { IfOk result (λ found. IfNone found ((m : PgWireFrontendMessage)
+        → IsFrame false frame.now m → asked_command m ≡ None)) }
+    ensures error { IfErr result (λ e. e ≡ ServeError.NoMemory) }
+{
+    match message_in(alloc, frame)? {
+        None => Ok(None),
+        Some(message) => command_of(alloc, message),
+    }
+}
+
+/// The command that a message is.
+fn command_of(
+    alloc: Global,
+    message: PgWireFrontendMessage,
+) -> Result<Option<CursorCommand>, ServeError>
+    ensures command { IfOk result (λ command. command ≡ asked_command message) }
+    ensures error { IfErr result (λ e. e ≡ ServeError.NoMemory) }
+{
+    match message {
+        PgWireFrontendMessage::Query(query) => Ok(read_cursor(alloc, query.query.as_str())?),
+        _ => Ok(None),
+    }
+}
+
+/// The message of a frame. None says that it is no whole good frame.
+fn message_in(alloc: Global, frame: &[u8]) -> Result<Option<PgWireFrontendMessage>, ServeError>
+    ensures some { IfOk result (λ found. IfSome found (λ m. IsFrame false frame.now m)) }
+    ensures none { IfOk result (λ found. IfNone found ((m : PgWireFrontendMessage)
+        → ¬ IsFrame false frame.now m)) }
+    ensures error { IfErr result (λ e. e ≡ ServeError.NoMemory) }
+{
+    let mut bytes = BytesMut::new(alloc);
+    bytes.extend_from_slice(frame)?;
+    let mut codec = PgWireMessageServerCodec::new();
+    codec.context.awaiting_startup = false;
+    match codec.decode(alloc, &mut bytes) {
+        Ok(found) => Ok(where_whole(found, bytes.is_empty())),
+        Err(FrameError::Bad) => Ok(None),
+        Err(FrameError::NoMemory) => Err(ServeError::NoMemory),
+    }
+}
+
+/// The message where its frame was whole.
+fn where_whole(
+    found: Option<PgWireFrontendMessage>,
+    is_whole: bool,
+) -> Option<PgWireFrontendMessage>
+    ensures some { IfSome result (λ m. (found ≡ Some m) × (is_whole ≡ true)) }
+    ensures none { IfNone result ((found ≡ None) ⊎ (is_whole ≡ false)) }
+{
+    if is_whole { found } else { None }
+}

@@ -1,0 +1,10 @@
+//! Cursors in simple queries: a front of a session, in which a Query that is a cursor command is
+//! answered as the messages are that it asks of the session.
+#![tactic(auto)]
+
+mod frames;
+mod front;
+mod kept;
+mod parts;
+
+pub use front::CursorSession;

@@ -1,0 +1,319 @@
+//! What the front makes of the client's bytes, frame by frame.
+
+ghost use Rattle.std.specs.Prelude.{◌≡◌, ◌≢◌, ◌≤◌, ◌<◌, ◌++◌, ◌+◌, ◌^◌, List, ℕ, [], true, false, length, take, slice_index, Some, IfOk, IfErr, OnOk, OnErr, Ok, Err};
+ghost use Rattle.std.specs.List.{AllByRecursion};
+ghost use Rattle.pg_messages.specs.Frames.{IsFrame, IsGoodHeader, DividesInto, header_len, told_len};
+ghost use Rattle.pg_messages.specs.declared.frontend.PgWireFrontendMessage.{PgWireFrontendMessage};
+ghost use Rattle.pg_handlers.specs.Table.{is_startup_phase};
+ghost use Rattle.pg_session.specs.declared.ends.Progress.TheVariants.{More};
+ghost use Rattle.pg_session.specs.Streams.{HasFlushed};
+ghost use Rattle.cursor_commands.specs.Asking.{CanBeSent};
+ghost use Rattle.cursor_commands.specs.Cursors.{messages_of};
+ghost use Rattle.cursor_table.specs.CursorTable.{asked_command, cursor_rules, is_ready_phase};
+ghost use Rattle.cursor_session.specs.Fronts.{Takes, SendsReplies, SendsFront, around, rest_of, IsStanding, IsQuiet, IsPart, IsBegun, FitsFrame};
+
+use crate::frames::{awaits_startup, behind_len, command_asked, front_len, is_short, owed_by};
+use crate::kept::Kept;
+use bytes::BytesMut;
+use cursor_commands::{CursorCommand, command_frames, put_replies};
+use pg_portal::PortalStore;
+use pg_session::{
+    CancelDesk, ExtendedQueryHandler, PgWireServerHandlers, Progress, ServeError, Session, Sink,
+    Turns,
+};
+use std::alloc::Global;
+use std::marker::Model;
+use std::mem;
+
+/// A session, with the bytes that are held in front of it.
+#[derive(Drop)]
+pub(crate) struct Front<
+    H: PgWireServerHandlers,
+    St: PortalStore<Statement = <H::Extended as ExtendedQueryHandler>::Statement>,
+> {
+    inner: Session<H, St>,
+    held: BytesMut,
+    owed: usize,
+}
+
+impl<
+    H: PgWireServerHandlers,
+    St: PortalStore<Statement = <H::Extended as ExtendedQueryHandler>::Statement>,
+> Model for Front<H, St> {
+    ghost use Rattle.std.specs.Coded.{codes};
+    ghost use Rattle.std.specs.FinMap as fin;
+    ghost use Rattle.cursor_session.specs.Fronts.{FrontValue};
+
+    ghost Value = { FrontValue H H.Extended.Statement };
+
+    ghost coded = { Prim.hlevel (codes, fin.code) };
+
+    ghost view = { λ s. record { inner = s.inner; held = s.held.items; owed = s.owed } };
+}
+
+impl<
+    H: PgWireServerHandlers,
+    St: PortalStore<
+        Statement = <H::Extended as ExtendedQueryHandler>::Statement,
+        Rows = <H::Extended as ExtendedQueryHandler>::Rows,
+    >,
+> Front<H, St> {
+    /// A front of a session, which holds nothing.
+    pub(crate) fn new(alloc: Global, inner: Session<H, St>) -> Front<H, St>
+        ensures { result ≡ record { inner = inner; held = []; owed = 0 } }
+    {
+        Front {
+            inner,
+            held: BytesMut::new(alloc),
+            owed: 0,
+        }
+    }
+
+    /// Takes a piece of the client's bytes, part by part.
+    pub(crate) fn take<D: CancelDesk, K: Sink>(
+        &mut self,
+        alloc: Global,
+        desk: &mut D,
+        piece: &[u8],
+        sink: &mut K,
+        turns: &mut Turns,
+    ) -> Result<Progress, ServeError>
+        requires { IsStanding self.old }
+        ensures took { Takes (cursor_rules (H.told self.old.inner.handlers)) self.old.inner.state
+            (rest_of self.old ++ piece.now) self.new.inner.state (rest_of self.new)
+            (around K.written K.faults K.origin D.told sink.old desk.old turns.old)
+            (around K.written K.faults K.origin D.told sink.new desk.new turns.new) result }
+        ensures stands { result ≡ Ok More → IsStanding self.new }
+        ensures handlers { self.new.inner.handlers ≡ self.old.inner.handlers }
+    {
+        let mut rest = piece;
+        'parts: while !rest.is_empty() {
+            let (part, behind) = rest.split_at(self.part_len(rest));
+            match self.step(alloc, desk, part, sink, turns) {
+                Ok(Progress::More) => {}
+                Ok(Progress::Ended(kind)) => return Ok(Progress::Ended(kind)),
+                Err(error) => return Err(error),
+            }
+            rest = behind;
+        }
+        Ok(Progress::More)
+    }
+
+    /// How many of the bytes belong to the frame at hand.
+    fn part_len(&self, bytes: &[u8]) -> usize
+        requires stands { IsStanding self.now }
+        requires some { 0 < length bytes.now }
+        ensures within { result ≤ length bytes.now }
+        ensures part { IsPart self.now (take result bytes.now) }
+    {
+        if self.owed > 0 {
+            return bytes.len().min(self.owed);
+        }
+        let awaiting = awaits_startup(self.inner.state());
+        if self.held.is_empty() {
+            return front_len(awaiting, bytes);
+        }
+        behind_len(awaiting, self.held.as_slice(), bytes.len())
+    }
+
+    /// Takes bytes of the frame at hand.
+    fn step<D: CancelDesk, K: Sink>(
+        &mut self,
+        alloc: Global,
+        desk: &mut D,
+        part: &[u8],
+        sink: &mut K,
+        turns: &mut Turns,
+    ) -> Result<Progress, ServeError>
+        requires stands { IsStanding self.old }
+        requires part { IsPart self.old part.now }
+        ensures took { Takes (cursor_rules (H.told self.old.inner.handlers)) self.old.inner.state
+            (rest_of self.old ++ part.now) self.new.inner.state (rest_of self.new)
+            (around K.written K.faults K.origin D.told sink.old desk.old turns.old)
+            (around K.written K.faults K.origin D.told sink.new desk.new turns.new) result }
+        ensures stands { result ≡ Ok More → IsStanding self.new }
+        ensures handlers { self.new.inner.handlers ≡ self.old.inner.handlers }
+    {
+        if self.owed > 0 {
+            let owed = self.owed - part.len();
+            return self.pass(alloc, desk, part, owed, sink, turns);
+        }
+        if self.held.is_empty() && !is_short(self.inner.state(), part) {
+            return self.begin(alloc, desk, part, sink, turns);
+        }
+        self.hold(alloc, desk, part, sink, turns)
+    }
+
+    /// Holds bytes of the frame at hand, until it may begin.
+    fn hold<D: CancelDesk, K: Sink>(
+        &mut self,
+        alloc: Global,
+        desk: &mut D,
+        part: &[u8],
+        sink: &mut K,
+        turns: &mut Turns,
+    ) -> Result<Progress, ServeError>
+        requires quiet { IsQuiet self.old.inner }
+        requires none { self.old.inner.rest ≡ [] }
+        requires owed { self.old.owed ≡ 0 }
+        requires fits { FitsFrame (is_startup_phase self.old.inner.state.info.state)
+            (self.old.held ++ part.now) }
+        ensures took { Takes (cursor_rules (H.told self.old.inner.handlers)) self.old.inner.state
+            (self.old.held ++ part.now) self.new.inner.state (rest_of self.new)
+            (around K.written K.faults K.origin D.told sink.old desk.old turns.old)
+            (around K.written K.faults K.origin D.told sink.new desk.new turns.new) result }
+        ensures stands { result ≡ Ok More → IsStanding self.new }
+        ensures handlers { self.new.inner.handlers ≡ self.old.inner.handlers }
+    {
+        self.held.extend_from_slice(part)?;
+        if is_short(self.inner.state(), self.held.as_slice()) {
+            return Ok(Progress::More);
+        }
+        let bytes = mem::replace(&mut self.held, BytesMut::new(alloc));
+        self.begin(alloc, desk, bytes.as_slice(), sink, turns)
+    }
+
+    /// Takes the first bytes of a frame, which are all of it where it may be a command.
+    fn begin<D: CancelDesk, K: Sink>(
+        &mut self,
+        alloc: Global,
+        desk: &mut D,
+        bytes: &[u8],
+        sink: &mut K,
+        turns: &mut Turns,
+    ) -> Result<Progress, ServeError>
+        requires quiet { IsQuiet self.old.inner }
+        requires none { self.old.inner.rest ≡ [] }
+        requires owed { self.old.owed ≡ 0 }
+        requires held { self.old.held ≡ [] }
+        requires fits { FitsFrame (is_startup_phase self.old.inner.state.info.state) bytes.now }
+        requires header { header_len (is_startup_phase self.old.inner.state.info.state)
+            ≤ length bytes.now }
+        requires query { is_ready_phase self.old.inner.state.info.state ≡ true
+            → slice_index bytes.now 0 ≡ 81 → IsGoodHeader false bytes.now
+            → told_len false bytes.now ≤ length bytes.now }
+        ensures took { Takes (cursor_rules (H.told self.old.inner.handlers)) self.old.inner.state
+            bytes.now self.new.inner.state (rest_of self.new)
+            (around K.written K.faults K.origin D.told sink.old desk.old turns.old)
+            (around K.written K.faults K.origin D.told sink.new desk.new turns.new) result }
+        ensures stands { result ≡ Ok More → IsStanding self.new }
+        ensures handlers { self.new.inner.handlers ≡ self.old.inner.handlers }
+    {
+        let state = self.inner.state();
+        match command_asked(alloc, state, bytes)? {
+            Some(command) => self.answer(alloc, desk, &command, sink, turns),
+            None => {
+                let owed = owed_by(awaits_startup(state), bytes);
+                self.pass(alloc, desk, bytes, owed, sink, turns)
+            }
+        }
+    }
+
+    /// Feeds the session with bytes of a frame that is no command, of which so many are to come.
+    fn pass<D: CancelDesk, K: Sink>(
+        &mut self,
+        alloc: Global,
+        desk: &mut D,
+        bytes: &[u8],
+        owed: usize,
+        sink: &mut K,
+        turns: &mut Turns,
+    ) -> Result<Progress, ServeError>
+        requires quiet { IsQuiet self.old.inner }
+        requires held { self.old.held ≡ [] }
+        requires begun { IsBegun self.old.inner.state.info.state (self.old.inner.rest ++ bytes.now)
+            owed }
+        ensures took { Takes (cursor_rules (H.told self.old.inner.handlers)) self.old.inner.state
+            (self.old.inner.rest ++ bytes.now) self.new.inner.state (rest_of self.new)
+            (around K.written K.faults K.origin D.told sink.old desk.old turns.old)
+            (around K.written K.faults K.origin D.told sink.new desk.new turns.new) result }
+        ensures stands { result ≡ Ok More → IsStanding self.new }
+        ensures handlers { self.new.inner.handlers ≡ self.old.inner.handlers }
+    {
+        self.owed = owed;
+        self.inner.feed(alloc, desk, bytes, sink, turns)
+    }
+
+    /// Answers a command.
+    fn answer<D: CancelDesk, K: Sink>(
+        &mut self,
+        alloc: Global,
+        desk: &mut D,
+        command: &CursorCommand,
+        sink: &mut K,
+        turns: &mut Turns,
+    ) -> Result<Progress, ServeError>
+        requires quiet { IsQuiet self.old.inner }
+        requires none { self.old.inner.rest ≡ [] }
+        requires owed { self.old.owed ≡ 0 }
+        requires held { self.old.held ≡ [] }
+        requires ready { is_ready_phase self.old.inner.state.info.state ≡ true }
+        requires sent { AllByRecursion CanBeSent (messages_of command.now) }
+        ensures took { (frame : List ℕ) (m : PgWireFrontendMessage) → IsFrame false frame m
+            → asked_command m ≡ Some command.now
+            → Takes (cursor_rules (H.told self.old.inner.handlers)) self.old.inner.state
+            frame self.new.inner.state (rest_of self.new)
+            (around K.written K.faults K.origin D.told sink.old desk.old turns.old)
+            (around K.written K.faults K.origin D.told sink.new desk.new turns.new) result }
+        ensures stands { result ≡ Ok More → IsStanding self.new }
+        ensures handlers { self.new.inner.handlers ≡ self.old.inner.handlers }
+    {
+        let frames = command_frames(alloc, command)?;
+        self.exchange(alloc, desk, command, frames.as_slice(), sink, turns)
+    }
+
+    /// Feeds the session with the frames of a command, and sends what becomes of the replies.
+    fn exchange<D: CancelDesk, K: Sink>(
+        &mut self,
+        alloc: Global,
+        desk: &mut D,
+        command: &CursorCommand,
+        frames: &[u8],
+        sink: &mut K,
+        turns: &mut Turns,
+    ) -> Result<Progress, ServeError>
+        requires quiet { IsQuiet self.old.inner }
+        requires none { self.old.inner.rest ≡ [] }
+        requires owed { self.old.owed ≡ 0 }
+        requires held { self.old.held ≡ [] }
+        requires ready { is_ready_phase self.old.inner.state.info.state ≡ true }
+        requires asks { DividesInto false frames.now (messages_of command.now) [] }
+        ensures took { (frame : List ℕ) (m : PgWireFrontendMessage) → IsFrame false frame m
+            → asked_command m ≡ Some command.now
+            → Takes (cursor_rules (H.told self.old.inner.handlers)) self.old.inner.state
+            frame self.new.inner.state (rest_of self.new)
+            (around K.written K.faults K.origin D.told sink.old desk.old turns.old)
+            (around K.written K.faults K.origin D.told sink.new desk.new turns.new) result }
+        ensures stands { result ≡ Ok More → IsStanding self.new }
+        ensures handlers { self.new.inner.handlers ≡ self.old.inner.handlers }
+    {
+        let mut kept = Kept::new(alloc);
+        match self.inner.feed(alloc, desk, frames, &mut kept, turns) {
+            Ok(progress) => match send_replies(alloc, command, kept.bytes(), sink) {
+                Ok(()) => Ok(progress),
+                Err(error) => Err(error),
+            },
+            Err(error) => Err(error),
+        }
+    }
+}
+
+/// Sends what becomes of the replies to a command's messages.
+fn send_replies<K: Sink>(
+    alloc: Global,
+    command: &CursorCommand,
+    replies: &[u8],
+    sink: &mut K,
+) -> Result<(), ServeError>
+    ensures ok { OnOk result (SendsReplies command.now replies.now (K.written sink.old)
+        (K.written sink.new)) }
+    ensures err { OnErr result (SendsFront command.now replies.now (K.written sink.old)
+        (K.written sink.new)) }
+    ensures cause { HasFlushed (K.faults sink.old) (K.faults sink.new) result }
+    ensures sink { K.origin sink.new ≡ K.origin sink.old }
+{
+    let mut out = BytesMut::new(alloc);
+    put_replies(alloc, command, replies, &mut out)?;
+    sink.send(out.as_slice())?;
+    Ok(())
+}

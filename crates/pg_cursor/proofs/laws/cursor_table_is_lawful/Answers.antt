@@ -1,5 +1,0 @@
-use Rattle.pg_cursor.proofs.CursorLaws.{cursors_lawful}
-use Rattle.pg_cursor.proofs.laws.cursor_table_is_lawful.Goals as goal
-
-pub returns : goal.returns
-returns g c = λ ready awaits table lawful. cursors_lawful ready awaits table lawful
