@@ -1,0 +1,170 @@
+-- What the handlers of styles tell can be sent as replies.
+use Rattle.std.proofs.Common.{◌≡◌, ℕ, ◌≤◌, IsTrue, List, [], ◌∷◌, ◌++◌, Option, Some, None, Result, Ok, Err, length, codes, refl, arith, inr, subst, slice_get, length-append}
+use Rattle.pg_interval.specs.declared.pg_interval.Interval.{Interval}
+use Rattle.pg_interval.specs.declared.interval_parse.parse_error.IntError.TheVariants as integer
+use Rattle.pg_interval.specs.declared.interval_parse.parse_error.DecimalError.TheVariants as decimal
+use Rattle.pg_interval.specs.declared.interval_parse.parse_error.Reason.TheVariants as why
+use Rattle.pg_interval.specs.declared.interval_parse.parse_error.ParseError.{ParseError}
+use Rattle.pg_interval.specs.declared.interval_parse.parse_error.ParseError.TheVariants as parse
+use Rattle.pg_messages.specs.Replies.{HasNoZero, IsEncodable}
+use Rattle.pg_text.specs.Intervals.{read_in, read_interval}
+use Rattle.pg_text.specs.Words.{interval_style_name}
+use Rattle.pg_text.specs.declared.error.CellError.{CellError}
+use Rattle.pg_text.specs.declared.error.CellError.TheVariants as cell
+use Rattle.pg_text.specs.declared.field_format.FieldFormat.{FieldFormat}
+use Rattle.pg_text.specs.declared.field_format.FieldFormat.TheVariants as field
+use Rattle.pg_text.specs.declared.format.interval_style.IntervalStyle.{IntervalStyle}
+use Rattle.pg_text.specs.declared.format.interval_style.IntervalStyle.TheVariants as style
+use Rattle.pg_portal.specs.Formats.{format_for}
+use Rattle.pg_portal.specs.Rows.{IsAnswerable, IsItemError}
+use Rattle.pg_portal.specs.Told.{BoundPortal}
+use Rattle.pg_portal.specs.declared.error.PgWireError.{PgWireError}
+use Rattle.pg_portal.specs.declared.portal.Format.{Format}
+use Rattle.pg_portal.specs.declared.portal.Format.TheVariants as format
+use Rattle.pg_handlers.specs.Good.{AreSendable, IsSendableOutcome}
+use Rattle.pg_handlers.specs.Replies.{row_description}
+use Rattle.pg_handlers.proofs.Encodable.{HasNoZero-append, by_test, has_no_zero, select_is_tag}
+use Rattle.pg_handlers.proofs.ErrorTexts.{tellable_error}
+use Rattle.styles.specs.declared.parser.StylesStatement.{StylesStatement}
+use Rattle.styles.specs.declared.parser.StylesStatement.TheVariants as statement
+use Rattle.styles.specs.Reading.{interval_given, interval_in, interval_of, no_interval, or_refused, reason, refused, style_of}
+use Rattle.styles.specs.Rows.{column, columns, format_at}
+use Rattle.styles.specs.Told.{alone, answer_of, interval_asked, interval_under}
+
+-- ---- columns
+
+four_columns : (a b c d : FieldFormat) → IsEncodable (row_description (column a style.Postgres ∷ column b style.PostgresVerbose
+    ∷ column c style.ISO8601 ∷ column d style.SQLStandard ∷ []))
+four_columns a b c d = record {
+  body = omega arith;
+  counts = (omega arith, tt);
+  texts = (
+    by_test (codes "postgres") refl,
+    (
+      by_test (codes "postgres_verbose") refl,
+      (
+        by_test (codes "iso_8601") refl,
+        (by_test (codes "sql_standard") refl, tt),
+      ),
+    ),
+  );
+}
+
+pub columns_sendable : (formats : Format) → IsEncodable (row_description (columns formats))
+columns_sendable formats = four_columns (format_at formats 0) (format_at formats 1) (format_at formats 2) (format_at formats 3)
+
+-- ---- errors
+
+-- a text that is short and has no zero byte
+record IsPlain (text : List ℕ) : Type 0 where
+  short : length text ≤ 100
+  clean : HasNoZero text
+
+plain : (text : List ℕ) → length text ≤ 100 → IsTrue (has_no_zero text) → IsPlain text
+plain text short clean = record { short = short; clean = by_test text clean }
+
+parse_plain : (e : ParseError) → IsPlain (reason (cell.Parse e))
+parse_plain (parse.ParseIntErr integer.Empty) = plain _ (omega arith) refl
+parse_plain (parse.ParseIntErr integer.InvalidDigit) = plain _ (omega arith) refl
+parse_plain (parse.ParseIntErr integer.OutOfRange) = plain _ (omega arith) refl
+parse_plain (parse.ParseFloatErr decimal.Empty) = plain _ (omega arith) refl
+parse_plain (parse.ParseFloatErr decimal.Malformed) = plain _ (omega arith) refl
+parse_plain (parse.ParseFloatErr decimal.TooManyDigits) = plain _ (omega arith) refl
+parse_plain (parse.ParseFloatErr decimal.OutOfRange) = plain _ (omega arith) refl
+parse_plain (parse.InvalidYearMonth why.TooLong) = plain _ (omega arith) refl
+parse_plain (parse.InvalidYearMonth why.Shape) = plain _ (omega arith) refl
+parse_plain (parse.InvalidYearMonth why.Overflow) = plain _ (omega arith) refl
+parse_plain (parse.InvalidTime why.TooLong) = plain _ (omega arith) refl
+parse_plain (parse.InvalidTime why.Shape) = plain _ (omega arith) refl
+parse_plain (parse.InvalidTime why.Overflow) = plain _ (omega arith) refl
+parse_plain (parse.InvalidInterval why.TooLong) = plain _ (omega arith) refl
+parse_plain (parse.InvalidInterval why.Shape) = plain _ (omega arith) refl
+parse_plain (parse.InvalidInterval why.Overflow) = plain _ (omega arith) refl
+
+reason_plain : (cause : CellError) → IsPlain (reason cause)
+reason_plain (cell.Parse e) = parse_plain e
+reason_plain cell.ShortCell = plain _ (omega arith) refl
+reason_plain cell.WrongType = plain _ (omega arith) refl
+reason_plain cell.NotUtf8 = plain _ (omega arith) refl
+reason_plain (cell.InvalidOptionValue text) = plain _ (omega arith) refl
+reason_plain cell.DurationOverflow = plain _ (omega arith) refl
+reason_plain cell.NoMemory = plain _ (omega arith) refl
+
+refused_item : (reader : List ℕ) → IsPlain reader → (cause : CellError) → IsItemError (refused reader cause)
+refused_item reader r cause =
+    let x = codes "no interval in " in let y = codes ": " in let q = reason_plain cause in
+    let a = length-append ((x ++ reader) ++ y) (reason cause) in
+    let b = length-append (x ++ reader) y in let e = length-append x reader in
+    let short = r.short in let few = q.short in
+    record {
+      tellable = tellable_error (codes "22007") (((x ++ reader) ++ y) ++ reason cause) (omega arith) (by_test (codes "22007") refl)
+          (omega arith)
+          (HasNoZero-append ((x ++ reader) ++ y) (reason cause)
+          (HasNoZero-append (x ++ reader) y (HasNoZero-append x reader (by_test x refl) r.clean) (by_test y refl)) q.clean);
+      is_own = refl;
+    }
+
+-- the error of an answer, where it is one, can stand in the place of a row
+abbrev ErrsAsItem : Result Interval PgWireError → Type 0
+ErrsAsItem (Ok i) = Unit {0}
+ErrsAsItem (Err e) = IsItemError e
+
+refused_or_read : (reader : List ℕ) → IsPlain reader → (read : Result Interval CellError) → ErrsAsItem (or_refused reader read)
+refused_or_read reader r (Ok i) = tt
+refused_or_read reader r (Err cause) = refused_item reader r cause
+
+name_plain : (s : IntervalStyle) → IsPlain (interval_style_name s)
+name_plain style.Postgres = plain _ (omega arith) refl
+name_plain style.PostgresVerbose = plain _ (omega arith) refl
+name_plain style.ISO8601 = plain _ (omega arith) refl
+name_plain style.SQLStandard = plain _ (omega arith) refl
+
+text_errs : (text : List ℕ) → ErrsAsItem (interval_of text)
+text_errs text = refused_or_read (interval_style_name (style_of text)) (name_plain (style_of text)) (read_in text (Ok (style_of text)))
+
+no_interval_item : IsItemError no_interval
+no_interval_item = record {
+  tellable = tellable_error (codes "22004") (codes "there is no interval for $1") (omega arith) (by_test (codes "22004") refl)
+      (omega arith) (by_test (codes "there is no interval for $1") refl);
+  is_own = refl;
+}
+
+bytes_err : (format : Option FieldFormat) (bytes : List ℕ) → ErrsAsItem (interval_in format bytes)
+bytes_err (Some field.Binary) bytes = refused_or_read (codes "binary") (plain _ (omega arith) refl) (read_interval bytes)
+bytes_err (Some field.Text) bytes = text_errs bytes
+bytes_err None bytes = text_errs bytes
+
+parameter_errs : (format : Option FieldFormat) (value : Option (Option (List ℕ))) → ErrsAsItem (interval_given format value)
+parameter_errs format (Some (Some bytes)) = bytes_err format bytes
+parameter_errs format (Some None) = no_interval_item
+parameter_errs format None = no_interval_item
+
+-- ---- what is answered
+
+sendable_one : (formats : Format) (asked : Result Interval PgWireError) → ErrsAsItem asked → IsSendableOutcome (answer_of formats asked)
+sendable_one formats (Ok i) h = (columns_sendable formats, select_is_tag)
+sendable_one formats (Err e) h = h
+
+sendable_alone : (asked : Result Interval PgWireError) → ErrsAsItem asked → AreSendable (alone (answer_of format.UnifiedText asked))
+sendable_alone (Ok i) h = ((columns_sendable format.UnifiedText, select_is_tag), tt)
+sendable_alone (Err e) h = h
+
+under_errs : (s : StylesStatement) (p : BoundPortal StylesStatement) → ErrsAsItem (interval_under s p)
+under_errs (statement.Interval i) p = tt
+under_errs statement.Parameter p = parameter_errs (format_for p.parameter_format 0) (slice_get p.parameters 0)
+
+pub simple_sendable : (text : List ℕ) → AreSendable (alone (answer_of format.UnifiedText (interval_of text)))
+simple_sendable text = sendable_alone (interval_of text) (text_errs text)
+
+pub extended_sendable : (p : BoundPortal StylesStatement)
+    → IsSendableOutcome (answer_of p.result_column_format (interval_asked p))
+extended_sendable p = sendable_one p.result_column_format (interval_asked p) (under_errs p.statement.statement p)
+
+error_answerable : (asked : Result Interval PgWireError) (e : PgWireError) → ErrsAsItem asked → asked ≡ Err e → IsAnswerable e
+error_answerable (Ok i) e h same = cc
+error_answerable (Err d) e h same =
+    let told : d ≡ e = cc in
+    subst IsAnswerable told (inr h.tellable)
+
+pub meaning_answerable : (text : List ℕ) (e : PgWireError) → interval_of text ≡ Err e → IsAnswerable e
+meaning_answerable text e same = error_answerable (interval_of text) e (text_errs text) same

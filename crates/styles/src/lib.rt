@@ -1,0 +1,15 @@
+//! Handlers of one's own, as an example: a query is the text of an interval, and it is answered by
+//! that interval in each of PostgreSQL's four styles.
+#![tactic(auto)]
+
+mod handlers;
+mod laws;
+mod parser;
+mod query;
+mod reading;
+mod rows;
+
+pub use handlers::StylesHandler;
+pub use laws::each_cell_stands_for_its_query;
+pub use parser::{StylesParser, StylesStatement};
+pub use query::StylesQuery;
