@@ -1,4 +1,4 @@
-.PHONY: demo serve try build test bench docs pages
+.PHONY: demo serve try build test edits bench docs pages
 
 CLIENT = tools/demo_client.hex
 ROSTERS = $(CURDIR)/data/rosters
@@ -38,6 +38,10 @@ build:
 # Proves everything from nothing, tries every must-fail edit, runs every test and program.
 test:
 	rt ci
+
+# Tries the edits that the gate leaves out (hours): make edits NAMES=pg_session for one crate's.
+edits:
+	@tools/held_edits $(NAMES)
 
 # Times queries, printers, readers, the codec and the registry, on programs that are proved and built first.
 bench:

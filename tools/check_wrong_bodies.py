@@ -2,8 +2,8 @@
 """Checks docs/WRONG_BODIES.md against the crates: usage: check_wrong_bodies.py
 
 Every row of a table headed "Wrong body | Refused by" names in backticks the edits and tests that refuse it. The check
-asks that each is there (an edit under some crate's must-fail/, a test function, a row of a table program), and that each
-edit of the crates is named. It prints what is missing, and its status is then 1.
+asks that each is there (an edit under some crate's must-fail/ or held/, a test function, a row of a table program), and that
+each edit of the crates is named. It prints what is missing, and its status is then 1.
 """
 import re
 import sys
@@ -29,7 +29,8 @@ def rows():
 def main():
     crates = listed_crates()
     tests, told = known_examples(crates)
-    edits = {path.stem: path.relative_to(TOP) for crate in crates for path in (TOP / "crates" / crate).glob("must-fail/*.edit")}
+    found = [path for crate in crates for folder in ("must-fail", "held") for path in (TOP / "crates" / crate / folder).glob("*.edit")]
+    edits = {path.stem: path.relative_to(TOP) for path in found}
     named, problems = set(), []
     for number, cells in rows():
         place = f"docs/WRONG_BODIES.md:{number}"
@@ -43,7 +44,8 @@ def main():
     problems += [f"docs/WRONG_BODIES.md: no row names {path}" for name, path in sorted(edits.items()) if name not in named]
     for problem in problems:
         print(problem)
-    print(f"{len(edits)} must-fail edits, {len(problems)} problems")
+    held = sum(path.parent.name == "held" for path in found)
+    print(f"{len(found) - held} must-fail edits, {held} held ones, {len(problems)} problems")
     return 1 if problems else 0
 
 
