@@ -104,12 +104,25 @@ def taken_back():
     return "\n".join(lines + [writes(lengths)])
 
 
+def broken_long_page():
+    """A page of six chunks and more is taken back at an error item, behind what waits; the portal goes on behind the error."""
+    lines = ["row a long page: an error item in its middle", "handlers sample", "use started"]
+    lines += ["client Parse | | long |", "reply ParseComplete", "client Bind | p | | | |", "reply BindComplete"]
+    lines += ["client Execute | p | 0", "call start"]
+    lines += ["reply ErrorResponse | S ERROR | V ERROR | C 22012 | M division by zero", "use synced"]
+    lines += ["client Execute | p | 0", "reply DataRow | b | null", "reply CommandComplete | SELECT 1", "use ended"]
+    waiting = GREETING + PARSED + BOUND + error("22012", "division by zero") + READY
+    waiting += data_row([len("b"), 0]) + complete("SELECT 1") + READY
+    return "\n".join(lines + [writes([waiting])])
+
+
 def main():
     rows = [
         binary_page(),
         text_page("exactly a chunk", (4079, 15)),
         text_page("a row ends with its chunk", (5000,)),
         taken_back(),
+        broken_long_page(),
         broad_page(),
     ]
     print("\n\n".join(rows))

@@ -1,5 +1,5 @@
 -- How long a text in the style sql_standard is.
-use Rattle.std.proofs.Common.{◌+◌, ◌^◌, ◌<◌, ◌≤◌, Bool, true, false, not, ◌&&◌, ◌∷◌, ◌++◌, length, arith, lit≤, ℤ}
+use Rattle.std.proofs.Common.{◌^◌, ◌<◌, ◌≤◌, Bool, true, false, not, ◌&&◌, ◌∷◌, ◌++◌, length, arith, lit≤, ℤ}
 use Rattle.std.specs.Prelude.{if◌then◌else◌, unsigned_abs, decimal}
 use Rattle.std.specs.Int.{is_negative}
 use Rattle.std.specs.Int.Signed.{mag}

@@ -1,5 +1,5 @@
 -- What the style sql_standard prints stands for the interval.
-use Rattle.std.proofs.Common.{◌≡◌, ℕ, ◌+◌, ◌^◌, ◌<◌, ◌≤◌, Bool, true, false, not, ◌&&◌, ◌||◌, List, [], ◌∷◌, ◌++◌, length, take, drop, ap, ◌∙◌, sym, refl, subst, arith, lit<, Some, None, Ok, Err, inl, inr, ℤ, pos, negsuc, ◌+ℤ◌, ◌*ℤ◌, ◌≤ℤ◌}
+use Rattle.std.proofs.Common.{◌≡◌, ℕ, ◌+◌, ◌^◌, ◌<◌, Bool, true, false, not, ◌&&◌, ◌||◌, List, [], ◌∷◌, ◌++◌, length, take, drop, ap, ◌∙◌, sym, refl, subst, arith, lit<, Some, None, Ok, Err, inl, inr, ℤ, pos, negsuc, ◌+ℤ◌, ◌*ℤ◌, ◌≤ℤ◌}
 use mathlib.Core.List.{append_assoc, append-nil}
 use Rattle.std.specs.Prelude.{if◌then◌else◌, unsigned_abs, codes, decimal, nat_le, bytes_eq, int_div, int_rem}
 use Rattle.std.specs.List.{list_any, list_all, slice_split, before_first, after_first, position_or_len}

@@ -1,1 +1,2 @@
+mod LongRows
 pub mod Sendable

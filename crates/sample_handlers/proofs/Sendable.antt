@@ -1,23 +1,21 @@
 -- What the sample handlers tell can be sent as replies.
-use Rattle.std.proofs.Common.{◌≡◌, ℕ, ◌≤◌, pos, List, [], ◌∷◌, ◌++◌, length, map, codes, refl, arith, length-append}
+use Rattle.std.proofs.Common.{◌≤◌, List, [], ◌∷◌, ◌++◌, length, map, codes, refl, arith, length-append}
 use Rattle.std.specs.Fmt.{decimal}
 use Rattle.std.proofs.lemmas.Fmt.{length-decimal-le}
 use Rattle.std.specs.List.{AllByRecursion}
 use Rattle.pg_messages.specs.Replies.{IsEncodable}
-use Rattle.pg_messages.specs.declared.backend.PgWireBackendMessage.TheVariants as server
 use Rattle.pg_text.specs.declared.field_format.FieldFormat.{FieldFormat}
-use Rattle.pg_text.specs.declared.field_format.FieldFormat.TheVariants as field
 use Rattle.pg_portal.specs.declared.portal.Format.{Format}
 use Rattle.pg_portal.specs.declared.portal.Format.TheVariants as format
-use Rattle.pg_portal.specs.Rows.{IsItemError, IsSendable}
+use Rattle.pg_portal.specs.Rows.{IsItemError}
 use Rattle.pg_portal.specs.Tags.{spaced, tag_text}
-use Rattle.pg_handlers.specs.Good.{AreSendable, IsSendableResponse}
+use Rattle.pg_handlers.specs.Good.{IsSendableResponse}
 use Rattle.pg_handlers.specs.Replies.{done, row_description}
 use Rattle.pg_handlers.proofs.Encodable.{HasNoZero-append, HasNoZero-decimal, by_test, select_is_tag}
 use Rattle.pg_handlers.proofs.ErrorTexts.{tellable_error}
 use Rattle.sample_handlers.specs.declared.meaning.SampleStatement.{SampleStatement}
 use Rattle.sample_handlers.specs.declared.meaning.SampleStatement.TheVariants as statement
-use Rattle.sample_handlers.specs.Told.{name_column, span_column, columns, columns_of, column_format, division_by_zero, done_tag, listed, not_known, response_of}
+use Rattle.sample_handlers.specs.Told.{name_column, span_column, columns, column_format, division_by_zero, done_tag, not_known, response_of}
 
 two_columns : (a b : FieldFormat) → IsEncodable (row_description (name_column a ∷ span_column b ∷ []))
 two_columns a b = record {
@@ -60,6 +58,7 @@ done_sendable =
 pub response_sendable : (formats : Format) (s : SampleStatement) → IsSendableResponse (response_of formats s)
 response_sendable formats statement.Pair = (columns_sendable formats, select_is_tag)
 response_sendable formats statement.Broken = (columns_sendable formats, select_is_tag)
+response_sendable formats statement.Long = (columns_sendable formats, select_is_tag)
 response_sendable formats statement.CopyIn = omega arith
 response_sendable formats statement.CopyOut = omega arith
 response_sendable formats statement.CopyBoth = omega arith

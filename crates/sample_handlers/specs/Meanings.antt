@@ -1,5 +1,5 @@
 -- What the texts of sample queries mean.
-use Rattle.std.specs.Prelude.{ℕ, List, [], ◌∷◌, Option, Some, None, if◌then◌else◌, codes, bytes_eq}
+use Rattle.std.specs.Prelude.{ℕ, List, Option, Some, None, if◌then◌else◌, codes, bytes_eq}
 pub use Rattle.query_texts.specs.QueryTexts.{trimmed}
 use Rattle.sample_handlers.specs.declared.meaning.SampleStatement.{SampleStatement}
 use Rattle.sample_handlers.specs.declared.meaning.SampleStatement.TheVariants as statement
@@ -9,6 +9,7 @@ abbrev pub meaning_of : List ℕ → Option SampleStatement
 meaning_of text =
     if bytes_eq text (codes "pair") then Some statement.Pair
     else if bytes_eq text (codes "broken") then Some statement.Broken
+    else if bytes_eq text (codes "long") then Some statement.Long
     else if bytes_eq text (codes "in") then Some statement.CopyIn
     else if bytes_eq text (codes "out") then Some statement.CopyOut
     else if bytes_eq text (codes "both") then Some statement.CopyBoth

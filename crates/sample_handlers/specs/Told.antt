@@ -45,6 +45,7 @@ columns formats = name_column (column_format formats 0) ∷ span_column (column_
 abbrev pub columns_of : SampleStatement → Format → List Field
 columns_of statement.Pair formats = columns formats
 columns_of statement.Broken formats = columns formats
+columns_of statement.Long formats = columns formats
 columns_of statement.Late formats = columns formats
 columns_of _ formats = []
 
@@ -73,6 +74,10 @@ division_by_zero = wire.UserError (error (codes "22012") (codes "division by zer
 abbrev pub broken_items : FieldFormat → List RowItem
 broken_items f = Ok (first_row f) ∷ Err division_by_zero ∷ Ok second_row ∷ Ok second_row ∷ []
 
+-- so many rows, an error, and another row
+abbrev pub long_items : ℕ → FieldFormat → List RowItem
+long_items count f = replicate count (Ok (first_row f)) ++ Err division_by_zero ∷ Ok second_row ∷ []
+
 abbrev pub rows_told : Format → List RowItem → ToldRows
 rows_told formats items = record { command_tag = codes "SELECT"; fields = columns formats; items = items }
 
@@ -95,6 +100,7 @@ done_tag = tag_with_rows 1 (tag_with_oid 0 (tag_of (codes "INSERT")))
 abbrev pub response_of : Format → SampleStatement → ToldResponse
 response_of formats statement.Pair = response.Query (rows_told formats (pair_items (column_format formats 1)))
 response_of formats statement.Broken = response.Query (rows_told formats (broken_items (column_format formats 1)))
+response_of formats statement.Long = response.Query (rows_told formats (long_items 20000 (column_format formats 1)))
 response_of formats statement.CopyIn = response.CopyIn (copy_told (pos 0) 0)
 response_of formats statement.CopyOut = response.CopyOut (copy_told (pos 1) 2)
 response_of formats statement.CopyBoth = response.CopyBoth (copy_told (pos 0) 1)

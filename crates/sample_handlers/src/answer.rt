@@ -4,13 +4,13 @@ ghost use Rattle.std.specs.Prelude.{◌≡◌, IfOk, map};
 ghost use Rattle.pg_portal.specs.Responses as told;
 ghost use Rattle.pg_portal.specs.Responses.{told_copy, told_response, told_responses};
 ghost use Rattle.pg_portal.specs.declared.portal.Format.TheVariants as format;
-ghost use Rattle.sample_handlers.specs.Told.{column_format, copy_told, data_left, pair_items, broken_items, polls_of, rows_told, response_of};
+ghost use Rattle.sample_handlers.specs.Told.{column_format, copy_told, data_left, pair_items, broken_items, long_items, polls_of, rows_told, response_of};
 
 use crate::columns::{column_format, columns};
 use crate::copy::SampleCopy;
 use crate::errors::error;
 use crate::meaning::SampleStatement;
-use crate::rows::{broken_rows, pair_rows};
+use crate::rows::{broken_rows, long_rows, pair_rows};
 use pg_messages::PgList;
 use pg_portal::{CopyResponse, Format, ListRows, QueryResponse, Response, Tag};
 use std::alloc::{AllocError, Global};
@@ -41,6 +41,7 @@ pub(crate) fn response(
     match statement {
         SampleStatement::Pair => pair(alloc, formats),
         SampleStatement::Broken => broken(alloc, formats),
+        SampleStatement::Long => long(alloc, formats, 20000),
         SampleStatement::CopyIn => Ok(Response::CopyIn(copy(alloc, 0, 0))),
         SampleStatement::CopyOut => Ok(Response::CopyOut(copy(alloc, 1, 2))),
         SampleStatement::CopyBoth => Ok(Response::CopyBoth(copy(alloc, 0, 1))),
@@ -68,6 +69,16 @@ fn broken(alloc: Global, formats: &Format) -> Result<Answer, AllocError>
         ≡ told.Query (rows_told formats.now (broken_items (column_format formats.now 1)))) }
 {
     let rows = broken_rows(alloc, column_format(formats, 1))?;
+    rows_response(alloc, formats, rows)
+}
+
+/// So many rows, and an error behind them.
+fn long(alloc: Global, formats: &Format, count: usize) -> Result<Answer, AllocError>
+    ensures { IfOk result (λ response. told_response (λ rows. rows) (λ c. data_left c.left) response
+        ≡ told.Query (rows_told formats.now
+        (long_items count (column_format formats.now 1)))) }
+{
+    let rows = long_rows(alloc, column_format(formats, 1), count)?;
     rows_response(alloc, formats, rows)
 }
 

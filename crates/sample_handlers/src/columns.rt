@@ -24,6 +24,7 @@ pub(crate) fn columns_of(
     match statement {
         SampleStatement::Pair => columns(alloc, formats),
         SampleStatement::Broken => columns(alloc, formats),
+        SampleStatement::Long => columns(alloc, formats),
         SampleStatement::Late => columns(alloc, formats),
         _ => Ok(PgList::new(alloc)),
     }

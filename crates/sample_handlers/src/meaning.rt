@@ -12,6 +12,8 @@ pub enum SampleStatement {
     Pair,
     /// `broken`: a row, an error, and another row twice.
     Broken,
+    /// `long`: 20,000 rows, an error, and another row.
+    Long,
     /// `in`: data from the client.
     CopyIn,
     /// `out`: binary data from the server.
@@ -41,6 +43,8 @@ pub(crate) fn meaning_of(text: &str) -> Option<SampleStatement>
         Some(SampleStatement::Pair)
     } else if text == "broken" {
         Some(SampleStatement::Broken)
+    } else if text == "long" {
+        Some(SampleStatement::Long)
     } else if text == "in" {
         Some(SampleStatement::CopyIn)
     } else if text == "out" {

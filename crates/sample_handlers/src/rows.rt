@@ -3,7 +3,7 @@
 ghost use Rattle.std.specs.Prelude.{◌≡◌, ◌≤◌, pos, IfOk, length};
 ghost use Rattle.pg_messages.specs.Replies.{IsEncodable};
 ghost use Rattle.pg_messages.specs.declared.backend.PgWireBackendMessage.TheVariants as server;
-ghost use Rattle.sample_handlers.specs.Told.{first_row, pair_items, broken_items};
+ghost use Rattle.sample_handlers.specs.Told.{first_row, pair_items, broken_items, long_items};
 
 use crate::errors::division_by_zero;
 use pg_messages::{DataRow, PgBytes, PgList};
@@ -63,6 +63,23 @@ pub(crate) fn broken_rows(alloc: Global, format: FieldFormat) -> Result<ListRows
     items.push(Ok(first_row(alloc, format)?))?;
     items.push(Err(division_by_zero(alloc)?))?;
     items.push(Ok(row(alloc, &NULL_ROW)?))?;
+    items.push(Ok(row(alloc, &NULL_ROW)?))?;
+    Ok(ListRows::new(items))
+}
+
+/// So many first rows, an error, and the second row.
+pub(crate) fn long_rows(
+    alloc: Global,
+    format: FieldFormat,
+    count: usize,
+) -> Result<ListRows, AllocError>
+    ensures { IfOk result (λ rows. rows ≡ long_items count format) }
+{
+    let mut items = PgList::new(alloc);
+    for _ in 0..count {
+        items.push(Ok(first_row(alloc, format)?))?;
+    }
+    items.push(Err(division_by_zero(alloc)?))?;
     items.push(Ok(row(alloc, &NULL_ROW)?))?;
     Ok(ListRows::new(items))
 }
