@@ -28,8 +28,8 @@ use crate::client::Client;
 use crate::desk::CancelDesk;
 use crate::ends::{SessionError, Turns};
 use crate::query::QueryState;
-use crate::query::respond::{is_unstarted, respond, send_page};
-use crate::query::run::run_portal;
+use crate::query::respond::{is_unstarted, send_page};
+use crate::query::run::run_unstarted;
 use crate::query::send::{push_reply, send_described, send_ready_for_query, send_told};
 use crate::query::statements::{
     bind_checked, bind_empty, bind_statement, close, execute_no_portal, missing_portal,
@@ -295,18 +295,13 @@ pub trait ExtendedQueryHandler {
         let Some(portal) = client.store.portal_mut(message.name.as_str()) else {
             return Ok(execute_no_portal(client, message.name)?);
         };
-        let limit = message.max_rows;
-        drop(message);
         if !is_unstarted(&*portal) {
+            let limit = message.max_rows;
             return Ok(send_page(alloc, &mut client.outbox, portal, limit)?);
         }
         desk.start()?;
-        let query = self.do_query(alloc, &client.info, portal, limit)?;
-        let outbox = &mut client.outbox;
-        match run_portal(alloc, outbox, portal, query, desk, turns, limit)? {
-            Some(response) => Ok(respond(alloc, client, response)?),
-            None => Ok(()),
-        }
+        let query = self.do_query(alloc, &client.info, portal, message.max_rows)?;
+        run_unstarted(alloc, client, &message, query, desk, turns)
     }
 
     /// Describe of a statement (`S`) or a portal (`P`): what describes it. StatementNotFound and
