@@ -22,6 +22,7 @@ use Rattle.pg_handlers.specs.ExecuteRow.{execute_polled, executed_nothing, on_ex
 use Rattle.pg_handlers.specs.Executing.{HasComeTo, IsExecuteEnd, IsLeftBehind, IsPageOf, is_unstarted, page_result, portal_under}
 use Rattle.pg_handlers.specs.Good.{HasGoodTag, IsGoodState}
 use Rattle.pg_handlers.specs.Handlers.{ExtendedTold, ToldQuery}
+use Rattle.pg_handlers.specs.Outcomes.{session_outcome}
 use Rattle.pg_handlers.specs.Questions.{HasSpent, IsAsked, IsCausedSo, Verdict, questions_since}
 use Rattle.pg_handlers.specs.Sending.{AtTurnLimit, IsAnswerableError}
 use Rattle.pg_handlers.specs.State.{State}
@@ -31,11 +32,6 @@ use Rattle.pg_handlers.proofs.Executes.{asked_since, cut_at_none, no_turn_starte
 use Rattle.pg_handlers.proofs.Lends.{IsLent, cut_begun, ended_ok, ended_refused, good_same, good_written, left_lent, maps_of, no_portal, started_ok, started_refused}
 use Rattle.pg_handlers.proofs.Rows.{no_turn}
 use Rattle.pg_handlers.proofs.Sent.{kept_as, kept_in_front}
-
--- the error of a message, as the session's
-abbrev pub wired : {A : Type 0} → Result A PgWireError → Result A SessionError
-wired (Ok x) = Ok x
-wired (Err e) = Err (session.Wire e)
 
 pub record IsExecuted {S A : Type 0} (h : ExtendedTold S) (m : Execute) (s s' : State S) (out new_out : List ℕ) (desk new_desk : DeskTold)
     (turns new_turns : Turns) (result : Result A SessionError) : Type 0 where
@@ -66,7 +62,7 @@ module _ {S A : Type 0} (h : ExtendedTold S) (m : Execute) (s s' : State S) (out
   pub nothing_executed : (result : Result A PgWireError) → IsGoodState h.parser s → value_under (fin.get s.portals m.name) ≡ None → s' ≡ s
       → OnOk result (IsEffect (executed_nothing s m.name (fin.get s.portals m.name)) out new_out (Done s'))
       → IfErr result (IsRefusedEffect (executed_nothing s m.name (fin.get s.portals m.name)) out new_out s') → IfErr result IsAnswerable
-      → OnErr result (new_out ≡ out) → IsExecuted h m s s' out new_out desk desk turns turns (wired result)
+      → OnErr result (new_out ≡ out) → IsExecuted h m s s' out new_out desk desk turns turns (session_outcome result)
   nothing_executed (Ok x) good none same ok refused answerable waiting = record {
     ok = silent_row (λ answers. on_execute h answers s m) (executed_nothing s m.name (fin.get s.portals m.name)) desk.calls
         (λ answers. no_portal h answers s m (fin.get s.portals m.name) none) ok;
@@ -103,7 +99,7 @@ module _ {S A : Type 0} (h : ExtendedTold S) (m : Execute) (s s' : State S) (out
       → value_under (fin.get s.portals m.name) ≡ None → s' ≡ t
       → OnOk result (IsEffect (executed_nothing t m.name (fin.get t.portals m.name)) out new_out (Done s'))
       → IfErr result (IsRefusedEffect (executed_nothing t m.name (fin.get t.portals m.name)) out new_out s') → IfErr result IsAnswerable
-      → OnErr result (new_out ≡ out) → IsExecuted h m s s' out new_out desk desk turns turns (wired result)
+      → OnErr result (new_out ≡ out) → IsExecuted h m s s' out new_out desk desk turns turns (session_outcome result)
   nothing_lent t e result good none same ok refused answerable waiting = nothing_executed result good none (same ∙ e)
       (subst (λ (t : State S). OnOk result (IsEffect (executed_nothing t m.name (fin.get t.portals m.name)) out new_out (Done s'))) e ok)
       (subst (λ (t : State S). IfErr result (IsRefusedEffect (executed_nothing t m.name (fin.get t.portals m.name)) out new_out s')) e
@@ -119,7 +115,7 @@ module _ {S A : Type 0} (h : ExtendedTold S) (m : Execute) (s s' : State S) (out
       → IsLent s m.name p stage s' → is_unstarted p.stage ≡ false → (limit : ℤ) → limit ≡ m.max_rows
       → IsPageOf (page_result limit p.stage) stage out new_out result
       → IfErr result IsAnswerableItem → OnErr result (HasComeTo p.stage stage) → take (length out) new_out ≡ out → HasGoodTag stage
-      → IsExecuted h m s s' out new_out desk desk turns turns (wired result)
+      → IsExecuted h m s s' out new_out desk desk turns turns (session_outcome result)
   page_executed p stage (Ok x) good l started limit limit_is sent answerable stays kept tag = record {
     ok = started_ok s m p out new_out stage s' l.written l.found h desk.calls p.stage refl started
         (page_at p.stage stage limit (Ok x) limit_is sent);
@@ -268,9 +264,9 @@ query_lent {S} h m s p found fresh good desk begun starts turns out t same query
     (subst (IsGoodState h.parser) (sym same) good) desk begun starts turns out query query_is s' new_out new_desk new_turns result ran
     answerable cause limit info left kept good' spent bounded keeps)
 
--- what a `?` returns
+-- what is returned
 pub returned : {S A : Type 0} {h : ExtendedTold S} {m : Execute} {s s' : State S} {out new_out : List ℕ} {desk new_desk : DeskTold}
-    {turns new_turns : Turns} {result : Result A SessionError} {e d : SessionError} → result ≡ Err e → e ≡ d
-    → IsExecuted {A = A} h m s s' out new_out desk new_desk turns new_turns (Err d)
+    {turns new_turns : Turns} {result other : Result A SessionError} → result ≡ other
+    → IsExecuted h m s s' out new_out desk new_desk turns new_turns other
     → IsExecuted h m s s' out new_out desk new_desk turns new_turns result
-returned p q x = rw (p, q) x
+returned p x = rw p x

@@ -1,24 +1,18 @@
--- A portal that isn't started: its first page, and how its query ends.
+-- A portal that isn't started: its first page, and a response without rows.
 use Rattle.std.proofs.Common.{◌≡◌, ℕ, ℤ, Bool, false, inl, inr, List, [], ◌++◌, Option, Some, Result, Ok, Err, refl, ap, sym, subst, ◌∙◌}
 use Rattle.std.specs.Prelude.{IfErr, OnOk, OnErr}
 use Rattle.std.specs.Option.{IsSomeAnd}
-use Rattle.std.proofs.lemmas.List.{append-nil}
 use Rattle.pg_messages.specs.declared.extendedquery.Execute.{Execute}
 use Rattle.pg_portal.specs.declared.error.PgWireError.{PgWireError}
-use Rattle.pg_portal.specs.declared.error.PgWireError.TheVariants as wire
 use Rattle.pg_portal.specs.Maps.{Maps}
 use Rattle.pg_portal.specs.Page.{item_page}
 use Rattle.pg_portal.specs.Responses as response
 use Rattle.pg_portal.specs.Responses.{ToldResponse}
 use Rattle.pg_portal.specs.Told.{ParserTold, TablePortal, Stage, Started, Unstarted, ToldRows}
-use Rattle.pg_handlers.specs.declared.ends.SessionError.{SessionError}
-use Rattle.pg_handlers.specs.declared.ends.SessionError.TheVariants as session
 use Rattle.pg_handlers.specs.Effect.{Done, IsEffect, IsRefusedEffect}
-use Rattle.pg_handlers.specs.ExecuteRow.{execute_polled, executed, executed_without_rows, fetched}
-use Rattle.pg_handlers.specs.Executing.{HasUnstarted, IsExecuteEnd, IsLeftBehind, IsPageOf, has_rows, page_result, portal_under, response_page}
+use Rattle.pg_handlers.specs.ExecuteRow.{executed, executed_without_rows, fetched}
+use Rattle.pg_handlers.specs.Executing.{HasUnstarted, IsLeftBehind, IsPageOf, has_rows, page_result, portal_under, response_page}
 use Rattle.pg_handlers.specs.Good.{HasGoodTag, IsGoodState}
-use Rattle.pg_handlers.specs.Questions.{IsVerdict, Passed, Verdict}
-use Rattle.pg_handlers.specs.Sending.{AtTurnLimit}
 use Rattle.pg_handlers.specs.State.{State}
 use Rattle.pg_handlers.proofs.Lends.{IsLent, comes_from_unstarted, fetched_ok, fetched_refused, good_written, left_lent, maps_of}
 
@@ -79,27 +73,3 @@ pub left_same : {S St A E : Type 0} (maps : St → Maps S) (result : Result A E)
     → OnErr result (IsLeftBehind (maps old) name (maps new))
 left_same maps (Ok x) old new name e = tt
 left_same maps (Err x) old new name e = inl (ap maps e)
-
--- ---- its query
-
-module _ {S : Type 0} (s : State S) (m : Execute) (p : TablePortal S) (out : List ℕ) (told : Result ToldResponse PgWireError)
-    (verdict : Verdict) where
-  -- it was canceled, or a turn was wanting, or memory
-  pub wait_ended : {A : Type 0} (outcome : A) (e : SessionError) → IsVerdict {A = A} outcome verdict (Err e)
-      → IsExecuteEnd {A = Unit {0}} (execute_polled s m p verdict told) verdict out out s (Err e)
-  wait_ended outcome session.TurnLimit v = (v, rw v (record { replied = sym (append-nil out); came = refl }))
-  wait_ended outcome (session.Wire e) (inl v) = inr (rw (v.1, v.0) (record { replied = sym (append-nil out); came = refl }))
-  wait_ended outcome (session.Wire e) (inr none) = inl none
-
-  -- its outcome is an error
-  pub outcome_ended : (e : PgWireError) → verdict ≡ Passed → told ≡ Err e
-      → IsExecuteEnd {A = Unit {0}} (execute_polled s m p verdict told) verdict out out s (Err (session.Wire e))
-  outcome_ended e i j = inr (rw (i, j) (record { replied = sym (append-nil out); came = refl }))
-
-  -- its outcome is a response
-  pub response_is : (r : ToldResponse) → verdict ≡ Passed → told ≡ Ok r → execute_polled s m p verdict told ≡ executed s m p r
-  response_is r i j = rw (i, j) refl
-
-pub at_limit : {P : Type 0} (e : SessionError) → P → AtTurnLimit e P
-at_limit (session.Wire e) p = tt
-at_limit session.TurnLimit p = p

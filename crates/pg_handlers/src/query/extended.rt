@@ -26,7 +26,7 @@ ghost use Rattle.pg_handlers.specs.Sending.{IsAnswerableError, AtTurnLimit};
 
 use crate::client::Client;
 use crate::desk::CancelDesk;
-use crate::ends::{SessionError, Turns};
+use crate::ends::{SessionError, Turns, session_outcome};
 use crate::query::QueryState;
 use crate::query::respond::{is_unstarted, send_page};
 use crate::query::run::run_unstarted;
@@ -293,11 +293,12 @@ pub trait ExtendedQueryHandler {
         ensures keeps { KeepsDesk (D.told desk.old) (D.told desk.new) }
     {
         let Some(portal) = client.store.portal_mut(message.name.as_str()) else {
-            return Ok(execute_no_portal(client, message.name)?);
+            return session_outcome(execute_no_portal(client, message.name));
         };
         if !is_unstarted(&*portal) {
             let limit = message.max_rows;
-            return Ok(send_page(alloc, &mut client.outbox, portal, limit)?);
+            drop(message);
+            return session_outcome(send_page(alloc, &mut client.outbox, portal, limit));
         }
         desk.start()?;
         let query = self.do_query(alloc, &client.info, portal, message.max_rows)?;

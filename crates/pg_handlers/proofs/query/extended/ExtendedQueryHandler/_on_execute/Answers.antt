@@ -1,41 +1,24 @@
-use Rattle.std.proofs.Common.{rules, ◌≡◌, ◌∷◌, [], w32, Some, None, Ok, Err, refl, ap, sym, ◌∙◌}
+use Rattle.std.proofs.Common.{rules, ◌≡◌, w32, Some, None, Err, refl, ap, sym, ◌∙◌}
 use Rattle.std.specs.FinMap as fin
 use Rattle.std.proofs.lemmas.Int.{to_z-of_z}
 use Rattle.std.proofs.lemmas.Result.{err_from_is_err_and}
 use Rattle.pg_portal.specs.Told.{portal_of, value_under, Unstarted}
 use Rattle.pg_portal.proofs.NameMaps.{at_some}
-use Rattle.pg_handlers.specs.declared.desk.DeskCall.TheVariants as call
 use Rattle.pg_handlers.specs.State.{state_in, state_of}
-use Rattle.pg_handlers.proofs.Desks.{keeps_as}
-use Rattle.pg_handlers.proofs.Executed.{executed_as, none_begun, none_started, nothing_lent, page_executed, query_lent, returned}
+use Rattle.pg_handlers.proofs.Executed.{none_begun, none_started, nothing_lent, page_executed, query_lent, returned}
 use Rattle.pg_handlers.proofs.Lends.{lent, lent_same, unstarted_is}
 use Rattle.pg_handlers.proofs.Starting.{unstarted_under}
 use Rattle.pg_handlers.proofs.query.extended.ExtendedQueryHandler._on_execute.Goals as goal
-
-pub returns-in_err-execute_no_portal : goal.returns-in_err-execute_no_portal
-returns-in_err-execute_no_portal g c =
-    let u = err_from_is_err_and c.from_residual.result c.from_residual.ensures.1 in
-    let R = g.Self.Rows.RowSource.items in let maps = g.St.PortalStore.maps in let told = g.D.CancelDesk.told in
-    let s = state_of maps c.args.client.now in let h = g.Self.ExtendedQueryHandler.told c.args.self.now in let m = c.args.message in
-    let none : value_under (fin.get s.portals m.name) ≡ None = search rules in
-    let x = returned u.1 u.2 (nothing_lent h m s (state_of maps c.execute_no_portal.new.client) c.args.client.now.outbox
-    c.execute_no_portal.new.client.outbox (told c.args.desk.now) c.args.turns.now _ (ap (state_in s.info) c.portal_mut.follows.holds-at-none)
-    (Err c.in_err-execute_no_portal.field-0.0) c.requires.good none c.in_err-execute_no_portal.ensures.same tt
-    c.in_err-execute_no_portal.ensures.refused c.in_err-execute_no_portal.ensures.answerable
-    c.in_err-execute_no_portal.ensures.waiting) in
-    record {
-      ok = x.ok; refused = x.refused; answerable = x.answerable; caused = x.caused; limit = x.limit; info = x.info; left = x.left;
-      kept = x.kept; good = x.good; turns = x.spent; bounded = x.bounded; keeps = x.keeps;
-    }
 
 pub returns-in_default : goal.returns-in_default
 returns-in_default g c =
     let R = g.Self.Rows.RowSource.items in let maps = g.St.PortalStore.maps in let told = g.D.CancelDesk.told in
     let s = state_of maps c.args.client.now in let h = g.Self.ExtendedQueryHandler.told c.args.self.now in let m = c.args.message in
     let none : value_under (fin.get s.portals m.name) ≡ None = search rules in
-    let x = nothing_lent {A = Unit {0}} h m s (state_of maps c.execute_no_portal.new.client) c.args.client.now.outbox
+    let e = c.execute_no_portal.ensures in
+    let x = returned c.session_outcome.ensures (nothing_lent h m s (state_of maps c.execute_no_portal.new.client) c.args.client.now.outbox
     c.execute_no_portal.new.client.outbox (told c.args.desk.now) c.args.turns.now _ (ap (state_in s.info) c.portal_mut.follows.holds-at-none)
-    (Ok tt) c.requires.good none c.in_ok-execute_no_portal.ensures.same c.in_ok-execute_no_portal.ensures.ok tt tt tt in
+    c.execute_no_portal.result c.requires.good none e.same e.ok e.refused e.answerable e.waiting) in
     record {
       ok = x.ok; refused = x.refused; answerable = x.answerable; caused = x.caused; limit = x.limit; info = x.info; left = x.left;
       kept = x.kept; good = x.good; turns = x.spent; bounded = x.bounded; keeps = x.keeps;
@@ -51,25 +34,6 @@ send_page-requires g c =
       tag = (c.requires.good.portals c.args.message.name p found).tag;
     }
 
-pub returns-in_err-send_page : goal.returns-in_err-send_page
-returns-in_err-send_page g c =
-    let u = err_from_is_err_and c.from_residual-in_err-send_page.result c.from_residual-in_err-send_page.ensures.1 in
-    let R = g.Self.Rows.RowSource.items in let maps = g.St.PortalStore.maps in let told = g.D.CancelDesk.told in
-    let s = state_of maps c.args.client.now in let h = g.Self.ExtendedQueryHandler.told c.args.self.now in let m = c.args.message in
-    let p = portal_of R c.in-Some.portal.now in let w = portal_of R c.send_page.new.portal in
-    let l = lent s.info (maps c.args.client.now.store) (maps (c.portal_mut.follows.lender c.send_page.new.portal)) m.name
-    c.as_str.result.now p w c.as_str.ensures c.in-Some.ensures.value
-    (at_some c.portal_mut.result c.in-Some.portal c.in-Some.is (c.portal_mut.follows.holds c.send_page.new.portal)) c.in_err-send_page.ensures.bound in
-    let limit_is = to_z-of_z w32 m.max_rows c.requires.given.1.carries.2.max_rows in
-    let x = returned u.1 u.2 (page_executed h m s _ c.args.client.now.outbox c.send_page.new.outbox (told c.args.desk.now) c.args.turns.now
-    p w.stage (Err c.in_err-send_page.field-0.0) c.requires.good l (sym c.is_unstarted.ensures ∙ c.if-not-is_unstarted.true) _ limit_is
-    c.in_err-send_page.ensures.page c.in_err-send_page.ensures.answerable c.in_err-send_page.ensures.stays c.in_err-send_page.ensures.kept
-    c.in_err-send_page.ensures.tag) in
-    record {
-      ok = x.ok; refused = x.refused; answerable = x.answerable; caused = x.caused; limit = x.limit; info = x.info; left = x.left;
-      kept = x.kept; good = x.good; turns = x.spent; bounded = x.bounded; keeps = x.keeps;
-    }
-
 pub returns-then-not-is_unstarted : goal.returns-then-not-is_unstarted
 returns-then-not-is_unstarted g c =
     let R = g.Self.Rows.RowSource.items in let maps = g.St.PortalStore.maps in let told = g.D.CancelDesk.told in
@@ -77,11 +41,12 @@ returns-then-not-is_unstarted g c =
     let p = portal_of R c.in-Some.portal.now in let w = portal_of R c.send_page.new.portal in
     let l = lent s.info (maps c.args.client.now.store) (maps (c.portal_mut.follows.lender c.send_page.new.portal)) m.name
     c.as_str.result.now p w c.as_str.ensures c.in-Some.ensures.value
-    (at_some c.portal_mut.result c.in-Some.portal c.in-Some.is (c.portal_mut.follows.holds c.send_page.new.portal)) c.in_ok-send_page.ensures.bound in
+    (at_some c.portal_mut.result c.in-Some.portal c.in-Some.is (c.portal_mut.follows.holds c.send_page.new.portal)) c.send_page.ensures.bound in
     let limit_is = to_z-of_z w32 m.max_rows c.requires.given.1.carries.2.max_rows in
-    let x = page_executed {A = Unit {0}} h m s _ c.args.client.now.outbox c.send_page.new.outbox (told c.args.desk.now) c.args.turns.now p w.stage
-    (Ok tt) c.requires.good l (sym c.is_unstarted.ensures ∙ c.if-not-is_unstarted.true) _ limit_is c.in_ok-send_page.ensures.page tt tt
-    c.in_ok-send_page.ensures.kept c.in_ok-send_page.ensures.tag in
+    let e = c.send_page.ensures in
+    let x = returned c.session_outcome-then-not-is_unstarted.ensures (page_executed h m s _ c.args.client.now.outbox c.send_page.new.outbox
+    (told c.args.desk.now) c.args.turns.now p w.stage c.send_page.result c.requires.good l
+    (sym c.is_unstarted.ensures ∙ c.if-not-is_unstarted.true) _ limit_is e.page e.answerable e.stays e.kept e.tag) in
     record {
       ok = x.ok; refused = x.refused; answerable = x.answerable; caused = x.caused; limit = x.limit; info = x.info; left = x.left;
       kept = x.kept; good = x.good; turns = x.spent; bounded = x.bounded; keeps = x.keeps;
@@ -89,7 +54,7 @@ returns-then-not-is_unstarted g c =
 
 pub returns-in_err-start : goal.returns-in_err-start
 returns-in_err-start g c =
-    let u = err_from_is_err_and c.from_residual-in_err-start.result c.from_residual-in_err-start.ensures.1 in
+    let u = err_from_is_err_and c.from_residual.result c.from_residual.ensures.1 in
     let R = g.Self.Rows.RowSource.items in let maps = g.St.PortalStore.maps in let told = g.D.CancelDesk.told in
     let s = state_of maps c.args.client.now in let h = g.Self.ExtendedQueryHandler.told c.args.self.now in let m = c.args.message in
     let p = portal_of R c.in-Some.portal.now in let w = portal_of R c.in-Some.portal.now in
@@ -98,7 +63,7 @@ returns-in_err-start g c =
     (at_some c.portal_mut.result c.in-Some.portal c.in-Some.is (c.portal_mut.follows.holds c.in-Some.portal.now)) refl in
     let same = lent_same s (state_in s.info (maps (c.portal_mut.follows.lender c.in-Some.portal.now))) m.name p l in
     let fresh : p.stage ≡ Unstarted = unstarted_is p.stage (sym c.is_unstarted.ensures ∙ c.if-not-is_unstarted.false) in
-    let x = returned u.1 u.2 (none_started h m s _ c.args.client.now.outbox (told c.args.desk.now) (told c.start.new.self) c.args.turns.now
+    let x = returned (u.1 ∙ ap Err u.2) (none_started h m s _ c.args.client.now.outbox (told c.args.desk.now) (told c.start.new.self) c.args.turns.now
     c.requires.good same c.in_err-start.ensures.err) in
     record {
       ok = x.ok; refused = x.refused; answerable = x.answerable; caused = x.caused; limit = x.limit; info = x.info; left = x.left;
@@ -123,7 +88,7 @@ returns-in_err-query g c =
     (at_some c.portal_mut.result c.in-Some.portal c.in-Some.is (c.portal_mut.follows.holds c.in-Some.portal.now)) refl in
     let same = lent_same s (state_in s.info (maps (c.portal_mut.follows.lender c.in-Some.portal.now))) m.name p l in
     let fresh : p.stage ≡ Unstarted = unstarted_is p.stage (sym c.is_unstarted.ensures ∙ c.if-not-is_unstarted.false) in
-    let x = returned u.1 u.2 (none_begun h m s p l.found fresh c.requires.good (told c.args.desk.now) (told c.start.new.self)
+    let x = returned (u.1 ∙ ap Err u.2) (none_begun h m s p l.found fresh c.requires.good (told c.args.desk.now) (told c.start.new.self)
     c.in_ok-start.ensures.ok c.args.turns.now c.args.client.now.outbox _ same) in
     record {
       ok = x.ok; refused = x.refused; answerable = x.answerable; caused = x.caused; limit = x.limit; info = x.info; left = x.left;
