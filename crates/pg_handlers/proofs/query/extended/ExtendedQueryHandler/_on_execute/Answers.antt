@@ -20,8 +20,18 @@ returns-in_default g c =
     c.execute_no_portal.new.client.outbox (told c.args.desk.now) c.args.turns.now _ (ap (state_in s.info) c.portal_mut.follows.holds-at-none)
     c.execute_no_portal.result c.requires.good none e.same e.ok e.refused e.answerable e.waiting) in
     record {
-      ok = x.ok; refused = x.refused; answerable = x.answerable; caused = x.caused; limit = x.limit; info = x.info; left = x.left;
-      kept = x.kept; good = x.good; turns = x.spent; bounded = x.bounded; keeps = x.keeps;
+      ok = x.ok;
+      refused = x.refused;
+      answerable = x.answerable;
+      caused = x.caused;
+      limit = x.limit;
+      info = x.info;
+      left = x.left;
+      kept = x.kept;
+      good = x.good;
+      turns = x.spent;
+      bounded = x.bounded;
+      keeps = x.keeps;
     }
 
 pub send_page-requires : goal.send_page-requires
@@ -48,8 +58,18 @@ returns-then-not-is_unstarted g c =
     (told c.args.desk.now) c.args.turns.now p w.stage c.send_page.result c.requires.good l
     (sym c.is_unstarted.ensures ∙ c.if-not-is_unstarted.true) _ limit_is e.page e.answerable e.stays e.kept e.tag) in
     record {
-      ok = x.ok; refused = x.refused; answerable = x.answerable; caused = x.caused; limit = x.limit; info = x.info; left = x.left;
-      kept = x.kept; good = x.good; turns = x.spent; bounded = x.bounded; keeps = x.keeps;
+      ok = x.ok;
+      refused = x.refused;
+      answerable = x.answerable;
+      caused = x.caused;
+      limit = x.limit;
+      info = x.info;
+      left = x.left;
+      kept = x.kept;
+      good = x.good;
+      turns = x.spent;
+      bounded = x.bounded;
+      keeps = x.keeps;
     }
 
 pub returns-in_err-start : goal.returns-in_err-start
@@ -66,8 +86,18 @@ returns-in_err-start g c =
     let x = returned (u.1 ∙ ap Err u.2) (none_started h m s _ c.args.client.now.outbox (told c.args.desk.now) (told c.start.new.self) c.args.turns.now
     c.requires.good same c.in_err-start.ensures.err) in
     record {
-      ok = x.ok; refused = x.refused; answerable = x.answerable; caused = x.caused; limit = x.limit; info = x.info; left = x.left;
-      kept = x.kept; good = x.good; turns = x.spent; bounded = x.bounded; keeps = x.keeps;
+      ok = x.ok;
+      refused = x.refused;
+      answerable = x.answerable;
+      caused = x.caused;
+      limit = x.limit;
+      info = x.info;
+      left = x.left;
+      kept = x.kept;
+      good = x.good;
+      turns = x.spent;
+      bounded = x.bounded;
+      keeps = x.keeps;
     }
 
 pub do_query-requires-clause-good : goal.do_query-requires-clause-good
@@ -91,8 +121,18 @@ returns-in_err-query g c =
     let x = returned (u.1 ∙ ap Err u.2) (none_begun h m s p l.found fresh c.requires.good (told c.args.desk.now) (told c.start.new.self)
     c.in_ok-start.ensures.ok c.args.turns.now c.args.client.now.outbox _ same) in
     record {
-      ok = x.ok; refused = x.refused; answerable = x.answerable; caused = x.caused; limit = x.limit; info = x.info; left = x.left;
-      kept = x.kept; good = x.good; turns = x.spent; bounded = x.bounded; keeps = x.keeps;
+      ok = x.ok;
+      refused = x.refused;
+      answerable = x.answerable;
+      caused = x.caused;
+      limit = x.limit;
+      info = x.info;
+      left = x.left;
+      kept = x.kept;
+      good = x.good;
+      turns = x.spent;
+      bounded = x.bounded;
+      keeps = x.keeps;
     }
 
 pub run_unstarted-requires-clause-portal : goal.run_unstarted-requires-clause-portal
@@ -125,6 +165,16 @@ returns g c =
     (state_of maps c.run_unstarted.new.client) c.run_unstarted.new.client.outbox (told c.run_unstarted.new.desk) c.run_unstarted.new.turns
     c.run_unstarted.result e.ran e.answerable e.caused e.limit e.info e.left e.kept e.good e.turns e.bounded e.keeps in
     record {
-      ok = x.ok; refused = x.refused; answerable = x.answerable; caused = x.caused; limit = x.limit; info = x.info; left = x.left;
-      kept = x.kept; good = x.good; turns = x.spent; bounded = x.bounded; keeps = x.keeps;
+      ok = x.ok;
+      refused = x.refused;
+      answerable = x.answerable;
+      caused = x.caused;
+      limit = x.limit;
+      info = x.info;
+      left = x.left;
+      kept = x.kept;
+      good = x.good;
+      turns = x.spent;
+      bounded = x.bounded;
+      keeps = x.keeps;
     }
