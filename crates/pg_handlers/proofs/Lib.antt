@@ -8,6 +8,7 @@ pub mod Copied
 pub mod Describing
 pub mod Encodable
 pub mod ErrorTexts
+pub mod Executed
 pub mod Executes
 pub mod GoodStores
 pub mod Lends
@@ -16,6 +17,7 @@ pub mod Parsing
 pub mod Rows
 pub mod Scripts
 pub mod Sent
+pub mod Starting
 pub mod Steady
 pub mod Telling
 pub mod Waits

@@ -1,5 +1,6 @@
--- What an Execute makes of a portal while it is lent.
+-- What an Execute makes of a portal: its page, how its query ends, and what is left behind.
 use Rattle.std.specs.Prelude.{ℕ, ℤ, Bool, true, false, List, [], ◌∷◌, ◌++◌, Option, Some, None, Result, Ok, Err, ◌≡◌, ◌⊎◌, length, codes}
+use Rattle.std.specs.Option.{IsSomeAnd}
 use Rattle.std.specs.FinMap as fin
 use Rattle.pg_messages.specs.declared.data.DataRow.{DataRow}
 use Rattle.pg_messages.specs.Replies.{replies_bytes}
@@ -15,7 +16,9 @@ use Rattle.pg_portal.specs.Responses.{ToldResponse}
 use Rattle.pg_handlers.specs.declared.ends.SessionError.{SessionError}
 use Rattle.pg_handlers.specs.declared.ends.SessionError.TheVariants as session
 use Rattle.pg_handlers.specs.Replies.{Replies, done_with}
-use Rattle.pg_handlers.specs.Questions.{Verdict, Passed, Canceled, Unanswered}
+use Rattle.pg_handlers.specs.Questions.{Verdict, Unanswered}
+use Rattle.pg_handlers.specs.Effect.{Effect, Done, Stopped, IsEffect, IsRefusedEffect}
+use Rattle.pg_handlers.specs.State.{State}
 use Rattle.pg_handlers.specs.ExecuteRow.{at_stage, page_replies}
 
 abbrev pub is_unstarted : Stage → Bool
@@ -66,40 +69,19 @@ IsPageOf page stage out new_out (Ok x) = (page.refusal ≡ None) × (stage ≡ p
 IsPageOf page stage out new_out (Err e) = (e ≡ wire.NoMemory)
     ⊎ ((page.refusal ≡ Some e) × (stage ≡ page.stage) × (new_out ≡ out ++ replies_bytes page.replies))
 
--- what a query of a portal comes to: a page, a response without rows, or a question that wants a turn
-pub data PortalRun : Type 0 where
-  Paged : StagePage → PortalRun
-  Responded : ToldResponse → PortalRun
-  Waits : PortalRun
+-- What an Execute with this effect ends with, where its questions came to this verdict. It stops exactly where an answer is missing.
+abbrev pub IsExecuteEnd : {S A : Type 0} → Effect S → Verdict → List ℕ → List ℕ → State S → Result A SessionError → Type 0
+IsExecuteEnd effect verdict out new_out s (Ok x) = IsEffect effect out new_out (Done s)
+IsExecuteEnd effect verdict out new_out s (Err (session.Wire e)) = IsRefusedEffect effect out new_out s e
+IsExecuteEnd effect verdict out new_out s (Err session.TurnLimit) = (verdict ≡ Unanswered) × IsEffect effect out new_out Stopped
 
-abbrev pub run_of_response : ℤ → ToldResponse → PortalRun
-run_of_response limit (response.Query r) = Paged (page_result limit (Started r 0))
-run_of_response limit r = Responded r
+-- the portal under a name
+abbrev pub portal_under : {S : Type 0} → Maps S → List ℕ → Option (TablePortal S)
+portal_under maps name = value_under (fin.get maps.portals name)
 
--- the query of a portal at a stage, by the verdict of its questions and its outcome
-abbrev pub portal_run : ℤ → Stage → Verdict → Result ToldResponse PgWireError → PortalRun
-portal_run limit stage Unanswered outcome = Waits
-portal_run limit stage Canceled outcome = Paged (refused_page stage wire.QueryCanceled)
-portal_run limit stage Passed (Err e) = Paged (refused_page stage e)
-portal_run limit stage Passed (Ok r) = run_of_response limit r
-
--- It came to this, where None says that a page was sent; a response without rows, and a question that wants a turn, leave the portal as
--- it is; or memory is wanting.
-abbrev pub IsPortalRun : {A : Type 0} → (A → ToldResponse) → PortalRun → Stage → Stage → List ℕ → List ℕ → Result (Option A) SessionError
-    → Type 0
-IsPortalRun told (Paged page) stage new_stage out new_out (Ok None) = IsPageOf {A = Unit {0}} page new_stage out new_out (Ok tt)
-IsPortalRun told (Paged page) stage new_stage out new_out (Ok (Some r)) = ⊥
-IsPortalRun told (Paged page) stage new_stage out new_out (Err (session.Wire e)) =
-    IsPageOf {A = Unit {0}} page new_stage out new_out (Err e)
-IsPortalRun told (Paged page) stage new_stage out new_out (Err session.TurnLimit) = ⊥
-IsPortalRun told (Responded r) stage new_stage out new_out (Ok None) = ⊥
-IsPortalRun told (Responded r) stage new_stage out new_out (Ok (Some answered)) =
-    (told answered ≡ r) × (new_stage ≡ stage) × (new_out ≡ out)
-IsPortalRun told (Responded r) stage new_stage out new_out (Err (session.Wire e)) = e ≡ wire.NoMemory
-IsPortalRun told (Responded r) stage new_stage out new_out (Err session.TurnLimit) = ⊥
-IsPortalRun told Waits stage new_stage out new_out (Ok x) = ⊥
-IsPortalRun told Waits stage new_stage out new_out (Err (session.Wire e)) = e ≡ wire.NoMemory
-IsPortalRun told Waits stage new_stage out new_out (Err session.TurnLimit) = (new_stage ≡ stage) × (new_out ≡ out)
+-- A portal that isn't started stands under this name.
+abbrev pub HasUnstarted : {S : Type 0} → Maps S → List ℕ → Type 0
+HasUnstarted maps name = IsSomeAnd (portal_under maps name) (λ p. p.stage ≡ Unstarted)
 
 -- the statements and portals are as they were, or the unnamed portal went
 abbrev pub OnlyLosesUnnamed : {S : Type 0} → Maps S → Maps S → Type 0

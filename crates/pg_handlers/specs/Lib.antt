@@ -22,3 +22,4 @@ pub mod Telling
 pub mod Good
 pub mod Noop
 pub mod Lawful
+pub mod Outcomes

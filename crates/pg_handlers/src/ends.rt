@@ -2,6 +2,7 @@
 
 ghost use Rattle.std.specs.Prelude.{◌≡◌, ◌+◌, ◌<◌, ◌↔◌, IsTrue};
 ghost use Rattle.std.specs.Bool.{OnTrue, OnFalse};
+ghost use Rattle.pg_handlers.specs.Outcomes.{session_outcome};
 
 use pg_portal::PgWireError;
 use std::alloc::AllocError;
@@ -50,6 +51,17 @@ impl From<AllocError> for SessionError {
 
     fn from(_error: AllocError) -> SessionError {
         SessionError::Wire(PgWireError::NoMemory)
+    }
+}
+
+/// The outcome of a message, as the session's.
+#[inline(always)]
+pub(crate) fn session_outcome(outcome: Result<(), PgWireError>) -> Result<(), SessionError>
+    ensures { result ≡ session_outcome outcome }
+{
+    match outcome {
+        Ok(()) => Ok(()),
+        Err(error) => Err(SessionError::Wire(error)),
     }
 }
 

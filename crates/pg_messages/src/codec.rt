@@ -172,8 +172,12 @@ fn row_head(row: &DataRow) -> [u8; 7]
     [b'D', a, b, c, d, e, f]
 }
 
+/// Appends the bytes of a CopyData, as `encode` does of the reply: Byte1 `d`, Int32 length, and the
+/// data as they stand. Lines of a COPY are sent as rows are, so the room is made at once and nothing
+/// is dispatched. Want of memory is the only error, and after it the bytes are as they were. The
+/// buffer's whole room, its bytes and what it has spare, never falls.
 #[inline(always)]
-fn put_copied(copied: &CopyData, dst: &mut BytesMut) -> Result<(), AllocError>
+pub fn put_copied(copied: &CopyData, dst: &mut BytesMut) -> Result<(), AllocError>
     requires { IsEncodable (server.CopyData copied.now) }
     ensures ok { OnOk result
         (dst.new.items ≡ dst.old.items ++ reply_bytes (server.CopyData copied.now)) }

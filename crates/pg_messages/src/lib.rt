@@ -19,7 +19,9 @@ mod startup;
 mod values;
 
 pub use backend::PgWireBackendMessage;
-pub use codec::{DecodeContext, FrameError, PgWireMessageServerCodec, ProtocolVersion, put_row};
+pub use codec::{
+    DecodeContext, FrameError, PgWireMessageServerCodec, ProtocolVersion, put_copied, put_row,
+};
 pub use copy::{CopyBothResponse, CopyData, CopyDone, CopyFail, CopyInResponse, CopyOutResponse};
 pub use data::{
     DataRow, FORMAT_CODE_BINARY, FORMAT_CODE_TEXT, FieldDescription, NoData, ParameterDescription,

@@ -6,7 +6,9 @@ ghost use Rattle.pg_messages.specs.declared.backend.PgWireBackendMessage.TheVari
 
 use crate::chunk::{CHUNK, MOST_CHUNKS, chunk_of, next_chunk, reply_len, settle};
 use bytes::BytesMut;
-use pg_messages::{DataRow, PgWireBackendMessage, PgWireMessageServerCodec, put_row};
+use pg_messages::{
+    CopyData, DataRow, PgWireBackendMessage, PgWireMessageServerCodec, put_copied, put_row,
+};
 use std::alloc::{AllocError, Global};
 use std::collections::VecDeque;
 use std::marker::Model;
@@ -75,6 +77,21 @@ impl Outbox {
             return put_row(row, &mut self.last);
         }
         self.spill_row(row)
+    }
+
+    /// Appends the bytes of a CopyData, as `push` does of the reply with these data. After an error
+    /// the outbox is as it was.
+    #[inline(always)]
+    pub fn push_copied(&mut self, copied: &CopyData) -> Result<(), AllocError>
+        requires { IsEncodable (server.CopyData copied.now) }
+        ensures ok { OnOk result
+            (self.new ≡ self.old ++ reply_bytes (server.CopyData copied.now)) }
+        ensures err { OnErr result (self.new ≡ self.old) }
+    {
+        if copied.payload.len() as u64 + 5 <= (CHUNK - self.last.len()) as u64 {
+            return put_copied(copied, &mut self.last);
+        }
+        self.spill_copied(copied)
     }
 
     /// How many bytes wait.
@@ -162,6 +179,20 @@ impl Outbox {
     {
         let mut reply = BytesMut::new(self.alloc);
         put_row(row, &mut reply)?;
+        self.append_all(reply.as_slice())
+    }
+
+    // Appends data of a COPY that reach behind the end of the chunk.
+    #[cold]
+    #[inline(never)]
+    fn spill_copied(&mut self, copied: &CopyData) -> Result<(), AllocError>
+        requires { IsEncodable (server.CopyData copied.now) }
+        ensures ok { OnOk result
+            (self.new ≡ self.old ++ reply_bytes (server.CopyData copied.now)) }
+        ensures err { OnErr result (self.new ≡ self.old) }
+    {
+        let mut reply = BytesMut::new(self.alloc);
+        put_copied(copied, &mut reply)?;
         self.append_all(reply.as_slice())
     }
 

@@ -9,16 +9,24 @@ use pg_messages::{CopyData, DataRow, PgBytes, PgWireBackendMessage};
 use std::alloc::{AllocError, Global};
 use std::test::*;
 
+// Data of a COPY, of so many bytes.
+fn line(alloc: Global, len: usize) -> Result<CopyData, AllocError>
+    requires { len ≤ 200000 }
+    ensures { IfOk result (λ line. IsEncodable (server.CopyData line)) }
+{
+    let mut bytes = Vec::new(alloc);
+    bytes.resize(len, 7)?;
+    Ok(CopyData {
+        payload: PgBytes::from_vec(bytes),
+    })
+}
+
 // A reply of so many bytes behind five.
 fn copied(alloc: Global, len: usize) -> Result<PgWireBackendMessage, AllocError>
     requires { len ≤ 200000 }
     ensures { IfOk result (λ reply. IsEncodable reply) }
 {
-    let mut bytes = Vec::new(alloc);
-    bytes.resize(len, 7)?;
-    Ok(PgWireBackendMessage::CopyData(CopyData {
-        payload: PgBytes::from_vec(bytes),
-    }))
+    Ok(PgWireBackendMessage::CopyData(line(alloc, len)?))
 }
 
 // A row of one column, whose cells have so many bytes.
@@ -101,6 +109,18 @@ fn a_row_in_a_chunk_and_over_its_end(rt: HostRuntime) -> Result<(), Fail> {
     outbox.push_row(&row(rt.alloc(), 100000)?)?;
     assert_eq!(rt; taken(&mut outbox), 65536);
     assert_eq!(rt; taken(&mut outbox), 34498);
+    assert_eq!(rt; taken(&mut outbox), 0);
+    Ok(())
+}
+
+#[test]
+fn data_of_a_copy_in_a_chunk_and_over_its_end(rt: HostRuntime) -> Result<(), Fail> {
+    let mut outbox = Outbox::new(rt.alloc())?;
+    outbox.push_copied(&line(rt.alloc(), 20)?)?;
+    assert_eq!(rt; outbox.len(), 25);
+    outbox.push_copied(&line(rt.alloc(), 100000)?)?;
+    assert_eq!(rt; taken(&mut outbox), 65536);
+    assert_eq!(rt; taken(&mut outbox), 34494);
     assert_eq!(rt; taken(&mut outbox), 0);
     Ok(())
 }

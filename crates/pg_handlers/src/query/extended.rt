@@ -26,10 +26,10 @@ ghost use Rattle.pg_handlers.specs.Sending.{IsAnswerableError, AtTurnLimit};
 
 use crate::client::Client;
 use crate::desk::CancelDesk;
-use crate::ends::{SessionError, Turns};
+use crate::ends::{SessionError, Turns, session_outcome};
 use crate::query::QueryState;
-use crate::query::respond::{is_unstarted, respond, send_page};
-use crate::query::run::run_portal;
+use crate::query::respond::{is_unstarted, send_page};
+use crate::query::run::run_unstarted;
 use crate::query::send::{push_reply, send_described, send_ready_for_query, send_told};
 use crate::query::statements::{
     bind_checked, bind_empty, bind_statement, close, execute_no_portal, missing_portal,
@@ -293,20 +293,16 @@ pub trait ExtendedQueryHandler {
         ensures keeps { KeepsDesk (D.told desk.old) (D.told desk.new) }
     {
         let Some(portal) = client.store.portal_mut(message.name.as_str()) else {
-            return Ok(execute_no_portal(client, message.name)?);
+            return session_outcome(execute_no_portal(client, message.name));
         };
-        let limit = message.max_rows;
-        drop(message);
         if !is_unstarted(&*portal) {
-            return Ok(send_page(alloc, &mut client.outbox, portal, limit)?);
+            let limit = message.max_rows;
+            drop(message);
+            return session_outcome(send_page(alloc, &mut client.outbox, portal, limit));
         }
         desk.start()?;
-        let query = self.do_query(alloc, &client.info, portal, limit)?;
-        let outbox = &mut client.outbox;
-        match run_portal(alloc, outbox, portal, query, desk, turns, limit)? {
-            Some(response) => Ok(respond(alloc, client, response)?),
-            None => Ok(()),
-        }
+        let query = self.do_query(alloc, &client.info, portal, message.max_rows)?;
+        run_unstarted(alloc, client, &message, query, desk, turns)
     }
 
     /// Describe of a statement (`S`) or a portal (`P`): what describes it. StatementNotFound and

@@ -1,72 +1,144 @@
-//! The query of a portal, while the store lends it.
+//! The query of a portal that isn't started, and what an Execute makes of its response.
 
-ghost use Rattle.std.specs.Prelude.{◌≡◌, ◌≤◌, false, true, length, take, IfOk, IfErr, IfSome, OnOk};
+ghost use Rattle.std.specs.Prelude.{◌≡◌, ◌≤◌, false, length, take, Some, IfErr, OnOk, OnErr};
+ghost use Rattle.pg_messages.specs.declared.frontend.PgWireFrontendMessage.TheVariants as frontend;
 ghost use Rattle.pg_portal.specs.Responses.{told_response};
-ghost use Rattle.pg_portal.specs.Told.{stage_of, bound_of};
+ghost use Rattle.pg_portal.specs.Rows.{IsAnswerableItem};
+ghost use Rattle.pg_portal.specs.Told.{ParserTold, TablePortal, told_rows};
 ghost use Rattle.pg_handlers.specs.Desk.{KeepsDesk};
-ghost use Rattle.pg_handlers.specs.Executing.{portal_run, IsPortalRun, has_rows};
-ghost use Rattle.pg_handlers.specs.Good.{IsSendableOutcome, IsSendableResponse, HasGoodTag};
+ghost use Rattle.pg_handlers.specs.Effect.{IsEffect, IsRefusedEffect, Done};
+ghost use Rattle.pg_handlers.specs.ExecuteRow.{executed, execute_polled, fetched};
+ghost use Rattle.pg_handlers.specs.Executing.{HasUnstarted, IsExecuteEnd, IsLeftBehind, portal_under};
+ghost use Rattle.pg_handlers.specs.Good.{IsGiven, IsGoodState, IsSendableOutcome, IsSendableResponse, IsTag};
 ghost use Rattle.pg_handlers.specs.Handlers.{told_one};
 ghost use Rattle.pg_handlers.specs.Questions.{Verdict, IsAsked, IsCausedSo, HasSpent, questions_since};
-ghost use Rattle.pg_handlers.specs.Sending.{IsAnswerableError};
+ghost use Rattle.pg_handlers.specs.Sending.{IsAnswerableError, AtTurnLimit};
+ghost use Rattle.pg_handlers.specs.State.{state_of};
 
+use crate::client::Client;
 use crate::desk::CancelDesk;
 use crate::ends::{SessionError, Turns};
-use crate::query::respond::send_page;
+use crate::query::respond::{respond, send_page};
 use crate::query::{QueryState, wait_for};
-use pg_outbox::Outbox;
-use pg_portal::{CopySource, PgWireError, Portal, Response, RowSource};
+use pg_messages::Execute;
+use pg_portal::{CopySource, PgWireError, PortalStore, QueryResponse, Response};
 use std::alloc::Global;
 
-/// Waits for the query of a portal that isn't started. Rows start the portal, and its first page is
-/// appended; a response without rows is handed on, and the portal is as it was. So it is after
-/// QueryCanceled and TurnLimit.
-pub(crate) fn run_portal<
-    S: Drop,
-    R: RowSource,
+/// What an Execute does with the query of a portal that isn't started, behind the desk's `start`:
+/// it waits for the query, and answers with its response. Until then nothing is changed.
+pub(crate) fn run_unstarted<
+    St: PortalStore,
     C: CopySource,
-    Q: QueryState<Out = Result<Response<R, C>, PgWireError>>,
+    Q: QueryState<Out = Result<Response<St::Rows, C>, PgWireError>>,
     D: CancelDesk,
 >(
     alloc: Global,
-    outbox: &mut Outbox,
-    portal: &mut Portal<S, R>,
+    client: &mut Client<St>,
+    message: &Execute,
     query: Q,
     desk: &mut D,
     turns: &mut Turns,
-    max_rows: i32,
-) -> Result<Option<Response<R, C>>, SessionError>
+) -> Result<(), SessionError>
+    requires given { IsGiven (frontend.Execute message.now) }
+    requires portal { HasUnstarted (St.maps client.old.store) message.now.name }
     requires unspent { (Q.told query).is_spent ≡ false }
-    requires sendable { IsSendableOutcome (told_one R.items C.items (Q.told query).outcome) }
-    requires tag { HasGoodTag (stage_of R.items portal.old) }
-    ensures ran { (verdict : Verdict)
+    requires sendable { IsSendableOutcome
+        (told_one St.Rows.items C.items (Q.told query).outcome) }
+    ensures ran { (p : TablePortal St.Statement)
+        → portal_under (St.maps client.old.store) message.now.name ≡ Some p → (verdict : Verdict)
         × IsAsked (Q.told query).owes (D.told desk.old).calls (D.told desk.new).calls verdict
-        × IsPortalRun (told_response R.items C.items)
-        (portal_run max_rows (stage_of R.items portal.old) verdict
-        (told_one R.items C.items (Q.told query).outcome))
-        (stage_of R.items portal.old) (stage_of R.items portal.new)
-        outbox.old outbox.new result }
-    ensures without_rows { IfOk result (λ left. IfSome left (λ response.
-        has_rows (told_response R.items C.items response) ≡ false)) }
-    ensures sendable { IfOk result (λ left. IfSome left (λ response.
-        IsSendableResponse (told_response R.items C.items response))) }
+        × IsExecuteEnd (execute_polled (state_of St.maps client.old) message.now p verdict
+        (told_one St.Rows.items C.items (Q.told query).outcome)) verdict
+        client.old.outbox client.new.outbox (state_of St.maps client.new) result }
     ensures answerable { IfErr result IsAnswerableError }
     ensures caused { IfErr result (IsCausedSo (D.told desk.old).calls (D.told desk.new).calls) }
-    ensures kept { take (length outbox.old) outbox.new ≡ outbox.old }
-    ensures bound { bound_of portal.new ≡ bound_of portal.old }
-    ensures tag { HasGoodTag (stage_of R.items portal.new) }
+    ensures limit { IfErr result (λ e. AtTurnLimit e
+        ((state_of St.maps client.new ≡ state_of St.maps client.old)
+        × (client.new.outbox ≡ client.old.outbox))) }
+    ensures info { OnErr result (client.new.info ≡ client.old.info) }
+    ensures left { OnErr result (IsLeftBehind (St.maps client.old.store) message.now.name
+        (St.maps client.new.store)) }
+    ensures kept { take (length client.old.outbox) client.new.outbox ≡ client.old.outbox }
+    ensures good { (parser : ParserTold St.Statement)
+        → IsGoodState parser (state_of St.maps client.old)
+        → IsGoodState parser (state_of St.maps client.new) }
     ensures turns { HasSpent turns.old turns.new
         (questions_since (D.told desk.old).calls (D.told desk.new).calls) result }
     ensures bounded { turns.old.spent ≤ turns.old.limit → turns.new.spent ≤ turns.new.limit }
     ensures keeps { KeepsDesk (D.told desk.old) (D.told desk.new) }
 {
     let response = wait_for(query, desk, turns)??;
+    answer(alloc, client, message, response)?;
+    Ok(())
+}
+
+/// Answers an Execute with the response of its portal's query: rows start the portal, and its first
+/// page is appended; any other response leaves the portal as it is.
+fn answer<St: PortalStore, C: CopySource>(
+    alloc: Global,
+    client: &mut Client<St>,
+    message: &Execute,
+    response: Response<St::Rows, C>,
+) -> Result<(), PgWireError>
+    requires given { IsGiven (frontend.Execute message.now) }
+    requires portal { HasUnstarted (St.maps client.old.store) message.now.name }
+    requires sendable { IsSendableResponse (told_response St.Rows.items C.items response) }
+    ensures ok { (p : TablePortal St.Statement)
+        → portal_under (St.maps client.old.store) message.now.name ≡ Some p → OnOk result (IsEffect
+        (executed (state_of St.maps client.old) message.now p
+        (told_response St.Rows.items C.items response)) client.old.outbox client.new.outbox
+        (Done (state_of St.maps client.new))) }
+    ensures refused { (p : TablePortal St.Statement)
+        → portal_under (St.maps client.old.store) message.now.name ≡ Some p
+        → IfErr result (IsRefusedEffect (executed (state_of St.maps client.old) message.now p
+        (told_response St.Rows.items C.items response)) client.old.outbox client.new.outbox
+        (state_of St.maps client.new)) }
+    ensures answerable { IfErr result IsAnswerableItem }
+    ensures info { OnErr result (client.new.info ≡ client.old.info) }
+    ensures left { OnErr result (IsLeftBehind (St.maps client.old.store) message.now.name
+        (St.maps client.new.store)) }
+    ensures kept { take (length client.old.outbox) client.new.outbox ≡ client.old.outbox }
+    ensures good { (parser : ParserTold St.Statement)
+        → IsGoodState parser (state_of St.maps client.old)
+        → IsGoodState parser (state_of St.maps client.new) }
+{
     match response {
-        Response::Query(rows) => {
-            portal.start(rows);
-            send_page(alloc, outbox, portal, max_rows)?;
-            Ok(None)
-        }
-        other => Ok(Some(other)),
+        Response::Query(rows) => start_portal(alloc, client, message, rows),
+        other => respond(alloc, client, other),
     }
+}
+
+/// Starts the portal of an Execute with these rows, and appends its first page.
+fn start_portal<St: PortalStore>(
+    alloc: Global,
+    client: &mut Client<St>,
+    message: &Execute,
+    rows: QueryResponse<St::Rows>,
+) -> Result<(), PgWireError>
+    requires given { IsGiven (frontend.Execute message.now) }
+    requires portal { HasUnstarted (St.maps client.old.store) message.now.name }
+    requires tag { IsTag rows.command_tag }
+    ensures ok { (p : TablePortal St.Statement)
+        → portal_under (St.maps client.old.store) message.now.name ≡ Some p → OnOk result (IsEffect
+        (fetched (state_of St.maps client.old) message.now p (told_rows St.Rows.items rows) 0)
+        client.old.outbox client.new.outbox (Done (state_of St.maps client.new))) }
+    ensures refused { (p : TablePortal St.Statement)
+        → portal_under (St.maps client.old.store) message.now.name ≡ Some p
+        → IfErr result (IsRefusedEffect
+        (fetched (state_of St.maps client.old) message.now p (told_rows St.Rows.items rows) 0)
+        client.old.outbox client.new.outbox (state_of St.maps client.new)) }
+    ensures answerable { IfErr result IsAnswerableItem }
+    ensures info { client.new.info ≡ client.old.info }
+    ensures left { OnErr result (IsLeftBehind (St.maps client.old.store) message.now.name
+        (St.maps client.new.store)) }
+    ensures kept { take (length client.old.outbox) client.new.outbox ≡ client.old.outbox }
+    ensures good { (parser : ParserTold St.Statement)
+        → IsGoodState parser (state_of St.maps client.old)
+        → IsGoodState parser (state_of St.maps client.new) }
+{
+    let Some(portal) = client.store.portal_mut(message.name.as_str()) else {
+        unreachable!()
+    };
+    portal.start(rows);
+    send_page(alloc, &mut client.outbox, portal, message.max_rows)
 }

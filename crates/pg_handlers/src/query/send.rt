@@ -480,7 +480,7 @@ fn push_data(outbox: &mut Outbox, copied: CopyData, count: usize) -> Result<usiz
         return Ok(count);
     }
     let is_trailer = bytes == [255, 255].as_slice();
-    push_reply(outbox, PgWireBackendMessage::CopyData(copied))?;
+    outbox.push_copied(&copied)?;
     // A length is a usize, so that the count, which is no larger, doesn't wrap.
     let _waiting = outbox.len();
     if is_trailer {
