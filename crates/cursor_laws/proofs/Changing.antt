@@ -1,5 +1,5 @@
 -- The replies to a FETCH tell the rows and the errors that those to its messages tell.
-use Rattle.std.proofs.Common.{◌≡◌, ◌∙◌, ◌⊎◌, inl, inr, ℕ, ℤ, Bool, true, false, if◌then◌else◌, List, [], ◌∷◌, ◌++◌, filter, count_by, nat_eq, codes, refl, ap, sym}
+use Rattle.std.proofs.Common.{◌≡◌, ◌∙◌, inl, inr, ℕ, ℤ, Bool, true, false, if◌then◌else◌, List, [], ◌∷◌, ◌++◌, filter, count_by, nat_eq, codes, refl, ap}
 use Rattle.std.specs.List.{list_any, flat_map, starts_with}
 use Rattle.pg_messages.specs.declared.response.CommandComplete.{CommandComplete}
 use Rattle.pg_messages.specs.declared.backend.PgWireBackendMessage.TheVariants as server

@@ -1,6 +1,5 @@
 -- A FETCH of two of three rows.
-use Rattle.std.proofs.Common.{◌≡◌, ◌∙◌, ℕ, pos, Bool, List, [], ◌∷◌, ◌++◌, Option, Some, None, Result, Ok, codes, refl, ap, sym}
-use Rattle.std.specs.FinMap as fin
+use Rattle.std.proofs.Common.{◌≡◌, ◌∙◌, pos, Bool, List, [], ◌∷◌, Option, Result, Ok, codes, refl, ap}
 use Rattle.pg_messages.specs.declared.data.DataRow.{DataRow}
 use Rattle.pg_messages.specs.declared.extendedquery.Execute.{Execute}
 use Rattle.pg_messages.specs.declared.frontend.PgWireFrontendMessage.{PgWireFrontendMessage}
@@ -23,7 +22,7 @@ use Rattle.pg_handlers.specs.Handlers.{Handlers}
 use Rattle.pg_handlers.specs.Replies.{Replies, ready}
 use Rattle.pg_handlers.specs.State.{State, with_portal}
 use Rattle.pg_handlers.specs.Table.{row, scope_in, whole_table}
-use Rattle.conversation_laws.specs.Discarding.{behind_sync, synced}
+use Rattle.conversation_laws.specs.Discarding.{synced}
 use Rattle.cursor_commands.specs.declared.command.CursorCommand.TheVariants.{Fetch}
 use Rattle.cursor_commands.specs.Asking.{describing, executing, sync}
 use Rattle.cursor_commands.specs.Cursors.{fetched, messages_of, replies_of}

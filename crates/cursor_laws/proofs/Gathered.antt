@@ -1,6 +1,5 @@
 -- The pages that a conversation with cursors tells of a portal join to its items.
-use Rattle.std.proofs.Common.{◌≡◌, ◌≢◌, ◌∙◌, ◌⊎◌, inl, inr, ℕ, ℤ, Bool, true, false, if◌then◌else◌, List, [], ◌∷◌, Option, Some, None, refl, ap, sym, subst}
-use Rattle.std.specs.FinMap as fin
+use Rattle.std.proofs.Common.{◌≡◌, ◌≢◌, ◌∙◌, ℕ, ℤ, Bool, true, false, if◌then◌else◌, List, [], ◌∷◌, Option, Some, None, refl, ap, sym, subst}
 use Rattle.std.specs.Str.{bytes_eq}
 use Rattle.std.proofs.lemmas.Slice.Eq.{bytes_eq-Decides}
 use Rattle.pg_messages.specs.declared.extendedquery.Execute.{Execute}
@@ -11,12 +10,12 @@ use Rattle.pg_portal.specs.declared.client.PgWireConnectionState.{PgWireConnecti
 use Rattle.pg_portal.specs.declared.client.PgWireConnectionState.TheVariants as phase
 use Rattle.pg_portal.specs.Fetching.{items_to_come}
 use Rattle.pg_portal.specs.Rows.{RowItem}
-use Rattle.pg_portal.specs.Told.{ToldRows, value_under}
-use Rattle.pg_handlers.specs.Answer.{Answer, Table, Next, Goes, Ends, Stops}
+use Rattle.pg_portal.specs.Told.{ToldRows}
+use Rattle.pg_handlers.specs.Answer.{Goes}
 use Rattle.pg_handlers.specs.Handlers.{Handlers}
 use Rattle.pg_handlers.specs.State.{State}
 use Rattle.pg_handlers.specs.Table.{whole_table}
-use Rattle.conversation_laws.specs.Pages.{HasStarted, IsUnstarted, Leaves, Starts, stage_in, stage_under}
+use Rattle.conversation_laws.specs.Pages.{HasStarted, Starts, stage_under}
 use Rattle.conversation_laws.proofs.Gathering.{Step, follows, step_joins}
 use Rattle.conversation_laws.proofs.Joining.{kept_so, message_step, page_step}
 use Rattle.conversation_laws.proofs.Keeping.{KeepsNext}
@@ -26,7 +25,7 @@ use Rattle.cursor_commands.specs.declared.command.CursorCommand.{CursorCommand}
 use Rattle.cursor_commands.specs.declared.command.CursorCommand.TheVariants.{Declare, Fetch, Close}
 use Rattle.cursor_commands.specs.Commands.{command_of}
 use Rattle.cursor_table.specs.CursorTable.{asked_command, command_row, cursor_table, is_ready, is_ready_phase, row_by}
-use Rattle.cursor_laws.specs.CursorPages.{FetchStarts, FetchesPage, KeepsCursor, ReplacesBy, RowsJoin, TellsBy, TellsByCommand, TellsFetch, TellsFetchWhere, TellsRows, command_taken, is_fetch_of}
+use Rattle.cursor_laws.specs.CursorPages.{FetchStarts, FetchesPage, KeepsCursor, ReplacesBy, RowsJoin, TellsBy, TellsByCommand, TellsFetchWhere, TellsRows, command_taken, is_fetch_of}
 use Rattle.cursor_laws.proofs.Fetching.{Fetches, fetch_step, start_step}
 use Rattle.cursor_laws.proofs.Keeping.{command_keeps}
 

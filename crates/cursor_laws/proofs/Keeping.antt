@@ -1,11 +1,7 @@
 -- Each command but a FETCH of a portal leaves it as it is, or replaces or removes it.
-use Rattle.std.proofs.Common.{arith, ◌≡◌, ◌∙◌, ◌⊎◌, inl, inr, ℕ, ℤ, Bool, true, false, List, [], ◌∷◌, refl, ap, sym, subst}
-use Rattle.std.specs.FinMap as fin
-use Rattle.std.specs.Str.{bytes_eq}
+use Rattle.std.proofs.Common.{arith, ◌≡◌, ◌∙◌, inl, inr, ℕ, Bool, false, List, [], ◌∷◌, refl, sym, subst}
 use Rattle.std.specs.List.{AllByRecursion}
-use Rattle.pg_messages.specs.declared.extendedquery.Execute.{Execute}
 use Rattle.pg_messages.specs.declared.frontend.PgWireFrontendMessage.{PgWireFrontendMessage}
-use Rattle.pg_messages.specs.declared.frontend.PgWireFrontendMessage.TheVariants as client
 use Rattle.pg_messages.specs.Frames.{statement_target, portal_target}
 use Rattle.pg_portal.specs.declared.client.PgWireConnectionState.{PgWireConnectionState}
 use Rattle.pg_portal.specs.declared.client.PgWireConnectionState.TheVariants as phase
@@ -14,7 +10,7 @@ use Rattle.pg_handlers.specs.Answer.{Answer, Next, Goes, Ends, Stops, continued,
 use Rattle.pg_handlers.specs.Handlers.{Handlers}
 use Rattle.pg_handlers.specs.State.{State}
 use Rattle.pg_handlers.specs.Table.{whole_table}
-use Rattle.conversation_laws.specs.Pages.{IsUnstarted, Replaces, is_execute_of, stage_in, stage_under}
+use Rattle.conversation_laws.specs.Pages.{IsUnstarted, Replaces, is_execute_of, stage_in}
 use Rattle.conversation_laws.proofs.Keeping.{KeepsNext, message_keeps}
 use Rattle.cursor_commands.specs.declared.command.CursorCommand.{CursorCommand}
 use Rattle.cursor_commands.specs.declared.command.CursorCommand.TheVariants.{Declare, Fetch, Close}

@@ -1,5 +1,5 @@
 -- An example of a portal: three rows are to come, of no column.
-use Rattle.std.specs.Prelude.{List, [], ◌∷◌, ◌≡◌, Some, Ok, codes}
+use Rattle.std.specs.Prelude.{[], ◌∷◌, ◌≡◌, Some, Ok, codes}
 use Rattle.std.specs.FinMap as fin
 use Rattle.pg_messages.specs.declared.data.DataRow.{DataRow}
 use Rattle.pg_messages.specs.declared.simplequery.Query.{Query}
