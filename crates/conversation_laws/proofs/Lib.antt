@@ -1,7 +1,8 @@
-pub mod Discards
-pub mod Telling
-pub mod Parts
+mod Discards
+mod Telling
+mod Parts
 pub mod Names
 pub mod Keeping
 pub mod Taking
+pub mod Gathering
 pub mod Joining

@@ -148,15 +148,21 @@ TellsLater name (Goes t) pages later = WhileStarted (stage_under t name) pages (
 TellsLater name (Ends kind) pages later = pages ≡ []
 TellsLater name Stops pages later = pages ≡ []
 
--- These pages of the portal of a name are told by a conversation, in order, up to where the portal is replaced or removed; and where it
--- still stands at the end, these items are left of it.
+-- These pages of the portal of a name are told by a conversation, in order, by what each message tells of it, up to where the portal is
+-- replaced or removed; and where it still stands at the end, these items are left of it.
+abbrev pub TellsInTurn : {S : Type 0} → (State S → PgWireFrontendMessage → Replies → List Taken → Type 0) → Table (State S) → List ℕ
+    → List Bool → State S → List PgWireFrontendMessage → List Taken → List RowItem → Type 0
+TellsInTurn tells table name answers s [] pages left = (pages ≡ []) × (left ≡ items_to_come (stage_under s name))
+TellsInTurn tells table name answers s (m ∷ messages) pages left =
+    let given = table answers s m in
+    (first : List Taken) × (others : List Taken) × (pages ≡ first ++ others) × tells s m given.replies first
+    × TellsLater name given.next others (λ t. TellsInTurn tells table name (left_by given.calls answers) t messages others left)
+
+-- the same by what each Execute tells
 abbrev pub TellsPagesInTurn : {S : Type 0} → Table (State S) → List ℕ → List Bool → State S → List PgWireFrontendMessage → List Taken
     → List RowItem → Type 0
-TellsPagesInTurn table name answers s [] pages left = (pages ≡ []) × (left ≡ items_to_come (stage_under s name))
-TellsPagesInTurn table name answers s (m ∷ messages) pages left =
-    let given = table answers s m in
-    (first : List Taken) × (others : List Taken) × (pages ≡ first ++ others) × TellsPages name s.info.state m given.replies first
-    × TellsLater name given.next others (λ t. TellsPagesInTurn table name (left_by given.calls answers) t messages others left)
+TellsPagesInTurn table name answers s messages pages left =
+    TellsInTurn (λ s m. TellsPages name s.info.state m) table name answers s messages pages left
 
 -- The pages that a conversation tells of the portal of a name, joined in order, are a front of these items.
 pub record PagesJoin {S : Type 0} (table : Table (State S)) (name : List ℕ) (answers : List Bool) (s : State S)

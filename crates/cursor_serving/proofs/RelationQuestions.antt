@@ -1,4 +1,5 @@
--- As relation_serving proves it of itself: a conversation over relations asks no more questions than its messages that run a query, each as often as a relation is unready.
+-- As relation_serving proves it of itself: a conversation over relations asks no more questions than its messages that run a query, each
+-- as often as a relation is unready.
 use Rattle.std.proofs.Common.{◌≡◌, ◌≤◌, ◌+◌, ℕ, zero, suc, cond, arith, Bool, true, false, ℤ, List, [], ◌∷◌, Option, Some, None, refl}
 use Rattle.std.specs.Prelude.{◌*◌, ◌==◌}
 use Rattle.std.proofs.Math.Nat.{add-mul, one-mul}
@@ -125,7 +126,8 @@ settled_calls scope replies calls (Failed s e) = either_answer (is_fatal (info_o
 settled_calls scope replies calls (Over kind) = refl
 settled_calls scope replies calls Stopped = refl
 
-pub message_few : {S : Type 0} (h : Handlers S) (most : ℕ) → OweAtMost h most → (answers : List Bool) (s : State S) (m : PgWireFrontendMessage)
+pub message_few : {S : Type 0} (h : Handlers S) (most : ℕ) → OweAtMost h most → (answers : List Bool) (s : State S)
+    (m : PgWireFrontendMessage)
     → questions (whole_table h answers s m).calls ≤ may_ask most m
 message_few h most few answers s m =
     let c = row h answers s m s.info.state in

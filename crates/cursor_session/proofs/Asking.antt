@@ -116,13 +116,15 @@ module _ {T : Type 0} (awaits : T → Bool) (table : Table T) (lawful : IsLawful
       }
   goes_on t u rest b called (progress.Ended kind) x stands =
       let at = awaits_after u rest b called x in
-      let bad : IsBad (awaits u) rest = subst (λ l. IsBad (awaits u) l) (append-nil rest) (left_bad awaits u kind (rest ++ []) stands.0 (stands.1 [])) in
+      let bad : IsBad (awaits u) rest = subst (λ l. IsBad (awaits u) l) (append-nil rest)
+      (left_bad awaits u kind (rest ++ []) stands.0 (stands.1 [])) in
       let c = commanded (by_table awaits table) s command frames rest b called (Goes u) is_typed asks x
       (inr (subst (λ a. IsBad a rest) at bad)) in
       absurd (bad_of_none (awaits u) (subst (λ l. IsBad (awaits u) l) c.whole bad))
 
   pub was_asked : (t : T) (rest b : List ℕ) (called : List DeskCall) (next : Next T) (told : Progress)
-      → IsFed (by_table awaits table) s frames rest b called next → Stands awaits next t rest told → Asked awaits table s command t rest b called next told
+      → IsFed (by_table awaits table) s frames rest b called next → Stands awaits next t rest told
+      → Asked awaits table s command t rest b called next told
   was_asked t rest b called (Goes u) told x stands = goes_on t u rest b called told x stands
   was_asked t rest b called (Ends kind) progress.More x stands = absurd (subst goes (sym stands.0) tt)
   was_asked t rest b called (Ends kind) (progress.Ended k) x stands = record {
@@ -167,7 +169,8 @@ module _ {T : Type 0} (ready awaits : T → Bool) (table : Table T) (lawful : Is
       let given = command_row table (answers_of x.made) s command in
       let all : BeginsWith given.calls x.given.calls =
       subst (λ a. BeginsWith given.calls a.calls) x.answered
-      (subst (λ l. BeginsWith (conversation table (answers_of x.made) s l).calls (conversation table (answers_of x.made) s x.messages).calls)
+      (subst (λ l. BeginsWith (conversation table (answers_of x.made) s l).calls
+      (conversation table (answers_of x.made) s x.messages).calls)
       (sym b.1) (calls_begin table x.messages b.0 (answers_of x.made) s)) in
       record {
         messages = m ∷ [];

@@ -62,7 +62,8 @@ front_fits b bytes n within fits =
       | inl small ↦ inl (omega (arith, small, size))
       | inr header ↦
           let told : told_len b bytes ≡ told_len b (take n bytes) =
-          ap (told_len b) (sym (take-append-drop n bytes)) ∙ told_more b (take n bytes) (drop n bytes) (omega (arith, header, size, within)) in
+          ap (told_len b) (sym (take-append-drop n bytes))
+          ∙ told_more b (take n bytes) (drop n bytes) (omega (arith, header, size, within)) in
           elim fits [
             | inl le ↦ inl (omega (arith, le, size))
             | inr le ↦ inr (omega (arith, le, size, told))
@@ -131,8 +132,10 @@ begins_so state bytes owed header fits sizes plain =
         → (told_len b bytes ≡ length bytes + owed) ⊎ ((told_len b bytes ≤ length bytes) × (owed ≡ 0))
         → told_len b bytes ≡ length bytes + owed
     told b good header fits (inl same) = same
-    told true good header (inl small) (inr w) = let low = good.0 in let none = w.1 in let le = w.0 in omega (arith, low, none, le, small, header)
-    told false good header (inl small) (inr w) = let low = good.1 in let none = w.1 in let le = w.0 in omega (arith, low, none, le, small, header)
+    told true good header (inl small) (inr w) =
+        let low = good.0 in let none = w.1 in let le = w.0 in omega (arith, low, none, le, small, header)
+    told false good header (inl small) (inr w) =
+        let low = good.1 in let none = w.1 in let le = w.0 in omega (arith, low, none, le, small, header)
     told b good header (inr within) (inr w) = let none = w.1 in let le = w.0 in omega (arith, none, le, within)
 
 -- those of a frame that the session has begun, with more of them
@@ -146,7 +149,8 @@ begun_more state rest bytes owed left x e =
           let same = told_more (is_startup_phase state) rest bytes x.header in
           let old = x.told (good_more (is_startup_phase state) rest bytes x.header good) in
           omega (arith, same, old, both, e);
-      plain = λ more m f ready. x.plain (bytes ++ more) m (subst (λ l. IsFrame (is_startup_phase state) l m) (append_assoc rest bytes more) f) ready;
+      plain = λ more m f ready. x.plain (bytes ++ more) m
+          (subst (λ l. IsFrame (is_startup_phase state) l m) (append_assoc rest bytes more) f) ready;
     }
 
 -- ---- a Query frame that isn't whole

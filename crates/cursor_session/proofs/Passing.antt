@@ -66,7 +66,8 @@ module _ {S : Type 0} (h : Handlers S) (s : State S) (text : List ℕ) (owed : �
       by : HasOne (awaits s) text owed (x.fed []).messages rest → StandsBehind t rest
       by (inl none) =
           let first : Goes s ≡ Goes t =
-          ap (λ l. (conversation (whole_table h) (answers_of x.called) s l).next) (sym none.0) ∙ (ap (λ a. a.next) (x.fed []).answered ∙ goes) in
+          ap (λ l. (conversation (whole_table h) (answers_of x.called) s l).next) (sym none.0)
+          ∙ (ap (λ a. a.next) (x.fed []).answered ∙ goes) in
           let same : s ≡ t = ap (state_or s) first in
           let here : IsUnfinished (awaits s) text = subst (λ u. IsUnfinished (awaits u) text) (sym same)
           (subst (λ l. IsUnfinished (awaits t) l) (sym none.1) short) in

@@ -56,7 +56,8 @@ pub pass_stands : {H S : Type 0} (h : Handlers S) (s : State S) (text : List ℕ
     → WasFed (whole_rules h) s text v.inner.state v.inner.rest w u o k l (Ok progress.More) → IsStanding v
 pass_stands h s text v w u o k l begun none quiet fed = record {
   quiet = quiet;
-  short = subst (λ r. IsUnfinished (awaits v.inner.state) r) (sym (append-nil v.inner.rest) ∙ ap (λ l. v.inner.rest ++ l) (sym none)) fed.2.1;
+  short = subst (λ r. IsUnfinished (awaits v.inner.state) r)
+      (sym (append-nil v.inner.rest) ∙ ap (λ l. v.inner.rest ++ l) (sym none)) fed.2.1;
   placed =
       elim (stands_behind h s text v.owed begun v.inner.state v.inner.rest fed.0 w u o [] k l fed.1 fed.2.0 fed.2.1) [
         | inl x ↦ inl x
@@ -199,6 +200,7 @@ short_of_none false = inl (omega arith)
 pub stands_between : {H S : Type 0} (v : FrontValue H S) → IsQuiet v.inner → v.inner.rest ≡ [] → v.held ≡ [] → v.owed ≡ 0 → IsStanding v
 stands_between v quiet none held owed = record {
   quiet = quiet;
-  short = subst (λ r. IsUnfinished (awaits v.inner.state) r) (sym (ap (λ l. l ++ v.held) none ∙ held)) (short_of_none (awaits v.inner.state));
+  short = subst (λ r. IsUnfinished (awaits v.inner.state) r) (sym (ap (λ l. l ++ v.held) none ∙ held))
+      (short_of_none (awaits v.inner.state));
   placed = inl (owed, none);
 }

@@ -37,7 +37,12 @@ module _ {T : Type 0} (rules : Rules T) where
     rest = text;
     fed = (Goes s, serves_none rules s text text a.written [] a.desk.calls refl, (refl, short));
     left = λ more. refl;
-    cause = record { write_fault = λ is. absurd (let e = is in cc); no_read_fault = λ is. let e = is in cc; never_falls = omega arith; calm = refl };
+    cause = record {
+      write_fault = λ is. absurd (let e = is in cc);
+      no_read_fault = λ is. let e = is in cc;
+      never_falls = omega arith;
+      calm = refl;
+    };
     turns = spending.no_turn a.turns a.desk.calls;
     bounded = λ within. within;
     keeps = keeps_none a.desk;

@@ -104,8 +104,8 @@ around written faults origin told sink desk turns = record {
   turns = turns;
 }
 
--- A text was taken: its frames were answered by the rules, and what is left of it is the new rest where the conversation goes on. Each error
--- has its cause.
+-- A text was taken: its frames were answered by the rules, and what is left of it is the new rest where the conversation goes on. Each
+-- error has its cause.
 pub record Takes {T : Type 0} (rules : Rules T) (s : T) (text : List ℕ) (new_s : T) (new_rest : List ℕ) (before after : Around)
     (result : Result Progress ServeError) : Type 0 where
   pub rest : List ℕ

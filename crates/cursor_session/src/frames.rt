@@ -68,7 +68,8 @@ pub(crate) fn behind_len(awaiting: bool, held: &[u8], len: usize) -> usize
     requires short { IsUnfinished awaiting held.now }
     ensures some { 0 < result }
     ensures within { result ≤ len }
-    ensures fits { (bytes : List ℕ) → length bytes ≡ result → FitsFrame awaiting (held.now ++ bytes) }
+    ensures fits { (bytes : List ℕ) → length bytes ≡ result
+        → FitsFrame awaiting (held.now ++ bytes) }
 {
     let header = header_len(awaiting);
     if held.len() < header {

@@ -27,7 +27,8 @@ returns-in-Ok-send_replies-clause-took g c = λ frame m carries asked.
     let fed = subst (λ x. WasFed rules s frames new.state new.rest (Some x) (Some c.feed.new.sink) old.unsent k l (Ok c.in-Ok.progress))
     c.new-kept.ensures first in
     let a = around g.K.Sink.written g.K.Sink.faults g.K.Sink.origin g.D.CancelDesk.told c.args.sink.now c.args.desk.now c.args.turns.now in
-    let b = around g.K.Sink.written g.K.Sink.faults g.K.Sink.origin g.D.CancelDesk.told c.send_replies.new.sink c.feed.new.desk c.feed.new.turns in
+    let b = around g.K.Sink.written g.K.Sink.faults g.K.Sink.origin g.D.CancelDesk.told c.send_replies.new.sink c.feed.new.desk
+    c.feed.new.turns in
     let same = c.bytes.ensures.all in
     let f = c.in-Ok.ensures in
     let r = c.in-Ok-send_replies.ensures in
@@ -37,8 +38,8 @@ returns-in-Ok-send_replies-clause-took g c = λ frame m carries asked.
     new.state new.rest (new.rest ++ held) c.feed.new.sink old.unsent a b sent c.in-Ok.progress fed
     (subst (λ x. length x ≤ 2 ^ 31) same c.bytes.ensures.bound)
     (subst (λ x. SendsReplies c.args.command.now x a.written b.written) same r.ok)
-    (λ more. ap (λ l. l ++ held) (exchange_left (g.H.PgWireServerHandlers.told old.handlers) s ready c.args.command.now frames c.requires.asks
-    new.state new.rest (Some []) (Some c.feed.new.sink) old.unsent k l c.in-Ok.progress more fed) ∙ holds)
+    (λ more. ap (λ l. l ++ held) (exchange_left (g.H.PgWireServerHandlers.told old.handlers) s ready c.args.command.now frames
+    c.requires.asks new.state new.rest (Some []) (Some c.feed.new.sink) old.unsent k l c.in-Ok.progress more fed) ∙ holds)
     r.cause f.turns f.bounded f.keeps r.sink)
 
 pub returns-in-Ok-send_replies-clause-stands : goal.returns-in-Ok-send_replies-clause-stands
@@ -82,7 +83,8 @@ returns-in-Ok-clause-took g c = λ frame m carries asked.
     let fed = subst (λ x. WasFed rules s frames new.state new.rest (Some x) (Some c.feed.new.sink) old.unsent k l (Ok c.in-Ok.progress))
     c.new-kept.ensures first in
     let a = around g.K.Sink.written g.K.Sink.faults g.K.Sink.origin g.D.CancelDesk.told c.args.sink.now c.args.desk.now c.args.turns.now in
-    let b = around g.K.Sink.written g.K.Sink.faults g.K.Sink.origin g.D.CancelDesk.told c.send_replies.new.sink c.feed.new.desk c.feed.new.turns in
+    let b = around g.K.Sink.written g.K.Sink.faults g.K.Sink.origin g.D.CancelDesk.told c.send_replies.new.sink c.feed.new.desk
+    c.feed.new.turns in
     let same = c.bytes.ensures.all in
     let f = c.in-Ok.ensures in
     let r = c.in-Err-send_replies.ensures in
@@ -116,6 +118,6 @@ returns-clause-took g c = λ frame m carries asked.
     let f = c.in-Err.ensures in
     subst (λ v. Takes (cursor_rules (g.H.PgWireServerHandlers.told v.inner.handlers)) v.inner.state frame new.state (new.rest ++ held) a b
     (Err c.in-Err.error)) c.self.view_is
-    (exchange_takes_lost (g.H.PgWireServerHandlers.told old.handlers) s ready c.args.command.now frames c.requires.asks frame m carries asked
-    new.state new.rest (new.rest ++ held) c.feed.new.sink old.unsent a b sent c.in-Err.error fed f.cause refl refl f.turns f.bounded f.keeps
-    refl)
+    (exchange_takes_lost (g.H.PgWireServerHandlers.told old.handlers) s ready c.args.command.now frames c.requires.asks frame m carries
+    asked new.state new.rest (new.rest ++ held) c.feed.new.sink old.unsent a b sent c.in-Err.error fed f.cause refl refl f.turns f.bounded
+    f.keeps refl)

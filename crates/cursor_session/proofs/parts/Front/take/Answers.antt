@@ -16,8 +16,8 @@ parts-init g c =
     record {
       taken = [];
       split = refl;
-      took = subst (λ l. Takes rules old.inner.state l old.inner.state (rest_of old) a a (Ok progress.More)) (sym (append-nil (rest_of old)))
-          (takes_none rules old.inner.state (rest_of old) a c.requires.short);
+      took = subst (λ l. Takes rules old.inner.state l old.inner.state (rest_of old) a a (Ok progress.More))
+          (sym (append-nil (rest_of old))) (takes_none rules old.inner.state (rest_of old) a c.requires.short);
       stands = c.requires;
       handlers = refl;
     }
@@ -31,14 +31,16 @@ returns-in-Ok-Ended-clause-took g c =
     let b = around g.K.Sink.written g.K.Sink.faults g.K.Sink.origin g.D.CancelDesk.told c.parts.sink c.parts.desk c.parts.turns in
     let d = around g.K.Sink.written g.K.Sink.faults g.K.Sink.origin g.D.CancelDesk.told c.step.new.sink c.step.new.desk c.step.new.turns in
     let part = c.split_at.result.0.now in let behind = c.split_at.result.1.now in
-    let split : c.args.piece.now ≡ i.taken ++ (part ++ behind) = i.split ∙ ap (λ l. i.taken ++ l) (split_again c.parts.rest.now part behind c.part_len.result c.split_at.ensures.front c.split_at.ensures.back) in
-    let ended : ◌≢◌ {A = Result Progress ServeError} (Ok (progress.Ended c.in-Ok-Ended.kind)) (Ok progress.More) = λ e. absurd (let k = e in cc) in
+    let split : c.args.piece.now ≡ i.taken ++ (part ++ behind) = i.split ∙ ap (λ l. i.taken ++ l)
+    (split_again c.parts.rest.now part behind c.part_len.result c.split_at.ensures.front c.split_at.ensures.back) in
+    let ended : ◌≢◌ {A = Result Progress ServeError} (Ok (progress.Ended c.in-Ok-Ended.kind)) (Ok progress.More) =
+    λ e. absurd (let k = e in cc) in
     takes_last (cursor_rules h) (rules_lawful h) old.inner.state now.inner.state new.inner.state (rest_of old) i.taken part behind
     c.args.piece.now (rest_of now) (rest_of new) a b d (Ok (progress.Ended c.in-Ok-Ended.kind)) split ended i.took
-    (subst (λ v. Takes (cursor_rules (g.H.PgWireServerHandlers.told v)) now.inner.state (rest_of now ++ part) new.inner.state (rest_of new) b d
-    (Ok (progress.Ended c.in-Ok-Ended.kind))) i.handlers
-    (subst (λ p. Takes (cursor_rules (g.H.PgWireServerHandlers.told now.inner.handlers)) now.inner.state (rest_of now ++ part) new.inner.state
-    (rest_of new) b d (Ok p)) c.in-Ok-Ended.field-0-is c.in-Ok-Ended.ensures.took))
+    (subst (λ v. Takes (cursor_rules (g.H.PgWireServerHandlers.told v)) now.inner.state (rest_of now ++ part) new.inner.state
+    (rest_of new) b d (Ok (progress.Ended c.in-Ok-Ended.kind))) i.handlers
+    (subst (λ p. Takes (cursor_rules (g.H.PgWireServerHandlers.told now.inner.handlers)) now.inner.state (rest_of now ++ part)
+    new.inner.state (rest_of new) b d (Ok p)) c.in-Ok-Ended.field-0-is c.in-Ok-Ended.ensures.took))
 
 pub returns-in-Err-clause-took : goal.returns-in-Err-clause-took
 returns-in-Err-clause-took g c =
@@ -49,12 +51,13 @@ returns-in-Err-clause-took g c =
     let b = around g.K.Sink.written g.K.Sink.faults g.K.Sink.origin g.D.CancelDesk.told c.parts.sink c.parts.desk c.parts.turns in
     let d = around g.K.Sink.written g.K.Sink.faults g.K.Sink.origin g.D.CancelDesk.told c.step.new.sink c.step.new.desk c.step.new.turns in
     let part = c.split_at.result.0.now in let behind = c.split_at.result.1.now in
-    let split : c.args.piece.now ≡ i.taken ++ (part ++ behind) = i.split ∙ ap (λ l. i.taken ++ l) (split_again c.parts.rest.now part behind c.part_len.result c.split_at.ensures.front c.split_at.ensures.back) in
+    let split : c.args.piece.now ≡ i.taken ++ (part ++ behind) = i.split ∙ ap (λ l. i.taken ++ l)
+    (split_again c.parts.rest.now part behind c.part_len.result c.split_at.ensures.front c.split_at.ensures.back) in
     let ended : ◌≢◌ {A = Result Progress ServeError} (Err c.in-Err.error) (Ok progress.More) = λ e. absurd (let k = e in cc) in
     takes_last (cursor_rules h) (rules_lawful h) old.inner.state now.inner.state new.inner.state (rest_of old) i.taken part behind
     c.args.piece.now (rest_of now) (rest_of new) a b d (Err c.in-Err.error) split ended i.took
-    (subst (λ v. Takes (cursor_rules (g.H.PgWireServerHandlers.told v)) now.inner.state (rest_of now ++ part) new.inner.state (rest_of new) b d
-    (Err c.in-Err.error)) i.handlers c.in-Err.ensures.took)
+    (subst (λ v. Takes (cursor_rules (g.H.PgWireServerHandlers.told v)) now.inner.state (rest_of now ++ part) new.inner.state
+    (rest_of new) b d (Err c.in-Err.error)) i.handlers c.in-Err.ensures.took)
 
 pub parts-preserved : goal.parts-preserved
 parts-preserved g c =
@@ -67,11 +70,13 @@ parts-preserved g c =
     let part = c.split_at.result.0.now in let behind = c.split_at.result.1.now in
     record {
       taken = i.taken ++ part;
-      split = i.split ∙ ap (λ l. i.taken ++ l) (split_again c.parts.rest.now part behind c.part_len.result c.split_at.ensures.front c.split_at.ensures.back) ∙ sym (append_assoc i.taken part behind);
+      split = i.split ∙ ap (λ l. i.taken ++ l)
+          (split_again c.parts.rest.now part behind c.part_len.result c.split_at.ensures.front c.split_at.ensures.back)
+          ∙ sym (append_assoc i.taken part behind);
       took = takes_next (cursor_rules h) (rules_lawful h) old.inner.state now.inner.state new.inner.state (rest_of old) i.taken part
           (rest_of now) (rest_of new) a b d (Ok progress.More) i.took
-          (subst (λ v. Takes (cursor_rules (g.H.PgWireServerHandlers.told v)) now.inner.state (rest_of now ++ part) new.inner.state (rest_of new)
-          b d (Ok progress.More)) i.handlers
+          (subst (λ v. Takes (cursor_rules (g.H.PgWireServerHandlers.told v)) now.inner.state (rest_of now ++ part) new.inner.state
+          (rest_of new) b d (Ok progress.More)) i.handlers
           (subst (λ p. Takes (cursor_rules (g.H.PgWireServerHandlers.told now.inner.handlers)) now.inner.state (rest_of now ++ part)
           new.inner.state (rest_of new) b d (Ok p)) c.in-Ok-More.field-0-is c.in-Ok-More.ensures.took));
       stands = c.in-Ok-More.ensures.stands (ap Ok c.in-Ok-More.field-0-is);

@@ -1,0 +1,94 @@
+-- A FETCH of two of three rows.
+use Rattle.std.proofs.Common.{◌≡◌, ◌∙◌, pos, Bool, List, [], ◌∷◌, Option, Result, Ok, codes, refl, ap}
+use Rattle.pg_messages.specs.declared.data.DataRow.{DataRow}
+use Rattle.pg_messages.specs.declared.extendedquery.Execute.{Execute}
+use Rattle.pg_messages.specs.declared.frontend.PgWireFrontendMessage.{PgWireFrontendMessage}
+use Rattle.pg_messages.specs.declared.frontend.PgWireFrontendMessage.TheVariants as client
+use Rattle.pg_messages.specs.declared.backend.PgWireBackendMessage.TheVariants as server
+use Rattle.pg_messages.specs.Frames.{portal_target}
+use Rattle.pg_portal.specs.declared.client.PgWireConnectionState.{PgWireConnectionState}
+use Rattle.pg_portal.specs.declared.error.PgWireError.{PgWireError}
+use Rattle.pg_portal.specs.declared.results.describe.DescribePortalResponse.{DescribePortalResponse}
+use Rattle.pg_portal.specs.declared.store.Entry.{Entry}
+use Rattle.pg_portal.specs.declared.store.Entry.TheVariants as entry
+use Rattle.pg_portal.specs.Fetching.{with_items}
+use Rattle.pg_portal.specs.Page.{delivered_after}
+use Rattle.pg_portal.specs.Told.{TablePortal, Stage, Started}
+use Rattle.pg_handlers.specs.Answer.{Answer, Goes, continued, conversation, left_by}
+use Rattle.pg_handlers.specs.Effect.{UntilSync, settle, silent}
+use Rattle.pg_handlers.specs.ExecuteRow.{at_stage, executed_entry, executed_portal}
+use Rattle.pg_handlers.specs.ExtendedRows.{described, described_portal, portal_description}
+use Rattle.pg_handlers.specs.Handlers.{Handlers}
+use Rattle.pg_handlers.specs.Replies.{Replies, ready}
+use Rattle.pg_handlers.specs.State.{State, with_portal}
+use Rattle.pg_handlers.specs.Table.{row, scope_in, whole_table}
+use Rattle.conversation_laws.specs.Discarding.{synced}
+use Rattle.cursor_commands.specs.declared.command.CursorCommand.TheVariants.{Fetch}
+use Rattle.cursor_commands.specs.Asking.{describing, executing, sync}
+use Rattle.cursor_commands.specs.Cursors.{fetched, messages_of, replies_of}
+use Rattle.cursor_table.specs.CursorTable.{cursor_table, is_ready}
+use Rattle.cursor_laws.specs.Examples.{HasThreeRows, fetch_two, three_rows}
+use Rattle.cursor_laws.proofs.Gathered.{row_is}
+
+module _ {S : Type 0} (h : Handlers S) (answers : List Bool) (s : State S) (one two three : DataRow)
+    (k : HasThreeRows h s one two three) where
+  -- a message while the server is ready
+  in_ready : (answers : List Bool) (t : State S) (m : PgWireFrontendMessage) → (x : PgWireConnectionState) → t.info.state ≡ x
+      → whole_table h answers t m ≡ settle (scope_in x m) (row h answers t m x)
+  in_ready answers t m x e = ap (λ (x : PgWireConnectionState). settle (scope_in x m) (row h answers t m x)) e
+
+  -- there are no columns
+  abbrev columns : Answer (State S)
+  columns = record { replies = server.NoData (record {}) ∷ []; calls = []; next = Goes s }
+
+  described_is : (answers : List Bool) → whole_table h answers s (describing portal_target (codes "c")) ≡ columns
+  described_is answers = in_ready answers s (describing portal_target (codes "c")) _ k.is_ready
+      ∙ (ap (λ (o : Option (Entry (TablePortal S))). settle UntilSync (silent (described_portal h.extended s (codes "c") o))) k.stored
+      ∙ ap (λ (r : Result DescribePortalResponse PgWireError). settle UntilSync (silent (described s portal_description r))) k.described)
+
+  -- the state behind the page, and the page
+  abbrev after : State S
+  after = with_portal s (codes "c")
+      (entry.Value (at_stage k.portal (Started (with_items (three_rows one two three) (Ok three ∷ [])) (delivered_after 0 2))))
+
+  abbrev page : Answer (State S)
+  page = record {
+    replies = server.DataRow one ∷ server.DataRow two ∷ server.PortalSuspended (record {}) ∷ [];
+    calls = [];
+    next = Goes after;
+  }
+
+  abbrev asked : Execute
+  asked = record { name = codes "c"; max_rows = pos 2 }
+
+  executed_is : (answers : List Bool) → whole_table h answers s (executing (codes "c") (pos 2)) ≡ page
+  executed_is answers = in_ready answers s (executing (codes "c") (pos 2)) _ k.is_ready
+      ∙ (ap (λ (o : Option (Entry (TablePortal S))). settle UntilSync (executed_entry h.extended answers s asked o)) k.stored
+      ∙ ap (λ (st : Stage). settle UntilSync (executed_portal h.extended answers s asked k.portal st)) k.stage)
+
+  synced_is : (answers : List Bool) → whole_table h answers after sync ≡ synced after
+  synced_is answers = in_ready answers after sync _ k.is_ready
+
+  -- what follows an answer
+  next_is : (answers : List Bool) (messages : List PgWireFrontendMessage) (a b : Answer (State S)) → a ≡ b
+      → continued a a.next (λ t. conversation (whole_table h) (left_by a.calls answers) t messages)
+      ≡ continued b b.next (λ t. conversation (whole_table h) (left_by b.calls answers) t messages)
+  next_is answers messages a b e = ap (λ (a : Answer (State S)). continued a a.next
+      (λ t. conversation (whole_table h) (left_by a.calls answers) t messages)) e
+
+  replied : (conversation (whole_table h) answers s (messages_of (Fetch (pos 2) (codes "c")))).replies
+      ≡ server.NoData (record {}) ∷ server.DataRow one ∷ server.DataRow two ∷ server.PortalSuspended (record {}) ∷ ready s.info.status ∷ []
+  replied =
+      ap (λ (a : Answer (State S)). a.replies)
+      (next_is answers (executing (codes "c") (pos 2) ∷ sync ∷ []) _ columns (described_is answers))
+      ∙ (ap (λ (a : Answer (State S)). server.NoData (record {}) ∷ a.replies)
+      (next_is answers (sync ∷ []) _ page (executed_is answers))
+      ∙ ap (λ (a : Answer (State S)). server.NoData (record {}) ∷ server.DataRow one ∷ server.DataRow two
+      ∷ server.PortalSuspended (record {}) ∷ a.replies) (next_is answers [] _ (synced after) (synced_is answers)))
+
+  pub two_fetched : (cursor_table is_ready (whole_table h) answers s (client.Query fetch_two)).replies
+      ≡ server.DataRow one ∷ server.DataRow two ∷ fetched 2 ∷ ready s.info.status ∷ []
+  two_fetched =
+      ap (λ (a : Answer (State S)). a.replies)
+      (row_is h answers s fetch_two (Fetch (pos 2) (codes "c")) k.is_ready refl)
+      ∙ ap (λ (l : Replies). replies_of (Fetch (pos 2) (codes "c")) l) replied

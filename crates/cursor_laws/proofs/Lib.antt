@@ -1,0 +1,6 @@
+mod Changing
+mod Executing
+mod Fetching
+mod Keeping
+mod Gathered
+mod Example

@@ -1,0 +1,2 @@
+pub mod CursorPages
+pub mod Examples
