@@ -6,6 +6,7 @@
 The replies to a command are those to its messages, which stand here beside it, changed by the rule of tools/cursor_rows.py;
 those of the row "cursor life" and "cursor refusals" are compared with the replies that they are to be, written out.
 """
+import re
 import struct
 
 from cursor_rows import BOUND, CLOSED, COLUMNS, HALF, IDLE, MONTH, NO_DATA, PARSED, SUSPENDED, TRANSACTION, YEAR
@@ -13,14 +14,14 @@ from cursor_rows import command_of, frame, replies_of, row, tag, written
 
 HEAD = """\
 # A row: its name | how it is served | the client's bytes | how it ends | the bytes of the replies | the registry's calls. Made
-# by tools/cursor_serving_rows.py. Bytes are hexadecimal digits. It is served over the built-in relations, under pid 7 and key
-# 01020304, with 1000 turns, by options that semicolons split: "reads N N ..", what each read gives, or "reads single", one byte
-# each; "sweep cuts", once for each number of bytes that the first read gives; "turns N"; "answers no yes ..", the registry's,
-# and no past their end; "read_fails N", the read of this number, from 0; "write_fails N M", the write of this number after M
-# bytes; "front", any first bytes of the replies are expected; "handlers sample", by the handlers of sample queries in the place
-# of relations (the crate sample_handlers; pair: two rows; broken: a row, an error, and two rows; failed: an error in the place
-# of rows; done: a command; in, out, both: COPY of each direction). A call is start, or yes or no for a question; where a write
-# fails, any first calls are expected.
+# by tools/cursor_serving_rows.py. Bytes are hexadecimal digits; a word "N*DIGITS" stands for its bytes N times. A row is served
+# over the built-in relations, under pid 7 and key 01020304, with 1000 turns, by options that semicolons split: "reads N N ..",
+# what each read gives, or "reads single", one byte each; "sweep cuts", once for each number of bytes that the first read gives;
+# "turns N"; "answers no yes ..", the registry's, and no past their end; "read_fails N", the read of this number, from 0;
+# "write_fails N M", the write of this number after M bytes; "front", any first bytes of the replies are expected; "handlers
+# sample", by the handlers of sample queries in the place of relations (the crate sample_handlers; pair: two rows; broken: a
+# row, an error, and two rows; failed: an error in the place of rows; done: a command; in, out, both: COPY of each direction). A
+# call is start, or yes or no for a question; where a write fails, any first calls are expected.
 """
 
 
@@ -156,11 +157,16 @@ def replies_to(steps):
     return [reply for _, replies, _ in steps for reply in replies]
 
 
+def digits(data):
+    """Hexadecimal digits, where a byte that comes many times is written once, with their number."""
+    return re.sub(r"(..)\1{99,}", lambda m: f" {len(m[0]) // 2}*{m[1]} ", data.hex())
+
+
 def show(name, steps, how="", end="Terminate", client=None, replies=None, calls=None):
     client = b"".join(step[0] for step in steps) if client is None else client
     replies = written(replies_to(steps)) if replies is None else replies
     calls = " ".join(step[2] for step in steps if step[2]) if calls is None else calls
-    print(f"{name} | {how} | {client.hex()} | {end} | {replies.hex()} | {calls}")
+    print(f"{name} | {how} | {digits(client)} | {end} | {replies.hex()} | {calls}")
 
 
 def everywhere(name, steps, how=""):
@@ -331,6 +337,13 @@ def phases():
     show("a command split over two pieces", LIFE, f"reads {behind + 7}")
     show("a command split in its header", LIFE, f"reads {behind + 3}")
     show("a command behind half of the one before", LIFE, f"reads {behind + 20} {len(LIFE[1][0])}")
+    # A frame has at most 1,048,577 bytes, its type and its length among them.
+    longest = f"CLOSE{' ' * (1048577 - 12)}c"
+    closed = [command(longest, [CLOSED, IDLE]), command("FETCH 1 FROM c", [error("34000", 'portal "c" does not exist'), IDLE])]
+    show("the longest command", [START, declare(), *closed, TERMINATE])
+    show("a Query frame that is too long", [START, (b"Q" + struct.pack(">i", 1048577) + text("CLOSE c"), [], "")], "", "BadFrame")
+    show("a Query frame that is too short", [START, (b"Q" + struct.pack(">i", 3) + text("CLOSE c"), [], "")], "", "BadFrame")
+    show("a Query frame without a text", [START, (b"Q" + struct.pack(">i", 4) + text("CLOSE c"), [], "")], "", "BadFrame")
     show("a command before the startup packet", [(written([frame(b"Q", text("CLOSE c"))]), [], "")], "", "BadFrame")
     show("a command that isn't UTF-8", [START, (written([frame(b"Q", b"CLOSE \xff\0")]), [], "")], "", "BadFrame")
 

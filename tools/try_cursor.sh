@@ -21,9 +21,9 @@ while_alive() {
   done
 }
 
-# The program that waits at the pipe in the place of a relation file.
+# Whether the unproved program waits at the pipe in the place of a relation file, and the line that started it.
 is_waiting() {
-  waiting=$(pgrep -f "^[^ ]*/program serve $folder/relations 7 01020304\$")
+  waiting=$(pgrep -a -f "/program serve $folder/relations 7 01020304\$")
 }
 
 # Leaves an unproved program in the folder. It is there for as long as it runs, so it is copied while it waits for its file.
@@ -33,7 +33,8 @@ build_unproved() {
   (cd crates/cursor && exec rt try --seconds 3000 -- serve "$folder/relations" 7 01020304) < /dev/null > "$folder/building" 2>&1 &
   building=$!
   while_alive "$building" "$folder/building" is_waiting
-  cp "/proc/$waiting/exe" "$folder/cursor"
+  waiting=${waiting% serve *}
+  cp "${waiting##* }" "$folder/cursor"
   : > "$folder/relations"
   wait "$building" || true
 }
@@ -46,7 +47,7 @@ fi
 port=$(python3 -c 'import socket; s = socket.socket(); s.bind(("127.0.0.1", 0)); print(s.getsockname()[1])')
 python3 tools/program_per_client.py "$port" 1 "$program" serve "$PWD/data/rosters" 7 01020304 > "$folder/bridge" 2>&1 &
 bridge=$!
-while_alive "$bridge" "$folder/bridge" grep -q listening "$folder/bridge"
+while_alive "$bridge" "$folder/bridge" grep -qs listening "$folder/bridge"
 psql -X -a -h 127.0.0.1 -p "$port" -U demo -d rosters < tools/try_cursor.sql > "$folder/printed" 2>&1 || true
 if ! wait "$bridge"; then
   cat "$folder/bridge"
