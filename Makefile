@@ -22,12 +22,13 @@ serve:
 	@tools/run_server listen tcp $(PORT) $(ROSTERS)
 
 # Runs psql over the sample relations, and compares what it prints; then tries a server with few descriptors and threads,
-# large batches, and Unix sockets that were left over; then tells the rotas of README.md: by the proved programs where they were
-# built.
+# large batches, and Unix sockets that were left over; then tells the rotas of README.md; then runs psql's cursors over
+# `pg_cursor`: by the proved programs where they were built.
 try:
 	@tools/try_psql.sh
 	@tools/try_limits
 	@tools/try_rota.sh
+	@tools/try_cursor.sh
 
 # Proves the program and all that it stands on, builds it, and shows the same frames from what was built.
 build:

@@ -19,7 +19,7 @@ HEAD = """\
 
 
 def command_of(query):
-    text = re.sub(rb"\A[\t-\r ;]*|[\t-\r ;]*\Z", b"", query.encode())
+    text = query.encode().strip(b"\t\n\v\f\r ;")
     words = [w.decode() for w in re.split(rb"[\t-\r ]+", text) if w]
     keys = [w.upper() if w.isascii() else w for w in words]
     if len(words) == 5 and (keys[0], keys[2], keys[3]) == ("DECLARE", "CURSOR", "FOR"):

@@ -6,6 +6,7 @@
 The replies to a command are those to its messages, which stand here beside it, changed by the rule of tools/cursor_rows.py;
 those of the row "cursor life" and "cursor refusals" are compared with the replies that they are to be, written out.
 """
+import re
 import struct
 
 from cursor_rows import BOUND, CLOSED, COLUMNS, HALF, IDLE, MONTH, NO_DATA, PARSED, SUSPENDED, TRANSACTION, YEAR
@@ -13,12 +14,14 @@ from cursor_rows import command_of, frame, replies_of, row, tag, written
 
 HEAD = """\
 # A row: its name | how it is served | the client's bytes | how it ends | the bytes of the replies | the registry's calls. Made
-# by tools/cursor_serving_rows.py. Bytes are hexadecimal digits. It is served over the built-in relations, under pid 7 and key
-# 01020304, with 1000 turns, by options that semicolons split: "reads N N ..", what each read gives, or "reads single", one byte
-# each; "sweep cuts", once for each number of bytes that the first read gives; "turns N"; "answers no yes ..", the registry's,
-# and no past their end; "read_fails N", the read of this number, from 0; "write_fails N M", the write of this number after M
-# bytes; "front", any first bytes of the replies are expected. A call is start, or yes or no for a question; where a write fails,
-# any first calls are expected.
+# by tools/cursor_serving_rows.py. Bytes are hexadecimal digits; a word "N*DIGITS" stands for its bytes N times. A row is served
+# over the built-in relations, under pid 7 and key 01020304, with 1000 turns, by options that semicolons split: "reads N N ..",
+# what each read gives, or "reads single", one byte each; "sweep cuts", once for each number of bytes that the first read gives;
+# "turns N"; "answers no yes ..", the registry's, and no past their end; "read_fails N", the read of this number, from 0;
+# "write_fails N M", the write of this number after M bytes; "front", any first bytes of the replies are expected; "handlers
+# sample", by the handlers of sample queries in the place of relations (the crate sample_handlers; pair: two rows; broken: a
+# row, an error, and two rows; failed: an error in the place of rows; done: a command; in, out, both: COPY of each direction). A
+# call is start, or yes or no for a question; where a write fails, any first calls are expected.
 """
 
 
@@ -37,6 +40,17 @@ CANCELED = error("57014", "canceling statement due to user request")
 ROMAN = error("22023", 'invalid option value "roman"')
 BROKEN = frame(b"Z", b"E")
 DAY = row("1 day")
+# Of the handlers of sample queries: the columns name and span, the rows of "a" with one day and of "b" with a null, and COPYs
+# of one column.
+NAMES = frame(b"T", struct.pack(">h", 2) + b"name\0" + struct.pack(">ihihih", 0, 0, 25, -1, -1, 0)
+              + b"span\0" + struct.pack(">ihihih", 0, 0, 1186, 16, -1, 0))
+A = frame(b"D", struct.pack(">hi", 2, 1) + b"a" + struct.pack(">i", 5) + b"1 day")
+B = frame(b"D", struct.pack(">hi", 2, 1) + b"b" + struct.pack(">i", -1))
+DIVISION = error("22012", "division by zero")
+REFUSED = error("22023", "refused")
+COPY_IN = frame(b"G", struct.pack(">bhh", 0, 1, 0))
+COPY_OUT = [frame(b"H", struct.pack(">bhh", 1, 1, 1)), frame(b"d", b"\2"), frame(b"d", b"\1"), frame(b"d", b"\xff\xff"), frame(b"c"), tag("COPY 2")]
+COPY_BOTH = [frame(b"W", struct.pack(">bhh", 0, 1, 0)), frame(b"d", b"\1"), frame(b"c"), tag("COPY 1")]
 GREETING = [frame(b"R", struct.pack(">i", 0)), *(frame(b"S", text(name) + text(value)) for name, value in [
     ("server_version", "16.0"), ("server_encoding", "UTF8"), ("client_encoding", "UTF8"), ("integer_datetimes", "on")]),
     frame(b"K", struct.pack(">i", 7) + bytes([1, 2, 3, 4])), IDLE]
@@ -82,6 +96,19 @@ def describe(portal, replies):
 
 def sync(ready=IDLE):
     return (written([frame(b"S")]), [ready] if ready else [], "")
+
+
+def copy_data(data):
+    return (written([frame(b"d", data)]), [], "")
+
+
+def copy_done(replies):
+    return (written([frame(b"c")]), replies, "")
+
+
+def copy_fail(why, ready):
+    gone = error("XX000", f"COPY IN mode terminated by the user: {why}")
+    return (written([frame(b"f", text(why))]), [gone, ready], "")
 
 
 TERMINATE = (written([frame(b"X")]), [], "")
@@ -130,11 +157,16 @@ def replies_to(steps):
     return [reply for _, replies, _ in steps for reply in replies]
 
 
+def digits(data):
+    """Hexadecimal digits, where a byte that comes many times is written once, with their number."""
+    return re.sub(r"(..)\1{99,}", lambda m: f" {len(m[0]) // 2}*{m[1]} ", data.hex())
+
+
 def show(name, steps, how="", end="Terminate", client=None, replies=None, calls=None):
     client = b"".join(step[0] for step in steps) if client is None else client
     replies = written(replies_to(steps)) if replies is None else replies
     calls = " ".join(step[2] for step in steps if step[2]) if calls is None else calls
-    print(f"{name} | {how} | {client.hex()} | {end} | {replies.hex()} | {calls}")
+    print(f"{name} | {how} | {digits(client)} | {end} | {replies.hex()} | {calls}")
 
 
 def everywhere(name, steps, how=""):
@@ -301,6 +333,17 @@ def phases():
         command("FETCH 1 FROM c", [COLUMNS, YEAR, SUSPENDED, IDLE], "start"),
         TERMINATE,
     ])
+    behind = len(START[0])
+    show("a command split over two pieces", LIFE, f"reads {behind + 7}")
+    show("a command split in its header", LIFE, f"reads {behind + 3}")
+    show("a command behind half of the one before", LIFE, f"reads {behind + 20} {len(LIFE[1][0])}")
+    # A frame has at most 1,048,577 bytes, its type and its length among them.
+    longest = f"CLOSE{' ' * (1048577 - 12)}c"
+    closed = [command(longest, [CLOSED, IDLE]), command("FETCH 1 FROM c", [error("34000", 'portal "c" does not exist'), IDLE])]
+    show("the longest command", [START, declare(), *closed, TERMINATE])
+    show("a Query frame that is too long", [START, (b"Q" + struct.pack(">i", 1048577) + text("CLOSE c"), [], "")], "", "BadFrame")
+    show("a Query frame that is too short", [START, (b"Q" + struct.pack(">i", 3) + text("CLOSE c"), [], "")], "", "BadFrame")
+    show("a Query frame without a text", [START, (b"Q" + struct.pack(">i", 4) + text("CLOSE c"), [], "")], "", "BadFrame")
     show("a command before the startup packet", [(written([frame(b"Q", text("CLOSE c"))]), [], "")], "", "BadFrame")
     show("a command that isn't UTF-8", [START, (written([frame(b"Q", b"CLOSE \xff\0")]), [], "")], "", "BadFrame")
 
@@ -329,6 +372,103 @@ def questions():
     ])
 
 
+SAMPLE = "handlers sample"
+
+
+def error_items():
+    print("\n# ---- errors among the rows that a FETCH asks for")
+    broken = [
+        START,
+        declare("b", "broken"),
+        command("FETCH 2 FROM b", [NAMES, DIVISION, IDLE], "start"),
+        command("FETCH 2 FROM b", [NAMES, B, B, SUSPENDED, IDLE]),
+        command("FETCH 2 FROM b", [NAMES, tag("SELECT 2"), IDLE]),
+        TERMINATE,
+    ]
+    assert replies_to(broken) == [
+        *GREETING, tag("DECLARE CURSOR"), IDLE,
+        NAMES, DIVISION, IDLE,
+        NAMES, B, B, tag("FETCH 2"), IDLE,
+        NAMES, tag("FETCH 0"), IDLE,
+    ]
+    everywhere("an error item in the middle of a FETCH", broken, SAMPLE)
+    show("an error item between a FETCH and an Execute", [
+        START,
+        declare("b", "broken"),
+        command("FETCH 1 FROM b", [NAMES, A, SUSPENDED, IDLE], "start"),
+        execute("b", 1, [DIVISION]),
+        query("FETCH 1 FROM b", [], ""),
+        sync(),
+        command("FETCH 1 FROM b", [NAMES, B, SUSPENDED, IDLE]),
+        execute("b", 0, [B, tag("SELECT 3")]),
+        sync(),
+        command("FETCH ALL FROM b", [NAMES, tag("SELECT 3"), IDLE]),
+        TERMINATE,
+    ], SAMPLE)
+    show("an error item before a FETCH of all", [
+        START,
+        declare("b", "broken"),
+        execute("b", 2, [DIVISION], "start"),
+        sync(),
+        command("FETCH ALL FROM b", [NAMES, B, B, tag("SELECT 2"), IDLE]),
+        TERMINATE,
+    ], SAMPLE)
+    show("an error in the place of rows", [
+        START,
+        declare("f", "failed"),
+        command("FETCH 1 FROM f", [NO_DATA, REFUSED, IDLE], "start"),
+        command("FETCH ALL FROM f", [NO_DATA, REFUSED, IDLE], "start"),
+        TERMINATE,
+    ], SAMPLE)
+    show("a FETCH from a portal of a command", [
+        START,
+        declare("d", "done"),
+        command("FETCH 1 FROM d", [NO_DATA, tag("INSERT 0 1"), IDLE], "start"),
+        TERMINATE,
+    ], SAMPLE)
+
+
+def copies():
+    print("\n# ---- commands and COPYs")
+    pair = declare("c", "pair")
+    fetched = command("FETCH 1 FROM c", [NAMES, A, SUSPENDED, IDLE], "start")
+    dropped = [query(words, [], "") for words in ("FETCH 1 FROM c", "CLOSE c", "DECLARE d CURSOR FOR pair")]
+    everywhere("a command inside a COPY from the client", [
+        START,
+        pair,
+        query("in", [COPY_IN]),
+        *dropped,
+        copy_data(b"\0\xff"),
+        sync(None),
+        copy_done([IDLE]),
+        fetched,
+        execute("d", 0, [error("34000", 'portal "d" does not exist')]),
+        sync(),
+        TERMINATE,
+    ], SAMPLE)
+    show("a command behind a COPY from the client that failed", [
+        START, pair, query("in", [COPY_IN]), *dropped, copy_fail("no", IDLE), fetched, TERMINATE,
+    ], SAMPLE)
+    show("a command inside a COPY both ways", [
+        START, pair, query("both", COPY_BOTH), *dropped, copy_done([IDLE]), fetched, TERMINATE,
+    ], SAMPLE)
+    everywhere("a FETCH that begins a COPY from the client", [
+        START,
+        declare("i", "in"),
+        # The Sync of this FETCH comes inside the COPY, where it is dropped.
+        command("FETCH 1 FROM i", [NO_DATA, COPY_IN], "start"),
+        query("FETCH 1 FROM i", [], ""),
+        copy_data(b"\0\xff"),
+        copy_done([]),
+        command("CLOSE i", [CLOSED, IDLE]),
+        command("FETCH 1 FROM i", [error("34000", 'portal "i" does not exist'), IDLE]),
+        TERMINATE,
+    ], SAMPLE)
+    show("a FETCH that is a COPY to the client", [
+        START, declare("o", "out"), command("FETCH 1 FROM o", [NO_DATA, *COPY_OUT, IDLE], "start"), TERMINATE,
+    ], SAMPLE)
+
+
 def main():
     print(HEAD)
     lives()
@@ -336,6 +476,8 @@ def main():
     portals()
     phases()
     questions()
+    error_items()
+    copies()
 
 
 if __name__ == "__main__":

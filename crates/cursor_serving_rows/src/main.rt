@@ -1,8 +1,9 @@
 //! Rows of conversations with cursors, as data on standard input: each is served over the built-in
-//! relations, and a line tells whether its replies, its end and its registry calls are the ones
-//! that the row expects. The head of `stdin` has the format.
+//! relations or by the handlers of sample queries, and a line tells whether its replies, its end
+//! and its registry calls are the ones that the row expects. The head of `stdin` has the format.
 #![tactic(auto)]
 
+mod handlers;
 mod row;
 mod serving;
 mod verdict;

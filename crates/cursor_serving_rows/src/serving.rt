@@ -1,5 +1,6 @@
 //! The conversation of a row is served.
 
+use crate::handlers::serve_by;
 use crate::row::Row;
 use cursor_serving::serve_cursors_on;
 use pg_handlers::ScriptDesk;
@@ -9,6 +10,7 @@ use pg_session::{EndKind, ServeError};
 use relation_handlers::RelationTable;
 use relation_serving::built_in_table;
 use row_files::{Fault, numbers_of, parsed, singles, up_to_one};
+use sample_handlers::SampleHandler;
 use std::alloc::{AllocError, Global};
 
 /// How a conversation ends.
@@ -27,21 +29,40 @@ pub fn serve<'t>(alloc: Global, row: &Row<'t>, pieces: Vec<usize>) -> Result<Out
     let mut source = source_of(alloc, row, pieces)?;
     let sink = sink_of(alloc, row)?;
     let turns = turns_of(row)?;
-    Ok(serve_from(alloc, row, &mut source, sink, turns)?)
+    serve_from(alloc, row, &mut source, sink, turns)
 }
 
-/// Serves a client over the built-in relations, with the registry's answers that the row tells.
-fn serve_from(
+/// Serves a client with the registry's answers that the row tells.
+fn serve_from<'t>(
     alloc: Global,
-    row: &Row<'_>,
+    row: &Row<'t>,
     source: &mut MemorySource,
     mut sink: MemorySink,
     turns: u64,
-) -> Result<Outcome, AllocError> {
+) -> Result<Outcome, Fault<'t>> {
     let mut desk = desk_of(alloc, row.option("answers").unwrap_or(""))?;
-    let relations = relations(alloc)?;
-    let end = serve_cursors_on(alloc, &mut desk, &relations, source, &mut sink, turns);
+    let handlers = row.option("handlers");
+    let end = serve_told(alloc, handlers, &mut desk, source, &mut sink, turns)?;
     Ok(Outcome { end, sink, desk })
+}
+
+/// Serves a client over the built-in relations, or by the handlers of this name.
+fn serve_told<'t>(
+    alloc: Global,
+    handlers: Option<&'t str>,
+    desk: &mut ScriptDesk,
+    source: &mut MemorySource,
+    sink: &mut MemorySink,
+    turns: u64,
+) -> Result<Ending, Fault<'t>> {
+    match handlers {
+        None => {
+            let relations = relations(alloc)?;
+            Ok(serve_cursors_on(alloc, desk, &relations, source, sink, turns))
+        }
+        Some("sample") => Ok(serve_by(alloc, SampleHandler, desk, source, sink, turns)?),
+        Some(other) => Err(Fault::Line(other)),
+    }
 }
 
 /// The built-in relations.

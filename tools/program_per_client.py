@@ -1,0 +1,36 @@
+#!/usr/bin/env python3
+"""Lets clients over TCP reach a program that serves one client on standard input and output.
+
+    tools/program_per_client.py PORT CLIENTS PROGRAM [WORD..]
+
+It listens at 127.0.0.1:PORT, and prints a line when it does. For each client it starts the program with these words, whose
+standard input and output are the client's connection. After so many clients it waits for the programs and ends; with 0 it goes
+on until it is interrupted. It prints the status of each program that ended with another one than 0, and its own is then 1.
+"""
+import socket
+import subprocess
+import sys
+
+
+def main():
+    port, clients, program = int(sys.argv[1]), int(sys.argv[2]), sys.argv[3:]
+    running, failed = [], 0
+    with socket.create_server(("127.0.0.1", port)) as listener:
+        print(f"listening on 127.0.0.1:{port}", flush=True)
+        while clients == 0 or len(running) < clients:
+            connection, _ = listener.accept()
+            with connection:
+                connection.setsockopt(socket.IPPROTO_TCP, socket.TCP_NODELAY, 1)
+                running.append(subprocess.Popen(program, stdin=connection, stdout=connection))
+    for process in running:
+        if process.wait() != 0:
+            print(f"{program[0]} ended with status {process.returncode}", flush=True)
+            failed = 1
+    return failed
+
+
+if __name__ == "__main__":
+    try:
+        sys.exit(main())
+    except KeyboardInterrupt:
+        sys.exit(130)
