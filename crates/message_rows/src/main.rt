@@ -7,6 +7,8 @@
 // asks for the times of so many decodes and encodes of each row instead (times.rt).
 #![tactic(auto)]
 
+ghost use Rattle.pg_messages.specs.Replies.{IsEncodable};
+
 mod parts;
 mod replies;
 mod sendable;
@@ -19,6 +21,7 @@ use pg_messages::{
     FrameError, PgWireBackendMessage, PgWireFrontendMessage, PgWireMessageServerCodec,
 };
 use replies::reply_of;
+use row_files::Fault;
 use sendable::is_encodable;
 use show::{show_bytes, show_message};
 use std::alloc::{AllocError, Global};
@@ -79,27 +82,49 @@ fn words_of(alloc: Global, row: &str) -> Result<Vec<&str>, AllocError> {
 /// Prints the first answer that isn't None while the bytes come one by one, and how many had come;
 /// and what is left where they all come at once.
 fn answer_frame(rt: &HostRuntime, awaiting: bool, parts: &[&str]) -> io::Result<()> {
-    let Some(bytes) = bytes_of(rt.alloc(), parts)? else {
-        return println!(rt; "not of the form");
-    };
-    show_one_by_one(rt, awaiting, bytes.as_slice())?;
-    show_at_once(rt, awaiting, bytes.as_slice())
+    match bytes_of(rt.alloc(), parts) {
+        Ok(bytes) => answer_bytes(rt, awaiting, bytes.as_slice()),
+        Err(fault) => show_fault(rt, fault),
+    }
+}
+
+/// Tells that a row says nothing.
+fn show_fault(rt: &HostRuntime, fault: Fault<'_>) -> io::Result<()> {
+    match fault {
+        Fault::NoMemory => Err(io::Error::from(AllocError)),
+        Fault::Line(_) => println!(rt; "not of the form"),
+    }
+}
+
+fn answer_bytes(rt: &HostRuntime, awaiting: bool, bytes: &[u8]) -> io::Result<()> {
+    show_one_by_one(rt, awaiting, bytes)?;
+    show_at_once(rt, awaiting, bytes)
 }
 
 /// Prints the first answer that isn't None while the bytes come one by one, and how many had come.
 fn show_one_by_one(rt: &HostRuntime, awaiting: bool, bytes: &[u8]) -> io::Result<()> {
     let count = answered_at(rt.alloc(), awaiting, bytes)?;
     let (front, _) = bytes.split_at(count.min(bytes.len()));
-    let mut src = BytesMut::copy_from_slice(rt.alloc(), front)?;
-    show_answer(rt, codec_at(awaiting).decode(rt.alloc(), &mut src))?;
+    show_decoded(rt, awaiting, BytesMut::copy_from_slice(rt.alloc(), front)?)?;
     print!(rt; " at {count}")
+}
+
+/// Prints the answer to these bytes.
+fn show_decoded(rt: &HostRuntime, awaiting: bool, mut src: BytesMut) -> io::Result<()> {
+    show_answer(rt, codec_at(awaiting).decode(rt.alloc(), &mut src))
 }
 
 /// Prints whether all the bytes give a frame, and how many are left.
 fn show_at_once(rt: &HostRuntime, awaiting: bool, bytes: &[u8]) -> io::Result<()> {
-    let mut src = BytesMut::copy_from_slice(rt.alloc(), bytes)?;
-    let kind = is_frame(codec_at(awaiting).decode(rt.alloc(), &mut src));
-    println!(rt; ", at once {kind} with {} left", src.len())
+    let (kind, left) = taken_at_once(rt.alloc(), awaiting, bytes)?;
+    println!(rt; ", at once {kind} with {left} left")
+}
+
+/// Whether all the bytes give a frame, and how many are left.
+fn taken_at_once(alloc: Global, awaiting: bool, bytes: &[u8]) -> Result<(bool, usize), AllocError> {
+    let mut src = BytesMut::copy_from_slice(alloc, bytes)?;
+    let kind = is_frame(codec_at(awaiting).decode(alloc, &mut src));
+    Ok((kind, src.len()))
 }
 
 fn codec_at(awaiting_startup: bool) -> PgWireMessageServerCodec {
@@ -153,9 +178,13 @@ fn show_answer(
 
 /// Prints what the codec makes of the reply of these words.
 fn answer_reply(rt: &HostRuntime, kind: &str, parts: &[&str]) -> io::Result<()> {
-    match reply_of(rt.alloc(), kind, parts)? {
-        Some(reply) => show_reply(rt, &reply),
-        None => println!(rt; "not of the form"),
+    match reply_of(rt.alloc(), kind, parts) {
+        Ok(reply) => {
+            let shown = show_reply(rt, &reply);
+            replies::let_go(reply);
+            shown
+        }
+        Err(fault) => show_fault(rt, fault),
     }
 }
 
@@ -164,9 +193,21 @@ fn show_reply(rt: &HostRuntime, reply: &PgWireBackendMessage) -> io::Result<()> 
     if !is_encodable(reply) {
         return println!(rt; "body {}, cannot be sent", reply.body_len());
     }
-    let mut dst = BytesMut::copy_from_slice(rt.alloc(), b"<")?;
+    let dst = encoded_behind(rt.alloc(), reply)?;
+    show_encoded(rt, reply.body_len(), dst.as_slice())
+}
+
+/// A byte, and the bytes of a reply.
+fn encoded_behind(alloc: Global, reply: &PgWireBackendMessage) -> Result<BytesMut, AllocError>
+    requires { IsEncodable reply.now }
+{
+    let mut dst = BytesMut::copy_from_slice(alloc, b"<")?;
     PgWireMessageServerCodec::new().encode(reply, &mut dst)?;
-    print!(rt; "body {},", reply.body_len())?;
-    show_bytes(rt, dst.as_slice())?;
+    Ok(dst)
+}
+
+fn show_encoded(rt: &HostRuntime, body_len: u64, bytes: &[u8]) -> io::Result<()> {
+    print!(rt; "body {body_len},")?;
+    show_bytes(rt, bytes)?;
     println!(rt;)
 }

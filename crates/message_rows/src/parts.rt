@@ -5,79 +5,104 @@
 //! - `N*PART`: the part N times.
 
 use pg_messages::{PgList, PgStr};
-use row_files::{push_pairs, times_and_rest};
+use row_files::{Fault, parsed, push_hex, times_and_rest};
 use std::alloc::{AllocError, Global};
 use std::str::FromStr;
 
-/// The bytes that the words spell; None where one is not of the form.
-pub fn bytes_of(alloc: Global, words: &[&str]) -> Result<Option<Vec<u8>>, AllocError> {
+/// The bytes that the words spell.
+pub fn bytes_of<'t>(alloc: Global, words: &[&'t str]) -> Result<Vec<u8>, Fault<'t>> {
     let mut bytes = Vec::new(alloc);
     for word in words {
-        let (times, part) = times_and_rest(word);
-        for _ in 0..times {
-            if !put_part(part, &mut bytes)? {
-                return Ok(None);
-            }
-        }
+        put_word(&mut bytes, word)?;
     }
-    Ok(Some(bytes))
+    Ok(bytes)
 }
 
-/// Appends the bytes of a part; false where it is not of the form.
-fn put_part(part: &str, bytes: &mut Vec<u8>) -> Result<bool, AllocError> {
+/// Appends the bytes that a word spells.
+fn put_word<'t>(bytes: &mut Vec<u8>, word: &'t str) -> Result<(), Fault<'t>> {
+    let (times, part) = times_and_rest(word);
+    for _ in 0..times {
+        put_part(bytes, part)?;
+    }
+    Ok(())
+}
+
+/// Appends the bytes of a part.
+fn put_part<'t>(bytes: &mut Vec<u8>, part: &'t str) -> Result<(), Fault<'t>> {
     if let Some(text) = part.strip_prefix("'") {
-        return put_text(text, bytes);
+        return Ok(put_text(bytes, text)?);
     }
     if let Some(digits) = part.strip_prefix("x") {
-        return push_pairs(bytes, digits.as_bytes());
+        return push_hex(bytes, digits);
     }
-    if let Some(Ok(number)) = part.strip_prefix("h:").map(|n| n.parse::<i16>()) {
-        bytes.extend_from_slice(&number.to_be_bytes())?;
-        return Ok(true);
+    match part.split_once(":") {
+        Some(("h", digits)) => put_int16(bytes, digits),
+        Some(("i", digits)) => put_int32(bytes, digits),
+        _ => Err(Fault::Line(part)),
     }
-    let Some(Ok(number)) = part.strip_prefix("i:").map(|n| n.parse::<i32>()) else {
-        return Ok(false);
-    };
-    bytes.extend_from_slice(&number.to_be_bytes())?;
-    Ok(true)
+}
+
+/// Appends an Int16.
+fn put_int16<'t>(bytes: &mut Vec<u8>, digits: &'t str) -> Result<(), Fault<'t>> {
+    let number = parsed::<i16>(digits)?;
+    Ok(bytes.extend_from_slice(&number.to_be_bytes())?)
+}
+
+/// Appends an Int32.
+fn put_int32<'t>(bytes: &mut Vec<u8>, digits: &'t str) -> Result<(), Fault<'t>> {
+    let number = parsed::<i32>(digits)?;
+    Ok(bytes.extend_from_slice(&number.to_be_bytes())?)
 }
 
 /// Appends the text, a space for each `_`.
-fn put_text(text: &str, bytes: &mut Vec<u8>) -> Result<bool, AllocError> {
+fn put_text(bytes: &mut Vec<u8>, text: &str) -> Result<(), AllocError> {
     for byte in text.as_bytes() {
         bytes.push(if *byte == b'_' { b' ' } else { *byte })?;
     }
-    Ok(true)
+    Ok(())
 }
 
 /// The text of a word.
-pub fn text_of(alloc: Global, word: &str) -> Result<Option<PgStr>, AllocError> {
-    let Some(bytes) = bytes_of(alloc, &[word])? else {
-        return Ok(None);
-    };
-    match str::from_utf8(bytes.as_slice()) {
-        Ok(text) => Ok(Some(PgStr::copy_of(alloc, text)?)),
-        Err(_) => Ok(None),
+pub fn text_of<'t>(alloc: Global, word: &'t str) -> Result<PgStr, Fault<'t>> {
+    let bytes = bytes_of(alloc, &[word])?;
+    text_from(alloc, word, bytes.as_slice())
+}
+
+/// The text of the bytes that a word spells.
+fn text_from<'t>(alloc: Global, word: &'t str, bytes: &[u8]) -> Result<PgStr, Fault<'t>> {
+    match str::from_utf8(bytes) {
+        Ok(text) => Ok(PgStr::copy_of(alloc, text)?),
+        Err(_) => Err(Fault::Line(word)),
     }
 }
 
 /// The numbers of words, `N*NUMBER` N times.
-pub fn numbers_of<T: FromStr + Copy>(
+pub fn numbers_of<'t, T: FromStr + Copy>(
     alloc: Global,
-    words: &[&str],
-) -> Result<Option<PgList<T>>, AllocError>
+    words: &[&'t str],
+) -> Result<PgList<T>, Fault<'t>>
 where
     <T as FromStr>::Err: Drop,
 {
     let mut numbers = PgList::new(alloc);
     for word in words {
-        let (times, part) = times_and_rest(word);
-        let Ok(number) = part.parse::<T>() else {
-            return Ok(None);
-        };
-        for _ in 0..times {
-            numbers.push(number)?;
-        }
+        push_numbers(&mut numbers, word)?;
     }
-    Ok(Some(numbers))
+    Ok(numbers)
+}
+
+/// Appends the numbers of a word.
+fn push_numbers<'t, T: FromStr + Copy>(
+    numbers: &mut PgList<T>,
+    word: &'t str,
+) -> Result<(), Fault<'t>>
+where
+    <T as FromStr>::Err: Drop,
+{
+    let (times, part) = times_and_rest(word);
+    let number = parsed::<T>(part)?;
+    for _ in 0..times {
+        numbers.push(number)?;
+    }
+    Ok(())
 }

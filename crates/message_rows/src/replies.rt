@@ -9,148 +9,145 @@ use pg_messages::{
     PgWireBackendMessage, PortalSuspended, ReadyForQuery, RowDescription, SslResponse,
     TransactionStatus,
 };
-use row_files::times_and_rest;
-use std::alloc::{AllocError, Global};
+use row_files::{Fault, parsed, times_and_rest};
+use std::alloc::Global;
+use std::str::FromStr;
 
-/// A reply, or None where the words are not of the form.
-type Made = Result<Option<PgWireBackendMessage>, AllocError>;
+/// A reply, or why there is none.
+type Made<'t> = Result<PgWireBackendMessage, Fault<'t>>;
 
 /// The reply of this name with these fields.
-pub fn reply_of(alloc: Global, kind: &str, parts: &[&str]) -> Made {
+pub fn reply_of<'t>(alloc: Global, kind: &'t str, parts: &[&'t str]) -> Made<'t> {
     match kind {
-        "ParameterStatus" => setting(alloc, parts),
-        "BackendKeyData" => Ok(key_data(alloc, parts)),
-        "ReadyForQuery" => Ok(ready(parts)),
+        "ParameterStatus" => setting(alloc, kind, parts),
+        "BackendKeyData" => key_data(alloc, kind, parts),
+        "ReadyForQuery" => ready(kind, parts),
         "ParameterDescription" => types(alloc, parts),
         "RowDescription" => columns(alloc, parts),
-        "DataRow" => row(alloc, parts),
-        "CommandComplete" => done(alloc, parts),
-        "ErrorResponse" => error(alloc, parts),
+        "DataRow" => row(alloc, kind, parts),
+        "CommandComplete" => done(alloc, kind, parts),
+        "ErrorResponse" => error(alloc, kind, parts),
         "CopyData" => copied(alloc, parts),
         "CopyInResponse" | "CopyOutResponse" | "CopyBothResponse" => copying(alloc, kind, parts),
-        _ => Ok(bare(kind)),
+        _ => bare(kind),
     }
 }
 
-fn bare(kind: &str) -> Option<PgWireBackendMessage> {
-    let reply = match kind {
-        "SslResponse" => PgWireBackendMessage::SslResponse(SslResponse {}),
-        "GssEncResponse" => PgWireBackendMessage::GssEncResponse(GssEncResponse {}),
-        "AuthenticationOk" => PgWireBackendMessage::AuthenticationOk(AuthenticationOk {}),
-        "ParseComplete" => PgWireBackendMessage::ParseComplete(ParseComplete {}),
-        "BindComplete" => PgWireBackendMessage::BindComplete(BindComplete {}),
-        "CloseComplete" => PgWireBackendMessage::CloseComplete(CloseComplete {}),
-        "PortalSuspended" => PgWireBackendMessage::PortalSuspended(PortalSuspended {}),
-        "NoData" => PgWireBackendMessage::NoData(NoData {}),
-        "EmptyQueryResponse" => PgWireBackendMessage::EmptyQueryResponse(EmptyQueryResponse {}),
-        "CopyDone" => PgWireBackendMessage::CopyDone(CopyDone {}),
-        _ => return None,
-    };
-    Some(reply)
+/// Drops a reply.
+pub fn let_go(_reply: PgWireBackendMessage) {}
+
+fn bare<'t>(kind: &'t str) -> Made<'t> {
+    match kind {
+        "SslResponse" => Ok(PgWireBackendMessage::SslResponse(SslResponse {})),
+        "GssEncResponse" => Ok(PgWireBackendMessage::GssEncResponse(GssEncResponse {})),
+        "AuthenticationOk" => Ok(PgWireBackendMessage::AuthenticationOk(AuthenticationOk {})),
+        "ParseComplete" => Ok(PgWireBackendMessage::ParseComplete(ParseComplete {})),
+        "BindComplete" => Ok(PgWireBackendMessage::BindComplete(BindComplete {})),
+        "CloseComplete" => Ok(PgWireBackendMessage::CloseComplete(CloseComplete {})),
+        "PortalSuspended" => Ok(PgWireBackendMessage::PortalSuspended(PortalSuspended {})),
+        "NoData" => Ok(PgWireBackendMessage::NoData(NoData {})),
+        "EmptyQueryResponse" => {
+            Ok(PgWireBackendMessage::EmptyQueryResponse(EmptyQueryResponse {}))
+        }
+        "CopyDone" => Ok(PgWireBackendMessage::CopyDone(CopyDone {})),
+        _ => Err(Fault::Line(kind)),
+    }
 }
 
-fn ready(parts: &[&str]) -> Option<PgWireBackendMessage> {
+fn ready<'t>(kind: &'t str, parts: &[&'t str]) -> Made<'t> {
     let status = match parts {
         ["I"] => TransactionStatus::Error.to_idle_state(),
         ["T"] => TransactionStatus::Idle.to_in_transaction_state(),
         ["E"] => TransactionStatus::Transaction.to_error_state(),
-        _ => return None,
+        _ => return Err(Fault::Line(kind)),
     };
-    Some(PgWireBackendMessage::ReadyForQuery(ReadyForQuery { status }))
+    Ok(PgWireBackendMessage::ReadyForQuery(ReadyForQuery { status }))
 }
 
-fn key_data(alloc: Global, parts: &[&str]) -> Option<PgWireBackendMessage> {
+fn key_data<'t>(alloc: Global, kind: &'t str, parts: &[&'t str]) -> Made<'t> {
     let [pid, key] = parts else {
-        return None;
+        return Err(Fault::Line(kind));
     };
-    let pid = pid.parse::<i32>().ok()?;
-    let key = bytes_of(alloc, &[key]).ok()??;
-    let [a, b, c, d] = key.as_slice() else {
-        return None;
-    };
-    let secret_key = [*a, *b, *c, *d];
-    Some(PgWireBackendMessage::BackendKeyData(BackendKeyData { pid, secret_key }))
+    let pid = parsed::<i32>(pid)?;
+    let secret_key = key_of(alloc, key)?;
+    Ok(PgWireBackendMessage::BackendKeyData(BackendKeyData { pid, secret_key }))
 }
 
-fn setting(alloc: Global, parts: &[&str]) -> Made {
+/// The four bytes of a key.
+fn key_of<'t>(alloc: Global, word: &'t str) -> Result<[u8; 4], Fault<'t>> {
+    let bytes = bytes_of(alloc, &[word])?;
+    match bytes.as_slice() {
+        [a, b, c, d] => Ok([*a, *b, *c, *d]),
+        _ => Err(Fault::Line(word)),
+    }
+}
+
+fn setting<'t>(alloc: Global, kind: &'t str, parts: &[&'t str]) -> Made<'t> {
     let [name, value] = parts else {
-        return Ok(None);
+        return Err(Fault::Line(kind));
     };
-    let Some(name) = text_of(alloc, name)? else {
-        return Ok(None);
-    };
-    let Some(value) = text_of(alloc, value)? else {
-        return Ok(None);
-    };
+    let (name, value) = texts_of(alloc, name, value)?;
     let reply = ParameterStatus { name, value };
-    Ok(Some(PgWireBackendMessage::ParameterStatus(reply)))
+    Ok(PgWireBackendMessage::ParameterStatus(reply))
 }
 
-fn done(alloc: Global, parts: &[&str]) -> Made {
+/// The texts of two words.
+fn texts_of<'t>(alloc: Global, one: &'t str, other: &'t str) -> Result<(PgStr, PgStr), Fault<'t>> {
+    let one = text_of(alloc, one)?;
+    Ok((one, text_of(alloc, other)?))
+}
+
+fn done<'t>(alloc: Global, kind: &'t str, parts: &[&'t str]) -> Made<'t> {
     let [tag] = parts else {
-        return Ok(None);
+        return Err(Fault::Line(kind));
     };
-    let Some(tag) = text_of(alloc, tag)? else {
-        return Ok(None);
-    };
-    Ok(Some(PgWireBackendMessage::CommandComplete(CommandComplete { tag })))
+    let tag = text_of(alloc, tag)?;
+    Ok(PgWireBackendMessage::CommandComplete(CommandComplete { tag }))
 }
 
-fn error(alloc: Global, parts: &[&str]) -> Made {
+fn error<'t>(alloc: Global, kind: &'t str, parts: &[&'t str]) -> Made<'t> {
     let [severity, code, message] = parts else {
-        return Ok(None);
+        return Err(Fault::Line(kind));
     };
-    let Some(severity) = text_of(alloc, severity)? else {
-        return Ok(None);
-    };
-    let Some(code) = text_of(alloc, code)? else {
-        return Ok(None);
-    };
-    let Some(message) = text_of(alloc, message)? else {
-        return Ok(None);
-    };
-    let info = ErrorInfo::new(severity, code, message);
-    Ok(Some(PgWireBackendMessage::ErrorResponse(ErrorResponse { info })))
+    let (severity, code) = texts_of(alloc, severity, code)?;
+    let info = ErrorInfo::new(severity, code, text_of(alloc, message)?);
+    Ok(PgWireBackendMessage::ErrorResponse(ErrorResponse { info }))
 }
 
-fn types(alloc: Global, parts: &[&str]) -> Made {
-    let Some(types) = numbers_of::<u32>(alloc, parts)? else {
-        return Ok(None);
-    };
+fn types<'t>(alloc: Global, parts: &[&'t str]) -> Made<'t> {
+    let types = numbers_of::<u32>(alloc, parts)?;
     let reply = ParameterDescription { types };
-    Ok(Some(PgWireBackendMessage::ParameterDescription(reply)))
+    Ok(PgWireBackendMessage::ParameterDescription(reply))
 }
 
-fn columns(alloc: Global, parts: &[&str]) -> Made {
+fn columns<'t>(alloc: Global, parts: &[&'t str]) -> Made<'t> {
     let mut fields = PgList::new(alloc);
     for word in parts {
-        let (times, part) = times_and_rest(word);
-        for _ in 0..times {
-            let Some(field) = field_of(alloc, part)? else {
-                return Ok(None);
-            };
-            fields.push(field)?;
-        }
+        push_fields(alloc, &mut fields, word)?;
     }
     let reply = RowDescription { fields };
-    Ok(Some(PgWireBackendMessage::RowDescription(reply)))
+    Ok(PgWireBackendMessage::RowDescription(reply))
+}
+
+/// Appends the columns of a word.
+fn push_fields<'t>(
+    alloc: Global,
+    fields: &mut PgList<FieldDescription>,
+    word: &'t str,
+) -> Result<(), Fault<'t>> {
+    let (times, part) = times_and_rest(word);
+    for _ in 0..times {
+        fields.push(field_of(alloc, part)?)?;
+    }
+    Ok(())
 }
 
 // `NAME,TABLE,COLUMN,TYPE,SIZE,MODIFIER,FORMAT`
-fn field_of(alloc: Global, part: &str) -> Result<Option<FieldDescription>, AllocError> {
-    let Some((name, numbers)) = part.split_once(",") else {
-        return Ok(None);
-    };
-    let Some((ids, rest)) = ids_in(numbers) else {
-        return Ok(None);
-    };
-    let Some(form) = form_in(rest) else {
-        return Ok(None);
-    };
-    let Some(name) = text_of(alloc, name)? else {
-        return Ok(None);
-    };
-    Ok(Some(field_with(name, ids, form)))
+fn field_of<'t>(alloc: Global, part: &'t str) -> Result<FieldDescription, Fault<'t>> {
+    let (name, numbers) = part.split_once(",").ok_or(Fault::Line(part))?;
+    let (ids, rest) = ids_in(numbers)?;
+    let form = form_in(rest)?;
+    Ok(field_with(text_of(alloc, name)?, ids, form))
 }
 
 /// The table, the column and the type of a column.
@@ -160,23 +157,28 @@ type Ids = (i32, i16, u32);
 type Form = (i16, i32, i16);
 
 /// The first three numbers behind a column's name, and the text of the others.
-fn ids_in(numbers: &str) -> Option<(Ids, &str)> {
-    let (table_id, rest) = numbers.split_once(",")?;
-    let (column_id, rest) = rest.split_once(",")?;
-    let (type_id, rest) = rest.split_once(",")?;
-    let table_id = table_id.parse::<i32>().ok()?;
-    let column_id = column_id.parse::<i16>().ok()?;
-    let type_id = type_id.parse::<u32>().ok()?;
-    Some(((table_id, column_id, type_id), rest))
+fn ids_in<'t>(numbers: &'t str) -> Result<(Ids, &'t str), Fault<'t>> {
+    let (table_id, rest) = first_of::<i32>(numbers)?;
+    let (column_id, rest) = first_of::<i16>(rest)?;
+    let (type_id, rest) = first_of::<u32>(rest)?;
+    Ok(((table_id, column_id, type_id), rest))
 }
 
-fn form_in(numbers: &str) -> Option<Form> {
-    let (type_size, rest) = numbers.split_once(",")?;
-    let (type_modifier, format_code) = rest.split_once(",")?;
-    let type_size = type_size.parse::<i16>().ok()?;
-    let type_modifier = type_modifier.parse::<i32>().ok()?;
-    let format_code = format_code.parse::<i16>().ok()?;
-    Some((type_size, type_modifier, format_code))
+fn form_in<'t>(numbers: &'t str) -> Result<Form, Fault<'t>> {
+    let (type_size, rest) = first_of::<i16>(numbers)?;
+    let (type_modifier, rest) = first_of::<i32>(rest)?;
+    Ok((type_size, type_modifier, parsed::<i16>(rest)?))
+}
+
+/// The number before the first comma, and what stands behind that.
+fn first_of<'t, T: FromStr + Copy>(numbers: &'t str) -> Result<(T, &'t str), Fault<'t>>
+where
+    <T as FromStr>::Err: Drop,
+{
+    match numbers.split_once(",") {
+        Some((digits, rest)) => Ok((parsed::<T>(digits)?, rest)),
+        None => Err(Fault::Line(numbers)),
+    }
 }
 
 fn field_with(name: PgStr, ids: Ids, form: Form) -> FieldDescription {
@@ -193,43 +195,41 @@ fn field_with(name: PgStr, ids: Ids, form: Form) -> FieldDescription {
     }
 }
 
-fn row(alloc: Global, parts: &[&str]) -> Made {
+fn row<'t>(alloc: Global, kind: &'t str, parts: &[&'t str]) -> Made<'t> {
     let [count, cells @ ..] = parts else {
-        return Ok(None);
+        return Err(Fault::Line(kind));
     };
-    let Ok(field_count) = count.parse::<i16>() else {
-        return Ok(None);
-    };
-    let Some(bytes) = bytes_of(alloc, cells)? else {
-        return Ok(None);
-    };
-    let payload = PgBytes::from_vec(bytes);
+    let field_count = parsed::<i16>(count)?;
+    let payload = PgBytes::from_vec(bytes_of(alloc, cells)?);
     let reply = DataRow {
         payload,
         field_count,
     };
-    Ok(Some(PgWireBackendMessage::DataRow(reply)))
+    Ok(PgWireBackendMessage::DataRow(reply))
 }
 
-fn copied(alloc: Global, parts: &[&str]) -> Made {
-    let Some(bytes) = bytes_of(alloc, parts)? else {
-        return Ok(None);
-    };
-    let payload = PgBytes::from_vec(bytes);
-    Ok(Some(PgWireBackendMessage::CopyData(CopyData { payload })))
+fn copied<'t>(alloc: Global, parts: &[&'t str]) -> Made<'t> {
+    let payload = PgBytes::from_vec(bytes_of(alloc, parts)?);
+    Ok(PgWireBackendMessage::CopyData(CopyData { payload }))
 }
 
-fn copying(alloc: Global, kind: &str, parts: &[&str]) -> Made {
+fn copying<'t>(alloc: Global, kind: &'t str, parts: &[&'t str]) -> Made<'t> {
     let [format, columns, codes @ ..] = parts else {
-        return Ok(None);
+        return Err(Fault::Line(kind));
     };
-    let (Ok(format), Ok(columns)) = (format.parse::<i8>(), columns.parse::<i16>()) else {
-        return Ok(None);
-    };
-    let Some(column_formats) = numbers_of::<i16>(alloc, codes)? else {
-        return Ok(None);
-    };
-    let reply = match kind {
+    let format = parsed::<i8>(format)?;
+    let columns = parsed::<i16>(columns)?;
+    Ok(copying_with(kind, format, columns, numbers_of::<i16>(alloc, codes)?))
+}
+
+/// The answer of this name to a COPY.
+fn copying_with(
+    kind: &str,
+    format: i8,
+    columns: i16,
+    column_formats: PgList<i16>,
+) -> PgWireBackendMessage {
+    match kind {
         "CopyInResponse" => PgWireBackendMessage::CopyInResponse(CopyInResponse {
             format,
             columns,
@@ -245,6 +245,5 @@ fn copying(alloc: Global, kind: &str, parts: &[&str]) -> Made {
             columns,
             column_formats,
         }),
-    };
-    Ok(Some(reply))
+    }
 }

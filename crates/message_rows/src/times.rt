@@ -5,11 +5,12 @@ ghost use Rattle.std.specs.Prelude.{◌<◌};
 ghost use Rattle.pg_messages.specs.Replies.{IsEncodable};
 
 use crate::parts::bytes_of;
-use crate::replies::reply_of;
+use crate::replies::{self, reply_of};
 use crate::sendable::is_encodable;
 use crate::{codec_at, is_frame, words_of};
 use bytes::BytesMut;
 use pg_messages::{PgWireBackendMessage, PgWireMessageServerCodec};
+use row_files::Fault;
 use std::alloc::{AllocError, Global};
 use std::io;
 use std::time::{Clock, Instant};
@@ -45,9 +46,17 @@ fn time_frames(
     awaiting: bool,
     parts: &[&str],
 ) -> io::Result<()> {
-    match bytes_of(rt.alloc(), parts)? {
-        Some(bytes) => time_frame(rt, count, name, awaiting, bytes.as_slice()),
-        None => Ok(()),
+    match bytes_of(rt.alloc(), parts) {
+        Ok(bytes) => time_frame(rt, count, name, awaiting, bytes.as_slice()),
+        Err(fault) => passed_over(fault),
+    }
+}
+
+/// A row that says nothing is passed over.
+fn passed_over(fault: Fault<'_>) -> io::Result<()> {
+    match fault {
+        Fault::NoMemory => Err(io::Error::from(AllocError)),
+        Fault::Line(_) => Ok(()),
     }
 }
 
@@ -68,8 +77,18 @@ fn time_frame(
     bytes: &[u8],
 ) -> io::Result<()> {
     let mut src = repeated(rt.alloc(), count, bytes)?;
+    time_decoding(rt, count, name, awaiting, &mut src)
+}
+
+fn time_decoding(
+    rt: &HostRuntime,
+    count: u32,
+    name: &str,
+    awaiting: bool,
+    src: &mut BytesMut,
+) -> io::Result<()> {
     let start = Instant::now(rt)?;
-    let found = decoded(rt.alloc(), awaiting, count, &mut src);
+    let found = decoded(rt.alloc(), awaiting, count, src);
     let nanoseconds = start.elapsed(rt)?.as_nanos();
     if found == 0 {
         return Ok(());
@@ -98,9 +117,13 @@ fn time_replies(
     kind: &str,
     parts: &[&str],
 ) -> io::Result<()> {
-    match reply_of(rt.alloc(), kind, parts)? {
-        Some(reply) => time_reply(rt, count, name, &reply),
-        None => Ok(()),
+    match reply_of(rt.alloc(), kind, parts) {
+        Ok(reply) => {
+            let timed = time_reply(rt, count, name, &reply);
+            replies::let_go(reply);
+            timed
+        }
+        Err(fault) => passed_over(fault),
     }
 }
 
@@ -138,13 +161,24 @@ fn encoded(alloc: Global, count: u32, reply: &PgWireBackendMessage) -> Result<()
 fn time_stream(rt: &HostRuntime, piece: usize, megabytes: u32) -> io::Result<()>
     requires { 0 < piece }
 {
+    let stream = stream_of(rt.alloc(), megabytes)?;
+    time_pieces(rt, piece, megabytes, stream.as_slice())
+}
+
+fn stream_of(alloc: Global, megabytes: u32) -> Result<Vec<u8>, AllocError> {
     let group = b"B\0\0\0\x0e\0\0\0\0\0\0\0\x01\0\x01E\0\0\0\x09\0\0\0\0\0S\0\0\0\x04";
-    let mut stream = Vec::new(rt.alloc());
+    let mut stream = Vec::new(alloc);
     for _ in 0..megabytes.min(100) * 33_334 {
         stream.extend_from_slice(group)?;
     }
+    Ok(stream)
+}
+
+fn time_pieces(rt: &HostRuntime, piece: usize, megabytes: u32, stream: &[u8]) -> io::Result<()>
+    requires { 0 < piece }
+{
     let start = Instant::now(rt)?;
-    let found = fed(rt.alloc(), piece, stream.as_slice())?;
+    let found = fed(rt.alloc(), piece, stream)?;
     let nanoseconds = start.elapsed(rt)?.as_nanos() / u128::from(found.max(1));
     println!(rt; "{megabytes} MB at reads of {piece}: {found} frames, {nanoseconds} ns each")
 }
