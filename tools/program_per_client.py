@@ -10,23 +10,33 @@ on until it is interrupted. It prints the status of each program that ended with
 import socket
 import subprocess
 import sys
+import threading
+
+
+def serve(connection, words, failed):
+    """Runs the program for one client, and notes another status than 0."""
+    with connection:
+        connection.setsockopt(socket.IPPROTO_TCP, socket.TCP_NODELAY, 1)
+        status = subprocess.run(words, stdin=connection, stdout=connection, check=False).returncode
+    if status != 0:
+        print(f"{words[0]} ended with status {status}", flush=True)
+        failed.append(status)
 
 
 def main():
-    port, clients, program = int(sys.argv[1]), int(sys.argv[2]), sys.argv[3:]
-    running, failed = [], 0
+    port, clients, words = int(sys.argv[1]), int(sys.argv[2]), sys.argv[3:]
+    serving, failed = [], []
     with socket.create_server(("127.0.0.1", port)) as listener:
         print(f"listening on 127.0.0.1:{port}", flush=True)
-        while clients == 0 or len(running) < clients:
+        while clients == 0 or len(serving) < clients:
             connection, _ = listener.accept()
-            with connection:
-                connection.setsockopt(socket.IPPROTO_TCP, socket.TCP_NODELAY, 1)
-                running.append(subprocess.Popen(program, stdin=connection, stdout=connection))
-    for process in running:
-        if process.wait() != 0:
-            print(f"{program[0]} ended with status {process.returncode}", flush=True)
-            failed = 1
-    return failed
+            thread = threading.Thread(target=serve, args=(connection, words, failed), daemon=True)
+            thread.start()
+            if clients > 0:
+                serving.append(thread)
+    for thread in serving:
+        thread.join()
+    return 1 if failed else 0
 
 
 if __name__ == "__main__":

@@ -6,8 +6,9 @@ set -eu
 cd "$(dirname "$0")/.."
 export LC_ALL=C PGCONNECT_TIMEOUT=60
 folder=$(mktemp -d)
+building=
 bridge=
-trap '[ -z "$bridge" ] || kill "$bridge" 2> /dev/null || true; rm -rf "$folder"' EXIT
+trap 'kill $building $bridge 2> /dev/null || true; rm -rf "$folder"' EXIT
 
 # Waits until a command succeeds, as long as a process lives; then tells what that said.
 while_alive() {
@@ -37,6 +38,7 @@ build_unproved() {
   cp "${waiting##* }" "$folder/cursor"
   : > "$folder/relations"
   wait "$building" || true
+  building=
 }
 
 program=$PWD/crates/cursor/out/cursor
