@@ -1,5 +1,5 @@
 -- A FETCH of two of three rows.
-use Rattle.std.proofs.Common.{◌≡◌, ◌∙◌, pos, Bool, List, [], ◌∷◌, Option, Result, Ok, codes, refl, ap}
+use Rattle.std.proofs.Common.{arith, inl, ◌≡◌, ◌∙◌, pos, Bool, List, [], ◌∷◌, ◌++◌, Option, Result, Ok, codes, refl, ap}
 use Rattle.pg_messages.specs.declared.data.DataRow.{DataRow}
 use Rattle.pg_messages.specs.declared.extendedquery.Execute.{Execute}
 use Rattle.pg_messages.specs.declared.frontend.PgWireFrontendMessage.{PgWireFrontendMessage}
@@ -11,9 +11,9 @@ use Rattle.pg_portal.specs.declared.error.PgWireError.{PgWireError}
 use Rattle.pg_portal.specs.declared.results.describe.DescribePortalResponse.{DescribePortalResponse}
 use Rattle.pg_portal.specs.declared.store.Entry.{Entry}
 use Rattle.pg_portal.specs.declared.store.Entry.TheVariants as entry
-use Rattle.pg_portal.specs.Fetching.{with_items}
+use Rattle.pg_portal.specs.Fetching.{items_to_come, with_items}
 use Rattle.pg_portal.specs.Page.{delivered_after}
-use Rattle.pg_portal.specs.Told.{TablePortal, Stage, Started}
+use Rattle.pg_portal.specs.Told.{TablePortal, Stage, Started, value_under}
 use Rattle.pg_handlers.specs.Answer.{Answer, Goes, continued, conversation, left_by}
 use Rattle.pg_handlers.specs.Effect.{UntilSync, settle, silent}
 use Rattle.pg_handlers.specs.ExecuteRow.{at_stage, executed_entry, executed_portal}
@@ -27,6 +27,8 @@ use Rattle.cursor_commands.specs.declared.command.CursorCommand.TheVariants.{Fet
 use Rattle.cursor_commands.specs.Asking.{describing, executing, sync}
 use Rattle.cursor_commands.specs.Cursors.{fetched, messages_of, replies_of}
 use Rattle.cursor_table.specs.CursorTable.{cursor_table, is_ready}
+use Rattle.conversation_laws.specs.Pages.{SentRows, joined_items, rows_among, stage_in, stage_under}
+use Rattle.cursor_laws.specs.CursorPages.{TellsFetch, errors_among}
 use Rattle.cursor_laws.specs.Examples.{HasThreeRows, fetch_two, three_rows}
 use Rattle.cursor_laws.proofs.Gathered.{row_is}
 
@@ -92,3 +94,13 @@ module _ {S : Type 0} (h : Handlers S) (answers : List Bool) (s : State S) (one 
       ap (λ (a : Answer (State S)). a.replies)
       (row_is h answers s fetch_two (Fetch (pos 2) (codes "c")) k.is_ready refl)
       ∙ ap (λ (l : Replies). replies_of (Fetch (pos 2) (codes "c")) l) replied
+
+  pub page_told : TellsFetch (pos 2) (cursor_table is_ready (whole_table h) answers s (client.Query fetch_two)).replies
+      (SentRows (one ∷ two ∷ []) ∷ [])
+  page_told = inl (SentRows (one ∷ two ∷ []), refl, (ap rows_among two_fetched, ap errors_among two_fetched), λ some. omega arith)
+
+-- the rows that are to come are those that were sent and the one that is left
+pub third_left : {S : Type 0} (h : Handlers S) (s : State S) (one two three : DataRow) (k : HasThreeRows h s one two three)
+    → items_to_come (stage_under s (codes "c")) ≡ joined_items (SentRows (one ∷ two ∷ []) ∷ []) ++ Ok three ∷ []
+third_left {S} h s one two three k =
+    ap (λ (o : Option (Entry (TablePortal S))). items_to_come (stage_in (value_under o))) k.stored ∙ ap items_to_come k.stage
