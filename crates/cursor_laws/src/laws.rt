@@ -1,7 +1,7 @@
 //! Laws of a conversation with cursors. The functions take nothing and do nothing: their contracts
 //! are the laws.
 
-ghost use Rattle.std.specs.Prelude.{◌≡◌, ◌≢◌, ℕ, ℤ, pos, Bool, false, List, [], ◌∷◌, ◌++◌, Ok, Some, None, codes};
+ghost use Rattle.std.specs.Prelude.{◌≡◌, ◌≢◌, ℕ, ℤ, pos, Bool, false, List, [], ◌∷◌, Ok, Some, None, codes};
 ghost use Rattle.pg_messages.specs.declared.data.DataRow.{DataRow};
 ghost use Rattle.pg_messages.specs.declared.backend.PgWireBackendMessage.TheVariants as server;
 ghost use Rattle.pg_messages.specs.declared.extendedquery.Execute.{Execute};
@@ -16,7 +16,7 @@ ghost use Rattle.pg_handlers.specs.Handlers.{Handlers};
 ghost use Rattle.pg_handlers.specs.Replies.{ready};
 ghost use Rattle.pg_handlers.specs.State.{State};
 ghost use Rattle.pg_handlers.specs.Table.{whole_table};
-ghost use Rattle.conversation_laws.specs.Pages.{HasStarted, SentRows, Starts, joined_items, stage_under};
+ghost use Rattle.conversation_laws.specs.Pages.{HasStarted, Leaves, SentRows, Starts, stage_under};
 ghost use Rattle.cursor_commands.specs.declared.command.CursorCommand.{CursorCommand};
 ghost use Rattle.cursor_commands.specs.declared.command.CursorCommand.TheVariants.{Fetch};
 ghost use Rattle.cursor_commands.specs.Commands.{command_of};
@@ -74,8 +74,8 @@ pub fn rows_of_cursors<S>()
         (client.Query query ∷ messages) r.items }
 {}
 
-/// An example: of a portal with three rows to come, and no column, `fetch 2 from c;` sends two.
-/// They are its page, and the third row is left.
+/// An example: of a portal with three rows to come, and no column, `fetch 2 from c;` sends two,
+/// which are its page; so by the law above the third row is left.
 pub fn two_of_three_rows<S>()
     ensures sent { (h : Handlers S) (answers : List Bool) (s : State S)
         (one two three : DataRow) → HasThreeRows h s one two three
@@ -86,8 +86,8 @@ pub fn two_of_three_rows<S>()
         → TellsFetch (pos 2)
         (cursor_table is_ready (whole_table h) answers s (client.Query fetch_two)).replies
         (SentRows (one ∷ two ∷ []) ∷ []) }
-    ensures left { (h : Handlers S) (s : State S) (one two three : DataRow)
-        → HasThreeRows h s one two three
-        → items_to_come (stage_under s (codes "c"))
-        ≡ joined_items (SentRows (one ∷ two ∷ []) ∷ []) ++ Ok three ∷ [] }
+    ensures left { (h : Handlers S) (answers : List Bool) (s : State S)
+        (one two three : DataRow) → HasThreeRows h s one two three
+        → Leaves (codes "c") (Ok three ∷ [])
+        (cursor_table is_ready (whole_table h) answers s (client.Query fetch_two)).next }
 {}
