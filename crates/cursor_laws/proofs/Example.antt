@@ -1,25 +1,28 @@
 -- A FETCH of two of three rows.
-use Rattle.std.proofs.Common.{◌≡◌, ◌∙◌, pos, Bool, List, [], ◌∷◌, Option, Result, Ok, codes, refl, ap}
+use Rattle.std.proofs.Common.{arith, inl, inr, ◌≡◌, ◌≢◌, ◌∙◌, pos, Bool, List, [], ◌∷◌, ◌++◌, Option, Result, Ok, codes, refl, ap, sym, subst}
 use Rattle.pg_messages.specs.declared.data.DataRow.{DataRow}
 use Rattle.pg_messages.specs.declared.extendedquery.Execute.{Execute}
 use Rattle.pg_messages.specs.declared.frontend.PgWireFrontendMessage.{PgWireFrontendMessage}
 use Rattle.pg_messages.specs.declared.frontend.PgWireFrontendMessage.TheVariants as client
 use Rattle.pg_messages.specs.declared.backend.PgWireBackendMessage.TheVariants as server
+use Rattle.pg_messages.specs.declared.response.ErrorInfo.{ErrorInfo}
 use Rattle.pg_messages.specs.Frames.{portal_target}
 use Rattle.pg_portal.specs.declared.client.PgWireConnectionState.{PgWireConnectionState}
 use Rattle.pg_portal.specs.declared.error.PgWireError.{PgWireError}
 use Rattle.pg_portal.specs.declared.results.describe.DescribePortalResponse.{DescribePortalResponse}
 use Rattle.pg_portal.specs.declared.store.Entry.{Entry}
 use Rattle.pg_portal.specs.declared.store.Entry.TheVariants as entry
-use Rattle.pg_portal.specs.Fetching.{with_items}
+use Rattle.pg_portal.specs.Errors.{info_of}
+use Rattle.pg_portal.specs.Fetching.{items_to_come, with_items}
 use Rattle.pg_portal.specs.Page.{delivered_after}
-use Rattle.pg_portal.specs.Told.{TablePortal, Stage, Started}
+use Rattle.pg_portal.specs.Rows.{RowItem}
+use Rattle.pg_portal.specs.Told.{TablePortal, Stage, Started, value_under}
 use Rattle.pg_handlers.specs.Answer.{Answer, Goes, continued, conversation, left_by}
 use Rattle.pg_handlers.specs.Effect.{UntilSync, settle, silent}
 use Rattle.pg_handlers.specs.ExecuteRow.{at_stage, executed_entry, executed_portal}
 use Rattle.pg_handlers.specs.ExtendedRows.{described, described_portal, portal_description}
 use Rattle.pg_handlers.specs.Handlers.{Handlers}
-use Rattle.pg_handlers.specs.Replies.{Replies, ready}
+use Rattle.pg_handlers.specs.Replies.{Replies, error_reply, ready}
 use Rattle.pg_handlers.specs.State.{State, with_portal}
 use Rattle.pg_handlers.specs.Table.{row, scope_in, whole_table}
 use Rattle.conversation_laws.specs.Discarding.{synced}
@@ -27,8 +30,10 @@ use Rattle.cursor_commands.specs.declared.command.CursorCommand.TheVariants.{Fet
 use Rattle.cursor_commands.specs.Asking.{describing, executing, sync}
 use Rattle.cursor_commands.specs.Cursors.{fetched, messages_of, replies_of}
 use Rattle.cursor_table.specs.CursorTable.{cursor_table, is_ready}
+use Rattle.conversation_laws.specs.Pages.{Taken, SentRows, DroppedRows, HasStarted, Leaves, joined_items, rows_among, stage_in, stage_under}
+use Rattle.cursor_laws.specs.CursorPages.{IsFetched, TellsFetch, errors_among}
 use Rattle.cursor_laws.specs.Examples.{HasThreeRows, fetch_two, three_rows}
-use Rattle.cursor_laws.proofs.Gathered.{row_is}
+use Rattle.cursor_laws.proofs.Gathered.{fetches_page, row_is}
 
 module _ {S : Type 0} (h : Handlers S) (answers : List Bool) (s : State S) (one two three : DataRow)
     (k : HasThreeRows h s one two three) where
@@ -92,3 +97,44 @@ module _ {S : Type 0} (h : Handlers S) (answers : List Bool) (s : State S) (one 
       ap (λ (a : Answer (State S)). a.replies)
       (row_is h answers s fetch_two (Fetch (pos 2) (codes "c")) k.is_ready refl)
       ∙ ap (λ (l : Replies). replies_of (Fetch (pos 2) (codes "c")) l) replied
+
+  pub page_told : TellsFetch (pos 2) (cursor_table is_ready (whole_table h) answers s (client.Query fetch_two)).replies
+      (SentRows (one ∷ two ∷ []) ∷ [])
+  page_told = inl (SentRows (one ∷ two ∷ []), refl, (ap rows_among two_fetched, ap errors_among two_fetched), λ some. omega arith)
+
+  -- the portal has started, and these rows are to come
+  stage_is : stage_under s (codes "c") ≡ Started (three_rows one two three) 0
+  stage_is = ap (λ (o : Option (Entry (TablePortal S))). stage_in (value_under o)) k.stored ∙ k.stage
+
+  abbrev given : Answer (State S)
+  given = cursor_table is_ready (whole_table h) answers s (client.Query fetch_two)
+
+  left_of : (rows : List DataRow) (left : List RowItem) → rows ≡ one ∷ two ∷ []
+      → Ok one ∷ Ok two ∷ Ok three ∷ [] ≡ joined_items (SentRows rows ∷ []) ++ left → left ≡ Ok three ∷ []
+  left_of rows left is joins =
+      let e : Ok one ∷ Ok two ∷ Ok three ∷ [] ≡ Ok one ∷ Ok two ∷ left =
+      joins ∙ ap (λ (l : List DataRow). joined_items (SentRows l ∷ []) ++ left) is in
+      let f : left ≡ Ok three ∷ [] = cc e in f
+
+  no_error : (info : ErrorInfo) → errors_among given.replies ≡ error_reply info ∷ [] → ⊥
+  no_error info e = let f : [] ≡ error_reply info ∷ [] = sym (ap errors_among two_fetched) ∙ e in absurd (let k = f in cc)
+
+  left_by_page : (left : List RowItem) (page : Taken) → IsFetched page given.replies
+      → Ok one ∷ Ok two ∷ Ok three ∷ [] ≡ joined_items (page ∷ []) ++ left → left ≡ Ok three ∷ []
+  left_by_page left (SentRows rows) told joins = left_of rows left (sym told.0 ∙ ap rows_among two_fetched) joins
+  left_by_page left (DroppedRows rows e) told joins = absurd (no_error (info_of e) told.1)
+
+  left_told : (pages : List Taken) (left : List RowItem) → TellsFetch (pos 2) given.replies pages
+      → Ok one ∷ Ok two ∷ Ok three ∷ [] ≡ joined_items pages ++ left → left ≡ Ok three ∷ []
+  left_told pages left (inl t) joins = left_by_page left t.0 t.2 (joins ∙ ap (λ l. joined_items l ++ left) t.1)
+  left_told pages left (inr t) joins = absurd (no_error t.1.1.0 t.1.1.1)
+
+  named : codes "c" ≢ []
+  named e = absurd (let k = e in cc)
+
+  -- By the law of a FETCH the third row is left.
+  pub third_left : Leaves (codes "c") (Ok three ∷ []) given.next
+  third_left =
+      let f = fetches_page h answers s fetch_two (codes "c") (pos 2) k.is_ready refl named (subst HasStarted (sym stage_is) tt) in
+      subst (λ l. Leaves (codes "c") l given.next)
+      (left_told f.pages f.left f.told (sym (ap items_to_come stage_is) ∙ f.joined)) f.leaves

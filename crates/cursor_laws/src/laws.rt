@@ -1,7 +1,7 @@
 //! Laws of a conversation with cursors. The functions take nothing and do nothing: their contracts
 //! are the laws.
 
-ghost use Rattle.std.specs.Prelude.{◌≡◌, ◌≢◌, ℕ, ℤ, Bool, false, List, [], ◌∷◌, Some, None, codes};
+ghost use Rattle.std.specs.Prelude.{◌≡◌, ◌≢◌, ℕ, ℤ, pos, Bool, false, List, [], ◌∷◌, Ok, Some, None, codes};
 ghost use Rattle.pg_messages.specs.declared.data.DataRow.{DataRow};
 ghost use Rattle.pg_messages.specs.declared.backend.PgWireBackendMessage.TheVariants as server;
 ghost use Rattle.pg_messages.specs.declared.extendedquery.Execute.{Execute};
@@ -16,7 +16,7 @@ ghost use Rattle.pg_handlers.specs.Handlers.{Handlers};
 ghost use Rattle.pg_handlers.specs.Replies.{ready};
 ghost use Rattle.pg_handlers.specs.State.{State};
 ghost use Rattle.pg_handlers.specs.Table.{whole_table};
-ghost use Rattle.conversation_laws.specs.Pages.{HasStarted, Starts, stage_under};
+ghost use Rattle.conversation_laws.specs.Pages.{HasStarted, Leaves, SentRows, Starts, stage_under};
 ghost use Rattle.cursor_commands.specs.declared.command.CursorCommand.{CursorCommand};
 ghost use Rattle.cursor_commands.specs.declared.command.CursorCommand.TheVariants.{Fetch};
 ghost use Rattle.cursor_commands.specs.Commands.{command_of};
@@ -27,6 +27,7 @@ ghost use Rattle.cursor_laws.specs.CursorPages.{
   FetchesPage,
   KeepsCursor,
   RowsJoin,
+  TellsFetch,
   command_taken,
   is_fetch_of,
 };
@@ -73,11 +74,20 @@ pub fn rows_of_cursors<S>()
         (client.Query query ∷ messages) r.items }
 {}
 
-/// An example: of a portal with three rows to come, and no column, `fetch 2 from c;` sends two.
+/// An example: of a portal with three rows to come, and no column, `fetch 2 from c;` sends two,
+/// which are its page; so by the law above the third row is left.
 pub fn two_of_three_rows<S>()
-    ensures { (h : Handlers S) (answers : List Bool) (s : State S) (one two three : DataRow)
-        → HasThreeRows h s one two three
+    ensures sent { (h : Handlers S) (answers : List Bool) (s : State S)
+        (one two three : DataRow) → HasThreeRows h s one two three
         → (cursor_table is_ready (whole_table h) answers s (client.Query fetch_two)).replies
-        ≡ server.DataRow one ∷ server.DataRow two ∷ fetched 2
-        ∷ ready s.info.status ∷ [] }
+        ≡ server.DataRow one ∷ server.DataRow two ∷ fetched 2 ∷ ready s.info.status ∷ [] }
+    ensures page { (h : Handlers S) (answers : List Bool) (s : State S)
+        (one two three : DataRow) → HasThreeRows h s one two three
+        → TellsFetch (pos 2)
+        (cursor_table is_ready (whole_table h) answers s (client.Query fetch_two)).replies
+        (SentRows (one ∷ two ∷ []) ∷ []) }
+    ensures left { (h : Handlers S) (answers : List Bool) (s : State S)
+        (one two three : DataRow) → HasThreeRows h s one two three
+        → Leaves (codes "c") (Ok three ∷ [])
+        (cursor_table is_ready (whole_table h) answers s (client.Query fetch_two)).next }
 {}
