@@ -19,10 +19,10 @@ use Rattle.pg_handlers.specs.declared.ends.Turns.{Turns}
 use Rattle.pg_handlers.specs.Desk.{DeskTold, KeepsDesk, after_calls}
 use Rattle.pg_handlers.specs.Effect.{Done, IsCutRow, IsEffect, IsRefusedEffect, IsRefusedRow, IsRow}
 use Rattle.pg_handlers.specs.ExecuteRow.{execute_polled, executed_nothing, on_execute}
-use Rattle.pg_handlers.specs.Executing.{HasComeTo, IsExecuteEnd, IsLeftBehind, IsPageOf, is_unstarted, page_result, portal_under}
+use Rattle.pg_handlers.specs.Executing.{HasComeTo, IsLeftBehind, IsPageOf, is_unstarted, page_result, portal_under}
 use Rattle.pg_handlers.specs.Good.{HasGoodTag, IsGoodState}
 use Rattle.pg_handlers.specs.Handlers.{ExtendedTold, ToldQuery}
-use Rattle.pg_handlers.specs.Outcomes.{session_outcome}
+use Rattle.pg_handlers.specs.Outcomes.{IsRunEnd, session_outcome}
 use Rattle.pg_handlers.specs.Questions.{HasSpent, IsAsked, IsCausedSo, Verdict, questions_since}
 use Rattle.pg_handlers.specs.Sending.{AtTurnLimit, IsAnswerableError}
 use Rattle.pg_handlers.specs.State.{State}
@@ -206,7 +206,7 @@ module _ {S : Type 0} (h : ExtendedTold S) (m : Execute) (s : State S) (p : Tabl
       (new_desk : DeskTold) (new_turns : Turns) (result : Result A SessionError)
       → ((q : TablePortal S) → portal_under (maps_of s) m.name ≡ Some q → (verdict : Verdict)
       × IsAsked query.owes begun.calls new_desk.calls verdict
-      × IsExecuteEnd (execute_polled s m q verdict query.outcome) verdict out new_out s' result)
+      × IsRunEnd (execute_polled s m q verdict query.outcome) verdict out new_out s' result)
       → IfErr result IsAnswerableError → IfErr result (IsCausedSo begun.calls new_desk.calls)
       → IfErr result (λ e. AtTurnLimit e ((s' ≡ s) × (new_out ≡ out))) → OnErr result (s'.info ≡ s.info)
       → OnErr result (IsLeftBehind (maps_of s) m.name (maps_of s')) → take (length out) new_out ≡ out
@@ -216,7 +216,7 @@ module _ {S : Type 0} (h : ExtendedTold S) (m : Execute) (s : State S) (p : Tabl
       → IsExecuted h m s s' out new_out desk new_desk turns new_turns result
   query_executed query query_is s' new_out new_desk new_turns result ran answerable cause limit info left kept good' spent bounded keeps =
       let r = subst (λ (query : ToldQuery ToldResponse). (verdict : Verdict) × IsAsked query.owes begun.calls new_desk.calls verdict
-      × IsExecuteEnd (execute_polled s m p verdict query.outcome) verdict out new_out s' result) query_is (ran p found) in
+      × IsRunEnd (execute_polled s m p verdict query.outcome) verdict out new_out s' result) query_is (ran p found) in
       record {
         ok = ended_ok h s m p found fresh desk.calls begun.calls starts_calls new_desk.calls r.0 r.1 out new_out s' result r.2;
         refused = ended_refused h s m p found fresh desk.calls begun.calls starts_calls new_desk.calls r.0 r.1 out new_out s' result r.2;
@@ -249,7 +249,7 @@ pub query_lent : {S A : Type 0} (h : ExtendedTold S) (m : Execute) (s : State S)
     (new_desk : DeskTold) (new_turns : Turns) (result : Result A SessionError)
     → ((q : TablePortal S) → portal_under (maps_of t) m.name ≡ Some q → (verdict : Verdict)
     × IsAsked query.owes begun.calls new_desk.calls verdict
-    × IsExecuteEnd (execute_polled t m q verdict query.outcome) verdict out new_out s' result)
+    × IsRunEnd (execute_polled t m q verdict query.outcome) verdict out new_out s' result)
     → IfErr result IsAnswerableError → IfErr result (IsCausedSo begun.calls new_desk.calls)
     → IfErr result (λ e. AtTurnLimit e ((s' ≡ t) × (new_out ≡ out))) → OnErr result (s'.info ≡ t.info)
     → OnErr result (IsLeftBehind (maps_of t) m.name (maps_of s')) → take (length out) new_out ≡ out
