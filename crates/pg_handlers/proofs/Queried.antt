@@ -122,11 +122,12 @@ module _ {S : Type 0} (h : SimpleTold) (m : Query) (s : State S) (busy : is_blan
           → OnOk result (IsRow (λ answers. on_query h answers s m) out new_out desk.calls new_desk.calls (Done s'))
       ran_ok (Ok x) verdict asked ended = row_as (λ answers. on_query h answers s m)
           (run_row (h s.info m.query).owes (λ verdict. query_polled s verdict (h s.info m.query).outcome)) (runs_query h s m busy)
-          (run_was (h s.info m.query).owes (λ verdict. query_polled s verdict (h s.info m.query).outcome) desk.calls begun.calls starts_calls
-          new_desk.calls verdict asked ended)
+          (run_was (h s.info m.query).owes (λ verdict. query_polled s verdict (h s.info m.query).outcome) desk.calls begun.calls
+          starts_calls new_desk.calls verdict asked ended)
       ran_ok (Err e) verdict asked ended = tt
 
-      ran_refused : (result : Result A SessionError) (verdict : Verdict) → IsAsked (h s.info m.query).owes begun.calls new_desk.calls verdict
+      ran_refused : (result : Result A SessionError) (verdict : Verdict)
+          → IsAsked (h s.info m.query).owes begun.calls new_desk.calls verdict
           → IsRunEnd (query_polled s verdict (h s.info m.query).outcome) verdict out new_out s' result
           → IfErr result (IsRefusedRow (λ answers. on_query h answers s m) out new_out desk.calls new_desk.calls s')
       ran_refused (Ok x) verdict asked ended = tt
@@ -155,7 +156,8 @@ module _ {S : Type 0} (h : SimpleTold) (m : Query) (s : State S) (busy : is_blan
           → (turns.spent ≤ turns.limit → new_turns.spent ≤ new_turns.limit) → KeepsDesk begun new_desk
           → IsQueried h m s s' out new_out desk new_desk turns new_turns result
       query_ran query query_is ran answerable cause limit info kept spent bounded keeps =
-          let r = subst (λ (query : ToldQuery (List ToldResponse)). (verdict : Verdict) × IsAsked query.owes begun.calls new_desk.calls verdict
+          let r = subst (λ (query : ToldQuery (List ToldResponse)). (verdict : Verdict)
+          × IsAsked query.owes begun.calls new_desk.calls verdict
           × IsRunEnd (query_polled s verdict query.outcome) verdict out new_out s' result) query_is ran in
           record {
             ok = ran_ok result r.0 r.1 r.2;

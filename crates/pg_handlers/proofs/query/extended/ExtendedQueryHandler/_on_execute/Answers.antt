@@ -17,7 +17,8 @@ returns-in_default g c =
     let none : value_under (fin.get s.portals m.name) ≡ None = search rules in
     let e = c.execute_no_portal.ensures in
     let x = returned c.session_outcome.ensures (nothing_lent h m s (state_of maps c.execute_no_portal.new.client) c.args.client.now.outbox
-    c.execute_no_portal.new.client.outbox (told c.args.desk.now) c.args.turns.now _ (ap (state_in s.info) c.portal_mut.follows.holds-at-none)
+    c.execute_no_portal.new.client.outbox (told c.args.desk.now) c.args.turns.now _
+    (ap (state_in s.info) c.portal_mut.follows.holds-at-none)
     c.execute_no_portal.result c.requires.good none e.same e.ok e.refused e.answerable e.waiting) in
     assumption x
 
@@ -38,7 +39,8 @@ returns-then-not-is_unstarted g c =
     let p = portal_of R c.in-Some.portal.now in let w = portal_of R c.send_page.new.portal in
     let l = lent s.info (maps c.args.client.now.store) (maps (c.portal_mut.follows.lender c.send_page.new.portal)) m.name
     c.as_str.result.now p w c.as_str.ensures c.in-Some.ensures.value
-    (at_some c.portal_mut.result c.in-Some.portal c.in-Some.is (c.portal_mut.follows.holds c.send_page.new.portal)) c.send_page.ensures.bound in
+    (at_some c.portal_mut.result c.in-Some.portal c.in-Some.is (c.portal_mut.follows.holds c.send_page.new.portal))
+    c.send_page.ensures.bound in
     let limit_is = to_z-of_z w32 m.max_rows c.requires.given.1.carries.2.max_rows in
     let e = c.send_page.ensures in
     let x = returned c.session_outcome-then-not-is_unstarted.ensures (page_executed h m s _ c.args.client.now.outbox c.send_page.new.outbox
