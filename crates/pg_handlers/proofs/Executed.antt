@@ -3,7 +3,6 @@ use Rattle.std.proofs.Common.{◌≡◌, false, ℕ, ℤ, ◌+◌, ◌≤◌, �
 use Rattle.std.specs.Prelude.{IfErr, OnOk, OnErr}
 use Rattle.std.specs.FinMap as fin
 use Rattle.pg_messages.specs.declared.extendedquery.Execute.{Execute}
-use Rattle.pg_messages.specs.Replies.{replies_bytes}
 use Rattle.pg_portal.specs.declared.error.PgWireError.{PgWireError}
 use Rattle.pg_portal.specs.declared.error.PgWireError.TheVariants as wire
 use Rattle.pg_portal.specs.declared.store.Entry.{Entry}
@@ -19,10 +18,10 @@ use Rattle.pg_handlers.specs.declared.ends.Turns.{Turns}
 use Rattle.pg_handlers.specs.Desk.{DeskTold, KeepsDesk, after_calls}
 use Rattle.pg_handlers.specs.Effect.{Done, IsCutRow, IsEffect, IsRefusedEffect, IsRefusedRow, IsRow}
 use Rattle.pg_handlers.specs.ExecuteRow.{execute_polled, executed_nothing, on_execute}
-use Rattle.pg_handlers.specs.Executing.{HasComeTo, IsExecuteEnd, IsLeftBehind, IsPageOf, is_unstarted, page_result, portal_under}
+use Rattle.pg_handlers.specs.Executing.{HasComeTo, IsLeftBehind, IsPageOf, is_unstarted, page_result, portal_under}
 use Rattle.pg_handlers.specs.Good.{HasGoodTag, IsGoodState}
 use Rattle.pg_handlers.specs.Handlers.{ExtendedTold, ToldQuery}
-use Rattle.pg_handlers.specs.Outcomes.{session_outcome}
+use Rattle.pg_handlers.specs.Outcomes.{IsRunEnd, session_outcome}
 use Rattle.pg_handlers.specs.Questions.{HasSpent, IsAsked, IsCausedSo, Verdict, questions_since}
 use Rattle.pg_handlers.specs.Sending.{AtTurnLimit, IsAnswerableError}
 use Rattle.pg_handlers.specs.State.{State}
@@ -186,8 +185,10 @@ module _ {S : Type 0} (h : ExtendedTold S) (m : Execute) (s : State S) (p : Tabl
   starts_calls = ap (λ d. d.calls) starts
 
   -- its query wasn't begun
-  pub none_begun : {A : Type 0} (s' : State S) → s' ≡ s → IsExecuted {A = A} h m s s' out out desk begun turns turns (Err (session.Wire wire.NoMemory))
-  none_begun {A} s' same = none_executed {A = A} h m s s' out desk begun turns good same (cut_begun h s m p found fresh desk.calls begun.calls
+  pub none_begun : {A : Type 0} (s' : State S) → s' ≡ s
+      → IsExecuted {A = A} h m s s' out out desk begun turns turns (Err (session.Wire wire.NoMemory))
+  none_begun {A} s' same = none_executed {A = A} h m s s' out desk begun turns good same
+      (cut_begun h s m p found fresh desk.calls begun.calls
       starts_calls) (no_turn_started turns desk.calls begun.calls starts_calls) (keeps_after desk begun (call.Start ∷ []) starts)
 
   spent_since : {A : Type 0} (calls new_calls : List DeskCall) (new_turns : Turns)
@@ -202,11 +203,12 @@ module _ {S : Type 0} (h : ExtendedTold S) (m : Execute) (s : State S) (p : Tabl
   caused new_calls (Err e) c = caused_since desk.calls begun.calls new_calls starts_calls e c
 
   -- its query was begun, and ran
-  pub query_executed : {A : Type 0} (query : ToldQuery ToldResponse) → query ≡ h.query s.info p.bound m.max_rows → (s' : State S) (new_out : List ℕ)
+  pub query_executed : {A : Type 0} (query : ToldQuery ToldResponse) → query ≡ h.query s.info p.bound m.max_rows
+      → (s' : State S) (new_out : List ℕ)
       (new_desk : DeskTold) (new_turns : Turns) (result : Result A SessionError)
       → ((q : TablePortal S) → portal_under (maps_of s) m.name ≡ Some q → (verdict : Verdict)
       × IsAsked query.owes begun.calls new_desk.calls verdict
-      × IsExecuteEnd (execute_polled s m q verdict query.outcome) verdict out new_out s' result)
+      × IsRunEnd (execute_polled s m q verdict query.outcome) verdict out new_out s' result)
       → IfErr result IsAnswerableError → IfErr result (IsCausedSo begun.calls new_desk.calls)
       → IfErr result (λ e. AtTurnLimit e ((s' ≡ s) × (new_out ≡ out))) → OnErr result (s'.info ≡ s.info)
       → OnErr result (IsLeftBehind (maps_of s) m.name (maps_of s')) → take (length out) new_out ≡ out
@@ -216,7 +218,7 @@ module _ {S : Type 0} (h : ExtendedTold S) (m : Execute) (s : State S) (p : Tabl
       → IsExecuted h m s s' out new_out desk new_desk turns new_turns result
   query_executed query query_is s' new_out new_desk new_turns result ran answerable cause limit info left kept good' spent bounded keeps =
       let r = subst (λ (query : ToldQuery ToldResponse). (verdict : Verdict) × IsAsked query.owes begun.calls new_desk.calls verdict
-      × IsExecuteEnd (execute_polled s m p verdict query.outcome) verdict out new_out s' result) query_is (ran p found) in
+      × IsRunEnd (execute_polled s m p verdict query.outcome) verdict out new_out s' result) query_is (ran p found) in
       record {
         ok = ended_ok h s m p found fresh desk.calls begun.calls starts_calls new_desk.calls r.0 r.1 out new_out s' result r.2;
         refused = ended_refused h s m p found fresh desk.calls begun.calls starts_calls new_desk.calls r.0 r.1 out new_out s' result r.2;
@@ -249,7 +251,7 @@ pub query_lent : {S A : Type 0} (h : ExtendedTold S) (m : Execute) (s : State S)
     (new_desk : DeskTold) (new_turns : Turns) (result : Result A SessionError)
     → ((q : TablePortal S) → portal_under (maps_of t) m.name ≡ Some q → (verdict : Verdict)
     × IsAsked query.owes begun.calls new_desk.calls verdict
-    × IsExecuteEnd (execute_polled t m q verdict query.outcome) verdict out new_out s' result)
+    × IsRunEnd (execute_polled t m q verdict query.outcome) verdict out new_out s' result)
     → IfErr result IsAnswerableError → IfErr result (IsCausedSo begun.calls new_desk.calls)
     → IfErr result (λ e. AtTurnLimit e ((s' ≡ t) × (new_out ≡ out))) → OnErr result (s'.info ≡ t.info)
     → OnErr result (IsLeftBehind (maps_of t) m.name (maps_of s')) → take (length out) new_out ≡ out
@@ -257,8 +259,8 @@ pub query_lent : {S A : Type 0} (h : ExtendedTold S) (m : Execute) (s : State S)
     → HasSpent turns new_turns (questions_since begun.calls new_desk.calls) result
     → (turns.spent ≤ turns.limit → new_turns.spent ≤ new_turns.limit) → KeepsDesk begun new_desk
     → IsExecuted h m s s' out new_out desk new_desk turns new_turns result
-query_lent {S} h m s p found fresh good desk begun starts turns out t same query query_is s' new_out new_desk new_turns result ran answerable
-    cause limit info left kept good' spent bounded keeps =
+query_lent {S} h m s p found fresh good desk begun starts turns out t same query query_is s' new_out new_desk new_turns result ran
+    answerable cause limit info left kept good' spent bounded keeps =
     executed_as h m s t s' out new_out desk new_desk turns new_turns result same
     (query_executed h m t p (subst (λ (t : State S). value_under (fin.get t.portals m.name) ≡ Some p) (sym same) found) fresh
     (subst (IsGoodState h.parser) (sym same) good) desk begun starts turns out query query_is s' new_out new_desk new_turns result ran

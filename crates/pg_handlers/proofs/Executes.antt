@@ -1,11 +1,10 @@
 -- Rows that run a query: one start, its questions, and what it answers.
-use Rattle.std.proofs.Common.{arith, ◌≡◌, ℕ, ◌+◌, inl, inr, Bool, false, List, [], ◌∷◌, ◌++◌, Result, Ok, Err, length, drop, refl, ap, sym, subst, ◌∙◌, append_assoc}
+use Rattle.std.proofs.Common.{arith, ◌≡◌, ℕ, ◌+◌, inl, inr, Bool, false, List, [], ◌∷◌, ◌++◌, length, drop, refl, ap, sym, subst, ◌∙◌, append_assoc}
 use Rattle.std.proofs.lemmas.List.{append-nil}
 use Rattle.std.proofs.Math.Seq.{drop-append_seam}
 use Rattle.pg_messages.specs.declared.simplequery.Query.{Query}
 use Rattle.pg_portal.specs.declared.error.PgWireError.{PgWireError}
 use Rattle.pg_portal.specs.declared.error.PgWireError.TheVariants as wire
-use Rattle.pg_portal.specs.Responses.{ToldResponse}
 use Rattle.pg_portal.specs.Texts.{is_blank}
 use Rattle.pg_handlers.specs.declared.desk.DeskCall.{DeskCall}
 use Rattle.pg_handlers.specs.declared.desk.DeskCall.TheVariants as desk
@@ -13,10 +12,10 @@ use Rattle.pg_handlers.specs.declared.ends.SessionError.{SessionError}
 use Rattle.pg_handlers.specs.declared.ends.SessionError.TheVariants as session
 use Rattle.pg_handlers.specs.declared.ends.Turns.{Turns}
 use Rattle.pg_handlers.specs.Answer.{answers_of}
-use Rattle.pg_handlers.specs.Effect.{Effect, Called, Row, Outcome, Stopped, IsEffect, IsRow, IsStoppedRow, IsCutRow, IsRefusedRow, IsRefusedEffect, silent, stopped, refuses}
-use Rattle.pg_handlers.specs.Questions.{Verdict, Passed, Canceled, Unanswered, Questioned, started, questioned, questions, questions_since, IsAsked, IsVerdict, HasSpent}
+use Rattle.pg_handlers.specs.Effect.{Effect, Called, Row, Outcome, Stopped, IsEffect, IsRow, IsStoppedRow, IsCutRow, IsRefusedRow, IsRefusedEffect, silent}
+use Rattle.pg_handlers.specs.Questions.{Verdict, Unanswered, Questioned, started, questioned, questions, questions_since, IsAsked}
 use Rattle.pg_handlers.specs.Handlers.{SimpleTold}
-use Rattle.pg_handlers.specs.SimpleRows.{on_query, query_polled, answered_all}
+use Rattle.pg_handlers.specs.SimpleRows.{on_query, query_polled}
 use Rattle.pg_handlers.specs.State.{State}
 use Rattle.pg_handlers.proofs.Asking.{asks_next}
 
@@ -139,17 +138,6 @@ module _ {S : Type 0} (owes : ℕ) (effect : Verdict
     run_refused s e (inl none) = inl (none, run_cut)
     run_refused s e (inr x) = inr (run_was x)
 
-  -- the query was canceled, or a turn was wanting, or memory
-  pub wait_refused : {A : Type 0} (out : List ℕ) (outcome : A) (new_calls : List DeskCall) (verdict : Verdict) (s : State S)
-      → effect Unanswered ≡ stopped → effect Canceled ≡ refuses s wire.QueryCanceled
-      → IsAsked owes started_calls new_calls verdict → (e : SessionError) → IsVerdict outcome verdict (Err e)
-      → IsRefusedRow (run_row owes effect) out out calls new_calls s e
-  wait_refused out outcome new_calls verdict s stops cancels asked session.TurnLimit v =
-      run_stopped new_calls verdict asked v (rw (v, stops) (record { replied = sym (append-nil out); came = refl }))
-  wait_refused out outcome new_calls verdict s stops cancels asked (session.Wire e) (inl v) =
-      inr (run_was new_calls verdict asked (rw (v.1, cancels, v.0) (record { replied = sym (append-nil out); came = refl })))
-  wait_refused out outcome new_calls verdict s stops cancels asked (session.Wire e) (inr none) = inl (none, run_cut new_calls verdict asked)
-
 -- the questions since the start are those since before it
 pub asked_since : (owes : ℕ) (calls started_calls : List DeskCall) → started_calls ≡ calls ++ desk.Start ∷ []
     → (new_calls : List DeskCall) (verdict : Verdict)
@@ -169,15 +157,6 @@ no_turn_started turns calls begun starts =
     let same : turns.spent ≡ turns.spent + questions_since calls begun = omega (arith, none) in
     ap (λ (n : ℕ). let t : Turns = record { spent = n; limit = turns.limit } in t) same
 
-pub spent_ok : (old new : Turns) (m n : ℕ) → m ≡ n → new ≡ record { spent = old.spent + m; limit = old.limit }
-    → new ≡ record { spent = old.spent + n; limit = old.limit }
-spent_ok old new m n same h = h ∙ ap (λ (k : ℕ). let t : Turns = record { spent = old.spent + k; limit = old.limit } in t) same
-
--- turns were spent on so many questions
-pub spent_as : (old new : Turns) (m n : ℕ) (e : SessionError) → m ≡ n → HasSpent {A = Bool} old new m (Err e)
-    → HasSpent {A = Bool} old new n (Err e)
-spent_as old new m n e same h = subst (λ (k : ℕ). HasSpent {A = Bool} old new k (Err e)) same h
-
 -- ---- Query
 
 -- a query that isn't blank is run
@@ -185,13 +164,3 @@ pub runs_query : {S : Type 0} (h : SimpleTold) (s : State S) (m : Query) → is_
     → (answers : List Bool) → on_query h answers s m
     ≡ run_row (h s.info m.query).owes (λ verdict. query_polled s verdict (h s.info m.query).outcome) answers
 runs_query h s m e answers = rw e refl
-
-pub query_failed : {S : Type 0} (s : State S) (out : List ℕ) (verdict : Verdict) (outcome : Result (List ToldResponse) PgWireError)
-    (e : PgWireError) → verdict ≡ Passed → outcome ≡ Err e
-    → IsRefusedEffect (query_polled s verdict outcome) out out s e
-query_failed s out verdict outcome e p q = inr (rw (p, q) (record { replied = sym (append-nil out); came = refl }))
-
-pub query_passed : {S : Type 0} (s : State S) (verdict : Verdict) (outcome : Result (List ToldResponse) PgWireError)
-    (responses : List ToldResponse) → verdict ≡ Passed → outcome ≡ Ok responses
-    → query_polled s verdict outcome ≡ answered_all s responses
-query_passed s verdict outcome responses p q = rw (p, q) refl

@@ -1,5 +1,5 @@
 -- What an Execute makes of the table, where the store lends the portal of its name.
-use Rattle.std.proofs.Common.{◌≡◌, ℕ, ℤ, inl, inr, Bool, true, false, List, [], ◌∷◌, ◌++◌, Option, Some, None, Result, Ok, Err, length, refl, ap, sym, subst, ◌∙◌}
+use Rattle.std.proofs.Common.{◌≡◌, ℕ, inl, inr, Bool, true, false, List, [], ◌∷◌, ◌++◌, Option, Some, None, Result, Ok, Err, length, refl, ap, sym, subst, ◌∙◌}
 use Rattle.std.specs.Prelude.{IfErr, OnOk}
 use Rattle.std.specs.FinMap as fin
 use Rattle.pg_messages.specs.declared.data.DataRow.{DataRow}
@@ -19,8 +19,9 @@ use Rattle.pg_handlers.specs.declared.ends.SessionError.{SessionError}
 use Rattle.pg_handlers.specs.declared.ends.SessionError.TheVariants as session
 use Rattle.pg_handlers.specs.Effect.{Effect, Failed, Done, IsEffect, IsRow, IsCutRow, IsRefusedRow, IsRefusedEffect, silent}
 use Rattle.pg_handlers.specs.ExecuteRow.{at_stage, page_effect, fetched, fetched_nothing, executed_portal, executed_entry, executed_nothing, execute_polled, on_execute}
-use Rattle.pg_handlers.specs.Executing.{OnlyLosesUnnamed, HasComeTo, IsExecuteEnd, IsLeftBehind, is_unstarted, IsPageOf, page_result, response_page}
+use Rattle.pg_handlers.specs.Executing.{OnlyLosesUnnamed, HasComeTo, IsLeftBehind, is_unstarted, IsPageOf, page_result, response_page}
 use Rattle.pg_handlers.specs.Handlers.{ExtendedTold}
+use Rattle.pg_handlers.specs.Outcomes.{IsRunEnd}
 use Rattle.pg_handlers.specs.Questions.{Verdict, IsAsked}
 use Rattle.pg_handlers.specs.Good.{IsGoodState, IsGoodPortal, HasGoodTag}
 use Rattle.pg_handlers.specs.State.{State, state_in, with_portal, without_portal}
@@ -197,7 +198,7 @@ module _ {S : Type 0} (h : ExtendedTold S) (s : State S) (m : Execute) (p : Tabl
   module _ {A : Type 0} (done : List DeskCall) (verdict : Verdict)
       (asked : IsAsked (h.query s.info p.bound m.max_rows).owes begun done verdict) (out new_out : List ℕ) (s' : State S) where
     pub ended_ok : (result : Result A SessionError)
-        → IsExecuteEnd (execute_polled s m p verdict (h.query s.info p.bound m.max_rows).outcome) verdict out new_out s' result
+        → IsRunEnd (execute_polled s m p verdict (h.query s.info p.bound m.max_rows).outcome) verdict out new_out s' result
         → OnOk result (IsRow (λ answers. on_execute h answers s m) out new_out calls done (Done s'))
     ended_ok (Ok x) ended = row_as (λ answers. on_execute h answers s m)
         (run_row (h.query s.info p.bound m.max_rows).owes effect_by) (runs_portal h s m p found fresh)
@@ -205,7 +206,7 @@ module _ {S : Type 0} (h : ExtendedTold S) (s : State S) (m : Execute) (p : Tabl
     ended_ok (Err e) ended = tt
 
     pub ended_refused : (result : Result A SessionError)
-        → IsExecuteEnd (execute_polled s m p verdict (h.query s.info p.bound m.max_rows).outcome) verdict out new_out s' result
+        → IsRunEnd (execute_polled s m p verdict (h.query s.info p.bound m.max_rows).outcome) verdict out new_out s' result
         → IfErr result (IsRefusedRow (λ answers. on_execute h answers s m) out new_out calls done s')
     ended_refused (Ok x) ended = tt
     ended_refused (Err (session.Wire e)) ended = refused_as (λ answers. on_execute h answers s m)

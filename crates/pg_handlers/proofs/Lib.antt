@@ -14,6 +14,7 @@ pub mod GoodStores
 pub mod Lends
 pub mod PagesSent
 pub mod Parsing
+pub mod Queried
 pub mod Rows
 pub mod Scripts
 pub mod Sent

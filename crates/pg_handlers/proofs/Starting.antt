@@ -1,5 +1,5 @@
 -- A portal that isn't started: its first page, and a response without rows.
-use Rattle.std.proofs.Common.{◌≡◌, ℕ, ℤ, Bool, false, inl, inr, List, [], ◌++◌, Option, Some, Result, Ok, Err, refl, ap, sym, subst, ◌∙◌}
+use Rattle.std.proofs.Common.{◌≡◌, ℕ, ℤ, false, inl, List, Option, Some, Result, Ok, Err, refl, ap, sym, subst}
 use Rattle.std.specs.Prelude.{IfErr, OnOk, OnErr}
 use Rattle.std.specs.Option.{IsSomeAnd}
 use Rattle.pg_messages.specs.declared.extendedquery.Execute.{Execute}

@@ -13,12 +13,7 @@ use Rattle.pg_portal.specs.Page.{ItemPage, PageEnd, AtLimit, AtEnd, AtError, del
 use Rattle.pg_portal.specs.Told.{Stage, Unstarted, Started, Ended, ToldRows, TablePortal, value_under}
 use Rattle.pg_portal.specs.Responses as response
 use Rattle.pg_portal.specs.Responses.{ToldResponse}
-use Rattle.pg_handlers.specs.declared.ends.SessionError.{SessionError}
-use Rattle.pg_handlers.specs.declared.ends.SessionError.TheVariants as session
 use Rattle.pg_handlers.specs.Replies.{Replies, done_with}
-use Rattle.pg_handlers.specs.Questions.{Verdict, Unanswered}
-use Rattle.pg_handlers.specs.Effect.{Effect, Done, Stopped, IsEffect, IsRefusedEffect}
-use Rattle.pg_handlers.specs.State.{State}
 use Rattle.pg_handlers.specs.ExecuteRow.{at_stage, page_replies}
 
 abbrev pub is_unstarted : Stage → Bool
@@ -68,12 +63,6 @@ abbrev pub IsPageOf : {A : Type 0} → StagePage → Stage → List ℕ → List
 IsPageOf page stage out new_out (Ok x) = (page.refusal ≡ None) × (stage ≡ page.stage) × (new_out ≡ out ++ replies_bytes page.replies)
 IsPageOf page stage out new_out (Err e) = (e ≡ wire.NoMemory)
     ⊎ ((page.refusal ≡ Some e) × (stage ≡ page.stage) × (new_out ≡ out ++ replies_bytes page.replies))
-
--- What an Execute with this effect ends with, where its questions came to this verdict. It stops exactly where an answer is missing.
-abbrev pub IsExecuteEnd : {S A : Type 0} → Effect S → Verdict → List ℕ → List ℕ → State S → Result A SessionError → Type 0
-IsExecuteEnd effect verdict out new_out s (Ok x) = IsEffect effect out new_out (Done s)
-IsExecuteEnd effect verdict out new_out s (Err (session.Wire e)) = IsRefusedEffect effect out new_out s e
-IsExecuteEnd effect verdict out new_out s (Err session.TurnLimit) = (verdict ≡ Unanswered) × IsEffect effect out new_out Stopped
 
 -- the portal under a name
 abbrev pub portal_under : {S : Type 0} → Maps S → List ℕ → Option (TablePortal S)

@@ -8,7 +8,8 @@ ghost use Rattle.pg_portal.specs.Told.{ParserTold, TablePortal, told_rows};
 ghost use Rattle.pg_handlers.specs.Desk.{KeepsDesk};
 ghost use Rattle.pg_handlers.specs.Effect.{IsEffect, IsRefusedEffect, Done};
 ghost use Rattle.pg_handlers.specs.ExecuteRow.{executed, execute_polled, fetched};
-ghost use Rattle.pg_handlers.specs.Executing.{HasUnstarted, IsExecuteEnd, IsLeftBehind, portal_under};
+ghost use Rattle.pg_handlers.specs.Executing.{HasUnstarted, IsLeftBehind, portal_under};
+ghost use Rattle.pg_handlers.specs.Outcomes.{IsRunEnd};
 ghost use Rattle.pg_handlers.specs.Good.{IsGiven, IsGoodState, IsSendableOutcome, IsSendableResponse, IsTag};
 ghost use Rattle.pg_handlers.specs.Handlers.{told_one};
 ghost use Rattle.pg_handlers.specs.Questions.{Verdict, IsAsked, IsCausedSo, HasSpent, questions_since};
@@ -47,7 +48,7 @@ pub(crate) fn run_unstarted<
     ensures ran { (p : TablePortal St.Statement)
         → portal_under (St.maps client.old.store) message.now.name ≡ Some p → (verdict : Verdict)
         × IsAsked (Q.told query).owes (D.told desk.old).calls (D.told desk.new).calls verdict
-        × IsExecuteEnd (execute_polled (state_of St.maps client.old) message.now p verdict
+        × IsRunEnd (execute_polled (state_of St.maps client.old) message.now p verdict
         (told_one St.Rows.items C.items (Q.told query).outcome)) verdict
         client.old.outbox client.new.outbox (state_of St.maps client.new) result }
     ensures answerable { IfErr result IsAnswerableError }

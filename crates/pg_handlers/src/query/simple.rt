@@ -1,6 +1,8 @@
 //! The simple query (protocol: Message Flow, Simple Query).
 
-ghost use Rattle.std.specs.Prelude.{◌≡◌, ◌≢◌, ◌≤◌, false, length, take, Err, IfOk, IfErr, OnOk, OnErr};
+ghost use Rattle.std.specs.Prelude.{◌≡◌, ◌≢◌, ◌≤◌, ◌++◌, ◌∷◌, [], false, length, take, Err, IfOk, IfErr, OnOk, OnErr};
+ghost use Rattle.pg_messages.specs.Replies.{replies_bytes};
+ghost use Rattle.pg_messages.specs.declared.backend.PgWireBackendMessage.TheVariants as server;
 ghost use Rattle.pg_messages.specs.declared.frontend.PgWireFrontendMessage.TheVariants as frontend;
 ghost use Rattle.pg_portal.specs.Clients.{HasShortMetadata};
 ghost use Rattle.std.specs.List.{AllByRecursion};
@@ -11,9 +13,11 @@ ghost use Rattle.pg_handlers.specs.Desk.{KeepsDesk};
 ghost use Rattle.pg_handlers.specs.Handlers.{SimpleTold, told_all, told_query};
 ghost use Rattle.pg_handlers.specs.State.{state_of};
 ghost use Rattle.pg_handlers.specs.Effect.{IsEffect, IsRefusedEffect, IsRow, IsRefusedRow, Done, when_ready};
-ghost use Rattle.pg_handlers.specs.SimpleRows.{on_query, answered_all};
+ghost use Rattle.pg_handlers.specs.SimpleRows.{on_query, query_polled, answered_all};
+ghost use Rattle.pg_handlers.specs.Outcomes.{IsRunEnd};
+ghost use Rattle.pg_handlers.specs.Replies.{ready};
 ghost use Rattle.pg_handlers.specs.Good.{IsGiven, AreSendable, IsSendableResponse};
-ghost use Rattle.pg_handlers.specs.Questions.{IsCausedSo, HasSpent, questions_since};
+ghost use Rattle.pg_handlers.specs.Questions.{Verdict, IsAsked, IsCausedSo, HasSpent, questions_since};
 ghost use Rattle.pg_handlers.specs.Sending.{IsAnswerableError, AtTurnLimit};
 ghost use Rattle.pg_portal.specs.declared.client.PgWireConnectionState.TheVariants as phase;
 ghost use Rattle.pg_portal.specs.declared.error.PgWireError.TheVariants as wire;
@@ -21,11 +25,12 @@ ghost use Rattle.pg_handlers.specs.declared.ends.SessionError.TheVariants as ses
 
 use crate::client::Client;
 use crate::desk::CancelDesk;
-use crate::ends::{SessionError, Turns};
+use crate::ends::{SessionError, Turns, session_outcome};
 use crate::query::respond::{send_empty_query_response, send_responses};
 use crate::query::send::send_ready_for_query;
 use crate::query::{QueryState, wait_for};
-use pg_messages::{PgList, Query};
+use pg_messages::{PgList, Query, TransactionStatus};
+use pg_outbox::Outbox;
 use pg_portal::{
     ClientInfo, CopySource, PgWireConnectionState, PgWireError, PortalStore, Response, RowSource,
     is_blank,
@@ -156,16 +161,65 @@ pub trait SimpleQueryHandler {
     {
         if is_blank(query.query.as_str()) {
             drop(query);
-            send_empty_query_response(&mut client.outbox)?;
-            send_ready_for_query(&mut client.outbox, client.info.status)?;
-            return Ok(());
+            return session_outcome(answer_blank(&mut client.outbox, client.info.status));
         }
         desk.start()?;
         let state = self.do_query(alloc, &client.info, query.query.as_str());
         drop(query);
-        let responses = wait_for(state?, desk, turns)??;
-        Ok(answer_query(alloc, client, responses)?)
+        run_query(alloc, client, state?, desk, turns)
     }
+}
+
+/// Answers a blank Query, where the transaction status is this.
+fn answer_blank(outbox: &mut Outbox, status: TransactionStatus) -> Result<(), PgWireError>
+    ensures ok { OnOk result (outbox.new ≡ outbox.old ++ replies_bytes
+        (server.EmptyQueryResponse (record {}) ∷ ready status ∷ [])) }
+    ensures refused { IfErr result (λ e. e ≡ wire.NoMemory) }
+    ensures kept { take (length outbox.old) outbox.new ≡ outbox.old }
+{
+    send_empty_query_response(outbox)?;
+    send_ready_for_query(outbox, status)?;
+    Ok(())
+}
+
+/// Waits for a query that was begun, behind the desk's `start`, and answers with its responses.
+/// Until then nothing is changed.
+fn run_query<
+    St: PortalStore,
+    R: RowSource,
+    C: CopySource,
+    Q: QueryState<Out = Result<PgList<Response<R, C>>, PgWireError>>,
+    D: CancelDesk,
+>(
+    alloc: Global,
+    client: &mut Client<St>,
+    query: Q,
+    desk: &mut D,
+    turns: &mut Turns,
+) -> Result<(), SessionError>
+    requires unspent { (Q.told query).is_spent ≡ false }
+    requires sendable { AreSendable (told_all R.items C.items (Q.told query).outcome) }
+    ensures ran { (verdict : Verdict)
+        × IsAsked (Q.told query).owes (D.told desk.old).calls (D.told desk.new).calls verdict
+        × IsRunEnd (query_polled (state_of St.maps client.old) verdict
+        (told_all R.items C.items (Q.told query).outcome)) verdict
+        client.old.outbox client.new.outbox (state_of St.maps client.new) result }
+    ensures answerable { IfErr result IsAnswerableError }
+    ensures store { client.new.store ≡ client.old.store }
+    ensures caused { IfErr result (IsCausedSo (D.told desk.old).calls (D.told desk.new).calls) }
+    ensures limit { IfErr result (λ e. AtTurnLimit e
+        ((state_of St.maps client.new ≡ state_of St.maps client.old)
+        × (client.new.outbox ≡ client.old.outbox))) }
+    ensures info { OnErr result (client.new.info ≡ client.old.info) }
+    ensures kept { take (length client.old.outbox) client.new.outbox ≡ client.old.outbox }
+    ensures metadata { client.new.info.metadata ≡ client.old.info.metadata }
+    ensures turns { HasSpent turns.old turns.new
+        (questions_since (D.told desk.old).calls (D.told desk.new).calls) result }
+    ensures bounded { turns.old.spent ≤ turns.old.limit → turns.new.spent ≤ turns.new.limit }
+    ensures keeps { KeepsDesk (D.told desk.old) (D.told desk.new) }
+{
+    let responses = wait_for(query, desk, turns)??;
+    session_outcome(answer_query(alloc, client, responses))
 }
 
 /// Answers a Query with its responses.

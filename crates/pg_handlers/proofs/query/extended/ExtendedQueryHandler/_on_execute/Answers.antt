@@ -17,22 +17,10 @@ returns-in_default g c =
     let none : value_under (fin.get s.portals m.name) ≡ None = search rules in
     let e = c.execute_no_portal.ensures in
     let x = returned c.session_outcome.ensures (nothing_lent h m s (state_of maps c.execute_no_portal.new.client) c.args.client.now.outbox
-    c.execute_no_portal.new.client.outbox (told c.args.desk.now) c.args.turns.now _ (ap (state_in s.info) c.portal_mut.follows.holds-at-none)
+    c.execute_no_portal.new.client.outbox (told c.args.desk.now) c.args.turns.now _
+    (ap (state_in s.info) c.portal_mut.follows.holds-at-none)
     c.execute_no_portal.result c.requires.good none e.same e.ok e.refused e.answerable e.waiting) in
-    record {
-      ok = x.ok;
-      refused = x.refused;
-      answerable = x.answerable;
-      caused = x.caused;
-      limit = x.limit;
-      info = x.info;
-      left = x.left;
-      kept = x.kept;
-      good = x.good;
-      turns = x.spent;
-      bounded = x.bounded;
-      keeps = x.keeps;
-    }
+    assumption x
 
 pub send_page-requires : goal.send_page-requires
 send_page-requires g c =
@@ -51,26 +39,14 @@ returns-then-not-is_unstarted g c =
     let p = portal_of R c.in-Some.portal.now in let w = portal_of R c.send_page.new.portal in
     let l = lent s.info (maps c.args.client.now.store) (maps (c.portal_mut.follows.lender c.send_page.new.portal)) m.name
     c.as_str.result.now p w c.as_str.ensures c.in-Some.ensures.value
-    (at_some c.portal_mut.result c.in-Some.portal c.in-Some.is (c.portal_mut.follows.holds c.send_page.new.portal)) c.send_page.ensures.bound in
+    (at_some c.portal_mut.result c.in-Some.portal c.in-Some.is (c.portal_mut.follows.holds c.send_page.new.portal))
+    c.send_page.ensures.bound in
     let limit_is = to_z-of_z w32 m.max_rows c.requires.given.1.carries.2.max_rows in
     let e = c.send_page.ensures in
     let x = returned c.session_outcome-then-not-is_unstarted.ensures (page_executed h m s _ c.args.client.now.outbox c.send_page.new.outbox
     (told c.args.desk.now) c.args.turns.now p w.stage c.send_page.result c.requires.good l
     (sym c.is_unstarted.ensures ∙ c.if-not-is_unstarted.true) _ limit_is e.page e.answerable e.stays e.kept e.tag) in
-    record {
-      ok = x.ok;
-      refused = x.refused;
-      answerable = x.answerable;
-      caused = x.caused;
-      limit = x.limit;
-      info = x.info;
-      left = x.left;
-      kept = x.kept;
-      good = x.good;
-      turns = x.spent;
-      bounded = x.bounded;
-      keeps = x.keeps;
-    }
+    assumption x
 
 pub returns-in_err-start : goal.returns-in_err-start
 returns-in_err-start g c =
@@ -83,22 +59,9 @@ returns-in_err-start g c =
     (at_some c.portal_mut.result c.in-Some.portal c.in-Some.is (c.portal_mut.follows.holds c.in-Some.portal.now)) refl in
     let same = lent_same s (state_in s.info (maps (c.portal_mut.follows.lender c.in-Some.portal.now))) m.name p l in
     let fresh : p.stage ≡ Unstarted = unstarted_is p.stage (sym c.is_unstarted.ensures ∙ c.if-not-is_unstarted.false) in
-    let x = returned (u.1 ∙ ap Err u.2) (none_started h m s _ c.args.client.now.outbox (told c.args.desk.now) (told c.start.new.self) c.args.turns.now
-    c.requires.good same c.in_err-start.ensures.err) in
-    record {
-      ok = x.ok;
-      refused = x.refused;
-      answerable = x.answerable;
-      caused = x.caused;
-      limit = x.limit;
-      info = x.info;
-      left = x.left;
-      kept = x.kept;
-      good = x.good;
-      turns = x.spent;
-      bounded = x.bounded;
-      keeps = x.keeps;
-    }
+    let x = returned (u.1 ∙ ap Err u.2) (none_started h m s _ c.args.client.now.outbox (told c.args.desk.now) (told c.start.new.self)
+    c.args.turns.now c.requires.good same c.in_err-start.ensures.err) in
+    assumption x
 
 pub do_query-requires-clause-good : goal.do_query-requires-clause-good
 do_query-requires-clause-good g c =
@@ -120,20 +83,7 @@ returns-in_err-query g c =
     let fresh : p.stage ≡ Unstarted = unstarted_is p.stage (sym c.is_unstarted.ensures ∙ c.if-not-is_unstarted.false) in
     let x = returned (u.1 ∙ ap Err u.2) (none_begun h m s p l.found fresh c.requires.good (told c.args.desk.now) (told c.start.new.self)
     c.in_ok-start.ensures.ok c.args.turns.now c.args.client.now.outbox _ same) in
-    record {
-      ok = x.ok;
-      refused = x.refused;
-      answerable = x.answerable;
-      caused = x.caused;
-      limit = x.limit;
-      info = x.info;
-      left = x.left;
-      kept = x.kept;
-      good = x.good;
-      turns = x.spent;
-      bounded = x.bounded;
-      keeps = x.keeps;
-    }
+    assumption x
 
 pub run_unstarted-requires-clause-portal : goal.run_unstarted-requires-clause-portal
 run_unstarted-requires-clause-portal g c =
@@ -164,17 +114,4 @@ returns g c =
     c.args.turns.now c.args.client.now.outbox _ same _ (c.in_ok-query.ensures.told ∙ ap (h.query s.info p.bound) limit_is)
     (state_of maps c.run_unstarted.new.client) c.run_unstarted.new.client.outbox (told c.run_unstarted.new.desk) c.run_unstarted.new.turns
     c.run_unstarted.result e.ran e.answerable e.caused e.limit e.info e.left e.kept e.good e.turns e.bounded e.keeps in
-    record {
-      ok = x.ok;
-      refused = x.refused;
-      answerable = x.answerable;
-      caused = x.caused;
-      limit = x.limit;
-      info = x.info;
-      left = x.left;
-      kept = x.kept;
-      good = x.good;
-      turns = x.spent;
-      bounded = x.bounded;
-      keeps = x.keeps;
-    }
+    assumption x
