@@ -6,7 +6,7 @@
 
 use pg_messages::{PgList, PgStr};
 use row_files::{Fault, parsed, push_hex, times_and_rest};
-use std::alloc::{AllocError, Global};
+use std::alloc::Global;
 use std::str::FromStr;
 
 /// The bytes that the words spell.
@@ -30,32 +30,31 @@ fn put_word<'t>(bytes: &mut Vec<u8>, word: &'t str) -> Result<(), Fault<'t>> {
 /// Appends the bytes of a part.
 fn put_part<'t>(bytes: &mut Vec<u8>, part: &'t str) -> Result<(), Fault<'t>> {
     if let Some(text) = part.strip_prefix("'") {
-        return Ok(put_text(bytes, text)?);
+        return put_text(bytes, text);
     }
     if let Some(digits) = part.strip_prefix("x") {
         return push_hex(bytes, digits);
     }
     match part.split_once(":") {
-        Some(("h", digits)) => put_int16(bytes, digits),
-        Some(("i", digits)) => put_int32(bytes, digits),
-        _ => Err(Fault::Line(part)),
+        Some((kind, digits)) => put_number(bytes, kind, digits),
+        None => Err(Fault::Line(part)),
     }
 }
 
-/// Appends an Int16.
-fn put_int16<'t>(bytes: &mut Vec<u8>, digits: &'t str) -> Result<(), Fault<'t>> {
-    let number = parsed::<i16>(digits)?;
-    Ok(bytes.extend_from_slice(&number.to_be_bytes())?)
-}
-
-/// Appends an Int32.
-fn put_int32<'t>(bytes: &mut Vec<u8>, digits: &'t str) -> Result<(), Fault<'t>> {
+/// Appends an Int16 or an Int32.
+fn put_number<'t>(bytes: &mut Vec<u8>, kind: &'t str, digits: &'t str) -> Result<(), Fault<'t>> {
     let number = parsed::<i32>(digits)?;
-    Ok(bytes.extend_from_slice(&number.to_be_bytes())?)
+    let all = number.to_be_bytes();
+    let shown: &[u8] = match kind {
+        "i" => &all,
+        "h" if i16::try_from(number).is_ok() => &all[2..],
+        _ => return Err(Fault::Line(kind)),
+    };
+    Ok(bytes.extend_from_slice(shown)?)
 }
 
 /// Appends the text, a space for each `_`.
-fn put_text(bytes: &mut Vec<u8>, text: &str) -> Result<(), AllocError> {
+fn put_text<'t>(bytes: &mut Vec<u8>, text: &'t str) -> Result<(), Fault<'t>> {
     for byte in text.as_bytes() {
         bytes.push(if *byte == b'_' { b' ' } else { *byte })?;
     }

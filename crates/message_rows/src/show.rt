@@ -1,9 +1,6 @@
 //! What a row tells of a message: its name and fields, the long ones by their ends.
 
-use pg_messages::{
-    Bind, CancelRequest, CopyData, Execute, Parse, PgBytes, PgStr, PgWireFrontendMessage,
-    SslNegotiationKind, Startup,
-};
+use pg_messages::{Bind, PgBytes, PgStr, PgWireFrontendMessage, SslNegotiationKind, Startup};
 use std::fmt::Display;
 use std::io;
 
@@ -11,53 +8,45 @@ use std::io;
 pub fn show_message(rt: &HostRuntime, message: &PgWireFrontendMessage) -> io::Result<()> {
     match message {
         PgWireFrontendMessage::Startup(m) => show_startup(rt, m),
-        PgWireFrontendMessage::SslNegotiation(kind) => show_negotiation(rt, *kind),
-        PgWireFrontendMessage::CancelRequest(m) => show_cancel(rt, m),
-        PgWireFrontendMessage::CopyData(m) => show_payload(rt, m),
-        PgWireFrontendMessage::CopyDone(_) => show_name(rt, "CopyDone"),
+        PgWireFrontendMessage::SslNegotiation(SslNegotiationKind::PostgresSsl) => {
+            print!(rt; "SslNegotiation PostgresSsl")
+        }
+        PgWireFrontendMessage::SslNegotiation(SslNegotiationKind::PostgresGss) => {
+            print!(rt; "SslNegotiation PostgresGss")
+        }
+        PgWireFrontendMessage::CancelRequest(m) => {
+            print!(rt; "CancelRequest {}", m.pid)?;
+            show_bytes(rt, m.secret_key.as_slice())
+        }
+        PgWireFrontendMessage::CopyData(m) => {
+            print!(rt; "CopyData")?;
+            show_bytes(rt, m.payload.as_slice())
+        }
+        PgWireFrontendMessage::CopyDone(_) => print!(rt; "CopyDone"),
         PgWireFrontendMessage::CopyFail(m) => show_texts(rt, "CopyFail", &[&m.message]),
         PgWireFrontendMessage::Query(m) => show_texts(rt, "Query", &[&m.query]),
-        PgWireFrontendMessage::Terminate(_) => show_name(rt, "Terminate"),
-        PgWireFrontendMessage::Parse(m) => show_parse(rt, m),
+        PgWireFrontendMessage::Terminate(_) => print!(rt; "Terminate"),
+        _ => show_extended(rt, message),
+    }
+}
+
+fn show_extended(rt: &HostRuntime, message: &PgWireFrontendMessage) -> io::Result<()> {
+    match message {
+        PgWireFrontendMessage::Parse(m) => {
+            show_texts(rt, "Parse", &[&m.name, &m.query])?;
+            show_items(rt, m.type_oids.as_slice())
+        }
         PgWireFrontendMessage::Bind(m) => show_bind(rt, m),
         PgWireFrontendMessage::Describe(m) => show_target(rt, "Describe", m.target_type, &m.name),
-        PgWireFrontendMessage::Execute(m) => show_execute(rt, m),
+        PgWireFrontendMessage::Execute(m) => {
+            show_texts(rt, "Execute", &[&m.name])?;
+            print!(rt; " {}", m.max_rows)
+        }
         PgWireFrontendMessage::Close(m) => show_target(rt, "Close", m.target_type, &m.name),
-        PgWireFrontendMessage::Flush(_) => show_name(rt, "Flush"),
-        PgWireFrontendMessage::PgSync(_) => show_name(rt, "PgSync"),
+        PgWireFrontendMessage::Flush(_) => print!(rt; "Flush"),
+        PgWireFrontendMessage::PgSync(_) => print!(rt; "PgSync"),
+        _ => print!(rt; "not an extended query"),
     }
-}
-
-/// Prints the name of a message that has no field.
-fn show_name(rt: &HostRuntime, name: &str) -> io::Result<()> {
-    print!(rt; "{name}")
-}
-
-fn show_negotiation(rt: &HostRuntime, kind: SslNegotiationKind) -> io::Result<()> {
-    match kind {
-        SslNegotiationKind::PostgresSsl => show_name(rt, "SslNegotiation PostgresSsl"),
-        SslNegotiationKind::PostgresGss => show_name(rt, "SslNegotiation PostgresGss"),
-    }
-}
-
-fn show_cancel(rt: &HostRuntime, cancel: &CancelRequest) -> io::Result<()> {
-    print!(rt; "CancelRequest {}", cancel.pid)?;
-    show_bytes(rt, cancel.secret_key.as_slice())
-}
-
-fn show_payload(rt: &HostRuntime, copied: &CopyData) -> io::Result<()> {
-    show_name(rt, "CopyData")?;
-    show_bytes(rt, copied.payload.as_slice())
-}
-
-fn show_parse(rt: &HostRuntime, parse: &Parse) -> io::Result<()> {
-    show_texts(rt, "Parse", &[&parse.name, &parse.query])?;
-    show_items(rt, parse.type_oids.as_slice())
-}
-
-fn show_execute(rt: &HostRuntime, execute: &Execute) -> io::Result<()> {
-    show_texts(rt, "Execute", &[&execute.name])?;
-    print!(rt; " {}", execute.max_rows)
 }
 
 fn show_startup(rt: &HostRuntime, startup: &Startup) -> io::Result<()> {
