@@ -4,41 +4,24 @@ use Rattle.std.proofs.lemmas.Result.{err_from_is_err_and}
 use Rattle.pg_portal.proofs.Delivering.{ended_at_limit, ended_at_end, cut_at_error, cut_behind}
 use Rattle.pg_portal.proofs.page.deliver_page.Goals as goal
 
-pub returns-in-Ok-None-clause-ended : goal.returns-in-Ok-None-clause-ended
-returns-in-Ok-None-clause-ended g c =
+pub returns-in-Ok-None : goal.returns-in-Ok-None
+returns-in-Ok-None g c =
     let fits = c.ranges.max_rows in
     let l = simp to_z-of_z at c.loop-rows.invariant in
-    (ended_at_end g.T.RowReceiver.with_rows g.met.T.RowReceiver.none g.met.T.RowReceiver.more
+    let page =
+    ended_at_end g.T.RowReceiver.with_rows g.met.T.RowReceiver.none g.met.T.RowReceiver.more
     c.args.max_rows fits (g.R.RowSource.items c.args.rows.now) c.args.receiver.now
     _ _ _ l _ _ c.is_reached.ensures c.loop-rows-test.true refl (g.R.RowSource.items c.next.new.self)
-    (let taken = rw c.in-Ok-None.field-0-is at c.in-Ok-None.ensures.next in search rules) c.args.delivered _ c.delivered_after.ensures).ended
-
-pub returns-in-Ok-None-clause-delivered : goal.returns-in-Ok-None-clause-delivered
-returns-in-Ok-None-clause-delivered g c =
-    let fits = c.ranges.max_rows in
-    let l = simp to_z-of_z at c.loop-rows.invariant in
-    (ended_at_end g.T.RowReceiver.with_rows g.met.T.RowReceiver.none g.met.T.RowReceiver.more
-    c.args.max_rows fits (g.R.RowSource.items c.args.rows.now) c.args.receiver.now
-    _ _ _ l _ _ c.is_reached.ensures c.loop-rows-test.true refl (g.R.RowSource.items c.next.new.self)
-    (let taken = rw c.in-Ok-None.field-0-is at c.in-Ok-None.ensures.next in search rules) c.args.delivered _ c.delivered_after.ensures).delivered
-
-pub returns-in-Ok-None-clause-received : goal.returns-in-Ok-None-clause-received
-returns-in-Ok-None-clause-received g c =
-    let fits = c.ranges.max_rows in
-    let l = simp to_z-of_z at c.loop-rows.invariant in
-    (ended_at_end g.T.RowReceiver.with_rows g.met.T.RowReceiver.none g.met.T.RowReceiver.more
-    c.args.max_rows fits (g.R.RowSource.items c.args.rows.now) c.args.receiver.now
-    _ _ _ l _ _ c.is_reached.ensures c.loop-rows-test.true refl (g.R.RowSource.items c.next.new.self)
-    (let taken = rw c.in-Ok-None.field-0-is at c.in-Ok-None.ensures.next in search rules) c.args.delivered _ c.delivered_after.ensures).received
-
-pub returns-in-Ok-None-clause-taken : goal.returns-in-Ok-None-clause-taken
-returns-in-Ok-None-clause-taken g c =
-    let fits = c.ranges.max_rows in
-    let l = simp to_z-of_z at c.loop-rows.invariant in
-    (ended_at_end g.T.RowReceiver.with_rows g.met.T.RowReceiver.none g.met.T.RowReceiver.more
-    c.args.max_rows fits (g.R.RowSource.items c.args.rows.now) c.args.receiver.now
-    _ _ _ l _ _ c.is_reached.ensures c.loop-rows-test.true refl (g.R.RowSource.items c.next.new.self)
-    (let taken = rw c.in-Ok-None.field-0-is at c.in-Ok-None.ensures.next in search rules) c.args.delivered _ c.delivered_after.ensures).taken
+    (let taken = rw c.in-Ok-None.field-0-is at c.in-Ok-None.ensures.next in search rules)
+    c.args.delivered _ c.delivered_after.ensures in
+    record {
+      ended = page.ended;
+      delivered = page.delivered;
+      received = page.received;
+      taken = page.taken;
+      cut_short = tt;
+      own = tt;
+    }
 
 pub returns-in-Ok-Some-Err-clause-cut_short : goal.returns-in-Ok-Some-Err-clause-cut_short
 returns-in-Ok-Some-Err-clause-cut_short g c =
@@ -57,36 +40,22 @@ returns-in_err-receive-in-Ok-Some-Ok-clause-cut_short g c =
     rw p.1 (cut_behind g.T.RowReceiver.with_rows g.met.T.RowReceiver.none g.met.T.RowReceiver.more
     c.args.max_rows fits (g.R.RowSource.items c.args.rows.now) c.args.receiver.now
     _ _ _ l p.0 c.in-Ok-Some-Ok.row (g.R.RowSource.items c.next.new.self) c.receive.new.self p.2
-    (let taken = rw (c.in-Ok-Some-Ok.field-0-is, c.in-Ok-Some-Ok.field-0-0-is) at c.in-Ok-Some-Ok.ensures.next in search rules) c.in_err-receive-in-Ok-Some-Ok.ensures.err)
+    (let taken = rw (c.in-Ok-Some-Ok.field-0-is, c.in-Ok-Some-Ok.field-0-0-is) at c.in-Ok-Some-Ok.ensures.next in search rules)
+    c.in_err-receive-in-Ok-Some-Ok.ensures.err)
 
-pub returns-clause-ended : goal.returns-clause-ended
-returns-clause-ended g c =
+pub returns : goal.returns
+returns g c =
     let fits = c.ranges.max_rows in
     let l = simp to_z-of_z at c.loop-rows.invariant in
-    (ended_at_limit g.T.RowReceiver.with_rows g.met.T.RowReceiver.none g.met.T.RowReceiver.more
+    let page =
+    ended_at_limit g.T.RowReceiver.with_rows g.met.T.RowReceiver.none g.met.T.RowReceiver.more
     c.args.max_rows fits (g.R.RowSource.items c.args.rows.now) c.args.receiver.now
-    _ _ _ l _ _ c.is_reached.ensures c.loop-rows-test.false refl c.args.delivered _ c.delivered_after-2.ensures).ended
-
-pub returns-clause-delivered : goal.returns-clause-delivered
-returns-clause-delivered g c =
-    let fits = c.ranges.max_rows in
-    let l = simp to_z-of_z at c.loop-rows.invariant in
-    (ended_at_limit g.T.RowReceiver.with_rows g.met.T.RowReceiver.none g.met.T.RowReceiver.more
-    c.args.max_rows fits (g.R.RowSource.items c.args.rows.now) c.args.receiver.now
-    _ _ _ l _ _ c.is_reached.ensures c.loop-rows-test.false refl c.args.delivered _ c.delivered_after-2.ensures).delivered
-
-pub returns-clause-received : goal.returns-clause-received
-returns-clause-received g c =
-    let fits = c.ranges.max_rows in
-    let l = simp to_z-of_z at c.loop-rows.invariant in
-    (ended_at_limit g.T.RowReceiver.with_rows g.met.T.RowReceiver.none g.met.T.RowReceiver.more
-    c.args.max_rows fits (g.R.RowSource.items c.args.rows.now) c.args.receiver.now
-    _ _ _ l _ _ c.is_reached.ensures c.loop-rows-test.false refl c.args.delivered _ c.delivered_after-2.ensures).received
-
-pub returns-clause-taken : goal.returns-clause-taken
-returns-clause-taken g c =
-    let fits = c.ranges.max_rows in
-    let l = simp to_z-of_z at c.loop-rows.invariant in
-    (ended_at_limit g.T.RowReceiver.with_rows g.met.T.RowReceiver.none g.met.T.RowReceiver.more
-    c.args.max_rows fits (g.R.RowSource.items c.args.rows.now) c.args.receiver.now
-    _ _ _ l _ _ c.is_reached.ensures c.loop-rows-test.false refl c.args.delivered _ c.delivered_after-2.ensures).taken
+    _ _ _ l _ _ c.is_reached.ensures c.loop-rows-test.false refl c.args.delivered _ c.delivered_after-2.ensures in
+    record {
+      ended = page.ended;
+      delivered = page.delivered;
+      received = page.received;
+      taken = page.taken;
+      cut_short = tt;
+      own = tt;
+    }
