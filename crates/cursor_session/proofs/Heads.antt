@@ -1,20 +1,20 @@
 -- The header of a frame of which there are some bytes, and which commands may begin so.
-use Rattle.std.proofs.Common.{◌≡◌, ◌≢◌, ℕ, ◌+◌, ◌-◌, ◌≤◌, ◌<◌, Bool, true, false, List, [], ◌∷◌, ◌++◌, ◌⊎◌, inl, inr, Option, Some, None, Result, Ok, Err, IfOk, IfSome, IfNone, ⊎_elim, length, take, drop, get_or, slice_index, Contains, refl, sym, ap, subst, ◌∙◌, append-nil, append_assoc, length-append, arith}
-use Rattle.std.specs.Prelude.{◌==◌}
-use Rattle.std.proofs.lemmas.Bool.Decides.{eqb_tells}
+use Rattle.std.proofs.Common.{◌≡◌, ◌≢◌, ℕ, ◌+◌, ◌-◌, ◌≤◌, ◌<◌, Bool, true, false, List, [], ◌∷◌, ◌++◌, ◌⊎◌, inl, inr, Option, Some, None, Result, Ok, Err, IfOk, IfSome, IfNone, length, take, drop, slice_index, Contains, refl, sym, ap, subst, ◌∙◌, append-nil, append_assoc, length-append, arith}
 use Rattle.std.specs.Int.{w32, from_be_bytes}
 use Rattle.std.specs.List.{AllByRecursion}
 use Rattle.std.proofs.lemmas.Bool.{cases_lt}
 use Rattle.std.proofs.lemmas.List.{take-append-le, take-append-drop, length-take, length-drop, nil_from_length}
 use Rattle.pg_messages.specs.declared.frontend.PgWireFrontendMessage.{PgWireFrontendMessage}
 use Rattle.pg_messages.specs.declared.frontend.PgWireFrontendMessage.TheVariants as client
-use Rattle.pg_messages.specs.Frames.{IsFrame, IsUnfinished, IsBad, IsGoodHeader, header_len, told_len, type_bytes}
-use Rattle.pg_messages.proofs.OneReading.{front, one_frame, frame_finished, frame_not_bad}
+use Rattle.pg_messages.specs.declared.simplequery.Query.{Query}
+use Rattle.pg_messages.specs.Frames.{IsFrame, IsUnfinished, IsGoodHeader, header_len, told_len, type_bytes}
+use Rattle.pg_messages.proofs.OneReading.{front, one_frame}
 use Rattle.pg_portal.specs.declared.client.PgWireConnectionState.{PgWireConnectionState}
 use Rattle.pg_portal.specs.declared.client.PgWireConnectionState.TheVariants as phase
 use Rattle.pg_handlers.specs.Table.{is_startup_phase}
 use Rattle.cursor_commands.specs.declared.command.CursorCommand.{CursorCommand}
 use Rattle.cursor_commands.specs.Asking.{CanBeSent}
+use Rattle.cursor_commands.specs.Commands.{command_of}
 use Rattle.cursor_commands.specs.Cursors.{messages_of}
 use Rattle.cursor_commands.proofs.SendLemmas.{can_be_sent}
 use Rattle.cursor_table.specs.CursorTable.{asked_command, is_ready_phase}
@@ -174,55 +174,25 @@ owed_so told size owed e =
 
 -- ---- the message of a frame
 
--- a frame that begins the bytes and leaves none of them is all of them
-pub whole_frame : (bytes frame left : List ℕ) (m : PgWireFrontendMessage) → bytes ≡ frame ++ left → IsFrame false frame m
-    → length left ≡ 0 → IsFrame false bytes m
-whole_frame bytes frame left m e f none =
-    subst (λ l. IsFrame false l m)
-    (sym (e ∙ ap (λ l. frame ++ l) (nil_from_length left none) ∙ append-nil frame)) f
+-- a frame that is no Query is no command
+pub no_query_no_command : (frame : List ℕ) → ((q : Query) → IsFrame false frame (client.Query q) → ⊥) → (m : PgWireFrontendMessage)
+    → IsFrame false frame m → asked_command m ≡ None
+no_query_no_command frame none (client.Query q) f = absurd (none q f)
+no_query_no_command frame none _ f = refl
 
--- where a frame begins the bytes and leaves some of them, they are no frame
-pub no_whole_frame : (bytes frame left : List ℕ) (m n : PgWireFrontendMessage) → bytes ≡ frame ++ left → IsFrame false frame m
-    → IsFrame false bytes n → length left ≡ 0
-no_whole_frame bytes frame left m n e f other =
-    let one = one_frame false frame bytes left [] m n f other (sym e ∙ sym (append-nil bytes)) in ap length one.1
+-- the command of a Query frame, and that it is none
+pub text_asked : (frame text : List ℕ) (command : Option CursorCommand) → IsFrame false frame (client.Query (record { query = text }))
+    → command ≡ command_of text
+    → IfSome command (λ k. (m : PgWireFrontendMessage) × IsFrame false frame m × (asked_command m ≡ Some k))
+text_asked frame text None f e = tt
+text_asked frame text (Some k) f e = (client.Query (record { query = text }), f, sym e)
 
-pub unfinished_no_frame : (bytes : List ℕ) (m : PgWireFrontendMessage) → IsUnfinished false bytes → IsFrame false bytes m → ⊥
-unfinished_no_frame bytes m short f = frame_finished false bytes [] m f (subst (IsUnfinished false) (sym (append-nil bytes)) short)
-
-pub bad_no_frame : (bytes : List ℕ) (m : PgWireFrontendMessage) → IsBad false bytes → IsFrame false bytes m → ⊥
-bad_no_frame bytes m bad f = frame_not_bad false bytes [] m f (subst (IsBad false) (sym (append-nil bytes)) bad)
-
-zero_of : (n : ℕ) (b : Bool) → b ≡ true → b ≡ (n == 0) → n ≡ 0
-zero_of n b e f = ⊎_elim (λ t. t.1) (λ t. absurd (let x : true ≡ false = sym e ∙ f ∙ t.0 in cc)) (eqb_tells n 0)
-
-not_zero_of : (n : ℕ) (b : Bool) → b ≡ false → b ≡ (n == 0) → n ≢ 0
-not_zero_of n b e f = ⊎_elim (λ t. absurd (let x = t.1 in let y = sym e ∙ f ∙ ap (λ k. k == 0) x in cc)) (λ t. t.1) (eqb_tells n 0)
-
-abbrev pub FoundIn : List ℕ → List ℕ → Option PgWireFrontendMessage → Type 0
-FoundIn bytes left found = IfSome found (λ m. (frame : List ℕ) × (bytes ≡ frame ++ left) × IsFrame false frame m)
-
-pub some_whole : (bytes left : List ℕ) (found result : Option PgWireFrontendMessage) (is_whole : Bool)
-    → IfSome result (λ m. (found ≡ Some m) × (is_whole ≡ true)) → FoundIn bytes left found → is_whole ≡ (length left == 0)
-    → IfSome result (λ m. IsFrame false bytes m)
-some_whole bytes left found None is_whole x y e = tt
-some_whole bytes left found (Some m) is_whole x y e =
-    let at = subst (FoundIn bytes left) x.0 y in
-    whole_frame bytes at.0 left m at.1 at.2 (zero_of (length left) is_whole x.1 e)
-
-no_frame_by : (bytes left : List ℕ) (found : Option PgWireFrontendMessage) (is_whole : Bool) → (found ≡ None) ⊎ (is_whole ≡ false)
-    → FoundIn bytes left found → IfNone found (IsUnfinished false bytes) → is_whole ≡ (length left == 0)
-    → (m : PgWireFrontendMessage) → IsFrame false bytes m → ⊥
-no_frame_by bytes left None is_whole x y short e m f = unfinished_no_frame bytes m short f
-no_frame_by bytes left (Some n) is_whole (inl none) y short e m f = let x = none in cc
-no_frame_by bytes left (Some n) is_whole (inr parted) y short e m f =
-    not_zero_of (length left) is_whole parted e (no_whole_frame bytes y.0 left n m y.1 y.2 f)
-
-pub none_whole : (bytes left : List ℕ) (found result : Option PgWireFrontendMessage) (is_whole : Bool)
-    → IfNone result ((found ≡ None) ⊎ (is_whole ≡ false)) → FoundIn bytes left found → IfNone found (IsUnfinished false bytes)
-    → is_whole ≡ (length left == 0) → IfNone result ((m : PgWireFrontendMessage) → IsFrame false bytes m → ⊥)
-none_whole bytes left found None is_whole x y short e = no_frame_by bytes left found is_whole x y short e
-none_whole bytes left found (Some m) is_whole x y short e = tt
+pub text_no_command : (frame text : List ℕ) (command : Option CursorCommand) → IsFrame false frame (client.Query (record { query = text }))
+    → command ≡ command_of text → IfNone command ((m : PgWireFrontendMessage) → IsFrame false frame m → asked_command m ≡ None)
+text_no_command frame text None f e =
+    λ m g. let one = one_frame false frame frame [] [] (client.Query (record { query = text })) m f g refl in
+    sym (ap asked_command one.2) ∙ sym e
+text_no_command frame text (Some k) f e = tt
 
 -- what follows from there being none
 pub none_to : {A E P Q : Type 0} (r : Result (Option A) E) → (P → Q) → IfOk r (λ o. IfNone o P) → IfOk r (λ o. IfNone o Q)

@@ -1,5 +1,5 @@
 -- The front of a session: what it holds before the session, and what a step of it does.
-use Rattle.std.specs.Prelude.{ℕ, Bool, true, List, [], ◌++◌, ◌+◌, ◌≡◌, ◌≢◌, ◌≤◌, ◌<◌, ◌⊎◌, Option, Some, None, Result, Ok, length}
+use Rattle.std.specs.Prelude.{ℕ, Bool, true, List, [], ◌++◌, ◌+◌, ◌≡◌, ◌≢◌, ◌≤◌, ◌<◌, ◌⊎◌, Option, None, Result, Ok, length}
 use Rattle.pg_messages.specs.declared.frontend.PgWireFrontendMessage.{PgWireFrontendMessage}
 use Rattle.std.specs.List.{AllByRecursion}
 use Rattle.pg_messages.specs.Replies.{replies_bytes}

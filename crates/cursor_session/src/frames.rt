@@ -7,11 +7,10 @@ ghost use Rattle.pg_handlers.specs.Table.{is_startup_phase};
 ghost use Rattle.cursor_table.specs.CursorTable.{asked_command, is_ready_phase};
 ghost use Rattle.cursor_session.specs.Fronts.{BeginsNoCommand, FitsFrame};
 
-use bytes::BytesMut;
 use cursor_commands::{CursorCommand, read_cursor};
-use pg_messages::{FrameError, PgWireFrontendMessage, PgWireMessageServerCodec, Query};
 use pg_portal::PgWireConnectionState;
 use pg_session::ServeError;
+use query_frames::query_text;
 use std::alloc::Global;
 
 /// Whether the startup packet is still awaited.
@@ -133,7 +132,8 @@ pub(crate) fn command_asked(
     command_in(alloc, bytes)
 }
 
-/// The command that a frame is.
+/// The command that a frame is. Its text is read where it stands.
+#[tactic(auto, using(crate::proofs::Heads::text_asked, crate::proofs::Heads::text_no_command))]
 fn command_in(alloc: Global, frame: &[u8]) -> Result<Option<CursorCommand>, ServeError>
     ensures some { IfOk result (λ found. IfSome found (λ command. (m : PgWireFrontendMessage)
         × IsFrame false frame.now m × (asked_command m ≡ Some command))) }
@@ -141,51 +141,8 @@ fn command_in(alloc: Global, frame: &[u8]) -> Result<Option<CursorCommand>, Serv
         → IsFrame false frame.now m → asked_command m ≡ None)) }
     ensures error { IfErr result (λ e. e ≡ ServeError.NoMemory) }
 {
-    match message_in(alloc, frame)? {
+    match query_text(frame) {
         None => Ok(None),
-        Some(message) => command_of(alloc, message),
+        Some(text) => Ok(read_cursor(alloc, text)?),
     }
-}
-
-/// The command that a message is.
-fn command_of(
-    alloc: Global,
-    message: PgWireFrontendMessage,
-) -> Result<Option<CursorCommand>, ServeError>
-    ensures command { IfOk result (λ command. command ≡ asked_command message) }
-    ensures error { IfErr result (λ e. e ≡ ServeError.NoMemory) }
-{
-    match message {
-        PgWireFrontendMessage::Query(query) => Ok(read_cursor(alloc, query.query.as_str())?),
-        _ => Ok(None),
-    }
-}
-
-/// The message of a frame. None says that it is no whole good frame.
-fn message_in(alloc: Global, frame: &[u8]) -> Result<Option<PgWireFrontendMessage>, ServeError>
-    ensures some { IfOk result (λ found. IfSome found (λ m. IsFrame false frame.now m)) }
-    ensures none { IfOk result (λ found. IfNone found ((m : PgWireFrontendMessage)
-        → ¬ IsFrame false frame.now m)) }
-    ensures error { IfErr result (λ e. e ≡ ServeError.NoMemory) }
-{
-    let mut bytes = BytesMut::new(alloc);
-    bytes.extend_from_slice(frame)?;
-    let mut codec = PgWireMessageServerCodec::new();
-    codec.context.awaiting_startup = false;
-    match codec.decode(alloc, &mut bytes) {
-        Ok(found) => Ok(where_whole(found, bytes.is_empty())),
-        Err(FrameError::Bad) => Ok(None),
-        Err(FrameError::NoMemory) => Err(ServeError::NoMemory),
-    }
-}
-
-/// The message where its frame was whole.
-fn where_whole(
-    found: Option<PgWireFrontendMessage>,
-    is_whole: bool,
-) -> Option<PgWireFrontendMessage>
-    ensures some { IfSome result (λ m. (found ≡ Some m) × (is_whole ≡ true)) }
-    ensures none { IfNone result ((found ≡ None) ⊎ (is_whole ≡ false)) }
-{
-    if is_whole { found } else { None }
 }

@@ -1,0 +1,2 @@
+mod QueryFrameLaws
+mod ZeroBytes
