@@ -10,3 +10,4 @@ pub mod FrameLaws
 pub mod OneReading
 pub mod Texts
 pub mod RowBytes
+pub mod SameBytes

@@ -14,6 +14,7 @@ mod frontend;
 mod headers;
 mod put;
 mod response;
+mod secret_key;
 mod simplequery;
 mod startup;
 mod values;
@@ -39,6 +40,7 @@ pub use response::{
     CommandComplete, EmptyQueryResponse, ErrorInfo, ErrorResponse, GssEncResponse, ReadyForQuery,
     SslResponse, TransactionStatus,
 };
+pub use secret_key::{KeyError, SecretKey};
 pub use simplequery::Query;
 pub use startup::{
     AuthenticationOk, BackendKeyData, CancelRequest, PROTOCOL_3_0, PROTOCOL_3_2, ParameterStatus,
