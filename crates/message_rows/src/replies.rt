@@ -6,7 +6,7 @@ use pg_messages::{
     CopyBothResponse, CopyData, CopyDone, CopyInResponse, CopyOutResponse, DataRow,
     EmptyQueryResponse, ErrorInfo, ErrorResponse, FieldDescription, GssEncResponse, NoData,
     ParameterDescription, ParameterStatus, ParseComplete, PgBytes, PgList, PgStr,
-    PgWireBackendMessage, PortalSuspended, ReadyForQuery, RowDescription, SslResponse,
+    PgWireBackendMessage, PortalSuspended, ReadyForQuery, RowDescription, SecretKey, SslResponse,
     TransactionStatus,
 };
 use row_files::times_and_rest;
@@ -65,10 +65,7 @@ fn key_data(alloc: Global, parts: &[&str]) -> Option<PgWireBackendMessage> {
     };
     let pid = pid.parse::<i32>().ok()?;
     let key = bytes_of(alloc, &[key]).ok()??;
-    let [a, b, c, d] = key.as_slice() else {
-        return None;
-    };
-    let secret_key = [*a, *b, *c, *d];
+    let secret_key = SecretKey::try_new(alloc, key.as_slice()).ok()?;
     Some(PgWireBackendMessage::BackendKeyData(BackendKeyData { pid, secret_key }))
 }
 
