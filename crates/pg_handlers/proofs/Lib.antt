@@ -11,6 +11,7 @@ pub mod ErrorTexts
 pub mod Executes
 pub mod GoodStores
 pub mod Lends
+pub mod Narrowing
 pub mod PagesSent
 pub mod Parsing
 pub mod Rows
