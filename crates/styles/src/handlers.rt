@@ -5,13 +5,12 @@ ghost use Rattle.pg_portal.specs.Told.{bound_of};
 ghost use Rattle.styles.specs.Told.{interval_asked};
 
 use crate::parser::{StylesParser, StylesStatement, parameters_of};
-use crate::query::StylesQuery;
-use crate::reading::{read_interval, read_parameter};
+use crate::query::{Begun, StylesQuery};
+use crate::reading::{Asked, read_interval, read_parameter};
 use crate::rows::{Answer, columns, response};
 use pg_handlers::{
     ExtendedQueryHandler, NoRows, NoopHandler, PgWireServerHandlers, SimpleQueryHandler,
 };
-use pg_interval::Interval;
 use pg_messages::PgList;
 use pg_portal::{
     ClientInfo, DescribePortalResponse, DescribeStatementResponse, Format, ListRows, PgWireError,
@@ -40,13 +39,8 @@ impl SimpleQueryHandler for StylesHandler {
     ghost told = { λ _. told_simple };
 
     #[tactic(auto, using(crate::proofs::Sendable::simple_sendable))]
-    fn do_query(
-        &self,
-        alloc: Global,
-        _client: &ClientInfo,
-        query: &str,
-    ) -> Result<StylesQuery<PgList<Answer>>, AllocError> {
-        match read_interval(alloc, trimmed(query).as_bytes())? {
+    fn do_query(&self, alloc: Global, _: &ClientInfo, sql: &str) -> Begun<PgList<Answer>> {
+        match read_interval(alloc, trimmed(sql).as_bytes())? {
             Ok(interval) => {
                 let mut answers = PgList::new(alloc);
                 answers.push(response(alloc, &Format::UnifiedText, &interval)?)?;
@@ -104,7 +98,7 @@ impl ExtendedQueryHandler for StylesHandler {
         _client: &ClientInfo,
         portal: &Portal<StylesStatement, ListRows>,
         _max_rows: i32,
-    ) -> Result<StylesQuery<Answer>, AllocError> {
+    ) -> Begun<Answer> {
         match interval_asked(alloc, portal)? {
             Ok(interval) => {
                 let answer = response(alloc, &portal.result_column_format, &interval)?;
@@ -116,10 +110,7 @@ impl ExtendedQueryHandler for StylesHandler {
 }
 
 /// The interval that a portal asks for: its statement's, or its parameter's.
-fn interval_asked(
-    alloc: Global,
-    portal: &Portal<StylesStatement, ListRows>,
-) -> Result<Result<Interval, PgWireError>, AllocError>
+fn interval_asked(alloc: Global, portal: &Portal<StylesStatement, ListRows>) -> Asked
     ensures { IfOk result (λ answer. answer ≡ interval_asked (bound_of portal.now)) }
 {
     match portal.statement.statement {

@@ -68,10 +68,7 @@ impl QueryParser for StylesParser {
         _stmt: &StylesStatement,
         column_format: Option<&Format>,
     ) -> Result<PgList<FieldInfo>, PgWireError> {
-        match column_format {
-            Some(formats) => Ok(columns(alloc, formats)?),
-            None => Ok(columns(alloc, &Format::UnifiedText)?),
-        }
+        Ok(columns(alloc, column_format.unwrap_or(&Format::UnifiedText))?)
     }
 }
 

@@ -6,6 +6,9 @@ use pg_handlers::{QueryState, Turn};
 use pg_portal::PgWireError;
 use std::alloc::AllocError;
 
+/// A query that was begun, or want of memory.
+pub(crate) type Begun<T> = Result<StylesQuery<T>, AllocError>;
+
 /// A query that owes no poll, and gives its outcome once.
 #[derive(Drop)]
 pub struct StylesQuery<T> {
@@ -17,9 +20,8 @@ impl<T: Drop> StylesQuery<T> {
     pub fn new(outcome: Result<T, PgWireError>) -> StylesQuery<T>
         ensures { result.outcome ≡ Some outcome }
     {
-        StylesQuery {
-            outcome: Some(outcome),
-        }
+        let outcome = Some(outcome);
+        StylesQuery { outcome }
     }
 }
 

@@ -1,25 +1,25 @@
 //! What the texts and parameters of queries stand for, or why they stand for no interval.
 
-ghost use Rattle.std.specs.Prelude.{◌≡◌, IfOk, string_bytes};
+ghost use Rattle.std.specs.Prelude.{◌≡◌, Err, IfOk, string_bytes};
 ghost use Rattle.std.specs.List.{list_any};
 ghost use Rattle.std.specs.Option.{option_copied};
 ghost use Rattle.pg_interval.specs.Texts.{is_letter};
 ghost use Rattle.pg_text.specs.Words.{interval_style_name};
 ghost use Rattle.pg_portal.specs.Errors.{error};
 ghost use Rattle.pg_portal.specs.declared.error.PgWireError.TheVariants as wire;
-ghost use Rattle.styles.specs.Reading.{style_of, reason, refused, or_refused, interval_of, interval_given};
+ghost use Rattle.styles.specs.Reading.{style_of, reason, or_refused, interval_of, interval_given};
 
 use pg_interval::Interval;
-use pg_messages::{ErrorInfo, PgBytes, PgStr};
-use pg_portal::PgWireError;
+use pg_messages::PgBytes;
+use pg_portal::{PgWireError, error_of_parts};
 use pg_text::{CellError, FieldFormat, FromSql, IntervalStyle, PgType};
 use std::alloc::{AllocError, Global};
 
+/// The interval that is asked for, or what a client is told in its place; or want of memory.
+pub(crate) type Asked = Result<Result<Interval, PgWireError>, AllocError>;
+
 /// The interval that a text stands for, or what a client is told of its refusal.
-pub(crate) fn read_interval(
-    alloc: Global,
-    text: &[u8],
-) -> Result<Result<Interval, PgWireError>, AllocError>
+pub(crate) fn read_interval(alloc: Global, text: &[u8]) -> Asked
     ensures { IfOk result (λ answer. answer ≡ interval_of text.now) }
 {
     let style = style_of(text);
@@ -32,13 +32,11 @@ pub(crate) fn read_parameter(
     alloc: Global,
     format: Option<FieldFormat>,
     value: Option<&Option<PgBytes>>,
-) -> Result<Result<Interval, PgWireError>, AllocError>
+) -> Asked
     ensures { IfOk result (λ answer. answer ≡ interval_given format (option_copied value.entry)) }
 {
     match (format, value) {
-        (_, Some(None)) | (_, None) => {
-            Ok(Err(error(alloc, "22004", "there is no interval for $1")?))
-        }
+        (_, Some(None)) | (_, None) => told(alloc, "22004", "there is no interval for $1"),
         (Some(FieldFormat::Binary), Some(Some(bytes))) => {
             let read = <Interval as FromSql>::from_sql(PgType::Interval, bytes.as_slice());
             or_refused(alloc, "binary", read)
@@ -79,29 +77,20 @@ pub(crate) fn name_of(style: IntervalStyle) -> &'static str
     }
 }
 
-/// What was read, or what a client is told of its refusal.
-fn or_refused(
-    alloc: Global,
-    reader: &str,
-    read: Result<Interval, CellError>,
-) -> Result<Result<Interval, PgWireError>, AllocError>
+/// What was read, or the error that tells which reader refused, and why.
+fn or_refused(alloc: Global, reader: &str, read: Result<Interval, CellError>) -> Asked
     ensures { IfOk result (λ answer. answer ≡ or_refused reader.now read) }
 {
     match read {
         Ok(interval) => Ok(Ok(interval)),
-        Err(cause) => Ok(Err(refused(alloc, reader, &cause)?)),
+        Err(cause) => {
+            let mut message = String::from_str(alloc, "no interval in ")?;
+            message.push_str(reader)?;
+            message.push_str(": ")?;
+            message.push_str(reason(alloc, &cause)?.as_str())?;
+            told(alloc, "22007", message.as_str())
+        }
     }
-}
-
-/// The error that tells which reader refused, and why.
-fn refused(alloc: Global, reader: &str, cause: &CellError) -> Result<PgWireError, AllocError>
-    ensures { IfOk result (λ e. e ≡ refused reader.now cause.now) }
-{
-    let mut message = String::from_str(alloc, "no interval in ")?;
-    message.push_str(reader)?;
-    message.push_str(": ")?;
-    message.push_str(reason(alloc, cause)?.as_str())?;
-    error(alloc, "22007", message.as_str())
 }
 
 /// Why a reader refused.
@@ -115,13 +104,10 @@ fn reason(alloc: Global, cause: &CellError) -> Result<String, AllocError>
     }
 }
 
-/// The error of this code and message.
-fn error(alloc: Global, code: &str, message: &str) -> Result<PgWireError, AllocError>
-    ensures { IfOk result (λ e. e ≡ wire.UserError (error code.now message.now)) }
+/// The error of this code and message, which a client is told.
+fn told(alloc: Global, code: &str, message: &str) -> Asked
+    ensures { IfOk result (λ answer. answer ≡ Err (wire.UserError (error code.now message.now))) }
 {
-    Ok(PgWireError::UserError(ErrorInfo::new(
-        PgStr::copy_of(alloc, "ERROR")?,
-        PgStr::copy_of(alloc, code)?,
-        PgStr::copy_of(alloc, message)?,
-    )))
+    let info = error_of_parts(alloc, code, message, "", "")?;
+    Ok(Err(PgWireError::UserError(info)))
 }

@@ -2,53 +2,23 @@
 //! is the text of an interval, and the reply is that interval in each of PostgreSQL's four styles.
 #![tactic(auto)]
 
-ghost use Rattle.std.specs.Prelude.{◌≡◌};
-
-use hex::FromHex;
-use pg_cancel::{ConnectionManager, Door};
+use pg_cancel::ConnectionManager;
 use pg_messages::PgList;
 use pg_portal::MemPortalStore;
 use pg_serve::{
-    Acceptor, KeySource, Listening, MaybeTls, RandomKeys, ReaderSource, SocketAcceptor, WriterSink,
+    Acceptor, KeySource, Listening, RandomKeys, ReaderSource, SocketAcceptor, WriterSink,
     process_socket, serve_connection,
 };
 use pg_session::{EndKind, NoopHandler, ScriptDesk, ServeError};
 use std::alloc::{AllocError, Global};
-use std::net::{Net, TcpListener, TcpStream};
+use std::net::TcpListener;
 use std::process::ExitCode;
-use std::random::RandomSource;
 use std::sync::{Arc, Wait};
-use std::time::Clock;
 use std::{env, io};
 use styles::StylesHandler;
 
 /// How many reads and polls a client has.
 const TURNS: u64 = 1_000_000_000;
-
-/// What the words order.
-#[derive(Clone, Copy)]
-enum Order {
-    /// So many clients are served at this port of 127.0.0.1, one behind another.
-    Listen(u16, u16),
-    /// The client on standard input is served under this process id and key.
-    Serve(i32, [u8; 4]),
-}
-
-/// `listen PORT COUNT` or `serve PID KEY`, behind the program's name: COUNT is at most 65535, and
-/// KEY eight hexadecimal digits. None is any other words.
-fn order_of(words: &[String]) -> Option<Order> {
-    let [_, order, first, second] = words else {
-        return None;
-    };
-    match order.as_str() {
-        "listen" => Some(Order::Listen(first.parse().ok()?, second.parse().ok()?)),
-        "serve" => {
-            let key = <[u8; 4] as FromHex>::from_hex(second.as_str()).ok()?;
-            Some(Order::Serve(first.parse().ok()?, key))
-        }
-        _ => None,
-    }
-}
 
 /// The handlers, which any number of conversations may share.
 fn handlers(alloc: Global) -> Result<Arc<StylesHandler>, AllocError> {
@@ -56,127 +26,70 @@ fn handlers(alloc: Global) -> Result<Arc<StylesHandler>, AllocError> {
     Ok(Arc::new(alloc, StylesHandler { copying })?)
 }
 
-/// Serves the client on standard input, whose replies go to standard output.
-fn serve_standard(rt: &HostRuntime, pid: i32, key: [u8; 4]) -> Result<EndKind, ServeError> {
+/// Serves the client on standard input, whose replies go to standard output, under the process id 7
+/// and the key 01020304.
+fn serve_standard(rt: HostRuntime) -> Result<EndKind, ServeError> {
     let alloc = rt.alloc();
-    let handlers = handlers(alloc)?;
+    let (handlers, store) = (handlers(alloc)?, MemPortalStore::new(alloc));
     // No other client cancels, so that the desk needs no registry and no answers.
-    let mut desk = ScriptDesk::new(alloc, pid, key, PgList::new(alloc));
-    let mut source = ReaderSource {
+    let desk = &mut ScriptDesk::new(alloc, 7, [1, 2, 3, 4], PgList::new(alloc));
+    let source = &mut ReaderSource {
         reader: rt.reader(),
         reads: 0,
         faults: 0,
     };
-    let mut sink = WriterSink {
+    let sink = &mut WriterSink {
         writer: rt.stdout(),
         faults: 0,
     };
-    let store = MemPortalStore::new(alloc);
-    serve_connection(
-        alloc,
-        handlers,
-        store,
-        &mut desk,
-        &mut source,
-        &mut sink,
-        TURNS,
-    )
+    serve_connection(alloc, handlers, store, desk, source, sink, TURNS)
 }
 
-/// Serves the client of a connection, which is registered meanwhile.
-fn serve_connected<R: Wait>(
-    rt: &R,
-    alloc: Global,
-    manager: &ConnectionManager,
-    door: &mut Door,
-    pid: i32,
-    key: [u8; 4],
-    reader: &mut MaybeTls,
-    writer: &mut MaybeTls,
-) -> Result<EndKind, ServeError>
-    requires issued { door.old.issuer ≡ manager.now }
-    ensures issued { door.new.issuer ≡ door.old.issuer }
-{
-    let handlers = handlers(alloc)?;
-    let Ok(mut handle) = manager.register(rt, door, pid, key) else {
-        return Err(ServeError::NoMemory);
-    };
-    let store = MemPortalStore::new(alloc);
-    let end = process_socket(
-        rt,
-        alloc,
-        reader,
-        writer,
-        handlers,
-        store,
-        manager,
-        &mut handle,
-        TURNS,
-    );
-    let _left = manager.unregister(rt, handle);
-    end
-}
-
-/// Serves so many clients, one behind another, under the process ids from 1 on. How the
-/// conversation with one ended is nothing to the next.
-fn serve_clients<R: Wait, A: Acceptor<In = MaybeTls, Out = MaybeTls>, G: KeySource>(
-    rt: &R,
-    alloc: Global,
-    acceptor: &mut A,
-    keys: &mut G,
-    manager: &ConnectionManager,
-    door: &mut Door,
-    count: u16,
-) -> io::Result<()>
-    requires accepted { A.accepted acceptor.old ≡ 0 }
-    requires issued { door.old.issuer ≡ manager.now }
-{
-    'clients: for before in 0..count {
-        let Ok((mut reader, mut writer)) = acceptor.accept() else {
-            return Err(io::Error::from(io::ErrorKind::Other));
-        };
-        let pid = i32::from(before) + 1;
-        let key = keys.next_key();
-        let _end = serve_connected(rt, alloc, manager, door, pid, key, &mut reader, &mut writer);
-    }
-    Ok(())
-}
-
-/// Serves so many clients at a port of 127.0.0.1.
-fn listen<R: Wait + Net<Stream = TcpStream, Listener = TcpListener> + Clock + RandomSource + Copy>(
-    rt: R,
-    alloc: Global,
-    port: u16,
-    count: u16,
-) -> io::Result<()> {
+/// Serves clients at a port of 127.0.0.1, one behind another, under the process ids from 1 on. How
+/// the conversation with one ended is nothing to the next. `waiting` is the leave to wait for the
+/// registry's turn.
+fn listen<R: Wait>(rt: HostRuntime, waiting: &R, port: u16) -> io::Result<()> {
+    let alloc = rt.alloc();
     let listener = TcpListener::bind(&rt, ("127.0.0.1", port))?;
     let mut acceptor = SocketAcceptor::new(Listening::Tcp(listener), rt);
     let mut keys = RandomKeys::new(rt)?;
     let (manager, mut door) = ConnectionManager::new(alloc)?;
-    serve_clients(
-        &rt,
-        alloc,
-        &mut acceptor,
-        &mut keys,
-        &manager,
-        &mut door,
-        count,
-    )
+    'clients: for before in 0..u16::MAX {
+        let Ok((mut reader, mut writer)) = acceptor.accept() else {
+            return Err(io::Error::from(io::ErrorKind::Other));
+        };
+        let pid = i32::from(before) + 1;
+        let Ok(mut handle) = manager.register(waiting, &mut door, pid, keys.next_key()) else {
+            return Err(io::Error::from(io::ErrorKind::OutOfMemory));
+        };
+        let _end = process_socket(
+            waiting,
+            alloc,
+            &mut reader,
+            &mut writer,
+            handlers(alloc)?,
+            MemPortalStore::new(alloc),
+            &manager,
+            &mut handle,
+            TURNS,
+        );
+        let _left = manager.unregister(waiting, handle);
+    }
+    Ok(())
 }
 
 fn main(rt: HostRuntime) -> io::Result<ExitCode> {
     let words = env::args(&rt)?.collect::<Vec<String>>(rt.alloc())?;
-    match order_of(words.as_slice()) {
-        Some(Order::Listen(port, count)) => listen(rt, rt.alloc(), port, count)?,
-        Some(Order::Serve(pid, key)) => {
-            if serve_standard(&rt, pid, key).is_err() {
-                return Ok(ExitCode::FAILURE);
-            }
-        }
-        None => {
-            eprintln!(rt; "usage: styles_server listen PORT COUNT, serve PID KEY")?;
-            return Ok(ExitCode::from(2));
-        }
-    }
+    let [_, port] = words.as_slice() else {
+        return match serve_standard(rt) {
+            Ok(_) => Ok(ExitCode::SUCCESS),
+            Err(_) => Ok(ExitCode::FAILURE),
+        };
+    };
+    let Ok(port) = port.parse() else {
+        eprintln!(rt; "usage: styles_server PORT, or no word")?;
+        return Ok(ExitCode::from(2));
+    };
+    listen(rt, &rt, port)?;
     Ok(ExitCode::SUCCESS)
 }
