@@ -22,12 +22,13 @@ pub record Answer (T : Type 0) : Type 0 where
 abbrev pub Table : Type 0 → Type 0
 Table T = List Bool → T → PgWireFrontendMessage → Answer T
 
--- the registry's answers among calls
+-- the registry's answers among calls: a question has one, and a cancel
 abbrev pub answers_of : List DeskCall → List Bool
 answers_of [] = []
 answers_of (desk.Start ∷ calls) = answers_of calls
 answers_of (desk.Ask told ∷ calls) = told ∷ answers_of calls
 answers_of (desk.Cancel pid key told ∷ calls) = told ∷ answers_of calls
+answers_of (desk.Narrow ∷ calls) = answers_of calls
 
 -- the answers that calls have left
 abbrev pub left_by : List DeskCall → List Bool → List Bool

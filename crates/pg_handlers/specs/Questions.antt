@@ -37,6 +37,7 @@ questions [] = 0
 questions (desk.Start ∷ calls) = questions calls
 questions (desk.Ask told ∷ calls) = questions calls + 1
 questions (desk.Cancel pid key told ∷ calls) = questions calls
+questions (desk.Narrow ∷ calls) = questions calls
 
 -- The questions of so many unready polls were asked, under the very answers that they were given, and came to this verdict.
 pub record IsAsked (owes : ℕ) (calls new_calls : List DeskCall) (verdict : Verdict) : Type 0 where

@@ -1,5 +1,5 @@
 -- The startup phase (protocol: Message Flow, Start-up; Canceling Requests in Progress; SSL and GSSAPI Session Encryption).
-use Rattle.std.specs.Prelude.{ℕ, Bool, List, [], ◌∷◌, ◌==◌, if◌then◌else◌}
+use Rattle.std.specs.Prelude.{ℕ, Bool, List, [], ◌∷◌, ◌==◌, nat_lt, length, take, if◌then◌else◌}
 use Rattle.std.specs.FinMap as fin
 use Rattle.std.specs.Str.{str_to_ascii_lowercase}
 use Rattle.pg_messages.specs.declared.startup.Startup.{Startup}
@@ -17,6 +17,7 @@ use Rattle.pg_messages.specs.Frames.{protocol_3_0, protocol_3_2}
 use Rattle.pg_portal.specs.declared.error.PgWireError.TheVariants as wire
 use Rattle.pg_portal.specs.declared.client.PgWireConnectionState.TheVariants as phase
 use Rattle.pg_portal.specs.Names.{NameMap}
+use Rattle.pg_handlers.specs.declared.desk.DeskCall.{DeskCall}
 use Rattle.pg_handlers.specs.declared.desk.DeskCall.TheVariants as desk
 use Rattle.pg_handlers.specs.declared.ends.EndKind.TheVariants as end
 use Rattle.pg_handlers.specs.Errors.{unsupported_version}
@@ -39,10 +40,21 @@ abbrev pub with_parameters : NameMap (List ℕ) → List (List ℕ × List ℕ) 
 with_parameters names [] = names
 with_parameters names (p ∷ parameters) = with_parameters (fin.insert names (str_to_ascii_lowercase p.0) p.1) parameters
 
--- the session is ready, outside a transaction, with this version and these parameters
+-- the key that a client is told: in 3.0 the first four bytes, in 3.2 the whole key
+abbrev pub told_key : ProtocolVersion → List ℕ → List ℕ
+told_key PROTOCOL3_0 key = take 4 key
+told_key PROTOCOL3_2 key = key
+
+-- The registration is narrowed to what the client is told, where that is less than the whole key.
+abbrev pub narrowing : ProtocolVersion → List ℕ → List DeskCall
+narrowing PROTOCOL3_0 key = if nat_lt 4 (length key) then desk.Narrow ∷ [] else []
+narrowing PROTOCOL3_2 key = []
+
+-- the session is ready, outside a transaction, with this version, these parameters, and the key that the client is told
 abbrev pub started_session : {S : Type 0} → State S → ProtocolVersion → Startup → State S
 started_session s version m = record s {
   info = record s.info {
+    secret_key = told_key version s.info.secret_key;
     protocol = version;
     metadata = with_parameters fin.empty m.parameters;
     status = status.Idle;
@@ -51,7 +63,10 @@ started_session s version m = record s {
 }
 
 abbrev pub accepts : {S : Type 0} → State S → ProtocolVersion → Startup → Called S
-accepts s version m = silent (says (startup_replies s.info.pid s.info.secret_key) (started_session s version m))
+accepts s version m = record {
+  calls = narrowing version s.info.secret_key;
+  effect = says (startup_replies s.info.pid (told_key version s.info.secret_key)) (started_session s version m);
+}
 
 -- Startup: versions 3.0 and 3.2 are accepted, and every other is refused.
 abbrev pub on_startup : {S : Type 0} → State S → Startup → Called S

@@ -63,13 +63,13 @@ pub record IsUnspoken (m : Startup) : Type 0 where
   pub unknown : AllByRecursion (λ code. m.code ≢ code) known_codes
   pub parameters : m.parameters ≡ []
 
--- CancelRequest, behind the code: Int32 pid, and four bytes of key.
+-- CancelRequest, behind the code: Int32 pid, and 4 to 256 bytes of key.
 abbrev pub cancel_body : CancelRequest → List ℕ
 cancel_body m = int32 m.pid ++ m.secret_key
 
 pub record IsCancel (m : CancelRequest) : Type 0 where
   pub pid : FitsSigned w32 m.pid
-  pub secret_key : length m.secret_key ≡ 4
+  pub secret_key : (4 ≤ length m.secret_key) × (length m.secret_key ≤ 256)
 
 -- the code of a request to encrypt, which has no body
 abbrev pub negotiation_code : SslNegotiationKind → ℕ

@@ -100,10 +100,6 @@ parameters_at (suc n) bytes = option_map_or (λ rest. Some (
 abbrev pub all_parameters_at : List ℕ → Option (List (List ℕ × List ℕ) × List ℕ)
 all_parameters_at bytes = parameters_at (length bytes) bytes
 
--- four bytes
-abbrev pub four_at : List ℕ → Option (List ℕ × List ℕ)
-four_at bytes = if nat_lt (length bytes) 4 then None else Some (take 4 bytes, drop 4 bytes)
-
 -- one byte
 abbrev pub byte_at : List ℕ → Option (ℕ × List ℕ)
 byte_at [] = None
@@ -111,8 +107,13 @@ byte_at (byte ∷ rest) = Some (byte, rest)
 
 -- ---- the bodies of messages
 
-unfoldable pub cancel_at : List ℕ → Option (CancelRequest × List ℕ)
-cancel_at = as_at (λ x. record { pid = x.0; secret_key = x.1 }) (both_at (signed_at w32) four_at)
+-- all of the bytes as a key, which has 4 to 256 of them
+abbrev pub key_of : List ℕ → Option (List ℕ)
+key_of bytes = if nat_lt (length bytes) 4 then None else (if nat_lt 256 (length bytes) then None else Some bytes)
+
+-- the key is what stands behind the pid
+unfoldable pub cancel_of : List ℕ → Option CancelRequest
+cancel_of body = signed_at w32 body >>= λ pid. key_of pid.1 >>= λ key. Some (record { pid = pid.0; secret_key = key })
 
 unfoldable pub query_at : List ℕ → Option (Query × List ℕ)
 query_at = as_at (λ x. record { query = x }) string_at
@@ -167,7 +168,7 @@ startup_packet code parameters = client.Startup (record { code = code; parameter
 abbrev pub startup_readings : List ℕ → List (ℕ × Option PgWireFrontendMessage)
 startup_readings body = (protocol_3_0, told_as (startup_packet protocol_3_0) (whole (all_parameters_at body)))
     ∷ (protocol_3_2, told_as (startup_packet protocol_3_2) (whole (all_parameters_at body)))
-    ∷ (80877102, told_as client.CancelRequest (whole (cancel_at body)))
+    ∷ (80877102, told_as client.CancelRequest (cancel_of body))
     ∷ (80877103, bare body (client.SslNegotiation PostgresSsl))
     ∷ (80877104, bare body (client.SslNegotiation PostgresGss)) ∷ []
 
