@@ -99,8 +99,9 @@ def startup(body):
         body.end()
         return "SslNegotiation " + ("PostgresSsl" if code == 80877103 else "PostgresGss")
     if code == 80877102:
-        pid, key = body.number("i"), body.take(4)
-        body.end()
+        pid, key = body.number("i"), body.take(max(4, len(body.data)))
+        if len(key) > 256:
+            raise Bad
         return f"CancelRequest {pid}" + hexed(key)
     pairs = []
     if code in (196608, 196610):

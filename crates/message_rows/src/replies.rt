@@ -4,9 +4,9 @@ use crate::parts::{bytes_of, numbers_of, text_of};
 use pg_messages::{
     AuthenticationOk, BackendKeyData, BindComplete, CloseComplete, CommandComplete,
     CopyBothResponse, CopyData, CopyDone, CopyInResponse, CopyOutResponse, DataRow,
-    EmptyQueryResponse, ErrorInfo, ErrorResponse, FieldDescription, GssEncResponse, NoData,
+    EmptyQueryResponse, ErrorInfo, ErrorResponse, FieldDescription, GssEncResponse, KeyError, NoData,
     ParameterDescription, ParameterStatus, ParseComplete, PgBytes, PgList, PgStr,
-    PgWireBackendMessage, PortalSuspended, ReadyForQuery, RowDescription, SslResponse,
+    PgWireBackendMessage, PortalSuspended, ReadyForQuery, RowDescription, SecretKey, SslResponse,
     TransactionStatus,
 };
 use row_files::{Fault, parsed, times_and_rest};
@@ -73,12 +73,13 @@ fn key_data<'t>(alloc: Global, kind: &'t str, parts: &[&'t str]) -> Made<'t> {
     Ok(PgWireBackendMessage::BackendKeyData(BackendKeyData { pid, secret_key }))
 }
 
-/// The four bytes of a key.
-fn key_of<'t>(alloc: Global, word: &'t str) -> Result<[u8; 4], Fault<'t>> {
+/// A key of 4 to 256 bytes.
+fn key_of<'t>(alloc: Global, word: &'t str) -> Result<SecretKey, Fault<'t>> {
     let bytes = bytes_of(alloc, &[word])?;
-    match bytes.as_slice() {
-        [a, b, c, d] => Ok([*a, *b, *c, *d]),
-        _ => Err(Fault::Line(word)),
+    match SecretKey::try_new(alloc, bytes.as_slice()) {
+        Ok(key) => Ok(key),
+        Err(KeyError::BadLength(_)) => Err(Fault::Line(word)),
+        Err(KeyError::NoMemory) => Err(Fault::NoMemory),
     }
 }
 

@@ -17,7 +17,7 @@ use Rattle.std.proofs.lemmas.Option.{same_Some, cond_some, none-some}
 use Rattle.std.proofs.lemmas.Str.{is_utf8-from_IsUtf8, IsUtf8-from_is_utf8}
 use Rattle.pg_messages.specs.Fields.{count16, count32, string, IsText}
 use Rattle.pg_messages.specs.Frames.{parameter_value, IsParameterValue, IsParameter}
-use Rattle.pg_messages.specs.Reading.{◌>>=◌, both_at, items_at, number_at, signed_at, count_at, list_at, string_at, value_behind, value_at, after_zero, parameters_at, all_parameters_at, four_at, byte_at}
+use Rattle.pg_messages.specs.Reading.{◌>>=◌, both_at, items_at, number_at, signed_at, count_at, list_at, string_at, value_behind, value_at, after_zero, parameters_at, all_parameters_at, byte_at}
 use Rattle.pg_messages.proofs.Utf8.{false_from}
 use Rattle.pg_messages.proofs.Laws.{IsBytes, Reads, bind_some, rest_fits, Reads-as, Reads-both, items_take, items_again}
 
@@ -266,7 +266,7 @@ Reads-value = record {
   again = value_again;
 }
 
--- ---- one byte, and four
+-- ---- one byte
 
 pub Reads-byte : Reads (λ (b : ℕ). Unit {0}) (λ (b : ℕ). b ∷ []) byte_at
 Reads-byte = record { takes = byte_takes; again = λ b rest good. refl }
@@ -277,18 +277,6 @@ Reads-byte = record { takes = byte_takes; again = λ b rest good. refl }
     byte_takes (x ∷ bytes) b rest fits e =
         let made : ℕ × List ℕ = (x, bytes) in
         subst (λ (w : ℕ × List ℕ). (x ∷ bytes ≡ (w.0 ∷ []) ++ w.1) × Unit {0}) (same_Some made (b, rest) e) (refl, tt)
-
-pub Reads-four : Reads (λ (k : List ℕ). length k ≡ 4) (λ (k : List ℕ). k) four_at
-Reads-four = record {
-  takes = λ bytes k rest fits e.
-      let g = guard_some (ltb (length bytes) 4) (take 4 bytes, drop 4 bytes) (k, rest) e in
-      let long : 4 ≤ length bytes = ltb-false _ _ g.0 in
-      let len : length (take 4 bytes) ≡ 4 = omega (arith, length-take 4 bytes) in
-      subst (λ (w : List ℕ × List ℕ). (bytes ≡ w.0 ++ w.1) × (length w.0 ≡ 4)) g.1 (sym (take-append-drop 4 bytes), len);
-  again = λ k rest good.
-      let long : ltb (length (k ++ rest)) 4 ≡ false = le-ltb _ _ (omega (arith, good, length-append k rest)) in
-      rw (long, take_at k rest 4 good, drop_at k rest 4 good) refl;
-}
 
 -- ---- pairs of texts up to a zero byte
 

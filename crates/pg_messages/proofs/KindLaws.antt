@@ -7,11 +7,11 @@ use Rattle.std.proofs.lemmas.Option.{same_Some, none-some}
 use Rattle.pg_messages.specs.declared.startup.SslNegotiationKind.TheVariants.{PostgresSsl, PostgresGss}
 use Rattle.pg_messages.specs.declared.frontend.PgWireFrontendMessage.{PgWireFrontendMessage}
 use Rattle.pg_messages.specs.declared.frontend.PgWireFrontendMessage.TheVariants as client
-use Rattle.pg_messages.specs.Frames.{Carries, type_bytes, IsParameter, cancel_body, IsCancel, query_body, IsQuery, parse_body, IsParse, bind_body, IsBind, describe_body, IsDescribe, execute_body, IsExecute, close_body, IsClose, copy_fail_body, IsCopyFail, protocol_3_0, protocol_3_2}
-use Rattle.pg_messages.specs.Reading.{whole, told_as, bare, beside, startup_packet, startup_readings, typed_readings, message_at, all_parameters_at, cancel_at, query_at, parse_at, bind_at, describe_at, execute_at, close_at, copy_fail_at}
+use Rattle.pg_messages.specs.Frames.{Carries, type_bytes, IsParameter, query_body, IsQuery, parse_body, IsParse, bind_body, IsBind, describe_body, IsDescribe, execute_body, IsExecute, close_body, IsClose, copy_fail_body, IsCopyFail, protocol_3_0, protocol_3_2}
+use Rattle.pg_messages.specs.Reading.{whole, told_as, bare, beside, startup_packet, startup_readings, typed_readings, message_at, all_parameters_at, cancel_of, query_at, parse_at, bind_at, describe_at, execute_at, close_at, copy_fail_at}
 use Rattle.pg_messages.proofs.Laws.{IsBytes, Reads, bind_some, whole_takes, whole_again}
 use Rattle.pg_messages.proofs.FieldLaws.{chosen, eqb-apart, parameters_bytes, Reads-parameters}
-use Rattle.pg_messages.proofs.MessageLaws.{Reads-cancel, Reads-query, Reads-parse, Reads-bind, Reads-describe, Reads-execute, Reads-close, Reads-copy_fail}
+use Rattle.pg_messages.proofs.MessageLaws.{cancel_takes, cancel_again, Reads-query, Reads-parse, Reads-bind, Reads-describe, Reads-execute, Reads-close, Reads-copy_fail}
 
 -- ---- what is carried is read
 
@@ -47,7 +47,7 @@ startup_read code body (client.Startup m) h =
 startup_read code body (client.SslNegotiation PostgresSsl) h = rw (h.0, h.1) refl
 startup_read code body (client.SslNegotiation PostgresGss) h = rw (h.0, h.1) refl
 startup_read code body (client.CancelRequest m) h =
-    rw h.0 (told_again IsCancel cancel_body cancel_at Reads-cancel client.CancelRequest body m h.1 h.2)
+    rw h.0 (ap (λ (b : List ℕ). told_as client.CancelRequest (cancel_of b)) h.1 ∙ ap (told_as client.CancelRequest) (cancel_again m h.2))
 startup_read code body _ h = absurd h
 
 typed_read : (kind : ℕ) (body : List ℕ) (m : PgWireFrontendMessage) → Carries false kind body m → message_at false kind body ≡ Some m
@@ -134,11 +134,10 @@ startup_carried code body m small fits e =
       (
         packet protocol_3_2 (inr refl),
         (
-          told_takes IsCancel cancel_body cancel_at Reads-cancel client.CancelRequest (C 80877102) body fits (λ x layout good. (
-            refl,
-            layout,
-            good,
-          )),
+          λ n e.
+              let a = bind_some (cancel_of body) (λ request. Some (client.CancelRequest request)) n e in
+              let told = cancel_takes body a.0 fits a.1 in
+              subst (C 80877102) (same_Some (client.CancelRequest a.0) n a.2) (refl, told.0, told.1),
           (
             bare_takes body (client.SslNegotiation PostgresSsl) (C 80877103) (λ empty. (refl, empty)),
             (

@@ -1,5 +1,7 @@
 -- The bodies of messages: what is read is spelled so, and what is spelled so is read.
-use Rattle.std.proofs.Common.{◌≡◌, ℕ, ℤ, ◌^◌, ◌<◌, List, [], ◌∷◌, ◌++◌, length, Option, refl, ap, append_assoc}
+use Rattle.std.proofs.Common.{◌≡◌, ℕ, ℤ, ◌^◌, ◌<◌, ◌≤◌, ◌⊎◌, arith, ltb, cond, inl, inr, List, [], ◌∷◌, ◌++◌, length, Option, Some, None, refl, ap, subst, ◌∙◌, append_assoc}
+use Rattle.std.proofs.lemmas.Bool.{ltb-false, le-ltb, lt-ltb}
+use Rattle.std.proofs.lemmas.Option.{same_Some, none-some}
 use Rattle.std.specs.Prelude.{FitsSigned}
 use Rattle.std.specs.List.{flat_map, AllByRecursion}
 use Rattle.std.specs.Int.{w16, w32}
@@ -13,9 +15,9 @@ use Rattle.pg_messages.specs.declared.extendedquery.Close.{Close}
 use Rattle.pg_messages.specs.declared.copy.CopyFail.{CopyFail}
 use Rattle.pg_messages.specs.Fields.{int16, int32, count16, count32, string, IsText}
 use Rattle.pg_messages.specs.Frames.{cancel_body, IsCancel, query_body, IsQuery, parse_body, IsParse, parameter_value, IsParameterValue, bind_body, IsBind, describe_body, IsDescribe, execute_body, IsExecute, close_body, IsClose, copy_fail_body, IsCopyFail}
-use Rattle.pg_messages.specs.Reading.{both_at, number_at, signed_at, byte_at, four_at, list_at, string_at, value_at, cancel_at, query_at, parse_at, bind_at, describe_at, execute_at, close_at, copy_fail_at}
-use Rattle.pg_messages.proofs.Laws.{Reads, Reads-both, Reads-as}
-use Rattle.pg_messages.proofs.FieldLaws.{wide16, wide32, Reads-number, Reads-signed, Reads-list, Reads-string, Reads-value, Reads-byte, Reads-four}
+use Rattle.pg_messages.specs.Reading.{both_at, number_at, signed_at, ◌>>=◌, byte_at, key_of, list_at, string_at, value_at, cancel_of, query_at, parse_at, bind_at, describe_at, execute_at, close_at, copy_fail_at}
+use Rattle.pg_messages.proofs.Laws.{IsBytes, Reads, Reads-both, Reads-as, bind_some}
+use Rattle.pg_messages.proofs.FieldLaws.{wide16, wide32, Reads-number, Reads-signed, Reads-list, Reads-string, Reads-value, Reads-byte, chosen}
 
 Reads-oid : Reads (λ (n : ℕ). n < 2 ^ 32) (λ (n : ℕ). count32 n) (number_at w32)
 Reads-oid = Reads-number w32 (2 ^ 32) wide32
@@ -52,16 +54,46 @@ Reads-values = Reads-list IsParameterValue parameter_value value_at Reads-value
 
 -- ---- the messages
 
-pub Reads-cancel : Reads IsCancel cancel_body cancel_at
-unfolding cancel_at
-Reads-cancel =
-    Reads-as (λ (x : ℤ × List ℕ). FitsSigned w32 x.0 × (length x.1 ≡ 4)) IsCancel
-    (λ (x : ℤ × List ℕ). int32 x.0 ++ x.1) cancel_body (both_at (signed_at w32) four_at)
-    (λ x. record { pid = x.0; secret_key = x.1 }) (λ (m : CancelRequest). (m.pid, m.secret_key))
-    (λ x good. (refl, record { pid = good.0; secret_key = good.1 }))
-    (λ m good. (refl, refl, (good.pid, good.secret_key)))
-    (Reads-both (λ (z : ℤ). FitsSigned w32 z) (λ (k : List ℕ). length k
-    ≡ 4) (λ (z : ℤ). int32 z) (λ (k : List ℕ). k) (signed_at w32) four_at Reads-limit Reads-four)
+key_takes : (bytes key : List ℕ) → key_of bytes ≡ Some key → (bytes ≡ key) × ((4 ≤ length key) × (length key ≤ 256))
+key_takes bytes key e =
+    elim (chosen (ltb (length bytes) 4) None (cond (ltb 256 (length bytes)) None (Some bytes)) (Some key) e) [
+      | inl h ↦ absurd (none-some key h.1)
+      | inr h ↦
+          elim (chosen (ltb 256 (length bytes)) None (Some bytes) (Some key) h.1) [
+            | inl g ↦ absurd (none-some key g.1)
+            | inr g ↦
+                let same : bytes ≡ key = same_Some bytes key g.1 in
+                (same, subst (λ (k : List ℕ). (4 ≤ length k) × (length k ≤ 256)) same (ltb-false _ _ h.0, ltb-false _ _ g.0))
+          ]
+    ]
+
+-- bytes of another length are no key
+pub no_key : (n : ℕ) (bytes : List ℕ) → (n ≡ length bytes) × ((n < 4) ⊎ (256 < n)) → key_of bytes ≡ None
+no_key n bytes (same, inl short) = rw (lt-ltb (length bytes) 4 (omega (arith, same, short))) refl
+no_key n bytes (same, inr long) =
+    rw (le-ltb (length bytes) 4 (omega (arith, same, long)), lt-ltb 256 (length bytes) (omega (arith, same, long))) refl
+
+pub cancel_takes : (body : List ℕ) (m : CancelRequest) → IsBytes body → cancel_of body ≡ Some m → (body ≡ cancel_body m) × IsCancel m
+unfolding cancel_of
+cancel_takes body m fits e =
+    let a = bind_some (signed_at w32 body) (λ pid. key_of pid.1 >>= λ key. Some (record { pid = pid.0; secret_key = key })) m e in
+    let b = bind_some (key_of a.0.1) (λ key. let made : CancelRequest = record { pid = a.0.0; secret_key = key } in Some made) m a.2 in
+    let pid = Reads-limit.takes body a.0.0 a.0.1 fits a.1 in
+    let key = key_takes a.0.1 b.0 b.1 in
+    let made : CancelRequest = record { pid = a.0.0; secret_key = b.0 } in
+    subst (λ (n : CancelRequest). (body ≡ cancel_body n) × IsCancel n) (same_Some made m b.2) (
+      pid.0 ∙ ap (λ (k : List ℕ). int32 a.0.0 ++ k) key.0,
+      record { pid = pid.1; secret_key = key.1 },
+    )
+
+pub cancel_again : (m : CancelRequest) → IsCancel m → cancel_of (cancel_body m) ≡ Some m
+unfolding cancel_of
+cancel_again m good =
+    rw (
+      Reads-limit.again m.pid m.secret_key good.pid,
+      le-ltb _ _ good.secret_key.0,
+      le-ltb _ _ good.secret_key.1,
+    ) refl
 
 pub Reads-query : Reads IsQuery query_body query_at
 unfolding query_at

@@ -130,7 +130,7 @@ pub fn put_body(item: &PgWireBackendMessage, dst: &mut BytesMut)
         }
         PgWireBackendMessage::BackendKeyData(m) => {
             m.pid.put(dst);
-            dst.extend_reserved(&m.secret_key);
+            dst.extend_reserved(m.secret_key.as_slice());
         }
         PgWireBackendMessage::ReadyForQuery(m) => dst.extend_reserved(&[status_byte(m.status)]),
         PgWireBackendMessage::ParameterDescription(m) => put_list(m.types.as_slice(), dst),

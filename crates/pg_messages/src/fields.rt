@@ -42,20 +42,6 @@ impl Field for u8 {
     }
 }
 
-impl Field for [u8; 4] {
-    ghost use Rattle.pg_messages.specs.Reading.{four_at};
-
-    ghost field_at = { four_at };
-
-    fn read(_alloc: Global, bytes: &[u8]) -> Result<([u8; 4], &[u8]), FrameError> {
-        if bytes.len() < 4 {
-            return Err(FrameError::Bad);
-        }
-        let (front, rest) = bytes.split_at(4);
-        Ok(([front[0], front[1], front[2], front[3]], rest))
-    }
-}
-
 impl Field for u32 {
     ghost use Rattle.std.specs.Int.{w32};
     ghost use Rattle.pg_messages.specs.Reading.{number_at};

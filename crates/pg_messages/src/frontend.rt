@@ -11,6 +11,7 @@ use crate::fields::whole;
 use crate::simplequery::Query;
 use crate::startup::{
     CancelRequest, PROTOCOL_3_0, PROTOCOL_3_2, SslNegotiationKind, Startup, Terminate,
+    cancel_request,
 };
 use crate::values::{PgBytes, PgList};
 use std::alloc::Global;
@@ -69,7 +70,7 @@ pub fn startup_message(
             let parameters = whole(alloc, body)?;
             Ok(PgWireFrontendMessage::Startup(Startup { code, parameters }))
         }
-        80877102 => Ok(PgWireFrontendMessage::CancelRequest(whole(alloc, body)?)),
+        80877102 => Ok(PgWireFrontendMessage::CancelRequest(cancel_request(alloc, body)?)),
         80877103 => {
             empty(body)?;
             Ok(PgWireFrontendMessage::SslNegotiation(SslNegotiationKind::PostgresSsl))

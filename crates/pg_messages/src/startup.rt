@@ -1,10 +1,11 @@
 //! The start and the end of a session: startup packets and what answers them, and Terminate.
 
 ghost use Rattle.std.specs.Prelude.{◌≡◌, MatchOption, Some, None};
-ghost use Rattle.pg_messages.specs.Reading.{Gives, after_zero, all_parameters_at};
+ghost use Rattle.pg_messages.specs.Reading.{Gives, after_zero, all_parameters_at, key_of, cancel_of};
 
 use crate::codec::FrameError;
 use crate::fields::Field;
+use crate::secret_key::{KeyError, SecretKey};
 use crate::values::{PgList, PgStr};
 use std::alloc::Global;
 
@@ -37,13 +38,13 @@ pub enum SslNegotiationKind {
 }
 
 /// Asks, in the place of a startup packet, that a query of another session is canceled. Protocol,
-/// CancelRequest: Int32 length 16, Int32 code 80877102, Int32 pid, four bytes of key.
+/// CancelRequest: Int32 length 16 to 268, Int32 code 80877102, Int32 pid, 4 to 256 bytes of key.
 #[derive(Drop)]
 pub struct CancelRequest {
     /// The other session's process number.
     pub pid: i32,
     /// The other session's secret.
-    pub secret_key: [u8; 4],
+    pub secret_key: SecretKey,
 }
 
 /// Ends the session. Protocol, Terminate: Byte1 `X`, Int32 length 4.
@@ -66,25 +67,32 @@ pub struct ParameterStatus {
 }
 
 /// What a client sends back to cancel a query of this session. Protocol, BackendKeyData: Byte1 `K`,
-/// Int32 length 12, Int32 pid, four bytes of key.
+/// Int32 length, 8 more than the key has bytes, Int32 pid, 4 to 256 bytes of key.
 #[derive(Drop)]
 pub struct BackendKeyData {
     /// The session's process number.
     pub pid: i32,
     /// The session's secret.
-    pub secret_key: [u8; 4],
+    pub secret_key: SecretKey,
 }
 
-impl Field for CancelRequest {
-    ghost use Rattle.pg_messages.specs.Reading.{cancel_at};
+/// The request to cancel of a body: its key is all that stands behind the pid.
+#[tactic(auto, unfolding(crate::specs::Reading::cancel_of))]
+pub fn cancel_request(alloc: Global, body: &[u8]) -> Result<CancelRequest, FrameError>
+    ensures { Gives (λ m. m) result (cancel_of body.now) }
+{
+    let (pid, rest) = i32::read(alloc, body)?;
+    let secret_key = key_of(alloc, rest)?;
+    Ok(CancelRequest { pid, secret_key })
+}
 
-    ghost field_at = { cancel_at };
-
-    #[tactic(auto, unfolding(crate::specs::Reading::cancel_at))]
-    fn read(alloc: Global, bytes: &[u8]) -> Result<(CancelRequest, &[u8]), FrameError> {
-        let (pid, rest) = i32::read(alloc, bytes)?;
-        let (secret_key, rest) = <[u8; 4]>::read(alloc, rest)?;
-        Ok((CancelRequest { pid, secret_key }, rest))
+fn key_of(alloc: Global, bytes: &[u8]) -> Result<SecretKey, FrameError>
+    ensures { Gives (λ key. key) result (key_of bytes.now) }
+{
+    match SecretKey::try_new(alloc, bytes) {
+        Ok(key) => Ok(key),
+        Err(KeyError::BadLength(_)) => Err(FrameError::Bad),
+        Err(KeyError::NoMemory) => Err(FrameError::NoMemory),
     }
 }
 

@@ -1,5 +1,4 @@
-use Rattle.std.proofs.Common.{◌≡◌, ◌∙◌, ap, take, drop, get_or, List, ℕ, true, false, arith}
-use Rattle.std.proofs.lemmas.List.{get_or-take}
+use Rattle.std.proofs.Common.{◌∙◌, ap, take, drop, List, ℕ, true, arith}
 use Rattle.std.proofs.lemmas.Result.{err_from_is_err_and}
 use Rattle.pg_messages.proofs.FrameLaws.{StandsIn, message_bad, message_found}
 use Rattle.std.specs.Int.{w32, from_be_bytes}
