@@ -12,6 +12,7 @@ pub mod Executed
 pub mod Executes
 pub mod GoodStores
 pub mod Lends
+pub mod Narrowing
 pub mod PagesSent
 pub mod Parsing
 pub mod Queried

@@ -11,6 +11,7 @@ answers_of-append [] ys = refl
 answers_of-append (desk.Start ∷ xs) ys = answers_of-append xs ys
 answers_of-append (desk.Ask told ∷ xs) ys = ap (λ l. told ∷ l) (answers_of-append xs ys)
 answers_of-append (desk.Cancel pid key told ∷ xs) ys = ap (λ l. told ∷ l) (answers_of-append xs ys)
+answers_of-append (desk.Narrow ∷ xs) ys = answers_of-append xs ys
 
 drop_one_more : (n : ℕ) (script : List Bool) → drop n (drop 1 script) ≡ drop (suc n) script
 drop_one_more n script = let more : 1 + n ≡ suc n = omega arith in drop-drop n 1 script ∙ ap (λ k. drop k script) more

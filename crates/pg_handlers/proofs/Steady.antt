@@ -30,7 +30,7 @@ use Rattle.pg_handlers.specs.Lawful.{IsMade}
 use Rattle.pg_handlers.specs.Questions.{Verdict, Passed, Canceled, Unanswered, Questioned, questioned, started, after_call}
 use Rattle.pg_handlers.specs.Replies.{Replies, ready}
 use Rattle.pg_handlers.specs.SimpleRows.{query_polled, query_run}
-use Rattle.pg_handlers.specs.StartupRows.{accepts, startup_row, on_cancel_request}
+use Rattle.pg_handlers.specs.StartupRows.{accepts, tells_less, startup_row, on_cancel_request}
 use Rattle.pg_handlers.specs.State.{State}
 use Rattle.pg_handlers.specs.Table.{row}
 
@@ -160,11 +160,15 @@ module _ {S : Type 0} (h : Handlers S) (answers more : List Bool) (s : State S) 
   either_takes true x y e f = e
   either_takes false x y e f = f
 
+  narrowing_takes : (b : Bool) → TakesFront (if b then desk.Narrow ∷ [] else []) answers
+  narrowing_takes true = refl
+  narrowing_takes false = refl
+
   startup_takes : (m : Startup) → TakesFront (startup_row answers s (client.Startup m)).calls answers
   startup_takes m =
       let refused : Called S = silent (refuses s (wire.UserError (unsupported_version m.code))) in
       either_takes (m.code == protocol_3_0) (accepts s PROTOCOL3_0 m) (if m.code == protocol_3_2 then accepts s PROTOCOL3_2 m
-      else refused) refl
+      else refused) (narrowing_takes (tells_less PROTOCOL3_0 s.info.secret_key))
       (either_takes (m.code == protocol_3_2) (accepts s PROTOCOL3_2 m) refused refl refl)
 
   row_takes : (m : PgWireFrontendMessage) (x : PgWireConnectionState) → TakesFront (row h answers s m x).calls answers

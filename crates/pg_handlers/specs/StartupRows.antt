@@ -1,5 +1,5 @@
 -- The startup phase (protocol: Message Flow, Start-up; Canceling Requests in Progress; SSL and GSSAPI Session Encryption).
-use Rattle.std.specs.Prelude.{ℕ, Bool, List, [], ◌∷◌, ◌==◌, nat_lt, length, take, if◌then◌else◌}
+use Rattle.std.specs.Prelude.{ℕ, Bool, false, List, [], ◌∷◌, ◌==◌, nat_lt, length, take, if◌then◌else◌}
 use Rattle.std.specs.FinMap as fin
 use Rattle.std.specs.Str.{str_to_ascii_lowercase}
 use Rattle.pg_messages.specs.declared.startup.Startup.{Startup}
@@ -45,10 +45,14 @@ abbrev pub told_key : ProtocolVersion → List ℕ → List ℕ
 told_key PROTOCOL3_0 key = take 4 key
 told_key PROTOCOL3_2 key = key
 
--- The registration is narrowed to what the client is told, where that is less than the whole key.
+-- whether that is less than the whole key
+abbrev pub tells_less : ProtocolVersion → List ℕ → Bool
+tells_less PROTOCOL3_0 key = nat_lt 4 (length key)
+tells_less PROTOCOL3_2 key = false
+
+-- Where it is less, the registration is narrowed to it.
 abbrev pub narrowing : ProtocolVersion → List ℕ → List DeskCall
-narrowing PROTOCOL3_0 key = if nat_lt 4 (length key) then desk.Narrow ∷ [] else []
-narrowing PROTOCOL3_2 key = []
+narrowing version key = if tells_less version key then desk.Narrow ∷ [] else []
 
 -- the session is ready, outside a transaction, with this version, these parameters, and the key that the client is told
 abbrev pub started_session : {S : Type 0} → State S → ProtocolVersion → Startup → State S

@@ -1,23 +1,25 @@
 //! The cancel registry as a session sees it, and a desk that answers from a list.
 
-ghost use Rattle.std.specs.Prelude.{◌≡◌, [], ◌∷◌, drop, IfOk, OnOk, OnErr};
+ghost use Rattle.std.specs.Prelude.{◌≡◌, [], ◌∷◌, drop, take, IfOk, OnOk, OnErr};
 ghost use Rattle.pg_handlers.specs.Desk.{DeskTold, after_calls};
 ghost use Rattle.pg_handlers.specs.declared.desk.DeskCall.{DeskCall};
 ghost use Rattle.pg_handlers.specs.Script.{first_or_no, script_told, IsScripted};
 
-use pg_messages::PgList;
+use pg_messages::{PgList, SecretKey};
 use std::alloc::{AllocError, Global};
 use std::marker::Model;
 
 /// A call of the cancel registry, with its answer.
-#[derive(Clone, Copy, Debug, PartialEq, Eq)]
+#[derive(Debug, Drop, PartialEq, Eq)]
 pub enum DeskCall {
     /// A query was started.
     Start,
     /// Whether the running query was canceled.
     Ask(bool),
     /// The pid and key whose query was to be canceled, and whether there is such a registration.
-    Cancel(i32, [u8; 4], bool),
+    Cancel(i32, SecretKey, bool),
+    /// The registration's key was narrowed to its first four bytes.
+    Narrow,
 }
 
 /// What a session sees of the cancel registry: its own registration.
@@ -26,8 +28,8 @@ pub trait CancelDesk {
     ghost told: { Self → DeskTold };
 
     /// The pid and the key that the client is told.
-    fn identity(&self) -> (i32, [u8; 4])
-        ensures { result ≡ (told self.now).registration };
+    fn identity(&self) -> (i32, &SecretKey)
+        ensures { (result.0, result.1.now) ≡ (told self.now).registration };
 
     /// Notes that a query starts. After an error nothing has changed.
     fn start(&mut self) -> Result<(), AllocError>
@@ -43,9 +45,16 @@ pub trait CancelDesk {
 
     /// Cancels the query of the registration with this pid and key, and tells whether there is one.
     /// After an error nothing has changed.
-    fn cancel(&mut self, pid: i32, key: [u8; 4]) -> Result<bool, AllocError>
+    fn cancel(&mut self, pid: i32, key: &SecretKey) -> Result<bool, AllocError>
         ensures ok { IfOk result (λ yes.
-            told self.new ≡ after_calls (told self.old) (DeskCall.Cancel pid key yes ∷ [])) }
+            told self.new ≡ after_calls (told self.old) (DeskCall.Cancel pid key.now yes ∷ [])) }
+        ensures err { OnErr result (told self.new ≡ told self.old) };
+
+    /// Narrows the registration's key to its first four bytes, so that no longer key cancels its
+    /// query. After an error nothing has changed.
+    fn narrow(&mut self) -> Result<(), AllocError>
+        ensures ok { OnOk result
+            (told self.new ≡ after_calls (told self.old) (DeskCall.Narrow ∷ [])) }
         ensures err { OnErr result (told self.new ≡ told self.old) };
 }
 
@@ -53,7 +62,7 @@ pub trait CancelDesk {
 #[derive(Drop)]
 pub struct ScriptDesk {
     pid: i32,
-    key: [u8; 4],
+    key: SecretKey,
     answers: PgList<bool>,
     taken: usize,
     calls: Vec<DeskCall>,
@@ -78,7 +87,7 @@ impl Model for ScriptDesk {
 
 impl ScriptDesk {
     /// A desk of this registration, with these answers to come. It takes no memory.
-    pub fn new(alloc: Global, pid: i32, key: [u8; 4], answers: PgList<bool>) -> ScriptDesk
+    pub fn new(alloc: Global, pid: i32, key: SecretKey, answers: PgList<bool>) -> ScriptDesk
         ensures pid { result.pid ≡ pid }
         ensures key { result.key ≡ key }
         ensures script { result.script ≡ answers }
@@ -128,8 +137,8 @@ fn behind_next(answers: &[bool], taken: usize) -> usize
 impl CancelDesk for ScriptDesk {
     ghost told = { script_told };
 
-    fn identity(&self) -> (i32, [u8; 4]) {
-        (self.pid, self.key)
+    fn identity(&self) -> (i32, &SecretKey) {
+        (self.pid, &self.key)
     }
 
     fn start(&mut self) -> Result<(), AllocError>
@@ -156,17 +165,30 @@ impl CancelDesk for ScriptDesk {
         Ok(yes)
     }
 
-    fn cancel(&mut self, pid: i32, key: [u8; 4]) -> Result<bool, AllocError>
+    fn cancel(&mut self, pid: i32, key: &SecretKey) -> Result<bool, AllocError>
         ensures answer { IfOk result (λ yes. yes ≡ first_or_no self.old.answers) }
         ensures used_up { OnOk result (self.new.answers ≡ drop 1 self.old.answers) }
         ensures kept { OnErr result (self.new.answers ≡ self.old.answers) }
         ensures ok { IfOk result (λ yes. script_told self.new
-            ≡ after_calls (script_told self.old) (DeskCall.Cancel pid key yes ∷ [])) }
+            ≡ after_calls (script_told self.old) (DeskCall.Cancel pid key.now yes ∷ [])) }
         ensures err { OnErr result (script_told self.new ≡ script_told self.old) }
     {
+        let named = key.copy_of(*self.calls.allocator())?;
         let yes = self.next_answer();
-        self.calls.push(DeskCall::Cancel(pid, key, yes))?;
+        self.calls.push(DeskCall::Cancel(pid, named, yes))?;
         self.taken = behind_next(self.answers.as_slice(), self.taken);
         Ok(yes)
+    }
+
+    fn narrow(&mut self) -> Result<(), AllocError>
+        ensures key { OnOk result (self.new.key ≡ take 4 self.old.key) }
+        ensures answers { self.new.answers ≡ self.old.answers }
+        ensures ok { OnOk result
+            (script_told self.new ≡ after_calls (script_told self.old) (DeskCall.Narrow ∷ [])) }
+        ensures err { OnErr result (script_told self.new ≡ script_told self.old) }
+    {
+        self.calls.push(DeskCall::Narrow)?;
+        self.key.narrow();
+        Ok(())
     }
 }

@@ -4,7 +4,7 @@ ghost use Rattle.std.specs.Prelude.{◌≡◌, OnOk, OnErr};
 ghost use Rattle.std.specs.Option.{option_copied};
 ghost use Rattle.std.specs.FinMap as fin;
 
-use pg_messages::{PgStr, ProtocolVersion, TransactionStatus};
+use pg_messages::{PgStr, ProtocolVersion, SecretKey, TransactionStatus};
 use std::alloc::{AllocError, Global};
 use std::collections::BTreeMap;
 use std::marker::Model;
@@ -96,8 +96,8 @@ impl Metadata {
 pub struct ClientInfo {
     /// The session's process number.
     pub pid: i32,
-    /// The session's secret, with which a query of it is canceled.
-    pub secret_key: [u8; 4],
+    /// The session's secret, with which a query of it is canceled: as the client was told it.
+    pub secret_key: SecretKey,
     /// The version of the protocol that the client asked for.
     pub protocol: ProtocolVersion,
     /// The startup parameters, with their names in lower case.

@@ -4,6 +4,7 @@ pub mod Feeding
 pub mod Flowing
 pub mod GoodStates
 pub mod Held
+pub mod Narrowed
 pub mod Pieces
 pub mod ReplyBytes
 pub mod Rows

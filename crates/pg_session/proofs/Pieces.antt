@@ -22,6 +22,7 @@ answers_of-append [] b = refl
 answers_of-append (desk.Start ∷ a) b = answers_of-append a b
 answers_of-append (desk.Ask told ∷ a) b = ap (λ x. told ∷ x) (answers_of-append a b)
 answers_of-append (desk.Cancel pid key told ∷ a) b = ap (λ x. told ∷ x) (answers_of-append a b)
+answers_of-append (desk.Narrow ∷ a) b = answers_of-append a b
 
 -- where the conversation goes on, or a given place
 abbrev state_of : {T : Type 0} → T → Next T → T

@@ -18,6 +18,7 @@ questions-append [] b = omega arith
 questions-append (desk.Start ∷ a) b = questions-append a b
 questions-append (desk.Ask told ∷ a) b = let e = questions-append a b in omega arith
 questions-append (desk.Cancel pid key told ∷ a) b = questions-append a b
+questions-append (desk.Narrow ∷ a) b = questions-append a b
 
 pub since_grown : (calls new_calls made : List DeskCall) → new_calls ≡ calls ++ made → questions_since calls new_calls ≡ questions made
 since_grown calls new_calls made e = ap (questions_since calls) e ∙ ap questions (drop-append_seam calls made)

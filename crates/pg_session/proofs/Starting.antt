@@ -1,5 +1,5 @@
 -- The startup packet: the error of a version that isn't spoken, the replies, the parameters, which are short, and the rows.
-use Rattle.std.proofs.Common.{◌≡◌, ◌≢◌, ℕ, ℤ, ◌+◌, ◌<◌, ◌≤◌, ◌^◌, ◌/◌, ◌%◌, List, [], ◌∷◌, ◌++◌, length, codes, cond, nat_lt, true, false, refl, sym, ap, subst, arith, inl, inr, length-append, ◌∙◌}
+use Rattle.std.proofs.Common.{◌≡◌, ◌≢◌, ℕ, ℤ, ◌+◌, ◌<◌, ◌≤◌, ◌^◌, ◌/◌, ◌%◌, List, [], ◌∷◌, ◌++◌, length, codes, cond, ◌==◌, Bool, Option, Some, None, nat_lt, true, false, refl, sym, ap, subst, arith, inl, inr, length-append, ◌∙◌}
 use Rattle.std.proofs.lemmas.Fmt.{length-decimal-le}
 use Rattle.std.proofs.lemmas.List.{append-nil, length-map, nil_from_length}
 use Rattle.std.specs.Char.{to_ascii_lowercase}
@@ -12,7 +12,9 @@ use Rattle.std.specs.Ordering.{nat_cmp}
 use Rattle.std.specs.Str.{str_to_ascii_lowercase}
 use Rattle.std.specs.declared.cmp.Ordering.TheVariants.{Less, Equal, Greater}
 use Rattle.pg_messages.specs.Fields.{count32, string}
-use Rattle.pg_messages.specs.Frames.{IsFrame, IsParameter}
+use Rattle.pg_messages.specs.Frames.{IsFrame, IsParameter, protocol_3_0, protocol_3_2}
+use Rattle.pg_messages.specs.declared.codec.ProtocolVersion.{ProtocolVersion}
+use Rattle.pg_messages.specs.declared.codec.ProtocolVersion.TheVariants.{PROTOCOL3_0, PROTOCOL3_2}
 use Rattle.pg_messages.specs.Replies.{HasNoZero, reply_bytes, replies_bytes}
 use Rattle.pg_messages.specs.declared.backend.PgWireBackendMessage.TheVariants as server
 use Rattle.pg_messages.specs.declared.frontend.PgWireFrontendMessage.{PgWireFrontendMessage}
@@ -21,6 +23,7 @@ use Rattle.pg_messages.specs.declared.response.ErrorInfo.{ErrorInfo}
 use Rattle.pg_messages.specs.declared.response.TransactionStatus.TheVariants as status
 use Rattle.pg_messages.specs.declared.startup.Startup.{Startup}
 use Rattle.pg_portal.specs.Names.{NameMap}
+use Rattle.pg_portal.specs.declared.client.PgWireConnectionState.TheVariants as phase
 use Rattle.pg_portal.specs.Rows.{IsTellable}
 use Rattle.pg_portal.specs.Texts.{IsShortText}
 use Rattle.pg_portal.specs.declared.error.PgWireError.{PgWireError}
@@ -28,13 +31,14 @@ use Rattle.pg_portal.specs.declared.error.PgWireError.TheVariants as wire
 use Rattle.pg_handlers.specs.declared.desk.DeskCall.{DeskCall}
 use Rattle.pg_handlers.specs.declared.ends.SessionError.{SessionError}
 use Rattle.pg_handlers.specs.declared.ends.SessionError.TheVariants as session
-use Rattle.pg_handlers.specs.Effect.{Row, Outcome, Done, Failed, IsEffect, IsRow, IsCutRow, IsRefusedEffect, IsRefusedRow}
+use Rattle.pg_handlers.specs.Effect.{Row, Called, Done, Failed, silent, refuses, IsEffect, IsRow, IsCutRow, IsRefusedRow}
 use Rattle.pg_handlers.specs.Errors.{fatal, unsupported_text, unsupported_version}
 use Rattle.pg_handlers.specs.Replies.{parameter, ready, startup_replies}
-use Rattle.pg_handlers.specs.StartupRows.{startup_row, on_startup, with_parameters}
+use Rattle.pg_handlers.specs.StartupRows.{startup_row, on_startup, accepts, told_key, narrowing, with_parameters}
 use Rattle.pg_handlers.specs.State.{State}
 use Rattle.pg_handlers.proofs.Encodable.{HasNoZero-append, HasNoZero-decimal, by_test}
 use Rattle.pg_handlers.proofs.Sent.{sent_behind, one_behind}
+use Rattle.pg_session.specs.Messages.{spoken_version}
 
 -- ---- the error of a version that isn't spoken
 
@@ -173,14 +177,10 @@ pub metadata_short : (frame : List ℕ) (m : Startup) → IsFrame true frame (cl
     → AllByRecursion IsShortPair (fin.entries (with_parameters fin.empty m.parameters))
 metadata_short frame m h = with_short m.parameters fin.empty (none_short _ no_entry) (parameters_short frame m h)
 
--- ---- rows that call nothing
+-- ---- rows without memory
 
 cut_row : {S : Type 0} (row : Row S) (calls new_calls : List DeskCall) → new_calls ≡ calls → IsCutRow row calls new_calls
 cut_row row calls new_calls same = record { made = []; front = ((row []).calls, refl); grown = same ∙ sym (append-nil calls) }
-
-silent_row : {S : Type 0} (row : Row S) (out new_out : List ℕ) (calls : List DeskCall) (outcome : Outcome S) → (row []).calls ≡ []
-    → IsEffect (row []).effect out new_out outcome → IsRow row out new_out calls calls outcome
-silent_row row out new_out calls outcome none effect = record { made = []; own = none; called = sym (append-nil calls); effect = effect }
 
 -- Memory is wanting before anything is called.
 pub row_without_memory : {S : Type 0} (row : Row S) (out new_out : List ℕ) (calls new_calls : List DeskCall) (s : State S)
@@ -188,25 +188,116 @@ pub row_without_memory : {S : Type 0} (row : Row S) (out new_out : List ℕ) (ca
 row_without_memory row out new_out calls new_calls s e same none =
     subst (IsRefusedRow row out new_out calls new_calls s) (sym none) (inl (refl, cut_row row calls new_calls same))
 
--- the row of a startup packet
-abbrev packet_row : {S : Type 0} → State S → Startup → Row S
-packet_row s packet = λ answers. startup_row answers s (client.Startup packet)
+-- ---- the row of a startup packet
+
+-- what a startup packet of a version is answered, where it is spoken
+abbrev by_version : {S : Type 0} → State S → Startup → Option ProtocolVersion → Called S
+by_version s m None = silent (refuses s (wire.UserError (unsupported_version m.code)))
+by_version s m (Some version) = accepts s version m
+
+by_code : {S : Type 0} (s : State S) (m : Startup) (first second : Bool)
+    → cond first (accepts s PROTOCOL3_0 m) (cond second (accepts s PROTOCOL3_2 m) (by_version s m None))
+    ≡ by_version s m (cond first (Some PROTOCOL3_0) (cond second (Some PROTOCOL3_2) None))
+by_code s m true second = refl
+by_code s m false true = refl
+by_code s m false false = refl
+
+startup_by_version : {S : Type 0} (s : State S) (m : Startup) (version : Option ProtocolVersion) → version ≡ spoken_version m.code
+    → on_startup s m ≡ by_version s m version
+startup_by_version s m version e =
+    by_code s m (m.code == protocol_3_0) (m.code == protocol_3_2) ∙ ap (by_version s m) (sym e)
+
+module _ {S : Type 0} (s t : State S) (m : Startup) (out new_out : List ℕ) (calls new_calls : List DeskCall) where
+  abbrev pub the_row : Row S
+  the_row answers = on_startup s m
+
+  module _ (version : ProtocolVersion) (spoken : Some version ≡ spoken_version m.code) where
+    pub spoken_answered : IsRow (λ answers. accepts s version m) out new_out calls new_calls (Done t)
+        → IsRow the_row out new_out calls new_calls (Done t)
+    spoken_answered row = subst (λ (c : Called S). IsRow (λ answers. c) out new_out calls new_calls (Done t))
+        (sym (startup_by_version s m (Some version) spoken)) row
+
+    pub spoken_refused : (e : PgWireError) → e ≡ wire.NoMemory → IsCutRow (λ answers. accepts s version m) calls new_calls
+        → IsRefusedRow the_row out new_out calls new_calls t (session.Wire e)
+    spoken_refused e memory row = inl (
+      memory,
+      subst (λ (c : Called S). IsCutRow (λ answers. c) calls new_calls) (sym (startup_by_version s m (Some version) spoken)) row,
+    )
+
+  pub unspoken_refused : None ≡ spoken_version m.code → (e : PgWireError) → e ≡ wire.UserError (unsupported_version m.code)
+      → new_out ≡ out → new_calls ≡ calls → t ≡ s
+      → IsRefusedRow the_row out new_out calls new_calls t (session.Wire e)
+  unspoken_refused none e is same_out same_calls same =
+      let refused : Called S = silent (refuses s (wire.UserError (unsupported_version m.code))) in
+      let effect : IsEffect refused.effect out new_out (Failed t e) = record {
+        replied = same_out ∙ sym (append-nil out);
+        came = λ i. Failed (sym same i) (sym is i);
+      } in
+      let row : IsRow (λ answers. refused) out new_out calls new_calls (Failed t e) = record {
+        made = [];
+        own = refl;
+        called = same_calls ∙ sym (append-nil calls);
+        effect = effect;
+      } in
+      inr (subst (λ (c : Called S). IsRow (λ answers. c) out new_out calls new_calls (Failed t e))
+      (sym (startup_by_version s m None none)) row)
+
+-- ---- a version that is spoken
+
+module _ {S : Type 0} (s : State S) (version : ProtocolVersion) (m : Startup) (calls new_calls : List DeskCall) where
+  -- memory is wanting before the registration is narrowed
+  pub accept_cut_first : new_calls ≡ calls → IsCutRow (λ answers. accepts s version m) calls new_calls
+  accept_cut_first same = cut_row (λ answers. accepts s version m) calls new_calls same
+
+  -- and behind that
+  pub accept_cut : new_calls ≡ calls ++ narrowing version s.info.secret_key → IsCutRow (λ answers. accepts s version m) calls new_calls
+  accept_cut grown = record {
+    made = narrowing version s.info.secret_key;
+    front = ([], sym (append-nil (narrowing version s.info.secret_key)));
+    grown = grown;
+  }
+
+  pub accepted : (out new_out key : List ℕ) (names : NameMap (List ℕ)) → new_calls ≡ calls ++ narrowing version s.info.secret_key
+      → key ≡ told_key version s.info.secret_key → names ≡ with_parameters fin.empty m.parameters
+      → new_out ≡ out ++ replies_bytes (startup_replies s.info.pid key)
+      → IsRow (λ answers. accepts s version m) out new_out calls new_calls (Done (record s {
+        info = record s.info {
+          secret_key = key;
+          protocol = version;
+          metadata = names;
+          status = status.Idle;
+          state = phase.ReadyForQuery;
+        };
+      }))
+  accepted out new_out key names grown told kept replied = record {
+    made = narrowing version s.info.secret_key;
+    own = refl;
+    called = grown;
+    effect = record {
+      replied = replied ∙ ap (λ (k : List ℕ). out ++ replies_bytes (startup_replies s.info.pid k)) told;
+      came = λ i. Done (record s {
+        info = record s.info {
+          secret_key = sym told i;
+          protocol = version;
+          metadata = sym kept i;
+          status = status.Idle;
+          state = phase.ReadyForQuery;
+        };
+      });
+    };
+  }
+
+-- ---- the same, as the row of a message
 
 module _ {S : Type 0} (s t : State S) (m : PgWireFrontendMessage) (packet : Startup) (is : m ≡ client.Startup packet)
-    (out new_out : List ℕ) (calls : List DeskCall) (none : (on_startup s packet).calls ≡ []) where
-  pub packet_answered : IsEffect (on_startup s packet).effect out new_out (Done t)
-      → IsRow (λ answers. startup_row answers s m) out new_out calls calls (Done t)
-  packet_answered effect = subst (λ m. IsRow (λ answers. startup_row answers s m) out new_out calls calls (Done t)) (sym is)
-      (silent_row (packet_row s packet) out new_out calls (Done t) none effect)
-
-  by_silence : (e : PgWireError) → IsRefusedEffect (on_startup s packet).effect out new_out t e
-      → IsRefusedRow (packet_row s packet) out new_out calls calls t (session.Wire e)
-  by_silence e (inl memory) = inl (memory, cut_row (packet_row s packet) calls calls refl)
-  by_silence e (inr effect) = inr (silent_row (packet_row s packet) out new_out calls (Failed t e) none effect)
+    (out new_out : List ℕ) (calls new_calls : List DeskCall) where
+  pub packet_answered : IsRow (λ answers. on_startup s packet) out new_out calls new_calls (Done t)
+      → IsRow (λ answers. startup_row answers s m) out new_out calls new_calls (Done t)
+  packet_answered row = subst (λ m. IsRow (λ answers. startup_row answers s m) out new_out calls new_calls (Done t)) (sym is) row
 
   pub packet_refused : (wire : PgWireError) (e : SessionError) → e ≡ session.Wire wire
-      → IsRefusedEffect (on_startup s packet).effect out new_out t wire
-      → IsRefusedRow (λ answers. startup_row answers s m) out new_out calls calls t e
-  packet_refused wire e gives effect =
-      subst (λ m. IsRefusedRow (λ answers. startup_row answers s m) out new_out calls calls t e) (sym is)
-      (subst (IsRefusedRow (packet_row s packet) out new_out calls calls t) (sym gives) (by_silence wire effect))
+      → IsRefusedRow (λ answers. on_startup s packet) out new_out calls new_calls t (session.Wire wire)
+      → IsRefusedRow (λ answers. startup_row answers s m) out new_out calls new_calls t e
+  packet_refused wire e gives row =
+      subst (λ m. IsRefusedRow (λ answers. startup_row answers s m) out new_out calls new_calls t e) (sym is)
+      (subst (IsRefusedRow (λ answers. on_startup s packet) out new_out calls new_calls t) (sym gives) row)

@@ -16,7 +16,7 @@ use Rattle.pg_handlers.specs.Answer.{answers_of}
 use Rattle.pg_handlers.specs.Effect.{Called, Outcome, IsRow, IsCutRow, IsRefusedRow, silent, refuses}
 use Rattle.pg_handlers.specs.Errors.{unsupported_version}
 use Rattle.pg_handlers.specs.Questions.{HasSpent, questions, questions_since}
-use Rattle.pg_handlers.specs.StartupRows.{startup_row, accepts}
+use Rattle.pg_handlers.specs.StartupRows.{startup_row, accepts, tells_less}
 use Rattle.pg_handlers.specs.State.{State}
 use Rattle.pg_session.specs.Messages.{outcome_of}
 
@@ -24,13 +24,18 @@ asks_either : {S : Type 0} (b : Bool) (x y : Called S) → questions x.calls ≡
 asks_either true x y p q = p
 asks_either false x y p q = q
 
+narrowing_asks_nothing : (b : Bool) → questions (cond b (desk.Narrow ∷ []) []) ≡ 0
+narrowing_asks_nothing true = refl
+narrowing_asks_nothing false = refl
+
 startup_asks_nothing : {S : Type 0} (answers : List Bool) (s : State S) (m : PgWireFrontendMessage)
     → questions (startup_row answers s m).calls ≡ 0
 startup_asks_nothing [] s (client.CancelRequest m) = refl
 startup_asks_nothing (told ∷ answers) s (client.CancelRequest m) = refl
 startup_asks_nothing answers s (client.Startup m) =
     asks_either (m.code == protocol_3_0) (accepts s PROTOCOL3_0 m)
-    (cond (m.code == protocol_3_2) (accepts s PROTOCOL3_2 m) (silent (refuses s (wire.UserError (unsupported_version m.code))))) refl
+    (cond (m.code == protocol_3_2) (accepts s PROTOCOL3_2 m) (silent (refuses s (wire.UserError (unsupported_version m.code)))))
+    (narrowing_asks_nothing (tells_less PROTOCOL3_0 s.info.secret_key))
     (asks_either (m.code == protocol_3_2) (accepts s PROTOCOL3_2 m) (silent (refuses s (wire.UserError (unsupported_version m.code)))) refl
     refl)
 startup_asks_nothing answers s _ = refl
@@ -40,6 +45,7 @@ questions_front [] rest = omega arith
 questions_front (desk.Start ∷ made) rest = questions_front made rest
 questions_front (desk.Ask told ∷ made) rest = let p = questions_front made rest in omega (arith, p)
 questions_front (desk.Cancel pid key told ∷ made) rest = questions_front made rest
+questions_front (desk.Narrow ∷ made) rest = questions_front made rest
 
 since : (calls new_calls made : List DeskCall) → new_calls ≡ calls ++ made → questions made ≡ 0 → questions_since calls new_calls ≡ 0
 since calls new_calls made e none = ap (λ l. questions (drop (length calls) l)) e ∙ ap questions (drop-append_seam calls made) ∙ none

@@ -4,7 +4,7 @@ ghost use Rattle.std.specs.Prelude.{◌≡◌, ◌≢◌, ◌≤◌, ◌<◌, �
 ghost use Rattle.std.specs.Arc.{arc_value};
 ghost use Rattle.std.specs.FinMap as fin;
 ghost use Rattle.pg_portal.specs.Maps.{no_maps};
-ghost use Rattle.pg_handlers.specs.Desk.{KeepsDesk};
+ghost use Rattle.pg_handlers.specs.Desk.{GoesOn};
 ghost use Rattle.pg_handlers.specs.Questions.{HasSpent, questions_since};
 ghost use Rattle.pg_handlers.specs.State.{first_info, first_state};
 ghost use Rattle.pg_handlers.specs.Table.{whole_table, scope_in};
@@ -21,7 +21,7 @@ use pg_handlers::{
     Turns,
 };
 use pg_messages::{
-    PgWireFrontendMessage, PgWireMessageServerCodec, ProtocolVersion, TransactionStatus,
+    PgWireFrontendMessage, PgWireMessageServerCodec, ProtocolVersion, SecretKey, TransactionStatus,
 };
 use pg_portal::{ClientInfo, Metadata, PgWireConnectionState, PgWireError, PortalStore};
 use std::alloc::{AllocError, Global};
@@ -71,7 +71,7 @@ impl<
 }
 
 /// What is known of a client before its startup packet.
-fn first_info(alloc: Global, pid: i32, key: [u8; 4]) -> ClientInfo
+fn first_info(alloc: Global, pid: i32, key: SecretKey) -> ClientInfo
     ensures { result ≡ first_info pid key }
 {
     ClientInfo {
@@ -91,14 +91,14 @@ impl<
         Rows = <H::Extended as ExtendedQueryHandler>::Rows,
     >,
 > Session<H, St> {
-    /// A session that awaits the startup packet of a client, who is told this pid and key. Its
-    /// store is empty. The only error is want of memory.
+    /// A session that awaits the startup packet of a client, who is told this pid and key, in 3.0
+    /// the key's first four bytes. Its store is empty. The only error is want of memory.
     pub fn new(
         alloc: Global,
         handlers: Arc<H>,
         store: St,
         pid: i32,
-        key: [u8; 4],
+        key: SecretKey,
     ) -> Result<Session<H, St>, AllocError>
         requires empty { St.maps store ≡ no_maps }
         ensures { IfOk result (λ session. session ≡ record {
@@ -207,7 +207,7 @@ impl<
         ensures turns { HasFed turns.old turns.new
             (questions_since (D.told desk.old).calls (D.told desk.new).calls) result }
         ensures bounded { turns.old.spent ≤ turns.old.limit → turns.new.spent ≤ turns.new.limit }
-        ensures keeps { KeepsDesk (D.told desk.old) (D.told desk.new) }
+        ensures registration { GoesOn (D.told desk.old) (D.told desk.new) }
     {
         let wait_for_sync = waits_for_sync(self.client.info.state, &message);
         match process_message(alloc, self, desk, turns, message) {

@@ -10,23 +10,23 @@ ghost use Rattle.pg_messages.specs.declared.backend.PgWireBackendMessage.TheVari
 ghost use Rattle.pg_portal.specs.Clients.{HasShortMetadata};
 ghost use Rattle.pg_portal.specs.Rows.{IsTellable, IsAnswerable};
 ghost use Rattle.pg_portal.specs.declared.error.PgWireError.TheVariants as wire;
-ghost use Rattle.pg_handlers.specs.Desk.{KeepsDesk};
-ghost use Rattle.pg_handlers.specs.Effect.{IsRow, IsRefusedRow, IsEffect, IsRefusedEffect, Done};
+ghost use Rattle.pg_handlers.specs.Desk.{GoesOn, after_calls};
+ghost use Rattle.pg_handlers.specs.Effect.{IsRow, IsCutRow, IsRefusedRow, Done};
 ghost use Rattle.pg_handlers.specs.Errors.{unsupported_version, unsupported_text};
 ghost use Rattle.pg_handlers.specs.Replies.{parameter, startup_replies};
 ghost use Rattle.pg_handlers.specs.Sending.{IsAnswerableError};
-ghost use Rattle.pg_handlers.specs.StartupRows.{startup_row, on_startup, no_encryption, with_parameters};
+ghost use Rattle.pg_handlers.specs.StartupRows.{startup_row, on_startup, accepts, told_key, tells_less, narrowing, no_encryption, with_parameters};
 ghost use Rattle.pg_handlers.specs.State.{state_of};
 ghost use Rattle.pg_handlers.specs.declared.desk.DeskCall.{DeskCall};
 ghost use Rattle.pg_handlers.specs.declared.ends.EndKind.TheVariants.{InputEnd, CancelServed};
 ghost use Rattle.pg_handlers.specs.declared.ends.SessionError.TheVariants as session;
-ghost use Rattle.pg_session.specs.Messages.{outcome_of};
+ghost use Rattle.pg_session.specs.Messages.{outcome_of, spoken_version};
 
 use pg_handlers::{CancelDesk, Client, EndKind, Outbox, SessionError, send_ready_for_query};
 use pg_messages::{
     AuthenticationOk, BackendKeyData, CancelRequest, ErrorInfo, GssEncResponse, PROTOCOL_3_0,
     PROTOCOL_3_2, ParameterStatus, PgStr, PgWireBackendMessage, PgWireFrontendMessage,
-    ProtocolVersion, SslNegotiationKind, SslResponse, Startup, TransactionStatus,
+    ProtocolVersion, SecretKey, SslNegotiationKind, SslResponse, Startup, TransactionStatus,
 };
 use pg_portal::{Metadata, PgWireConnectionState, PgWireError, PortalStore};
 use std::alloc::{AllocError, Global};
@@ -54,7 +54,7 @@ pub(crate) fn on_startup_phase<St: PortalStore, D: CancelDesk>(
     ensures ends { IfOk result (λ end. end ≢ Some InputEnd) }
     ensures store { client.new.store ≡ client.old.store }
     ensures metadata { HasShortMetadata client.old.info → HasShortMetadata client.new.info }
-    ensures keeps { KeepsDesk (D.told desk.old) (D.told desk.new) }
+    ensures registration { GoesOn (D.told desk.old) (D.told desk.new) }
 {
     match message {
         PgWireFrontendMessage::SslNegotiation(kind) => {
@@ -63,7 +63,7 @@ pub(crate) fn on_startup_phase<St: PortalStore, D: CancelDesk>(
         }
         PgWireFrontendMessage::CancelRequest(request) => Ok(cancel(desk, request)?),
         PgWireFrontendMessage::Startup(startup) => {
-            on_startup(alloc, client, startup)?;
+            on_startup(alloc, client, desk, startup)?;
             Ok(None)
         }
         other => {
@@ -85,49 +85,116 @@ fn cancel<D: CancelDesk>(
         × ((D.told desk.new).calls ≡ (D.told desk.old).calls
         ++ DeskCall.Cancel request.pid request.secret_key yes ∷ []))) }
     ensures err { OnErr result ((D.told desk.new).calls ≡ (D.told desk.old).calls) }
-    ensures keeps { KeepsDesk (D.told desk.old) (D.told desk.new) }
+    ensures registration { GoesOn (D.told desk.old) (D.told desk.new) }
 {
-    desk.cancel(request.pid, request.secret_key)?;
+    desk.cancel(request.pid, &request.secret_key)?;
     Ok(Some(EndKind::CancelServed))
 }
 
 /// The startup packet: the session is ready where its version is 3.0 or 3.2; every other is 0A000
 /// with FATAL.
-fn on_startup<St: PortalStore>(
+fn on_startup<St: PortalStore, D: CancelDesk>(
     alloc: Global,
     client: &mut Client<St>,
+    desk: &mut D,
     message: Startup,
 ) -> Result<(), PgWireError>
     requires { (frame : List ℕ) × IsFrame true frame (frontend.Startup message) }
-    ensures ok { OnOk result (IsEffect
-        (on_startup (state_of St.maps client.old) message).effect
-        client.old.outbox client.new.outbox (Done (state_of St.maps client.new))) }
-    ensures refused { IfErr result (IsRefusedEffect
-        (on_startup (state_of St.maps client.old) message).effect
-        client.old.outbox client.new.outbox (state_of St.maps client.new)) }
-    ensures silent { (on_startup (state_of St.maps client.old) message).calls
-        ≡ [] }
+    ensures ok { OnOk result (IsRow
+        (λ answers. on_startup (state_of St.maps client.old) message)
+        client.old.outbox client.new.outbox (D.told desk.old).calls (D.told desk.new).calls
+        (Done (state_of St.maps client.new))) }
+    ensures refused { IfErr result (λ error. IsRefusedRow
+        (λ answers. on_startup (state_of St.maps client.old) message)
+        client.old.outbox client.new.outbox (D.told desk.old).calls (D.told desk.new).calls
+        (state_of St.maps client.new) (session.Wire error)) }
     ensures answerable { IfErr result IsAnswerable }
     ensures store { client.new.store ≡ client.old.store }
     ensures metadata { HasShortMetadata client.old.info → HasShortMetadata client.new.info }
+    ensures registration { GoesOn (D.told desk.old) (D.told desk.new) }
 {
-    let protocol = match message.code {
-        PROTOCOL_3_0 => ProtocolVersion::PROTOCOL3_0,
-        PROTOCOL_3_2 => ProtocolVersion::PROTOCOL3_2,
-        code => return Err(unsupported(alloc, code)?),
+    let Some(protocol) = spoken_version(message.code) else {
+        return Err(unsupported(alloc, message.code)?);
     };
+    accept(alloc, client, desk, protocol, message)?;
+    Ok(())
+}
+
+/// The version of a startup packet's code, where it is spoken.
+fn spoken_version(code: u32) -> Option<ProtocolVersion>
+    ensures { result ≡ spoken_version code }
+{
+    match code {
+        PROTOCOL_3_0 => Some(ProtocolVersion::PROTOCOL3_0),
+        PROTOCOL_3_2 => Some(ProtocolVersion::PROTOCOL3_2),
+        _ => None,
+    }
+}
+
+/// Lets a client in that speaks this version.
+fn accept<St: PortalStore, D: CancelDesk>(
+    alloc: Global,
+    client: &mut Client<St>,
+    desk: &mut D,
+    protocol: ProtocolVersion,
+    message: Startup,
+) -> Result<(), AllocError>
+    requires { (frame : List ℕ) × IsFrame true frame (frontend.Startup message) }
+    ensures ok { OnOk result (IsRow
+        (λ answers. accepts (state_of St.maps client.old) protocol message)
+        client.old.outbox client.new.outbox (D.told desk.old).calls (D.told desk.new).calls
+        (Done (state_of St.maps client.new))) }
+    ensures cut { OnErr result (IsCutRow
+        (λ answers. accepts (state_of St.maps client.old) protocol message)
+        (D.told desk.old).calls (D.told desk.new).calls) }
+    ensures store { client.new.store ≡ client.old.store }
+    ensures metadata { HasShortMetadata client.old.info → HasShortMetadata client.new.info }
+    ensures registration { GoesOn (D.told desk.old) (D.told desk.new) }
+{
     let metadata = metadata_of(alloc, message)?;
+    narrow(desk, protocol, &mut client.info.secret_key)?;
     push_startup(
         alloc,
         &mut client.outbox,
         client.info.pid,
-        client.info.secret_key,
+        &client.info.secret_key,
     )?;
     client.info.protocol = protocol;
     client.info.metadata = metadata;
     client.info.status = TransactionStatus::Idle;
     client.info.state = PgWireConnectionState::ReadyForQuery;
     Ok(())
+}
+
+/// Narrows the registration, and then the key, to what a client of this version is told. A client
+/// of 3.0 can name four bytes of key alone, so its registration has to be known by them. A longer
+/// key is told whole in 3.2, so its first four bytes cancel nothing.
+fn narrow<D: CancelDesk>(
+    desk: &mut D,
+    protocol: ProtocolVersion,
+    key: &mut SecretKey,
+) -> Result<(), AllocError>
+    ensures key { OnOk result (key.new ≡ told_key protocol key.old) }
+    ensures registration { OnOk result
+        (D.told desk.new ≡ after_calls (D.told desk.old) (narrowing protocol key.old)) }
+    ensures err { OnErr result (D.told desk.new ≡ D.told desk.old) }
+{
+    if !tells_less(protocol, key) {
+        return Ok(());
+    }
+    desk.narrow()?;
+    key.narrow();
+    Ok(())
+}
+
+/// Whether a client of this version is told less than the whole key.
+fn tells_less(protocol: ProtocolVersion, key: &SecretKey) -> bool
+    ensures { result ≡ tells_less protocol key.now }
+{
+    match protocol {
+        ProtocolVersion::PROTOCOL3_0 => 4 < key.as_slice().len(),
+        ProtocolVersion::PROTOCOL3_2 => false,
+    }
 }
 
 /// The startup parameters under their names in lower case; the last of a repeated name wins.
@@ -211,13 +278,13 @@ fn push_parameter(
 }
 
 /// Appends BackendKeyData.
-fn push_key(outbox: &mut Outbox, pid: i32, key: [u8; 4]) -> Result<(), AllocError>
-    ensures { OnOk result (outbox.new ≡ outbox.old
-        ++ replies_bytes (server.BackendKeyData (record { pid = pid; secret_key = key }) ∷ [])) }
+fn push_key(alloc: Global, outbox: &mut Outbox, pid: i32, key: &SecretKey) -> Result<(), AllocError>
+    ensures { OnOk result (outbox.new ≡ outbox.old ++ replies_bytes
+        (server.BackendKeyData (record { pid = pid; secret_key = key.now }) ∷ [])) }
 {
     let keys = BackendKeyData {
         pid,
-        secret_key: key,
+        secret_key: key.copy_of(alloc)?,
     };
     outbox.push(&PgWireBackendMessage::BackendKeyData(keys))
 }
@@ -227,15 +294,16 @@ fn push_startup(
     alloc: Global,
     outbox: &mut Outbox,
     pid: i32,
-    key: [u8; 4],
+    key: &SecretKey,
 ) -> Result<(), AllocError>
-    ensures { OnOk result (outbox.new ≡ outbox.old ++ replies_bytes (startup_replies pid key)) }
+    ensures { OnOk result
+        (outbox.new ≡ outbox.old ++ replies_bytes (startup_replies pid key.now)) }
 {
     outbox.push(&PgWireBackendMessage::AuthenticationOk(AuthenticationOk {}))?;
     push_parameter(alloc, outbox, "server_version", "16.0")?;
     push_parameter(alloc, outbox, "server_encoding", "UTF8")?;
     push_parameter(alloc, outbox, "client_encoding", "UTF8")?;
     push_parameter(alloc, outbox, "integer_datetimes", "on")?;
-    push_key(outbox, pid, key)?;
+    push_key(alloc, outbox, pid, key)?;
     send_ready_for_query(outbox, TransactionStatus::Idle)
 }

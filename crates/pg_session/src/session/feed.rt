@@ -2,7 +2,7 @@
 
 ghost use Rattle.std.specs.Prelude.{◌≡◌, ◌≤◌, ◌<◌, ◌++◌, [], true, Option, Some, None, length, IfOk, IfNone, OnOk, OnErr, Ok, IsErrOf};
 ghost use Rattle.std.specs.Option.{option_map};
-ghost use Rattle.pg_handlers.specs.Desk.{KeepsDesk};
+ghost use Rattle.pg_handlers.specs.Desk.{GoesOn};
 ghost use Rattle.pg_handlers.specs.Answer.{Next};
 ghost use Rattle.pg_handlers.specs.Questions.{questions_since};
 ghost use Rattle.pg_handlers.specs.State.{State};
@@ -133,7 +133,7 @@ impl<
         ensures turns { HasFed turns.old turns.new
             (questions_since (D.told desk.old).calls (D.told desk.new).calls) result }
         ensures bounded { turns.old.spent ≤ turns.old.limit → turns.new.spent ≤ turns.new.limit }
-        ensures keeps { KeepsDesk (D.told desk.old) (D.told desk.new) }
+        ensures registration { GoesOn (D.told desk.old) (D.told desk.new) }
         ensures sink { K.origin sink.new ≡ K.origin sink.old }
     {
         self.codec.context.awaiting_startup = awaits_startup(self.client.info.state);
@@ -181,7 +181,7 @@ impl<
         ensures turns { HasFed turns.old turns.new
             (questions_since (D.told desk.old).calls (D.told desk.new).calls) result }
         ensures bounded { turns.old.spent ≤ turns.old.limit → turns.new.spent ≤ turns.new.limit }
-        ensures keeps { KeepsDesk (D.told desk.old) (D.told desk.new) }
+        ensures registration { GoesOn (D.told desk.old) (D.told desk.new) }
         ensures sink { K.origin sink.new ≡ K.origin sink.old }
     {
         'messages: loop {
@@ -231,7 +231,7 @@ impl<
         ensures turns { HasFed turns.old turns.new
             (questions_since (D.told desk.old).calls (D.told desk.new).calls) result }
         ensures bounded { turns.old.spent ≤ turns.old.limit → turns.new.spent ≤ turns.new.limit }
-        ensures keeps { KeepsDesk (D.told desk.old) (D.told desk.new) }
+        ensures registration { GoesOn (D.told desk.old) (D.told desk.new) }
         ensures sink { K.origin sink.new ≡ K.origin sink.old }
     {
         self.rest.extend_from_slice(piece)?;
@@ -271,7 +271,7 @@ impl<
         ensures turns { HasFed turns.old turns.new
             (questions_since (D.told desk.old).calls (D.told desk.new).calls) result }
         ensures bounded { turns.old.spent ≤ turns.old.limit → turns.new.spent ≤ turns.new.limit }
-        ensures keeps { KeepsDesk (D.told desk.old) (D.told desk.new) }
+        ensures registration { GoesOn (D.told desk.old) (D.told desk.new) }
         ensures sink { K.origin sink.new ≡ K.origin sink.old }
     {
         let outcome = self.take(alloc, desk, piece, sink, turns);

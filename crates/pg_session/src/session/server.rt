@@ -4,7 +4,7 @@ ghost use Rattle.std.specs.Prelude.{◌≡◌, ◌≢◌, ◌≤◌, ◌++◌, �
 ghost use Rattle.pg_messages.specs.Replies.{replies_bytes};
 ghost use Rattle.pg_portal.specs.Errors.{info_of};
 ghost use Rattle.pg_portal.specs.Rows.{IsTellable};
-ghost use Rattle.pg_handlers.specs.Desk.{KeepsDesk};
+ghost use Rattle.pg_handlers.specs.Desk.{GoesOn};
 ghost use Rattle.pg_handlers.specs.Effect.{IsRow, IsRefusedRow, failed};
 ghost use Rattle.pg_handlers.specs.Questions.{HasSpent, questions_since};
 ghost use Rattle.pg_handlers.specs.Sending.{IsAnswerableError};
@@ -79,7 +79,7 @@ pub fn process_message<
     ensures turns { HasSpent turns.old turns.new
         (questions_since (D.told desk.old).calls (D.told desk.new).calls) result }
     ensures bounded { turns.old.spent ≤ turns.old.limit → turns.new.spent ≤ turns.new.limit }
-    ensures keeps { KeepsDesk (D.told desk.old) (D.told desk.new) }
+    ensures registration { GoesOn (D.told desk.old) (D.told desk.new) }
 {
     match session.client.info.state {
         PgWireConnectionState::AwaitingStartup => {

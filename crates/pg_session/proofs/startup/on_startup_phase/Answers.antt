@@ -29,7 +29,7 @@ returns-in_err-on_startup-in-Startup-clause-refused g c =
     let p = err_from_is_err_and from.result from.ensures.1 in
     let s = state_of g.St.PortalStore.maps c.args.client.now in
     rw p.1 (packet_refused s _ c.args.message c.in-Startup.startup c.in-Startup.is c.args.client.now.outbox
-    c.on_startup.new.client.outbox (g.D.CancelDesk.told c.args.desk.now).calls c.in_err-on_startup-in-Startup.ensures.silent
+    c.on_startup.new.client.outbox (g.D.CancelDesk.told c.args.desk.now).calls (g.D.CancelDesk.told c.on_startup.new.desk).calls
     _ p.0 p.2 c.in_err-on_startup-in-Startup.ensures.refused)
 
 pub returns-in_ok-on_startup-in-Startup-clause-ok :
@@ -37,5 +37,5 @@ pub returns-in_ok-on_startup-in-Startup-clause-ok :
 returns-in_ok-on_startup-in-Startup-clause-ok g c =
     let s = state_of g.St.PortalStore.maps c.args.client.now in
     packet_answered s _ c.args.message c.in-Startup.startup c.in-Startup.is c.args.client.now.outbox
-    c.on_startup.new.client.outbox (g.D.CancelDesk.told c.args.desk.now).calls c.in_ok-on_startup-in-Startup.ensures.silent
+    c.on_startup.new.client.outbox (g.D.CancelDesk.told c.args.desk.now).calls (g.D.CancelDesk.told c.on_startup.new.desk).calls
     c.in_ok-on_startup-in-Startup.ensures.ok

@@ -9,9 +9,9 @@ use Rattle.pg_session.proofs.startup.push_startup.Goals as goal
 pub returns : goal.returns
 returns c =
     let key = subst (λ pid. c.push_key.new.outbox ≡ c.push_parameter-4.new.outbox
-    ++ replies_bytes (server.BackendKeyData (record { pid = pid; secret_key = c.args.key }) ∷ []))
+    ++ replies_bytes (server.BackendKeyData (record { pid = pid; secret_key = c.args.key.now }) ∷ []))
     (to_z-of_z w32 c.args.pid c.ranges.pid) c.in_ok-push_key.ensures in
-    on_ok_weaker c.send_ready_for_query.result (λ last. started c.args.pid c.args.key c.args.outbox.now c.push.new.self
+    on_ok_weaker c.send_ready_for_query.result (λ last. started c.args.pid c.args.key.now c.args.outbox.now c.push.new.self
     c.push_parameter.new.outbox c.push_parameter-2.new.outbox c.push_parameter-3.new.outbox c.push_parameter-4.new.outbox
     c.push_key.new.outbox c.send_ready_for_query.new.outbox
     c.in_ok-push.ensures.ok c.in_ok-push_parameter.ensures c.in_ok-push_parameter-2.ensures c.in_ok-push_parameter-3.ensures

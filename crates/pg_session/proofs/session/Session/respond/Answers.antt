@@ -61,7 +61,7 @@ returns-in-Ok-process_error g c =
       turns = fed_where_told c.args.turns.now c.process_message.new.turns
           (questions_since calls new_calls) c.in-Err-Wire.error c.in_default.not-NoMemory turns;
       bounded = c.process_message.ensures.bounded;
-      keeps = c.process_message.ensures.keeps;
+      registration = c.process_message.ensures.registration;
     }
 
 pub returns-in-Err : goal.returns-in-Err
@@ -84,5 +84,5 @@ returns-in-Err g c =
       rest = c.in-Err.ensures.rest ∙ c.process_message.ensures.rest;
       turns = fed_no_memory c.args.turns.now c.process_message.new.turns (questions_since calls new_calls) c.in-Err-Wire.error turns;
       bounded = c.process_message.ensures.bounded;
-      keeps = c.process_message.ensures.keeps;
+      registration = c.process_message.ensures.registration;
     }

@@ -1,5 +1,5 @@
 use Rattle.std.proofs.Common.{arith, Option, Ok, Err, [], sym, ap, subst, refl, ◌∙◌}
-use Rattle.pg_handlers.proofs.Desks.{keeps_none, keeps_then}
+use Rattle.pg_handlers.proofs.Desks.{goes_on_none, goes_on_then}
 use Rattle.pg_handlers.specs.Questions.{questions_since}
 use Rattle.pg_handlers.specs.Table.{awaits}
 use Rattle.pg_session.specs.declared.ends.Progress.{Progress}
@@ -26,7 +26,7 @@ messages-init g c =
       faults = refl;
       turns = no_turn c.args.turns.now (g.D.CancelDesk.told c.args.desk.now).calls;
       bounded = λ h. h;
-      keeps = keeps_none _;
+      registration = goes_on_none _;
       origin = refl;
     }
 
@@ -186,6 +186,6 @@ messages-preserved g c =
       faults = c.in_ok-step.ensures.cause.calm ∙ so_far.faults;
       turns = spent;
       bounded = λ within. c.in_ok-step.ensures.bounded (so_far.bounded within);
-      keeps = keeps_then _ _ _ so_far.keeps c.in_ok-step.ensures.keeps;
+      registration = goes_on_then _ _ _ so_far.registration c.in_ok-step.ensures.registration;
       origin = c.in_ok-step.ensures.sink ∙ so_far.origin;
     }

@@ -1,5 +1,5 @@
 use Rattle.std.proofs.Common.{◌≡◌, ◌≤◌, true, length}
-use Rattle.pg_handlers.specs.Desk.{KeepsDesk}
+use Rattle.pg_handlers.specs.Desk.{GoesOn}
 use Rattle.pg_handlers.specs.Answer.{Goes}
 use Rattle.pg_handlers.specs.Questions.{questions_since}
 use Rattle.pg_session.specs.Session.{whole_rules}
@@ -19,7 +19,7 @@ invariant-messages g l = record {
   faults : g.K.Sink.faults l.sink ≡ g.K.Sink.faults l.fn.sink;
   turns : l.turns ≡ spent_more l.fn.turns (questions_since (g.D.CancelDesk.told l.fn.desk).calls (g.D.CancelDesk.told l.desk).calls);
   bounded : l.fn.turns.spent ≤ l.fn.turns.limit → l.turns.spent ≤ l.turns.limit;
-  keeps : KeepsDesk (g.D.CancelDesk.told l.fn.desk) (g.D.CancelDesk.told l.desk);
+  registration : GoesOn (g.D.CancelDesk.told l.fn.desk) (g.D.CancelDesk.told l.desk);
   origin : g.K.Sink.origin l.sink ≡ g.K.Sink.origin l.fn.sink;
 }
 

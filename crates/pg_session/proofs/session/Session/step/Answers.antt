@@ -1,6 +1,7 @@
 use Rattle.std.proofs.Common.{◌≡◌, Err, [], sym, ap, subst, refl, ◌∙◌}
 use Rattle.std.specs.Arc.{arc_value}
 use Rattle.pg_messages.specs.Frames.{IsFrame, IsUnfinished, IsBad}
+use Rattle.pg_handlers.proofs.Desks.{goes_on_none}
 use Rattle.pg_handlers.specs.Answer.{Goes}
 use Rattle.pg_handlers.specs.State.{state_of}
 use Rattle.pg_handlers.specs.Table.{awaits}
@@ -136,3 +137,12 @@ returns-clause-open g c = going_is_open c.in_ok-end.end c.ended_by.result c.self
 
 pub returns-in-Ok-None-clause-open : goal.returns-in-Ok-None-clause-open
 returns-in-Ok-None-clause-open g c = λ _. ap (λ v. v.is_open) c.self.view_is ∙ c.requires
+
+pub returns-in-Ok-None-clause-registration : goal.returns-in-Ok-None-clause-registration
+returns-in-Ok-None-clause-registration g c = goes_on_none _
+
+pub returns-in-Err-Bad-clause-registration : goal.returns-in-Err-Bad-clause-registration
+returns-in-Err-Bad-clause-registration g c = goes_on_none _
+
+pub returns-in-Err-NoMemory-clause-registration : goal.returns-in-Err-NoMemory-clause-registration
+returns-in-Err-NoMemory-clause-registration g c = goes_on_none _

@@ -4,8 +4,10 @@ use Rattle.pg_handlers.specs.CopyRows.{copy_row}
 use Rattle.pg_handlers.specs.Good.{IsGoodState, IsGoodStatement, IsGoodPortal}
 use Rattle.pg_handlers.specs.State.{state_of}
 use Rattle.pg_handlers.specs.Table.{awaiting_sync_row}
+use Rattle.pg_handlers.proofs.Desks.{goes_on_none}
 use Rattle.pg_handlers.proofs.GoodStores.{Each}
 use Rattle.pg_session.specs.Messages.{with_session_error}
+use Rattle.pg_session.proofs.Narrowed.{ready_goes_on}
 use Rattle.pg_session.proofs.Rows.{row_as, refused_as}
 use Rattle.pg_session.proofs.StartupTurns.{startup_turns}
 use Rattle.pg_session.proofs.ToldRows.{with_session_error_ok, with_session_error_refused, ready_refused, sync_row, copy_phase_row}
@@ -106,3 +108,19 @@ returns-in-CopyInProgress-clause-refused g c =
     calls new answered.result
     (λ answers. copy_phase_row h answers s c.args.message c.in-CopyInProgress.is_extended c.in-CopyInProgress.is)
     (rw c.deref-handlers-in-CopyInProgress.ensures at answered.ensures.refused)))
+
+pub returns-in-ReadyForQuery-clause-registration : goal.returns-in-ReadyForQuery-clause-registration
+returns-in-ReadyForQuery-clause-registration g c =
+    let handlers = arc_value c.session.inside.handlers in
+    let old = c.session.inside.client in
+    let answered = c.on_ready-outcome in
+    ready_goes_on (g.H.PgWireServerHandlers.told handlers) (state_of g.St.PortalStore.maps old) c.args.message
+    (g.D.CancelDesk.told c.args.desk.now) (g.D.CancelDesk.told answered.new.desk) answered.ensures.keeps old.outbox
+    answered.new.client.outbox (state_of g.St.PortalStore.maps answered.new.client) answered.result
+    (rw c.deref-handlers.ensures at answered.ensures.ok) (rw c.deref-handlers.ensures at answered.ensures.refused)
+
+pub returns-in-AwaitingSync-clause-registration : goal.returns-in-AwaitingSync-clause-registration
+returns-in-AwaitingSync-clause-registration g c = goes_on_none _
+
+pub returns-in-CopyInProgress-clause-registration : goal.returns-in-CopyInProgress-clause-registration
+returns-in-CopyInProgress-clause-registration g c = goes_on_none _
