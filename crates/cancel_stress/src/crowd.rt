@@ -5,6 +5,7 @@ ghost use Rattle.std.specs.Thread.{IsSync};
 use crate::plain::is_legal;
 use crate::worker::{Counts, Worker, are_in_order, are_within_cancels, end_all, workers};
 use pg_cancel::{ConnectionManager, Door, Registry};
+use pg_messages::SecretKey;
 use std::alloc::Global;
 use std::sync::Wait;
 use std::thread::Threads;
@@ -34,7 +35,8 @@ pub struct Heard {
 pub fn stressed<R: Threads + Wait + Sync>(rt: &R, alloc: Global, calls: u64) -> Option<Told> {
     let (manager, mut door) = ConnectionManager::new(alloc).ok()?;
     let heard = called(rt, alloc, &manager, &mut door, calls)?;
-    let entries = manager.register(rt, &mut door, 0, [0; 4]).ok()?.number();
+    let last = SecretKey::try_new(alloc, &[0; 4]).ok()?;
+    let entries = manager.register(rt, &mut door, 0, last).ok()?.number();
     let legal = in_turn(rt, alloc, calls)?;
     Some(Told {
         heard,

@@ -1,14 +1,16 @@
 //! Whether a list of entries is a legal history, by a walk over the list that knows nothing of the
 //! registry's index.
 use pg_cancel::{Entry, RegistryAnswer, RegistryCall};
+use pg_messages::SecretKey;
 use std::alloc::{AllocError, Global};
 
 /// A registration that was not ended.
-#[derive(Clone, Copy)]
+#[derive(Drop)]
 struct Live {
     number: u64,
     pid: i32,
-    key: [u8; 4],
+    /// The key that it has by now.
+    key: SecretKey,
     started: bool,
     canceled: bool,
 }
@@ -36,7 +38,7 @@ impl Walk {
     /// Whether the entry may stand at this place; it is noted.
     fn may_follow(&mut self, place: u64, entry: &Entry) -> Result<bool, AllocError> {
         if let RegistryCall::Register(pid, key) = &entry.call {
-            return Ok(entry.number == place && self.register(place, *pid, *key)? == entry.answer);
+            return Ok(entry.number == place && self.register(place, *pid, key)? == entry.answer);
         }
         let Some(own) = self.live.iter().position(|one| one.number == entry.number) else {
             return Ok(false);
@@ -48,11 +50,12 @@ impl Walk {
         &mut self,
         number: u64,
         pid: i32,
-        key: [u8; 4],
+        key: &SecretKey,
     ) -> Result<RegistryAnswer, AllocError> {
         if let Some(holder) = self.live.iter().find(|one| one.pid == pid) {
             return Ok(RegistryAnswer::Taken(holder.number));
         }
+        let key = key.copy_of()?;
         self.live.push(Live {
             number,
             pid,
@@ -66,7 +69,13 @@ impl Walk {
     /// What the call of the registration at the place `own` must be answered.
     fn answer(&mut self, own: usize, call: &RegistryCall) -> RegistryAnswer {
         match call {
-            RegistryCall::Cancel(pid, key) => self.cancel(*pid, *key),
+            RegistryCall::Cancel(pid, key) => self.cancel(*pid, key),
+            RegistryCall::Narrow => {
+                if let Some(one) = self.live.get_mut(own) {
+                    one.key.narrow();
+                }
+                RegistryAnswer::Done
+            }
             RegistryCall::Unregister => {
                 if own < self.live.len() {
                     let _ = self.live.swap_remove(own);
@@ -87,9 +96,9 @@ impl Walk {
         }
     }
 
-    fn cancel(&mut self, pid: i32, key: [u8; 4]) -> RegistryAnswer {
+    fn cancel(&mut self, pid: i32, key: &SecretKey) -> RegistryAnswer {
         for one in self.live.iter_mut() {
-            if one.pid == pid && one.key == key {
+            if one.pid == pid && one.key.is_same(key) {
                 one.canceled = one.started;
                 return RegistryAnswer::Yes;
             }

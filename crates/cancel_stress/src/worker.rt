@@ -5,6 +5,7 @@ ghost use Rattle.pg_cancel.specs.LegalHistory.{IsLive};
 use pg_cancel::{
     ConnectionHandle, ConnectionManager, Door, Registry, RegistryAnswer, RegistryCall,
 };
+use pg_messages::SecretKey;
 use std::alloc::{AllocError, Global};
 use std::sync::Wait;
 
@@ -24,8 +25,11 @@ pub struct Counts {
 pub struct Worker<'a> {
     manager: &'a ConnectionManager,
     handle: ConnectionHandle,
-    /// The connection that this one cancels.
+    /// The connection that this one cancels, and its key.
     other: i32,
+    key: SecretKey,
+    /// A key that nobody has.
+    wrong: SecretKey,
     pub counts: Counts,
     /// How many of its queries were told to be canceled, and whether the last one was.
     canceled: u64,
@@ -36,9 +40,9 @@ pub struct Worker<'a> {
     ghost issued: { handle.issuer ≡ manager.now },
 }
 
-/// The key of the connection with this pid.
-pub fn key_of(pid: i32) -> [u8; 4] {
-    pid.to_be_bytes()
+/// The key of the connection with this pid. None where there was no memory.
+fn key_of(alloc: Global, pid: i32) -> Option<SecretKey> {
+    SecretKey::try_new(alloc, &pid.to_be_bytes()).ok()
 }
 
 /// The answer to an Ask or a Cancel.
@@ -60,14 +64,22 @@ pub fn no_counts() -> Counts {
 }
 
 impl<'a> Worker<'a> {
-    /// A connection that cancels the one with the pid `other`.
-    pub fn new(manager: &'a ConnectionManager, handle: ConnectionHandle, other: i32) -> Worker<'a>
+    /// A connection that cancels the one with the pid `other`, which has this key.
+    pub fn new(
+        manager: &'a ConnectionManager,
+        handle: ConnectionHandle,
+        other: i32,
+        key: SecretKey,
+        wrong: SecretKey,
+    ) -> Worker<'a>
         requires { handle.issuer ≡ manager.now }
     {
         Worker {
             manager,
             handle,
             other,
+            key,
+            wrong,
             counts: no_counts(),
             canceled: 0,
             is_canceled: false,
@@ -143,8 +155,9 @@ impl<'a> Worker<'a> {
     }
 
     fn cancel<R: Wait>(&mut self, rt: &R) -> Result<(), AllocError> {
-        let key = key_of(self.other);
-        let hit = self.manager.cancel(rt, &mut self.handle, self.other, key)?;
+        let hit = self
+            .manager
+            .cancel(rt, &mut self.handle, self.other, &self.key)?;
         self.counts.right = self.counts.right.wrapping_add(1);
         if hit {
             self.counts.hits = self.counts.hits.wrapping_add(1);
@@ -155,7 +168,7 @@ impl<'a> Worker<'a> {
     fn miss<R: Wait>(&mut self, rt: &R) -> Result<(), AllocError> {
         let hit = self
             .manager
-            .cancel(rt, &mut self.handle, self.other, [0xff; 4])?;
+            .cancel(rt, &mut self.handle, self.other, &self.wrong)?;
         self.counts.wrong = self.counts.wrong.wrapping_add(1);
         if hit {
             self.counts.misses = self.counts.misses.wrapping_add(1);
@@ -166,7 +179,7 @@ impl<'a> Worker<'a> {
     /// Registers the connection beside too. Whether it has the same number there.
     pub fn registers(&self, beside: &mut Registry) -> Result<bool, AllocError> {
         let number = beside.history().len() as u64;
-        let call = RegistryCall::Register(self.handle.pid(), self.handle.key());
+        let call = RegistryCall::Register(self.handle.pid(), self.handle.key().copy_of()?);
         let answer = beside.apply(number, call)?;
         Ok(answer == RegistryAnswer::Registered && number == self.handle.number())
     }
@@ -191,8 +204,14 @@ impl<'a> Worker<'a> {
                 let told = self.manager.ask(rt, &mut self.handle)?;
                 Ok(beside.apply(number, RegistryCall::Ask)? == answer_of(told))
             }
-            2 => self.cancels(rt, beside, number, key_of(self.other)),
-            _ => self.cancels(rt, beside, number, [0xff; 4]),
+            2 => {
+                let key = self.key.copy_of()?;
+                self.cancels(rt, beside, number, key)
+            }
+            _ => {
+                let key = self.wrong.copy_of()?;
+                self.cancels(rt, beside, number, key)
+            }
         }
     }
 
@@ -201,11 +220,13 @@ impl<'a> Worker<'a> {
         rt: &R,
         beside: &mut Registry,
         number: u64,
-        key: [u8; 4],
+        key: SecretKey,
     ) -> Result<bool, AllocError>
         requires { IsLive beside.old number }
     {
-        let told = self.manager.cancel(rt, &mut self.handle, self.other, key)?;
+        let told = self
+            .manager
+            .cancel(rt, &mut self.handle, self.other, &key)?;
         let call = RegistryCall::Cancel(self.other, key);
         Ok(beside.apply(number, call)? == answer_of(told))
     }
@@ -216,6 +237,8 @@ impl<'a> Worker<'a> {
             manager,
             handle,
             other: _,
+            key: _key,
+            wrong: _wrong,
             counts: _,
             canceled: _,
             is_canceled: _,
@@ -241,9 +264,13 @@ pub fn workers<'a, R: Wait>(
     let mut all = Vec::new(alloc);
     for place in 0..count {
         let pid = (place % 1000) as i32 + 1;
-        let handle = manager.register(rt, door, pid, key_of(pid)).ok()?;
+        let own = key_of(alloc, pid)?;
+        let handle = manager.register(rt, door, pid, own).ok()?;
         let other = if place + 1 < count { pid + 1 } else { 1 };
-        all.push(Worker::new(manager, handle, other)).ok()?;
+        let key = key_of(alloc, other)?;
+        let wrong = SecretKey::try_new(alloc, &[0xff; 4]).ok()?;
+        all.push(Worker::new(manager, handle, other, key, wrong))
+            .ok()?;
     }
     Some(all)
 }

@@ -7,9 +7,9 @@ use Rattle.pg_cancel.specs.declared.entries.Entry.{Entry}
 use Rattle.pg_cancel.specs.declared.entries.RegistryAnswer.{RegistryAnswer}
 use Rattle.pg_cancel.specs.declared.entries.RegistryAnswer.TheVariants.{Registered, Yes}
 use Rattle.pg_cancel.specs.declared.entries.RegistryCall.{RegistryCall}
-use Rattle.pg_cancel.specs.declared.entries.RegistryCall.TheVariants.{Register, Start, Ask, Cancel, Unregister}
+use Rattle.pg_cancel.specs.declared.entries.RegistryCall.TheVariants.{Register, Start, Ask, Cancel, Narrow, Unregister}
 use Rattle.std.specs.Prelude.{◌==◌}
-use Rattle.pg_cancel.specs.LegalHistory.{IsLegal, IsLive, IsRegisteredAt, IsNumber, IsAnswer, IsCanceled, MayFollow}
+use Rattle.pg_cancel.specs.LegalHistory.{IsLegal, IsLive, IsRegisteredAt, IsCancelAt, key_after, key_at, IsNumber, IsAnswer, IsCanceled, MayFollow}
 use mathlib.Core.Logic.{dite}
 use native.Mathlib.Decide.{ℕ_discrete}
 use Rattle.pg_cancel.proofs.Histories.{Registers, Cancels, live_within, last_keeps, determined}
@@ -31,6 +31,7 @@ number_below h (Register pid key) n is = omega (arith, is)
 number_below h Start n is = let l = live_within h n is.0 is.1 is.2 in omega arith
 number_below h Ask n is = let l = live_within h n is.0 is.1 is.2 in omega arith
 number_below h (Cancel pid key) n is = let l = live_within h n is.0 is.1 is.2 in omega arith
+number_below h Narrow n is = let l = live_within h n is.0 is.1 is.2 in omega arith
 number_below h Unregister n is = let l = live_within h n is.0 is.1 is.2 in omega arith
 
 -- in a legal history each number is that of a place
@@ -54,6 +55,7 @@ other_number h (Register pid key) n quiet is = absurd (cc (quiet))
 other_number h Start n quiet is = is
 other_number h Ask n quiet is = is
 other_number h (Cancel pid key) n quiet is = is
+other_number h Narrow n quiet is = is
 other_number h Unregister n quiet is = is
 
 -- in a legal history every entry that is no Register has the number of a registration
@@ -71,11 +73,18 @@ calls_skip n e rest other = rw (ne_eqb e.number n other) refl
 
 canceled_more : (h : List Entry) (e : Entry) (n : ℕ) → e.number ≢ n → IsCanceled h n → IsCanceled (h ++ e ∷ []) n
 canceled_more h e n other c =
-    let of = c.cancel_of_n in record {
+    let of = c.cancel_of_n in
+    let key = key_at h c.cancel n of.1 in
+    let within : c.cancel < length h = at_within (Cancels of.0 key) h c.cancel of.3 in
+    let stays : key_at (h ++ e ∷ []) c.cancel n of.1 ≡ key =
+    ap (λ xs. key_after xs n of.1) (take-append-le c.cancel h (e ∷ []) (omega arith)) in
+    let there : IsCancelAt (h ++ e ∷ []) c.cancel of.0 (key_at (h ++ e ∷ []) c.cancel n of.1) =
+    subst (λ k. IsCancelAt (h ++ e ∷ []) c.cancel of.0 k) (sym stays) (at_old (Cancels of.0 key) h e c.cancel of.3) in
+    record {
       start = c.start;
       cancel = c.cancel;
       last_start = last_keeps h e n c.start (λ starts. other starts.0) c.last_start;
-      cancel_of_n = (of.0, of.1, at_old (Registers of.0 of.1) h e n of.2, at_old (Cancels of.0 of.1) h e c.cancel of.3);
+      cancel_of_n = (of.0, of.1, at_old (Registers of.0 of.1) h e n of.2, there);
       after = c.after;
     }
 

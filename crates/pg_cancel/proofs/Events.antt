@@ -1,5 +1,5 @@
 -- What an event tells the caller.
-use Rattle.std.proofs.Common.{◌≡◌, ℕ, ℤ, Bool, true, false, List, [], ◌∷◌, ◌++◌, length, Option, Some, inl, inr, ◌↔◌, Result, Ok, Err, IfOk, sym, refl, ap, ◌∙◌, subst}
+use Rattle.std.proofs.Common.{◌≡◌, ℕ, ℤ, Bool, true, false, List, [], ◌∷◌, ◌++◌, length, take, Option, Some, inl, inr, ◌↔◌, Result, Ok, Err, IfOk, sym, refl, ap, ◌∙◌, subst}
 use Rattle.std.proofs.lemmas.List.{append-nil, append_cancel_left}
 use Rattle.std.proofs.lemmas.List.Elements.{filter-append}
 use Rattle.std.specs.Prelude.{◌==◌}
@@ -7,18 +7,19 @@ use Rattle.std.specs.declared.alloc.AllocError.{AllocError}
 use Rattle.atomic_table.specs.Table.{Me}
 use Rattle.pg_cancel.specs.declared.entries.Entry.{Entry}
 use Rattle.pg_cancel.specs.declared.entries.RegistryCall.{RegistryCall}
-use Rattle.pg_cancel.specs.declared.entries.RegistryCall.TheVariants.{Register, Start, Ask, Cancel, Unregister}
+use Rattle.pg_cancel.specs.declared.entries.RegistryCall.TheVariants.{Register, Start, Ask, Cancel, Narrow, Unregister}
 use Rattle.pg_cancel.specs.declared.entries.RegistryAnswer.{RegistryAnswer}
 use Rattle.pg_cancel.specs.declared.entries.RegistryAnswer.TheVariants.{Registered, Taken, Done, Yes, No}
 use Rattle.pg_cancel.specs.declared.roster.Roster.{Roster}
 use Rattle.pg_cancel.specs.declared.seat.View.{View}
 use Rattle.pg_cancel.specs.declared.manager.RegisterError.{RegisterError}
 use Rattle.pg_cancel.specs.declared.manager.RegisterError.TheVariants.{PidTaken, NoMemory}
-use Rattle.pg_cancel.specs.LegalHistory.{IsLegal, IsLive, IsLiveAs, HasPid, IsCanceled, IsAnswer, MayCall, entry_of}
+use Rattle.pg_cancel.specs.LegalHistory.{IsLegal, is_narrow, IsLive, IsLiveAs, HasPid, IsCanceled, IsAnswer, MayCall, entry_of}
 use Rattle.pg_cancel.specs.Index.{IsCaller}
-use Rattle.pg_cancel.specs.Connections.{calls_of, is_register, registers_of, entry, before_last, yes_if, Made, Registers, Begins}
+use Rattle.pg_cancel.specs.Connections.{calls_of, is_register, registers_of, entry, before_last, yes_if, Made, Registers, Begins, IsNamed}
 use Rattle.pg_cancel.specs.RosterTable.{Fits, holding, called, entered, refused, grown, HasOut, HasHappened, IsHolding, IsCalled, IsHandle, IsDoor, IsOpening, IsLeft, IsToldTo, MayMake}
-use Rattle.pg_cancel.proofs.Histories.{IsLegal-push, entry_follows, registered_once, registered_lives, stays_live}
+use Rattle.pg_cancel.proofs.Keys.{key_stays, key_narrowed}
+use Rattle.pg_cancel.proofs.Histories.{Calls, IsLegal-push, entry_follows, registered_once, registered_lives, stays_live}
 use Rattle.pg_cancel.proofs.Beginnings.{the_answer, before_of, heard_by, begins_registered}
 use Rattle.pg_cancel.proofs.Views.{Answered, called_fits, entered_fits, false_true, holding_fits}
 
@@ -32,6 +33,7 @@ may_make v n (Register pid key) quiet own live = absurd (cc (quiet))
 may_make v n Start quiet own live = (own, live)
 may_make v n Ask quiet own live = (own, live)
 may_make v n (Cancel pid key) quiet own live = (own, live)
+may_make v n Narrow quiet own live = (own, live)
 may_make v n Unregister quiet own live = (own, live)
 
 pub may_open : (v : View) (n : ℕ) (c : RegistryCall) → is_register c ≡ true → v.is_door ≡ true → MayMake v n c
@@ -39,6 +41,7 @@ may_open v n (Register pid key) is door = door
 may_open v n Start is door = false_true is
 may_open v n Ask is door = false_true is
 may_open v n (Cancel pid key) is door = false_true is
+may_open v n Narrow is door = false_true is
 may_open v n Unregister is door = false_true is
 
 -- ---- calls of a handle
@@ -79,6 +82,7 @@ own_number h n (Register pid key) a quiet = absurd (cc (quiet))
 own_number h n Start a quiet = refl
 own_number h n Ask a quiet = refl
 own_number h n (Cancel pid key) a quiet = refl
+own_number h n Narrow a quiet = refl
 own_number h n Unregister a quiet = refl
 
 pub asked : (v : View) (h : List Entry) (n : ℕ) (c : RegistryCall) (a : RegistryAnswer) → is_register c ≡ false → v.number ≡ Some n
@@ -101,6 +105,7 @@ call_made v w h n (Register pid key) a x is = absurd (cc (x.quiet))
 call_made v w h n Start a x is = made v w h n Start a v.is_live x is
 call_made v w h n Ask a x is = made v w h n Ask a v.is_live x is
 call_made v w h n (Cancel pid key) a x is = made v w h n (Cancel pid key) a v.is_live x is
+call_made v w h n Narrow a x is = made v w h n Narrow a v.is_live x is
 call_made v w h n Unregister a x is = made v w h n Unregister a false x is
 
 still_handle : (m m' : Sat) (h : List Entry) (n : ℕ) (c : RegistryCall) (a : RegistryAnswer) → IsHandle m n
@@ -122,6 +127,7 @@ left m m' h n (Register pid key) a quiet was is x = absurd (cc (quiet))
 left m m' h n Start a quiet was is x = still_handle m m' h n Start a was is x
 left m m' h n Ask a quiet was is x = still_handle m m' h n Ask a was is x
 left m m' h n (Cancel pid key) a quiet was is x = still_handle m m' h n (Cancel pid key) a was is x
+left m m' h n Narrow a quiet was is x = still_handle m m' h n Narrow a was is x
 left m m' h n Unregister a quiet was is x =
     let view : m'.0 ≡ called false (holding m.0 h) h (entry n Unregister a) = ap (λ (z : Sat). z.0) is in
     ((ap (λ (z : Sat). z.1) is, ap (λ (u : View). u.turn) view), ap (λ (u : View). u.is_door) view ∙ was.3)
@@ -147,6 +153,7 @@ caller h n pid (Register p key) has = tt
 caller h n pid Start has = has
 caller h n pid Ask has = has
 caller h n pid (Cancel p key) has = has
+caller h n pid Narrow has = has
 caller h n pid Unregister has = has
 
 pub calls_of_handle : (m out : Sat) (roster : Roster) (n : ℕ) (pid : ℤ) (key : List ℕ) (c : RegistryCall) → IsHandle m n
@@ -165,6 +172,7 @@ calls_of_door m n pid (Register p key) is log has = tt
 calls_of_door m n pid Start is log has = false_true is
 calls_of_door m n pid Ask is log has = false_true is
 calls_of_door m n pid (Cancel p key) is log has = false_true is
+calls_of_door m n pid Narrow is log has = false_true is
 calls_of_door m n pid Unregister is log has = false_true is
 
 -- what the entry of a call leaves
@@ -173,6 +181,7 @@ caller_may h n pid (Register p key) is = tt
 caller_may h n pid Start is = (pid, is.0, is.1)
 caller_may h n pid Ask is = (pid, is.0, is.1)
 caller_may h n pid (Cancel p key) is = (pid, is.0, is.1)
+caller_may h n pid Narrow is = (pid, is.0, is.1)
 caller_may h n pid Unregister is = (pid, is.0, is.1)
 
 lives : (h : List Entry) (n : ℕ) (c : RegistryCall) (a : RegistryAnswer) → IsAnswer h n c a → a ≡ Registered
@@ -206,6 +215,8 @@ told_to h n Ask _ x = absurd x
 told_to h n (Cancel pid key) Yes x = inl refl
 told_to h n (Cancel pid key) No x = inr refl
 told_to h n (Cancel pid key) _ x = absurd x
+told_to h n Narrow Done x = refl
+told_to h n Narrow _ x = absurd x
 told_to h n Unregister Done x = refl
 told_to h n Unregister _ x = absurd x
 
@@ -217,6 +228,7 @@ only_registered h n (Register pid key) _ is told one two = absurd told
 only_registered h n Start a is told one two = false_true is
 only_registered h n Ask a is told one two = false_true is
 only_registered h n (Cancel pid key) a is told one two = false_true is
+only_registered h n Narrow a is told one two = false_true is
 only_registered h n Unregister a is told one two = false_true is
 
 -- the answer, where it is known to be another name for this one
@@ -302,6 +314,7 @@ own_place h n (Register pid key) a is = refl
 own_place h n Start a is = false_true is
 own_place h n Ask a is = false_true is
 own_place h n (Cancel pid key) a is = false_true is
+own_place h n Narrow a is = false_true is
 own_place h n Unregister a is = false_true is
 
 pub opened : (v : View) (h : List Entry) (n : ℕ) (call : RegistryCall) (a b : RegistryAnswer) → is_register call ≡ true → v.is_door ≡ true
@@ -343,6 +356,7 @@ grown_registered v h n (Register pid key) is = refl
 grown_registered v h n Start is = false_true is
 grown_registered v h n Ask is = false_true is
 grown_registered v h n (Cancel pid key) is = false_true is
+grown_registered v h n Narrow is = false_true is
 grown_registered v h n Unregister is = false_true is
 
 grown_taken : (v : View) (h : List Entry) (n : ℕ) (c : RegistryCall) (m : ℕ) → is_register c ≡ true
@@ -351,6 +365,7 @@ grown_taken v h n (Register pid key) m is = refl
 grown_taken v h n Start m is = false_true is
 grown_taken v h n Ask m is = false_true is
 grown_taken v h n (Cancel pid key) m is = false_true is
+grown_taken v h n Narrow m is = false_true is
 grown_taken v h n Unregister m is = false_true is
 
 pub entered_is : (v : View) (m' : Sat) (h : List Entry) (n : ℕ) (c : RegistryCall) (a : RegistryAnswer) → is_register c ≡ true
@@ -406,6 +421,29 @@ pub refused_exactly : {A : Type 0} (e : RegisterError) (r : Result ℕ RegisterE
 refused_exactly {A} (PidTaken k) r pid key seen seen' is taken some m = let t = taken k is in taken_exactly t.0 k pid key seen seen' t.1 m
 refused_exactly {A} NoMemory r pid key seen seen' is taken some m = absurd (some refl)
 
-pub begins_more : (mine mine' : List Entry) (e : Entry) (n : ℕ) (pid : ℤ) (key : List ℕ) → Begins mine n pid key → mine' ≡ mine ++ e ∷ []
-    → Begins mine' n pid key
-begins_more mine mine' e n pid key b is = (b.0 ++ e ∷ [], is ∙ ap (λ x. x ++ e ∷ []) b.1)
+-- the key of a connection whose calls are one more, which is no Narrow
+pub named_more : (mine mine' : List Entry) (e : Entry) (n : ℕ) (pid : ℤ) (key : List ℕ) → is_narrow e.call ≡ false
+    → mine' ≡ mine ++ e ∷ [] → IsNamed mine n pid key → IsNamed mine' n pid key
+named_more mine mine' e n pid key other is x =
+    let calls : Calls n Narrow e → ⊥ = λ so. false_true (sym other ∙ ap is_narrow so.1) in
+    subst (λ xs. IsNamed xs n pid key) (sym is)
+    (x.0, (x.1.0 ++ e ∷ [], ap (λ xs. xs ++ e ∷ []) x.1.1), x.2 ∙ sym (key_stays mine e n x.0 calls))
+
+-- and which is one
+pub named_short : (mine mine' : List Entry) (n : ℕ) (pid : ℤ) (key short : List ℕ) (a : RegistryAnswer)
+    → mine' ≡ mine ++ entry n Narrow a ∷ [] → short ≡ take 4 key → IsNamed mine n pid key → IsNamed mine' n pid short
+named_short mine mine' n pid key short a is first x =
+    let e = entry n Narrow a in
+    subst (λ xs. IsNamed xs n pid short) (sym is) (
+      x.0,
+      (x.1.0 ++ e ∷ [], ap (λ xs. xs ++ e ∷ []) x.1.1),
+      first ∙ (ap (λ k. take 4 k) x.2 ∙ sym (key_narrowed mine e n x.0 (refl, refl))),
+    )
+
+-- a new connection has the key that it was registered with
+pub named_first : (mine : List Entry) (n : ℕ) (pid : ℤ) (key : List ℕ) → mine ≡ entry n (Register pid key) Registered ∷ []
+    → IsNamed mine n pid key
+named_first mine n pid key is =
+    let e = entry n (Register pid key) Registered in
+    let other : Calls n Narrow e → ⊥ = λ so. let no : ◌≡◌ {A = RegistryCall} (Register pid key) Narrow = so.1 in cc (no) in
+    subst (λ xs. IsNamed xs n pid key) (sym is) (key, ([], refl), sym (key_stays [] e n key other))

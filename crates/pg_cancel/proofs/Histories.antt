@@ -6,7 +6,7 @@ use Rattle.std.specs.List.{last_or}
 use mathlib.Core.Logic.{⊎_elim}
 use Rattle.pg_cancel.specs.declared.entries.Entry.{Entry}
 use Rattle.pg_cancel.specs.declared.entries.RegistryCall.{RegistryCall}
-use Rattle.pg_cancel.specs.declared.entries.RegistryCall.TheVariants.{Register, Start, Ask, Cancel, Unregister}
+use Rattle.pg_cancel.specs.declared.entries.RegistryCall.TheVariants.{Register, Start, Ask, Cancel, Narrow, Unregister}
 use Rattle.pg_cancel.specs.declared.entries.RegistryAnswer.{RegistryAnswer}
 use Rattle.pg_cancel.specs.declared.entries.RegistryAnswer.TheVariants.{Registered, Taken, Done, Yes, No}
 use Rattle.pg_cancel.specs.LegalHistory.{IsCallAt, IsRegisteredAt, IsLiveAs, IsLive, IsLastStart, IsNumber, IsAnswer, MayFollow, IsLegal, MayCall, entry_of}
@@ -83,6 +83,9 @@ determined h n (Cancel pid key) No Yes legal x y = absurd (x y)
 determined h n (Cancel pid key) No No legal x y = refl
 determined h n (Cancel pid key) No _ legal x y = absurd y
 determined h n (Cancel pid key) _ b legal x y = absurd x
+determined h n Narrow Done Done legal x y = refl
+determined h n Narrow Done _ legal x y = absurd y
+determined h n Narrow _ b legal x y = absurd x
 determined h n Unregister Done Done legal x y = refl
 determined h n Unregister Done _ legal x y = absurd y
 determined h n Unregister _ b legal x y = absurd x
@@ -113,6 +116,7 @@ entry_follows h n (Register pid key) _ may x = absurd x
 entry_follows h n Start a may x = record { number = may; answer = x }
 entry_follows h n Ask a may x = record { number = may; answer = x }
 entry_follows h n (Cancel pid key) a may x = record { number = may; answer = x }
+entry_follows h n Narrow a may x = record { number = may; answer = x }
 entry_follows h n Unregister a may x = record { number = may; answer = x }
 
 -- a live registration has a place in the history
@@ -201,6 +205,7 @@ registered_lives h n (Register pid key) x =
 registered_lives h n Start x = absurd x
 registered_lives h n Ask x = absurd x
 registered_lives h n (Cancel pid key) x = absurd x
+registered_lives h n Narrow x = absurd x
 registered_lives h n Unregister x = absurd x
 
 -- what is no Unregister of k leaves k live
@@ -210,6 +215,7 @@ no_end h n k (Register pid key) a other ends = let same : ◌≡◌ {A = Registr
 no_end h n k Start a other ends = let same : ◌≡◌ {A = RegistryCall} Start Unregister = ends.1 in cc (same)
 no_end h n k Ask a other ends = let same : ◌≡◌ {A = RegistryCall} Ask Unregister = ends.1 in cc (same)
 no_end h n k (Cancel pid key) a other ends = let same : ◌≡◌ {A = RegistryCall} (Cancel pid key) Unregister = ends.1 in cc (same)
+no_end h n k Narrow a other ends = let same : ◌≡◌ {A = RegistryCall} Narrow Unregister = ends.1 in cc (same)
 no_end h n k Unregister a other ends = other (refl, ends.0)
 
 pub stays_live : (h : List Entry) (n k : ℕ) (c : RegistryCall) (a : RegistryAnswer) → ((c ≡ Unregister) × (n ≡ k) → ⊥) → IsLive h k

@@ -1,5 +1,6 @@
 pub mod Places
 pub mod Histories
+pub mod Keys
 pub mod Indexing
 pub mod Noting
 pub mod Prefixes

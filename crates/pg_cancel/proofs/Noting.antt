@@ -1,5 +1,5 @@
 -- Each call's answer is right, and the index follows the history.
-use Rattle.std.proofs.Common.{◌≡◌, ℕ, ◌<◌, ◌≤◌, ◌^◌, ℤ, List, [], ◌∷◌, ◌++◌, length, get_or, slice_get, IsTrue, nat_eq, ◌↔◌, cond, Option, Some, None, IsSome, FitsSigned, Result, Ok, Err, IfOk, ◌∙◌, refl, ap, sym, subst, arith}
+use Rattle.std.proofs.Common.{◌≡◌, ℕ, ◌<◌, ◌≤◌, ◌^◌, ℤ, List, [], ◌∷◌, ◌++◌, length, take, get_or, slice_get, IsTrue, nat_eq, ◌↔◌, cond, Option, Some, None, IsSome, IsSomeAnd, FitsSigned, Result, Ok, Err, IfOk, ◌∙◌, refl, ap, sym, subst, arith}
 use Rattle.std.specs.Ordering.{int_cmp}
 use Rattle.std.specs.BTreeMap.{BTreeMap, get, is_at, IsUnchanged, WritesThrough}
 use Rattle.std.specs.Map.{lookup}
@@ -8,7 +8,7 @@ use Rattle.std.proofs.Common.{to_z, of_z, w32}
 use mathlib.Core.Logic.{⊎_elim}
 use Rattle.pg_cancel.specs.declared.entries.Entry.{Entry}
 use Rattle.pg_cancel.specs.declared.entries.RegistryCall.{RegistryCall}
-use Rattle.pg_cancel.specs.declared.entries.RegistryCall.TheVariants.{Register, Start, Ask, Cancel, Unregister}
+use Rattle.pg_cancel.specs.declared.entries.RegistryCall.TheVariants.{Register, Start, Ask, Cancel, Narrow, Unregister}
 use Rattle.pg_cancel.specs.declared.entries.RegistryAnswer.{RegistryAnswer}
 use Rattle.pg_cancel.specs.declared.entries.RegistryAnswer.TheVariants.{Registered, Taken, Done, Yes, No}
 use Rattle.std.specs.declared.alloc.AllocError.{AllocError}
@@ -17,13 +17,14 @@ use Rattle.pg_cancel.specs.declared.holders.Holders.{Holders}
 use Rattle.pg_cancel.specs.declared.holders.Query.{Query}
 use Rattle.pg_cancel.specs.declared.holders.Query.TheVariants.{Unstarted, Running, Canceled}
 use Rattle.pg_cancel.specs.declared.roster.Roster.{Roster}
-use Rattle.pg_cancel.specs.LegalHistory.{IsRegisteredAt, IsLiveAs, IsLive, HasPid, IsTaken, IsConnected, IsLegal, IsAnswer}
-use Rattle.pg_cancel.specs.Index.{IsQuery, answer_of, canceled, Holds, IsEntryAt, Notes, MayAsk, IsCaller, NotesAny, IsRosterOf, IsSameRoster}
+use Rattle.pg_cancel.specs.LegalHistory.{key_after, IsRegisteredAt, IsLiveAs, IsLive, HasPid, IsTaken, IsConnected, IsLegal, IsAnswer}
+use Rattle.pg_cancel.specs.Index.{IsQuery, IsHeldBy, answer_of, canceled, Holds, IsEntryAt, Notes, MayAsk, IsCaller, NotesAny, IsRosterOf, IsSameRoster}
 use Rattle.pg_cancel.proofs.Histories.{Registers, Calls, Cancels, registered_once, one_holder, live_within, start_within, live_keeps, live_was, live_new, live_ended}
 use Rattle.std.proofs.lemmas.Option.{get_or_from_slice_get}
 use Rattle.std.proofs.lemmas.Bool.Decides.{Decides-eqb}
 use Rattle.pg_cancel.proofs.Places.{at_either, the_value}
-use Rattle.pg_cancel.proofs.Indexing.{IsCanceled-from_query, not_canceled_unstarted, not_canceled_running, query_starts, query_canceled, Quiet, quiet_at, updated}
+use Rattle.pg_cancel.proofs.Keys.{key_stays, key_narrowed, key_new}
+use Rattle.pg_cancel.proofs.Indexing.{IsCanceled-from_query, not_canceled_unstarted, not_canceled_running, query_starts, query_keeps, query_canceled, Quiet, quiet_at, updated}
 
 -- the map is an index of the history
 abbrev pub Indexes : List Entry → BTreeMap ℤ Holder → Type 0
@@ -50,7 +51,7 @@ one_pid h m n p q j k first second same =
 one_number : (h : List Entry) (number : ℕ) (pid : ℤ) (holder : Holder) → IsLegal h → HasPid h number pid → Holds h pid holder
     → holder.number ≡ number
 one_number h number pid holder legal live holds =
-    one_holder h holder.number number pid holder.key live.0 legal holds.live live.1
+    one_holder h holder.number number pid holds.registered live.0 legal holds.live live.1
 
 -- an entry that is quiet at each pid leaves the index
 keeps_index : (h : List Entry) (e : Entry) (m : BTreeMap ℤ Holder) → ((q : ℤ) → Quiet h e q) → Indexes h m → Indexes (h ++ e ∷ []) m
@@ -64,13 +65,14 @@ notes_taken h m pid holder index at number key =
     let holds = found h m pid holder index at in
     let e : Entry = record { number = length h; call = Register pid key; answer = Taken holder.number } in
     record {
-      told = (holder.key, holds.live);
+      told = (holds.registered, holds.live);
       noted = keeps_index h e m
           (λ q. record {
             registers = λ k r. let no : ◌≡◌ {A = RegistryAnswer} (Taken holder.number) Registered = r.1 in cc (no);
             starts = λ n k l r. let no : ◌≡◌ {A = RegistryCall} (Register pid key) Start = r.1 in cc (no);
             ends = λ n k l r. let no : ◌≡◌ {A = RegistryCall} (Register pid key) Unregister = r.1 in cc (no);
-            cancels = λ n k l r. let no : ◌≡◌ {A = RegistryCall} (Register pid key) (Cancel q k) = r in cc (no);
+            cancels = λ n k l r. let no : ◌≡◌ {A = RegistryCall} (Register pid key) (Cancel q (key_after h n k)) = r in cc (no);
+            narrows = λ n k l r. let no : ◌≡◌ {A = RegistryCall} (Register pid key) Narrow = r.1 in cc (no);
           })
           index;
     }
@@ -81,8 +83,11 @@ pub notes_registered : (h : List Entry) (m n : BTreeMap ℤ Holder) (pid : ℤ) 
 notes_registered h m n pid key legal index at changes number =
     let e : Entry = record { number = length h; call = Register pid key; answer = Registered } in
     let holder : Holder = record { number = length h; key = key; query = Unstarted } in
+    let other : Calls (length h) Narrow e → ⊥ = λ r. let no : ◌≡◌ {A = RegistryCall} (Register pid key) Narrow = r.1 in cc (no) in
     let here : Holds (h ++ e ∷ []) pid holder = record {
+      registered = key;
       live = live_new h e pid key (refl, refl);
+      named = sym (key_stays h e (length h) key other ∙ key_new h key legal);
       query = λ k called.
           ⊎_elim
           (λ old. let within : length h < length h = start_within h k (length h) legal old in absurd (omega arith))
@@ -97,7 +102,8 @@ notes_registered h m n pid key legal index at changes number =
                 cc (same) in apart pids;
             starts = λ i k l r. let no : ◌≡◌ {A = RegistryCall} (Register pid key) Start = r.1 in cc (no);
             ends = λ i k l r. let no : ◌≡◌ {A = RegistryCall} (Register pid key) Unregister = r.1 in cc (no);
-            cancels = λ i k l r. let no : ◌≡◌ {A = RegistryCall} (Register pid key) (Cancel q k) = r in cc (no);
+            cancels = λ i k l r. let no : ◌≡◌ {A = RegistryCall} (Register pid key) (Cancel q (key_after h i k)) = r in cc (no);
+            narrows = λ i k l r. let no : ◌≡◌ {A = RegistryCall} (Register pid key) Narrow = r.1 in cc (no);
           })
           (index q));
     }
@@ -113,9 +119,12 @@ notes_start h m n number pid holder legal index live at changes =
     let holds = found h m pid holder index at in
     let same = one_number h number pid holder legal live holds in
     let here : Holds (h ++ e ∷ []) pid (record { number = holder.number; key = holder.key; query = Running }) = record {
-      live = live_keeps h e holder.number pid holder.key (λ r. let no : ◌≡◌ {A = RegistryCall} Start Unregister = r.1 in cc (no))
+      registered = holds.registered;
+      live = live_keeps h e holder.number pid holds.registered (λ r. let no : ◌≡◌ {A = RegistryCall} Start Unregister = r.1 in cc (no))
           holds.live;
-      query = query_starts h e holder.number pid holder.key (sym same, refl);
+      named = holds.named
+          ∙ sym (key_stays h e holder.number holds.registered (λ r. let no : ◌≡◌ {A = RegistryCall} Start Narrow = r.1 in cc (no)));
+      query = query_starts h e holder.number pid holds.registered (sym same, refl);
     } in
     record {
       told = tt;
@@ -128,7 +137,8 @@ notes_start h m n number pid holder legal index live at changes =
             registers = λ k r. let no : ◌≡◌ {A = RegistryCall} Start (Register q k) = r.0 in cc (no);
             starts = λ i k l r. apart (one_pid h number i pid q live.0 k live.1 l r.0);
             ends = λ i k l r. let no : ◌≡◌ {A = RegistryCall} Start Unregister = r.1 in cc (no);
-            cancels = λ i k l r. let no : ◌≡◌ {A = RegistryCall} Start (Cancel q k) = r in cc (no);
+            cancels = λ i k l r. let no : ◌≡◌ {A = RegistryCall} Start (Cancel q (key_after h i k)) = r in cc (no);
+            narrows = λ i k l r. let no : ◌≡◌ {A = RegistryCall} Start Narrow = r.1 in cc (no);
           })
           (index q));
     }
@@ -148,16 +158,18 @@ notes_asked h m number pid holder legal index live at =
     let e : Entry = record { number = number; call = Ask; answer = answer_of holder.query } in
     let holds = found h m pid holder index at in
     let same = one_number h number pid holder legal live holds in
-    let registered = subst (λ i. IsRegisteredAt h i pid holder.key) same holds.live.registered in
-    let query = subst (λ i. IsQuery h i pid holder.key holder.query) same holds.query in
+    let key = holds.registered in
+    let registered = subst (λ i. IsRegisteredAt h i pid key) same holds.live.registered in
+    let query = subst (λ i. IsQuery h i pid key holder.query) same holds.query in
     record {
-      told = answer_is h number pid holder.key holder.query registered query;
+      told = answer_is h number pid key holder.query registered query;
       noted = keeps_index h e m
           (λ q. record {
             registers = λ k r. let no : ◌≡◌ {A = RegistryCall} Ask (Register q k) = r.0 in cc (no);
             starts = λ n k l r. let no : ◌≡◌ {A = RegistryCall} Ask Start = r.1 in cc (no);
             ends = λ n k l r. let no : ◌≡◌ {A = RegistryCall} Ask Unregister = r.1 in cc (no);
-            cancels = λ n k l r. let no : ◌≡◌ {A = RegistryCall} Ask (Cancel q k) = r in cc (no);
+            cancels = λ n k l r. let no : ◌≡◌ {A = RegistryCall} Ask (Cancel q (key_after h n k)) = r in cc (no);
+            narrows = λ n k l r. let no : ◌≡◌ {A = RegistryCall} Ask Narrow = r.1 in cc (no);
           })
           index;
     }
@@ -171,14 +183,19 @@ pub notes_canceled : (h : List Entry) (m n : BTreeMap ℤ Holder) (pid : ℤ) (k
 notes_canceled h m n pid key holder index at same changes number =
     let e : Entry = record { number = number; call = Cancel pid key; answer = Yes } in
     let holds = found h m pid holder index at in
-    let by_key : Cancels pid holder.key e = ap (λ k. Cancel pid k) (sym same) in
+    let registered = holds.registered in
+    let now : key_after h holder.number registered ≡ key = sym holds.named ∙ same in
+    let by_key : Cancels pid (key_after h holder.number registered) e = ap (λ k. Cancel pid k) (sym now) in
     let here : Holds (h ++ e ∷ []) pid (record { number = holder.number; key = holder.key; query = canceled holder.query }) = record {
-      live = live_keeps h e holder.number pid holder.key (λ r. let no : ◌≡◌ {A = RegistryCall} (Cancel pid key) Unregister = r.1 in cc (no))
+      registered = registered;
+      live = live_keeps h e holder.number pid registered (λ r. let no : ◌≡◌ {A = RegistryCall} (Cancel pid key) Unregister = r.1 in cc (no))
           holds.live;
-      query = query_canceled h e holder.number pid holder.key holder.query by_key holds.query;
+      named = holds.named
+          ∙ sym (key_stays h e holder.number registered (λ r. let no : ◌≡◌ {A = RegistryCall} (Cancel pid key) Narrow = r.1 in cc (no)));
+      query = query_canceled h e holder.number pid registered holder.query by_key holds.query;
     } in
     record {
-      told = (holder.number, subst (λ k. IsLiveAs h holder.number pid k) same holds.live);
+      told = (holder.number, registered, holds.live, now);
       noted = updated (IsEntryAt (h ++ e ∷ [])) m n pid (Some (record {
         number = holder.number;
         key = holder.key;
@@ -188,8 +205,9 @@ notes_canceled h m n pid key holder index at same changes number =
             registers = λ k r. let no : ◌≡◌ {A = RegistryCall} (Cancel pid key) (Register q k) = r.0 in cc (no);
             starts = λ i k l r. let no : ◌≡◌ {A = RegistryCall} (Cancel pid key) Start = r.1 in cc (no);
             ends = λ i k l r. let no : ◌≡◌ {A = RegistryCall} (Cancel pid key) Unregister = r.1 in cc (no);
-            cancels = λ i k l r. let calls : ◌≡◌ {A = RegistryCall} (Cancel pid key) (Cancel q k) = r in let pids : q ≡ pid = cc (calls) in
-                apart pids;
+            cancels = λ i k l r. let calls : ◌≡◌ {A = RegistryCall} (Cancel pid key) (Cancel q (key_after h i k)) = r in
+                let pids : q ≡ pid = cc (calls) in apart pids;
+            narrows = λ i k l r. let no : ◌≡◌ {A = RegistryCall} (Cancel pid key) Narrow = r.1 in cc (no);
           })
           (index q));
     }
@@ -206,24 +224,69 @@ notes_unmet h m pid key index none number =
             starts = λ i k l r. let no : ◌≡◌ {A = RegistryCall} (Cancel pid key) Start = r.1 in cc (no);
             ends = λ i k l r. let no : ◌≡◌ {A = RegistryCall} (Cancel pid key) Unregister = r.1 in cc (no);
             cancels = λ i k l r.
-                let calls : ◌≡◌ {A = RegistryCall} (Cancel pid key) (Cancel q k) = r in
+                let calls : ◌≡◌ {A = RegistryCall} (Cancel pid key) (Cancel q (key_after h i k)) = r in
                 let pids : q ≡ pid = cc (calls) in
-                let keys : k ≡ key = cc (calls) in
-                none (i, subst (λ p. IsLiveAs h i p key) pids (subst (λ x. IsLiveAs h i q x) keys l));
+                let keys : key_after h i k ≡ key = cc (calls) in
+                none (i, k, subst (λ p. IsLiveAs h i p k) pids l, keys);
+            narrows = λ i k l r. let no : ◌≡◌ {A = RegistryCall} (Cancel pid key) Narrow = r.1 in cc (no);
           })
           index;
     }
 
-pub not_connected_free : (h : List Entry) (pid : ℤ) (key : List ℕ) → (IsTaken h pid → ⊥) → IsConnected h pid key → ⊥
-not_connected_free h pid key free connected = free (connected.0, (key, connected.1))
+not_connected_free : (h : List Entry) (pid : ℤ) (key : List ℕ) → (IsTaken h pid → ⊥) → IsConnected h pid key → ⊥
+not_connected_free h pid key free connected = free (connected.0, (connected.1, connected.2))
 
-pub not_connected_key : (h : List Entry) (m : BTreeMap ℤ Holder) (pid : ℤ) (key : List ℕ) (holder : Holder) → IsLegal h → Indexes h m
+not_connected_key : (h : List Entry) (m : BTreeMap ℤ Holder) (pid : ℤ) (key : List ℕ) (holder : Holder) → IsLegal h → Indexes h m
     → get int_cmp m pid ≡ Some holder → (holder.key ≡ key → ⊥) → IsConnected h pid key → ⊥
 not_connected_key h m pid key holder legal index at other connected =
     let holds = found h m pid holder index at in
-    let same = one_number h connected.0 pid holder legal (key, connected.1) holds in
-    let here = subst (λ i. IsRegisteredAt h i pid key) (sym same) connected.1.registered in
-    other (registered_once h holder.number pid pid holder.key key holds.live.registered here).1
+    let same = one_number h connected.0 pid holder legal (connected.1, connected.2) holds in
+    let here = subst (λ i. IsRegisteredAt h i pid connected.1) (sym same) connected.2.registered in
+    let keys = (registered_once h holder.number pid pid holds.registered connected.1 holds.live.registered here).1 in
+    other (holds.named ∙ (ap (λ k. key_after h holder.number k) keys ∙ (ap (λ i. key_after h i connected.1) same ∙ connected.3)))
+
+not_connected_by : (h : List Entry) (m : BTreeMap ℤ Holder) (pid : ℤ) (key : List ℕ) (o : Option Holder) → IsLegal h → Indexes h m
+    → get int_cmp m pid ≡ o → (IsSomeAnd o (λ holder. holder.key ≡ key) → ⊥) → IsConnected h pid key → ⊥
+not_connected_by h m pid key None legal index at not = not_connected_free h pid key (missing h m pid index at)
+not_connected_by h m pid key (Some holder) legal index at not = not_connected_key h m pid key holder legal index at not
+
+-- nobody has both where the index has no such key at the pid
+pub not_connected : (h : List Entry) (holders : Holders) (pid : ℤ) (key : List ℕ) → IsLegal h → Indexes h holders.by_pid
+    → (IsHeldBy holders pid key → ⊥) → IsConnected h pid key → ⊥
+not_connected h holders pid key legal index not =
+    not_connected_by h holders.by_pid pid key (get int_cmp holders.by_pid pid) legal index refl not
+
+-- ---- Narrow
+
+pub notes_narrowed : (h : List Entry) (m n : BTreeMap ℤ Holder) (number : ℕ) (pid : ℤ) (holder : Holder) → IsLegal h → Indexes h m
+    → HasPid h number pid → get int_cmp m pid ≡ Some holder
+    → Changes m n pid (Some (record { number = holder.number; key = take 4 holder.key; query = holder.query }))
+    → Notes h number Narrow (record { by_pid = n }) Done
+notes_narrowed h m n number pid holder legal index live at changes =
+    let e : Entry = record { number = number; call = Narrow; answer = Done } in
+    let holds = found h m pid holder index at in
+    let key = holds.registered in
+    let same = one_number h number pid holder legal live holds in
+    let w : Holder = record { number = holder.number; key = take 4 holder.key; query = holder.query } in
+    let here : Holds (h ++ e ∷ []) pid w = record {
+      registered = key;
+      live = live_keeps h e holder.number pid key (λ r. let no : ◌≡◌ {A = RegistryCall} Narrow Unregister = r.1 in cc (no)) holds.live;
+      named = ap (λ k. take 4 k) holds.named ∙ sym (key_narrowed h e holder.number key (sym same, refl));
+      query = query_keeps h e holder.number pid key holder.query (λ r. let no : ◌≡◌ {A = RegistryCall} Narrow Start = r.1 in cc (no))
+          (λ r. let no : ◌≡◌ {A = RegistryCall} Narrow (Cancel pid (key_after h holder.number key)) = r in cc (no)) holds.query;
+    } in
+    record {
+      told = tt;
+      noted = updated (IsEntryAt (h ++ e ∷ [])) m n pid (Some w) changes here
+          (λ q apart. quiet_at h e q (get int_cmp m q) (record {
+            registers = λ k r. let no : ◌≡◌ {A = RegistryCall} Narrow (Register q k) = r.0 in cc (no);
+            starts = λ i k l r. let no : ◌≡◌ {A = RegistryCall} Narrow Start = r.1 in cc (no);
+            ends = λ i k l r. let no : ◌≡◌ {A = RegistryCall} Narrow Unregister = r.1 in cc (no);
+            cancels = λ i k l r. let no : ◌≡◌ {A = RegistryCall} Narrow (Cancel q (key_after h i k)) = r in cc (no);
+            narrows = λ i k l r. apart (one_pid h number i pid q live.0 k live.1 l r.0);
+          })
+          (index q));
+    }
 
 -- ---- Unregister
 
@@ -245,7 +308,8 @@ notes_unregistered h m n number pid legal index live changes =
             registers = λ k r. let no : ◌≡◌ {A = RegistryCall} Unregister (Register q k) = r.0 in cc (no);
             starts = λ i k l r. let no : ◌≡◌ {A = RegistryCall} Unregister Start = r.1 in cc (no);
             ends = λ i k l r. apart (one_pid h number i pid q live.0 k live.1 l r.0);
-            cancels = λ i k l r. let no : ◌≡◌ {A = RegistryCall} Unregister (Cancel q k) = r in cc (no);
+            cancels = λ i k l r. let no : ◌≡◌ {A = RegistryCall} Unregister (Cancel q (key_after h i k)) = r in cc (no);
+            narrows = λ i k l r. let no : ◌≡◌ {A = RegistryCall} Unregister Narrow = r.1 in cc (no);
           })
           (index q));
     }
@@ -295,10 +359,10 @@ pub live_by_holder : (h : List Entry) (m : BTreeMap ℤ Holder) (n : ℕ) (d : E
 live_by_holder h m n d pid key holder legal index is at =
     let holds = found h m pid holder index at in
     let yes : IsTrue (nat_eq holder.number n) → IsLive h n =
-    λ true_is. subst (λ i. IsLive h i) ((Decides-eqb holder.number n).0 true_is) (pid, holder.key, holds.live) in
+    λ true_is. subst (λ i. IsLive h i) ((Decides-eqb holder.number n).0 true_is) (pid, holds.registered, holds.live) in
     let back : IsLive h n → IsTrue (nat_eq holder.number n) = λ live.
     let here : IsLiveAs h n pid live.1 = subst (λ p. IsLiveAs h n p live.1) (same_pid h n d pid live.0 key live.1 is live.2) live.2 in
-    (Decides-eqb holder.number n).1 (one_holder h holder.number n pid holder.key live.1 legal holds.live here) in
+    (Decides-eqb holder.number n).1 (one_holder h holder.number n pid holds.registered live.1 legal holds.live here) in
     (yes, back)
 
 pub live_by_none : (h : List Entry) (m : BTreeMap ℤ Holder) (n : ℕ) (d : Entry) (pid : ℤ) (key : List ℕ) → Indexes h m
@@ -343,6 +407,7 @@ may_ask h n pid (Register p key) holders index is = tt
 may_ask h n pid Start holders index is = is_held h n pid (get int_cmp holders.by_pid pid) (index pid) is
 may_ask h n pid Ask holders index is = is_held h n pid (get int_cmp holders.by_pid pid) (index pid) is
 may_ask h n pid (Cancel p key) holders index is = is_held h n pid (get int_cmp holders.by_pid pid) (index pid) is
+may_ask h n pid Narrow holders index is = is_held h n pid (get int_cmp holders.by_pid pid) (index pid) is
 may_ask h n pid Unregister holders index is = is_held h n pid (get int_cmp holders.by_pid pid) (index pid) is
 
 -- a pid that is held has a holder
@@ -366,3 +431,12 @@ same_roster h before roster same right =
       few = subst (λ n. n ≤ 2 ^ 58) (sym kept) few;
       last = same.2 ∙ right.last;
     }
+
+-- what stands at a pid that is held with a key
+pub held_by : (o : Option Holder) (holder : Holder) (key : List ℕ) → o ≡ Some holder → IsSomeAnd o (λ x. x.key ≡ key) → holder.key ≡ key
+held_by None holder key at held = absurd held
+held_by (Some x) holder key at held = let same : x ≡ holder = cc (at) in ap (λ (y : Holder). y.key) (sym same) ∙ held
+
+pub held_none : {X : Type 0} (o : Option Holder) (key : List ℕ) → o ≡ None → IsSomeAnd o (λ x. x.key ≡ key) → X
+held_none None key at held = absurd held
+held_none (Some x) key at held = absurd (cc (at))

@@ -9,7 +9,7 @@ use lib.ListN.{get_elem?}
 use Rattle.atomic_table.proofs.Lists.{at_set}
 use Rattle.pg_cancel.specs.declared.entries.Entry.{Entry}
 use Rattle.pg_cancel.specs.declared.entries.RegistryCall.{RegistryCall}
-use Rattle.pg_cancel.specs.declared.entries.RegistryCall.TheVariants.{Register, Start, Ask, Cancel, Unregister}
+use Rattle.pg_cancel.specs.declared.entries.RegistryCall.TheVariants.{Register, Start, Ask, Cancel, Narrow, Unregister}
 use Rattle.pg_cancel.specs.declared.entries.RegistryAnswer.{RegistryAnswer}
 use Rattle.pg_cancel.specs.declared.entries.RegistryAnswer.TheVariants.{Registered, Taken}
 use Rattle.pg_cancel.specs.declared.seat.View.{View}
@@ -303,6 +303,11 @@ grows_fits v before number (Cancel pid key) answer may x legal f =
     called_fits v.is_live v before e f (record { number = may.0; quiet = refl })
     (lives_on v before (before ++ e ∷ []) number (Cancel pid key)
     (λ s. let same : ◌≡◌ {A = RegistryCall} (Cancel pid key) Unregister = s in cc (same)) may.0 f x.stays)
+grows_fits v before number Narrow answer may x legal f =
+    let e = entry_of before number Narrow answer in
+    called_fits v.is_live v before e f (record { number = may.0; quiet = refl })
+    (lives_on v before (before ++ e ∷ []) number Narrow
+    (λ s. let same : ◌≡◌ {A = RegistryCall} Narrow Unregister = s in cc (same)) may.0 f x.stays)
 grows_fits v before number Unregister answer may x legal f =
     called_fits false v before (entry_of before number Unregister answer) f (record { number = may.0; quiet = refl })
     (λ yes. false_true yes)
@@ -323,6 +328,8 @@ grows_keeps id v before number Ask answer may x =
     called_keeps v.is_live id v before (entry_of before number Ask answer) record { number = may.0; quiet = refl }
 grows_keeps id v before number (Cancel pid key) answer may x =
     called_keeps v.is_live id v before (entry_of before number (Cancel pid key) answer) record { number = may.0; quiet = refl }
+grows_keeps id v before number Narrow answer may x =
+    called_keeps v.is_live id v before (entry_of before number Narrow answer) record { number = may.0; quiet = refl }
 grows_keeps id v before number Unregister answer may x =
     called_keeps false id v before (entry_of before number Unregister answer) record { number = may.0; quiet = refl }
 
@@ -335,4 +342,5 @@ grows_free v before number (Register pid key) _ x = absurd x
 grows_free v before number Start answer x = refl
 grows_free v before number Ask answer x = refl
 grows_free v before number (Cancel pid key) answer x = refl
+grows_free v before number Narrow answer x = refl
 grows_free v before number Unregister answer x = refl

@@ -6,13 +6,14 @@ use Rattle.pg_cancel.specs.declared.entries.RegistryCall.{RegistryCall}
 use Rattle.pg_cancel.specs.declared.entries.RegistryCall.TheVariants.{Register, Unregister}
 use Rattle.pg_cancel.specs.declared.entries.RegistryAnswer.{RegistryAnswer}
 use Rattle.pg_cancel.specs.declared.entries.RegistryAnswer.TheVariants.{Registered, Done, Yes, No}
-use Rattle.pg_cancel.specs.LegalHistory.{IsLegal, IsAnswer}
+use Rattle.pg_cancel.specs.LegalHistory.{IsLegal, IsAnswer, key_after}
 
 -- which manager it is: two are one where these are equal
 abbrev pub Issuer : Type 0
 Issuer = TableId
 
--- a connection: the manager that issued it, the place of its registration, its pid and key, the history that it has seen, its calls
+-- a connection: the manager that issued it, the place of its registration, its pid and key, the history that it has seen, its calls.
+-- The key is that of its Register, or the first four bytes of it once the connection made a Narrow
 pub record Connection : Type 0 where
   pub issuer : Issuer
   pub number : ℕ
@@ -78,16 +79,25 @@ HasMade h call h' answer = Made h.number call h.seen h.mine h'.seen h'.mine answ
 abbrev pub HasEnded : Connection → Witness → Type 0
 HasEnded h note = Made h.number Unregister h.seen h.mine note.seen (h.mine ++ entry h.number Unregister Done ∷ []) Done
 
+-- what no call but a Narrow changes
 abbrev pub IsSameConnection : Connection → Connection → Type 0
 IsSameConnection h h' = (h'.issuer ≡ h.issuer) × (h'.number ≡ h.number) × (h'.pid ≡ h.pid) × (h'.key ≡ h.key)
+
+-- what a Narrow leaves: the key's first four bytes
+abbrev pub IsNarrowed : Connection → Connection → Type 0
+IsNarrowed h h' = (h'.issuer ≡ h.issuer) × (h'.number ≡ h.number) × (h'.pid ≡ h.pid) × (h'.key ≡ take 4 h.key)
 
 -- what was seen is legal, and a number's calls there are `mine`
 abbrev pub Knows : ℕ → List Entry → List Entry → Type 0
 Knows number seen mine = IsLegal seen × (calls_of number seen ≡ mine)
 
--- a connection's calls begin with the Register of its pid and key
+-- a connection's calls begin with the Register of its pid
 abbrev pub Begins : List Entry → ℕ → ℤ → List ℕ → Type 0
-Begins mine number pid key = (rest : List Entry) × (mine ≡ entry number (Register pid key) Registered ∷ rest)
+Begins mine number pid registered = (rest : List Entry) × (mine ≡ entry number (Register pid registered) Registered ∷ rest)
+
+-- and its key is the one that it has after them
+abbrev pub IsNamed : List Entry → ℕ → ℤ → List ℕ → Type 0
+IsNamed mine number pid key = (registered : List ℕ) × Begins mine number pid registered × (key ≡ key_after mine number registered)
 
 abbrev pub yes_if : Bool → RegistryAnswer
 yes_if true = Yes

@@ -1,5 +1,5 @@
 -- What the registry's index says of a history. The history need not be stored beside it. No public contract names it.
-use Rattle.std.specs.Prelude.{◌≡◌, ◌<◌, ◌≤◌, ◌^◌, ℕ, ℤ, List, [], ◌∷◌, ◌++◌, length, Option, None, IsSome, MatchOption}
+use Rattle.std.specs.Prelude.{◌≡◌, ◌<◌, ◌≤◌, ◌^◌, ℕ, ℤ, List, [], ◌∷◌, ◌++◌, length, Option, None, IsSome, IsSomeAnd, MatchOption}
 use Rattle.std.specs.Ordering.{int_cmp}
 use Rattle.std.specs.BTreeMap.{IsUnchanged, get}
 use Rattle.std.specs.List.{last_or}
@@ -13,14 +13,15 @@ use Rattle.pg_cancel.specs.declared.holders.Holders.{Holders}
 use Rattle.pg_cancel.specs.declared.holders.Query.{Query}
 use Rattle.pg_cancel.specs.declared.holders.Query.TheVariants.{Unstarted, Running, Canceled}
 use Rattle.pg_cancel.specs.declared.roster.Roster.{Roster}
-use Rattle.pg_cancel.specs.LegalHistory.{IsCallAt, IsCancelAt, IsLiveAs, HasPid, IsTaken, IsLastStart, IsLegal, IsAnswer, entry_of}
+use Rattle.pg_cancel.specs.LegalHistory.{IsCallAt, IsCancelAt, key_after, key_at, IsLiveAs, HasPid, IsTaken, IsLastStart, IsLegal, IsAnswer, entry_of}
 
--- how far the query of n, which has the pid and key, has come
+-- how far the query of n, which was registered with the pid and key, has come. A Cancel counts by the key that n had at its place
 abbrev pub IsQuery : List Entry → ℕ → ℤ → List ℕ → Query → Type 0
 IsQuery history n pid key Unstarted = (k : ℕ) → ¬ IsCallAt history k n Start
-IsQuery history n pid key Running = (start : ℕ) × IsLastStart history n start × ((k : ℕ) → start < k → ¬ IsCancelAt history k pid key)
+IsQuery history n pid key Running = (start : ℕ) × IsLastStart history n start
+    × ((k : ℕ) → start < k → ¬ IsCancelAt history k pid (key_at history k n key))
 IsQuery history n pid key Canceled = (start : ℕ) × IsLastStart history n start × (cancel : ℕ) × (start < cancel)
-    × IsCancelAt history cancel pid key
+    × IsCancelAt history cancel pid (key_at history cancel n key)
 
 -- what a cancel makes of a query: one that comes before any start does nothing
 abbrev pub canceled : Query → Query
@@ -34,10 +35,12 @@ answer_of Unstarted = No
 answer_of Running = No
 answer_of Canceled = Yes
 
--- the holder is the live registration of the pid
+-- the holder is the live registration of the pid, which has the holder's key now
 pub record Holds (history : List Entry) (pid : ℤ) (holder : Holder) : Type 0 where
-  pub live : IsLiveAs history holder.number pid holder.key
-  pub query : IsQuery history holder.number pid holder.key holder.query
+  pub registered : List ℕ
+  pub live : IsLiveAs history holder.number pid registered
+  pub named : holder.key ≡ key_after history holder.number registered
+  pub query : IsQuery history holder.number pid registered holder.query
 
 -- what the index has at a pid: its live registration, or nothing where it has none
 abbrev pub IsEntryAt : List Entry → ℤ → Option Holder → Type 0
@@ -57,6 +60,10 @@ pub record Notes (history : List Entry) (number : ℕ) (call : RegistryCall) (ho
 -- the index has a registration of the pid
 abbrev pub IsHeld : Holders → ℤ → Type 0
 IsHeld holders pid = IsSome (get int_cmp holders.by_pid pid)
+
+-- the index has a registration of the pid, and this key there
+abbrev pub IsHeldBy : Holders → ℤ → List ℕ → Type 0
+IsHeldBy holders pid key = IsSomeAnd (get int_cmp holders.by_pid pid) (λ holder. holder.key ≡ key)
 
 -- a Register may be anybody's, and every other call is that of a pid that the index has
 abbrev pub MayAsk : Holders → ℤ → RegistryCall → Type 0

@@ -3,10 +3,11 @@
 -- It says for a list of calls what the frontend/backend protocol ("Canceling Requests in Progress") says of a server's
 -- process ids and secret keys: a request that names both of a connection cancels that connection's query, and any other
 -- request does nothing.
-use Rattle.std.specs.Prelude.{◌≡◌, ◌<◌, ℕ, ℤ, List, length, take, Some, slice_get, IsSomeAnd}
+use Rattle.std.specs.Prelude.{◌≡◌, ◌<◌, ◌==◌, ◌&&◌, Bool, true, false, ℕ, ℤ, List, length, take, Some, slice_get, IsSomeAnd, if◌then◌else◌}
+use Rattle.std.specs.List.{list_any}
 use Rattle.pg_cancel.specs.declared.entries.Entry.{Entry}
 use Rattle.pg_cancel.specs.declared.entries.RegistryCall.{RegistryCall}
-use Rattle.pg_cancel.specs.declared.entries.RegistryCall.TheVariants.{Register, Start, Ask, Cancel, Unregister}
+use Rattle.pg_cancel.specs.declared.entries.RegistryCall.TheVariants.{Register, Start, Ask, Cancel, Narrow, Unregister}
 use Rattle.pg_cancel.specs.declared.entries.RegistryAnswer.{RegistryAnswer}
 use Rattle.pg_cancel.specs.declared.entries.RegistryAnswer.TheVariants.{Registered, Taken, Done, Yes, No}
 
@@ -23,7 +24,24 @@ IsRegisteredAt history place pid key = IsSomeAnd (slice_get history place) (λ e
 abbrev pub IsCancelAt : List Entry → ℕ → ℤ → List ℕ → Type 0
 IsCancelAt history place pid key = IsSomeAnd (slice_get history place) (λ entry. entry.call ≡ Cancel pid key)
 
--- the registration at place n has the pid and key, and is live: no Unregister of n follows it
+abbrev pub is_narrow : RegistryCall → Bool
+is_narrow Narrow = true
+is_narrow _ = false
+
+-- whether the entry is a Narrow of n
+abbrev pub narrows : ℕ → Entry → Bool
+narrows n entry = (entry.number == n) && is_narrow entry.call
+
+-- the key of n after this history: the key of its Register, which is given, or that key's first four bytes where the history has
+-- a Narrow of n
+abbrev pub key_after : List Entry → ℕ → List ℕ → List ℕ
+key_after history n registered = if list_any (narrows n) history then take 4 registered else registered
+
+-- the key of n at a place: a Narrow that stands before the place counts
+abbrev pub key_at : List Entry → ℕ → ℕ → List ℕ → List ℕ
+key_at history place n registered = key_after (take place history) n registered
+
+-- the registration at place n was made with the pid and key, and is live: no Unregister of n follows it
 pub record IsLiveAs (history : List Entry) (n : ℕ) (pid : ℤ) (key : List ℕ) : Type 0 where
   pub registered : IsRegisteredAt history n pid key
   pub not_ended : (k : ℕ) → n < k → ¬ IsCallAt history k n Unregister
@@ -40,20 +58,21 @@ HasPid history n pid = (key : List ℕ) × IsLiveAs history n pid key
 abbrev pub IsTaken : List Entry → ℤ → Type 0
 IsTaken history pid = (n : ℕ) × HasPid history n pid
 
--- a registration of the pid and key is live
+-- a registration of the pid is live whose key after this history is the given one
 abbrev pub IsConnected : List Entry → ℤ → List ℕ → Type 0
-IsConnected history pid key = (n : ℕ) × IsLiveAs history n pid key
+IsConnected history pid key = (n : ℕ) × (registered : List ℕ) × IsLiveAs history n pid registered × (key_after history n registered ≡ key)
 
 -- this is the place of the last Start of n
 pub record IsLastStart (history : List Entry) (n start : ℕ) : Type 0 where
   pub started : IsCallAt history start n Start
   pub last : (k : ℕ) → start < k → ¬ IsCallAt history k n Start
 
--- the Cancel at this place is of the pid and key that n was registered with
+-- the entry at this place is a Cancel with n's pid, whose key is n's key at this place
 abbrev pub IsCancelOf : List Entry → ℕ → ℕ → Type 0
-IsCancelOf history n place = (pid : ℤ) × (key : List ℕ) × IsRegisteredAt history n pid key × IsCancelAt history place pid key
+IsCancelOf history n place = (pid : ℤ) × (registered : List ℕ) × IsRegisteredAt history n pid registered
+    × IsCancelAt history place pid (key_at history place n registered)
 
--- n has a Start, and a Cancel with n's pid and key stands after the last one
+-- n has a Start, and after the last one stands a Cancel with n's pid, whose key is n's key at that Cancel's place
 pub record IsCanceled (history : List Entry) (n : ℕ) : Type 0 where
   pub start : ℕ
   pub cancel : ℕ
@@ -75,6 +94,7 @@ IsAnswer history number Ask Yes = IsCanceled history number
 IsAnswer history number Ask No = ¬ IsCanceled history number
 IsAnswer history number (Cancel pid key) Yes = IsConnected history pid key
 IsAnswer history number (Cancel pid key) No = ¬ IsConnected history pid key
+IsAnswer history number Narrow Done = Unit {0}
 IsAnswer history number Unregister Done = Unit {0}
 IsAnswer history number _ _ = ⊥
 

@@ -9,7 +9,7 @@ use lib.ListN.{get_elem?}
 use Rattle.atomic_table.specs.Table.{State, Me, Step}
 use Rattle.pg_cancel.specs.declared.entries.Entry.{Entry}
 use Rattle.pg_cancel.specs.declared.entries.RegistryCall.{RegistryCall}
-use Rattle.pg_cancel.specs.declared.entries.RegistryCall.TheVariants.{Register, Start, Unregister}
+use Rattle.pg_cancel.specs.declared.entries.RegistryCall.TheVariants.{Register, Start, Narrow, Unregister}
 use Rattle.pg_cancel.specs.declared.entries.RegistryAnswer.{RegistryAnswer}
 use Rattle.pg_cancel.specs.declared.entries.RegistryAnswer.TheVariants.{Registered, Done, Yes, No}
 use Rattle.pg_cancel.specs.declared.roster.Roster.{Roster}
@@ -248,5 +248,6 @@ IsLeft m number _ = IsHandle m number
 abbrev pub IsToldTo : RegistryCall → RegistryAnswer → Type 0
 IsToldTo (Register pid key) answer = Unit {0}
 IsToldTo Start answer = answer ≡ Done
+IsToldTo Narrow answer = answer ≡ Done
 IsToldTo Unregister answer = answer ≡ Done
 IsToldTo _ answer = (answer ≡ Yes) ⊎ (answer ≡ No)

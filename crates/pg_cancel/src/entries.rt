@@ -1,14 +1,19 @@
+use pg_messages::SecretKey;
+
 /// A call of the registry. Each but `Register` is made under the number of a live registration.
 #[derive(Debug, PartialEq, Eq, Drop)]
 pub enum RegistryCall {
     /// Registers a connection's process id and secret key.
-    Register(i32, [u8; 4]),
+    Register(i32, SecretKey),
     /// The registration starts a query, for which no cancel has come yet.
     Start,
     /// Asks whether the query was canceled since it was started.
     Ask,
-    /// Cancels the query of the live registration with this process id and secret key.
-    Cancel(i32, [u8; 4]),
+    /// Cancels the query of the live registration that has this process id and, by now, this secret
+    /// key.
+    Cancel(i32, SecretKey),
+    /// From now on the registration's secret key is the first four bytes of the one that it has.
+    Narrow,
     /// Ends the registration.
     Unregister,
 }
@@ -20,7 +25,7 @@ pub enum RegistryAnswer {
     Registered,
     /// The live registration at this place has the process id.
     Taken(u64),
-    /// A `Start` or an `Unregister` was done.
+    /// A `Start`, a `Narrow` or an `Unregister` was done.
     Done,
     /// To `Ask`: the query was canceled. To `Cancel`: there is such a registration.
     Yes,

@@ -3,12 +3,13 @@ ghost use mathlib.Core.List.{IsPrefix};
 ghost use Rattle.pg_cancel.specs.LegalHistory.{IsLegal, IsCanceled, IsConnected};
 ghost use Rattle.pg_cancel.specs.declared.entries.RegistryCall.{RegistryCall};
 ghost use Rattle.pg_cancel.specs.declared.entries.RegistryAnswer.{RegistryAnswer};
-ghost use Rattle.pg_cancel.specs.Connections.{HasMade, HasEnded, Made, Begins, IsSameConnection, before_last, calls_of, is_register, yes_if};
+ghost use Rattle.pg_cancel.specs.Connections.{HasMade, HasEnded, Made, Begins, IsNamed, IsSameConnection, IsNarrowed, before_last, calls_of, is_register, yes_if};
 ghost use Rattle.pg_cancel.specs.RosterTable.{IsHandle, IsLeft, IsToldTo};
 
 use crate::entries::{RegistryAnswer, RegistryCall};
 use crate::manager::ConnectionManager;
 use crate::seat::{Compare, Copy, Place, TakeIn};
+use pg_messages::SecretKey;
 use std::alloc::AllocError;
 use std::marker::Model;
 use std::sync::Wait;
@@ -25,13 +26,13 @@ pub struct ConnectionHandle {
     pub(crate) seat: Place,
     pub(crate) number: u64,
     pub(crate) pid: i32,
-    pub(crate) key: [u8; 4],
+    pub(crate) key: SecretKey,
     /// How many questions were answered no since the processor was given away.
     pub(crate) noes: u32,
 }
 
 impl Model for ConnectionHandle {
-    ghost use Rattle.pg_cancel.specs.Connections.{Connection, Begins};
+    ghost use Rattle.pg_cancel.specs.Connections.{Connection, IsNamed};
     ghost use Rattle.pg_cancel.specs.RosterTable.{IsHandle};
 
     ghost Value = { Connection };
@@ -46,7 +47,7 @@ impl Model for ConnectionHandle {
     } };
 
     ghost invariant = { λ h.
-        IsHandle h.seat.me h.number × Begins h.seat.me.0.mine h.number h.pid h.key };
+        IsHandle h.seat.me h.number × IsNamed h.seat.me.0.mine h.number h.pid h.key };
 }
 
 /// What a connection had seen of the history.
@@ -71,7 +72,7 @@ impl ConnectionHandle {
     /// it has seen under this number.
     pub fn number(&self) -> u64
         ensures number { result ≡ self.now.number }
-        ensures begins { Begins self.now.mine self.now.number self.now.pid self.now.key }
+        ensures named { IsNamed self.now.mine self.now.number self.now.pid self.now.key }
         ensures legal { IsLegal self.now.seen }
         ensures own { calls_of self.now.number self.now.seen ≡ self.now.mine }
     {
@@ -84,16 +85,17 @@ impl ConnectionHandle {
         self.pid
     }
 
-    pub fn key(&self) -> [u8; 4]
-        ensures { result ≡ self.now.key }
+    /// The secret key that it has now.
+    pub fn key(&self) -> &SecretKey
+        ensures { result.now ≡ self.now.key }
     {
-        self.key
+        &self.key
     }
 }
 
 impl ConnectionManager {
     /// The connection starts a query, for which no cancel has come yet. Waits for the turn.
-    #[tactic(auto, using(crate::proofs::Events::begins_more))]
+    #[tactic(auto, using(crate::proofs::Events::named_more))]
     pub fn start_query<R: Wait>(
         &self,
         rt: &R,
@@ -116,7 +118,7 @@ impl ConnectionManager {
     /// Whether the connection's query was canceled since it was started; without a query it is not.
     /// Waits for the turn. Every 64th no gives the processor away, so that a thread that asks on
     /// and on leaves some of it to the others.
-    #[tactic(auto, using(crate::proofs::Events::begins_more))]
+    #[tactic(auto, using(crate::proofs::Events::named_more))]
     pub fn ask<R: Wait>(&self, rt: &R, handle: &mut ConnectionHandle) -> Result<bool, AllocError>
         requires issued { handle.old.issuer ≡ self.now }
         ensures same { IsSameConnection handle.old handle.new }
@@ -138,29 +140,50 @@ impl ConnectionManager {
         Ok(yes)
     }
 
-    /// Cancels the query of the connection with this pid and key, and says whether there is such a
-    /// connection. Waits for the turn.
-    #[tactic(auto, using(crate::proofs::Events::begins_more))]
+    /// Cancels the query of the connection that has this pid and, by now, this key, and says
+    /// whether there is such a connection. The key is copied. Waits for the turn.
+    #[tactic(auto, using(crate::proofs::Events::named_more))]
     pub fn cancel<R: Wait>(
         &self,
         rt: &R,
         handle: &mut ConnectionHandle,
         pid: i32,
-        key: [u8; 4],
+        key: &SecretKey,
     ) -> Result<bool, AllocError>
         requires issued { handle.old.issuer ≡ self.now }
         ensures same { IsSameConnection handle.old handle.new }
         ensures ok { IfOk result
-            (λ yes. HasMade handle.old (RegistryCall.Cancel pid key) handle.new (yes_if yes)) }
+            (λ yes. HasMade handle.old (RegistryCall.Cancel pid key.now) handle.new (yes_if yes)) }
         ensures exactly { IfOk result
-            (λ yes. (yes ≡ true) ↔ IsConnected (before_last handle.new.seen) pid key) }
+            (λ yes. (yes ≡ true) ↔ IsConnected (before_last handle.new.seen) pid key.now) }
+        ensures err { OnErr result (handle.new ≡ handle.old) }
+    {
+        let call = RegistryCall::Cancel(pid, key.copy_of()?);
+        let number = handle.number;
+        let own = handle.pid;
+        let answer = self.make_call(rt, &mut handle.seat, number, own, call)?;
+        Ok(is_yes(answer))
+    }
+
+    /// From now on the connection's key is the first four bytes of the one that it has. A cancel by
+    /// the longer key that came before still counts. Waits for the turn.
+    #[tactic(auto, using(crate::proofs::Events::named_short))]
+    pub fn narrow<R: Wait>(&self, rt: &R, handle: &mut ConnectionHandle) -> Result<(), AllocError>
+        requires issued { handle.old.issuer ≡ self.now }
+        ensures same { OnOk result (IsNarrowed handle.old handle.new) }
+        ensures ok { OnOk result
+            (HasMade handle.old RegistryCall.Narrow handle.new RegistryAnswer.Done) }
         ensures err { OnErr result (handle.new ≡ handle.old) }
     {
         let number = handle.number;
-        let own = handle.pid;
-        let call = RegistryCall::Cancel(pid, key);
-        let answer = self.make_call(rt, &mut handle.seat, number, own, call)?;
-        Ok(is_yes(answer))
+        let pid = handle.pid;
+        match self.make_call(rt, &mut handle.seat, number, pid, RegistryCall::Narrow)? {
+            RegistryAnswer::Done => {
+                handle.key.narrow();
+                Ok(())
+            }
+            _ => unreachable!(),
+        }
     }
 
     /// Ends the registration. What the connection has seen stays in the note. Waits for the turn.

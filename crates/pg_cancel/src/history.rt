@@ -90,13 +90,14 @@ impl Registry {
             → IfOk result (λ answer. (answer ≡ RegistryAnswer.No)
             ↔ (¬ IsCanceled self.old number)) }
 
-        // To a Cancel: whether somebody has both the pid and the key.
+        // To a Cancel: whether somebody has both the pid and, by now, the key.
         ensures cancel_yes { (pid : ℤ) (key : List ℕ) → call ≡ RegistryCall.Cancel pid key →
             IfOk result (λ answer. (answer ≡ RegistryAnswer.Yes) ↔ IsConnected self.old pid key) }
         ensures cancel_no { (pid : ℤ) (key : List ℕ) → call ≡ RegistryCall.Cancel pid key →
             IfOk result (λ answer. (answer ≡ RegistryAnswer.No)
             ↔ (¬ IsConnected self.old pid key)) }
-        ensures done { (call ≡ RegistryCall.Start) ⊎ (call ≡ RegistryCall.Unregister)
+        ensures done { (call ≡ RegistryCall.Start) ⊎ (call ≡ RegistryCall.Narrow)
+            ⊎ (call ≡ RegistryCall.Unregister)
             → IfOk result (λ answer. answer ≡ RegistryAnswer.Done) }
 
         // A new registration is live, and stays so until it is ended.

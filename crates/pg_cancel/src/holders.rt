@@ -1,9 +1,10 @@
 ghost use Rattle.std.specs.Prelude.{◌≡◌, ℕ, ℤ, [], ◌↔◌, IfOk, OnErr, IsTrue};
 ghost use Rattle.std.specs.BTreeMap.{IsUnchanged};
 ghost use Rattle.pg_cancel.specs.LegalHistory.{IsLegal, IsLive};
-ghost use Rattle.pg_cancel.specs.Index.{IsIndexOf, IsHeld, MayAsk, NotesAny, answer_of, canceled};
+ghost use Rattle.pg_cancel.specs.Index.{IsIndexOf, IsHeld, IsHeldBy, MayAsk, NotesAny, answer_of, canceled};
 
 use crate::entries::{Entry, RegistryAnswer, RegistryCall};
+use pg_messages::SecretKey;
 use std::alloc::{AllocError, Global};
 use std::collections::BTreeMap;
 
@@ -18,12 +19,12 @@ pub enum Query {
     Canceled,
 }
 
-/// The live registration of a process id: its number, its secret key, and how far its query has
-/// come.
-#[derive(Clone, Copy)]
+/// The live registration of a process id: its number, the secret key that it has now, and how far
+/// its query has come.
+#[derive(Drop)]
 pub struct Holder {
     pub number: u64,
-    pub key: [u8; 4],
+    pub key: SecretKey,
     pub query: Query,
 }
 
@@ -60,16 +61,18 @@ impl Holders {
             RegistryCall::Start => Ok(self.start(pid)),
             RegistryCall::Ask => Ok(self.ask(pid)),
             RegistryCall::Cancel(pid, key) => Ok(self.cancel(*pid, key)),
+            RegistryCall::Narrow => Ok(self.narrow(pid)),
             RegistryCall::Unregister => Ok(self.unregister(pid)),
         }
     }
 
-    /// The pid is taken, or has this registration now, which is entered at the place.
+    /// The pid is taken, or has this registration now, which is entered at the place. The key is
+    /// copied.
     fn register(
         &mut self,
         place: u64,
         pid: i32,
-        key: &[u8; 4],
+        key: &SecretKey,
     ) -> Result<RegistryAnswer, AllocError>
         ensures ok { IfOk result (NotesAny self.old place pid (RegistryCall.Register pid key.now)
             self.new) }
@@ -78,11 +81,12 @@ impl Holders {
         if let Some(holder) = self.by_pid.get(&pid) {
             return Ok(RegistryAnswer::Taken(holder.number));
         }
+        let key = key.copy_of()?;
         self.by_pid.insert(
             pid,
             Holder {
                 number: place,
-                key: *key,
+                key,
                 query: Query::Unstarted,
             },
         )?;
@@ -110,18 +114,41 @@ impl Holders {
         holder.query.answer()
     }
 
-    fn cancel(&mut self, pid: i32, key: &[u8; 4]) -> RegistryAnswer
+    /// A wrong pid and a wrong key are told apart by nothing that follows.
+    fn cancel(&mut self, pid: i32, key: &SecretKey) -> RegistryAnswer
         ensures { (place : ℕ) (caller : ℤ)
             → NotesAny self.old place caller (RegistryCall.Cancel pid key.now) self.new result }
     {
-        let Some(holder) = self.by_pid.get_mut(&pid) else {
-            return RegistryAnswer::No;
-        };
-        if !has_key(&holder.key, key) {
+        if !self.is_connected(pid, key) {
             return RegistryAnswer::No;
         }
+        let Some(holder) = self.by_pid.get_mut(&pid) else {
+            unreachable!()
+        };
         holder.query = holder.query.canceled();
         RegistryAnswer::Yes
+    }
+
+    /// Whether the pid has a live registration whose key is this one now.
+    fn is_connected(&self, pid: i32, key: &SecretKey) -> bool
+        ensures { IsTrue result ↔ IsHeldBy self.now pid key.now }
+    {
+        match self.by_pid.get(&pid) {
+            Some(holder) => holder.key.is_same(key),
+            None => false,
+        }
+    }
+
+    /// A query that was canceled by the longer key stays so.
+    fn narrow(&mut self, pid: i32) -> RegistryAnswer
+        requires { IsHeld self.old pid }
+        ensures { (place : ℕ) → NotesAny self.old place pid RegistryCall.Narrow self.new result }
+    {
+        let Some(holder) = self.by_pid.get_mut(&pid) else {
+            unreachable!()
+        };
+        holder.key.narrow();
+        RegistryAnswer::Done
     }
 
     fn unregister(&mut self, pid: i32) -> RegistryAnswer
@@ -173,11 +200,4 @@ impl Query {
             Query::Running | Query::Canceled => Query::Canceled,
         }
     }
-}
-
-/// Whether the key of a registration is this one.
-fn has_key(held: &[u8; 4], key: &[u8; 4]) -> bool
-    ensures { IsTrue result ↔ (held.now ≡ key.now) }
-{
-    held == key
 }

@@ -12,6 +12,7 @@ use crate::handle::ConnectionHandle;
 use crate::roster::Roster;
 use crate::seat::{Board, PassOn, Place};
 use atomic_table::{Refused, Table};
+use pg_messages::SecretKey;
 use std::alloc::{AllocError, Global};
 use std::marker::Model;
 use std::sync::Wait;
@@ -75,14 +76,19 @@ impl ConnectionManager {
         }
     }
 
-    /// Registers a connection under a process id that no live registration has.
+    /// Where its memory comes from.
+    pub fn alloc(&self) -> Global {
+        self.alloc
+    }
+
+    /// Registers a connection under a process id that no live registration has. The key is copied.
     /// Waits for the turn. The call stands in the history whether the pid is taken or not.
     pub fn register<R: Wait>(
         &self,
         rt: &R,
         door: &mut Door,
         pid: i32,
-        key: [u8; 4],
+        key: SecretKey,
     ) -> Result<ConnectionHandle, RegisterError>
         requires issued { door.old.issuer ≡ self.now }
         ensures issued { door.new.issuer ≡ door.old.issuer }
@@ -106,6 +112,10 @@ impl ConnectionManager {
             (result ≡ Err (RegisterError.PidTaken m)) ↔ HasPid (before_last door.new.seen) m pid }
         ensures no_memory { result ≡ Err RegisterError.NoMemory → door.new ≡ door.old }
     {
+        let own = match key.copy_of() {
+            Ok(own) => own,
+            Err(AllocError) => return Err(RegisterError::NoMemory),
+        };
         match self.enter(rt, &mut door.seat, pid, RegistryCall::Register(pid, key)) {
             Ok(number) => {
                 let seat = self.table.shared.split_seat::<PassOn>(&mut door.seat);
@@ -113,7 +123,7 @@ impl ConnectionManager {
                     seat,
                     number,
                     pid,
-                    key,
+                    key: own,
                     noes: 0,
                 })
             }

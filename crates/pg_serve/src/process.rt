@@ -1,6 +1,6 @@
 //! A client at a socket is served.
 
-ghost use Rattle.std.specs.Prelude.{◌≡◌, ◌++◌, List, None, OnOk};
+ghost use Rattle.std.specs.Prelude.{◌≡◌, ◌++◌, List, None, OnOk, take};
 ghost use Rattle.std.specs.Arc.{arc_value};
 ghost use Rattle.std.specs.FinMap as fin;
 ghost use mathlib.Core.List.{IsPrefix};
@@ -49,7 +49,7 @@ pub fn process_socket<
     requires issued { handle.old.issuer ≡ manager.now }
     // A socket tells no bytes; the end and the calls are those of some run.
     ensures went { WentByCalls (whole_rules (H.told (arc_value handlers)))
-        (first_state handle.old.pid handle.old.key)
+        (first_state handle.old.pid (take 4 handle.old.key))
         handle.old.mine handle.new.mine result None None None None }
     ensures cause { HasCause result turn_limit
         (questions_since (desk_calls handle.old.mine) (desk_calls handle.new.mine))
@@ -94,7 +94,7 @@ pub fn process_socket_unix<
     requires issued { handle.old.issuer ≡ manager.now }
     // A socket tells no bytes; the end and the calls are those of some run.
     ensures went { WentByCalls (whole_rules (H.told (arc_value handlers)))
-        (first_state handle.old.pid handle.old.key)
+        (first_state handle.old.pid (take 4 handle.old.key))
         handle.old.mine handle.new.mine result None None None None }
     ensures cause { HasCause result turn_limit
         (questions_since (desk_calls handle.old.mine) (desk_calls handle.new.mine))
@@ -140,7 +140,7 @@ fn serve_handle<
     requires empty { St.maps store ≡ no_maps }
     requires issued { handle.old.issuer ≡ manager.now }
     ensures went { WentByCalls (whole_rules (H.told (arc_value handlers)))
-        (first_state handle.old.pid handle.old.key) handle.old.mine handle.new.mine result
+        (first_state handle.old.pid (take 4 handle.old.key)) handle.old.mine handle.new.mine result
         (S.left source.old) (S.left source.new) (K.written sink.old) (K.written sink.new) }
     ensures cause { HasCause result turn_limit
         (questions_since (desk_calls handle.old.mine) (desk_calls handle.new.mine))
@@ -189,7 +189,7 @@ fn serve_at_desk<
     ensures went { (calls : List DeskCall)
         × (desk_calls handle.new.mine ≡ desk_calls handle.old.mine ++ calls)
         × WentSo (whole_rules (H.told (arc_value handlers)))
-        (first_state handle.old.pid handle.old.key) result
+        (first_state handle.old.pid (take 4 handle.old.key)) result
         (S.left source.old) (S.left source.new) (K.written sink.old) (K.written sink.new) calls }
     ensures cause { HasCause result turn_limit
         (questions_since (desk_calls handle.old.mine) (desk_calls handle.new.mine))

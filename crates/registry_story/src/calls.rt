@@ -3,15 +3,27 @@
 ghost use Rattle.std.specs.Prelude.{◌≡◌, IfOk};
 
 use pg_cancel::{ConnectionHandle, ConnectionManager, Door, RegisterError};
-use std::alloc::AllocError;
+use pg_messages::{KeyError, SecretKey};
+use std::alloc::{AllocError, Global};
 use std::io;
 use std::sync::Wait;
 
 /// A key, and its bytes in hexadecimal.
-#[derive(Clone, Copy)]
+#[derive(Drop)]
 pub struct Key {
-    pub bytes: [u8; 4],
+    pub secret: SecretKey,
     pub digits: &'static str,
+}
+
+impl Key {
+    /// The key of these bytes, whose digits are given too.
+    pub fn new(alloc: Global, bytes: &[u8], digits: &'static str) -> Result<Key, Stop> {
+        match SecretKey::try_new(alloc, bytes) {
+            Ok(secret) => Ok(Key { secret, digits }),
+            Err(KeyError::NoMemory) => Err(Stop::NoMemory),
+            Err(KeyError::BadLength(_)) => Err(Stop::OtherAnswer),
+        }
+    }
 }
 
 /// Why the story is broken off.
@@ -47,22 +59,40 @@ fn word(yes: bool) -> &'static str {
     if yes { "yes" } else { "no" }
 }
 
+/// Registers under a copy of the key.
+fn register_once<R: Wait>(
+    rt: &R,
+    manager: &ConnectionManager,
+    door: &mut Door,
+    pid: i32,
+    key: &Key,
+) -> Result<ConnectionHandle, RegisterError>
+    requires issued { door.old.issuer ≡ manager.now }
+    ensures issued { door.new.issuer ≡ manager.now }
+    ensures handle { IfOk result (λ h. h.issuer ≡ manager.now) }
+{
+    let Ok(secret) = key.secret.copy_of() else {
+        return Err(RegisterError::NoMemory);
+    };
+    manager.register(rt, door, pid, secret)
+}
+
 /// Registers, and once more where there was no memory.
 fn register<R: Wait + Print>(
     rt: &R,
     manager: &ConnectionManager,
     door: &mut Door,
     pid: i32,
-    key: Key,
+    key: &Key,
 ) -> Result<ConnectionHandle, RegisterError>
     requires issued { door.old.issuer ≡ manager.now }
     ensures issued { door.new.issuer ≡ manager.now }
     ensures handle { IfOk result (λ h. h.issuer ≡ manager.now) }
 {
-    match manager.register(rt, door, pid, key.bytes) {
+    match register_once(rt, manager, door, pid, key) {
         Err(RegisterError::NoMemory) => {
             no_memory(rt);
-            manager.register(rt, door, pid, key.bytes)
+            register_once(rt, manager, door, pid, key)
         }
         answer => answer,
     }
@@ -74,7 +104,7 @@ pub fn registered<R: Wait + Print>(
     manager: &ConnectionManager,
     door: &mut Door,
     pid: i32,
-    key: Key,
+    key: &Key,
 ) -> Result<ConnectionHandle, Stop>
     requires issued { door.old.issuer ≡ manager.now }
     ensures issued { door.new.issuer ≡ manager.now }
@@ -96,7 +126,7 @@ pub fn refused<R: Wait + Print>(
     manager: &ConnectionManager,
     door: &mut Door,
     pid: i32,
-    key: Key,
+    key: &Key,
 ) -> Result<(), Stop>
     requires issued { door.old.issuer ≡ manager.now }
     ensures issued { door.new.issuer ≡ manager.now }
@@ -154,20 +184,48 @@ pub fn canceled<R: Wait + Print>(
     manager: &ConnectionManager,
     handle: &mut ConnectionHandle,
     pid: i32,
-    key: Key,
+    key: &Key,
 ) -> Result<(), Stop>
     requires issued { handle.old.issuer ≡ manager.now }
     ensures issued { handle.new.issuer ≡ manager.now }
 {
-    let yes = match manager.cancel(rt, handle, pid, key.bytes) {
+    let yes = match manager.cancel(rt, handle, pid, &key.secret) {
         Ok(yes) => yes,
         Err(AllocError) => {
             no_memory(rt);
-            manager.cancel(rt, handle, pid, key.bytes)?
+            manager.cancel(rt, handle, pid, &key.secret)?
         }
     };
     let number = handle.number();
     println!(rt; "cancel {number} of {pid} {}: {}", key.digits, word(yes))?;
+    Ok(())
+}
+
+/// A narrow.
+pub fn narrowed<R: Wait + Print>(
+    rt: &R,
+    manager: &ConnectionManager,
+    handle: &mut ConnectionHandle,
+) -> Result<(), Stop>
+    requires issued { handle.old.issuer ≡ manager.now }
+    ensures issued { handle.new.issuer ≡ manager.now }
+{
+    if manager.narrow(rt, handle).is_err() {
+        no_memory(rt);
+        manager.narrow(rt, handle)?;
+    }
+    println!(rt; "narrow {}", handle.number())?;
+    Ok(())
+}
+
+/// What is told of a key of so many zero bytes.
+pub fn key_of_length<R: Print>(rt: &R, alloc: Global, length: usize) -> Result<(), Stop> {
+    let bytes = vec![in alloc; 0u8; length]?;
+    match SecretKey::try_new(alloc, bytes.as_slice()) {
+        Ok(_) => println!(rt; "a key of {length} bytes")?,
+        Err(KeyError::BadLength(bad)) => println!(rt; "no key of {length} bytes: bad length {bad}")?,
+        Err(KeyError::NoMemory) => return Err(Stop::NoMemory),
+    }
     Ok(())
 }
 

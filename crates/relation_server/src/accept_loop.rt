@@ -9,6 +9,7 @@ ghost use Rattle.relation_server.specs.declared.accept_loop.ListenError.{ListenE
 
 use crate::connection_job::ConnectionJob;
 use pg_cancel::{ConnectionManager, Door, RegisterError};
+use pg_messages::SecretKey;
 use pg_serve::{Acceptor, Job, KeySource, SpawnFailed, Spawner};
 use relation_handlers::RelationTable;
 use std::alloc::AllocError;
@@ -119,7 +120,10 @@ fn take_in<R: Wait, A: Acceptor, P: Spawner<ConnectionJob<A::In, A::Out>>, G: Ke
     };
     let manager = Arc::try_clone(manager)?;
     let relations = Arc::try_clone(relations)?;
-    let key = keys.next_key();
+    let bytes = keys.next_key();
+    let Ok(key) = SecretKey::try_new(manager.alloc(), &bytes) else {
+        return Err(ListenError::NoMemory);
+    };
     match manager.register(rt, door, pid as i32, key) {
         Ok(handle) => start(
             spawner,

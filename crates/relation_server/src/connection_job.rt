@@ -1,6 +1,6 @@
 //! The service of one connection, as a value that a thread may take.
 
-ghost use Rattle.std.specs.Prelude.{◌≡◌, ◌++◌, [], List, OnOk};
+ghost use Rattle.std.specs.Prelude.{◌≡◌, ◌++◌, [], List, OnOk, take};
 ghost use Rattle.std.specs.Arc.{arc_value};
 ghost use mathlib.Core.List.{IsPrefix};
 ghost use Rattle.pg_cancel.specs.Connections.{IsSameConnection, calls_of};
@@ -47,7 +47,7 @@ impl<S: Source, K: Sink> ConnectionJob<S, K> {
         ensures went { (made : List Entry) × (self.new.handle.mine ≡ self.old.handle.mine ++ made)
             × WentByTables (arc_value self.old.relations) (
               self.old.handle.pid,
-              self.old.handle.key,
+              take 4 self.old.handle.key,
             ) result
             (S.left self.old.source) (S.left self.new.source) (K.written self.old.sink)
             (K.written self.new.sink)

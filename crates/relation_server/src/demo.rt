@@ -12,7 +12,7 @@ ghost use Rattle.relation_server.specs.Program.{HasShown, counts, demo_lines, su
 use crate::connection_job::serve_and_leave;
 use crate::outcome::Outcome;
 use pg_cancel::{ConnectionHandle, ConnectionManager, Door, Note, RegisterError};
-use pg_messages::{PgBytes, PgList};
+use pg_messages::{PgBytes, PgList, SecretKey};
 use pg_serve::{MemorySink, MemorySource};
 use pg_session::{EndKind, ServeError, Sink, SinkError};
 use relation_demo::{count_rows, demo_client, demo_table};
@@ -60,7 +60,10 @@ pub(crate) fn show_demo<R: Wait, K: Sink>(
     let Ok(client) = demo_client(alloc, load.count) else {
         return (Outcome::OUT_OF_MEMORY, None);
     };
-    match manager.register(rt, door, PID, KEY) {
+    let Ok(key) = SecretKey::try_new(alloc, &KEY) else {
+        return (Outcome::OUT_OF_MEMORY, None);
+    };
+    match manager.register(rt, door, PID, key) {
         Err(RegisterError::PidTaken(_)) => (Outcome::PidTaken, None),
         Err(RegisterError::NoMemory) => (Outcome::OUT_OF_MEMORY, None),
         Ok(handle) => serve_demo(

@@ -13,6 +13,7 @@ use crate::demo::show_demo;
 use crate::outcome::Outcome;
 use crate::report::report;
 use pg_cancel::{ConnectionManager, Door, Note, RegisterError};
+use pg_messages::SecretKey;
 use pg_messages::PgStr;
 use pg_session::{Sink, Source};
 use relation_files::read_relations;
@@ -158,7 +159,10 @@ fn serve_table<R: Wait, S: Source, K: Sink>(
         (counts_of S.reads S.faults K.faults client.new out.new) }
     ensures issued { door.new.issuer ≡ door.old.issuer }
 {
-    match manager.register(rt, door, service.pid, service.key) {
+    let Ok(key) = SecretKey::try_new(alloc, &service.key) else {
+        return (Outcome::OUT_OF_MEMORY, None);
+    };
+    match manager.register(rt, door, service.pid, key) {
         Err(RegisterError::PidTaken(_)) => (Outcome::PidTaken, None),
         Err(RegisterError::NoMemory) => (Outcome::OUT_OF_MEMORY, None),
         Ok(handle) => {

@@ -1,6 +1,6 @@
 //! A client of relations is served through its connection to the shared registry.
 
-ghost use Rattle.std.specs.Prelude.{◌≡◌, ◌++◌, List, IfOk, OnOk};
+ghost use Rattle.std.specs.Prelude.{◌≡◌, ◌++◌, List, IfOk, OnOk, take};
 ghost use mathlib.Core.List.{IsPrefix};
 ghost use Rattle.pg_cancel.specs.Connections.{IsSameConnection, calls_of};
 ghost use Rattle.pg_cancel.specs.LegalHistory.{IsLegal};
@@ -45,7 +45,7 @@ pub fn serve_relations<R: Wait, S: Source, K: Sink>(
     ensures went { (made : List Entry) × (handle.new.mine ≡ handle.old.mine ++ made)
         × WentByTables relations.now (
           handle.old.pid,
-          handle.old.key,
+          take 4 handle.old.key,
         ) result (S.left source.old) (S.left source.new)
         (K.written sink.old) (K.written sink.new) (desk_calls made) }
     ensures cause { HasCause result turn_limit
@@ -53,7 +53,7 @@ pub fn serve_relations<R: Wait, S: Source, K: Sink>(
         (counts_of S.reads S.faults K.faults source.old sink.old)
         (counts_of S.reads S.faults K.faults source.new sink.new) }
     ensures last { IfOk result (EndsAtLast (whole_rules (relation_handlers relations.now))
-        (first_state handle.old.pid handle.old.key) (S.left source.old) (S.left source.new)) }
+        (first_state handle.old.pid (take 4 handle.old.key)) (S.left source.old) (S.left source.new)) }
     ensures calm { OnOk result (IsCalm (counts_of S.reads S.faults K.faults source.old sink.old)
         (counts_of S.reads S.faults K.faults source.new sink.new)) }
     ensures never_falls { FaultsNeverFall (counts_of S.reads S.faults K.faults source.old sink.old)
@@ -99,7 +99,7 @@ fn serve_at_desk<R: Wait, S: Source, K: Sink>(
         × (desk_calls handle.new.mine ≡ desk_calls handle.old.mine ++ calls)
         × WentByTables relations.now (
           handle.old.pid,
-          handle.old.key,
+          take 4 handle.old.key,
         ) result (S.left source.old) (S.left source.new)
         (K.written sink.old) (K.written sink.new) calls }
     ensures cause { HasCause result turn_limit
@@ -107,7 +107,7 @@ fn serve_at_desk<R: Wait, S: Source, K: Sink>(
         (counts_of S.reads S.faults K.faults source.old sink.old)
         (counts_of S.reads S.faults K.faults source.new sink.new) }
     ensures last { IfOk result (EndsAtLast (whole_rules (relation_handlers relations.now))
-        (first_state handle.old.pid handle.old.key) (S.left source.old) (S.left source.new)) }
+        (first_state handle.old.pid (take 4 handle.old.key)) (S.left source.old) (S.left source.new)) }
     ensures calm { OnOk result (IsCalm (counts_of S.reads S.faults K.faults source.old sink.old)
         (counts_of S.reads S.faults K.faults source.new sink.new)) }
     ensures never_falls { FaultsNeverFall (counts_of S.reads S.faults K.faults source.old sink.old)

@@ -98,6 +98,9 @@ fn serve_connected<R: Wait>(
     ensures issued { door.new.issuer ≡ door.old.issuer }
 {
     let handlers = handlers(alloc)?;
+    let Ok(key) = SecretKey::try_new(alloc, &key) else {
+        return Err(ServeError::NoMemory);
+    };
     let Ok(mut handle) = manager.register(rt, door, pid, key) else {
         return Err(ServeError::NoMemory);
     };

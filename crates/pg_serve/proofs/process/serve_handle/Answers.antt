@@ -1,4 +1,4 @@
-use Rattle.std.proofs.Common.{◌≡◌, ◌∙◌, sym, ap, subst}
+use Rattle.std.proofs.Common.{◌≡◌, take, ◌∙◌, sym, ap, subst}
 use Rattle.std.specs.Arc.{arc_value}
 use Rattle.pg_cancel.specs.Connections.{calls_of}
 use Rattle.pg_handlers.specs.State.{first_state}
@@ -19,13 +19,13 @@ returns-clause-went g c =
     (subst (λ h. calls_of h.number note.seen ≡ h.mine) (sym c.note-before.ensures.same) c.note-before.ensures.own)
     (ap (λ n. calls_of n new.seen) (sym (c.take_in.ensures.same.1 ∙ c.serve_at_desk-answer.ensures.same.1)) ∙ c.take_in.ensures.own)
     (ap desk_calls c.take_in.ensures.mine ∙ went.1) in
-    subst (λ h. WentByCalls rules (first_state h.pid h.key) h.mine new.mine c.serve_at_desk-answer.result
+    subst (λ h. WentByCalls rules (first_state h.pid (take 4 h.key)) h.mine new.mine c.serve_at_desk-answer.result
     (g.S.Source.left c.args.source.now) (g.S.Source.left c.serve_at_desk-answer.new.source) (g.K.Sink.written c.args.sink.now)
     (g.K.Sink.written c.serve_at_desk-answer.new.sink))
     c.note-before.ensures.same (
       made.0,
       made.1,
-      subst (λ calls. WentSo rules (first_state old.pid old.key) c.serve_at_desk-answer.result
+      subst (λ calls. WentSo rules (first_state old.pid (take 4 old.key)) c.serve_at_desk-answer.result
           (g.S.Source.left c.args.source.now) (g.S.Source.left c.serve_at_desk-answer.new.source) (g.K.Sink.written c.args.sink.now)
           (g.K.Sink.written c.serve_at_desk-answer.new.sink) calls) made.2 went.2,
     )

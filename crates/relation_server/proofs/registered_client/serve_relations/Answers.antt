@@ -1,4 +1,4 @@
-use Rattle.std.proofs.Common.{◌≡◌, ◌++◌, ◌∙◌, List, sym, ap, subst}
+use Rattle.std.proofs.Common.{◌≡◌, ◌++◌, ◌∙◌, List, take, sym, ap, subst}
 use Rattle.pg_handlers.specs.State.{first_state}
 use Rattle.relation_tables.specs.RelationHandler.{relation_handlers}
 use Rattle.pg_cancel.specs.declared.entries.Entry.{Entry}
@@ -22,13 +22,13 @@ returns-clause-went g c =
     (ap (λ n. calls_of n new.seen) (sym (c.take_in.ensures.same.1 ∙ c.serve_at_desk-answer.ensures.same.1)) ∙ c.take_in.ensures.own)
     (ap desk_calls c.take_in.ensures.mine ∙ went.1) in
     subst (λ h. (made : List Entry) × (new.mine ≡ h.mine ++ made)
-    × WentByTables c.args.relations.now (h.pid, h.key) c.serve_at_desk-answer.result (g.S.Source.left c.args.source.now)
+    × WentByTables c.args.relations.now (h.pid, take 4 h.key) c.serve_at_desk-answer.result (g.S.Source.left c.args.source.now)
     (g.S.Source.left c.serve_at_desk-answer.new.source) (g.K.Sink.written c.args.sink.now)
     (g.K.Sink.written c.serve_at_desk-answer.new.sink) (desk_calls made))
     c.note-before.ensures.same (
       made.0,
       made.1,
-      subst (λ calls. WentByTables c.args.relations.now (old.pid, old.key) c.serve_at_desk-answer.result
+      subst (λ calls. WentByTables c.args.relations.now (old.pid, take 4 old.key) c.serve_at_desk-answer.result
           (g.S.Source.left c.args.source.now)
           (g.S.Source.left c.serve_at_desk-answer.new.source) (g.K.Sink.written c.args.sink.now)
           (g.K.Sink.written c.serve_at_desk-answer.new.sink) calls) made.2 went.2,
@@ -36,5 +36,5 @@ returns-clause-went g c =
 
 pub returns-clause-last : goal.returns-clause-last
 returns-clause-last g c = subst (λ h. IfOk c.serve_at_desk-answer.result (EndsAtLast (whole_rules (relation_handlers c.args.relations.now))
-    (first_state h.pid h.key) (g.S.Source.left c.args.source.now) (g.S.Source.left c.serve_at_desk-answer.new.source)))
+    (first_state h.pid (take 4 h.key)) (g.S.Source.left c.args.source.now) (g.S.Source.left c.serve_at_desk-answer.new.source)))
     c.note-before.ensures.same c.serve_at_desk-answer.ensures.last

@@ -1,6 +1,6 @@
 use Rattle.std.proofs.Common.{◌≡◌, ◌∷◌, [], ◌++◌, length, ⊎_elim, w32, rules, ap, subst, sym, ◌∙◌}
 use mir.Val.{to_z, of_z}
-use Rattle.pg_cancel.specs.declared.entries.RegistryCall.TheVariants.{Register, Start, Ask, Cancel, Unregister}
+use Rattle.pg_cancel.specs.declared.entries.RegistryCall.TheVariants.{Register, Start, Ask, Cancel, Narrow, Unregister}
 use Rattle.pg_cancel.specs.declared.entries.RegistryAnswer.TheVariants.{Registered, Taken, Done, Yes, No}
 use Rattle.pg_cancel.specs.LegalHistory.{IsLegal, IsLive, IsAnswer, entry_number, entry_of}
 use Rattle.pg_cancel.specs.Index.{IsIndexOf, IsCaller, Notes}
@@ -94,11 +94,18 @@ returns-clause-cancel_no c = λ pid key same.
     answered_when c.args.self.now c.args.number c.args.call (Cancel pid key) c.in_ok-answer.answer No (was_legal c) (notes c).told same
 
 pub returns-clause-done : goal.returns-clause-done
-returns-clause-done c = λ either. ⊎_elim
-    (λ same. (answered_when c.args.self.now c.args.number c.args.call Start c.in_ok-answer.answer Done (was_legal c) (notes c).told same).1
-    tt)
-    (λ same. (answered_when c.args.self.now c.args.number c.args.call Unregister c.in_ok-answer.answer Done (was_legal c) (notes c).told
-    same).1 tt)
+returns-clause-done c =
+    let h = c.args.self.now in
+    let n = c.args.number in
+    let call = c.args.call in
+    let a = c.in_ok-answer.answer in
+    let told = (notes c).told in
+    λ either. ⊎_elim
+    (λ same. (answered_when h n call Start a Done (was_legal c) told same).1 tt)
+    (λ rest. ⊎_elim
+    (λ same. (answered_when h n call Narrow a Done (was_legal c) told same).1 tt)
+    (λ same. (answered_when h n call Unregister a Done (was_legal c) told same).1 tt)
+    rest)
     either
 
 pub returns-clause-lives : goal.returns-clause-lives

@@ -20,4 +20,5 @@ pub make_call-requires-clause-begins : goal.make_call-requires-clause-begins
 make_call-requires-clause-begins g c =
     let h = c.handle.inside in
     let pid : to_z w32 (of_z w32 h.pid) ≡ h.pid = search rules in
-    (h.key, subst (λ p. Begins h.seat.me.0.mine h.number p h.key) (sym pid) c.handle.invariant.1)
+    let x = c.handle.invariant.1 in
+    (x.0, subst (λ p. Begins h.seat.me.0.mine h.number p x.0) (sym pid) x.1)
