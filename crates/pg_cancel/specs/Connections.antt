@@ -95,7 +95,7 @@ Knows number seen mine = IsLegal seen × (calls_of number seen ≡ mine)
 abbrev pub Begins : List Entry → ℕ → ℤ → List ℕ → Type 0
 Begins mine number pid registered = (rest : List Entry) × (mine ≡ entry number (Register pid registered) Registered ∷ rest)
 
--- and its key is the one that it has after them
+-- a connection's calls begin with the Register of its pid, and its key is the one that it has after them
 abbrev pub IsNamed : List Entry → ℕ → ℤ → List ℕ → Type 0
 IsNamed mine number pid key = (registered : List ℕ) × Begins mine number pid registered × (key ≡ key_after mine number registered)
 

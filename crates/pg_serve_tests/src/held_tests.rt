@@ -6,7 +6,7 @@ ghost use Rattle.std.specs.Arc.{arc_value};
 use crate::fixtures::{KEY, STARTED, STARTUP, joined};
 use pg_cancel::{ConnectionHandle, ConnectionManager, Door};
 use pg_handlers::{NoRows, NoopHandler, QueryState, SimpleQueryHandler, Turn};
-use pg_messages::PgList;
+use pg_messages::{PgList, SecretKey};
 use pg_portal::{ClientInfo, MemPortalStore, PgWireError, Response};
 use pg_serve::{HandleDesk, MemorySink, MemorySource, serve_connection};
 use pg_session::{EndKind, PgWireServerHandlers, ServeError};
@@ -177,9 +177,12 @@ impl Canceler {
             flags,
         } = self;
         flags.wait_for_moment(rt);
-        let made = manager.cancel(rt, &mut handle, 7, KEY);
+        let made = match SecretKey::try_new(manager.alloc(), &KEY) {
+            Ok(key) => manager.cancel(rt, &mut handle, 7, &key).unwrap_or(false),
+            Err(_) => false,
+        };
         flags.canceled.store(true, Ordering::SeqCst);
-        made.unwrap_or(false)
+        made
     }
 }
 
@@ -237,7 +240,8 @@ impl Registry {
         ensures manager { self.new.manager ≡ self.old.manager }
         ensures issued { IfOk result (λ handle. handle.issuer ≡ arc_value self.old.manager) }
     {
-        match self.manager.register(rt, &mut self.door, pid, KEY) {
+        let key = SecretKey::try_new(self.manager.alloc(), &KEY)?;
+        match self.manager.register(rt, &mut self.door, pid, key) {
             Ok(handle) => Ok(handle),
             Err(_) => Err(Fail::from("no registration")),
         }

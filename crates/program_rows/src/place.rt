@@ -1,10 +1,10 @@
 //! The registry of a row, at which its commands run.
 
-ghost use Rattle.std.specs.Prelude.{◌≡◌};
+ghost use Rattle.std.specs.Prelude.{◌≡◌, IfOk};
 
 use crate::sessions::{Client, Ends};
-use pg_cancel::{ConnectionManager, Door, RegisterError};
-use pg_messages::PgStr;
+use pg_cancel::{ConnectionHandle, ConnectionManager, Door, RegisterError};
+use pg_messages::{PgStr, SecretKey};
 use pg_session::{Sink, Source};
 use relation_server::{RelationTable, run};
 use row_files::{Fault, parsed};
@@ -26,10 +26,26 @@ impl Place {
         Ok(Place { manager, door })
     }
 
+    /// Registers a pid under a key of these bytes.
+    fn register<R: Wait>(
+        &mut self,
+        rt: &R,
+        pid: i32,
+        bytes: &[u8; 4],
+    ) -> Result<ConnectionHandle, RegisterError>
+        ensures manager { self.new.manager ≡ self.old.manager }
+        ensures issued { IfOk result (λ handle. handle.issuer ≡ self.old.manager) }
+    {
+        let Ok(key) = SecretKey::try_new(self.manager.alloc(), bytes) else {
+            return Err(RegisterError::NoMemory);
+        };
+        self.manager.register(rt, &mut self.door, pid, key)
+    }
+
     /// Registers a pid, which stays.
     pub fn occupy<'t, R: Wait>(&mut self, rt: &R, digits: &'t str) -> Result<(), Fault<'t>> {
         let pid = parsed::<i32>(digits)?;
-        match self.manager.register(rt, &mut self.door, pid, [0; 4]) {
+        match self.register(rt, pid, &[0; 4]) {
             Ok(_) => Ok(()),
             Err(error) => Err(fault_of(error)),
         }
@@ -44,7 +60,7 @@ impl Place {
         first: &mut Client,
         second: &mut Client,
     ) -> Result<Ends, RegisterError> {
-        let mut handle = self.manager.register(rt, &mut self.door, 7, [1, 2, 3, 4])?;
+        let mut handle = self.register(rt, 7, &[1, 2, 3, 4])?;
         let one = first.serve(rt, alloc, &self.manager, &mut handle, table);
         let other = second.serve(rt, alloc, &self.manager, &mut handle, table);
         Ok((one, other))
@@ -78,7 +94,7 @@ impl Place {
     /// How many calls the registry got so far, which is the number of a registration more, under
     /// the pid 0.
     pub fn calls<'t, R: Wait>(&mut self, rt: &R) -> Result<u64, Fault<'t>> {
-        match self.manager.register(rt, &mut self.door, 0, [0; 4]) {
+        match self.register(rt, 0, &[0; 4]) {
             Ok(handle) => Ok(handle.number()),
             Err(error) => Err(fault_of(error)),
         }
@@ -87,7 +103,7 @@ impl Place {
     /// Whether somebody is registered under a pid. It is taken then in any case.
     pub fn is_taken<'t, R: Wait>(&mut self, rt: &R, digits: &'t str) -> Result<bool, Fault<'t>> {
         let pid = parsed::<i32>(digits)?;
-        match self.manager.register(rt, &mut self.door, pid, [0; 4]) {
+        match self.register(rt, pid, &[0; 4]) {
             Ok(_) => Ok(false),
             Err(RegisterError::PidTaken(_)) => Ok(true),
             Err(RegisterError::NoMemory) => Err(Fault::NoMemory),

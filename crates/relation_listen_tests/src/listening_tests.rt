@@ -3,7 +3,7 @@
 ghost use Rattle.std.specs.Prelude.{◌≡◌, ◌<◌, ◌^◌, IfOk};
 
 use crate::clients::{KEY, Registry, source_of};
-use pg_messages::{PgBytes, PgList, PgStr};
+use pg_messages::{PgBytes, PgList, PgStr, SecretKey};
 use pg_serve::{AcceptFailed, Acceptor, KeySource, MemorySink, MemorySource, SpawnFailed, Spawner};
 use pg_session::{Sink, Source};
 use relation_server::{ConnectionJob, ListenError, built_in_table, listen, run_listen};
@@ -153,7 +153,7 @@ fn listen_for_three<R: Wait>(
 /// Whether a job is that of the first connection, and has what it was given.
 fn is_first_job(job: &ConnectionJob<MemorySource, MemorySink>) -> bool {
     job.handle.pid() == 1
-        && job.handle.key() == key_of(1)
+        && job.handle.key().as_slice() == key_of(1).as_slice()
         && job.turn_limit == 55
         && job.relations.find("shifts") == Some(0)
         && job.relations.relations().len() == 4
@@ -173,7 +173,8 @@ fn is_heard<R: Wait>(
 /// Whether a cancel of pid 1 through this registry is made.
 fn cancels_the_first<R: Wait>(rt: &R, registry: &mut Registry) -> Result<bool, Fail> {
     let mut other = registry.register(rt, 9)?;
-    Ok(registry.manager.cancel(rt, &mut other, 1, key_of(1))?)
+    let key = SecretKey::try_new(registry.manager.alloc(), &key_of(1))?;
+    Ok(registry.manager.cancel(rt, &mut other, 1, &key)?)
 }
 
 /// Whether there is one job alone, which has what it was given, and hears a cancel.
@@ -231,7 +232,7 @@ fn are_good_jobs(jobs: &[ConnectionJob<MemorySource, MemorySink>]) -> bool {
     for job in jobs {
         number = number.wrapping_add(1);
         if job.handle.pid() != i32::from(number)
-            || job.handle.key() != key_of(number)
+            || job.handle.key().as_slice() != key_of(number).as_slice()
             || !is_good_job(job)
         {
             return false;

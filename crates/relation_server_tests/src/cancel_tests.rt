@@ -5,7 +5,7 @@ ghost use Rattle.std.specs.Arc.{arc_value};
 
 use crate::clients::{FIRST_REPLIES, KEY, Registry, STARTUP, source_of};
 use pg_cancel::{ConnectionHandle, ConnectionManager};
-use pg_messages::PgList;
+use pg_messages::{PgList, SecretKey};
 use pg_serve::{MemorySink, MemorySource};
 use pg_session::EndKind;
 use relation_server::{built_in_table, serve_relations};
@@ -55,7 +55,10 @@ impl Canceler {
 
     /// Cancels once.
     fn cancel<R: Wait>(&mut self, rt: &R) {
-        let made = self.manager.cancel(rt, &mut self.handle, 7, KEY);
+        let Ok(key) = SecretKey::try_new(self.manager.alloc(), &KEY) else {
+            return;
+        };
+        let made = self.manager.cancel(rt, &mut self.handle, 7, &key);
         if made.unwrap_or(false) {
             self.met = self.met.saturating_add(1);
         }

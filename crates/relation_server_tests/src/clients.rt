@@ -4,7 +4,7 @@ ghost use Rattle.std.specs.Prelude.{◌≡◌, IfOk};
 ghost use Rattle.std.specs.Arc.{arc_value};
 
 use pg_cancel::{ConnectionHandle, ConnectionManager, Door};
-use pg_messages::{PgBytes, PgList};
+use pg_messages::{PgBytes, PgList, SecretKey};
 use pg_serve::MemorySource;
 use std::alloc::{AllocError, Global};
 use std::sync::{Arc, Wait};
@@ -74,7 +74,8 @@ impl Registry {
         ensures manager { self.new.manager ≡ self.old.manager }
         ensures issued { IfOk result (λ handle. handle.issuer ≡ arc_value self.old.manager) }
     {
-        match self.manager.register(rt, &mut self.door, pid, KEY) {
+        let key = SecretKey::try_new(self.manager.alloc(), &KEY)?;
+        match self.manager.register(rt, &mut self.door, pid, key) {
             Ok(handle) => Ok(handle),
             Err(_) => Err(Fail::from("no registration")),
         }
@@ -82,6 +83,9 @@ impl Registry {
 
     /// Whether nobody has a pid, who is registered under it now.
     pub(crate) fn is_free<R: Wait>(&mut self, rt: &R, pid: i32) -> bool {
-        self.manager.register(rt, &mut self.door, pid, KEY).is_ok()
+        match SecretKey::try_new(self.manager.alloc(), &KEY) {
+            Ok(key) => self.manager.register(rt, &mut self.door, pid, key).is_ok(),
+            Err(_) => false,
+        }
     }
 }

@@ -5,7 +5,7 @@ ghost use Rattle.std.specs.Arc.{arc_value};
 
 use crate::clients::{FIRST_PATH, FIRST_REPLIES, KEY, Registry, source_of};
 use pg_cancel::{ConnectionHandle, ConnectionManager};
-use pg_messages::PgList;
+use pg_messages::{PgList, SecretKey};
 use pg_serve::MemorySink;
 use pg_session::EndKind;
 use relation_server::{built_in_table, serve_relations};
@@ -49,7 +49,8 @@ fn is_canceled<R: Wait>(
 {
     let mut other = registry.register(rt, 8)?;
     let is_next = other.number() == 2;
-    let is_made = registry.manager.cancel(rt, &mut other, 7, KEY)?;
+    let key = SecretKey::try_new(registry.manager.alloc(), &KEY)?;
+    let is_made = registry.manager.cancel(rt, &mut other, 7, &key)?;
     Ok(is_next && is_made && registry.manager.ask(rt, handle)?)
 }
 

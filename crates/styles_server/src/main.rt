@@ -6,7 +6,7 @@ ghost use Rattle.std.specs.Prelude.{◌≡◌};
 
 use hex::FromHex;
 use pg_cancel::{ConnectionManager, Door};
-use pg_messages::PgList;
+use pg_messages::{PgList, SecretKey};
 use pg_portal::MemPortalStore;
 use pg_serve::{
     Acceptor, KeySource, Listening, MaybeTls, RandomKeys, ReaderSource, SocketAcceptor, WriterSink,
