@@ -4,7 +4,8 @@ use crate::parts::{bytes_of, numbers_of, text_of};
 use pg_messages::{
     AuthenticationOk, BackendKeyData, BindComplete, CloseComplete, CommandComplete,
     CopyBothResponse, CopyData, CopyDone, CopyInResponse, CopyOutResponse, DataRow,
-    EmptyQueryResponse, ErrorInfo, ErrorResponse, FieldDescription, GssEncResponse, KeyError, NoData,
+    EmptyQueryResponse, ErrorInfo, ErrorResponse, FieldDescription, GssEncResponse, KeyError,
+    NoData,
     ParameterDescription, ParameterStatus, ParseComplete, PgBytes, PgList, PgStr,
     PgWireBackendMessage, PortalSuspended, ReadyForQuery, RowDescription, SecretKey, SslResponse,
     TransactionStatus,
