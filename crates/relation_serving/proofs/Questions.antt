@@ -9,6 +9,7 @@ use Rattle.pg_messages.specs.declared.startup.CancelRequest.{CancelRequest}
 use Rattle.pg_messages.specs.declared.frontend.PgWireFrontendMessage.{PgWireFrontendMessage}
 use Rattle.pg_messages.specs.declared.frontend.PgWireFrontendMessage.TheVariants as client
 use Rattle.pg_messages.specs.Frames.{protocol_3_0, protocol_3_2}
+use Rattle.pg_messages.specs.declared.codec.ProtocolVersion.TheVariants.{PROTOCOL3_0}
 use Rattle.pg_portal.specs.declared.client.ClientInfo.{ClientInfo}
 use Rattle.pg_portal.specs.declared.client.PgWireConnectionState.{PgWireConnectionState}
 use Rattle.pg_portal.specs.declared.client.PgWireConnectionState.TheVariants as phase
@@ -20,6 +21,7 @@ use Rattle.pg_portal.specs.Texts.{is_blank}
 use Rattle.pg_portal.specs.Told.{BoundPortal, TablePortal, Stage, Unstarted, Started, Ended}
 use Rattle.pg_portal.specs.Errors.{info_of}
 use Rattle.pg_handlers.specs.declared.desk.DeskCall.{DeskCall}
+use Rattle.pg_handlers.specs.declared.desk.DeskCall.TheVariants as desk
 use Rattle.pg_handlers.specs.Answer.{Answer, Table, Next, Goes, Ends, Stops, conversation, continued, left_by}
 use Rattle.pg_handlers.specs.Errors.{is_fatal}
 use Rattle.pg_handlers.specs.Replies.{Replies}
@@ -28,7 +30,7 @@ use Rattle.pg_handlers.specs.ExecuteRow.{executed_portal, executed_entry}
 use Rattle.pg_handlers.specs.Handlers.{Handlers}
 use Rattle.pg_handlers.specs.Questions.{questions, questioned, started}
 use Rattle.pg_handlers.specs.SimpleRows.{on_query}
-use Rattle.pg_handlers.specs.StartupRows.{on_cancel_request, startup_row}
+use Rattle.pg_handlers.specs.StartupRows.{on_cancel_request, tells_less, startup_row}
 use Rattle.pg_handlers.specs.State.{State}
 use Rattle.pg_handlers.specs.Table.{ready_row, row, scope_in, whole_table}
 use Rattle.pg_session.proofs.Spending.{questions-append}
@@ -87,11 +89,16 @@ cancel_asks_nothing : (S : Type 0) (answers : List Bool) (m : CancelRequest) →
 cancel_asks_nothing S [] m = omega arith
 cancel_asks_nothing S (told ∷ answers) m = omega arith
 
+narrowing_asks_nothing : (b : Bool) → questions (if b then desk.Narrow ∷ [] else []) ≤ 0
+narrowing_asks_nothing true = omega arith
+narrowing_asks_nothing false = omega arith
+
 startup_asks_nothing : {S : Type 0} (answers : List Bool) (s : State S) (m : PgWireFrontendMessage)
     → questions (startup_row answers s m).calls ≤ 0
 startup_asks_nothing {S} answers s (client.CancelRequest m) = cancel_asks_nothing S answers m
 startup_asks_nothing answers s (client.Startup m) =
-    either_row (m.code == protocol_3_0) _ _ 0 (omega arith) (either_row (m.code == protocol_3_2) _ _ 0 (omega arith) (omega arith))
+    either_row (m.code == protocol_3_0) _ _ 0 (narrowing_asks_nothing (tells_less PROTOCOL3_0 s.info.secret_key))
+    (either_row (m.code == protocol_3_2) _ _ 0 (omega arith) (omega arith))
 startup_asks_nothing answers s _ = omega arith
 
 -- as many questions as a message may ask
