@@ -52,7 +52,7 @@ questioned_few (suc owed) (true ∷ answers) = omega arith
 questioned_few (suc owed) (false ∷ answers) = let p = questioned_few owed answers in omega (arith, p)
 
 -- no query of these handlers owes more polls
-record OweAtMost {S : Type 0} (h : Handlers S) (most : ℕ) : Type 0 where
+pub record OweAtMost {S : Type 0} (h : Handlers S) (most : ℕ) : Type 0 where
   extended : (client : ClientInfo) (p : BoundPortal S) (limit : ℤ) → (h.extended.query client p limit).owes ≤ most
   simple : (client : ClientInfo) (query : List ℕ) → (h.simple client query).owes ≤ most
 
@@ -102,7 +102,7 @@ startup_asks_nothing answers s (client.Startup m) =
 startup_asks_nothing answers s _ = omega arith
 
 -- as many questions as a message may ask
-abbrev may_ask : ℕ → PgWireFrontendMessage → ℕ
+abbrev pub may_ask : ℕ → PgWireFrontendMessage → ℕ
 may_ask most m = cond (is_run_message m) most 0
 
 ready_few : {S : Type 0} (h : Handlers S) (most : ℕ) → OweAtMost h most → (answers : List Bool) (s : State S) (m : PgWireFrontendMessage)
@@ -132,7 +132,8 @@ settled_calls scope replies calls (Failed s e) = either_answer (is_fatal (info_o
 settled_calls scope replies calls (Over kind) = refl
 settled_calls scope replies calls Stopped = refl
 
-message_few : {S : Type 0} (h : Handlers S) (most : ℕ) → OweAtMost h most → (answers : List Bool) (s : State S) (m : PgWireFrontendMessage)
+pub message_few : {S : Type 0} (h : Handlers S) (most : ℕ) → OweAtMost h most → (answers : List Bool) (s : State S)
+    (m : PgWireFrontendMessage)
     → questions (whole_table h answers s m).calls ≤ may_ask most m
 message_few h most few answers s m =
     let c = row h answers s m s.info.state in
@@ -154,7 +155,7 @@ continued_few runs_it a (Goes t) f n most p q = rw (questions-append a.calls (f 
 continued_few runs_it a (Ends kind) f n most p q = let e = one_more runs_it (questions a.calls) 0 n most p (omega arith) in omega (arith, e)
 continued_few runs_it a Stops f n most p q = let e = one_more runs_it (questions a.calls) 0 n most p (omega arith) in omega (arith, e)
 
-conversation_few : {T : Type 0} (table : Table T) (most : ℕ)
+pub conversation_few : {T : Type 0} (table : Table T) (most : ℕ)
     → ((answers : List Bool) (s : T) (m : PgWireFrontendMessage) → questions (table answers s m).calls ≤ may_ask most m)
     → (answers : List Bool) (s : T) (messages : List PgWireFrontendMessage)
     → questions (conversation table answers s messages).calls ≤ runs messages * most
@@ -194,7 +195,7 @@ simple_few : (relations : List Relation) (client : ClientInfo) (text : List ℕ)
 simple_few relations client text None = copy_or_unknown_few relations client text (copied_name (words text))
 simple_few relations client text (Some means) = query_of_few relations client format.UnifiedText means
 
-relations_owe : (relations : List Relation) → OweAtMost (relation_handlers relations) (most_unready relations)
+pub relations_owe : (relations : List Relation) → OweAtMost (relation_handlers relations) (most_unready relations)
 relations_owe relations = record {
   extended = λ client p limit. query_of_few relations client p.result_column_format p.statement.statement;
   simple = λ client query. simple_few relations client (trimmed query) (meaning relations query);
