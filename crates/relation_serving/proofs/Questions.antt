@@ -1,5 +1,5 @@
 -- A conversation over relations asks no more questions than its messages that run a query, each as often as a relation is unready.
-use Rattle.std.proofs.Common.{◌≡◌, ◌≤◌, ◌+◌, ℕ, zero, suc, cond, arith, Bool, true, false, ℤ, List, [], ◌∷◌, Option, Some, None, refl}
+use Rattle.std.proofs.Common.{◌≡◌, ◌≤◌, ◌+◌, if◌then◌else◌, ℕ, zero, suc, cond, arith, Bool, true, false, ℤ, List, [], ◌∷◌, Option, Some, None, refl}
 use Rattle.std.specs.Prelude.{◌*◌, ◌==◌}
 use Rattle.std.proofs.Math.Nat.{add-mul, one-mul}
 use Rattle.std.specs.FinMap as fin
