@@ -49,6 +49,3 @@ pub use startup::{
     SslNegotiationKind, Startup, Terminate,
 };
 pub use values::{PgBytes, PgList, PgStr};
-
-#[cfg(test)]
-mod tests;

@@ -6,6 +6,3 @@ mod outbox;
 
 pub use chunk::CHUNK;
 pub use outbox::Outbox;
-
-#[cfg(test)]
-mod tests;

@@ -1,9 +1,14 @@
-// That each call which takes memory succeeds where there is enough. The table of frames and replies
-// is the program message_rows.
+//! That each call which takes memory succeeds where there is enough. The table of frames and
+//! replies is the program message_rows.
+
 ghost use Rattle.pg_messages.specs.Replies.{IsEncodable};
 
-use super::*;
 use bytes::BytesMut;
+use pg_messages::{
+    FORMAT_CODE_BINARY, FORMAT_CODE_TEXT, PgBytes, PgList, PgStr, PgWireBackendMessage,
+    PgWireFrontendMessage, PgWireMessageServerCodec, ReadyForQuery, TARGET_TYPE_BYTE_PORTAL,
+    TARGET_TYPE_BYTE_STATEMENT, TransactionStatus,
+};
 use std::alloc::{AllocError, Global};
 use std::test::*;
 

@@ -1,11 +1,12 @@
-// That each call which takes memory succeeds where there is enough, with replies that reach over
-// the ends of chunks.
+//! That each call which takes memory succeeds where there is enough, with replies that reach over
+//! the ends of chunks.
+
 ghost use Rattle.std.specs.Prelude.{◌≤◌, IfOk};
 ghost use Rattle.pg_messages.specs.Replies.{IsEncodable};
 ghost use Rattle.pg_messages.specs.declared.backend.PgWireBackendMessage.TheVariants as server;
 
-use super::*;
 use pg_messages::{CopyData, DataRow, PgBytes, PgWireBackendMessage};
+use pg_outbox::{CHUNK, Outbox};
 use std::alloc::{AllocError, Global};
 use std::test::*;
 
