@@ -16,10 +16,6 @@ pub use handle::{ConnectionHandle, Note};
 pub use history::Registry;
 pub use manager::{ConnectionManager, Door, RegisterError};
 
-#[cfg(test)]
-mod story;
-#[cfg(test)]
-mod tests;
 
 fn may_be_sent<T: Send>() {}
 

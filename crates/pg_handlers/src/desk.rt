@@ -173,7 +173,7 @@ impl CancelDesk for ScriptDesk {
             ≡ after_calls (script_told self.old) (DeskCall.Cancel pid key.now yes ∷ [])) }
         ensures err { OnErr result (script_told self.new ≡ script_told self.old) }
     {
-        let named = key.copy_of(*self.calls.allocator())?;
+        let named = key.copy_of()?;
         let yes = self.next_answer();
         self.calls.push(DeskCall::Cancel(pid, named, yes))?;
         self.taken = behind_next(self.answers.as_slice(), self.taken);

@@ -284,7 +284,7 @@ fn push_key(alloc: Global, outbox: &mut Outbox, pid: i32, key: &SecretKey) -> Re
 {
     let keys = BackendKeyData {
         pid,
-        secret_key: key.copy_of(alloc)?,
+        secret_key: key.copy_of()?,
     };
     outbox.push(&PgWireBackendMessage::BackendKeyData(keys))
 }

@@ -9,6 +9,3 @@ mod numbers;
 pub use commands::{Command, Load, Service, read_command};
 pub use file::file_word;
 pub use listening::{ListenPlace, listen_count, listen_place};
-
-#[cfg(test)]
-mod tests;
