@@ -7,6 +7,7 @@ ghost use Rattle.pg_handlers.specs.State.{first_state};
 ghost use Rattle.pg_session.specs.Session.{is_more};
 
 use crate::parts::Front;
+use pg_messages::SecretKey;
 use pg_portal::PortalStore;
 use pg_serve::Conversation;
 use pg_session::{
@@ -64,7 +65,7 @@ impl<
         handlers: Arc<H>,
         store: St,
         pid: i32,
-        key: [u8; 4],
+        key: SecretKey,
     ) -> Result<CursorSession<H, St>, AllocError>
         requires empty { St.maps store ≡ no_maps }
         ensures { IfOk result (λ session. session ≡ record {
