@@ -16,7 +16,6 @@ pub use handle::{ConnectionHandle, Note};
 pub use history::Registry;
 pub use manager::{ConnectionManager, Door, RegisterError};
 
-
 fn may_be_sent<T: Send>() {}
 
 fn may_be_shared<T: Send + Sync>() {}

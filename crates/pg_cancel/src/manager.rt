@@ -76,13 +76,9 @@ impl ConnectionManager {
         }
     }
 
-    /// Where its memory comes from.
-    pub fn alloc(&self) -> Global {
-        self.alloc
-    }
-
-    /// Registers a connection under a process id that no live registration has. The key is copied.
-    /// Waits for the turn. The call stands in the history whether the pid is taken or not.
+    /// Registers a connection under a process id that no live registration has. The history has a
+    /// copy of the key. Waits for the turn. The call stands in the history whether the pid is taken
+    /// or not.
     pub fn register<R: Wait>(
         &self,
         rt: &R,

@@ -1,22 +1,18 @@
 -- The words of `serve` and of `demo`.
 use Rattle.std.specs.Prelude.{ℕ, ℤ, pos, List, [], ◌∷◌, codes, Option, Some, None, option_map, if◌then◌else◌}
 use Rattle.std.specs.Option.{option_or}
-use Rattle.std.specs.Result.{result_ok}
 use Rattle.std.specs.Str.{bytes_eq}
-use Rattle.hex.specs.Hex.{decode_sized}
 use Rattle.relation_words.specs.Numbers.{number_of, number_within}
+use Rattle.relation_words.specs.Keys.{key_of}
 use Rattle.relation_words.specs.declared.commands.Command.{Command}
 use Rattle.relation_words.specs.declared.commands.Command.TheVariants.{Serve, Demo}
 use Rattle.relation_words.specs.declared.commands.Service.{Service}
+use Rattle.relation_words.specs.declared.commands.Serving.{Serving}
 use Rattle.relation_words.specs.declared.commands.Load.{Load}
 
 -- PID: 1 to 2147483647
 abbrev pub pid_of : List ℕ → Option ℤ
 pid_of word = option_map pos (number_within 1 2147483647 word)
-
--- KEY: the four bytes of exactly eight hexadecimal digits of either case
-abbrev pub key_of : List ℕ → Option (List ℕ)
-key_of word = result_ok (decode_sized word 4)
 
 -- TURNS: 1 to 18446744073709551615
 abbrev pub turns_of : List ℕ → Option ℕ
@@ -34,6 +30,10 @@ count_of word = number_within 0 10000 word
 abbrev pub service : Option ℤ → Option (List ℕ) → Option ℕ → Option Service
 service (Some pid) (Some key) (Some turns) = Some (record { pid = pid; key = key; turns = turns })
 service _ _ _ = None
+
+-- the service that the program's type of a service without a key of its own holds
+abbrev pub told_serving : Serving → Service
+told_serving serving = record { pid = serving.pid; key = serving.key; turns = serving.turns }
 
 -- a load, where both of its parts are good
 abbrev pub load : Option ℕ → Option ℕ → Option Load

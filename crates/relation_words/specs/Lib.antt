@@ -1,4 +1,5 @@
 pub mod Numbers
+pub mod Keys
 pub mod Commands
 pub mod Listening
 pub mod File

@@ -1,18 +1,20 @@
 //! The commands of one conversation: `serve` and `demo`.
 
-ghost use Rattle.std.specs.Prelude.{◌≡◌, None, codes, if◌then◌else◌};
+ghost use Rattle.std.specs.Prelude.{◌≡◌, None, codes, if◌then◌else◌, option_map, is_some, IsSome, IfOk, OnErr};
 ghost use Rattle.std.specs.Str.{bytes_eq};
-ghost use Rattle.relation_words.specs.Commands.{command_of, service_of, load_of, service, pid_of, key_of, turns_of, load, seed_of, count_of};
+ghost use Rattle.relation_words.specs.Commands.{command_of, service_of, load_of, service, told_serving, pid_of, turns_of, load, seed_of, count_of};
+ghost use Rattle.relation_words.specs.Keys.{key_of};
 
+use crate::keys::{KeyBytes, read_key};
 use crate::numbers::{read_number, read_within};
-use hex::FromHex;
-use pg_messages::PgStr;
+use pg_messages::{PgStr, SecretKey};
+use std::alloc::{AllocError, Global};
 
 /// How many turns a client has where the words tell none.
 const TURNS: u64 = 1_000_000_000;
 
 /// What the words of the command line order.
-#[derive(Clone, Copy, Debug, PartialEq, Eq)]
+#[derive(Debug, PartialEq, Eq, Drop)]
 pub enum Command {
     /// Serve the client's bytes over the relations of a file.
     Serve(Service),
@@ -21,14 +23,22 @@ pub enum Command {
 }
 
 /// Under what a client is served.
-#[derive(Clone, Copy, Debug, PartialEq, Eq)]
+#[derive(Debug, PartialEq, Eq, Drop)]
 pub struct Service {
     /// The process id of the registration, from 1 on.
     pub pid: i32,
     /// The secret key of the registration.
-    pub key: [u8; 4],
+    pub key: SecretKey,
     /// How many turns the client has, from 1 on.
     pub turns: u64,
+}
+
+/// What good words of `serve` tell beside their file, while there is no key of its own yet.
+#[derive(Drop)]
+struct Serving {
+    pid: i32,
+    key: KeyBytes,
+    turns: u64,
 }
 
 /// What load is generated.
@@ -41,24 +51,47 @@ pub struct Load {
 }
 
 /// The command that the words give: `serve FILE PID KEY [TURNS]` or `demo SEED N`. PID is 1 to
-/// 2147483647, KEY eight hexadecimal digits of either case, TURNS 1 to 18446744073709551615 and
-/// 1000000000 where it is left out, SEED 0 to 18446744073709551615, N 0 to 10000. Numbers are in
-/// decimal, without a sign or a leading zero. None is any other words.
-pub fn read_command(words: &[PgStr]) -> Option<Command>
-    ensures { result ≡ command_of words.now }
+/// 2147483647, KEY an even number of hexadecimal digits of either case, 8 to 512 of them, TURNS 1 to
+/// 18446744073709551615 and 1000000000 where it is left out, SEED 0 to 18446744073709551615, N 0 to
+/// 10000. Numbers are in decimal, without a sign or a leading zero. None is any other words.
+/// Judging the words takes no memory; the key of a good `serve` does.
+pub fn read_command(alloc: Global, words: &[PgStr]) -> Result<Option<Command>, AllocError>
+    ensures ok { IfOk result (λ command. command ≡ command_of words.now) }
+    ensures err { OnErr result (IsSome (service_of words.now)) }
 {
-    if let Some(service) = read_service(words) {
-        return Some(Command::Serve(service));
+    match read_serving(words) {
+        Some(serving) => Ok(Some(Command::Serve(serving.service(alloc)?))),
+        None => Ok(read_load(words).map(Command::Demo)),
     }
-    Some(Command::Demo(read_load(words)?))
 }
 
-/// The service that the words `serve FILE PID KEY [TURNS]` order.
-pub(crate) fn read_service(words: &[PgStr]) -> Option<Service>
-    ensures { result ≡ service_of words.now }
+/// Whether the words are a good `serve`.
+pub(crate) fn is_serving(words: &[PgStr]) -> bool
+    ensures { result ≡ is_some (service_of words.now) }
+{
+    read_serving(words).is_some()
+}
+
+impl Serving {
+    /// The service, whose key takes memory.
+    fn service(&self, alloc: Global) -> Result<Service, AllocError>
+        ensures { IfOk result (λ service. service ≡ told_serving self.now) }
+    {
+        let key = self.key.secret_key(alloc)?;
+        Ok(Service {
+            pid: self.pid,
+            key,
+            turns: self.turns,
+        })
+    }
+}
+
+/// What the words `serve FILE PID KEY [TURNS]` tell, where they are good.
+fn read_serving(words: &[PgStr]) -> Option<Serving>
+    ensures { option_map told_serving result ≡ service_of words.now }
 {
     match words {
-        [command, _, pid, key] => make_service(
+        [command, _, pid, key] => make_serving(
             command.as_str(),
             pid.as_str(),
             key.as_str(),
@@ -66,16 +99,16 @@ pub(crate) fn read_service(words: &[PgStr]) -> Option<Service>
         ),
         [command, _, pid, key, turns] => {
             let turns = read_turns(turns.as_str());
-            make_service(command.as_str(), pid.as_str(), key.as_str(), turns)
+            make_serving(command.as_str(), pid.as_str(), key.as_str(), turns)
         }
         _ => None,
     }
 }
 
-/// The service under this pid and key, where the command is `serve` and each of the three is good.
-fn make_service(command: &str, pid: &str, key: &str, turns: Option<u64>) -> Option<Service>
-    ensures { result ≡ (if bytes_eq command.now (codes "serve") then service (pid_of pid.now)
-        (key_of key.now) turns else None) }
+/// What they tell, where the command is `serve` and the pid, the key and the turns are good.
+fn make_serving(command: &str, pid: &str, key: &str, turns: Option<u64>) -> Option<Serving>
+    ensures { option_map told_serving result ≡ (if bytes_eq command.now (codes "serve") then service
+        (pid_of pid.now) (key_of key.now) turns else None) }
 {
     if command != "serve" {
         return None;
@@ -83,7 +116,7 @@ fn make_service(command: &str, pid: &str, key: &str, turns: Option<u64>) -> Opti
     let pid = read_pid(pid)?;
     let key = read_key(key)?;
     let turns = turns?;
-    Some(Service { pid, key, turns })
+    Some(Serving { pid, key, turns })
 }
 
 /// The load that the words `demo SEED N` order.
@@ -116,13 +149,6 @@ fn read_pid(word: &str) -> Option<i32>
 {
     let pid = read_within(1, 2_147_483_647, word)?;
     Some(pid as i32)
-}
-
-/// A key of eight hexadecimal digits of either case.
-fn read_key(word: &str) -> Option<[u8; 4]>
-    ensures { result ≡ key_of word.now }
-{
-    <[u8; 4] as FromHex>::from_hex(word).ok()
 }
 
 /// A number of turns: 1 to 18446744073709551615.

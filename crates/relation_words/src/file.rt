@@ -4,7 +4,7 @@ ghost use Rattle.std.specs.Prelude.{◌≡◌, slice_get};
 ghost use Rattle.std.specs.Option.{option_copied};
 ghost use Rattle.relation_words.specs.File.{file_of};
 
-use crate::commands::read_service;
+use crate::commands::is_serving;
 use crate::listening::is_listening;
 use pg_messages::PgStr;
 
@@ -12,7 +12,7 @@ use pg_messages::PgStr;
 pub fn file_word<'a>(words: &'a [PgStr]) -> Option<&'a str>
     ensures { option_copied result ≡ file_of words.now }
 {
-    if read_service(words).is_some() {
+    if is_serving(words) {
         word_at(words, 1)
     } else if is_listening(words) {
         word_at(words, 3)

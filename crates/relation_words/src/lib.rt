@@ -3,6 +3,7 @@
 
 mod commands;
 mod file;
+mod keys;
 mod listening;
 mod numbers;
 
