@@ -4,7 +4,7 @@ use Rattle.pg_messages.specs.declared.frontend.PgWireFrontendMessage.{PgWireFron
 use Rattle.pg_messages.specs.Frames.{IsFrame, IsUnfinished, DividesInto}
 use Rattle.pg_handlers.specs.declared.desk.DeskCall.{DeskCall}
 use Rattle.pg_handlers.specs.declared.ends.Turns.{Turns}
-use Rattle.pg_handlers.specs.Desk.{KeepsDesk}
+use Rattle.pg_handlers.specs.Desk.{GoesOn}
 use Rattle.pg_handlers.specs.Answer.{Goes}
 use Rattle.pg_handlers.specs.Handlers.{Handlers}
 use Rattle.pg_handlers.specs.Questions.{questions_since}
@@ -35,9 +35,9 @@ pub pass_takes : {S : Type 0} (h : Handlers S) (s : State S) (text : List ℕ) (
     → WasFed (whole_rules h) s text t rest a.written b.written o a.desk.calls b.desk.calls result
     → HasSinkCause a.faults b.faults result
     → HasFed a.turns b.turns (questions_since a.desk.calls b.desk.calls) result
-    → (a.turns.spent ≤ a.turns.limit → b.turns.spent ≤ b.turns.limit) → KeepsDesk a.desk b.desk → b.origin ≡ a.origin
+    → (a.turns.spent ≤ a.turns.limit → b.turns.spent ≤ b.turns.limit) → GoesOn a.desk b.desk → b.origin ≡ a.origin
     → Takes (cursor_rules h) s text t new_rest a b result
-pass_takes h s text owed t rest new_rest o a b result begun none same fed cause turns bounded keeps sink = record {
+pass_takes h s text owed t rest new_rest o a b result begun none same fed cause turns bounded registration sink = record {
   rest = rest;
   fed = fed_alike awaits (whole_table h) (cursor_table is_ready (whole_table h)) s text (alike_begun h s text owed begun) t rest a.written
       b.written [] a.desk.calls b.desk.calls result
@@ -46,7 +46,7 @@ pass_takes h s text owed t rest new_rest o a b result begun none same fed cause 
   cause = cause;
   turns = turns;
   bounded = bounded;
-  keeps = keeps;
+  registration = registration;
   sink = sink;
 }
 
@@ -127,9 +127,9 @@ module _ {S : Type 0} (h : Handlers S) (s : State S) (ready : is_ready s ≡ tru
         → (told ≡ progress.More → new_rest ≡ [])
         → HasFlushed {T = Unit {0}} a.faults b.faults (Ok tt)
         → HasFed a.turns b.turns (questions_since a.desk.calls b.desk.calls) (Ok told)
-        → (a.turns.spent ≤ a.turns.limit → b.turns.spent ≤ b.turns.limit) → KeepsDesk a.desk b.desk → b.origin ≡ a.origin
+        → (a.turns.spent ≤ a.turns.limit → b.turns.spent ≤ b.turns.limit) → GoesOn a.desk b.desk → b.origin ≡ a.origin
         → Takes (cursor_rules h) s frame t new_rest a b (Ok told)
-    exchange_takes told fed bound sends left flushed turns bounded keeps sink = record {
+    exchange_takes told fed bound sends left flushed turns bounded registration sink = record {
       rest = [];
       fed = exchanged is_ready awaits (whole_table h) (whole_lawful h) s ready typed command frames asks frame m carries asked t rest bytes
           a.written b.written a.desk.calls b.desk.calls told
@@ -144,7 +144,7 @@ module _ {S : Type 0} (h : Handlers S) (s : State S) (ready : is_ready s ≡ tru
       };
       turns = turns;
       bounded = bounded;
-      keeps = keeps;
+      registration = registration;
       sink = sink;
     }
 
@@ -153,9 +153,9 @@ module _ {S : Type 0} (h : Handlers S) (s : State S) (ready : is_ready s ≡ tru
         → length bytes ≤ 2 ^ 31 → SendsFront command bytes a.written b.written
         → HasFlushed {T = Unit {0}} a.faults b.faults (Err e)
         → HasFed a.turns b.turns (questions_since a.desk.calls b.desk.calls) (Ok told)
-        → (a.turns.spent ≤ a.turns.limit → b.turns.spent ≤ b.turns.limit) → KeepsDesk a.desk b.desk → b.origin ≡ a.origin
+        → (a.turns.spent ≤ a.turns.limit → b.turns.spent ≤ b.turns.limit) → GoesOn a.desk b.desk → b.origin ≡ a.origin
         → Takes (cursor_rules h) s frame t new_rest a b (Err e)
-    exchange_takes_cut told e fed bound sends flushed turns bounded keeps sink =
+    exchange_takes_cut told e fed bound sends flushed turns bounded registration sink =
         let apart : e ≢ serve.TurnLimit = λ is. flushed.no_turn_limit (ap Err is) in
         record {
           rest = new_rest;
@@ -168,7 +168,7 @@ module _ {S : Type 0} (h : Handlers S) (s : State S) (ready : is_ready s ≡ tru
           cause = flushed_cut e a.faults b.faults flushed;
           turns = spent_cut a.turns b.turns (questions_since a.desk.calls b.desk.calls) told e apart turns;
           bounded = bounded;
-          keeps = keeps;
+          registration = registration;
           sink = sink;
         }
 
@@ -176,9 +176,9 @@ module _ {S : Type 0} (h : Handlers S) (s : State S) (ready : is_ready s ≡ tru
         → WasFed (whole_rules h) s frames t rest (Some []) (Some bytes) o a.desk.calls b.desk.calls (Err e)
         → HasSinkCause {T = Progress} 0 0 (Err e) → b.written ≡ a.written → b.faults ≡ a.faults
         → HasFed {A = Progress} a.turns b.turns (questions_since a.desk.calls b.desk.calls) (Err e)
-        → (a.turns.spent ≤ a.turns.limit → b.turns.spent ≤ b.turns.limit) → KeepsDesk a.desk b.desk → b.origin ≡ a.origin
+        → (a.turns.spent ≤ a.turns.limit → b.turns.spent ≤ b.turns.limit) → GoesOn a.desk b.desk → b.origin ≡ a.origin
         → Takes (cursor_rules h) s frame t new_rest a b (Err e)
-    exchange_takes_lost e fed cause written faults turns bounded keeps sink = record {
+    exchange_takes_lost e fed cause written faults turns bounded registration sink = record {
       rest = new_rest;
       fed = subst (λ v. WasFed (cursor_rules h) s frame t new_rest a.written v [] a.desk.calls b.desk.calls (Err e)) (sym written)
           (exchange_lost is_ready awaits (whole_table h) (whole_lawful h) s ready typed command frames asks frame m carries asked t rest
@@ -188,7 +188,7 @@ module _ {S : Type 0} (h : Handlers S) (s : State S) (ready : is_ready s ≡ tru
       cause = subst (λ f. HasSinkCause {T = Progress} a.faults f (Err e)) (sym faults) (no_fault e a.faults cause);
       turns = turns;
       bounded = bounded;
-      keeps = keeps;
+      registration = registration;
       sink = sink;
     }
 

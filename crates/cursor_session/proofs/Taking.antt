@@ -2,7 +2,7 @@
 use Rattle.std.proofs.Common.{◌≡◌, ◌≢◌, ℕ, ◌≤◌, Bool, List, [], ◌++◌, ◌⊎◌, inl, inr, Option, Some, None, Result, Ok, Err, refl, sym, ap, subst, ◌∙◌, append_assoc, append-nil, take, drop, arith}
 use Rattle.pg_messages.specs.Frames.{IsUnfinished}
 use Rattle.pg_messages.proofs.OneReading.{division_kept}
-use Rattle.pg_handlers.proofs.Desks.{keeps_none, keeps_then}
+use Rattle.pg_handlers.proofs.Desks.{goes_on_none, goes_on_then}
 use Rattle.pg_handlers.specs.declared.desk.DeskCall.{DeskCall}
 use Rattle.pg_handlers.specs.Answer.{Goes}
 use Rattle.pg_handlers.specs.Lawful.{IsLawful}
@@ -45,7 +45,7 @@ module _ {T : Type 0} (rules : Rules T) where
     };
     turns = spending.no_turn a.turns a.desk.calls;
     bounded = λ within. within;
-    keeps = keeps_none a.desk;
+    registration = goes_on_none a.desk;
     sink = refl;
   }
 
@@ -97,7 +97,7 @@ module _ {T : Type 0} (rules : Rules T) (lawful : IsLawful rules.table rules.awa
     cause = x.cause;
     turns = x.turns;
     bounded = x.bounded;
-    keeps = x.keeps;
+    registration = x.registration;
     sink = x.sink;
   }
   takes_all s text t new_rest more other a b (Err serve.TurnLimit) ended x = record {
@@ -107,7 +107,7 @@ module _ {T : Type 0} (rules : Rules T) (lawful : IsLawful rules.table rules.awa
     cause = x.cause;
     turns = x.turns;
     bounded = x.bounded;
-    keeps = x.keeps;
+    registration = x.registration;
     sink = x.sink;
   }
   takes_all s text t new_rest more other a b (Err serve.ReadFault) ended x = record {
@@ -117,7 +117,7 @@ module _ {T : Type 0} (rules : Rules T) (lawful : IsLawful rules.table rules.awa
     cause = x.cause;
     turns = x.turns;
     bounded = x.bounded;
-    keeps = x.keeps;
+    registration = x.registration;
     sink = x.sink;
   }
   takes_all s text t new_rest more other a b (Err serve.WriteFault) ended x = record {
@@ -127,7 +127,7 @@ module _ {T : Type 0} (rules : Rules T) (lawful : IsLawful rules.table rules.awa
     cause = x.cause;
     turns = x.turns;
     bounded = x.bounded;
-    keeps = x.keeps;
+    registration = x.registration;
     sink = x.sink;
   }
   takes_all s text t new_rest more other a b (Err serve.NoMemory) ended x = record {
@@ -137,7 +137,7 @@ module _ {T : Type 0} (rules : Rules T) (lawful : IsLawful rules.table rules.awa
     cause = x.cause;
     turns = x.turns;
     bounded = x.bounded;
-    keeps = x.keeps;
+    registration = x.registration;
     sink = x.sink;
   }
 
@@ -160,7 +160,7 @@ module _ {T : Type 0} (rules : Rules T) (lawful : IsLawful rules.table rules.awa
         turns = spending.fed_then a.turns b.turns c.turns a.desk.calls b.desk.calls c.desk.calls x.fed.1.called behind.0 result
             x.fed.1.grown behind.1 x.turns y.turns;
         bounded = λ within. y.bounded (x.bounded within);
-        keeps = keeps_then a.desk b.desk c.desk x.keeps y.keeps;
+        registration = goes_on_then a.desk b.desk c.desk x.registration y.registration;
         sink = y.sink ∙ x.sink;
       }
 
@@ -179,7 +179,7 @@ no_memory rules s text t rest a = record {
   };
   turns = inl (spending.no_turn a.turns a.desk.calls);
   bounded = λ within. within;
-  keeps = keeps_none a.desk;
+  registration = goes_on_none a.desk;
   sink = refl;
 }
 

@@ -6,7 +6,7 @@ use Rattle.pg_messages.specs.Replies.{replies_bytes}
 use Rattle.pg_messages.specs.Frames.{IsFrame, IsUnfinished, IsGoodHeader, header_len, told_len}
 use Rattle.pg_portal.specs.declared.client.PgWireConnectionState.{PgWireConnectionState}
 use Rattle.pg_handlers.specs.declared.ends.Turns.{Turns}
-use Rattle.pg_handlers.specs.Desk.{DeskTold, KeepsDesk}
+use Rattle.pg_handlers.specs.Desk.{DeskTold, GoesOn}
 use Rattle.pg_handlers.specs.Handlers.{Handlers}
 use Rattle.pg_handlers.specs.Questions.{questions_since}
 use Rattle.pg_handlers.specs.State.{State}
@@ -114,7 +114,7 @@ pub record Takes {T : Type 0} (rules : Rules T) (s : T) (text : List ℕ) (new_s
   pub cause : HasSinkCause before.faults after.faults result
   pub turns : HasFed before.turns after.turns (questions_since before.desk.calls after.desk.calls) result
   pub bounded : before.turns.spent ≤ before.turns.limit → after.turns.spent ≤ after.turns.limit
-  pub keeps : KeepsDesk before.desk after.desk
+  pub registration : GoesOn before.desk after.desk
   pub sink : after.origin ≡ before.origin
 
 -- What was written has grown by the replies to a command, where these bytes are those to its messages; or by a front of them.

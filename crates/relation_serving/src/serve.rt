@@ -2,7 +2,7 @@
 
 ghost use Rattle.std.specs.Prelude.{◌≡◌, ◌++◌, List, IfOk, OnOk};
 ghost use Rattle.std.specs.Arc.{arc_value};
-ghost use Rattle.pg_handlers.specs.Desk.{KeepsDesk};
+ghost use Rattle.pg_handlers.specs.Desk.{GoesOn};
 ghost use Rattle.pg_handlers.specs.Questions.{questions_since};
 ghost use Rattle.pg_handlers.specs.State.{first_state};
 ghost use Rattle.pg_handlers.specs.declared.desk.DeskCall.{DeskCall};
@@ -70,7 +70,7 @@ pub fn serve_relations_on<D: CancelDesk, S: Source, K: Sink>(
     ensures reads { ReadsGaveBytes (S.left source.old) (S.left source.new) (S.reads source.old)
         (S.reads source.new) }
 
-    ensures keeps { KeepsDesk (D.told desk.old) (D.told desk.new) }
+    ensures registration { GoesOn (D.told desk.old) (D.told desk.new) }
     ensures source { S.origin source.new ≡ S.origin source.old }
     ensures sink { K.origin sink.new ≡ K.origin sink.old }
 {
@@ -115,7 +115,7 @@ fn serve_by<H: PgWireServerHandlers, D: CancelDesk, S: Source, K: Sink>(
         (counts_of S.reads S.faults K.faults source.new sink.new) }
     ensures reads { ReadsGaveBytes (S.left source.old) (S.left source.new) (S.reads source.old)
         (S.reads source.new) }
-    ensures keeps { KeepsDesk (D.told desk.old) (D.told desk.new) }
+    ensures registration { GoesOn (D.told desk.old) (D.told desk.new) }
     ensures source { S.origin source.new ≡ S.origin source.old }
     ensures sink { K.origin sink.new ≡ K.origin sink.old }
 {

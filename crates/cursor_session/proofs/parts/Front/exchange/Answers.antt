@@ -40,7 +40,7 @@ returns-in-Ok-send_replies-clause-took g c = λ frame m carries asked.
     (subst (λ x. SendsReplies c.args.command.now x a.written b.written) same r.ok)
     (λ more. ap (λ l. l ++ held) (exchange_left (g.H.PgWireServerHandlers.told old.handlers) s ready c.args.command.now frames
     c.requires.asks new.state new.rest (Some []) (Some c.feed.new.sink) old.unsent k l c.in-Ok.progress more fed) ∙ holds)
-    r.cause f.turns f.bounded f.keeps r.sink)
+    r.cause f.turns f.bounded f.registration r.sink)
 
 pub returns-in-Ok-send_replies-clause-stands : goal.returns-in-Ok-send_replies-clause-stands
 returns-in-Ok-send_replies-clause-stands g c = λ more.
@@ -94,7 +94,7 @@ returns-in-Ok-clause-took g c = λ frame m carries asked.
     new.state new.rest (new.rest ++ held) c.feed.new.sink old.unsent a b sent c.in-Ok.progress c.in-Err-send_replies.error fed
     (subst (λ x. length x ≤ 2 ^ 31) same c.bytes.ensures.bound)
     (subst (λ x. SendsFront c.args.command.now x a.written b.written) same r.err)
-    r.cause f.turns f.bounded f.keeps r.sink)
+    r.cause f.turns f.bounded f.registration r.sink)
 
 pub returns-clause-took : goal.returns-clause-took
 returns-clause-took g c = λ frame m carries asked.
@@ -120,4 +120,4 @@ returns-clause-took g c = λ frame m carries asked.
     (Err c.in-Err.error)) c.self.view_is
     (exchange_takes_lost (g.H.PgWireServerHandlers.told old.handlers) s ready c.args.command.now frames c.requires.asks frame m carries
     asked new.state new.rest (new.rest ++ held) c.feed.new.sink old.unsent a b sent c.in-Err.error fed f.cause refl refl f.turns f.bounded
-    f.keeps refl)
+    f.registration refl)

@@ -22,7 +22,7 @@ returns-clause-took g c =
     new.state (new.rest ++ held) a b c.feed.result) c.self.view_is
     (pass_takes (g.H.PgWireServerHandlers.told old.handlers) old.state (old.rest ++ c.args.bytes.now) c.args.owed new.state new.rest
     (new.rest ++ held) old.unsent a b c.feed.result begun (ap (λ v. v.inner.unsent) c.self.view_is ∙ c.requires.quiet.sent)
-    (ap (λ l. new.rest ++ l) none ∙ append-nil new.rest) f.fed f.cause f.turns f.bounded f.keeps f.sink)
+    (ap (λ l. new.rest ++ l) none ∙ append-nil new.rest) f.fed f.cause f.turns f.bounded f.registration f.sink)
 
 pub returns-clause-stands : goal.returns-clause-stands
 returns-clause-stands g c = λ more.
