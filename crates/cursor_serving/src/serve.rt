@@ -124,6 +124,7 @@ fn serve_by<H: PgWireServerHandlers, D: CancelDesk, S: Source, K: Sink>(
 {
     let store = MemPortalStore::new(alloc);
     let (pid, key) = desk.identity();
+    let key = key.copy_of()?;
     let mut front = CursorSession::new(alloc, handlers, store, pid, key)?;
     serve(alloc, &mut front, desk, source, sink, turn_limit)
 }

@@ -7,6 +7,7 @@ ghost use Rattle.pg_handlers.specs.State.{first_state};
 ghost use Rattle.pg_session.specs.Session.{is_more};
 
 use crate::parts::Front;
+use pg_messages::SecretKey;
 use pg_portal::PortalStore;
 use pg_serve::Conversation;
 use pg_session::{
@@ -58,13 +59,13 @@ impl<
     >,
 > CursorSession<H, St> {
     /// A front of a session that awaits the startup packet of a client, who is told this pid and
-    /// key. Its store is empty. The only error is want of memory.
+    /// key, in 3.0 the key's first four bytes. Its store is empty. The only error is want of memory.
     pub fn new(
         alloc: Global,
         handlers: Arc<H>,
         store: St,
         pid: i32,
-        key: [u8; 4],
+        key: SecretKey,
     ) -> Result<CursorSession<H, St>, AllocError>
         requires empty { St.maps store ≡ no_maps }
         ensures { IfOk result (λ session. session ≡ record {

@@ -3,7 +3,7 @@
 ghost use Rattle.std.specs.Prelude.{◌≡◌, IfOk};
 ghost use Rattle.std.specs.Arc.{arc_value};
 
-use crate::fixtures::{KEY, STARTED, STARTUP, joined};
+use crate::fixtures::{STARTED, STARTUP, joined, key};
 use pg_cancel::{ConnectionHandle, ConnectionManager, Door};
 use pg_handlers::{NoRows, NoopHandler, QueryState, SimpleQueryHandler, Turn};
 use pg_messages::{PgList, SecretKey};
@@ -244,7 +244,7 @@ impl Registry {
         ensures manager { self.new.manager ≡ self.old.manager }
         ensures issued { IfOk result (λ handle. handle.issuer ≡ arc_value self.old.manager) }
     {
-        let key = SecretKey::try_new(alloc, &KEY)?;
+        let key = key(alloc)?;
         match self.manager.register(rt, &mut self.door, pid, key) {
             Ok(handle) => Ok(handle),
             Err(_) => Err(Fail::from("no registration")),
@@ -268,7 +268,7 @@ impl Registry {
         let manager = Arc::try_clone(&self.manager)?;
         let flags = Arc::try_clone(flags)?;
         let handle = self.register(rt, alloc, 8)?;
-        let key = SecretKey::try_new(alloc, &KEY)?;
+        let key = key(alloc)?;
         Ok(Canceler {
             manager,
             handle,
