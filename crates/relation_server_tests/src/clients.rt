@@ -16,7 +16,10 @@ pub(crate) const KEY: [u8; 4] = [1, 2, 3, 4];
 /// A startup packet of version 3.0 with `user` `demo`.
 pub(crate) const STARTUP: &[u8] = b"\0\0\0\x13\0\x03\0\0user\0demo\0\0";
 
-/// That; a statement, a portal and all rows of `shifts`, as binary; Sync; Terminate.
+/// The same of version 3.2.
+pub(crate) const STARTUP_3_2: &[u8] = b"\0\0\0\x13\0\x03\0\x02user\0demo\0\0";
+
+/// A startup packet of 3.0; a statement, a portal and all rows of `shifts`, as binary; Sync; Terminate.
 pub(crate) const FIRST_PATH: &[u8] = b"\0\0\0\x13\0\x03\0\0user\0demo\0\0\
 P\0\0\0\x0e\0shifts\0\0\0\
 B\0\0\0\x0e\0\0\0\0\0\0\0\x01\0\x01\
