@@ -21,11 +21,12 @@ use Rattle.pg_portal.specs.declared.portal.Format.{Format}
 use Rattle.pg_portal.specs.declared.portal.Format.TheVariants as format
 use Rattle.pg_portal.specs.declared.store.Entry.{Entry}
 use Rattle.pg_portal.specs.Told.{value_under}
+use Rattle.pg_handlers.specs.declared.desk.DeskCall.{DeskCall}
 use Rattle.pg_handlers.specs.Answer.{Answer, Next, Goes, Ends, Stops, continued, conversation, left_by}
 use Rattle.pg_handlers.specs.Effect.{UntilSync, refuses, silent, settle}
 use Rattle.pg_handlers.specs.Errors.{unsupported_version}
 use Rattle.pg_handlers.specs.Replies.{Replies, startup_replies}
-use Rattle.pg_handlers.specs.StartupRows.{no_encryption, accepts, started_session}
+use Rattle.pg_handlers.specs.StartupRows.{no_encryption, accepts, told_key, narrowing, started_session}
 use Rattle.pg_handlers.specs.State.{first_state}
 use Rattle.pg_handlers.specs.Table.{whole_table, awaits}
 use Rattle.pg_handlers.proofs.GoodStores.{Each}
@@ -82,17 +83,17 @@ module _ (relations : List Relation) (within : HoldIntervals relations) (even : 
   encryption_is messages encryption.PostgresGss others h = (tt, h)
 
   -- behind a startup packet that is accepted
-  accepted_is : (answers : List Bool) (m : Startup) (messages : List PgWireFrontendMessage) (version : ProtocolVersion)
-      → AllByRecursion (Picks IsFormat) messages
-      → let behind = conversation table answers (started_session first version m) messages in
+  accepted_is : (left : List Bool) (calls : List DeskCall) (m : Startup) (messages : List PgWireFrontendMessage)
+      → (version : ProtocolVersion) → AllByRecursion (Picks IsFormat) messages
+      → let behind = conversation table left (started_session first version m) messages in
       RunIs (client.Startup m ∷ messages) (record {
-        replies = startup_replies pid key ++ behind.replies;
-        calls = behind.calls;
+        replies = startup_replies pid (told_key version key) ++ behind.replies;
+        calls = calls ++ behind.calls;
         next = behind.next;
       })
-  accepted_is answers m messages version picked =
+  accepted_is left calls m messages version picked =
       let style = style_of (client.Startup m ∷ messages) in
-      let run = started_is relations within even IsFormat text_is style answers (started_session first version m) messages refl
+      let run = started_is relations within even IsFormat text_is style left (started_session first version m) messages refl
       (refl, none_yet (PortalIs relations within even IsFormat text_is style)) picked in
       ((tt, (tt, (tt, (tt, (tt, (tt, (tt, run.0))))))), started_last (client.Startup m ∷ messages) _ run.1)
 
@@ -102,8 +103,9 @@ module _ (relations : List Relation) (within : HoldIntervals relations) (even : 
       else silent (refuses first (wire.UserError (unsupported_version m.code)))) in
       RunIs (client.Startup m ∷ messages)
       (continued given given.next (λ t. conversation table (left_by given.calls answers) t messages))
-  startup_is answers m messages true c picked = accepted_is answers m messages PROTOCOL3_0 picked
-  startup_is answers m messages false true picked = accepted_is answers m messages PROTOCOL3_2 picked
+  startup_is answers m messages true c picked =
+      let calls = narrowing PROTOCOL3_0 key in accepted_is (left_by calls answers) calls m messages PROTOCOL3_0 picked
+  startup_is answers m messages false true picked = accepted_is answers [] m messages PROTOCOL3_2 picked
   startup_is answers m messages false false picked = ((tt, tt), tt)
 
   conversation_is : (answers : List Bool) (messages : List PgWireFrontendMessage) → AllByRecursion (Picks IsFormat) messages

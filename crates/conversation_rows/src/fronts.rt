@@ -1,7 +1,6 @@
 //! How far a conversation comes that is cut off.
 
 use crate::script::Step;
-use pg_session::DeskCall;
 
 /// The front of a conversation.
 #[derive(Clone, Copy)]
@@ -38,7 +37,7 @@ impl Front {
                 replies: self.replies.saturating_add(len),
                 ..self
             },
-            Step::Call(_) => Front {
+            Step::Ask | Step::Call => Front {
                 calls: self.calls.saturating_add(1),
                 ..self
             },
@@ -120,7 +119,7 @@ pub fn front_of_turns(steps: &[Step], turns: usize) -> Front {
     for step in steps {
         match *step {
             Step::Client(len) if len > left => return front.whole(),
-            Step::Call(DeskCall::Ask(_)) if left == 0 => return front,
+            Step::Ask if left == 0 => return front,
             _ => left = left.saturating_sub(turns_of(*step)),
         }
         front = front.with(*step);
@@ -132,7 +131,7 @@ pub fn front_of_turns(steps: &[Step], turns: usize) -> Front {
 pub fn turns_of(step: Step) -> usize {
     match step {
         Step::Client(len) => len,
-        Step::Call(DeskCall::Ask(_)) => 1,
+        Step::Ask => 1,
         _ => 0,
     }
 }

@@ -24,12 +24,13 @@ use std::alloc::Global;
 use std::io;
 
 /// The words that lines begin with.
-const WORDS: [&str; 21] = [
+const WORDS: [&str; 22] = [
     "row",
     "define",
     "client",
     "reply",
     "call",
+    "key",
     "end",
     "reads",
     "turns",

@@ -2,7 +2,7 @@
 
 use crate::counting::CountingSink;
 use crate::handlers::serve_told;
-use crate::script::Step;
+use crate::script::{Step, key_of};
 use pg_messages::{PgBytes, PgList};
 use pg_serve::{FlakyDesk, MemorySink, MemorySource};
 use pg_session::{EndKind, ServeError};
@@ -72,17 +72,22 @@ fn place_of<'t>(
     lines: &[&'t str],
     source: MemorySource,
     plan: Plan<'t>,
-) -> Result<Place, AllocError> {
+) -> Result<Place, Fault<'t>> {
     let sink = sink_of(alloc, plan.sink_fails)?;
-    let desk = desk_of(alloc, told(lines, "answers").unwrap_or(""), plan.desk_fails)?;
+    let desk = desk_of(alloc, lines, plan.desk_fails)?;
     Ok(Place { source, sink, desk })
 }
 
-/// The registry, with the answers that words tell.
-fn desk_of(alloc: Global, words: &str, fails: Option<u64>) -> Result<FlakyDesk, AllocError> {
-    let answers = answers_of(alloc, words)?;
+/// The registry, with the key and the answers that the lines tell.
+fn desk_of<'t>(
+    alloc: Global,
+    lines: &[&'t str],
+    fails: Option<u64>,
+) -> Result<FlakyDesk, Fault<'t>> {
+    let key = key_of(alloc, told(lines, "key").unwrap_or("01020304"))?;
+    let answers = answers_of(alloc, told(lines, "answers").unwrap_or(""))?;
     let fails = PgList::from_vec(up_to_one(alloc, fails)?);
-    Ok(FlakyDesk::new(alloc, 7, [1, 2, 3, 4], answers, fails))
+    Ok(FlakyDesk::new(alloc, 7, key, answers, fails))
 }
 
 /// The answers that words tell.

@@ -1,7 +1,7 @@
 //! What is otherwise than expected of a conversation.
 
 use crate::finding::Difference;
-use crate::script::{Script, Step};
+use crate::script::Script;
 use crate::serving::{Ending, Outcome};
 use pg_session::{DeskCall, EndKind, ServeError};
 use row_files::common_len;
@@ -64,7 +64,7 @@ fn other_content(script: &Script, sent: &[u8], calls: &[DeskCall]) -> Option<Dif
     if !replies.starts_with(sent) {
         return Some(Difference::Replies(common_len(sent, replies)));
     }
-    if !are_first_calls(calls, script.steps.as_slice()) {
+    if !script.calls.as_slice().starts_with(calls) {
         return Some(Difference::Calls);
     }
     None
@@ -112,22 +112,6 @@ fn are_lengths(lengths: &[usize], words: &str) -> bool {
         count = count.saturating_add(1);
     }
     count == lengths.len()
-}
-
-/// Whether these are the first registry calls of a conversation, in their order.
-fn are_first_calls(calls: &[DeskCall], steps: &[Step]) -> bool {
-    let mut count = 0usize;
-    for step in steps {
-        if let Step::Call(call) = *step {
-            match calls.get(count) {
-                None => return true,
-                Some(made) if *made == call => {}
-                Some(_) => return false,
-            }
-            count = count.saturating_add(1);
-        }
-    }
-    count == calls.len()
 }
 
 /// The word for an end.

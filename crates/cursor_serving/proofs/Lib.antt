@@ -1,3 +1,1 @@
-pub mod RelationQuestions
 pub mod Questions
-pub mod Complete

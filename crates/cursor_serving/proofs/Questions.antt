@@ -18,7 +18,7 @@ use Rattle.relation_tables.specs.declared.Relation.{Relation}
 use Rattle.relation_tables.specs.declared.RelationStatement.{RelationStatement}
 use Rattle.relation_tables.specs.RelationHandler.{relation_handlers}
 use Rattle.relation_serving.specs.Completeness.{runs, most_unready}
-use Rattle.cursor_serving.proofs.RelationQuestions.{may_ask, message_few, conversation_few, relations_owe, few_questions}
+use Rattle.relation_serving.proofs.Questions.{may_ask, message_few, conversation_few, relations_owe, few_questions}
 
 -- ---- the cursor table
 

@@ -21,6 +21,7 @@ pub fn serve_by<H: PgWireServerHandlers>(
     let handlers = Arc::new(alloc, handlers)?;
     let store = MemPortalStore::new(alloc);
     let (pid, key) = desk.identity();
+    let key = key.copy_of()?;
     let mut front = CursorSession::new(alloc, handlers, store, pid, key)?;
     Ok(serve(alloc, &mut front, desk, source, sink, turns))
 }

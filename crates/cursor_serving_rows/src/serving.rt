@@ -4,7 +4,7 @@ use crate::handlers::serve_by;
 use crate::row::Row;
 use cursor_serving::serve_cursors_on;
 use pg_handlers::ScriptDesk;
-use pg_messages::{PgBytes, PgList};
+use pg_messages::{PgBytes, PgList, SecretKey};
 use pg_serve::{MemorySink, MemorySource};
 use pg_session::{EndKind, ServeError};
 use relation_handlers::RelationTable;
@@ -133,10 +133,13 @@ fn turns_of<'t>(row: &Row<'t>) -> Result<u64, Fault<'t>> {
 }
 
 /// The registry, under pid 7 and key 01020304, with the answers that words tell.
-fn desk_of(alloc: Global, words: &str) -> Result<ScriptDesk, AllocError> {
+fn desk_of<'t>(alloc: Global, words: &str) -> Result<ScriptDesk, Fault<'t>> {
+    let Ok(key) = SecretKey::try_new(alloc, &[1, 2, 3, 4]) else {
+        return Err(Fault::NoMemory);
+    };
     let mut answers = PgList::new(alloc);
     for word in words.split_whitespace() {
         answers.push(word == "yes")?;
     }
-    Ok(ScriptDesk::new(alloc, 7, [1, 2, 3, 4], answers))
+    Ok(ScriptDesk::new(alloc, 7, key, answers))
 }

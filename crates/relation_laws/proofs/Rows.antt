@@ -59,7 +59,7 @@ use Rattle.pg_handlers.specs.Questions.{Verdict, Passed, Canceled, Unanswered, q
 use Rattle.pg_handlers.specs.Replies.{Replies, ready, row_replies, done_with, row_description}
 use Rattle.pg_handlers.specs.ResponseRows.{sent, unless_error, copy_replies, copy_count, copy_end, copy_out_reply, not_empty as not_empty_data}
 use Rattle.pg_handlers.specs.SimpleRows.{followed, answered, answered_all, query_polled, query_run}
-use Rattle.pg_handlers.specs.StartupRows.{no_encryption, on_cancel_request, accepts, started_session, startup_row}
+use Rattle.pg_handlers.specs.StartupRows.{no_encryption, on_cancel_request, accepts, tells_less, started_session, startup_row}
 use Rattle.pg_handlers.specs.State.{State, in_phase, with_status, with_portal, with_statement, without_statement, without_portal, without_unnamed_portal}
 use Rattle.pg_handlers.specs.Table.{statement_row, ready_row, awaiting_sync_row, row, message_row}
 use Rattle.pg_handlers.proofs.GoodStores.{Each, each_after_insert, each_after_remove, none_empty, one_value}
@@ -199,6 +199,11 @@ module _ (relations : List Relation) (answers : List Bool) (s : Talk) (g : IsSer
   none_asked : (o : Outcome RelationStatement) → Heeds [] o
   none_asked o at = absurd (omega (arith, at.1))
 
+  narrow_asks_none : (b : Bool) (o : Outcome RelationStatement) → Heeds (if b then desk.Narrow ∷ [] else []) o
+  narrow_asks_none true o (zero, inside, at) = cc
+  narrow_asks_none true o (suc k, inside, at) = absurd (omega (arith, inside))
+  narrow_asks_none false o at = none_asked o at
+
   start_asks_none : (o : Outcome RelationStatement) → Heeds (desk.Start ∷ []) o
   start_asks_none o (zero, inside, at) = cc
   start_asks_none o (suc k, inside, at) = absurd (omega (arith, inside))
@@ -234,7 +239,7 @@ module _ (relations : List Relation) (answers : List Bool) (s : Talk) (g : IsSer
         record { portals = no_portals (started_session s version m) refl; startup = λ e. let f : ⊥ = cc in absurd f },
         λ o. tt,
       ),
-      none_asked (Done (started_session s version m)),
+      narrow_asks_none (tells_less version s.info.secret_key) (Done (started_session s version m)),
     )
 
     version_is : (m : Startup) (a b : Bool) → (m.code == protocol_3_0) ≡ a → (m.code == protocol_3_2) ≡ b

@@ -11,18 +11,14 @@ use Rattle.pg_handlers.specs.declared.ends.EndKind.{EndKind}
 use Rattle.pg_handlers.specs.Answer.{Next, answers_of, conversation}
 use Rattle.pg_handlers.specs.Questions.{questions, questions_since}
 use Rattle.pg_handlers.specs.State.{State, first_state}
-use Rattle.pg_handlers.specs.Table.{whole_table}
 use Rattle.pg_session.specs.declared.ends.ServeError.{ServeError}
 use Rattle.pg_session.specs.declared.ends.ServeError.TheVariants as fault
-use Rattle.pg_session.specs.Session.{whole_rules}
+use Rattle.pg_session.specs.Run.{Rules}
 use Rattle.pg_session.proofs.Spending.{since_grown}
-use Rattle.pg_serve.specs.Serving.{Counts, HasCause, ReadsGaveBytes, IsRunOfTaken, IsStoppedRunOfTaken}
+use Rattle.pg_serve.specs.Serving.{Counts, HasCause, ReadsGaveBytes, WentSo, IsRunOfTaken, IsStoppedRunOfTaken}
 use Rattle.relation_tables.specs.declared.Relation.{Relation}
 use Rattle.relation_tables.specs.declared.RelationStatement.{RelationStatement}
-use Rattle.relation_tables.specs.RelationHandler.{relation_handlers}
 use Rattle.relation_serving.specs.Completeness.{is_run_message, runs, most_unready, IsComplete}
-use Rattle.relation_serving.specs.Serving.{WentByWhole}
-use Rattle.relation_serving.proofs.Questions.{few_questions}
 
 -- ---- the frames of a front
 
@@ -53,8 +49,14 @@ runs_of_front text front messages mid rest d e h =
 
 -- ---- the questions of what was taken
 
+-- By these rules no more questions are asked than messages run a query, each as often as a relation is unready.
+abbrev pub AsksFew : List Relation → Rules (State RelationStatement) → Type 0
+AsksFew relations rules = (answers : List Bool) (s : State RelationStatement) (messages : List PgWireFrontendMessage)
+    → questions (conversation rules.table answers s messages).calls ≤ runs messages * most_unready relations
+
 -- what was taken of a text, its frames, and the calls of their answer
-record IsTaken (relations : List Relation) (s : State RelationStatement) (text rest : List ℕ) (calls : List DeskCall) : Type 0 where
+record IsTaken (rules : Rules (State RelationStatement)) (s : State RelationStatement) (text rest : List ℕ) (calls : List DeskCall)
+    : Type 0 where
   taken : List ℕ
   messages : List PgWireFrontendMessage
   unfinished : List ℕ
@@ -62,20 +64,20 @@ record IsTaken (relations : List Relation) (s : State RelationStatement) (text r
   next : Next (State RelationStatement)
   all : text ≡ taken ++ rest
   division : DividesInto true taken messages unfinished
-  answered : conversation (whole_table (relation_handlers relations)) (answers_of calls) s messages ≡ record {
+  answered : conversation rules.table (answers_of calls) s messages ≡ record {
     replies = replies;
     calls = calls;
     next = next;
   }
 
-asked_within : (relations : List Relation) (s : State RelationStatement) (text rest : List ℕ) (calls : List DeskCall)
-    → IsTaken relations s text rest calls
+asked_within : (relations : List Relation) (rules : Rules (State RelationStatement)) → AsksFew relations rules
+    → (s : State RelationStatement) (text rest : List ℕ) (calls : List DeskCall) → IsTaken rules s text rest calls
     → (messages : List PgWireFrontendMessage) (last : List ℕ) → DividesInto true text messages last → HasNoFrame messages last
     → questions calls ≤ runs messages * most_unready relations
-asked_within relations s text rest calls t messages last d h =
+asked_within relations rules few s text rest calls t messages last d h =
     let asked : questions calls ≤ runs t.messages * most_unready relations =
     subst (λ (k : List DeskCall). questions k ≤ runs t.messages * most_unready relations) (ap (λ a. a.calls) t.answered)
-    (few_questions relations (answers_of calls) s t.messages) in
+    (few (answers_of calls) s t.messages) in
     let kept : DividesInto true text t.messages (t.unfinished ++ rest) =
     subst (λ x. DividesInto true x t.messages (t.unfinished ++ rest)) (sym t.all)
     (division_kept t.messages true t.taken t.unfinished rest t.division) in
@@ -83,12 +85,12 @@ asked_within relations s text rest calls t messages last d h =
     let more = mul-le (runs t.messages) (most_unready relations) (runs messages) (most_unready relations) front (omega arith) in
     omega (arith, asked, more)
 
-taken_by_run : (relations : List Relation) (registration : ℤ
+taken_by_run : (rules : Rules (State RelationStatement)) (registration : ℤ
     × List ℕ) (text : List ℕ) (new_left old new : Option (List ℕ)) (calls : List DeskCall)
-    → IsRunOfTaken (whole_rules (relation_handlers relations)) (first_state registration.0 registration.1) (Some text) new_left old new
+    → IsRunOfTaken rules (first_state registration.0 registration.1) (Some text) new_left old new
     calls
-    → (rest : List ℕ) × IsTaken relations (first_state registration.0 registration.1) text rest calls
-taken_by_run relations registration text new_left old new calls x = (
+    → (rest : List ℕ) × IsTaken rules (first_state registration.0 registration.1) text rest calls
+taken_by_run rules registration text new_left old new calls x = (
   x.1.0,
   record {
     taken = x.0;
@@ -102,12 +104,12 @@ taken_by_run relations registration text new_left old new calls x = (
   },
 )
 
-taken_by_stopped_run : (relations : List Relation) (registration : ℤ
+taken_by_stopped_run : (rules : Rules (State RelationStatement)) (registration : ℤ
     × List ℕ) (text : List ℕ) (new_left old new : Option (List ℕ)) (calls : List DeskCall)
-    → IsStoppedRunOfTaken (whole_rules (relation_handlers relations)) (first_state registration.0 registration.1) (Some text) new_left old
+    → IsStoppedRunOfTaken rules (first_state registration.0 registration.1) (Some text) new_left old
     new calls
-    → (rest : List ℕ) × IsTaken relations (first_state registration.0 registration.1) text rest calls
-taken_by_stopped_run relations registration text new_left old new calls x = (
+    → (rest : List ℕ) × IsTaken rules (first_state registration.0 registration.1) text rest calls
+taken_by_stopped_run rules registration text new_left old new calls x = (
   x.1.0,
   record {
     taken = x.0;
@@ -139,31 +141,40 @@ pub complete_at_want : (relations : List Relation) (turns : ℕ) (left : Option 
 complete_at_want relations turns None before after = tt
 complete_at_want relations turns (Some text) before after = λ messages rest d h enough fits sound. tt
 
-pub complete_serving : (relations : List Relation) (registration : ℤ
-    × List ℕ) (turns : ℕ) (answer : Result EndKind ServeError) (left new_left old new : Option (List ℕ)) (calls : List DeskCall)
-    (before after : Counts) → HasCause answer turns (questions calls) before after → ReadsGaveBytes left new_left before.reads after.reads
-    → WentByWhole relations registration answer left new_left old new calls → IsComplete relations turns answer left before after
-complete_serving relations registration turns answer None new_left old new calls before after cause gave went = tt
-complete_serving relations registration turns (Ok kind) (Some text) new_left old new calls before after cause gave went =
-    λ messages rest d h enough fits sound. tt
-complete_serving relations registration turns (Err fault.ReadFault) (Some text) new_left old new calls before after cause gave went =
-    λ messages rest d h enough fits sound. absurd (sound (inl cause))
-complete_serving relations registration turns (Err fault.WriteFault) (Some text) new_left old new calls before after cause gave went =
-    λ messages rest d h enough fits sound. absurd (sound (inr cause))
-complete_serving relations registration turns (Err fault.NoMemory) (Some text) new_left old new calls before after cause gave went =
-    complete_at_want relations turns (Some text) before after
-complete_serving relations registration turns (Err fault.TurnLimit) (Some text) new_left old new calls before after cause gave (inl went) =
-    λ messages rest d h enough fits sound.
-    let t = taken_by_run relations registration text new_left old new calls went in
-    let few = asked_within relations (first_state registration.0 registration.1) text t.0 calls t.1 messages rest d h in
-    unspent before.reads after.reads turns (questions calls) (runs messages * most_unready relations) (length text) (length gave.0)
-    (cause fits) gave.2 few enough
-complete_serving relations registration turns (Err fault.TurnLimit) (Some text) new_left old new calls before after cause gave (inr went) =
-    λ messages rest d h enough fits sound.
-    let t = taken_by_stopped_run relations registration text new_left old new calls went in
-    let few = asked_within relations (first_state registration.0 registration.1) text t.0 calls t.1 messages rest d h in
-    unspent before.reads after.reads turns (questions calls) (runs messages * most_unready relations) (length text) (length gave.0)
-    (cause fits) gave.2 few enough
+module _ (relations : List Relation) (rules : Rules (State RelationStatement)) (few : AsksFew relations rules)
+    (registration : ℤ × List ℕ) (turns : ℕ) where
+  -- the state of a conversation that begins
+  abbrev first : State RelationStatement
+  first = first_state registration.0 registration.1
+
+  -- where so many questions were asked of what was taken, not all turns were spent
+  enough_left : (text : List ℕ) (new_left : Option (List ℕ)) (calls : List DeskCall) (before after : Counts)
+      → ReadsGaveBytes (Some text) new_left before.reads after.reads → HasCause (Err fault.TurnLimit) turns (questions calls) before after
+      → (rest : List ℕ) → IsTaken rules first text rest calls → IsComplete relations turns (Err fault.TurnLimit) (Some text) before after
+  enough_left text new_left calls before after gave cause rest t = λ messages last d h enough fits sound.
+      let within = asked_within relations rules few first text rest calls t messages last d h in
+      unspent before.reads after.reads turns (questions calls) (runs messages * most_unready relations) (length text) (length gave.0)
+      (cause fits) gave.2 within enough
+
+  pub complete_serving : (answer : Result EndKind ServeError) (left new_left old new : Option (List ℕ)) (calls : List DeskCall)
+      (before after : Counts) → HasCause answer turns (questions calls) before after
+      → ReadsGaveBytes left new_left before.reads after.reads → WentSo rules first answer left new_left old new calls
+      → IsComplete relations turns answer left before after
+  complete_serving answer None new_left old new calls before after cause gave went = tt
+  complete_serving (Ok kind) (Some text) new_left old new calls before after cause gave went =
+      λ messages rest d h enough fits sound. tt
+  complete_serving (Err fault.ReadFault) (Some text) new_left old new calls before after cause gave went =
+      λ messages rest d h enough fits sound. absurd (sound (inl cause))
+  complete_serving (Err fault.WriteFault) (Some text) new_left old new calls before after cause gave went =
+      λ messages rest d h enough fits sound. absurd (sound (inr cause))
+  complete_serving (Err fault.NoMemory) (Some text) new_left old new calls before after cause gave went =
+      complete_at_want relations turns (Some text) before after
+  complete_serving (Err fault.TurnLimit) (Some text) new_left old new calls before after cause gave (inl went) =
+      let t = taken_by_run rules registration text new_left old new calls went in
+      enough_left text new_left calls before after gave cause t.0 t.1
+  complete_serving (Err fault.TurnLimit) (Some text) new_left old new calls before after cause gave (inr went) =
+      let t = taken_by_stopped_run rules registration text new_left old new calls went in
+      enough_left text new_left calls before after gave cause t.0 t.1
 
 -- the cause by the calls that were made
 pub cause_of_calls : (answer : Result EndKind ServeError) (turns : ℕ) (calls new_calls made : List DeskCall) (before after : Counts)

@@ -1,4 +1,4 @@
 pub mod Complete
 pub mod CoreServing
-mod Questions
+pub mod Questions
 mod Speaking

@@ -1,5 +1,5 @@
 -- A conversation over relations asks no more questions than its messages that run a query, each as often as a relation is unready.
-use Rattle.std.proofs.Common.{◌≡◌, ◌≤◌, ◌+◌, ℕ, zero, suc, cond, arith, Bool, true, false, ℤ, List, [], ◌∷◌, Option, Some, None, refl}
+use Rattle.std.proofs.Common.{◌≡◌, ◌≤◌, ◌+◌, if◌then◌else◌, ℕ, zero, suc, cond, arith, Bool, true, false, ℤ, List, [], ◌∷◌, Option, Some, None, refl}
 use Rattle.std.specs.Prelude.{◌*◌, ◌==◌}
 use Rattle.std.proofs.Math.Nat.{add-mul, one-mul}
 use Rattle.std.specs.FinMap as fin
@@ -9,6 +9,7 @@ use Rattle.pg_messages.specs.declared.startup.CancelRequest.{CancelRequest}
 use Rattle.pg_messages.specs.declared.frontend.PgWireFrontendMessage.{PgWireFrontendMessage}
 use Rattle.pg_messages.specs.declared.frontend.PgWireFrontendMessage.TheVariants as client
 use Rattle.pg_messages.specs.Frames.{protocol_3_0, protocol_3_2}
+use Rattle.pg_messages.specs.declared.codec.ProtocolVersion.TheVariants.{PROTOCOL3_0}
 use Rattle.pg_portal.specs.declared.client.ClientInfo.{ClientInfo}
 use Rattle.pg_portal.specs.declared.client.PgWireConnectionState.{PgWireConnectionState}
 use Rattle.pg_portal.specs.declared.client.PgWireConnectionState.TheVariants as phase
@@ -20,6 +21,7 @@ use Rattle.pg_portal.specs.Texts.{is_blank}
 use Rattle.pg_portal.specs.Told.{BoundPortal, TablePortal, Stage, Unstarted, Started, Ended}
 use Rattle.pg_portal.specs.Errors.{info_of}
 use Rattle.pg_handlers.specs.declared.desk.DeskCall.{DeskCall}
+use Rattle.pg_handlers.specs.declared.desk.DeskCall.TheVariants as desk
 use Rattle.pg_handlers.specs.Answer.{Answer, Table, Next, Goes, Ends, Stops, conversation, continued, left_by}
 use Rattle.pg_handlers.specs.Errors.{is_fatal}
 use Rattle.pg_handlers.specs.Replies.{Replies}
@@ -28,7 +30,7 @@ use Rattle.pg_handlers.specs.ExecuteRow.{executed_portal, executed_entry}
 use Rattle.pg_handlers.specs.Handlers.{Handlers}
 use Rattle.pg_handlers.specs.Questions.{questions, questioned, started}
 use Rattle.pg_handlers.specs.SimpleRows.{on_query}
-use Rattle.pg_handlers.specs.StartupRows.{on_cancel_request, startup_row}
+use Rattle.pg_handlers.specs.StartupRows.{on_cancel_request, tells_less, startup_row}
 use Rattle.pg_handlers.specs.State.{State}
 use Rattle.pg_handlers.specs.Table.{ready_row, row, scope_in, whole_table}
 use Rattle.pg_session.proofs.Spending.{questions-append}
@@ -50,7 +52,7 @@ questioned_few (suc owed) (true ∷ answers) = omega arith
 questioned_few (suc owed) (false ∷ answers) = let p = questioned_few owed answers in omega (arith, p)
 
 -- no query of these handlers owes more polls
-record OweAtMost {S : Type 0} (h : Handlers S) (most : ℕ) : Type 0 where
+pub record OweAtMost {S : Type 0} (h : Handlers S) (most : ℕ) : Type 0 where
   extended : (client : ClientInfo) (p : BoundPortal S) (limit : ℤ) → (h.extended.query client p limit).owes ≤ most
   simple : (client : ClientInfo) (query : List ℕ) → (h.simple client query).owes ≤ most
 
@@ -87,15 +89,20 @@ cancel_asks_nothing : (S : Type 0) (answers : List Bool) (m : CancelRequest) →
 cancel_asks_nothing S [] m = omega arith
 cancel_asks_nothing S (told ∷ answers) m = omega arith
 
+narrowing_asks_nothing : (b : Bool) → questions (if b then desk.Narrow ∷ [] else []) ≤ 0
+narrowing_asks_nothing true = omega arith
+narrowing_asks_nothing false = omega arith
+
 startup_asks_nothing : {S : Type 0} (answers : List Bool) (s : State S) (m : PgWireFrontendMessage)
     → questions (startup_row answers s m).calls ≤ 0
 startup_asks_nothing {S} answers s (client.CancelRequest m) = cancel_asks_nothing S answers m
 startup_asks_nothing answers s (client.Startup m) =
-    either_row (m.code == protocol_3_0) _ _ 0 (omega arith) (either_row (m.code == protocol_3_2) _ _ 0 (omega arith) (omega arith))
+    either_row (m.code == protocol_3_0) _ _ 0 (narrowing_asks_nothing (tells_less PROTOCOL3_0 s.info.secret_key))
+    (either_row (m.code == protocol_3_2) _ _ 0 (omega arith) (omega arith))
 startup_asks_nothing answers s _ = omega arith
 
 -- as many questions as a message may ask
-abbrev may_ask : ℕ → PgWireFrontendMessage → ℕ
+abbrev pub may_ask : ℕ → PgWireFrontendMessage → ℕ
 may_ask most m = cond (is_run_message m) most 0
 
 ready_few : {S : Type 0} (h : Handlers S) (most : ℕ) → OweAtMost h most → (answers : List Bool) (s : State S) (m : PgWireFrontendMessage)
@@ -125,7 +132,8 @@ settled_calls scope replies calls (Failed s e) = either_answer (is_fatal (info_o
 settled_calls scope replies calls (Over kind) = refl
 settled_calls scope replies calls Stopped = refl
 
-message_few : {S : Type 0} (h : Handlers S) (most : ℕ) → OweAtMost h most → (answers : List Bool) (s : State S) (m : PgWireFrontendMessage)
+pub message_few : {S : Type 0} (h : Handlers S) (most : ℕ) → OweAtMost h most → (answers : List Bool) (s : State S)
+    (m : PgWireFrontendMessage)
     → questions (whole_table h answers s m).calls ≤ may_ask most m
 message_few h most few answers s m =
     let c = row h answers s m s.info.state in
@@ -147,7 +155,7 @@ continued_few runs_it a (Goes t) f n most p q = rw (questions-append a.calls (f 
 continued_few runs_it a (Ends kind) f n most p q = let e = one_more runs_it (questions a.calls) 0 n most p (omega arith) in omega (arith, e)
 continued_few runs_it a Stops f n most p q = let e = one_more runs_it (questions a.calls) 0 n most p (omega arith) in omega (arith, e)
 
-conversation_few : {T : Type 0} (table : Table T) (most : ℕ)
+pub conversation_few : {T : Type 0} (table : Table T) (most : ℕ)
     → ((answers : List Bool) (s : T) (m : PgWireFrontendMessage) → questions (table answers s m).calls ≤ may_ask most m)
     → (answers : List Bool) (s : T) (messages : List PgWireFrontendMessage)
     → questions (conversation table answers s messages).calls ≤ runs messages * most
@@ -187,7 +195,7 @@ simple_few : (relations : List Relation) (client : ClientInfo) (text : List ℕ)
 simple_few relations client text None = copy_or_unknown_few relations client text (copied_name (words text))
 simple_few relations client text (Some means) = query_of_few relations client format.UnifiedText means
 
-relations_owe : (relations : List Relation) → OweAtMost (relation_handlers relations) (most_unready relations)
+pub relations_owe : (relations : List Relation) → OweAtMost (relation_handlers relations) (most_unready relations)
 relations_owe relations = record {
   extended = λ client p limit. query_of_few relations client p.result_column_format p.statement.statement;
   simple = λ client query. simple_few relations client (trimmed query) (meaning relations query);

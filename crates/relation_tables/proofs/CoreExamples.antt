@@ -10,7 +10,7 @@ use Rattle.pg_messages.specs.declared.backend.PgWireBackendMessage.{PgWireBacken
 use Rattle.pg_messages.specs.declared.backend.PgWireBackendMessage.TheVariants as server
 use Rattle.pg_messages.specs.declared.response.TransactionStatus.TheVariants as status
 use Rattle.pg_messages.specs.Status.{to_error_state}
-use Rattle.pg_messages.specs.Frames.{protocol_3_2}
+use Rattle.pg_messages.specs.Frames.{protocol_3_0, protocol_3_2}
 use Rattle.pg_text.specs.declared.field_format.FieldFormat.TheVariants as field
 use Rattle.pg_portal.specs.declared.store.Entry.TheVariants as entry
 use Rattle.pg_handlers.specs.declared.desk.DeskCall.TheVariants as desk
@@ -183,6 +183,15 @@ module _ (s : CoreState) where
         next = Goes (record s { phase = Ready; transaction = status.Idle });
       }
   started_32 = refl
+
+  -- a key of five bytes, of which a client of 3.0 is told four
+  narrowed_30 : core_startup (record setting { key = 1 ∷ 2 ∷ 3 ∷ 4 ∷ 5 ∷ [] }) s (startup protocol_3_0)
+      ≡ record {
+        replies = startup_replies (pos 7) (1 ∷ 2 ∷ 3 ∷ 4 ∷ []);
+        calls = desk.Narrow ∷ [];
+        next = Goes (record s { phase = Ready; transaction = status.Idle });
+      }
+  narrowed_30 = refl
 
   refused_version : core_startup setting s (startup 131072)
       ≡ record {

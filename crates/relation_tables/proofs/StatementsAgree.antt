@@ -29,9 +29,9 @@ use Rattle.pg_portal.specs.Texts.{is_blank}
 use Rattle.pg_portal.specs.Told.{TablePortal}
 use Rattle.pg_handlers.specs.declared.ends.EndKind.TheVariants as end
 use Rattle.pg_handlers.specs.Errors.{values_for_empty, too_few_codes, unsupported_version}
-use Rattle.pg_handlers.specs.Replies.{startup_replies, ready, error_reply, row_description}
+use Rattle.pg_handlers.specs.Replies.{ready, startup_replies, error_reply, row_description}
 use Rattle.pg_handlers.specs.State.{State, without_statement, without_portal}
-use Rattle.pg_handlers.specs.StartupRows.{on_startup, accepts}
+use Rattle.pg_handlers.specs.StartupRows.{on_startup, accepts, told_key, narrowing}
 use Rattle.pg_handlers.specs.ExtendedRows.{on_parse, parsed, parse_complete, on_bind, bound, bind_complete, bound_portal, on_describe, described_statement, described_portal, statement_description, portal_description, on_close, on_sync}
 use Rattle.pg_handlers.specs.Effect.{says, refuses, silent}
 use Rattle.relation_tables.specs.declared.RelationStatement.{RelationStatement}
@@ -39,7 +39,7 @@ use Rattle.relation_tables.specs.Errors.{unknown_relation}
 use Rattle.relation_tables.specs.Queries.{trimmed}
 use Rattle.relation_tables.specs.Relations.{meaning, column, columns_of}
 use Rattle.relation_tables.specs.RelationHandler.{told_extended, fields_of, or_unknown, given_types}
-use Rattle.relation_tables.specs.CoreTable.{Setting, CoreState, Ready, CoreStatement, CorePortal, core_says, core_refuses, core_ends, core_startup, core_parse, core_parsed, core_stored, core_bind, core_bound, core_put, core_describe, core_described_statement, core_described_portal, core_statement_told, core_portal_told, core_close, core_sync}
+use Rattle.relation_tables.specs.CoreTable.{Setting, CoreState, NotStarted, Ready, CoreStatement, CorePortal, core_says, core_refuses, core_ends, core_accepts, core_startup, core_parse, core_parsed, core_stored, core_bind, core_bound, core_put, core_describe, core_described_statement, core_described_portal, core_statement_told, core_portal_told, core_close, core_sync}
 use Rattle.relation_tables.specs.Premises.{AreBinary}
 use Rattle.relation_tables.proofs.Names.{AgreeEntry}
 use Rattle.relation_tables.proofs.Agreement.{Agrees, AgreeRow, AgreeCall, StatementAgrees, PortalAgrees, says_agree, refuses_agree, either_row, with_statement_agrees, with_portal_agrees, without_statement_agrees, without_portal_agrees, IsBinaryIn}
@@ -49,24 +49,32 @@ module _ (waits : Bool) (setting : Setting) (s : State RelationStatement) (c : C
   -- ---- Startup
 
   -- The packet is awaited no more where it is accepted.
-  pub accepted : (out : Bool) (version : ProtocolVersion) (m : Startup) → AgreeCall out setting (accepts s version m)
-      (core_says (startup_replies setting.pid setting.key) (record c { phase = Ready; transaction = status.Idle }))
-  accepted out version m = record {
-    replies = ap₂ (λ pid key. startup_replies pid key) h.pid h.key;
-    calls = refl;
-    next = record { pid = h.pid; key = h.key; phase = tt; status = refl; statements = h.statements; portals = h.portals };
+  pub accepted : c.phase ≡ NotStarted → (out : Bool) (version : ProtocolVersion) (m : Startup)
+      → AgreeCall out setting (accepts s version m) (core_accepts setting c version)
+  accepted at out version m = record {
+    replies = ap₂ (λ pid key. startup_replies pid (told_key version key)) h.pid (h.key at);
+    calls = ap (λ key. narrowing version key) (h.key at);
+    next = record {
+      pid = h.pid;
+      key = λ e. let f : ⊥ = cc in absurd f;
+      phase = tt;
+      status = refl;
+      statements = h.statements;
+      portals = h.portals;
+    };
   }
 
-  pub startup_agrees : (out : Bool) (m : Startup) → AgreeCall out setting (on_startup s m) (core_startup setting c m)
-  startup_agrees out m = by_code (m.code == protocol_3_0) (m.code == protocol_3_2)
+  pub startup_agrees : c.phase ≡ NotStarted → (out : Bool) (m : Startup)
+      → AgreeCall out setting (on_startup s m) (core_startup setting c m)
+  startup_agrees at out m = by_code (m.code == protocol_3_0) (m.code == protocol_3_2)
     where
       by_code : (a b : Bool)
           → AgreeCall out setting (if a then accepts s PROTOCOL3_0 m else if b then accepts s PROTOCOL3_2 m
           else silent (refuses s (wire.UserError (unsupported_version m.code))))
-          (if a || b then core_says (startup_replies setting.pid setting.key) (record c { phase = Ready; transaction = status.Idle })
+          (if a then core_accepts setting c PROTOCOL3_0 else if b then core_accepts setting c PROTOCOL3_2
           else core_ends (error_reply (unsupported_version m.code) ∷ []) end.Fatal)
-      by_code true b = accepted out PROTOCOL3_0 m
-      by_code false true = accepted out PROTOCOL3_2 m
+      by_code true b = accepted at out PROTOCOL3_0 m
+      by_code false true = accepted at out PROTOCOL3_2 m
       by_code false false = record { replies = refl; calls = refl; next = refl }
 
   -- ---- Parse
@@ -163,7 +171,7 @@ module _ (waits : Bool) (setting : Setting) (s : State RelationStatement) (c : C
         calls = refl;
         next = record {
           pid = gone.pid;
-          key = gone.key;
+          key = λ e. let f : ⊥ = cc in absurd f;
           phase = tt;
           status = gone.status;
           statements = gone.statements;

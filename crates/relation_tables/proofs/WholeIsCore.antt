@@ -22,12 +22,12 @@ use Rattle.relation_tables.proofs.StatementsAgree.{startup_agrees, parse_agrees,
 
 module _ (waits : Bool) (setting : Setting) (even : HaveEvenRows setting.relations) where
   in_startup : (answers : List Bool) (s : State RelationStatement) (c : CoreState) (m : PgWireFrontendMessage) → IsCore m
-      → Agrees waits setting s c
+      → c.phase ≡ NotStarted → Agrees waits setting s c
       → Agree (Agrees waits setting) (settle UntilSync (startup_row answers s m)) (core_row setting answers c NotStarted m)
-  in_startup answers s c (client.Startup m) is h = startup_agrees waits setting s c h waits m
-  in_startup answers s c (client.SslNegotiation m) is h = absurd is
-  in_startup answers s c (client.CancelRequest m) is h = absurd is
-  in_startup answers s c _ is h = says_agree waits setting [] s c h
+  in_startup answers s c (client.Startup m) is at h = startup_agrees waits setting s c h at waits m
+  in_startup answers s c (client.SslNegotiation m) is at h = absurd is
+  in_startup answers s c (client.CancelRequest m) is at h = absurd is
+  in_startup answers s c _ is at h = says_agree waits setting [] s c h
 
   in_ready : (answers : List Bool) (s : State RelationStatement) (c : CoreState) (m : PgWireFrontendMessage) → IsCore m
       → Agrees waits setting s c
@@ -52,16 +52,16 @@ module _ (waits : Bool) (setting : Setting) (even : HaveEvenRows setting.relatio
 
   in_phase : (answers : List Bool) (s : State RelationStatement) (c : CoreState) (m : PgWireFrontendMessage) → IsCore m
       → Agrees waits setting s c
-      → (x : PgWireConnectionState) (y : CorePhase) → AgreePhase waits x y
+      → (x : PgWireConnectionState) (y : CorePhase) → c.phase ≡ y → AgreePhase waits x y
       → Agree (Agrees waits setting) (settle (scope_in x m) (row (relation_handlers setting.relations) answers s m x))
       (core_row setting answers c y m)
-  in_phase answers s c m is h phase.AwaitingStartup NotStarted e = in_startup answers s c m is h
-  in_phase answers s c m is h phase.ReadyForQuery Ready e = in_ready answers s c m is h
-  in_phase answers s c m is h phase.AwaitingSync AwaitingSync e = in_awaiting_sync answers s c m h
-  in_phase answers s c m is h _ _ e = absurd e
+  in_phase answers s c m is h phase.AwaitingStartup NotStarted at e = in_startup answers s c m is at h
+  in_phase answers s c m is h phase.ReadyForQuery Ready at e = in_ready answers s c m is h
+  in_phase answers s c m is h phase.AwaitingSync AwaitingSync at e = in_awaiting_sync answers s c m h
+  in_phase answers s c m is h _ _ at e = absurd e
 
   pub tables_agree : TablesAgree IsCore (Agrees waits setting) (whole_table (relation_handlers setting.relations)) (core_table setting)
-  tables_agree answers s c m is h = in_phase answers s c m is h s.info.state c.phase h.phase
+  tables_agree answers s c m is h = in_phase answers s c m is h s.info.state c.phase refl h.phase
 
   -- ---- what a reader sees of states that agree
 
@@ -85,7 +85,7 @@ module _ (waits : Bool) (setting : Setting) (even : HaveEvenRows setting.relatio
 pub first_agree : (setting : Setting) → Agrees true setting (first_state setting.pid setting.key) first_core_state
 first_agree setting = record {
   pid = refl;
-  key = refl;
+  key = λ e. refl;
   phase = refl;
   status = refl;
   statements = agree_empty StatementAgrees;

@@ -2,6 +2,8 @@
 use Rattle.std.specs.Prelude.{ℕ, ℤ, Bool, true, false, List, [], ◌∷◌, ◌++◌, ◌+◌, ◌==◌, ◌&&◌, ◌||◌, Option, Some, None, if◌then◌else◌, nat_le, nat_lt, map, length, drop, codes, is_some}
 use Rattle.std.specs.FinMap as fin
 use Rattle.pg_interval.specs.declared.pg_interval.Interval.{Interval}
+use Rattle.pg_messages.specs.declared.codec.ProtocolVersion.{ProtocolVersion}
+use Rattle.pg_messages.specs.declared.codec.ProtocolVersion.TheVariants.{PROTOCOL3_0, PROTOCOL3_2}
 use Rattle.pg_messages.specs.declared.startup.Startup.{Startup}
 use Rattle.pg_messages.specs.declared.extendedquery.Parse.{Parse}
 use Rattle.pg_messages.specs.declared.extendedquery.Bind.{Bind}
@@ -36,6 +38,7 @@ use Rattle.pg_handlers.specs.Answer.{Answer, Table, Goes, Ends, Stops}
 use Rattle.pg_handlers.specs.Errors.{values_for_empty, too_few_codes, unsupported_version}
 use Rattle.pg_handlers.specs.Questions.{Verdict, Passed, Canceled, Unanswered, started}
 use Rattle.pg_handlers.specs.Replies.{Replies, error_reply, ready, startup_replies, done, done_with, row_replies, row_description}
+use Rattle.pg_handlers.specs.StartupRows.{told_key, narrowing}
 use Rattle.relation_tables.specs.declared.Relation.{Relation}
 use Rattle.relation_tables.specs.declared.RelationStatement.{RelationStatement}
 use Rattle.relation_tables.specs.declared.RelationStatement.TheVariants as statement
@@ -94,11 +97,19 @@ core_ends replies kind = record { replies = replies; calls = []; next = Ends kin
 abbrev pub is_served : ℕ → Bool
 is_served code = code == protocol_3_0 || code == protocol_3_2
 
+-- A version that is served: a client of 3.0 is told the first four bytes of the key, and the registration is narrowed to them where it has more.
+abbrev pub core_accepts : Setting → CoreState → ProtocolVersion → Answer CoreState
+core_accepts setting s version = record {
+  replies = startup_replies setting.pid (told_key version setting.key);
+  calls = narrowing version setting.key;
+  next = Goes (record s { phase = Ready; transaction = status.Idle });
+}
+
 -- Startup: a version that is served, or the end. Nothing is stored yet.
 abbrev pub core_startup : Setting → CoreState → Startup → Answer CoreState
 core_startup setting s m =
-    if is_served m.code
-    then core_says (startup_replies setting.pid setting.key) (record s { phase = Ready; transaction = status.Idle })
+    if m.code == protocol_3_0 then core_accepts setting s PROTOCOL3_0
+    else if m.code == protocol_3_2 then core_accepts setting s PROTOCOL3_2
     else core_ends (error_reply (unsupported_version m.code) ∷ []) end.Fatal
 
 abbrev pub core_stored : CoreState → List ℕ → Entry CoreStatement → Answer CoreState

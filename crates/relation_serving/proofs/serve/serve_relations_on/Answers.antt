@@ -9,6 +9,7 @@ use Rattle.pg_serve.specs.Serving.{WentSo, IsRunOverTaken, EndsAtLast, counts_of
 use Rattle.pg_serve.proofs.Serving.{none_went}
 use Rattle.relation_serving.proofs.CoreServing.{went_by_tables}
 use Rattle.relation_serving.proofs.Complete.{complete_serving, complete_at_want, cause_of_calls, none_gave}
+use Rattle.relation_serving.proofs.Questions.{few_questions}
 use Rattle.relation_serving.proofs.serve.serve_relations_on.Goals as goal
 
 pub returns-in_default-clause-went : goal.returns-in_default-clause-went
@@ -49,7 +50,8 @@ returns-clause-complete g c =
     let went = c.serve_by.ensures.went in
     let before = counts_of g.S.Source.reads g.S.Source.faults g.K.Sink.faults c.args.source.now c.args.sink.now in
     let after = counts_of g.S.Source.reads g.S.Source.faults g.K.Sink.faults c.serve_by.new.source c.serve_by.new.sink in
-    complete_serving c.args.relations.now (g.D.CancelDesk.told c.args.desk.now).registration c.args.turn_limit c.serve_by.result
+    complete_serving c.args.relations.now (whole_rules (relation_handlers c.args.relations.now)) (few_questions c.args.relations.now)
+    (g.D.CancelDesk.told c.args.desk.now).registration c.args.turn_limit c.serve_by.result
     (g.S.Source.left c.args.source.now) (g.S.Source.left c.serve_by.new.source) (g.K.Sink.written c.args.sink.now)
     (g.K.Sink.written c.serve_by.new.sink) went.0 before after
     (cause_of_calls c.serve_by.result c.args.turn_limit (g.D.CancelDesk.told c.args.desk.now).calls
