@@ -69,7 +69,8 @@ HasServedFile s (File e) old new = IsFileCause e old.file new.file old.file_faul
 HasServedFile s (Conversation answer) old new = (relations : List Relation) × IsToldBy old.file new.file relations
     × WasServed s relations answer old.client new.client old.out new.out old.counts new.counts
 
--- What came of the words: nothing where they are no `serve`; or what comes of it. There may be no memory for its key; then nothing was done.
+-- What came of the words: nothing where they are no `serve`; or what comes of it. There may be no memory for its key; then nothing was
+-- done.
 abbrev pub HasRun : Option Command → Outcome → Surroundings → Surroundings → Type 0
 HasRun (Some (command.Serve s)) outcome old new = HasServedFile s outcome old new
     ⊎ ((outcome ≡ Conversation (Err NoMemory)) × (new ≡ old))
