@@ -34,6 +34,8 @@ def call_fields(call):
     """One byte, and of a cancel call Int32 pid and the key behind it."""
     if call == "start":
         return [("call", b"\0")]
+    if call == "narrow":
+        return [("call", b"\5")]
     if call[0] == "ask":
         return [("call", b"\2" if call[1] else b"\1")]
     _, pid, key, yes = call
@@ -84,17 +86,19 @@ def session(name):
 
 
 KEY = bytes.fromhex("01020304")
+LONG_KEY = bytes(range(256))
 CLIENT, REPLIES = session("first path, as bytes")
 EMPTY = fields(7, KEY, b"", [], b"", "InputEnd")
 FIRST = fields(7, KEY, CLIENT, ["start"], REPLIES, "Terminate")
 CALLS = fields(
     -2147483648,
-    bytes.fromhex("ff0000fe"),
+    bytes.fromhex("ff0000fe05"),
     b"\1\2\3",
-    ["start", ("ask", False), ("ask", True), ("cancel", 2147483647, KEY, False), ("cancel", -1, b"\0\0\0\0", True)],
+    ["narrow", "start", ("ask", False), ("ask", True), ("cancel", 2147483647, KEY, False), ("cancel", -1, b"\0\0\0\0", True)],
     b"\4\5",
     "CancelServed",
 )
+LONG = fields(2147483647, LONG_KEY, b"\0", [("cancel", -2147483648, LONG_KEY[::-1], True), "narrow"], b"", "Terminate")
 
 
 def changed(made, place, field):
@@ -123,13 +127,13 @@ def turned(title, made):
                 other = bytes(b ^ 1 if i == j else b for j, b in enumerate(field))
                 row(f"{here}, byte {i} turned", "read", changed(made, place, other), "bad field 0")
         elif name.endswith("key length"):
-            for length in (0, 3, 5, 256, 257, 32768, 65535):
+            for length in (0, 3, 257, 260, 32767, 32768, 65535):
                 row(f"{here} {length}", "read", changed(made, place, uint(length, 2)), f"bad field {at}")
         elif name in ("client count", "reply count"):
             for count in (behind + 1, 2**31, 2**32 - 1, 2**32, 2**63 - 1, 2**63, 2**64 - 1):
                 row(f"{here} {count}", "read", changed(made, place, uint(count, 8)), "truncated")
         elif name == "call":
-            for byte in (5, 6, 127, 128, 255):
+            for byte in (6, 7, 127, 128, 255):
                 row(f"{here} byte {byte}", "read", changed(made, place, uint(byte, 1)), f"bad field {at}")
         elif name == "end":
             for byte in (5, 6, 127, 128, 255):
@@ -143,14 +147,22 @@ def main():
     row("empty recording", "read", text(EMPTY), "ok")
     row("recording of the first path", "read", text(FIRST), "ok")
     row("recording with each call", "read", text(CALLS), "ok")
+    row("recording with keys of 256 bytes", "read", text(LONG), "ok")
+    for length in (5, 8, 255, 256):
+        row(f"empty recording under a key of {length} bytes", "read",
+            text(fields(7, LONG_KEY[:length], b"", [], b"", "InputEnd")), "ok")
+    for call in ("start", ("ask", False), ("ask", True), "narrow", ("cancel", 7, KEY, False), ("cancel", 7, KEY, True)):
+        title = call if isinstance(call, str) else f"{call[0]} {'yes' if call[-1] else 'no'}"
+        row(f"recording with one {title}", "read", text(fields(7, KEY, b"", [call], b"", "InputEnd")), "ok")
     for end in ENDS:
         row(f"empty recording that ends {end}", "read", text(fields(7, KEY, b"", [], b"", end)), "ok")
-    print("\n# ---- every front of three good recordings")
+    print("\n# ---- every front of good recordings")
     row("empty recording", "fronts", text(EMPTY), "truncated")
     row("recording of the first path", "fronts", text(FIRST), "truncated")
     row("recording with each call", "fronts", text(CALLS), "truncated")
+    row("recording with keys of 256 bytes", "fronts", text(LONG), "truncated")
     print("\n# ---- bytes behind the end")
-    for title, made in (("empty", EMPTY), ("first path", FIRST), ("each call", CALLS)):
+    for title, made in (("empty", EMPTY), ("first path", FIRST), ("each call", CALLS), ("long keys", LONG)):
         row(f"{title}: a byte more", "read", text(made) + b"\0", f"trailing {len(text(made))}")
         row(f"{title}: twice", "read", text(made) * 2, f"trailing {len(text(made))}")
     print("\n# ---- fields cut at each byte")
@@ -167,7 +179,7 @@ def main():
         row(f"empty: call count {count}", "read", changed(EMPTY, place, uint(count, 4)), "truncated")
     row("more calls than bytes left, and then an unknown byte", "read", front + uint(2**32 - 1, 4) + b"\0\0\7",
         f"bad field {len(front) + 6}")
-    row("fewer calls than there are", "read", changed(CALLS, [n for n, _ in CALLS].index("call count"), uint(4, 4)),
+    row("fewer calls than there are", "read", changed(CALLS, [n for n, _ in CALLS].index("call count"), uint(5, 4)),
         "truncated")
     print("\n# ---- what comes first from the left")
     row("two bytes that begin no recording", "read", b"XX", "truncated")

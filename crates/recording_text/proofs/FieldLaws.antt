@@ -1,11 +1,11 @@
 -- The fields of a recording: what is read is spelled so, and what is spelled so is read.
-use Rattle.std.proofs.Common.{◌≡◌, ℕ, ℤ, zero, suc, ◌+◌, ◌-◌, ◌^◌, ◌<◌, ◌≤◌, Bool, true, false, cond, eqb, ltb, List, [], ◌∷◌, ◌++◌, length, take, drop, Result, Ok, Err, refl, sym, ap, subst, ◌∙◌, append_assoc, arith}
+use Rattle.std.proofs.Common.{◌≡◌, ℕ, ℤ, zero, suc, ◌+◌, ◌-◌, ◌^◌, ◌<◌, ◌≤◌, Bool, true, false, ◌&&◌, cond, eqb, ltb, leb, List, [], ◌∷◌, ◌++◌, length, take, drop, Result, Ok, Err, refl, sym, ap, subst, ◌∙◌, append_assoc, arith}
 use Rattle.std.specs.Prelude.{FitsSigned}
 use Rattle.std.specs.List.{flat_map, AllByRecursion}
 use Rattle.std.specs.Int.{Width, w16, w32, w64, byte_len, from_be_bytes, to_be_bytes, cast_signed, cast_unsigned}
 use mir.Val.{bits}
 use mir.ValLaws.{of_z_fits}
-use Rattle.std.proofs.lemmas.Bool.{ltb-false, le-ltb, eqb-true, eq-eqb}
+use Rattle.std.proofs.lemmas.Bool.{ltb-false, le-ltb, le-leb, leb-true, eqb-true, eq-eqb, and_parts}
 use Rattle.std.proofs.lemmas.Int.{to_z-of_z, of_z-to_z}
 use Rattle.std.proofs.Math.Facts.{sfits_to_z}
 use Rattle.std.proofs.lemmas.List.{take_at, drop_at, take-append-drop, length-append, length-take}
@@ -20,7 +20,7 @@ use Rattle.pg_handlers.specs.declared.ends.EndKind.TheVariants as end
 use Rattle.recording_text.specs.declared.recording.ReadError.{ReadError}
 use Rattle.recording_text.specs.declared.recording.ReadError.TheVariants.{Truncated, BadField}
 use Rattle.recording_text.specs.Text.{count64, key_text, bytes_text, call_text, calls_text, end_byte, IsKey, IsCall}
-use Rattle.recording_text.specs.Judging.{◌>>=◌, Reading, both_at, as_at, items_at, bytes_at, number_at, signed_at, number_is_at, key_at, counted_at, registration_at, cancel_of, call_at, calls_at, end_at}
+use Rattle.recording_text.specs.Judging.{◌>>=◌, Reading, both_at, as_at, items_at, bytes_at, number_at, signed_at, number_is_at, key_len_at, key_at, counted_at, registration_at, cancel_of, call_at, calls_at, end_at}
 use Rattle.recording_text.proofs.Laws.{Reads, bind_ok, guard_ok, pass_ok, done, ok_is, err_is_not, Reads-both, Reads-as, items_take, items_again}
 
 -- ---- numbers
@@ -86,6 +86,19 @@ Reads-this w limit wide n all lt = record {
       rw (number_again w limit wide m rest (subst (λ (k : ℕ). k < limit) (sym same) lt), same_test) refl;
 }
 
+-- the length of a key
+Reads-key_len : (all : ℕ) → Reads (λ (n : ℕ). (4 ≤ n) × (n ≤ 256)) (λ (n : ℕ). count16 n) (key_len_at all)
+Reads-key_len all = record {
+  takes = λ bytes n rest fits e.
+      let a = bind_ok (number_at w16 bytes) (λ x. cond (leb 4 x.0 && leb x.0 256) (Ok x) (Err (BadField (all - length bytes)))) (n, rest) e in
+      let g = pass_ok (leb 4 a.0.0 && leb a.0.0 256) (BadField (all - length bytes)) a.0 (n, rest) a.2 in
+      let t = number_takes w16 (2 ^ 16) wide16 bytes a.0.0 a.0.1 fits a.1 in
+      let parts = and_parts (leb 4 a.0.0) (leb a.0.0 256) g.0 in
+      subst (λ (x : ℕ × List ℕ). (bytes ≡ count16 x.0 ++ x.1) × ((4 ≤ x.0) × (x.0 ≤ 256))) g.1 (t.0, leb-true _ _ parts.0, leb-true _ _ parts.1);
+  again = λ n rest good.
+      rw (number_again w16 (2 ^ 16) wide16 n rest (omega (arith, good.1)), le-leb _ _ good.0, le-leb _ _ good.1) refl;
+}
+
 -- ---- bytes
 
 bytes_take : (n : ℕ) (bytes front rest : List ℕ) → bytes_at n bytes ≡ Ok (front, rest) → (bytes ≡ front ++ rest) × (length front ≡ n)
@@ -119,7 +132,7 @@ Reads-behind Good s r base = record {
 
 pub Reads-key : (all : ℕ) → Reads IsKey key_text (key_at all)
 unfolding key_at
-Reads-key all = Reads-behind (λ n. n ≡ 4) count16 (number_is_at w16 4 all) (Reads-this w16 (2 ^ 16) wide16 4 all (omega arith))
+Reads-key all = Reads-behind (λ n. (4 ≤ n) × (n ≤ 256)) count16 (key_len_at all) (Reads-key_len all)
 
 pub Reads-counted : Reads (λ (bytes : List ℕ). length bytes < 2 ^ 64) bytes_text counted_at
 unfolding counted_at
@@ -161,7 +174,8 @@ call_takes all (suc zero ∷ bytes) call rest fits e = bare 1 bytes (desk.Ask fa
 call_takes all (suc (suc zero) ∷ bytes) call rest fits e = bare 2 bytes (desk.Ask true) call rest (refl, tt) e
 call_takes all (suc (suc (suc zero)) ∷ bytes) call rest fits e = cancel_take all 3 false bytes call rest fits (λ r. refl) e
 call_takes all (suc (suc (suc (suc zero))) ∷ bytes) call rest fits e = cancel_take all 4 true bytes call rest fits (λ r. refl) e
-call_takes all (suc (suc (suc (suc (suc byte)))) ∷ bytes) call rest fits e =
+call_takes all (suc (suc (suc (suc (suc zero)))) ∷ bytes) call rest fits e = bare 5 bytes desk.Narrow call rest (refl, tt) e
+call_takes all (suc (suc (suc (suc (suc (suc byte))))) ∷ bytes) call rest fits e =
     absurd (err_is_not (BadField (all - suc (length bytes))) (call, rest) e)
 
 call_again : (all : ℕ) (call : DeskCall) (rest : List ℕ) → IsCall call → call_at all (call_text call ++ rest) ≡ Ok (call, rest)
@@ -171,6 +185,7 @@ call_again all (desk.Ask false) rest good = refl
 call_again all (desk.Ask true) rest good = refl
 call_again all (desk.Cancel pid key false) rest good = rw ((Reads-registration all).again (pid, key) rest good) refl
 call_again all (desk.Cancel pid key true) rest good = rw ((Reads-registration all).again (pid, key) rest good) refl
+call_again all desk.Narrow rest good = refl
 
 pub Reads-call : (all : ℕ) → Reads IsCall call_text (call_at all)
 Reads-call all = record { takes = call_takes all; again = call_again all }

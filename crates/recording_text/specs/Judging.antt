@@ -1,6 +1,6 @@
 -- Which bytes are no recording text, and why: fields are judged from the left. A field is read as its value and the bytes behind it. Of
 -- `all` bytes, those from a field on tell its place.
-use Rattle.std.specs.Prelude.{◌≡◌, ◌⊎◌, ◌-◌, ℕ, ℤ, zero, suc, Bool, true, false, List, [], ◌∷◌, length, take, drop, Result, Ok, Err, nat_lt, ◌==◌, if◌then◌else◌}
+use Rattle.std.specs.Prelude.{◌≡◌, ◌⊎◌, ◌-◌, ℕ, ℤ, zero, suc, Bool, true, false, List, [], ◌∷◌, length, take, drop, Result, Ok, Err, nat_lt, nat_le, ◌==◌, ◌&&◌, if◌then◌else◌}
 use Rattle.std.specs.Int.{Width, w16, w32, w64, byte_len, from_be_bytes, cast_signed}
 use Rattle.pg_handlers.specs.declared.desk.DeskCall.{DeskCall}
 use Rattle.pg_handlers.specs.declared.desk.DeskCall.TheVariants as desk
@@ -71,9 +71,14 @@ number_is_at w n all bytes = number_at w bytes >>= λ x. if x.0 == n then Ok x e
 abbrev pub tag_at : ℕ → Reading ℕ
 tag_at all = number_is_at w32 tag all
 
--- the length of a key, which is 4, and as many bytes
+-- the length of a key, which is 4 to 256
+abbrev pub key_len_at : ℕ → Reading ℕ
+key_len_at all bytes = number_at w16 bytes
+    >>= λ x. if nat_le 4 x.0 && nat_le x.0 256 then Ok x else Err (BadField (all - length bytes))
+
+-- that length, and as many bytes
 unfoldable pub key_at : ℕ → Reading (List ℕ)
-key_at all bytes = number_is_at w16 4 all bytes >>= λ n. bytes_at n.0 n.1
+key_at all bytes = key_len_at all bytes >>= λ n. bytes_at n.0 n.1
 
 -- a count, and as many bytes
 unfoldable pub counted_at : Reading (List ℕ)
@@ -95,7 +100,8 @@ call_at all (suc zero ∷ rest) = Ok (desk.Ask false, rest)
 call_at all (suc (suc zero) ∷ rest) = Ok (desk.Ask true, rest)
 call_at all (suc (suc (suc zero)) ∷ rest) = as_at (cancel_of false) (registration_at all) rest
 call_at all (suc (suc (suc (suc zero))) ∷ rest) = as_at (cancel_of true) (registration_at all) rest
-call_at all (suc (suc (suc (suc (suc byte)))) ∷ rest) = Err (BadField (all - suc (length rest)))
+call_at all (suc (suc (suc (suc (suc zero)))) ∷ rest) = Ok (desk.Narrow, rest)
+call_at all (suc (suc (suc (suc (suc (suc byte))))) ∷ rest) = Err (BadField (all - suc (length rest)))
 
 -- a count, and as many calls
 unfoldable pub calls_at : ℕ → Reading (List DeskCall)

@@ -1,5 +1,5 @@
 -- Recording text: the bytes that a recording is kept as. Numbers are big-endian, and counts are unsigned.
-use Rattle.std.specs.Prelude.{ℕ, List, [], ◌∷◌, ◌++◌, ◌≡◌, ◌<◌, ◌^◌, Bool, true, false, length, FitsSigned}
+use Rattle.std.specs.Prelude.{ℕ, List, [], ◌∷◌, ◌++◌, ◌<◌, ◌≤◌, ◌^◌, Bool, true, false, length, FitsSigned}
 use Rattle.std.specs.List.{AllByRecursion, flat_map}
 use Rattle.std.specs.Int.{w32, w64, to_be_bytes}
 use Rattle.pg_messages.specs.Fields.{int32, count16, count32}
@@ -32,6 +32,7 @@ call_text (desk.Ask false) = 1 ∷ []
 call_text (desk.Ask true) = 2 ∷ []
 call_text (desk.Cancel pid key false) = 3 ∷ int32 pid ++ key_text key
 call_text (desk.Cancel pid key true) = 4 ∷ int32 pid ++ key_text key
+call_text desk.Narrow = 5 ∷ []
 
 -- calls: Int32 count, and one call after another
 abbrev pub calls_text : List DeskCall → List ℕ
@@ -50,15 +51,16 @@ abbrev pub recording_text : Recording → List ℕ
 recording_text r = count32 tag ++ int32 r.pid ++ key_text r.key ++ bytes_text r.client ++ calls_text r.calls ++ bytes_text r.replies
     ++ end_byte r.end ∷ []
 
--- a key that a recording holds, which has four bytes
+-- a key that a recording holds: 4 to 256 bytes
 abbrev pub IsKey : List ℕ → Type 0
-IsKey key = length key ≡ 4
+IsKey key = (4 ≤ length key) × (length key ≤ 256)
 
 -- a call that a recording holds
 abbrev pub IsCall : DeskCall → Type 0
 IsCall desk.Start = Unit {0}
 IsCall (desk.Ask told) = Unit {0}
 IsCall (desk.Cancel pid key told) = FitsSigned w32 pid × IsKey key
+IsCall desk.Narrow = Unit {0}
 
 -- What a recording text can tell: each recording does, but for one of 2 ^ 32 calls and more.
 pub record IsRecordable (r : Recording) : Type 0 where

@@ -1,14 +1,14 @@
 //! Recordings read.
 
-ghost use Rattle.std.specs.Prelude.{◌≡◌, ◌-◌, ℕ, length, IfOk, Ok};
+ghost use Rattle.std.specs.Prelude.{◌≡◌, ◌≤◌, ◌-◌, ℕ, length, IfOk, IfErr, Ok};
 ghost use Rattle.std.specs.Int.{w16, w32, w64};
 ghost use Rattle.recording_text.specs.declared.recording.Recording.{Recording};
-ghost use Rattle.recording_text.specs.Judging.{AnswersUnlessNoMemory, Gives, number_at, signed_at, number_is_at, bytes_at, key_at, counted_at, registration_at, call_at, calls_at, end_at, items_at, judged};
-ghost use Rattle.recording_text.specs.Text.{tag, recording_text, IsRecordable};
+ghost use Rattle.recording_text.specs.Judging.{AnswersUnlessNoMemory, Gives, number_at, signed_at, number_is_at, key_len_at, key_at, counted_at, registration_at, call_at, calls_at, end_at, items_at, judged};
+ghost use Rattle.recording_text.specs.Text.{tag, recording_text, IsKey, IsRecordable};
 
 use crate::recording::{ReadError, Recording};
 use pg_handlers::{DeskCall, EndKind};
-use pg_messages::{PgBytes, PgList};
+use pg_messages::{KeyError, PgBytes, PgList, SecretKey};
 use std::alloc::Global;
 
 /// What a recording begins with, the text `PGR1` as a number.
@@ -18,9 +18,9 @@ const TAG: u32 = 0x5047_5231;
 /// once.
 ///
 /// Fields are judged from the left. Truncated: a field's bytes aren't all there. BadField: the tag
-/// isn't `PGR1`, a key's length isn't 4, the byte of a call or of the end is above 4. Trailing:
-/// bytes stand behind the end. NoMemory: memory ran out; a count makes no room before its bytes or
-/// calls are seen to be there.
+/// isn't `PGR1`, a key's length isn't 4 to 256, the byte of a call is above 5, that of the end above
+/// 4. Trailing: bytes stand behind the end. NoMemory: memory ran out; a count makes no room before
+/// its bytes or calls are seen to be there.
 pub fn read_recording(alloc: Global, bytes: &[u8]) -> Result<Recording, ReadError>
     // What is read has these bytes as its text.
     ensures found { IfOk result (λ r. IsRecordable r × (bytes.now ≡ recording_text r)) }
@@ -42,7 +42,7 @@ fn whole(alloc: Global, bytes: &[u8]) -> Result<Recording, ReadError>
     let all = bytes.len();
     let (_, rest) = number_is(TAG, all, bytes)?;
     let (pid, rest) = signed(rest)?;
-    let (key, rest) = key(all, rest)?;
+    let (key, rest) = key(alloc, all, rest)?;
     let (client, rest) = counted(alloc, rest)?;
     let (calls, rest) = calls(alloc, all, rest)?;
     let (replies, rest) = counted(alloc, rest)?;
@@ -110,31 +110,39 @@ fn short(bytes: &[u8]) -> Result<(u16, &[u8]), ReadError>
 }
 
 fn key_len(all: usize, bytes: &[u8]) -> Result<(u16, &[u8]), ReadError>
-    ensures { Gives (λ x. (x.0, x.1.now)) result (number_is_at w16 4 all bytes.now) }
+    ensures read { Gives (λ x. (x.0, x.1.now)) result (key_len_at all bytes.now) }
+    ensures bounded { IfOk result (λ x. (4 ≤ x.0) × (x.0 ≤ 256)) }
 {
     let (len, rest) = short(bytes)?;
-    if len != 4 {
+    if len < 4 || 256 < len {
         return Err(ReadError::BadField(place(all, bytes)));
     }
     Ok((len, rest))
 }
 
-fn four(bytes: &[u8]) -> Result<([u8; 4], &[u8]), ReadError>
-    ensures { Gives (λ x. (x.0, x.1.now)) result (bytes_at 4 bytes.now) }
+/// The key of these bytes, which are copied.
+fn key_of(alloc: Global, bytes: &[u8]) -> Result<SecretKey, ReadError>
+    requires { IsKey bytes.now }
+    ensures ok { IfOk result (λ key. key ≡ bytes.now) }
+    ensures no_memory { IfErr result (λ error. error ≡ ReadError.NoMemory) }
 {
-    if bytes.len() < 4 {
-        return Err(ReadError::Truncated);
+    match SecretKey::try_new(alloc, bytes) {
+        Ok(key) => Ok(key),
+        Err(KeyError::NoMemory) => Err(ReadError::NoMemory),
+        Err(KeyError::BadLength(_)) => unreachable!(),
     }
-    let (front, rest) = bytes.split_at(4);
-    Ok(([front[0], front[1], front[2], front[3]], rest))
 }
 
 #[tactic(auto, unfolding(crate::specs::Judging::key_at))]
-fn key(all: usize, bytes: &[u8]) -> Result<([u8; 4], &[u8]), ReadError>
+fn key(alloc: Global, all: usize, bytes: &[u8]) -> Result<(SecretKey, &[u8]), ReadError>
     ensures { Gives (λ x. (x.0, x.1.now)) result (key_at all bytes.now) }
 {
-    let (_, rest) = key_len(all, bytes)?;
-    four(rest)
+    let (len, rest) = key_len(all, bytes)?;
+    if rest.len() < len as usize {
+        return Err(ReadError::Truncated);
+    }
+    let (front, rest) = rest.split_at(len as usize);
+    Ok((key_of(alloc, front)?, rest))
 }
 
 fn long(bytes: &[u8]) -> Result<(u64, &[u8]), ReadError>
@@ -163,16 +171,20 @@ fn counted(alloc: Global, bytes: &[u8]) -> Result<(PgBytes, &[u8]), ReadError>
 }
 
 #[tactic(auto, unfolding(crate::specs::Judging::registration_at))]
-fn registration(all: usize, bytes: &[u8]) -> Result<((i32, [u8; 4]), &[u8]), ReadError>
+fn registration(
+    alloc: Global,
+    all: usize,
+    bytes: &[u8],
+) -> Result<((i32, SecretKey), &[u8]), ReadError>
     ensures { Gives (λ x. (x.0, x.1.now)) result (registration_at all bytes.now) }
 {
     let (pid, rest) = signed(bytes)?;
-    let (key, rest) = key(all, rest)?;
+    let (key, rest) = key(alloc, all, rest)?;
     Ok(((pid, key), rest))
 }
 
 #[tactic(auto, unfolding(crate::specs::Judging::call_at))]
-fn call(all: usize, bytes: &[u8]) -> Result<(DeskCall, &[u8]), ReadError>
+fn call(alloc: Global, all: usize, bytes: &[u8]) -> Result<(DeskCall, &[u8]), ReadError>
     ensures { Gives (λ x. (x.0, x.1.now)) result (call_at all bytes.now) }
 {
     match bytes {
@@ -181,13 +193,14 @@ fn call(all: usize, bytes: &[u8]) -> Result<(DeskCall, &[u8]), ReadError>
         [1, rest @ ..] => Ok((DeskCall::Ask(false), rest)),
         [2, rest @ ..] => Ok((DeskCall::Ask(true), rest)),
         [3, rest @ ..] => {
-            let ((pid, key), rest) = registration(all, rest)?;
+            let ((pid, key), rest) = registration(alloc, all, rest)?;
             Ok((DeskCall::Cancel(pid, key, false), rest))
         }
         [4, rest @ ..] => {
-            let ((pid, key), rest) = registration(all, rest)?;
+            let ((pid, key), rest) = registration(alloc, all, rest)?;
             Ok((DeskCall::Cancel(pid, key, true), rest))
         }
+        [5, rest @ ..] => Ok((DeskCall::Narrow, rest)),
         [_, ..] => Err(ReadError::BadField(place(all, bytes))),
     }
 }
@@ -203,7 +216,7 @@ fn items(
     let mut items = PgList::new(alloc);
     let mut rest = bytes;
     for _ in 0..count {
-        let (item, after) = call(all, rest)?;
+        let (item, after) = call(alloc, all, rest)?;
         items.push(item)?;
         rest = after;
     }

@@ -4,16 +4,16 @@ ghost use Rattle.std.specs.Prelude.{◌≡◌};
 ghost use Rattle.recording_text.specs.declared.recording.ReadError.TheVariants.{NoMemory};
 
 use pg_handlers::{DeskCall, EndKind};
-use pg_messages::{PgBytes, PgList};
+use pg_messages::{PgBytes, PgList, SecretKey};
 use std::alloc::{AllocError, AllocFailed};
 
 /// A session as it was recorded.
 #[derive(Debug, Drop)]
 pub struct Recording {
-    /// The pid that the client was told.
+    /// The pid of the registration.
     pub pid: i32,
-    /// The key that the client was told.
-    pub key: [u8; 4],
+    /// The secret key of the registration.
+    pub key: SecretKey,
     /// The bytes that the client gave.
     pub client: PgBytes,
     /// The calls of the cancel registry, with their answers.

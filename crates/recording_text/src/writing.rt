@@ -7,14 +7,11 @@ ghost use Rattle.pg_messages.specs.Fields.{int32};
 
 use crate::recording::Recording;
 use pg_handlers::{DeskCall, EndKind};
-use pg_messages::PgBytes;
+use pg_messages::{PgBytes, SecretKey};
 use std::alloc::{AllocError, Global};
 
 /// What a recording begins with, the text `PGR1` as a number.
 const TAG: u32 = 0x5047_5231;
-
-/// The most bytes that a call takes.
-const CALL_LEN: usize = 11;
 
 /// The text of a recording, in memory that is taken at once.
 pub fn write_recording(alloc: Global, recording: &Recording) -> Result<PgBytes, AllocError>
@@ -22,9 +19,9 @@ pub fn write_recording(alloc: Global, recording: &Recording) -> Result<PgBytes, 
     ensures { IfOk result (λ text. text ≡ recording_text recording.now) }
 {
     let mut out = Vec::new(alloc);
-    out.reserve(most_bytes(recording))?;
+    out.reserve(text_len(recording))?;
     out.extend_from_slice(&TAG.to_be_bytes())?;
-    put_registration(recording.pid, recording.key, &mut out)?;
+    put_registration(recording.pid, &recording.key, &mut out)?;
     put_bytes(recording.client.as_slice(), &mut out)?;
     put_calls(recording.calls.as_slice(), &mut out)?;
     put_bytes(recording.replies.as_slice(), &mut out)?;
@@ -32,23 +29,39 @@ pub fn write_recording(alloc: Global, recording: &Recording) -> Result<PgBytes, 
     Ok(PgBytes::from_vec(out))
 }
 
-/// At least as many bytes as the text of a recording has.
-fn most_bytes(recording: &Recording) -> usize {
-    recording
-        .calls
-        .len()
-        .saturating_mul(CALL_LEN)
+/// How many bytes the text of a recording has, so that they are taken at once.
+fn text_len(recording: &Recording) -> usize {
+    // The tag, pid, three counts and the end are 29 bytes, a key's length is two.
+    calls_len(recording.calls.as_slice())
         .saturating_add(recording.client.len())
         .saturating_add(recording.replies.len())
-        .saturating_add(35)
+        .saturating_add(recording.key.as_slice().len() + 31)
 }
 
-fn put_registration(pid: i32, key: [u8; 4], out: &mut Vec<u8>) -> Result<(), AllocError>
-    ensures { OnOk result (out.new.items ≡ out.old.items ++ (int32 pid ++ key_text key)) }
+/// How many bytes the calls take.
+fn calls_len(calls: &[DeskCall]) -> usize {
+    let mut len = 0usize;
+    for call in calls {
+        len = len.saturating_add(call_len(call));
+    }
+    len
+}
+
+/// How many bytes a call takes.
+fn call_len(call: &DeskCall) -> usize {
+    match call {
+        DeskCall::Start | DeskCall::Ask(_) | DeskCall::Narrow => 1,
+        DeskCall::Cancel(_, key, _) => key.as_slice().len() + 7,
+    }
+}
+
+fn put_registration(pid: i32, key: &SecretKey, out: &mut Vec<u8>) -> Result<(), AllocError>
+    ensures { OnOk result (out.new.items ≡ out.old.items ++ (int32 pid ++ key_text key.now)) }
 {
+    let key = key.as_slice();
     out.extend_from_slice(&pid.to_be_bytes())?;
-    out.extend_from_slice(&[0, 4])?;
-    out.extend_from_slice(&key)
+    out.extend_from_slice(&(key.len() as u16).to_be_bytes())?;
+    out.extend_from_slice(key)
 }
 
 fn put_bytes(bytes: &[u8], out: &mut Vec<u8>) -> Result<(), AllocError>
@@ -58,8 +71,8 @@ fn put_bytes(bytes: &[u8], out: &mut Vec<u8>) -> Result<(), AllocError>
     out.extend_from_slice(bytes)
 }
 
-fn put_call(call: DeskCall, out: &mut Vec<u8>) -> Result<(), AllocError>
-    ensures { OnOk result (out.new.items ≡ out.old.items ++ call_text call) }
+fn put_call(call: &DeskCall, out: &mut Vec<u8>) -> Result<(), AllocError>
+    ensures { OnOk result (out.new.items ≡ out.old.items ++ call_text call.now) }
 {
     match call {
         DeskCall::Start => {
@@ -67,12 +80,16 @@ fn put_call(call: DeskCall, out: &mut Vec<u8>) -> Result<(), AllocError>
             Ok(())
         }
         DeskCall::Ask(yes) => {
-            out.push(if yes { 2 } else { 1 })?;
+            out.push(if *yes { 2 } else { 1 })?;
             Ok(())
         }
         DeskCall::Cancel(pid, key, yes) => {
-            out.push(if yes { 4 } else { 3 })?;
-            put_registration(pid, key, out)
+            out.push(if *yes { 4 } else { 3 })?;
+            put_registration(*pid, key, out)
+        }
+        DeskCall::Narrow => {
+            out.push(5)?;
+            Ok(())
         }
     }
 }
@@ -81,7 +98,7 @@ fn put_items(calls: &[DeskCall], out: &mut Vec<u8>) -> Result<(), AllocError>
     ensures { OnOk result (out.new.items ≡ out.old.items ++ flat_map call_text calls.now) }
 {
     for call in calls {
-        put_call(*call, out)?;
+        put_call(call, out)?;
     }
     Ok(())
 }

@@ -147,7 +147,7 @@ fn make_load(command: &str, seed: &str, count: &str) -> Option<Load>
 }
 
 /// A process id: 1 to 2147483647.
-fn read_pid(word: &str) -> Option<i32>
+pub fn read_pid(word: &str) -> Option<i32>
     ensures { result ≡ pid_of word.now }
 {
     let pid = read_within(1, 2_147_483_647, word)?;

@@ -13,7 +13,7 @@ const MOST_LENGTH: usize = 256;
 /// The bytes of a secret key that isn't made yet: 4 to 256. They take no memory of their own, so
 /// that words are judged without any.
 #[derive(Drop)]
-pub(crate) struct KeyBytes {
+pub struct KeyBytes {
     room: [u8; MOST_LENGTH],
     length: usize,
 }
@@ -30,7 +30,7 @@ impl Model for KeyBytes {
 
 impl KeyBytes {
     /// The secret key, in memory of its own.
-    pub(crate) fn secret_key(&self, alloc: Global) -> Result<SecretKey, AllocError>
+    pub fn secret_key(&self, alloc: Global) -> Result<SecretKey, AllocError>
         ensures { IfOk result (λ key. key ≡ self.now) }
     {
         match SecretKey::try_new(alloc, &self.room[..self.length]) {
@@ -42,7 +42,7 @@ impl KeyBytes {
 }
 
 /// KEY: an even number of hexadecimal digits of either case, 8 to 512 of them.
-pub(crate) fn read_key(word: &str) -> Option<KeyBytes>
+pub fn read_key(word: &str) -> Option<KeyBytes>
     ensures { result ≡ key_of word.now }
 {
     if word.len() < 8 || 512 < word.len() {

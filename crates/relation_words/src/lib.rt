@@ -7,6 +7,7 @@ mod keys;
 mod listening;
 mod numbers;
 
-pub use commands::{Command, Load, Service, read_command};
+pub use commands::{Command, Load, Service, read_command, read_pid};
 pub use file::file_word;
+pub use keys::{KeyBytes, read_key};
 pub use listening::{ListenPlace, listen_count, listen_place};

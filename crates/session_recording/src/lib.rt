@@ -1,0 +1,13 @@
+//! Sessions over relations, recorded: what the source gave, what the sink took, and the registry's
+//! calls with their answers.
+#![tactic(auto)]
+
+mod desk;
+mod error;
+mod keeping;
+mod recorder;
+mod sink;
+mod source;
+
+pub use error::RecordError;
+pub use recorder::record_session;
