@@ -5,6 +5,7 @@ ghost use Rattle.std.specs.Prelude.{[], Some};
 use pg_session::{Source, SourceFailed};
 
 /// A source of bytes that are lent to it. It gives as many as fit, and never fails.
+#[derive(Drop)]
 pub struct BytesSource<'a> {
     /// The bytes still to come.
     pub left: &'a [u8],
