@@ -21,11 +21,12 @@ serve:
 	@echo "Serves data/rosters at 127.0.0.1:$(PORT). Ctrl-C ends it. Ask it by: psql -h 127.0.0.1 -p $(PORT) -c shifts"
 	@tools/run_server listen tcp $(PORT) $(ROSTERS)
 
-# Runs psql over the sample relations, and compares what it prints; then tries a server with few descriptors and threads,
-# large batches, and Unix sockets that were left over; then tells the rotas of README.md; then runs psql's cursors over
-# `pg_cursor`: by the proved programs where they were built.
+# Runs psql over the sample relations, and compares what it prints; then cancels queries by the keys of 3.0 and of 3.2; then
+# tries a server with few descriptors and threads, large batches, and Unix sockets that were left over; then tells the rotas
+# of README.md; then runs psql's cursors over `pg_cursor`: by the proved programs where they were built.
 try:
 	@tools/try_psql.sh
+	@tools/try_keys
 	@tools/try_limits
 	@tools/try_rota.sh
 	@tools/try_cursor.sh

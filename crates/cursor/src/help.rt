@@ -10,7 +10,8 @@ usage: pg_cursor serve FILE PID KEY [TURNS]
        pg_cursor --help | --version
 
 serve   serves one client: its bytes come on standard input, the replies go to standard output. The client is told
-        PID (1 to 2147483647) and KEY (eight hexadecimal digits). It has TURNS reads and polls (default 1000000000).
+        PID (1 to 2147483647) and KEY (an even number of hexadecimal digits, 8 to 512; in 3.0 the first eight). It has
+        TURNS reads and polls (default 1000000000).
 
 Queries are a relation's name, BEGIN, COMMIT, and COPY name TO STDOUT, and the commands of cursors:
 

@@ -11,7 +11,7 @@ use pg_cursor::run_cursors;
 use pg_messages::{PgList, PgStr};
 use pg_serve::{ReaderSource, WriterSink};
 use pg_session::Sink;
-use relation_words::{Command, file_word, read_command};
+use relation_words::{file_word, listen_place};
 use std::alloc::{AllocError, Global};
 use std::fs::Files;
 use std::process::ExitCode;
@@ -41,9 +41,9 @@ fn read_words(rt: &HostRuntime) -> Result<PgList<PgStr>, AllocError> {
 
 /// FILE, where the words are a good `serve`.
 fn path_of(words: &[PgStr]) -> Option<&str> {
-    match read_command(words)? {
-        Command::Serve(_) => file_word(words),
-        Command::Demo(_) => None,
+    match listen_place(words) {
+        None => file_word(words),
+        Some(_) => None,
     }
 }
 

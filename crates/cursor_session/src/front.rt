@@ -59,7 +59,7 @@ impl<
     >,
 > CursorSession<H, St> {
     /// A front of a session that awaits the startup packet of a client, who is told this pid and
-    /// key. Its store is empty. The only error is want of memory.
+    /// key, in 3.0 the key's first four bytes. Its store is empty. The only error is want of memory.
     pub fn new(
         alloc: Global,
         handlers: Arc<H>,

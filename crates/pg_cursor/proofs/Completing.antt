@@ -102,9 +102,18 @@ serve_complete s outcome old new status h reported =
     (λ bytes is messages rest short good sound d e turns fits.
     serve_end s outcome old new text bytes messages rest status h reported read is short good sound.0 sound.1 d e turns fits))
 
+-- the status of want of memory is a good one
+no_memory : (s : Service) (status : ℕ) (old new : Surroundings) → status ≡ 7 → IsServeComplete s status old new
+no_memory s status old new is =
+    if_some old.file (λ text. _) (λ text read. if_some old.client (λ bytes. _)
+    (λ bytes all messages rest short good sound d e turns fits. inr (inr (inr is))))
+
 pub run_complete : (order : Option Command) (outcome : Outcome) (old new : Surroundings) (status : ℕ) → HasRun order outcome old new
     → (status ≡ status_of outcome) ⊎ (status ≡ 7)
     → IsRunComplete order status old new
 run_complete None outcome old new status h reported = tt
-run_complete (Some (command.Serve s)) outcome old new status h reported = serve_complete s outcome old new status h reported
+run_complete (Some (command.Serve s)) outcome old new status (inl h) reported = serve_complete s outcome old new status h reported
+run_complete (Some (command.Serve s)) outcome old new status (inr wanted) (inl told) =
+    no_memory s status old new (told ∙ ap status_of wanted.0)
+run_complete (Some (command.Serve s)) outcome old new status (inr wanted) (inr told) = no_memory s status old new told
 run_complete (Some (command.Demo l)) outcome old new status h reported = tt

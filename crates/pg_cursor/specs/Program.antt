@@ -1,5 +1,5 @@
 -- What the program owes: what comes of its words.
-use Rattle.std.specs.Prelude.{ℕ, true, false, List, ◌≡◌, ◌≤◌, ◌<◌, ◌+◌, ◌^◌, ◌⊎◌, Option, Some, None, Result, IfSome, OnOk, length}
+use Rattle.std.specs.Prelude.{ℕ, true, false, List, ◌≡◌, ◌≤◌, ◌<◌, ◌+◌, ◌^◌, ◌⊎◌, Option, Some, None, Result, Err, IfSome, OnOk, length}
 use Rattle.std.specs.List.{AllByRecursion}
 use Rattle.pg_messages.specs.declared.frontend.PgWireFrontendMessage.{PgWireFrontendMessage}
 use Rattle.pg_messages.specs.Frames.{DividesInto, IsBad, IsUnfinished, awaits_startup_after_all}
@@ -8,6 +8,7 @@ use Rattle.pg_handlers.specs.declared.ends.EndKind.{EndKind}
 use Rattle.pg_handlers.specs.Answer.{answers_of}
 use Rattle.pg_handlers.specs.Questions.{questions}
 use Rattle.pg_session.specs.declared.ends.ServeError.{ServeError}
+use Rattle.pg_session.specs.declared.ends.ServeError.TheVariants.{NoMemory}
 use Rattle.pg_session.specs.Streams.{HasRisen}
 use Rattle.pg_serve.specs.Serving.{Counts, HasCause, IsCalm, ReadsGaveBytes, counts_of}
 use Rattle.relation_files.specs.Files.{IsToldBy, IsFileCause, file_limit}
@@ -68,9 +69,11 @@ HasServedFile s (File e) old new = IsFileCause e old.file new.file old.file_faul
 HasServedFile s (Conversation answer) old new = (relations : List Relation) × IsToldBy old.file new.file relations
     × WasServed s relations answer old.client new.client old.out new.out old.counts new.counts
 
--- What came of the words: nothing where they are no `serve`; or what comes of it.
+-- What came of the words: nothing where they are no `serve`; or what comes of it. There may be no memory for its key; then nothing was
+-- done.
 abbrev pub HasRun : Option Command → Outcome → Surroundings → Surroundings → Type 0
 HasRun (Some (command.Serve s)) outcome old new = HasServedFile s outcome old new
+    ⊎ ((outcome ≡ Conversation (Err NoMemory)) × (new ≡ old))
 HasRun (Some (command.Demo l)) outcome old new = (outcome ≡ Usage) × (new ≡ old)
 HasRun None outcome old new = (outcome ≡ Usage) × (new ≡ old)
 

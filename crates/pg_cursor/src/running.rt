@@ -17,11 +17,11 @@ use pg_session::{EndKind, ServeError, Sink, Source};
 use relation_files::read_relations;
 use relation_handlers::RelationTable;
 use relation_words::{Command, Service, read_command};
-use std::alloc::Global;
+use std::alloc::{AllocError, Global};
 
 /// The program over a relation file and one client. The words are `serve FILE PID KEY [TURNS]`: PID
-/// is 1 to 2147483647, KEY eight hexadecimal digits, and TURNS 1 to 18446744073709551615, by
-/// default 1000000000. The relation file comes from `file`, whatever FILE says. The client's bytes
+/// is 1 to 2147483647, KEY an even number of hexadecimal digits, 8 to 512 of them, and TURNS 1 to
+/// 18446744073709551615, by default 1000000000. The relation file comes from `file`, whatever FILE says. The client's bytes
 /// are served with cursors, as [`serve_cursors_on`](crate::serve_cursors_on) does, with the replies
 /// to `out`; PID and KEY are what the client is told. No query is ever canceled: the registry that
 /// it is served by answers each question no, and each CancelRequest too.
@@ -83,9 +83,10 @@ fn carry_out<F: Source, S: Source, K: Sink>(
     ensures never_falls { FaultsNeverFall (counts_of S.reads S.faults K.faults client.old out.old)
         (counts_of S.reads S.faults K.faults client.new out.new) }
 {
-    match read_command(words) {
-        Some(Command::Serve(service)) => serve_file(alloc, service, file, client, out),
-        Some(Command::Demo(_)) | None => Outcome::Usage,
+    match read_command(alloc, words) {
+        Err(AllocError) => Outcome::Conversation(Err(ServeError::NoMemory)),
+        Ok(Some(Command::Serve(service))) => serve_file(alloc, service, file, client, out),
+        Ok(Some(Command::Demo(_)) | None) => Outcome::Usage,
     }
 }
 

@@ -10,7 +10,7 @@ use Rattle.pg_portal.specs.declared.store.Entry.{Entry}
 use Rattle.pg_portal.specs.declared.store.Entry.TheVariants as entry
 use Rattle.pg_portal.specs.Texts.{is_blank}
 use Rattle.pg_portal.specs.Told.{TablePortal, Stage, Unstarted, Started, Ended}
-use Rattle.pg_handlers.specs.Effect.{Called, says, silent}
+use Rattle.pg_handlers.specs.Effect.{says, silent}
 use Rattle.pg_handlers.specs.ExecuteRow.{executed_portal, executed_entry}
 use Rattle.pg_handlers.specs.Handlers.{Handlers}
 use Rattle.pg_handlers.specs.Questions.{questioned}

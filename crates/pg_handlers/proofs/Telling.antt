@@ -1,5 +1,5 @@
 -- Describe of a statement or a portal, by what its handler told.
-use Rattle.std.proofs.Common.{◌≡◌, ◌++◌, ◌∙◌, ℕ, List, [], Option, Some, Result, Ok, Err, inl, inr, refl, sym, ap, append-nil}
+use Rattle.std.proofs.Common.{◌≡◌, ◌∙◌, ℕ, List, Option, Some, Result, Ok, Err, inl, inr, refl, sym, ap, append-nil}
 use Rattle.std.specs.Prelude.{OnOk, IfErr}
 use Rattle.std.specs.FinMap as fin
 use Rattle.std.specs.Option.{option_map}

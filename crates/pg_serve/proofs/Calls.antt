@@ -1,14 +1,15 @@
 -- The calls that a connection made while its client was served.
-use Rattle.std.proofs.Common.{◌≡◌, ℕ, List, ◌++◌, sym, ap, ◌∙◌}
+use Rattle.std.proofs.Common.{◌≡◌, ℕ, List, [], ◌∷◌, ◌++◌, sym, ap, ◌∙◌}
 use Rattle.std.specs.Prelude.{◌==◌}
 use Rattle.std.proofs.lemmas.List.{append_cancel_left}
 use Rattle.std.proofs.lemmas.List.Elements.{filter-append}
 use Rattle.std.proofs.lemmas.Grind.{flat_map-append}
 use mathlib.Core.List.{IsPrefix}
 use Rattle.pg_cancel.specs.declared.entries.Entry.{Entry}
-use Rattle.pg_cancel.specs.Connections.{calls_of}
+use Rattle.pg_cancel.specs.Connections.{Connection, Issuer, IsSameConnection, calls_of, origin_of}
 use Rattle.pg_handlers.specs.declared.desk.DeskCall.{DeskCall}
-use Rattle.pg_serve.specs.Desk.{desk_call, desk_calls}
+use Rattle.pg_handlers.specs.Desk.{DeskTold, GoesOn}
+use Rattle.pg_serve.specs.Desk.{ConnectionGoesOn, desk_call, desk_calls, registration_of}
 
 -- what a connection has seen goes on, and so do its own calls there: by those of a session
 pub calls_made : (n : ℕ) (seen seen' mine mine' : List Entry) (calls : List DeskCall) → IsPrefix seen seen' → calls_of n seen ≡ mine
@@ -23,3 +24,41 @@ calls_made n seen seen' mine mine' calls grown own own' called =
       append_cancel_left (desk_calls mine) calls (desk_calls made)
           (sym called ∙ ap desk_calls split ∙ flat_map-append (λ (e : Entry). desk_call e.call e.answer) mine made),
     )
+
+-- a connection that went on, and then took in what another had seen
+pub goes_on_as : (old between new : Connection) → ConnectionGoesOn old between → IsSameConnection between new → new.mine ≡ between.mine
+    → ConnectionGoesOn old new
+goes_on_as old between new on same mine = record {
+  issuer = same.0 ∙ on.issuer;
+  number = same.1 ∙ on.number;
+  calls = on.calls;
+  grown = ap desk_calls mine ∙ on.grown;
+  registration = (λ i. (same.2 i, same.3 i)) ∙ on.registration;
+}
+
+-- ---- the desk over a connection
+
+abbrev number_in : List ℕ → ℕ
+number_in (name ∷ number ∷ rest) = number
+number_in _ = 0
+
+abbrev issuer_in : List ℕ → Issuer
+issuer_in (name ∷ number ∷ words ∷ slots ∷ views ∷ atom ∷ block ∷ offset ∷ names) =
+    record { words = words; slots = slots; views_name = views; atom = atom; block = block; offset = offset; slot_names = names }
+issuer_in _ = record { words = 0; slots = 0; views_name = 0; atom = 0; block = 0; offset = 0; slot_names = [] }
+
+-- what such a desk tells, under the name of the reference that it was lent
+abbrev pub desk_over : ℕ → Connection → DeskTold
+desk_over name h =
+    record { registration = registration_of h; calls = desk_calls h.mine; origin = origin_of name h.number h.issuer }
+
+-- the connection is the same behind the calls of its desk
+pub desk_goes_on : (name new_name : ℕ) (old new : Connection) → GoesOn (desk_over name old) (desk_over new_name new)
+    → ConnectionGoesOn old new
+desk_goes_on name new_name old new on = record {
+  issuer = ap (λ d. issuer_in d.origin) on.grown;
+  number = ap (λ d. number_in d.origin) on.grown;
+  calls = on.made;
+  grown = ap (λ d. d.calls) on.grown;
+  registration = ap (λ d. d.registration) on.grown;
+}

@@ -3,7 +3,9 @@
 ghost use Rattle.std.specs.Prelude.{◌≡◌, ℕ, ◌+◌, ◌≤◌, ◌<◌, IfOk, OnOk, OnErr};
 ghost use Rattle.pg_session.specs.Streams.{HasRisen, greatest_count};
 
+use pg_messages::SecretKey;
 use pg_session::{Sink, Source};
+use std::alloc::AllocError;
 
 /// No connection was accepted.
 #[derive(Clone, Copy, Debug, PartialEq, Eq)]
@@ -62,6 +64,6 @@ pub trait Spawner<J: Job> {
 
 /// Where the secret keys of connections come from.
 pub trait KeySource {
-    /// The key of the next connection.
-    fn next_key(&mut self) -> [u8; 4];
+    /// The key of the next connection. The error tells that there is none.
+    fn next_key(&mut self) -> Result<SecretKey, AllocError>;
 }

@@ -1,7 +1,7 @@
 //! What the engine serves: a conversation that takes a client's bytes piece by piece.
 
 ghost use Rattle.std.specs.Prelude.{◌≡◌, ◌≤◌, [], true, OnOk};
-ghost use Rattle.pg_handlers.specs.Desk.{KeepsDesk};
+ghost use Rattle.pg_handlers.specs.Desk.{GoesOn};
 ghost use Rattle.pg_handlers.specs.Lawful.{IsLawful};
 ghost use Rattle.pg_handlers.specs.Questions.{questions_since};
 ghost use Rattle.pg_session.specs.Session.{HasFed, is_more};
@@ -50,7 +50,7 @@ pub trait Conversation {
         ensures turns { HasFed turns.old turns.new
             (questions_since (D.told desk.old).calls (D.told desk.new).calls) result }
         ensures bounded { turns.old.spent ≤ turns.old.limit → turns.new.spent ≤ turns.new.limit }
-        ensures keeps { KeepsDesk (D.told desk.old) (D.told desk.new) }
+        ensures registration { GoesOn (D.told desk.old) (D.told desk.new) }
         ensures sink { K.origin sink.new ≡ K.origin sink.old };
 
     // its rules are those of a conversation: more answers change nothing where none was wanting

@@ -1,6 +1,6 @@
 //! The desk of a connection: its handle on the shared registry.
 
-ghost use Rattle.std.specs.Prelude.{◌≡◌, take};
+ghost use Rattle.std.specs.Prelude.{◌≡◌};
 
 use pg_cancel::{ConnectionHandle, ConnectionManager};
 use pg_messages::SecretKey;
@@ -9,7 +9,7 @@ use std::alloc::AllocError;
 use std::sync::Wait;
 
 /// A desk over a connection's handle. Its calls are the handle's own, which wait for the registry's
-/// turn. Of the handle's key it tells the first four bytes.
+/// turn.
 pub struct HandleDesk<'a, R: Wait> {
     /// Who may wait.
     pub runtime: &'a R,
@@ -21,18 +21,17 @@ pub struct HandleDesk<'a, R: Wait> {
 }
 
 impl<'a, R: Wait> CancelDesk for HandleDesk<'a, R> {
-    ghost use Rattle.std.specs.Prelude.{take};
     ghost use Rattle.pg_cancel.specs.Connections.{origin_of};
     ghost use Rattle.pg_serve.specs.Desk.{desk_calls};
 
     ghost told = { λ d. record {
-      registration = (d.handle.now.pid, take 4 d.handle.now.key);
+      registration = (d.handle.now.pid, d.handle.now.key);
       calls = desk_calls d.handle.now.mine;
       origin = origin_of d.handle.ghost_name d.handle.now.number d.handle.now.issuer;
     } };
 
-    fn identity(&self) -> (i32, [u8; 4]) {
-        (self.handle.pid(), first_four(self.handle.key()))
+    fn identity(&self) -> (i32, &SecretKey) {
+        (self.handle.pid(), self.handle.key())
     }
 
     fn start(&mut self) -> Result<(), AllocError> {
@@ -43,18 +42,11 @@ impl<'a, R: Wait> CancelDesk for HandleDesk<'a, R> {
         self.manager.ask(self.runtime, self.handle)
     }
 
-    fn cancel(&mut self, pid: i32, key: [u8; 4]) -> Result<bool, AllocError> {
-        let Ok(key) = SecretKey::try_new(self.manager.alloc(), &key) else {
-            return Err(AllocError);
-        };
-        self.manager.cancel(self.runtime, self.handle, pid, &key)
+    fn cancel(&mut self, pid: i32, key: &SecretKey) -> Result<bool, AllocError> {
+        self.manager.cancel(self.runtime, self.handle, pid, key)
     }
-}
 
-/// The first four bytes of a key.
-fn first_four(key: &SecretKey) -> [u8; 4]
-    ensures { result ≡ take 4 key.now }
-{
-    let bytes = key.as_slice();
-    [bytes[0], bytes[1], bytes[2], bytes[3]]
+    fn narrow(&mut self) -> Result<(), AllocError> {
+        self.manager.narrow(self.runtime, self.handle)
+    }
 }

@@ -3,7 +3,7 @@
 ghost use Rattle.std.specs.Prelude.{◌≡◌, ◌++◌, ◌≤◌, ◌<◌, List, [], length, take, true, IfOk, OnOk};
 ghost use Rattle.std.specs.Arc.{arc_value};
 ghost use Rattle.pg_portal.specs.Maps.{no_maps};
-ghost use Rattle.pg_handlers.specs.Desk.{KeepsDesk};
+ghost use Rattle.pg_handlers.specs.Desk.{GoesOn};
 ghost use Rattle.pg_handlers.specs.declared.desk.DeskCall.{DeskCall};
 ghost use Rattle.pg_handlers.specs.Questions.{questions_since};
 ghost use Rattle.pg_handlers.specs.State.{first_state};
@@ -75,11 +75,12 @@ pub fn serve_connection<
         (counts_of S.reads S.faults K.faults source.new sink.new) }
     ensures reads { ReadsGaveBytes (S.left source.old) (S.left source.new) (S.reads source.old)
         (S.reads source.new) }
-    ensures keeps { KeepsDesk (D.told desk.old) (D.told desk.new) }
+    ensures registration { GoesOn (D.told desk.old) (D.told desk.new) }
     ensures source { S.origin source.new ≡ S.origin source.old }
     ensures sink { K.origin sink.new ≡ K.origin sink.old }
 {
     let (pid, key) = desk.identity();
+    let key = key.copy_of()?;
     let mut session = Session::new(alloc, handlers, store, pid, key)?;
     serve(alloc, &mut session, desk, source, sink, turn_limit)
 }
@@ -119,7 +120,7 @@ pub fn serve<C: Conversation, D: CancelDesk, S: Source, K: Sink>(
         (counts_of S.reads S.faults K.faults source.new sink.new) }
     ensures reads { ReadsGaveBytes (S.left source.old) (S.left source.new) (S.reads source.old)
         (S.reads source.new) }
-    ensures keeps { KeepsDesk (D.told desk.old) (D.told desk.new) }
+    ensures registration { GoesOn (D.told desk.old) (D.told desk.new) }
     ensures source { S.origin source.new ≡ S.origin source.old }
     ensures sink { K.origin sink.new ≡ K.origin sink.old }
 {
@@ -176,7 +177,7 @@ fn serve_pieces<C: Conversation, D: CancelDesk, S: Source, K: Sink>(
         (counts_of S.reads S.faults K.faults source.new sink.new) }
     ensures reads { ReadsGaveBytes (S.left source.old) (S.left source.new) (S.reads source.old)
         (S.reads source.new) }
-    ensures keeps { KeepsDesk (D.told desk.old) (D.told desk.new) }
+    ensures registration { GoesOn (D.told desk.old) (D.told desk.new) }
     ensures source { S.origin source.new ≡ S.origin source.old }
     ensures sink { K.origin sink.new ≡ K.origin sink.old }
 {

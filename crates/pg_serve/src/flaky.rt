@@ -1,12 +1,12 @@
 //! A desk that answers from a list, and finds no memory at the calls that it is told.
 
-ghost use Rattle.std.specs.Prelude.{◌≡◌, [], ◌∷◌, drop, IfOk, OnOk, OnErr, IsTrue, IsErr};
+ghost use Rattle.std.specs.Prelude.{◌≡◌, [], ◌∷◌, drop, take, IfOk, OnOk, OnErr, IsTrue, IsErr};
 ghost use Rattle.pg_handlers.specs.declared.desk.DeskCall.{DeskCall};
 ghost use Rattle.pg_handlers.specs.Desk.{after_calls};
 ghost use Rattle.pg_handlers.specs.Script.{first_or_no, script_told, IsScripted};
 ghost use Rattle.pg_serve.specs.Flaky.{is_next_refused, IsNextCall};
 
-use pg_messages::PgList;
+use pg_messages::{PgList, SecretKey};
 use pg_session::{CancelDesk, DeskCall, ScriptDesk};
 use std::alloc::{AllocError, Global};
 use std::marker::Model;
@@ -29,14 +29,14 @@ impl Model for FlakyDesk {
 }
 
 impl FlakyDesk {
-    /// A desk of this registration, with these answers to come. Its calls of `start`, `ask` and
-    /// `cancel` are numbered from 0 on, those that fail too; the calls whose numbers are in `fails`
-    /// answer `AllocError` and change nothing that was called or is to be answered. It takes no
-    /// memory.
+    /// A desk of this registration, with these answers to come. Its calls of `start`, `ask`,
+    /// `cancel` and `narrow` are numbered from 0 on, those that fail too; the calls whose numbers
+    /// are in `fails` answer `AllocError` and change nothing that was called or is to be answered.
+    /// It takes no memory.
     pub fn new(
         alloc: Global,
         pid: i32,
-        key: [u8; 4],
+        key: SecretKey,
         answers: PgList<bool>,
         fails: PgList<u64>,
     ) -> FlakyDesk
@@ -79,7 +79,7 @@ impl FlakyDesk {
 impl CancelDesk for FlakyDesk {
     ghost told = { λ d. script_told d.script };
 
-    fn identity(&self) -> (i32, [u8; 4]) {
+    fn identity(&self) -> (i32, &SecretKey) {
         self.desk.identity()
     }
 
@@ -116,7 +116,7 @@ impl CancelDesk for FlakyDesk {
         self.desk.ask()
     }
 
-    fn cancel(&mut self, pid: i32, key: [u8; 4]) -> Result<bool, AllocError>
+    fn cancel(&mut self, pid: i32, key: &SecretKey) -> Result<bool, AllocError>
         ensures refused { IsTrue (is_next_refused self.old) → IsErr result }
         ensures unchanged { IsTrue (is_next_refused self.old) → self.new.script ≡ self.old.script }
         ensures next { IsNextCall self.old self.new }
@@ -124,12 +124,29 @@ impl CancelDesk for FlakyDesk {
         ensures used_up { OnOk result (self.new.script.answers ≡ drop 1 self.old.script.answers) }
         ensures kept { OnErr result (self.new.script.answers ≡ self.old.script.answers) }
         ensures ok { IfOk result (λ yes. script_told self.new.script
-            ≡ after_calls (script_told self.old.script) (DeskCall.Cancel pid key yes ∷ [])) }
+            ≡ after_calls (script_told self.old.script) (DeskCall.Cancel pid key.now yes ∷ [])) }
         ensures err { OnErr result (script_told self.new.script ≡ script_told self.old.script) }
     {
         if self.is_refused() {
             return Err(AllocError);
         }
         self.desk.cancel(pid, key)
+    }
+
+    fn narrow(&mut self) -> Result<(), AllocError>
+        ensures refused { IsTrue (is_next_refused self.old) → IsErr result }
+        ensures unchanged { IsTrue (is_next_refused self.old) → self.new.script ≡ self.old.script }
+        ensures next { IsNextCall self.old self.new }
+        ensures key { OnOk result (self.new.script.key ≡ take 4 self.old.script.key) }
+        ensures answers { self.new.script.answers ≡ self.old.script.answers }
+        ensures ok { OnOk result
+            (script_told self.new.script ≡ after_calls (script_told self.old.script)
+            (DeskCall.Narrow ∷ [])) }
+        ensures err { OnErr result (script_told self.new.script ≡ script_told self.old.script) }
+    {
+        if self.is_refused() {
+            return Err(AllocError);
+        }
+        self.desk.narrow()
     }
 }

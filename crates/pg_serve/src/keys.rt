@@ -1,32 +1,39 @@
 //! Secret keys that nobody can guess.
 
+ghost use Rattle.std.specs.Prelude.{◌≡◌, length, IfOk};
+
 use crate::accept::KeySource;
-use std::io;
+use pg_messages::SecretKey;
+use std::alloc::{AllocError, Global};
 use std::random::RandomSource;
+
+/// How many bytes a key has.
+const LENGTH: usize = 32;
 
 /// Keys of the system's random bytes.
 #[derive(Drop)]
 pub struct RandomKeys<R: RandomSource> {
+    alloc: Global,
     source: R,
-    last: [u8; 4],
 }
 
-impl<R: RandomSource + Drop> RandomKeys<R> {
-    /// Keys of this source, which has to give bytes at once.
-    pub fn new(source: R) -> io::Result<RandomKeys<R>> {
-        let mut last = [0; 4];
-        source.fill_bytes(&mut last)?;
-        Ok(RandomKeys { source, last })
+impl<R: RandomSource> RandomKeys<R> {
+    /// Keys of this source.
+    pub fn new(alloc: Global, source: R) -> RandomKeys<R> {
+        RandomKeys { alloc, source }
     }
 }
 
 impl<R: RandomSource> KeySource for RandomKeys<R> {
-    /// The next key. Where the source gives no bytes any more, it is the last one again.
-    fn next_key(&mut self) -> [u8; 4] {
-        let mut key = [0; 4];
-        if self.source.fill_bytes(&mut key).is_ok() {
-            self.last = key;
+    /// The next key, of 32 bytes. Where the source gives none, or memory runs out, there is no key:
+    /// none is told twice.
+    fn next_key(&mut self) -> Result<SecretKey, AllocError>
+        ensures { IfOk result (λ key. length key ≡ 32) }
+    {
+        let mut bytes = [0; LENGTH];
+        if self.source.fill_bytes(&mut bytes).is_err() {
+            return Err(AllocError);
         }
-        self.last
+        SecretKey::try_new(self.alloc, &bytes).map_err(|_| AllocError)
     }
 }

@@ -1,17 +1,17 @@
 //! A client at a socket is served.
 
-ghost use Rattle.std.specs.Prelude.{◌≡◌, ◌++◌, List, None, OnOk, take};
+ghost use Rattle.std.specs.Prelude.{◌≡◌, ◌++◌, List, None, OnOk};
 ghost use Rattle.std.specs.Arc.{arc_value};
 ghost use Rattle.std.specs.FinMap as fin;
 ghost use mathlib.Core.List.{IsPrefix};
-ghost use Rattle.pg_cancel.specs.Connections.{IsSameConnection, calls_of};
+ghost use Rattle.pg_cancel.specs.Connections.{calls_of};
 ghost use Rattle.pg_cancel.specs.LegalHistory.{IsLegal};
 ghost use Rattle.pg_portal.specs.Maps.{no_maps};
 ghost use Rattle.pg_handlers.specs.declared.desk.DeskCall.{DeskCall};
 ghost use Rattle.pg_handlers.specs.Questions.{questions_since};
 ghost use Rattle.pg_handlers.specs.State.{first_state};
 ghost use Rattle.pg_session.specs.Session.{whole_rules};
-ghost use Rattle.pg_serve.specs.Desk.{WentByCalls, desk_calls};
+ghost use Rattle.pg_serve.specs.Desk.{ConnectionGoesOn, WentByCalls, desk_calls};
 ghost use Rattle.pg_serve.specs.Serving.{HasCause, FaultsNeverFall, IsCalm, WentSo, counts_of};
 ghost use Rattle.pg_serve.specs.Sockets.{reads_of, faults_of};
 
@@ -49,7 +49,7 @@ pub fn process_socket<
     requires issued { handle.old.issuer ≡ manager.now }
     // A socket tells no bytes; the end and the calls are those of some run.
     ensures went { WentByCalls (whole_rules (H.told (arc_value handlers)))
-        (first_state handle.old.pid (take 4 handle.old.key))
+        (first_state handle.old.pid handle.old.key)
         handle.old.mine handle.new.mine result None None None None }
     ensures cause { HasCause result turn_limit
         (questions_since (desk_calls handle.old.mine) (desk_calls handle.new.mine))
@@ -61,7 +61,7 @@ pub fn process_socket<
     ensures never_falls { FaultsNeverFall
         (counts_of reads_of faults_of faults_of reader.old writer.old)
         (counts_of reads_of faults_of faults_of reader.new writer.new) }
-    ensures same { IsSameConnection handle.old handle.new }
+    ensures same { ConnectionGoesOn handle.old handle.new }
     ensures seen { IsPrefix handle.old.seen handle.new.seen }
     ensures legal { IsLegal handle.new.seen }
     ensures own { calls_of handle.new.number handle.new.seen ≡ handle.new.mine }
@@ -94,7 +94,7 @@ pub fn process_socket_unix<
     requires issued { handle.old.issuer ≡ manager.now }
     // A socket tells no bytes; the end and the calls are those of some run.
     ensures went { WentByCalls (whole_rules (H.told (arc_value handlers)))
-        (first_state handle.old.pid (take 4 handle.old.key))
+        (first_state handle.old.pid handle.old.key)
         handle.old.mine handle.new.mine result None None None None }
     ensures cause { HasCause result turn_limit
         (questions_since (desk_calls handle.old.mine) (desk_calls handle.new.mine))
@@ -106,7 +106,7 @@ pub fn process_socket_unix<
     ensures never_falls { FaultsNeverFall
         (counts_of reads_of faults_of faults_of reader.old writer.old)
         (counts_of reads_of faults_of faults_of reader.new writer.new) }
-    ensures same { IsSameConnection handle.old handle.new }
+    ensures same { ConnectionGoesOn handle.old handle.new }
     ensures seen { IsPrefix handle.old.seen handle.new.seen }
     ensures legal { IsLegal handle.new.seen }
     ensures own { calls_of handle.new.number handle.new.seen ≡ handle.new.mine }
@@ -140,7 +140,7 @@ fn serve_handle<
     requires empty { St.maps store ≡ no_maps }
     requires issued { handle.old.issuer ≡ manager.now }
     ensures went { WentByCalls (whole_rules (H.told (arc_value handlers)))
-        (first_state handle.old.pid (take 4 handle.old.key)) handle.old.mine handle.new.mine result
+        (first_state handle.old.pid handle.old.key) handle.old.mine handle.new.mine result
         (S.left source.old) (S.left source.new) (K.written sink.old) (K.written sink.new) }
     ensures cause { HasCause result turn_limit
         (questions_since (desk_calls handle.old.mine) (desk_calls handle.new.mine))
@@ -150,7 +150,7 @@ fn serve_handle<
         (counts_of S.reads S.faults K.faults source.new sink.new)) }
     ensures never_falls { FaultsNeverFall (counts_of S.reads S.faults K.faults source.old sink.old)
         (counts_of S.reads S.faults K.faults source.new sink.new) }
-    ensures same { IsSameConnection handle.old handle.new }
+    ensures same { ConnectionGoesOn handle.old handle.new }
     ensures seen { IsPrefix handle.old.seen handle.new.seen }
     ensures legal { IsLegal handle.new.seen }
     ensures own { calls_of handle.new.number handle.new.seen ≡ handle.new.mine }
@@ -189,7 +189,7 @@ fn serve_at_desk<
     ensures went { (calls : List DeskCall)
         × (desk_calls handle.new.mine ≡ desk_calls handle.old.mine ++ calls)
         × WentSo (whole_rules (H.told (arc_value handlers)))
-        (first_state handle.old.pid (take 4 handle.old.key)) result
+        (first_state handle.old.pid handle.old.key) result
         (S.left source.old) (S.left source.new) (K.written sink.old) (K.written sink.new) calls }
     ensures cause { HasCause result turn_limit
         (questions_since (desk_calls handle.old.mine) (desk_calls handle.new.mine))
@@ -199,7 +199,7 @@ fn serve_at_desk<
         (counts_of S.reads S.faults K.faults source.new sink.new)) }
     ensures never_falls { FaultsNeverFall (counts_of S.reads S.faults K.faults source.old sink.old)
         (counts_of S.reads S.faults K.faults source.new sink.new) }
-    ensures same { IsSameConnection handle.old handle.new }
+    ensures same { ConnectionGoesOn handle.old handle.new }
 {
     let mut desk = HandleDesk {
         runtime: rt,

@@ -189,7 +189,7 @@ impl RandomSource for Counting {
     fn fill_bytes(&self, buf: &mut [u8]) -> io::Result<()> {
         for byte in buf {
             let next = self.next.get();
-            if next == 14 {
+            if next == 70 {
                 return Err(io::Error::from(io::ErrorKind::Uncategorized));
             }
             *byte = next;
@@ -199,16 +199,33 @@ impl RandomSource for Counting {
     }
 }
 
-/// Whether the next key is this.
-fn is_next(keys: &mut RandomKeys<Counting>, key: [u8; 4]) -> bool {
-    keys.next_key() == key
+/// Whether the next key has 32 bytes that count up from the first one.
+fn is_next(keys: &mut RandomKeys<Counting>, first: u8) -> bool {
+    let Ok(key) = keys.next_key() else {
+        return false;
+    };
+    let bytes = key.as_slice();
+    bytes.len() == 32 && bytes[0] == first && bytes[31] == first.wrapping_add(31)
 }
 
-/// Each key is drawn anew, and is the last again where no bytes are left.
+/// Each key is drawn anew, and there is none where no bytes are left.
 #[test]
 fn keys_differ(rt: HostRuntime) -> Result<(), Fail> {
-    let mut keys = RandomKeys::new(Counting { next: Cell::new(0) })?;
-    assert!(rt; is_next(&mut keys, [4, 5, 6, 7]) && is_next(&mut keys, [8, 9, 10, 11]));
-    assert!(rt; is_next(&mut keys, [8, 9, 10, 11]));
+    let mut keys = RandomKeys::new(rt.alloc(), Counting { next: Cell::new(0) });
+    assert!(rt; is_next(&mut keys, 0) && is_next(&mut keys, 32));
+    assert!(rt; keys.next_key().is_err());
+    Ok(())
+}
+
+/// Two keys of the system's differ.
+#[test]
+fn random_keys_differ(rt: HostRuntime) -> Result<(), Fail> {
+    let alloc = rt.alloc();
+    let mut keys = RandomKeys::new(alloc, rt);
+    let first = keys.next_key()?;
+    let second = keys.next_key()?;
+    if first == second {
+        return Err(Fail::from("one key twice"));
+    }
     Ok(())
 }

@@ -8,7 +8,7 @@ ghost use Rattle.pg_portal.specs.Rows.{IsSendable};
 use bytes::BytesMut;
 use pg_messages::{
     DataRow, DecodeContext, PgBytes, PgList, PgWireFrontendMessage, PgWireMessageServerCodec,
-    ProtocolVersion,
+    ProtocolVersion, SecretKey,
 };
 use pg_portal::PgWireError;
 use pg_session::ScriptDesk;
@@ -30,9 +30,14 @@ S\0\0\0\x19integer_datetimes\0on\0\
 K\0\0\0\x0c\0\0\0\x07\x01\x02\x03\x04\
 Z\0\0\0\x05I";
 
+/// That key, in memory of its own.
+pub(crate) fn key(alloc: Global) -> Result<SecretKey, AllocError> {
+    SecretKey::try_new(alloc, &KEY).map_err(|_| AllocError)
+}
+
 /// A desk that never tells that a query was canceled.
-pub(crate) fn desk(alloc: Global) -> ScriptDesk {
-    ScriptDesk::new(alloc, 7, KEY, PgList::new(alloc))
+pub(crate) fn desk(alloc: Global) -> Result<ScriptDesk, AllocError> {
+    Ok(ScriptDesk::new(alloc, 7, key(alloc)?, PgList::new(alloc)))
 }
 
 /// Pieces of bytes, one after another.

@@ -3,7 +3,7 @@
 ghost use Rattle.std.specs.Prelude.{◌≡◌, IfOk};
 ghost use Rattle.std.specs.Arc.{arc_value};
 
-use crate::fixtures::{KEY, STARTED, STARTUP, joined};
+use crate::fixtures::{STARTED, STARTUP, joined, key};
 use pg_cancel::{ConnectionHandle, ConnectionManager, Door};
 use pg_handlers::{NoRows, NoopHandler, QueryState, SimpleQueryHandler, Turn};
 use pg_messages::{PgList, SecretKey};
@@ -164,6 +164,7 @@ impl PgWireServerHandlers for Held {
 struct Canceler {
     manager: Arc<ConnectionManager>,
     handle: ConnectionHandle,
+    key: SecretKey,
     flags: Arc<Flags>,
     ghost issued: { handle.issuer ≡ arc_value manager },
 }
@@ -174,13 +175,11 @@ impl Canceler {
         let Canceler {
             manager,
             mut handle,
+            key,
             flags,
         } = self;
         flags.wait_for_moment(rt);
-        let made = match SecretKey::try_new(manager.alloc(), &KEY) {
-            Ok(key) => manager.cancel(rt, &mut handle, 7, &key).unwrap_or(false),
-            Err(_) => false,
-        };
+        let made = manager.cancel(rt, &mut handle, 7, &key).unwrap_or(false);
         flags.canceled.store(true, Ordering::SeqCst);
         made
     }
@@ -236,11 +235,16 @@ impl Registry {
     }
 
     /// The connection of a pid.
-    fn register<R: Wait>(&mut self, rt: &R, pid: i32) -> Result<ConnectionHandle, Fail>
+    fn register<R: Wait>(
+        &mut self,
+        rt: &R,
+        alloc: Global,
+        pid: i32,
+    ) -> Result<ConnectionHandle, Fail>
         ensures manager { self.new.manager ≡ self.old.manager }
         ensures issued { IfOk result (λ handle. handle.issuer ≡ arc_value self.old.manager) }
     {
-        let key = SecretKey::try_new(self.manager.alloc(), &KEY)?;
+        let key = key(alloc)?;
         match self.manager.register(rt, &mut self.door, pid, key) {
             Ok(handle) => Ok(handle),
             Err(_) => Err(Fail::from("no registration")),
@@ -248,20 +252,27 @@ impl Registry {
     }
 
     /// The connection of pid 7, whose client is served.
-    fn served<R: Wait>(&mut self, rt: &R) -> Result<Served, Fail> {
+    fn served<R: Wait>(&mut self, rt: &R, alloc: Global) -> Result<Served, Fail> {
         let manager = Arc::try_clone(&self.manager)?;
-        let handle = self.register(rt, 7)?;
+        let handle = self.register(rt, alloc, 7)?;
         Ok(Served { manager, handle })
     }
 
     /// The connection of pid 8, which cancels.
-    fn canceler<R: Wait>(&mut self, rt: &R, flags: &Arc<Flags>) -> Result<Canceler, Fail> {
+    fn canceler<R: Wait>(
+        &mut self,
+        rt: &R,
+        alloc: Global,
+        flags: &Arc<Flags>,
+    ) -> Result<Canceler, Fail> {
         let manager = Arc::try_clone(&self.manager)?;
         let flags = Arc::try_clone(flags)?;
-        let handle = self.register(rt, 8)?;
+        let handle = self.register(rt, alloc, 8)?;
+        let key = key(alloc)?;
         Ok(Canceler {
             manager,
             handle,
+            key,
             flags,
         })
     }
@@ -308,10 +319,11 @@ impl Served {
 /// A thread that cancels at the moment.
 fn start<R: Wait + Threads + Copy + Send + 'static>(
     rt: R,
+    alloc: Global,
     registry: &mut Registry,
     flags: &Arc<Flags>,
 ) -> Result<thread::JoinHandle<bool>, Fail> {
-    let canceler = registry.canceler(&rt, flags)?;
+    let canceler = registry.canceler(&rt, alloc, flags)?;
     Ok(thread::spawn(&rt, move || canceler.run(&rt))?)
 }
 
@@ -322,8 +334,8 @@ fn is_heard<R: Wait + Threads + Copy + Send + 'static>(
     registry: &mut Registry,
     flags: &Arc<Flags>,
 ) -> Result<bool, Fail> {
-    let mut served = registry.served(&rt)?;
-    let canceler = start(rt, registry, flags)?;
+    let mut served = registry.served(&rt, alloc)?;
+    let canceler = start(rt, alloc, registry, flags)?;
     let told = served.is_canceled(&rt, alloc, handlers(alloc, flags)?)?;
     Ok(canceler.join(&rt) && told)
 }

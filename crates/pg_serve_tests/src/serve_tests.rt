@@ -87,7 +87,7 @@ fn is_served(
 ) -> Result<bool, AllocError> {
     let handlers = Arc::new(alloc, SampleHandler)?;
     let store = MemPortalStore::new(alloc);
-    let mut desk = desk(alloc);
+    let mut desk = desk(alloc)?;
     let answer = serve_connection(alloc, handlers, store, &mut desk, source, sink, 9);
     Ok(answer == Ok(EndKind::Terminate))
 }

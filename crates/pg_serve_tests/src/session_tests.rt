@@ -12,7 +12,7 @@ ghost use Rattle.pg_messages.specs.declared.frontend.PgWireFrontendMessage.TheVa
 ghost use Rattle.pg_session.specs.Messages.{IsGivenIn};
 ghost use Rattle.sample_handlers.specs.Told.{told_parser};
 
-use crate::fixtures::{KEY, STARTED, STARTUP, desk, message};
+use crate::fixtures::{STARTED, STARTUP, desk, key, message};
 use pg_messages::{
     ErrorInfo, Execute, PgList, PgStr, PgWireFrontendMessage, ProtocolVersion, TransactionStatus,
 };
@@ -50,7 +50,7 @@ fn wait_for_a_feed<
     requires empty { St.maps store ≡ no_maps }
 {
     let startup = message(alloc, true, STARTUP)?;
-    let mut session = Session::new(alloc, handlers, store, 7, KEY)?;
+    let mut session = Session::new(alloc, handlers, store, 7, key(alloc)?)?;
     let mut turns = Turns { spent: 0, limit: 9 };
     let is_answered = takes(alloc, &mut session, desk, &mut turns, startup);
     Ok(is_answered && goes_on(alloc, &mut session, desk, &mut turns, sink))
@@ -108,7 +108,7 @@ fn is_taken(answer: Result<Option<EndKind>, SessionError>) -> bool {
 #[test]
 fn replies_wait_for_the_next_feed(rt: HostRuntime) -> Result<(), Fail> {
     let alloc = rt.alloc();
-    let mut desk = desk(alloc);
+    let mut desk = desk(alloc)?;
     let mut sink = MemorySink::new(alloc, PgList::new(alloc));
     let handlers = Arc::new(alloc, SampleHandler)?;
     let store: Store = MemPortalStore::new(alloc);
@@ -141,7 +141,7 @@ fn is_closed<
     requires empty { St.maps store ≡ no_maps }
 {
     let error = fatal(alloc)?;
-    let mut session = Session::new(alloc, handlers, store, 7, KEY)?;
+    let mut session = Session::new(alloc, handlers, store, 7, key(alloc)?)?;
     ends(alloc, &mut session, error)
 }
 
@@ -180,7 +180,7 @@ fn awaiting_sync<St: PortalStore<Statement = SampleStatement>>(
 {
     let info = ClientInfo {
         pid: 7,
-        secret_key: KEY,
+        secret_key: key(alloc)?,
         protocol: ProtocolVersion::PROTOCOL3_0,
         metadata: Metadata::new(alloc),
         status: TransactionStatus::Idle,
@@ -229,7 +229,7 @@ fn nothing_is_executed_before_sync(rt: HostRuntime) -> Result<(), Fail> {
     let execute = execute(alloc)?;
     let store: Store = MemPortalStore::new(alloc);
     let mut client = awaiting_sync(alloc, store)?;
-    let mut desk = desk(alloc);
+    let mut desk = desk(alloc)?;
     assert!(rt; is_refused(alloc, &mut client, &mut desk, execute));
     Ok(())
 }

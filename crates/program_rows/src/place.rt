@@ -14,6 +14,7 @@ use std::sync::Wait;
 /// A registry and its door.
 #[derive(Drop)]
 pub struct Place {
+    alloc: Global,
     manager: ConnectionManager,
     door: Door,
     ghost issued: { door.issuer ≡ manager },
@@ -23,7 +24,11 @@ impl Place {
     /// A registry at which nobody is registered.
     pub fn new(alloc: Global) -> Result<Place, AllocError> {
         let (manager, door) = ConnectionManager::new(alloc)?;
-        Ok(Place { manager, door })
+        Ok(Place {
+            alloc,
+            manager,
+            door,
+        })
     }
 
     /// Registers a pid under a key of these bytes.
@@ -36,7 +41,7 @@ impl Place {
         ensures manager { self.new.manager ≡ self.old.manager }
         ensures issued { IfOk result (λ handle. handle.issuer ≡ self.old.manager) }
     {
-        let Ok(key) = SecretKey::try_new(self.manager.alloc(), bytes) else {
+        let Ok(key) = SecretKey::try_new(self.alloc, bytes) else {
             return Err(RegisterError::NoMemory);
         };
         self.manager.register(rt, &mut self.door, pid, key)

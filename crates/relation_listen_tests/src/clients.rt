@@ -26,6 +26,8 @@ pub(crate) fn source_of(alloc: Global, bytes: &[u8]) -> Result<MemorySource, All
 /// A registry that is shared, and its door.
 #[derive(Drop)]
 pub(crate) struct Registry {
+    /// Where its keys take their memory.
+    pub(crate) alloc: Global,
     /// The registry.
     pub(crate) manager: Arc<ConnectionManager>,
     /// Its door.
@@ -38,7 +40,11 @@ impl Registry {
     pub(crate) fn new(alloc: Global) -> Result<Registry, Fail> {
         let (manager, door) = ConnectionManager::new(alloc)?;
         let manager = Arc::new(alloc, manager)?;
-        Ok(Registry { manager, door })
+        Ok(Registry {
+            alloc,
+            manager,
+            door,
+        })
     }
 
     /// The connection of a pid.
@@ -47,7 +53,7 @@ impl Registry {
         ensures issued { IfOk result (λ handle. handle.issuer ≡ arc_value self.old.manager) }
         ensures fresh { IfOk result (λ handle. IsFresh 0 handle) }
     {
-        let key = SecretKey::try_new(self.manager.alloc(), &KEY)?;
+        let key = SecretKey::try_new(self.alloc, &KEY)?;
         match self.manager.register(rt, &mut self.door, pid, key) {
             Ok(handle) => Ok(handle),
             Err(_) => Err(Fail::from("no registration")),
@@ -56,7 +62,7 @@ impl Registry {
 
     /// Whether nobody has a pid, who is registered under it now.
     pub(crate) fn is_free<R: Wait>(&mut self, rt: &R, pid: i32) -> bool {
-        match SecretKey::try_new(self.manager.alloc(), &KEY) {
+        match SecretKey::try_new(self.alloc, &KEY) {
             Ok(key) => self.manager.register(rt, &mut self.door, pid, key).is_ok(),
             Err(_) => false,
         }

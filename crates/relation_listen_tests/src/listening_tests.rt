@@ -102,16 +102,31 @@ impl<S: Source + Drop, K: Sink + Drop> Spawner<ConnectionJob<S, K>> for Keeping<
     }
 }
 
-/// Another key for each connection.
+/// Another key for each connection, and none behind so many.
 #[derive(Drop)]
 struct Keys {
+    alloc: Global,
     last: u8,
+    most: u8,
+}
+
+impl Keys {
+    fn new(alloc: Global, most: u8) -> Keys {
+        Keys {
+            alloc,
+            last: 0,
+            most,
+        }
+    }
 }
 
 impl KeySource for Keys {
-    fn next_key(&mut self) -> [u8; 4] {
-        self.last = self.last.wrapping_add(1);
-        key_of(self.last)
+    fn next_key(&mut self) -> Result<SecretKey, AllocError> {
+        if self.last >= self.most {
+            return Err(AllocError);
+        }
+        self.last += 1;
+        SecretKey::try_new(self.alloc, &key_of(self.last)).map_err(|_| AllocError)
     }
 }
 
@@ -141,7 +156,7 @@ fn listen_for_three<R: Wait>(
         rt,
         &mut Silent::new(alloc, 1),
         spawner,
-        &mut Keys { last: 0 },
+        &mut Keys::new(alloc, u8::MAX),
         manager,
         &mut registry.door,
         table,
@@ -173,7 +188,7 @@ fn is_heard<R: Wait>(
 /// Whether a cancel of pid 1 through this registry is made.
 fn cancels_the_first<R: Wait>(rt: &R, registry: &mut Registry) -> Result<bool, Fail> {
     let mut other = registry.register(rt, 9)?;
-    let key = SecretKey::try_new(registry.manager.alloc(), &key_of(1))?;
+    let key = SecretKey::try_new(registry.alloc, &key_of(1))?;
     Ok(registry.manager.cancel(rt, &mut other, 1, &key)?)
 }
 
@@ -203,8 +218,8 @@ fn a_failed_accept_leaves_one_job(rt: HostRuntime) -> Result<(), Fail> {
     Ok(())
 }
 
-/// What the program is given: its words, the relation file, who has which pid before, and the calls
-/// that fail.
+/// What the program is given: its words, the relation file, who has which pid before, the calls
+/// that fail, and how many keys there are.
 #[derive(Clone, Copy)]
 struct Given {
     words: &'static str,
@@ -213,6 +228,7 @@ struct Given {
     read_fails_at: u64,
     accept_fails_at: u64,
     start_fails_at: u64,
+    keys: u8,
 }
 
 /// Whether a job has the program's turns, and serves the one relation of the file, of one row.
@@ -265,6 +281,7 @@ struct Stage {
     file: MemorySource,
     acceptor: Silent,
     spawner: Keeping<MemorySource, MemorySink>,
+    keys: Keys,
     line: MemorySink,
 }
 
@@ -280,6 +297,7 @@ impl Stage {
             file,
             acceptor: Silent::new(alloc, given.accept_fails_at),
             spawner: Keeping::new(alloc, given.start_fails_at),
+            keys: Keys::new(alloc, given.keys),
             line: MemorySink::new(alloc, PgList::new(alloc)),
         })
     }
@@ -299,7 +317,7 @@ impl Stage {
             &mut self.file,
             &mut self.acceptor,
             &mut self.spawner,
-            &mut Keys { last: 0 },
+            &mut self.keys,
             &mut self.line,
         ))
     }
@@ -370,6 +388,7 @@ fn listening(words: &'static str, taken: i32, accept_fails_at: u64, start_fails_
         read_fails_at: NEVER,
         accept_fails_at,
         start_fails_at,
+        keys: u8::MAX,
     }
 }
 
@@ -411,6 +430,17 @@ fn the_program_takes_in_connections(rt: HostRuntime) -> Result<(), Fail> {
     Ok(())
 }
 
+/// The third connection is accepted and has no key.
+#[test]
+fn the_program_ends_without_a_key(rt: HostRuntime) -> Result<(), Fail> {
+    let given = Given {
+        keys: 2,
+        ..listening(THREE, 9, NEVER, NEVER)
+    };
+    assert!(rt; is_answered(&rt, rt.alloc(), &given, (7, "out of memory\n", 3, 2))?);
+    Ok(())
+}
+
 /// The line that tells the commands.
 const USAGE: &str = "usage: relation_server serve FILE PID KEY [TURNS], demo SEED N, \
     listen tcp PORT FILE [COUNT], listen unix PATH FILE [COUNT]\n";
@@ -424,6 +454,7 @@ fn refused(words: &'static str, file: &'static str, read_fails_at: u64) -> Given
         read_fails_at,
         accept_fails_at: NEVER,
         start_fails_at: NEVER,
+        keys: u8::MAX,
     }
 }
 

@@ -187,11 +187,20 @@ demo_complete issuer l out.SpawnFault w old new status h (inl is) free sound = a
 
 -- ---- all of it
 
+-- the status of want of memory is a good one
+no_memory : (s : Service) (status : ℕ) (old new : Surroundings) → status ≡ 7 → IsServeComplete s status old new
+no_memory s status old new is =
+    if_some old.file (λ text. _) (λ text read. if_some old.client (λ bytes. _)
+    (λ bytes all messages rest short good free sound d h turns fits. inr (inr (inr is))))
+
 pub run_complete : (issuer : Issuer) (command : Option Command) (outcome : Outcome) (w : Option Witness) (old new : Surroundings)
     (status : ℕ)
     → HasRun issuer command outcome w old new → (status ≡ status_of outcome) ⊎ (status ≡ 7) → IsRunComplete command status old new
 run_complete issuer None outcome w old new status h reported = tt
-run_complete issuer (Some (command.Serve s)) outcome w old new status h reported =
+run_complete issuer (Some (command.Serve s)) outcome w old new status (inl h) reported =
     serve_complete issuer s outcome w old new status h reported
+run_complete issuer (Some (command.Serve s)) outcome w old new status (inr wanted) (inl told) =
+    no_memory s status old new (told ∙ ap status_of wanted.0)
+run_complete issuer (Some (command.Serve s)) outcome w old new status (inr wanted) (inr told) = no_memory s status old new told
 run_complete issuer (Some (command.Demo l)) outcome w old new status h reported =
     demo_complete issuer l outcome w old new status h.0 reported

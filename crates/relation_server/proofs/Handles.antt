@@ -9,24 +9,24 @@ use mathlib.Core.List.{IsPrefix}
 use Rattle.pg_cancel.specs.declared.entries.Entry.{Entry}
 use Rattle.pg_cancel.specs.declared.entries.RegistryCall.TheVariants.{Unregister}
 use Rattle.pg_cancel.specs.declared.entries.RegistryAnswer.TheVariants.{Done}
-use Rattle.pg_cancel.specs.Connections.{Connection, Witness, IsSameConnection, HasEnded, calls_of, entry}
+use Rattle.pg_cancel.specs.Connections.{Connection, Witness, HasEnded, calls_of, entry}
 use Rattle.pg_cancel.specs.LegalHistory.{IsLegal}
 use Rattle.pg_cancel.proofs.Prefixes.{prefix_trans}
 use Rattle.pg_handlers.specs.declared.desk.DeskCall.{DeskCall}
 use Rattle.pg_handlers.specs.Questions.{questions, questions_since}
-use Rattle.pg_serve.specs.Desk.{desk_call, desk_calls}
+use Rattle.pg_serve.specs.Desk.{ConnectionGoesOn, desk_call, desk_calls}
 use Rattle.relation_server.specs.Jobs.{IsLeftBehind}
 
 -- a connection that is gone after it was served
-pub left_behind : (h h' : Connection) (made : List Entry) (note : Witness) → IsSameConnection h h' → IsPrefix h.seen h'.seen
+pub left_behind : (h h' : Connection) (made : List Entry) (note : Witness) → ConnectionGoesOn h h' → IsPrefix h.seen h'.seen
     → h'.mine ≡ h.mine ++ made → IsLeftBehind h' [] note → IsLeftBehind h made note
 left_behind h h' made note same seen mine gone =
     let is : h'.mine ++ [] ≡ h.mine ++ made = append-nil h'.mine ∙ mine in
     record {
-      issuer = gone.issuer ∙ same.0;
+      issuer = gone.issuer ∙ same.issuer;
       seen = prefix_trans h.seen h'.seen note.seen seen gone.seen;
       legal = gone.legal;
-      own = rw (sym same.1, sym is) gone.own;
+      own = rw (sym same.number, sym is) gone.own;
     }
 
 -- the questions of a session are those of the calls that it made

@@ -1,5 +1,5 @@
 -- What comes of serving the demo load and of telling its counts. No public contract cites it.
-use Rattle.std.specs.Prelude.{ℕ, List, ◌≡◌, ◌⊎◌, Option, Some, Err, length, take}
+use Rattle.std.specs.Prelude.{ℕ, List, ◌≡◌, ◌⊎◌, Option, Some, Err, length}
 use Rattle.pg_cancel.specs.declared.entries.Entry.{Entry}
 use Rattle.pg_cancel.specs.Connections.{Connection, Witness}
 use Rattle.pg_handlers.specs.declared.ends.EndKind.{EndKind}
@@ -29,7 +29,7 @@ pub record WasCounted (h : Connection) (relations : List Relation) (count : ℕ)
     (old new : Option (List ℕ)) (faults new_faults : ℕ) : Type 0 where
   pub kind : EndKind
   pub replies : List ℕ
-  pub run : IsRun (whole_rules (relation_handlers relations)) (first_state h.pid (take 4 h.key)) client replies (desk_calls made) kind
+  pub run : IsRun (whole_rules (relation_handlers relations)) (first_state h.pid h.key) client replies (desk_calls made) kind
   pub told : HasTold outcome (demo_lines count (row_count run.fed.replies) (length client) (length replies)) old new faults new_faults
 
 -- The connection was left behind, and its conversation was told, or memory ran out before.

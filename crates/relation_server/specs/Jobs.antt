@@ -1,5 +1,5 @@
 -- What becomes of a connection whose client is served.
-use Rattle.std.specs.Prelude.{◌≡◌, ◌⊎◌, ◌++◌, ℕ, List, [], ◌∷◌, take, Option, Result, OnOk}
+use Rattle.std.specs.Prelude.{◌≡◌, ◌⊎◌, ◌++◌, ℕ, List, [], ◌∷◌, Option, Result, OnOk}
 use mathlib.Core.List.{IsPrefix}
 use Rattle.pg_cancel.specs.declared.entries.Entry.{Entry}
 use Rattle.pg_cancel.specs.declared.entries.RegistryCall.TheVariants.{Register, Unregister}
@@ -35,7 +35,7 @@ pub record HasConversed (h : Connection) (relations : List Relation) (turns : �
     (left new_left old new : Option (List ℕ)) (before after : Counts) (note : Witness) : Type 0 where
   pub made : List Entry
   pub behind : IsLeftBehind h made note
-  pub went : WentByTables relations (h.pid, take 4 h.key) answer left new_left old new (desk_calls made)
+  pub went : WentByTables relations (h.pid, h.key) answer left new_left old new (desk_calls made)
   pub cause : HasCause answer turns (questions (desk_calls made)) before after
   pub calm : OnOk answer (IsCalm before after)
   pub never_falls : FaultsNeverFall before after

@@ -221,10 +221,12 @@ HasRunListening (Some count) outcome old new = HasListened count outcome old new
 
 -- ---- all of it
 
--- What came of the words: nothing where they are no command; or what comes of it.
+-- What came of the words: nothing where they are no command; or what comes of it. There may be no memory for the key of `serve`; then
+-- nothing was done.
 abbrev pub HasRun : Issuer → Option Command → Outcome → Option Witness → Surroundings → Surroundings → Type 0
 HasRun issuer None outcome noted old new = (outcome ≡ Usage) × (noted ≡ None) × (new ≡ old)
 HasRun issuer (Some (command.Serve s)) outcome noted old new = HasServedFile issuer s outcome noted old new
+    ⊎ ((outcome ≡ Conversation (Err NoMemory)) × (noted ≡ None) × (new ≡ old))
 HasRun issuer (Some (command.Demo l)) outcome noted old new = HasShown issuer l outcome noted old new × IsFileUntouched old new
     × IsReadNothing old new
 

@@ -9,7 +9,6 @@ ghost use Rattle.relation_server.specs.declared.accept_loop.ListenError.{ListenE
 
 use crate::connection_job::ConnectionJob;
 use pg_cancel::{ConnectionManager, Door, RegisterError};
-use pg_messages::SecretKey;
 use pg_serve::{Acceptor, Job, KeySource, SpawnFailed, Spawner};
 use relation_handlers::RelationTable;
 use std::alloc::AllocError;
@@ -36,8 +35,9 @@ pub enum ListenError {
 /// reads no byte of a connection.
 ///
 /// AcceptFault comes where a connection could not be accepted, SpawnFault where a job could not be
-/// started, PidTaken where the next pid has a live registration, NoMemory where memory ran out. A
-/// connection that was accepted then is dropped, and the jobs that were started go on.
+/// started, PidTaken where the next pid has a live registration, NoMemory where memory ran out or
+/// there was no key. A connection that was accepted then is dropped, and the jobs that were started
+/// go on.
 pub fn listen<R: Wait, A: Acceptor, P: Spawner<ConnectionJob<A::In, A::Out>>, G: KeySource>(
     rt: &R,
     acceptor: &mut A,
@@ -120,10 +120,7 @@ fn take_in<R: Wait, A: Acceptor, P: Spawner<ConnectionJob<A::In, A::Out>>, G: Ke
     };
     let manager = Arc::try_clone(manager)?;
     let relations = Arc::try_clone(relations)?;
-    let bytes = keys.next_key();
-    let Ok(key) = SecretKey::try_new(manager.alloc(), &bytes) else {
-        return Err(ListenError::NoMemory);
-    };
+    let key = keys.next_key()?;
     match manager.register(rt, door, pid as i32, key) {
         Ok(handle) => start(
             spawner,

@@ -1,13 +1,13 @@
 //! The service of one connection, as a value that a thread may take.
 
-ghost use Rattle.std.specs.Prelude.{◌≡◌, ◌++◌, [], List, OnOk, take};
+ghost use Rattle.std.specs.Prelude.{◌≡◌, ◌++◌, [], List, OnOk};
 ghost use Rattle.std.specs.Arc.{arc_value};
 ghost use mathlib.Core.List.{IsPrefix};
-ghost use Rattle.pg_cancel.specs.Connections.{IsSameConnection, calls_of};
+ghost use Rattle.pg_cancel.specs.Connections.{calls_of};
 ghost use Rattle.pg_cancel.specs.LegalHistory.{IsLegal};
 ghost use Rattle.pg_cancel.specs.declared.entries.Entry.{Entry};
 ghost use Rattle.pg_handlers.specs.Questions.{questions_since};
-ghost use Rattle.pg_serve.specs.Desk.{desk_calls};
+ghost use Rattle.pg_serve.specs.Desk.{ConnectionGoesOn, desk_calls};
 ghost use Rattle.pg_serve.specs.Serving.{HasCause, FaultsNeverFall, IsCalm, ReadsGaveBytes, counts_of};
 ghost use Rattle.relation_tables.specs.RelationHandler.{relation_handlers};
 ghost use Rattle.relation_serving.specs.Completeness.{IsComplete};
@@ -47,7 +47,7 @@ impl<S: Source, K: Sink> ConnectionJob<S, K> {
         ensures went { (made : List Entry) × (self.new.handle.mine ≡ self.old.handle.mine ++ made)
             × WentByTables (arc_value self.old.relations) (
               self.old.handle.pid,
-              take 4 self.old.handle.key,
+              self.old.handle.key,
             ) result
             (S.left self.old.source) (S.left self.new.source) (K.written self.old.sink)
             (K.written self.new.sink)
@@ -71,7 +71,7 @@ impl<S: Source, K: Sink> ConnectionJob<S, K> {
             (S.reads self.new.source) }
         ensures kept { (self.new.relations ≡ self.old.relations)
             × (self.new.turn_limit ≡ self.old.turn_limit) }
-        ensures same { IsSameConnection self.old.handle self.new.handle }
+        ensures same { ConnectionGoesOn self.old.handle self.new.handle }
         ensures seen { IsPrefix self.old.handle.seen self.new.handle.seen }
         ensures legal { IsLegal self.new.handle.seen }
         ensures own { calls_of self.new.handle.number self.new.handle.seen ≡ self.new.handle.mine }

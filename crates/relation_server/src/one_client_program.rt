@@ -13,20 +13,20 @@ use crate::demo::show_demo;
 use crate::outcome::Outcome;
 use crate::report::report;
 use pg_cancel::{ConnectionManager, Door, Note, RegisterError};
-use pg_messages::{PgStr, SecretKey};
+use pg_messages::PgStr;
 use pg_session::{Sink, Source};
 use relation_files::read_relations;
 use relation_handlers::RelationTable;
 use relation_words::{Command, Service, read_command};
-use std::alloc::Global;
+use std::alloc::{AllocError, Global};
 use std::sync::Wait;
 
 /// The program over one client. The words are a command:
 ///
 /// - `serve FILE PID KEY [TURNS]` reads the relation file from `file`, registers PID and KEY,
 ///   serves the client's bytes with the replies to `out`, and ends the registration. PID is 1 to
-///   2147483647, KEY eight hexadecimal digits, and TURNS 1 to 18446744073709551615, by default
-///   1000000000.
+///   2147483647, KEY an even number of hexadecimal digits, 8 to 512 of them, and TURNS 1 to
+///   18446744073709551615, by default 1000000000.
 /// - `demo SEED N` generates N relations from SEED and a client that runs each, serves it under pid
 ///   1 and key 00000000 with 2^63 turns, and writes four lines to `out`: `relations N`, `rows R`
 ///   (rows that were sent), `in B` and `out C` (bytes of the client and of the replies). SEED is 0
@@ -99,12 +99,13 @@ fn carry_out<R: Wait, F: Source, S: Source, K: Sink>(
         (counts_of S.reads S.faults K.faults client.new out.new) }
     ensures issued { door.new.issuer ≡ door.old.issuer }
 {
-    match read_command(words) {
-        None => (Outcome::Usage, None),
-        Some(Command::Serve(service)) => {
+    match read_command(alloc, words) {
+        Err(AllocError) => (Outcome::OUT_OF_MEMORY, None),
+        Ok(None) => (Outcome::Usage, None),
+        Ok(Some(Command::Serve(service))) => {
             serve_file(rt, alloc, service, manager, door, file, client, out)
         }
-        Some(Command::Demo(load)) => show_demo(rt, alloc, load, manager, door, out),
+        Ok(Some(Command::Demo(load))) => show_demo(rt, alloc, load, manager, door, out),
     }
 }
 
@@ -158,10 +159,7 @@ fn serve_table<R: Wait, S: Source, K: Sink>(
         (counts_of S.reads S.faults K.faults client.new out.new) }
     ensures issued { door.new.issuer ≡ door.old.issuer }
 {
-    let Ok(key) = SecretKey::try_new(alloc, &service.key) else {
-        return (Outcome::OUT_OF_MEMORY, None);
-    };
-    match manager.register(rt, door, service.pid, key) {
+    match manager.register(rt, door, service.pid, service.key) {
         Err(RegisterError::PidTaken(_)) => (Outcome::PidTaken, None),
         Err(RegisterError::NoMemory) => (Outcome::OUT_OF_MEMORY, None),
         Ok(handle) => {

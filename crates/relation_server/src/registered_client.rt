@@ -1,14 +1,14 @@
 //! A client of relations is served through its connection to the shared registry.
 
-ghost use Rattle.std.specs.Prelude.{◌≡◌, ◌++◌, List, IfOk, OnOk, take};
+ghost use Rattle.std.specs.Prelude.{◌≡◌, ◌++◌, List, IfOk, OnOk};
 ghost use mathlib.Core.List.{IsPrefix};
-ghost use Rattle.pg_cancel.specs.Connections.{IsSameConnection, calls_of};
+ghost use Rattle.pg_cancel.specs.Connections.{calls_of};
 ghost use Rattle.pg_cancel.specs.LegalHistory.{IsLegal};
 ghost use Rattle.pg_cancel.specs.declared.entries.Entry.{Entry};
 ghost use Rattle.pg_handlers.specs.Questions.{questions_since};
 ghost use Rattle.pg_handlers.specs.State.{first_state};
 ghost use Rattle.pg_handlers.specs.declared.desk.DeskCall.{DeskCall};
-ghost use Rattle.pg_serve.specs.Desk.{desk_calls};
+ghost use Rattle.pg_serve.specs.Desk.{ConnectionGoesOn, desk_calls};
 ghost use Rattle.pg_session.specs.Session.{whole_rules};
 ghost use Rattle.pg_serve.specs.Serving.{HasCause, EndsAtLast, FaultsNeverFall, IsCalm, ReadsGaveBytes, counts_of};
 ghost use Rattle.relation_tables.specs.RelationHandler.{relation_handlers};
@@ -43,17 +43,14 @@ pub fn serve_relations<R: Wait, S: Source, K: Sink>(
     // The bytes written and the connection's new calls are the conversation tables' answer to the
     // client's bytes, however cut.
     ensures went { (made : List Entry) × (handle.new.mine ≡ handle.old.mine ++ made)
-        × WentByTables relations.now (
-          handle.old.pid,
-          take 4 handle.old.key,
-        ) result (S.left source.old) (S.left source.new)
+        × WentByTables relations.now (handle.old.pid, handle.old.key) result (S.left source.old) (S.left source.new)
         (K.written sink.old) (K.written sink.new) (desk_calls made) }
     ensures cause { HasCause result turn_limit
         (questions_since (desk_calls handle.old.mine) (desk_calls handle.new.mine))
         (counts_of S.reads S.faults K.faults source.old sink.old)
         (counts_of S.reads S.faults K.faults source.new sink.new) }
     ensures last { IfOk result (EndsAtLast (whole_rules (relation_handlers relations.now))
-        (first_state handle.old.pid (take 4 handle.old.key)) (S.left source.old) (S.left source.new)) }
+        (first_state handle.old.pid handle.old.key) (S.left source.old) (S.left source.new)) }
     ensures calm { OnOk result (IsCalm (counts_of S.reads S.faults K.faults source.old sink.old)
         (counts_of S.reads S.faults K.faults source.new sink.new)) }
     ensures never_falls { FaultsNeverFall (counts_of S.reads S.faults K.faults source.old sink.old)
@@ -70,7 +67,7 @@ pub fn serve_relations<R: Wait, S: Source, K: Sink>(
 
     // What the connection has seen of the one history goes on, and is legal, and has just its own
     // calls under its number.
-    ensures same { IsSameConnection handle.old handle.new }
+    ensures same { ConnectionGoesOn handle.old handle.new }
     ensures seen { IsPrefix handle.old.seen handle.new.seen }
     ensures legal { IsLegal handle.new.seen }
     ensures own { calls_of handle.new.number handle.new.seen ≡ handle.new.mine }
@@ -97,17 +94,14 @@ fn serve_at_desk<R: Wait, S: Source, K: Sink>(
     requires issued { handle.old.issuer ≡ manager.now }
     ensures went { (calls : List DeskCall)
         × (desk_calls handle.new.mine ≡ desk_calls handle.old.mine ++ calls)
-        × WentByTables relations.now (
-          handle.old.pid,
-          take 4 handle.old.key,
-        ) result (S.left source.old) (S.left source.new)
+        × WentByTables relations.now (handle.old.pid, handle.old.key) result (S.left source.old) (S.left source.new)
         (K.written sink.old) (K.written sink.new) calls }
     ensures cause { HasCause result turn_limit
         (questions_since (desk_calls handle.old.mine) (desk_calls handle.new.mine))
         (counts_of S.reads S.faults K.faults source.old sink.old)
         (counts_of S.reads S.faults K.faults source.new sink.new) }
     ensures last { IfOk result (EndsAtLast (whole_rules (relation_handlers relations.now))
-        (first_state handle.old.pid (take 4 handle.old.key)) (S.left source.old) (S.left source.new)) }
+        (first_state handle.old.pid handle.old.key) (S.left source.old) (S.left source.new)) }
     ensures calm { OnOk result (IsCalm (counts_of S.reads S.faults K.faults source.old sink.old)
         (counts_of S.reads S.faults K.faults source.new sink.new)) }
     ensures never_falls { FaultsNeverFall (counts_of S.reads S.faults K.faults source.old sink.old)
@@ -117,7 +111,7 @@ fn serve_at_desk<R: Wait, S: Source, K: Sink>(
         (counts_of S.reads S.faults K.faults source.new sink.new) }
     ensures reads { ReadsGaveBytes (S.left source.old) (S.left source.new) (S.reads source.old)
         (S.reads source.new) }
-    ensures same { IsSameConnection handle.old handle.new }
+    ensures same { ConnectionGoesOn handle.old handle.new }
 {
     let mut desk = HandleDesk {
         runtime: rt,

@@ -38,6 +38,7 @@ Z\0\0\0\x05I";
 struct Canceler {
     manager: Arc<ConnectionManager>,
     handle: ConnectionHandle,
+    key: SecretKey,
     begun: Arc<AtomicBool>,
     met: u32,
     ghost issued: { handle.issuer ≡ arc_value manager },
@@ -55,10 +56,7 @@ impl Canceler {
 
     /// Cancels once.
     fn cancel<R: Wait>(&mut self, rt: &R) {
-        let Ok(key) = SecretKey::try_new(self.manager.alloc(), &KEY) else {
-            return;
-        };
-        let made = self.manager.cancel(rt, &mut self.handle, 7, &key);
+        let made = self.manager.cancel(rt, &mut self.handle, 7, &self.key);
         if made.unwrap_or(false) {
             self.met = self.met.saturating_add(1);
         }
@@ -148,9 +146,11 @@ fn new_canceler<R: Wait>(
     let manager = Arc::try_clone(&registry.manager)?;
     let begun = Arc::try_clone(begun)?;
     let handle = registry.register(rt, 8)?;
+    let key = SecretKey::try_new(registry.alloc, &KEY)?;
     Ok(Canceler {
         manager,
         handle,
+        key,
         begun,
         met: 0,
     })

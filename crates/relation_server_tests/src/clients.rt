@@ -16,7 +16,10 @@ pub(crate) const KEY: [u8; 4] = [1, 2, 3, 4];
 /// A startup packet of version 3.0 with `user` `demo`.
 pub(crate) const STARTUP: &[u8] = b"\0\0\0\x13\0\x03\0\0user\0demo\0\0";
 
-/// That; a statement, a portal and all rows of `shifts`, as binary; Sync; Terminate.
+/// The same of version 3.2.
+pub(crate) const STARTUP_3_2: &[u8] = b"\0\0\0\x13\0\x03\0\x02user\0demo\0\0";
+
+/// A startup packet of 3.0; a statement, a portal and all rows of `shifts`, as binary; Sync; Terminate.
 pub(crate) const FIRST_PATH: &[u8] = b"\0\0\0\x13\0\x03\0\0user\0demo\0\0\
 P\0\0\0\x0e\0shifts\0\0\0\
 B\0\0\0\x0e\0\0\0\0\0\0\0\x01\0\x01\
@@ -54,6 +57,8 @@ pub(crate) fn source_of(alloc: Global, bytes: &[u8]) -> Result<MemorySource, All
 /// A registry that is shared, and its door.
 #[derive(Drop)]
 pub(crate) struct Registry {
+    /// Where its keys take their memory.
+    pub(crate) alloc: Global,
     /// The registry.
     pub(crate) manager: Arc<ConnectionManager>,
     /// Its door.
@@ -66,7 +71,11 @@ impl Registry {
     pub(crate) fn new(alloc: Global) -> Result<Registry, Fail> {
         let (manager, door) = ConnectionManager::new(alloc)?;
         let manager = Arc::new(alloc, manager)?;
-        Ok(Registry { manager, door })
+        Ok(Registry {
+            alloc,
+            manager,
+            door,
+        })
     }
 
     /// The connection of a pid.
@@ -74,7 +83,7 @@ impl Registry {
         ensures manager { self.new.manager ≡ self.old.manager }
         ensures issued { IfOk result (λ handle. handle.issuer ≡ arc_value self.old.manager) }
     {
-        let key = SecretKey::try_new(self.manager.alloc(), &KEY)?;
+        let key = SecretKey::try_new(self.alloc, &KEY)?;
         match self.manager.register(rt, &mut self.door, pid, key) {
             Ok(handle) => Ok(handle),
             Err(_) => Err(Fail::from("no registration")),
@@ -83,7 +92,7 @@ impl Registry {
 
     /// Whether nobody has a pid, who is registered under it now.
     pub(crate) fn is_free<R: Wait>(&mut self, rt: &R, pid: i32) -> bool {
-        match SecretKey::try_new(self.manager.alloc(), &KEY) {
+        match SecretKey::try_new(self.alloc, &KEY) {
             Ok(key) => self.manager.register(rt, &mut self.door, pid, key).is_ok(),
             Err(_) => false,
         }

@@ -49,7 +49,7 @@ fn is_canceled<R: Wait>(
 {
     let mut other = registry.register(rt, 8)?;
     let is_next = other.number() == 2;
-    let key = SecretKey::try_new(registry.manager.alloc(), &KEY)?;
+    let key = SecretKey::try_new(registry.alloc, &KEY)?;
     let is_made = registry.manager.cancel(rt, &mut other, 7, &key)?;
     Ok(is_next && is_made && registry.manager.ask(rt, handle)?)
 }

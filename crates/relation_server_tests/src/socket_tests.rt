@@ -2,7 +2,7 @@
 
 ghost use Rattle.std.specs.Prelude.{◌≡◌, IfOk};
 
-use crate::clients::{FIRST_PATH, FIRST_REPLIES, Registry, STARTUP};
+use crate::clients::{FIRST_PATH, FIRST_REPLIES, Registry, STARTUP, STARTUP_3_2};
 use pg_cancel::{ConnectionHandle, ConnectionManager};
 use pg_interval::Interval;
 use pg_messages::{PgList, PgStr};
@@ -166,39 +166,90 @@ fn endless(alloc: Global) -> Result<RelationTable, AllocError> {
     RelationTable::try_new(alloc, relations).or(Err(AllocError))
 }
 
-/// Sends one CancelRequest of this pid and key, and waits until the server ends the connection.
+/// Sends one CancelRequest, with its length, of this pid and key, and waits until the server ends
+/// the connection.
 fn cancel<R: Net<Stream = TcpStream>>(
     rt: &R,
     server: SocketAddr,
+    length: u8,
     registration: &[u8],
 ) -> io::Result<()> {
     let mut stream = TcpStream::connect(rt, server)?;
-    stream.write_all(b"\0\0\0\x10\x04\xd2\x16\x2e")?;
+    stream.write_all(&[0, 0, 0, length, 0x04, 0xd2, 0x16, 0x2e])?;
     stream.write_all(registration)?;
     let mut nothing = [0u8; 1];
     let _ended = stream.read(&mut nothing)?;
     Ok(())
 }
 
-/// Whether a query that never ends is canceled by one of fifty other connections. The pid and the
-/// key are the last eight of the 125 bytes up to the end of BackendKeyData; six bytes of
-/// ReadyForQuery follow.
-fn is_canceled<R: Net<Stream = TcpStream>>(rt: &R, server: SocketAddr) -> io::Result<bool> {
-    let mut stream = TcpStream::connect(rt, server)?;
-    stream.write_all(STARTUP)?;
-    let mut begun = [0u8; 131];
-    stream.read_exact(&mut begun)?;
-    stream.write_all(b"Q\0\0\0\x0cendless\0")?;
+/// The same from fifty connections, one after another.
+fn cancel_often<R: Net<Stream = TcpStream>>(
+    rt: &R,
+    server: SocketAddr,
+    length: u8,
+    registration: &[u8],
+) -> io::Result<()> {
     for _ in 0..50 {
-        cancel(rt, server, &begun[117..125])?;
+        cancel(rt, server, length, registration)?;
     }
+    Ok(())
+}
+
+/// A client that asks a query that never ends. What it is told before is read.
+fn asking<R: Net<Stream = TcpStream>>(
+    rt: &R,
+    server: SocketAddr,
+    startup: &[u8],
+    begun: &mut [u8],
+) -> io::Result<TcpStream> {
+    let mut stream = TcpStream::connect(rt, server)?;
+    stream.write_all(startup)?;
+    stream.read_exact(begun)?;
+    stream.write_all(b"Q\0\0\0\x0cendless\0")?;
+    Ok(stream)
+}
+
+/// Whether the client is told that its query was canceled. It terminates then.
+fn is_told(mut stream: TcpStream) -> io::Result<bool> {
     let mut reply = [0u8; 31];
     stream.read_exact(&mut reply)?;
     stream.write_all(b"X\0\0\0\x04")?;
     Ok(reply[5..].starts_with(b"SERROR\0VERROR\0C57014\0"))
 }
 
-/// Whether 51 connections are taken in.
+/// Whether a query of a client of 3.0 is canceled by the key that it is told. The pid and the key
+/// are the last eight of the 125 bytes up to the end of BackendKeyData; six bytes of ReadyForQuery
+/// follow.
+fn is_canceled<R: Net<Stream = TcpStream>>(rt: &R, server: SocketAddr) -> io::Result<bool> {
+    let mut begun = [0u8; 131];
+    let stream = asking(rt, server, STARTUP, &mut begun)?;
+    cancel_often(rt, server, 16, &begun[117..125])?;
+    is_told(stream)
+}
+
+/// Whether a query of a client of 3.2 is canceled by the whole key that it is told, of 32 bytes,
+/// and not by its first four bytes.
+fn is_canceled_by_a_long_key<R: Net<Stream = TcpStream>>(
+    rt: &R,
+    server: SocketAddr,
+) -> io::Result<bool> {
+    let mut begun = [0u8; 159];
+    let mut stream = asking(rt, server, STARTUP_3_2, &mut begun)?;
+    cancel_often(rt, server, 16, &begun[117..125])?;
+    let mut early = [0u8; 1];
+    stream.set_nonblocking(true)?;
+    let is_silent = stream.read(&mut early).is_err();
+    stream.set_nonblocking(false)?;
+    cancel_often(rt, server, 44, &begun[117..153])?;
+    Ok(is_told(stream)? && is_silent)
+}
+
+/// Whether both are so, one after another.
+fn are_canceled<R: Net<Stream = TcpStream>>(rt: &R, server: SocketAddr) -> io::Result<bool> {
+    Ok(is_canceled(rt, server)? && is_canceled_by_a_long_key(rt, server)?)
+}
+
+/// Whether two clients and their cancels, 152 connections, are taken in.
 fn are_taken_in<R: Wait + Clock + RandomSource + Copy + Drop>(
     rt: R,
     alloc: Global,
@@ -210,7 +261,7 @@ fn are_taken_in<R: Wait + Clock + RandomSource + Copy + Drop>(
     requires started { spawner.old.started ≡ 0 }
 {
     let table = Arc::new(alloc, endless(alloc)?)?;
-    let mut keys = RandomKeys::new(rt)?;
+    let mut keys = RandomKeys::new(alloc, rt);
     let manager = Arc::try_clone(&registry.manager)?;
     let answer = listen(
         &rt,
@@ -221,18 +272,18 @@ fn are_taken_in<R: Wait + Clock + RandomSource + Copy + Drop>(
         &mut registry.door,
         table,
         5_000_000,
-        Some(51),
+        Some(152),
     );
-    Ok(answer == Ok(51))
+    Ok(answer == Ok(152))
 }
 
-/// Whether the first two pids and the last are free.
+/// Whether the pids of both clients and the last are free.
 fn are_free<R: Wait>(rt: &R, registry: &mut Registry) -> bool {
-    registry.is_free(rt, 1) && registry.is_free(rt, 2) && registry.is_free(rt, 51)
+    registry.is_free(rt, 1) && registry.is_free(rt, 52) && registry.is_free(rt, 152)
 }
 
-/// A query that never ends is canceled while its connection is being served and others come. Each
-/// job then ends, and gives its registration back.
+/// Queries that never end are canceled while their connections are being served and others come.
+/// Each job then ends, and gives its registration back.
 #[test]
 fn a_query_is_canceled_over_tcp(rt: HostRuntime) -> Result<(), Fail> {
     jobs_cross_threads();
@@ -244,7 +295,7 @@ fn a_query_is_canceled_over_tcp(rt: HostRuntime) -> Result<(), Fail> {
     let listener = TcpListener::bind(&rt, "127.0.0.1:0")?;
     let server = listener.local_addr()?;
     let mut acceptor = SocketAcceptor::new(Listening::Tcp(listener), rt);
-    let client = thread::spawn(&rt, move || is_canceled(&rt, server).unwrap_or(false))?;
+    let client = thread::spawn(&rt, move || are_canceled(&rt, server).unwrap_or(false))?;
     let taken = are_taken_in(rt, rt.alloc(), &mut registry, &mut acceptor, &mut spawner)?;
     spawner.threads.finish(&rt);
     assert!(rt; client.join(&rt) && taken && are_free(&rt, &mut registry));

@@ -2,7 +2,6 @@
 use Rattle.std.proofs.Common.{◌==◌, ◌||◌, Bool, true, false, IsTrue, if◌then◌else◌, List, [], ◌∷◌, refl}
 use Rattle.pg_messages.specs.declared.codec.ProtocolVersion.{ProtocolVersion}
 use Rattle.pg_messages.specs.declared.codec.ProtocolVersion.TheVariants.{PROTOCOL3_0, PROTOCOL3_2}
-use Rattle.pg_messages.specs.declared.response.TransactionStatus.TheVariants as status
 use Rattle.pg_messages.specs.declared.startup.Startup.{Startup}
 use Rattle.pg_messages.specs.declared.startup.Terminate.{Terminate}
 use Rattle.pg_messages.specs.declared.frontend.PgWireFrontendMessage.{PgWireFrontendMessage}

@@ -1,5 +1,5 @@
 -- Startup, Parse, Bind, Describe, Close and Sync are answered alike by both tables.
-use Rattle.std.proofs.Common.{◌≡◌, ℕ, ◌==◌, ◌&&◌, ◌||◌, Bool, true, false, if◌then◌else◌, List, [], ◌∷◌, Option, Some, None, Ok, refl, ap, sym, ◌∙◌, map, length, nat_lt, nat_le}
+use Rattle.std.proofs.Common.{◌≡◌, ℕ, ◌==◌, ◌&&◌, Bool, true, false, if◌then◌else◌, List, [], ◌∷◌, Option, Some, None, Ok, refl, ap, sym, ◌∙◌, map, length, nat_lt, nat_le}
 use Rattle.std.proofs.Math.Path.{ap₂}
 use Rattle.std.proofs.lemmas.List.{length-map}
 use Rattle.std.specs.FinMap as fin
@@ -11,7 +11,6 @@ use Rattle.pg_messages.specs.declared.extendedquery.Close.{Close}
 use Rattle.pg_messages.specs.declared.backend.PgWireBackendMessage.TheVariants as server
 use Rattle.pg_messages.specs.declared.codec.ProtocolVersion.{ProtocolVersion}
 use Rattle.pg_messages.specs.declared.codec.ProtocolVersion.TheVariants.{PROTOCOL3_0, PROTOCOL3_2}
-use Rattle.pg_messages.specs.declared.response.TransactionStatus.TheVariants as status
 use Rattle.pg_messages.specs.Frames.{protocol_3_0, protocol_3_2, statement_target, portal_target}
 use Rattle.pg_text.specs.declared.pg_type.PgType.{PgType}
 use Rattle.pg_text.specs.declared.field_format.FieldFormat.TheVariants as field
@@ -39,7 +38,7 @@ use Rattle.relation_tables.specs.Errors.{unknown_relation}
 use Rattle.relation_tables.specs.Queries.{trimmed}
 use Rattle.relation_tables.specs.Relations.{meaning, column, columns_of}
 use Rattle.relation_tables.specs.RelationHandler.{told_extended, fields_of, or_unknown, given_types}
-use Rattle.relation_tables.specs.CoreTable.{Setting, CoreState, NotStarted, Ready, CoreStatement, CorePortal, core_says, core_refuses, core_ends, core_accepts, core_startup, core_parse, core_parsed, core_stored, core_bind, core_bound, core_put, core_describe, core_described_statement, core_described_portal, core_statement_told, core_portal_told, core_close, core_sync}
+use Rattle.relation_tables.specs.CoreTable.{Setting, CoreState, NotStarted, CoreStatement, CorePortal, core_says, core_refuses, core_ends, core_accepts, core_startup, core_parse, core_parsed, core_stored, core_bind, core_bound, core_put, core_describe, core_described_statement, core_described_portal, core_statement_told, core_portal_told, core_close, core_sync}
 use Rattle.relation_tables.specs.Premises.{AreBinary}
 use Rattle.relation_tables.proofs.Names.{AgreeEntry}
 use Rattle.relation_tables.proofs.Agreement.{Agrees, AgreeRow, AgreeCall, StatementAgrees, PortalAgrees, says_agree, refuses_agree, either_row, with_statement_agrees, with_portal_agrees, without_statement_agrees, without_portal_agrees, IsBinaryIn}

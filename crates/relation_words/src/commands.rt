@@ -1,9 +1,11 @@
 //! The commands of one conversation: `serve` and `demo`.
 
-ghost use Rattle.std.specs.Prelude.{◌≡◌, None, codes, if◌then◌else◌, option_map, is_some, IsSome, IfOk, OnErr};
+ghost use Rattle.std.specs.Prelude.{◌≡◌, None, codes, if◌then◌else◌, option_map, is_some, Some, IfOk, OnErr};
 ghost use Rattle.std.specs.Str.{bytes_eq};
 ghost use Rattle.relation_words.specs.Commands.{command_of, service_of, load_of, service, told_serving, pid_of, turns_of, load, seed_of, count_of};
 ghost use Rattle.relation_words.specs.Keys.{key_of};
+ghost use Rattle.relation_words.specs.declared.commands.Command.{Command};
+ghost use Rattle.relation_words.specs.declared.commands.Service.{Service};
 
 use crate::keys::{KeyBytes, read_key};
 use crate::numbers::{read_number, read_within};
@@ -57,7 +59,8 @@ pub struct Load {
 /// Judging the words takes no memory; the key of a good `serve` does.
 pub fn read_command(alloc: Global, words: &[PgStr]) -> Result<Option<Command>, AllocError>
     ensures ok { IfOk result (λ command. command ≡ command_of words.now) }
-    ensures err { OnErr result (IsSome (service_of words.now)) }
+    ensures err { OnErr result ((service : Service)
+        × (command_of words.now ≡ Some (Command.Serve service))) }
 {
     match read_serving(words) {
         Some(serving) => Ok(Some(Command::Serve(serving.service(alloc)?))),

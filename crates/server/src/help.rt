@@ -16,7 +16,8 @@ listen  takes in connections at 127.0.0.1:PORT (1 to 65535), or at a Unix socket
         thread of its own over the relations of FILE. It ends after COUNT connections (0 to 10000) or where it can't go
         on, once each client was served. Nothing may stand at PATH; what was made there goes at the end.
 serve   serves one client: its bytes come on standard input, the replies go to standard output. The client is told
-        PID (1 to 2147483647) and KEY (eight hexadecimal digits). It has TURNS reads and polls (default 1000000000).
+        PID (1 to 2147483647) and KEY (an even number of hexadecimal digits, 8 to 512; in 3.0 the first eight). It has
+        TURNS reads and polls (default 1000000000).
 demo    generates N relations (0 to 10000) from SEED (0 to 18446744073709551615), serves a client that reads them all,
         and counts relations, rows, and the bytes that came in and went out.
 
@@ -35,8 +36,9 @@ Examples:
   relation_server demo 7 10000
 
 Exit status: 0 done; 2 other words; 3 FILE is refused; 4 a read failed; 5 a write failed; 6 TURNS were spent;
-7 out of memory; 8 the pid is taken; 9 FILE can't be read; 10 a bad frame; 11 a fatal error; 12 the place can't be
-bound, or a connection can't be accepted; 13 a thread can't be started. Each but 0 is told by a line on standard error.
+7 out of memory, or no random bytes for a key; 8 the pid is taken; 9 FILE can't be read; 10 a bad frame; 11 a fatal
+error; 12 the place can't be bound, or a connection can't be accepted; 13 a thread can't be started. Each but 0 is told
+by a line on standard error.
 ";
 
 /// What `--version` writes.

@@ -169,9 +169,10 @@ fn main(rt: HostRuntime) -> ExitCode {
         let status = serve_standard(&rt, alloc, words, &mut out, &mut err);
         return served(status, &mut err);
     };
-    let (Ok(threads), Ok(mut keys)) = (JobThreads::new(alloc), RandomKeys::new(rt)) else {
+    let Ok(threads) = JobThreads::new(alloc) else {
         return out_of_memory(&mut err);
     };
+    let mut keys = RandomKeys::new(alloc, rt);
     let Ok(theirs) = threads.share() else {
         return out_of_memory(&mut err);
     };

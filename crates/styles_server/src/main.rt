@@ -4,9 +4,9 @@
 
 ghost use Rattle.std.specs.Prelude.{◌≡◌};
 
-use hex::FromHex;
+use hex::FromHexError;
 use pg_cancel::{ConnectionManager, Door};
-use pg_messages::{PgList, SecretKey};
+use pg_messages::{KeyError, PgList, SecretKey};
 use pg_portal::MemPortalStore;
 use pg_serve::{
     Acceptor, KeySource, Listening, MaybeTls, RandomKeys, ReaderSource, SocketAcceptor, WriterSink,
@@ -26,27 +26,50 @@ use styles::StylesHandler;
 const TURNS: u64 = 1_000_000_000;
 
 /// What the words order.
-#[derive(Clone, Copy)]
+#[derive(Drop)]
 enum Order {
     /// So many clients are served at this port of 127.0.0.1, one behind another.
     Listen(u16, u16),
     /// The client on standard input is served under this process id and key.
-    Serve(i32, [u8; 4]),
+    Serve(i32, SecretKey),
 }
 
 /// `listen PORT COUNT` or `serve PID KEY`, behind the program's name: COUNT is at most 65535, and
-/// KEY eight hexadecimal digits. None is any other words.
-fn order_of(words: &[String]) -> Option<Order> {
+/// KEY an even number of hexadecimal digits, 8 to 512 of them. None is any other words.
+fn order_of(alloc: Global, words: &[String]) -> Result<Option<Order>, AllocError> {
     let [_, order, first, second] = words else {
-        return None;
+        return Ok(None);
     };
     match order.as_str() {
-        "listen" => Some(Order::Listen(first.parse().ok()?, second.parse().ok()?)),
-        "serve" => {
-            let key = <[u8; 4] as FromHex>::from_hex(second.as_str()).ok()?;
-            Some(Order::Serve(first.parse().ok()?, key))
-        }
-        _ => None,
+        "listen" => Ok(listen_order(first, second)),
+        "serve" => serve_order(alloc, first, second),
+        _ => Ok(None),
+    }
+}
+
+fn listen_order(port: &str, count: &str) -> Option<Order> {
+    Some(Order::Listen(port.parse().ok()?, count.parse().ok()?))
+}
+
+fn serve_order(alloc: Global, pid: &str, key: &str) -> Result<Option<Order>, AllocError> {
+    let Ok(pid) = pid.parse() else {
+        return Ok(None);
+    };
+    let key = read_key(alloc, key)?;
+    Ok(key.map(|key| Order::Serve(pid, key)))
+}
+
+/// The key of these digits.
+fn read_key(alloc: Global, digits: &str) -> Result<Option<SecretKey>, AllocError> {
+    let bytes = match hex::decode(alloc, digits) {
+        Ok(bytes) => bytes,
+        Err(FromHexError::OutOfMemory) => return Err(AllocError),
+        Err(_) => return Ok(None),
+    };
+    match SecretKey::try_new(alloc, bytes.as_slice()) {
+        Ok(key) => Ok(Some(key)),
+        Err(KeyError::BadLength(_)) => Ok(None),
+        Err(KeyError::NoMemory) => Err(AllocError),
     }
 }
 
@@ -57,7 +80,7 @@ fn handlers(alloc: Global) -> Result<Arc<StylesHandler>, AllocError> {
 }
 
 /// Serves the client on standard input, whose replies go to standard output.
-fn serve_standard(rt: &HostRuntime, pid: i32, key: [u8; 4]) -> Result<EndKind, ServeError> {
+fn serve_standard(rt: &HostRuntime, pid: i32, key: SecretKey) -> Result<EndKind, ServeError> {
     let alloc = rt.alloc();
     let handlers = handlers(alloc)?;
     // No other client cancels, so that the desk needs no registry and no answers.
@@ -90,7 +113,7 @@ fn serve_connected<R: Wait>(
     manager: &ConnectionManager,
     door: &mut Door,
     pid: i32,
-    key: [u8; 4],
+    key: SecretKey,
     reader: &mut MaybeTls,
     writer: &mut MaybeTls,
 ) -> Result<EndKind, ServeError>
@@ -98,9 +121,6 @@ fn serve_connected<R: Wait>(
     ensures issued { door.new.issuer ≡ door.old.issuer }
 {
     let handlers = handlers(alloc)?;
-    let Ok(key) = SecretKey::try_new(alloc, &key) else {
-        return Err(ServeError::NoMemory);
-    };
     let Ok(mut handle) = manager.register(rt, door, pid, key) else {
         return Err(ServeError::NoMemory);
     };
@@ -139,7 +159,7 @@ fn serve_clients<R: Wait, A: Acceptor<In = MaybeTls, Out = MaybeTls>, G: KeySour
             return Err(io::Error::from(io::ErrorKind::Other));
         };
         let pid = i32::from(before) + 1;
-        let key = keys.next_key();
+        let key = keys.next_key()?;
         let _end = serve_connected(rt, alloc, manager, door, pid, key, &mut reader, &mut writer);
     }
     Ok(())
@@ -154,7 +174,7 @@ fn listen<R: Wait + Net<Stream = TcpStream, Listener = TcpListener> + Clock + Ra
 ) -> io::Result<()> {
     let listener = TcpListener::bind(&rt, ("127.0.0.1", port))?;
     let mut acceptor = SocketAcceptor::new(Listening::Tcp(listener), rt);
-    let mut keys = RandomKeys::new(rt)?;
+    let mut keys = RandomKeys::new(alloc, rt);
     let (manager, mut door) = ConnectionManager::new(alloc)?;
     serve_clients(
         &rt,
@@ -169,7 +189,7 @@ fn listen<R: Wait + Net<Stream = TcpStream, Listener = TcpListener> + Clock + Ra
 
 fn main(rt: HostRuntime) -> io::Result<ExitCode> {
     let words = env::args(&rt)?.collect::<Vec<String>>(rt.alloc())?;
-    match order_of(words.as_slice()) {
+    match order_of(rt.alloc(), words.as_slice())? {
         Some(Order::Listen(port, count)) => listen(rt, rt.alloc(), port, count)?,
         Some(Order::Serve(pid, key)) => {
             if serve_standard(&rt, pid, key).is_err() {

@@ -19,7 +19,7 @@ returns-clause-served g c =
     record {
       calls = went.0;
       answered = answered_no desk.script desk.answers desk.calls went.0
-          (c.serve_cursors_on-answer.ensures.keeps.origin ∙ ap origin_of (c.new-desk.ensures.script ∙ c.new.ensures))
+          (ap (λ d. d.origin) c.serve_cursors_on-answer.ensures.registration.grown ∙ ap origin_of (c.new-desk.ensures.script ∙ c.new.ensures))
           c.calls-calls.ensures.scripted
           (went.1 ∙ ap (λ k. k ++ went.0) c.new-desk.ensures.calls);
       went = subst (λ k. WentByCursors c.args.relations.now (c.args.service.pid, k) answer (g.S.Source.left c.args.client.now)

@@ -1,6 +1,6 @@
 use Rattle.std.proofs.Common.{◌≡◌, ◌<◌, ◌+◌, ◌++◌, ◌∙◌, refl, sym, ap, subst, arith, Ok, Err, [], inl}
 use Rattle.std.proofs.lemmas.List.{append_cancel_left}
-use Rattle.pg_handlers.proofs.Desks.{keeps_none, keeps_then}
+use Rattle.pg_handlers.proofs.Desks.{goes_on_none, goes_on_then}
 use Rattle.pg_handlers.specs.Questions.{questions_since}
 use Rattle.pg_session.specs.Session.{HasFed, is_more}
 use Rattle.pg_messages.specs.Frames.{IsUnfinished}
@@ -93,7 +93,7 @@ turns-preserved g c =
           (let s = c.if-not-spend.ensures.spent in let l = c.if-not-spend.ensures.limit in omega (arith, s, l, below));
       read_faults = c.in-Ok.ensures.calm ∙ i.read_faults;
       write_faults = c.in-Ok-More.ensures.cause.calm ∙ i.write_faults;
-      keeps = keeps_then _ _ _ i.keeps c.in-Ok-More.ensures.keeps;
+      registration = goes_on_then _ _ _ i.registration c.in-Ok-More.ensures.registration;
       source = c.in-Ok.ensures.origin ∙ i.source;
       sink = c.in-Ok-More.ensures.sink ∙ i.sink;
     }
@@ -252,7 +252,7 @@ turns-init g c = record {
   spent = let fresh = c.requires.fresh in omega (arith, fresh);
   read_faults = refl;
   write_faults = refl;
-  keeps = keeps_none _;
+  registration = goes_on_none _;
   source = refl;
   sink = refl;
 }

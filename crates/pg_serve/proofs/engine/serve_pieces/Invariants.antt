@@ -1,6 +1,6 @@
 use Rattle.std.proofs.Common.{◌≡◌, ◌≤◌, ◌<◌, ◌+◌, ◌-◌, ◌^◌, List, ℕ, [], true}
 use Rattle.pg_messages.specs.Frames.{IsUnfinished}
-use Rattle.pg_handlers.specs.Desk.{KeepsDesk}
+use Rattle.pg_handlers.specs.Desk.{GoesOn}
 use Rattle.pg_handlers.specs.Answer.{Goes}
 use Rattle.pg_handlers.specs.Questions.{questions_since}
 use Rattle.pg_session.specs.Steps.{IsServed}
@@ -29,7 +29,7 @@ invariant-turns g l = record {
   spent : l.turns.spent ≤ l.turns.limit;
   read_faults : g.S.Source.faults l.source ≡ g.S.Source.faults l.fn.source;
   write_faults : g.K.Sink.faults l.sink ≡ g.K.Sink.faults l.fn.sink;
-  keeps : KeepsDesk (g.D.CancelDesk.told l.fn.desk) (g.D.CancelDesk.told l.desk);
+  registration : GoesOn (g.D.CancelDesk.told l.fn.desk) (g.D.CancelDesk.told l.desk);
   source : g.S.Source.origin l.source ≡ g.S.Source.origin l.fn.source;
   sink : g.K.Sink.origin l.sink ≡ g.K.Sink.origin l.fn.sink;
 }
