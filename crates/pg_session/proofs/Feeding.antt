@@ -1,5 +1,5 @@
 -- What became of a text that a session was fed with, piece by piece.
-use Rattle.std.proofs.Common.{◌≡◌, ℕ, List, [], ◌∷◌, ◌++◌, Option, Result, Ok, Err, IfOk, OnErr, IsErrOf, refl, sym, append-nil}
+use Rattle.std.proofs.Common.{ℕ, List, [], ◌++◌, Option, Result, Ok, Err, IfOk, OnErr, IsErrOf, refl, sym, append-nil}
 use Rattle.pg_handlers.specs.declared.desk.DeskCall.{DeskCall}
 use Rattle.pg_handlers.specs.Answer.{Next, Goes, Stops}
 use Rattle.pg_handlers.specs.Lawful.{IsLawful}

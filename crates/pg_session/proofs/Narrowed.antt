@@ -1,5 +1,5 @@
 -- What becomes of the registration: it is narrowed to what a client is told, and to nothing else.
-use Rattle.std.proofs.Common.{◌≡◌, ℕ, Bool, true, false, if◌then◌else◌, List, [], ◌∷◌, ◌++◌, length, take, Option, Result, Ok, Err, IfOk, IfErr, refl, sym, ap, subst, ◌∙◌, ⊎_elim}
+use Rattle.std.proofs.Common.{◌≡◌, ℕ, true, false, if◌then◌else◌, List, [], ◌∷◌, ◌++◌, take, Option, Result, Ok, Err, IfOk, IfErr, refl, sym, ap, subst, ◌∙◌, ⊎_elim}
 use Rattle.std.proofs.lemmas.Bool.{ltb-false}
 use Rattle.std.proofs.lemmas.List.{take_all}
 use Rattle.pg_messages.specs.declared.codec.ProtocolVersion.{ProtocolVersion}
@@ -12,7 +12,7 @@ use Rattle.pg_handlers.specs.declared.ends.SessionError.{SessionError}
 use Rattle.pg_handlers.specs.declared.ends.SessionError.TheVariants as session
 use Rattle.pg_handlers.specs.Answer.{answers_of}
 use Rattle.pg_handlers.specs.Desk.{DeskTold, KeepsDesk, GoesOn, after_calls}
-use Rattle.pg_handlers.specs.Effect.{Outcome, IsRow, IsCutRow, IsStoppedRow, IsRefusedRow}
+use Rattle.pg_handlers.specs.Effect.{IsRow, IsCutRow, IsRefusedRow}
 use Rattle.pg_handlers.specs.Handlers.{Handlers}
 use Rattle.pg_handlers.specs.StartupRows.{told_key, tells_less, narrowing}
 use Rattle.pg_handlers.specs.State.{State}

@@ -1,11 +1,13 @@
 -- What a client is told of an error after which the server is ready.
-use Rattle.std.proofs.Common.{◌≡◌, ℕ, Bool, true, false, List, [], ◌∷◌, ◌++◌, IsTrue, codes, refl, ap, subst, ◌∙◌, append_assoc}
+use Rattle.std.proofs.Common.{◌≡◌, ℕ, Bool, true, false, List, [], ◌∷◌, ◌++◌, IsTrue, codes, refl, ap, sym, subst, ◌∙◌, append_assoc, append-nil}
 use Rattle.std.specs.Prelude.{◌↔◌, bytes_eq}
 use Rattle.std.proofs.lemmas.Slice.Eq.{bytes_eq-Decides}
 use Rattle.pg_messages.specs.declared.response.ErrorInfo.{ErrorInfo}
 use Rattle.pg_messages.specs.declared.response.TransactionStatus.{TransactionStatus}
 use Rattle.pg_messages.specs.Replies.{replies_bytes, reply_bytes}
 use Rattle.pg_messages.specs.Status.{to_error_state}
+use Rattle.pg_portal.specs.declared.client.PgWireConnectionState.TheVariants as phase
+use Rattle.pg_handlers.specs.Answer.{Goes}
 use Rattle.pg_handlers.specs.Errors.{is_fatal}
 use Rattle.pg_handlers.specs.Replies.{error_reply, ready}
 use Rattle.pg_handlers.specs.Effect.{failed}
@@ -34,3 +36,28 @@ told_ready w s told info status out mid final b is fatal off waits meant pushed 
     ∙ append_assoc out (reply_bytes (error_reply info)) (replies_bytes (ready status ∷ []))
     ∙ ap (λ i. out ++ (reply_bytes (error_reply i) ++ replies_bytes (ready status ∷ []))) is
     ∙ ap (λ t. out ++ (reply_bytes (error_reply told) ++ replies_bytes (ready t ∷ []))) meant)
+
+-- ---- an error after which messages are dropped until Sync
+
+module _ {S : Type 0} (w : Bool) (s : State S) (told info : ErrorInfo) (status : TransactionStatus) (b : Bool) (is : info ≡ told)
+    (fatal : IsTrue b ↔ (info.severity ≡ codes "FATAL")) (off : b ≡ false) where
+  plain : is_fatal told ≡ false
+  plain = not_fatal told b (subst (λ i. IsTrue b ↔ (i.severity ≡ codes "FATAL")) is fatal) off
+
+  pub told_waiting : (out mid : List ℕ) → w ≡ true → mid ≡ out ++ reply_bytes (error_reply info)
+      → mid ≡ out ++ replies_bytes (failed (scope_for w) [] [] s told).replies
+  told_waiting out mid waits pushed =
+      rw (waits, plain) (pushed ∙ ap (λ i. out ++ reply_bytes (error_reply i)) is
+      ∙ ap (λ l. out ++ l) (sym (append-nil (reply_bytes (error_reply told)))))
+
+  pub next_waiting : w ≡ true → status ≡ to_error_state s.info.status
+      → (failed (scope_for w) [] [] s told).next
+      ≡ Goes (record s { info = record s.info { status = status; state = phase.AwaitingSync } })
+  next_waiting waits meant =
+      rw (waits, plain) (ap (λ t. Goes (record s { info = record s.info { status = t; state = phase.AwaitingSync } })) (sym meant))
+
+  pub next_ready : w ≡ false → status ≡ to_error_state s.info.status
+      → (failed (scope_for w) [] [] s told).next
+      ≡ Goes (record s { info = record s.info { status = status; state = phase.ReadyForQuery } })
+  next_ready waits meant =
+      rw (waits, plain) (ap (λ t. Goes (record s { info = record s.info { status = t; state = phase.ReadyForQuery } })) (sym meant))

@@ -11,6 +11,7 @@ use Rattle.pg_handlers.specs.declared.ends.EndKind.{EndKind}
 use Rattle.pg_handlers.specs.declared.ends.SessionError.{SessionError}
 use Rattle.pg_handlers.specs.declared.ends.SessionError.TheVariants as session
 use Rattle.pg_handlers.specs.Effect.{Effect, Row, IsEffect, IsRefusedEffect, IsRow, IsRefusedRow, silent}
+use Rattle.pg_handlers.specs.StartupRows.{startup_row}
 use Rattle.pg_handlers.specs.State.{State}
 use Rattle.pg_session.specs.Messages.{outcome_of, with_session_error}
 use Rattle.pg_session.proofs.Rows.{silent_row, silent_refused, same_row, same_refused}
@@ -33,6 +34,22 @@ with_session_error_refused row e out new_out calls s (Err error) same x =
     same_refused row (λ answers. silent e) out new_out calls calls s (session.Wire error) same (silent_refused e calls x)
 
 -- ---- the row of a phase
+
+pub startup_told : {S : Type 0} (h : Handlers S) (s : State S) (m : PgWireFrontendMessage) (out new_out : List ℕ)
+    (calls new_calls : List DeskCall) (n : State S) (answer : Result (Option EndKind) SessionError)
+    → s.info.state ≡ phase.AwaitingStartup
+    → IfOk answer (λ end. IsRow (λ answers. startup_row answers s m) out new_out calls new_calls (outcome_of end n))
+    → IfOk answer (λ end. IsRow (λ answers. message_row h answers s m) out new_out calls new_calls (outcome_of end n))
+startup_told h s m out new_out calls new_calls n answer is x = subst (λ p. IfOk answer (λ end. IsRow
+    (λ answers. row h answers s m p) out new_out calls new_calls (outcome_of end n))) (sym is) x
+
+pub startup_refused : {S : Type 0} (h : Handlers S) (s : State S) (m : PgWireFrontendMessage) (out new_out : List ℕ)
+    (calls new_calls : List DeskCall) (n : State S) (answer : Result (Option EndKind) SessionError)
+    → s.info.state ≡ phase.AwaitingStartup
+    → IfErr answer (IsRefusedRow (λ answers. startup_row answers s m) out new_out calls new_calls n)
+    → IfErr answer (IsRefusedRow (λ answers. message_row h answers s m) out new_out calls new_calls n)
+startup_refused h s m out new_out calls new_calls n answer is x = subst (λ p. IfErr answer (IsRefusedRow
+    (λ answers. row h answers s m p) out new_out calls new_calls n)) (sym is) x
 
 pub ready_refused : {S : Type 0} (h : Handlers S) (s : State S) (m : PgWireFrontendMessage) (out new_out : List ℕ)
     (calls new_calls : List DeskCall) (n : State S) (answer : Result (Option EndKind) SessionError)

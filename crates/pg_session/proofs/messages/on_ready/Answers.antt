@@ -1,4 +1,4 @@
-use Rattle.std.proofs.Common.{ap, refl, inl}
+use Rattle.std.proofs.Common.{ap, inl}
 use Rattle.std.proofs.lemmas.Result.{err_from_is_err_and}
 use Rattle.pg_handlers.proofs.Desks.{keeps_none}
 use Rattle.pg_handlers.specs.State.{state_of}

@@ -3,7 +3,7 @@ use Rattle.std.specs.FinMap as fin
 use Rattle.std.specs.List.{AllByRecursion}
 use Rattle.pg_handlers.specs.State.{state_of}
 use Rattle.pg_handlers.proofs.Desks.{goes_on_none, goes_on_as, goes_on_after}
-use Rattle.pg_session.proofs.Starting.{IsShortPair, metadata_short, accept_cut_first, accept_cut, accepted}
+use Rattle.pg_session.proofs.Starting.{IsShortPair, metadata_short, accept_cut_first, accept_cut}
 use Rattle.pg_session.proofs.Stepping.{on_err_always}
 use Rattle.pg_session.proofs.startup.accept.Goals as goal
 
@@ -33,13 +33,6 @@ returns-in_err-push_startup-clause-cut g c =
 
 pub returns-in_err-push_startup-clause-registration : goal.returns-in_err-push_startup-clause-registration
 returns-in_err-push_startup-clause-registration g c = goes_on_after _ _ _ c.in_ok-narrow.ensures.registration
-
-pub returns-clause-ok : goal.returns-clause-ok
-returns-clause-ok g c =
-    accepted (state_of g.St.PortalStore.maps c.args.client.now) c.args.protocol c.args.message
-    (g.D.CancelDesk.told c.args.desk.now).calls (g.D.CancelDesk.told c.narrow.new.desk).calls c.args.client.now.outbox
-    c.push_startup.new.outbox c.narrow.new.key c.in_ok-metadata.metadata (ap (λ d. d.calls) c.in_ok-narrow.ensures.registration)
-    c.in_ok-narrow.ensures.key c.in_ok-metadata.ensures c.in_ok-push_startup.ensures
 
 pub returns-clause-metadata : goal.returns-clause-metadata
 returns-clause-metadata g c = λ before. subst (λ metadata. AllByRecursion IsShortPair (fin.entries metadata))

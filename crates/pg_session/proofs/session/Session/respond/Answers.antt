@@ -5,7 +5,7 @@ use Rattle.pg_handlers.specs.Questions.{questions_since}
 use Rattle.pg_handlers.specs.Table.{scope_in}
 use Rattle.pg_session.specs.Messages.{scope_for, next_of}
 use Rattle.pg_session.proofs.Spending.{fed_where_told, fed_no_memory}
-use Rattle.pg_session.proofs.Answering.{cut_behind_row, cut_behind_stopped, stopped_row, cut_refused, row_where_told, answered_by_error, none_or_fatal, goes_on_alike}
+use Rattle.pg_session.proofs.Answering.{cut_behind_stopped, stopped_row, cut_refused, row_where_told, answered_by_error, none_or_fatal, goes_on_alike}
 use Rattle.pg_session.proofs.session.Session.respond.Goals as goal
 
 pub returns-in-Err-TurnLimit-clause-err : goal.returns-in-Err-TurnLimit-clause-err

@@ -1,4 +1,4 @@
-use Rattle.std.proofs.Common.{arith, Option, Ok, Err, [], sym, ap, subst, refl, ◌∙◌}
+use Rattle.std.proofs.Common.{Option, Ok, Err, [], sym, ap, subst, refl, ◌∙◌}
 use Rattle.pg_handlers.proofs.Desks.{goes_on_none, goes_on_then}
 use Rattle.pg_handlers.specs.Questions.{questions_since}
 use Rattle.pg_handlers.specs.Table.{awaits}
@@ -189,3 +189,13 @@ messages-preserved g c =
       registration = goes_on_then _ _ _ so_far.registration c.in_ok-step.ensures.registration;
       origin = c.in_ok-step.ensures.sink ∙ so_far.origin;
     }
+
+pub returns-in_err-step-clause-registration : goal.returns-in_err-step-clause-registration
+returns-in_err-step-clause-registration g c = goes_on_then _ _ _ c.messages.invariant.registration c.in_err-step.ensures.registration
+
+pub returns-in_err-flush_all-in-Some-clause-registration : goal.returns-in_err-flush_all-in-Some-clause-registration
+returns-in_err-flush_all-in-Some-clause-registration g c =
+    goes_on_then _ _ _ c.messages.invariant.registration c.in_ok-step.ensures.registration
+
+pub returns-in-Some-clause-registration : goal.returns-in-Some-clause-registration
+returns-in-Some-clause-registration g c = goes_on_then _ _ _ c.messages.invariant.registration c.in_ok-step.ensures.registration

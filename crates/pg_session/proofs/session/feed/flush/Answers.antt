@@ -1,5 +1,5 @@
 -- Each chunk goes behind what was sent before.
-use Rattle.std.proofs.Common.{List, ℕ, [], arith, length-drop, subst, ◌∙◌}
+use Rattle.std.proofs.Common.{arith, length-drop, subst, ◌∙◌}
 use Rattle.pg_session.specs.Streams.{GrowsBy, GrowsByFront}
 use Rattle.pg_session.proofs.Flowing.{Flows-chunk, Flows-then, all_sent, cut_in_chunk}
 use Rattle.pg_session.proofs.Stepping.{on_err_always}

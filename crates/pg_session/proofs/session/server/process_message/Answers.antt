@@ -10,7 +10,7 @@ use Rattle.pg_session.specs.Messages.{with_session_error}
 use Rattle.pg_session.proofs.Narrowed.{ready_goes_on}
 use Rattle.pg_session.proofs.Rows.{row_as, refused_as}
 use Rattle.pg_session.proofs.StartupTurns.{startup_turns}
-use Rattle.pg_session.proofs.ToldRows.{with_session_error_ok, with_session_error_refused, ready_refused, sync_row, copy_phase_row}
+use Rattle.pg_session.proofs.ToldRows.{with_session_error_ok, with_session_error_refused, startup_told, startup_refused, ready_refused, sync_row, copy_phase_row}
 use Rattle.pg_session.proofs.session.server.process_message.Goals as goal
 
 pub invariant_of-session : goal.invariant_of-session
@@ -33,6 +33,32 @@ returns-in-AwaitingStartup-clause-turns g c =
     c.args.turns.now old.outbox answered.new.client.outbox (g.D.CancelDesk.told c.args.desk.now).calls
     (g.D.CancelDesk.told answered.new.desk).calls answered.result answered.ensures.ok answered.ensures.refused
     answered.ensures.unlimited
+
+pub returns-in-AwaitingStartup-clause-ok : goal.returns-in-AwaitingStartup-clause-ok
+returns-in-AwaitingStartup-clause-ok g c =
+    let handlers = arc_value c.session.inside.handlers in
+    let old = c.session.inside.client in
+    let answered = c.on_startup_phase-outcome in
+    let new = state_of g.St.PortalStore.maps answered.new.client in
+    let calls = (g.D.CancelDesk.told c.args.desk.now).calls in
+    let new_calls = (g.D.CancelDesk.told answered.new.desk).calls in
+    row_as g.H.PgWireServerHandlers.told _ c.args.session.now c.args.message answered.new.client.outbox calls new_calls new
+    answered.result c.session.view_is
+    (startup_told (g.H.PgWireServerHandlers.told handlers) (state_of g.St.PortalStore.maps old) c.args.message old.outbox
+    answered.new.client.outbox calls new_calls new answered.result c.in-AwaitingStartup.is answered.ensures.ok)
+
+pub returns-in-AwaitingStartup-clause-refused : goal.returns-in-AwaitingStartup-clause-refused
+returns-in-AwaitingStartup-clause-refused g c =
+    let handlers = arc_value c.session.inside.handlers in
+    let old = c.session.inside.client in
+    let answered = c.on_startup_phase-outcome in
+    let new = state_of g.St.PortalStore.maps answered.new.client in
+    let calls = (g.D.CancelDesk.told c.args.desk.now).calls in
+    let new_calls = (g.D.CancelDesk.told answered.new.desk).calls in
+    refused_as g.H.PgWireServerHandlers.told _ c.args.session.now c.args.message answered.new.client.outbox calls new_calls new
+    answered.result c.session.view_is
+    (startup_refused (g.H.PgWireServerHandlers.told handlers) (state_of g.St.PortalStore.maps old) c.args.message old.outbox
+    answered.new.client.outbox calls new_calls new answered.result c.in-AwaitingStartup.is answered.ensures.refused)
 
 pub returns-in-ReadyForQuery-clause-refused : goal.returns-in-ReadyForQuery-clause-refused
 returns-in-ReadyForQuery-clause-refused g c =
