@@ -1,5 +1,5 @@
 -- The fields of a recording: what is read is spelled so, and what is spelled so is read.
-use Rattle.std.proofs.Common.{◌≡◌, ℕ, ℤ, zero, suc, ◌+◌, ◌-◌, ◌^◌, ◌<◌, ◌≤◌, Bool, true, false, ◌&&◌, cond, eqb, ltb, leb, List, [], ◌∷◌, ◌++◌, length, take, drop, Result, Ok, Err, refl, sym, ap, subst, ◌∙◌, append_assoc, arith}
+use Rattle.std.proofs.Common.{◌≡◌, ℕ, ℤ, zero, suc, ◌-◌, ◌^◌, ◌<◌, ◌≤◌, Bool, true, false, ◌&&◌, cond, eqb, ltb, leb, List, [], ◌∷◌, ◌++◌, length, take, drop, Ok, Err, refl, sym, ap, subst, ◌∙◌, append_assoc, arith}
 use Rattle.std.specs.Prelude.{FitsSigned}
 use Rattle.std.specs.List.{flat_map, AllByRecursion}
 use Rattle.std.specs.Int.{Width, w16, w32, w64, byte_len, from_be_bytes, to_be_bytes, cast_signed, cast_unsigned}
@@ -17,10 +17,9 @@ use Rattle.pg_handlers.specs.declared.desk.DeskCall.{DeskCall}
 use Rattle.pg_handlers.specs.declared.desk.DeskCall.TheVariants as desk
 use Rattle.pg_handlers.specs.declared.ends.EndKind.{EndKind}
 use Rattle.pg_handlers.specs.declared.ends.EndKind.TheVariants as end
-use Rattle.recording_text.specs.declared.recording.ReadError.{ReadError}
 use Rattle.recording_text.specs.declared.recording.ReadError.TheVariants.{Truncated, BadField}
 use Rattle.recording_text.specs.Text.{count64, key_text, bytes_text, call_text, calls_text, end_byte, IsKey, IsCall}
-use Rattle.recording_text.specs.Judging.{◌>>=◌, Reading, both_at, as_at, items_at, bytes_at, number_at, signed_at, number_is_at, key_len_at, key_at, counted_at, registration_at, cancel_of, call_at, calls_at, end_at}
+use Rattle.recording_text.specs.Judging.{◌>>=◌, Reading, as_at, items_at, bytes_at, number_at, signed_at, number_is_at, key_len_at, key_at, counted_at, registration_at, cancel_of, call_at, calls_at, end_at}
 use Rattle.recording_text.proofs.Laws.{Reads, bind_ok, guard_ok, pass_ok, done, ok_is, err_is_not, Reads-both, Reads-as, items_take, items_again}
 
 -- ---- numbers
@@ -94,7 +93,7 @@ Reads-key_len all = record {
       let g = pass_ok (leb 4 a.0.0 && leb a.0.0 256) (BadField (all - length bytes)) a.0 (n, rest) a.2 in
       let t = number_takes w16 (2 ^ 16) wide16 bytes a.0.0 a.0.1 fits a.1 in
       let parts = and_parts (leb 4 a.0.0) (leb a.0.0 256) g.0 in
-      subst (λ (x : ℕ × List ℕ). (bytes ≡ count16 x.0 ++ x.1) × ((4 ≤ x.0) × (x.0 ≤ 256))) g.1 (t.0, leb-true _ _ parts.0, leb-true _ _ parts.1);
+      subst (λ (x : ℕ × List ℕ). (bytes ≡ count16 x.0 ++ x.1) × ((4 ≤ x.0) × (x.0 ≤ 256))) g.1 (t.0, (leb-true _ _ parts.0, leb-true _ _ parts.1));
   again = λ n rest good.
       rw (number_again w16 (2 ^ 16) wide16 n rest (omega (arith, good.1)), le-leb _ _ good.0, le-leb _ _ good.1) refl;
 }

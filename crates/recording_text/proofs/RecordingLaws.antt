@@ -1,5 +1,5 @@
 -- Recordings: what is read has the bytes as its text, and what has them as its text is read.
-use Rattle.std.proofs.Common.{◌≡◌, ℕ, ℤ, ◌+◌, ◌-◌, ◌^◌, ◌<◌, true, cond, eqb, List, [], ◌∷◌, ◌++◌, length, Result, Ok, Err, refl, sym, ap, subst, ◌∙◌, arith, inl, inr}
+use Rattle.std.proofs.Common.{◌≡◌, ℕ, ℤ, ◌-◌, ◌^◌, ◌<◌, cond, eqb, List, [], ◌∷◌, ◌++◌, length, Result, Ok, Err, refl, sym, ap, subst, ◌∙◌, arith, inl, inr}
 use Rattle.std.specs.Prelude.{FitsSigned, IfOk}
 use Rattle.std.specs.List.{AllByRecursion}
 use Rattle.std.specs.Int.{w32}
@@ -14,7 +14,7 @@ use Rattle.recording_text.specs.declared.recording.Recording.{Recording}
 use Rattle.recording_text.specs.declared.recording.ReadError.{ReadError}
 use Rattle.recording_text.specs.declared.recording.ReadError.TheVariants.{Truncated, BadField, Trailing, NoMemory}
 use Rattle.recording_text.specs.Text.{tag, key_text, bytes_text, calls_text, end_byte, recording_text, IsKey, IsCall, IsRecordable}
-use Rattle.recording_text.specs.Judging.{◌>>=◌, AnswersUnlessNoMemory, Gives, Parts, both_at, tag_at, signed_at, key_at, counted_at, calls_at, end_at, parts_at, recording_of, judged}
+use Rattle.recording_text.specs.Judging.{◌>>=◌, AnswersUnlessNoMemory, Gives, Parts, tag_at, signed_at, key_at, counted_at, calls_at, end_at, parts_at, recording_of, judged}
 use Rattle.recording_text.proofs.Laws.{Reads, bind_ok, pass_ok, Reads-both}
 use Rattle.recording_text.proofs.FieldLaws.{Reads-signed, Reads-this, Reads-key, Reads-counted, Reads-calls, Reads-end}
 

@@ -1,5 +1,5 @@
 -- Recording text: the bytes that a recording is kept as. Numbers are big-endian, and counts are unsigned.
-use Rattle.std.specs.Prelude.{ℕ, List, [], ◌∷◌, ◌++◌, ◌<◌, ◌≤◌, ◌^◌, Bool, true, false, length, FitsSigned}
+use Rattle.std.specs.Prelude.{ℕ, List, [], ◌∷◌, ◌++◌, ◌<◌, ◌≤◌, ◌^◌, true, false, length, FitsSigned}
 use Rattle.std.specs.List.{AllByRecursion, flat_map}
 use Rattle.std.specs.Int.{w32, w64, to_be_bytes}
 use Rattle.pg_messages.specs.Fields.{int32, count16, count32}
