@@ -1,9 +1,7 @@
 -- What becomes of a connection whose client was served.
-use Rattle.std.proofs.Common.{◌≡◌, ℕ, List, [], ◌∷◌, ◌++◌, drop, length, sym, ap, ◌∙◌, inl, inr}
-use Rattle.std.specs.Prelude.{◌==◌}
+use Rattle.std.proofs.Common.{◌≡◌, List, [], ◌∷◌, ◌++◌, drop, length, sym, ap, ◌∙◌, inl, inr}
 use Rattle.std.proofs.Math.Seq.{drop-append_seam}
-use Rattle.std.proofs.lemmas.List.{append-nil, append_assoc, append_cancel_left}
-use Rattle.std.proofs.lemmas.List.Elements.{filter-append}
+use Rattle.std.proofs.lemmas.List.{append-nil, append_assoc}
 use Rattle.std.proofs.lemmas.Grind.{flat_map-append}
 use mathlib.Core.List.{IsPrefix}
 use Rattle.pg_cancel.specs.declared.entries.Entry.{Entry}
@@ -12,7 +10,6 @@ use Rattle.pg_cancel.specs.declared.entries.RegistryAnswer.TheVariants.{Done}
 use Rattle.pg_cancel.specs.Connections.{Connection, Witness, HasEnded, calls_of, entry}
 use Rattle.pg_cancel.specs.LegalHistory.{IsLegal}
 use Rattle.pg_cancel.proofs.Prefixes.{prefix_trans}
-use Rattle.pg_handlers.specs.declared.desk.DeskCall.{DeskCall}
 use Rattle.pg_handlers.specs.Questions.{questions, questions_since}
 use Rattle.pg_serve.specs.Desk.{ConnectionGoesOn, desk_call, desk_calls}
 use Rattle.relation_server.specs.Jobs.{IsLeftBehind}

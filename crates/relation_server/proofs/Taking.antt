@@ -4,7 +4,7 @@ use Rattle.std.proofs.lemmas.List.{append-nil, append_assoc, append_cancel_left,
 use Rattle.std.proofs.lemmas.List.Elements.{filter-append}
 use Rattle.pg_cancel.specs.declared.entries.Entry.{Entry}
 use Rattle.pg_cancel.specs.declared.entries.RegistryCall.{RegistryCall}
-use Rattle.pg_cancel.specs.declared.entries.RegistryCall.TheVariants.{Register, Start, Ask, Cancel, Unregister}
+use Rattle.pg_cancel.specs.declared.entries.RegistryCall.TheVariants.{Register, Start, Ask, Cancel, Narrow, Unregister}
 use Rattle.pg_cancel.specs.declared.entries.RegistryAnswer.TheVariants.{Registered, Taken}
 use Rattle.pg_cancel.specs.Connections.{is_register, registers_of, entry, Registers}
 use Rattle.relation_server.specs.declared.accept_loop.ListenError.{ListenError}
@@ -30,6 +30,7 @@ told_register (Register p key) pid is = refl
 told_register Start pid is = absurd (cc (is))
 told_register Ask pid is = absurd (cc (is))
 told_register (Cancel p key) pid is = absurd (cc (is))
+told_register Narrow pid is = absurd (cc (is))
 told_register Unregister pid is = absurd (cc (is))
 
 -- ---- one Register

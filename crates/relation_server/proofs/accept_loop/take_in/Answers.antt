@@ -10,7 +10,7 @@ use Rattle.relation_server.proofs.accept_loop.take_in.Goals as goal
 pub returns-in-Ok-register-clause-taken : goal.returns-in-Ok-register-clause-taken
 returns-in-Ok-register-clause-taken g c =
     let number = c.in-Ok-register.handle.number in
-    let key = c.next_key-key.result in
+    let key = c.in_ok-key.key in
     let seen = c.args.door.now.seen in
     let seen' = c.register.new.door.seen in
     let fits : c.args.pid < 2 ^ 31 = omega (arith, c.requires.pid) in
