@@ -1,5 +1,5 @@
 -- Two tables that answer the frames of a text alike.
-use Rattle.std.proofs.Common.{◌≡◌, ℕ, Bool, List, [], ◌∷◌, ◌++◌, Option, Result, Ok, Err, refl, sym, ap, subst, ◌∙◌}
+use Rattle.std.proofs.Common.{◌≡◌, ℕ, Bool, List, [], ◌∷◌, ◌++◌, Option, Result, Ok, Err, sym, ap, subst, ◌∙◌}
 use Rattle.pg_messages.specs.declared.frontend.PgWireFrontendMessage.{PgWireFrontendMessage}
 use Rattle.pg_messages.specs.Frames.{DividesInto}
 use Rattle.pg_handlers.specs.declared.desk.DeskCall.{DeskCall}
@@ -8,7 +8,7 @@ use Rattle.pg_handlers.specs.Answer.{Table, Next, BeginsWith, answers_of, conver
 use Rattle.pg_session.specs.declared.ends.Progress.{Progress}
 use Rattle.pg_session.specs.declared.ends.ServeError.{ServeError}
 use Rattle.pg_session.specs.declared.ends.ServeError.TheVariants as serve
-use Rattle.pg_session.specs.Run.{Rules, IsFed}
+use Rattle.pg_session.specs.Run.{Rules}
 use Rattle.pg_session.specs.Steps.{IsServed, IsCutOff, IsStopped, WasFed}
 use Rattle.cursor_session.proofs.Divisions.{divides_cut}
 

@@ -1,7 +1,7 @@
 -- What the session answered to a command's frames is, with the replies changed, the answer of the cursor table.
-use Rattle.std.proofs.Common.{◌≡◌, ◌≢◌, ℕ, Bool, true, false, List, [], ◌∷◌, ◌++◌, ◌⊎◌, inl, inr, Option, Some, None, Result, Ok, Err, refl, sym, ap, subst, ◌∙◌, append-nil, length, arith}
+use Rattle.std.proofs.Common.{◌≡◌, ◌≢◌, ℕ, Bool, true, false, List, [], ◌∷◌, ◌++◌, inl, inr, Option, Some, refl, sym, ap, subst, ◌∙◌, append-nil, arith}
 use Rattle.pg_messages.specs.declared.frontend.PgWireFrontendMessage.{PgWireFrontendMessage}
-use Rattle.pg_messages.specs.Frames.{IsFrame, IsUnfinished, IsBad, DividesInto, awaits_startup_after_all, header_len}
+use Rattle.pg_messages.specs.Frames.{IsFrame, IsUnfinished, IsBad, DividesInto, awaits_startup_after_all}
 use Rattle.pg_messages.specs.Replies.{replies_bytes}
 use Rattle.pg_handlers.specs.declared.desk.DeskCall.{DeskCall}
 use Rattle.pg_handlers.specs.declared.desk.DeskCall.TheVariants as desk
@@ -11,16 +11,13 @@ use Rattle.pg_handlers.specs.Answer.{Answer, Table, Next, Goes, Ends, Stops, Beg
 use Rattle.pg_handlers.specs.Lawful.{IsLawful}
 use Rattle.pg_session.specs.declared.ends.Progress.{Progress}
 use Rattle.pg_session.specs.declared.ends.Progress.TheVariants as progress
-use Rattle.pg_session.specs.declared.ends.ServeError.{ServeError}
-use Rattle.pg_session.specs.declared.ends.ServeError.TheVariants as serve
-use Rattle.pg_session.specs.Run.{Rules, IsFed, EndsWith}
-use Rattle.pg_session.specs.Steps.{IsServed, IsCutOff, IsStopped, Stands, WasFed}
-use Rattle.pg_session.specs.Streams.{GrowsBy, GrowsByFront}
+use Rattle.pg_session.specs.Run.{IsFed, EndsWith}
+use Rattle.pg_session.specs.Steps.{IsServed, IsCutOff, IsStopped, Stands}
 use Rattle.pg_session.proofs.Flowing.{Flows-wait, cut_at_once}
 use Rattle.pg_session.proofs.Pieces.{conversation_awaits}
 use Rattle.cursor_commands.specs.declared.command.CursorCommand.{CursorCommand}
 use Rattle.cursor_commands.specs.Cursors.{Replies, messages_of, replies_of}
-use Rattle.cursor_table.specs.CursorTable.{cursor_table, command_row, asked_command, IsCommanded}
+use Rattle.cursor_table.specs.CursorTable.{cursor_table, command_row, asked_command}
 use Rattle.cursor_table.proofs.Commanded.{commanded}
 use Rattle.cursor_session.proofs.Divisions.{divides_cut, division_begins}
 use Rattle.cursor_session.proofs.Alike.{by_table}

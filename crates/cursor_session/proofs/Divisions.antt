@@ -1,6 +1,6 @@
 -- The frames in front of a text, and of a text that goes on.
 use Rattle.std.proofs.Common.{◌≡◌, ℕ, ◌+◌, ◌≤◌, Bool, true, false, List, [], ◌∷◌, ◌++◌, ◌⊎◌, inl, inr, length, refl, sym, ap, subst, ◌∙◌, append_assoc, append-nil, length-append, arith}
-use Rattle.std.proofs.lemmas.List.{append_cancel_left, append_cancel_right, nil_from_length}
+use Rattle.std.proofs.lemmas.List.{append_cancel_right, nil_from_length}
 use Rattle.pg_messages.specs.declared.frontend.PgWireFrontendMessage.{PgWireFrontendMessage}
 use Rattle.pg_messages.specs.Frames.{IsFrame, IsGoodHeader, DividesInto, awaits_startup_after, header_len, told_len}
 use Rattle.pg_messages.proofs.OneReading.{front, one_frame}

@@ -1,5 +1,5 @@
 -- What the exchange of a command with the session comes to.
-use Rattle.std.proofs.Common.{◌≡◌, ◌≢◌, ℕ, ◌+◌, ◌≤◌, ◌<◌, ◌^◌, Bool, true, false, if◌then◌else◌, List, [], ◌∷◌, ◌++◌, Option, Some, None, Result, Ok, Err, refl, sym, ap, subst, ◌∙◌, append-nil, length, length-append, arith}
+use Rattle.std.proofs.Common.{◌≡◌, ℕ, ◌+◌, ◌≤◌, ◌^◌, Bool, true, false, if◌then◌else◌, List, [], ◌∷◌, ◌++◌, Option, Some, None, Ok, Err, refl, sym, ap, ◌∙◌, append-nil, length, length-append, arith}
 use Rattle.std.specs.List.{AllByRecursion}
 use Rattle.pg_messages.specs.Fields.{count32}
 use Rattle.pg_messages.specs.declared.frontend.PgWireFrontendMessage.{PgWireFrontendMessage}
@@ -14,7 +14,7 @@ use Rattle.pg_session.specs.declared.ends.Progress.{Progress}
 use Rattle.pg_session.specs.declared.ends.Progress.TheVariants as progress
 use Rattle.pg_session.specs.declared.ends.ServeError.{ServeError}
 use Rattle.pg_session.specs.declared.ends.ServeError.TheVariants as serve
-use Rattle.pg_session.specs.Steps.{Flows, IsServed, IsCutOff, Stands, WasFed}
+use Rattle.pg_session.specs.Steps.{Flows, IsServed, IsCutOff, WasFed}
 use Rattle.pg_session.proofs.Flowing.{Flows-sent}
 use Rattle.pg_session.proofs.Stepping.{serves_flow, cut_served}
 use Rattle.cursor_commands.specs.declared.command.CursorCommand.{CursorCommand}

@@ -1,18 +1,15 @@
 -- Bytes of a frame that is no command: the session answers them as the cursor table says.
-use Rattle.std.proofs.Common.{◌≡◌, ℕ, ◌+◌, ◌≤◌, ◌<◌, Bool, true, false, if◌then◌else◌, List, [], ◌∷◌, ◌++◌, ◌⊎◌, inl, inr, length, Option, None, refl, sym, ap, subst, ◌∙◌, append-nil, arith}
+use Rattle.std.proofs.Common.{◌≡◌, ℕ, ◌<◌, Bool, true, false, if◌then◌else◌, List, [], ◌⊎◌, inl, inr, Option, None, refl, sym, ap, subst, ◌∙◌, append-nil, arith}
 use Rattle.pg_messages.specs.declared.frontend.PgWireFrontendMessage.{PgWireFrontendMessage}
-use Rattle.pg_messages.specs.Frames.{IsFrame, IsUnfinished, DividesInto, header_len, told_len}
+use Rattle.pg_messages.specs.Frames.{IsFrame, IsUnfinished}
 use Rattle.pg_handlers.specs.declared.desk.DeskCall.{DeskCall}
 use Rattle.pg_handlers.specs.Answer.{Table, Next, Goes, Ends, Stops, answers_of, conversation}
 use Rattle.pg_handlers.specs.Handlers.{Handlers}
 use Rattle.pg_handlers.specs.State.{State}
 use Rattle.pg_handlers.specs.Table.{whole_table, awaits}
-use Rattle.pg_session.specs.declared.ends.Progress.TheVariants as progress
 use Rattle.pg_session.specs.Session.{whole_rules}
-use Rattle.pg_session.specs.Run.{IsFed}
-use Rattle.pg_session.specs.Steps.{IsServed, Stands}
+use Rattle.pg_session.specs.Steps.{IsServed}
 use Rattle.pg_session.proofs.Pieces.{conversation-one}
-use Rattle.cursor_commands.specs.declared.command.CursorCommand.{CursorCommand}
 use Rattle.cursor_table.specs.CursorTable.{cursor_table, row_by, asked_command, is_ready}
 use Rattle.cursor_session.specs.Fronts.{IsBegun}
 use Rattle.cursor_session.proofs.Divisions.{divides_cut, HasOne, has_one}

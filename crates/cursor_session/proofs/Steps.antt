@@ -1,11 +1,10 @@
 -- What each step of the front takes.
-use Rattle.std.proofs.Common.{◌≡◌, ◌≢◌, ℕ, ◌+◌, ◌≤◌, ◌<◌, ◌^◌, Bool, true, false, List, [], ◌∷◌, ◌++◌, ◌⊎◌, inl, inr, Option, Some, None, Result, Ok, Err, refl, sym, ap, subst, ◌∙◌, append-nil, length, arith}
+use Rattle.std.proofs.Common.{◌≡◌, ◌≢◌, ℕ, ◌≤◌, ◌^◌, Bool, true, false, List, [], ◌++◌, inl, inr, Option, Some, Result, Ok, Err, refl, sym, ap, subst, ◌∙◌, append-nil, length, arith}
 use Rattle.pg_messages.specs.declared.frontend.PgWireFrontendMessage.{PgWireFrontendMessage}
 use Rattle.pg_messages.specs.Frames.{IsFrame, IsUnfinished, DividesInto}
 use Rattle.pg_handlers.specs.declared.desk.DeskCall.{DeskCall}
 use Rattle.pg_handlers.specs.declared.ends.Turns.{Turns}
 use Rattle.pg_handlers.specs.Desk.{GoesOn}
-use Rattle.pg_handlers.specs.Answer.{Goes}
 use Rattle.pg_handlers.specs.Handlers.{Handlers}
 use Rattle.pg_handlers.specs.Questions.{questions_since}
 use Rattle.pg_handlers.specs.State.{State}
@@ -16,7 +15,7 @@ use Rattle.pg_session.specs.declared.ends.ServeError.{ServeError}
 use Rattle.pg_session.specs.declared.ends.ServeError.TheVariants as serve
 use Rattle.pg_session.specs.Session.{whole_rules, HasFed}
 use Rattle.pg_session.specs.Steps.{IsCutOff, WasFed}
-use Rattle.pg_session.specs.Streams.{HasSinkCause, HasFlushed, HasRisen, greatest_count}
+use Rattle.pg_session.specs.Streams.{HasSinkCause, HasFlushed}
 use Rattle.pg_session.proofs.Answering.{whole_lawful}
 use Rattle.cursor_commands.specs.declared.command.CursorCommand.{CursorCommand}
 use Rattle.cursor_commands.specs.Cursors.{messages_of}

@@ -1,5 +1,5 @@
 -- What was taken of a text, and then more.
-use Rattle.std.proofs.Common.{◌≡◌, ◌≢◌, ℕ, ◌≤◌, Bool, List, [], ◌++◌, ◌⊎◌, inl, inr, Option, Some, None, Result, Ok, Err, refl, sym, ap, subst, ◌∙◌, append_assoc, append-nil, take, drop, arith}
+use Rattle.std.proofs.Common.{◌≡◌, ◌≢◌, ℕ, List, [], ◌++◌, inl, Option, Result, Ok, Err, refl, sym, ap, subst, ◌∙◌, append_assoc, take, drop, arith}
 use Rattle.pg_messages.specs.Frames.{IsUnfinished}
 use Rattle.pg_messages.proofs.OneReading.{division_kept}
 use Rattle.pg_handlers.proofs.Desks.{goes_on_none, goes_on_then}

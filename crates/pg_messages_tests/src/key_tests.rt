@@ -1,31 +1,26 @@
 //! That a copy is the same key until it is narrowed, and what is shown of a key.
 
 use pg_messages::SecretKey;
-use std::alloc::Global;
+use std::alloc::{AllocError, Global};
 use std::test::*;
 
-const LONG: [u8; 6] = [1, 2, 3, 4, 5, 6];
-
 /// Whether a copy is the same key until it is narrowed.
-fn is_copied(alloc: Global) -> Result<bool, Fail> {
-    let key = SecretKey::try_new(alloc, &LONG)?;
+fn is_copied(key: &SecretKey) -> Result<bool, AllocError> {
     let mut copy = key.copy_of()?;
-    let same = copy == key;
+    let same = copy == *key;
     copy.narrow();
-    let short = SecretKey::try_new(alloc, &[1, 2, 3, 4])?;
-    Ok(same && copy != key && copy.is_same(&short))
+    Ok(same && copy != *key && copy.as_slice() == [1, 2, 3, 4].as_slice())
 }
 
-/// What `Debug` shows of the key.
-fn shown(alloc: Global, key: &SecretKey) -> Result<String, Fail> {
-    Ok(format!(in alloc; "{key:?}")?)
+/// Whether `Debug` shows of a key how many bytes it has, and none of them.
+fn is_hidden(alloc: Global, key: &SecretKey) -> Result<bool, Fail> {
+    let shown = format!(in alloc; "{key:?}")?;
+    Ok(shown.as_str() == "SecretKey { length: 6 }")
 }
 
 #[test]
 fn t_key(rt: HostRuntime) -> Result<(), Fail> {
-    assert!(rt; is_copied(rt.alloc())?);
-    let key = SecretKey::try_new(rt.alloc(), &LONG)?;
-    let text = shown(rt.alloc(), &key)?;
-    assert!(rt; text.as_str() == "SecretKey { length: 6 }");
+    let key = SecretKey::try_new(rt.alloc(), &[1, 2, 3, 4, 5, 6])?;
+    assert!(rt; is_copied(&key)? && is_hidden(rt.alloc(), &key)?);
     Ok(())
 }

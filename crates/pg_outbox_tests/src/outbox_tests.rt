@@ -1,49 +1,50 @@
 //! That each call which takes memory succeeds where there is enough, with replies that reach over
 //! the ends of chunks.
 
-ghost use Rattle.std.specs.Prelude.{◌≤◌, IfOk};
-ghost use Rattle.pg_messages.specs.Replies.{IsEncodable};
-ghost use Rattle.pg_messages.specs.declared.backend.PgWireBackendMessage.TheVariants as server;
+ghost use Rattle.std.specs.Prelude.{◌≡◌, ◌≤◌, IfOk, length};
 
 use pg_messages::{CopyData, DataRow, PgBytes, PgWireBackendMessage};
 use pg_outbox::{CHUNK, Outbox};
 use std::alloc::{AllocError, Global};
 use std::test::*;
 
-// Data of a COPY, of so many bytes.
-fn line(alloc: Global, len: usize) -> Result<CopyData, AllocError>
-    requires { len ≤ 200000 }
-    ensures { IfOk result (λ line. IsEncodable (server.CopyData line)) }
+/// So many bytes.
+fn bytes(alloc: Global, len: usize) -> Result<PgBytes, AllocError>
+    ensures { IfOk result (λ bytes. length bytes ≡ len) }
 {
     let mut bytes = Vec::new(alloc);
     bytes.resize(len, 7)?;
-    Ok(CopyData {
-        payload: PgBytes::from_vec(bytes),
-    })
+    Ok(PgBytes::from_vec(bytes))
 }
 
-// A reply of so many bytes behind five.
-fn copied(alloc: Global, len: usize) -> Result<PgWireBackendMessage, AllocError>
+/// Appends a reply of so many bytes behind five.
+fn push(outbox: &mut Outbox, alloc: Global, len: usize) -> Result<(), AllocError>
     requires { len ≤ 200000 }
-    ensures { IfOk result (λ reply. IsEncodable reply) }
 {
-    Ok(PgWireBackendMessage::CopyData(line(alloc, len)?))
+    let payload = bytes(alloc, len)?;
+    outbox.push(&PgWireBackendMessage::CopyData(CopyData { payload }))
 }
 
-// A row of one column, whose cells have so many bytes.
-fn row(alloc: Global, len: usize) -> Result<DataRow, AllocError>
+/// Appends a row of so many bytes behind seven.
+fn push_row(outbox: &mut Outbox, alloc: Global, len: usize) -> Result<(), AllocError>
     requires { len ≤ 200000 }
-    ensures { IfOk result (λ row. IsEncodable (server.DataRow row)) }
 {
-    let mut bytes = Vec::new(alloc);
-    bytes.resize(len, 7)?;
-    Ok(DataRow {
-        payload: PgBytes::from_vec(bytes),
+    let payload = bytes(alloc, len)?;
+    outbox.push_row(&DataRow {
+        payload,
         field_count: 1,
     })
 }
 
-// Takes the first chunk, and tells how long it was.
+/// Appends data of a COPY, of so many bytes behind five.
+fn push_copied(outbox: &mut Outbox, alloc: Global, len: usize) -> Result<(), AllocError>
+    requires { len ≤ 200000 }
+{
+    let payload = bytes(alloc, len)?;
+    outbox.push_copied(&CopyData { payload })
+}
+
+/// Takes the first chunk, and tells how long it was.
 fn taken(outbox: &mut Outbox) -> usize {
     let Some(front) = outbox.front() else {
         return 0;
@@ -53,75 +54,72 @@ fn taken(outbox: &mut Outbox) -> usize {
     len
 }
 
-#[test]
-fn a_reply_of_three_chunks(rt: HostRuntime) -> Result<(), Fail> {
-    let mut outbox = Outbox::new(rt.alloc())?;
-    outbox.push(&copied(rt.alloc(), 150000)?)?;
-    assert_eq!(rt; outbox.len(), 150005);
-    assert_eq!(rt; taken(&mut outbox), 65536);
-    assert_eq!(rt; taken(&mut outbox), 65536);
-    assert_eq!(rt; taken(&mut outbox), 18933);
-    assert_eq!(rt; taken(&mut outbox), 0);
-    Ok(())
+/// Takes all chunks, and tells whether they were so long.
+fn are_taken(outbox: &mut Outbox, lens: &[usize]) -> bool {
+    for len in lens {
+        if taken(outbox) != *len {
+            return false;
+        }
+    }
+    taken(outbox) == 0
 }
 
-#[test]
-fn what_was_appended_is_taken_back(rt: HostRuntime) -> Result<(), Fail> {
-    let mut outbox = Outbox::new(rt.alloc())?;
-    outbox.push(&copied(rt.alloc(), 65531)?)?;
-    assert_eq!(rt; outbox.len(), CHUNK);
-    outbox.push(&copied(rt.alloc(), 150000)?)?;
+/// Whether a reply fills three chunks.
+fn fills_three_chunks(outbox: &mut Outbox, alloc: Global) -> Result<bool, AllocError> {
+    push(outbox, alloc, 150000)?;
+    Ok(outbox.len() == 150005 && are_taken(outbox, &[65536, 65536, 18933]))
+}
+
+/// Whether what was appended over the end of a full chunk is taken back, with a byte before it.
+fn is_taken_back(outbox: &mut Outbox, alloc: Global) -> Result<bool, AllocError> {
+    push(outbox, alloc, 65531)?;
+    let is_full = outbox.len() == CHUNK;
+    push(outbox, alloc, 150000)?;
     outbox.truncate(65530);
-    assert_eq!(rt; taken(&mut outbox), 65530);
-    assert_eq!(rt; taken(&mut outbox), 0);
-    Ok(())
+    Ok(is_full && are_taken(outbox, &[65530]))
 }
 
-#[test]
-fn a_sent_chunk_is_written_again(rt: HostRuntime) -> Result<(), Fail> {
-    let mut outbox = Outbox::new(rt.alloc())?;
-    outbox.push(&copied(rt.alloc(), 150000)?)?;
-    assert_eq!(rt; taken(&mut outbox), 65536);
-    outbox.push(&copied(rt.alloc(), 150000)?)?;
-    assert_eq!(rt; outbox.len(), 234474);
-    assert_eq!(rt; taken(&mut outbox), 65536);
-    assert_eq!(rt; taken(&mut outbox), 65536);
-    assert_eq!(rt; taken(&mut outbox), 65536);
-    assert_eq!(rt; taken(&mut outbox), 37866);
-    assert_eq!(rt; taken(&mut outbox), 0);
-    Ok(())
+/// Whether a chunk that was sent is written again.
+fn is_written_again(outbox: &mut Outbox, alloc: Global) -> Result<bool, AllocError> {
+    push(outbox, alloc, 150000)?;
+    let is_sent = taken(outbox) == 65536;
+    push(outbox, alloc, 150000)?;
+    Ok(is_sent && outbox.len() == 234474 && are_taken(outbox, &[65536, 65536, 65536, 37866]))
 }
 
-#[test]
-fn what_is_released_is_no_byte(rt: HostRuntime) -> Result<(), Fail> {
-    let mut outbox = Outbox::new(rt.alloc())?;
-    outbox.push(&copied(rt.alloc(), 65536)?)?;
-    assert_eq!(rt; taken(&mut outbox), 65536);
+/// Whether a chunk that is released is no byte of what waits.
+fn is_released(outbox: &mut Outbox, alloc: Global) -> Result<bool, AllocError> {
+    push(outbox, alloc, 65536)?;
+    let is_sent = taken(outbox) == 65536;
     outbox.release();
-    assert_eq!(rt; taken(&mut outbox), 5);
-    Ok(())
+    Ok(is_sent && are_taken(outbox, &[5]))
 }
 
-#[test]
-fn a_row_in_a_chunk_and_over_its_end(rt: HostRuntime) -> Result<(), Fail> {
-    let mut outbox = Outbox::new(rt.alloc())?;
-    outbox.push_row(&row(rt.alloc(), 20)?)?;
-    assert_eq!(rt; outbox.len(), 27);
-    outbox.push_row(&row(rt.alloc(), 100000)?)?;
-    assert_eq!(rt; taken(&mut outbox), 65536);
-    assert_eq!(rt; taken(&mut outbox), 34498);
-    assert_eq!(rt; taken(&mut outbox), 0);
-    Ok(())
+/// Whether rows stand in a chunk and over its end.
+fn has_rows(outbox: &mut Outbox, alloc: Global) -> Result<bool, AllocError> {
+    push_row(outbox, alloc, 20)?;
+    let is_short = outbox.len() == 27;
+    push_row(outbox, alloc, 100000)?;
+    Ok(is_short && are_taken(outbox, &[65536, 34498]))
 }
 
+/// Whether data of a COPY stand in a chunk and over its end.
+fn has_copied(outbox: &mut Outbox, alloc: Global) -> Result<bool, AllocError> {
+    push_copied(outbox, alloc, 20)?;
+    let is_short = outbox.len() == 25;
+    push_copied(outbox, alloc, 100000)?;
+    Ok(is_short && are_taken(outbox, &[65536, 34494]))
+}
+
+/// One outbox, which is empty again behind each line.
 #[test]
-fn data_of_a_copy_in_a_chunk_and_over_its_end(rt: HostRuntime) -> Result<(), Fail> {
+fn replies_over_chunks(rt: HostRuntime) -> Result<(), Fail> {
     let mut outbox = Outbox::new(rt.alloc())?;
-    outbox.push_copied(&line(rt.alloc(), 20)?)?;
-    assert_eq!(rt; outbox.len(), 25);
-    outbox.push_copied(&line(rt.alloc(), 100000)?)?;
-    assert_eq!(rt; taken(&mut outbox), 65536);
-    assert_eq!(rt; taken(&mut outbox), 34494);
-    assert_eq!(rt; taken(&mut outbox), 0);
+    assert!(rt; fills_three_chunks(&mut outbox, rt.alloc()) == Ok(true));
+    assert!(rt; is_taken_back(&mut outbox, rt.alloc()) == Ok(true));
+    assert!(rt; is_written_again(&mut outbox, rt.alloc()) == Ok(true));
+    assert!(rt; is_released(&mut outbox, rt.alloc()) == Ok(true));
+    assert!(rt; has_rows(&mut outbox, rt.alloc()) == Ok(true));
+    assert!(rt; has_copied(&mut outbox, rt.alloc()) == Ok(true));
     Ok(())
 }

@@ -355,6 +355,7 @@ questions_append [] b = omega arith
 questions_append (desk.Start ∷ a) b = questions_append a b
 questions_append (desk.Ask told ∷ a) b = let p = questions_append a b in omega (arith, p)
 questions_append (desk.Cancel pid key told ∷ a) b = questions_append a b
+questions_append (desk.Narrow ∷ a) b = questions_append a b
 
 since : (a b x : List DeskCall) → b ≡ a ++ x → questions_since a b ≡ questions x
 since a b x e = ap (λ l. questions (drop (length a) l)) e ∙ ap questions (drop-append_seam a x)

@@ -8,21 +8,17 @@ use std::alloc::{AllocError, Global};
 use std::io;
 use std::sync::Wait;
 
-/// A key, and its bytes in hexadecimal.
-#[derive(Drop)]
+/// A key, by its bytes and by their hexadecimal digits.
+#[derive(Clone, Copy)]
 pub struct Key {
-    pub secret: SecretKey,
+    pub bytes: &'static [u8],
     pub digits: &'static str,
 }
 
 impl Key {
-    /// The key of these bytes, whose digits are given too.
-    pub fn new(alloc: Global, bytes: &[u8], digits: &'static str) -> Result<Key, Stop> {
-        match SecretKey::try_new(alloc, bytes) {
-            Ok(secret) => Ok(Key { secret, digits }),
-            Err(KeyError::NoMemory) => Err(Stop::NoMemory),
-            Err(KeyError::BadLength(_)) => Err(Stop::OtherAnswer),
-        }
+    /// The key, in memory of its own.
+    fn secret(self, alloc: Global) -> Result<SecretKey, AllocError> {
+        SecretKey::try_new(alloc, self.bytes).map_err(|_| AllocError)
     }
 }
 
@@ -59,19 +55,20 @@ fn word(yes: bool) -> &'static str {
     if yes { "yes" } else { "no" }
 }
 
-/// Registers under a copy of the key.
+/// Registers once.
 fn register_once<R: Wait>(
     rt: &R,
+    alloc: Global,
     manager: &ConnectionManager,
     door: &mut Door,
     pid: i32,
-    key: &Key,
+    key: Key,
 ) -> Result<ConnectionHandle, RegisterError>
     requires issued { door.old.issuer ≡ manager.now }
     ensures issued { door.new.issuer ≡ manager.now }
     ensures handle { IfOk result (λ h. h.issuer ≡ manager.now) }
 {
-    let Ok(secret) = key.secret.copy_of() else {
+    let Ok(secret) = key.secret(alloc) else {
         return Err(RegisterError::NoMemory);
     };
     manager.register(rt, door, pid, secret)
@@ -80,19 +77,20 @@ fn register_once<R: Wait>(
 /// Registers, and once more where there was no memory.
 fn register<R: Wait + Print>(
     rt: &R,
+    alloc: Global,
     manager: &ConnectionManager,
     door: &mut Door,
     pid: i32,
-    key: &Key,
+    key: Key,
 ) -> Result<ConnectionHandle, RegisterError>
     requires issued { door.old.issuer ≡ manager.now }
     ensures issued { door.new.issuer ≡ manager.now }
     ensures handle { IfOk result (λ h. h.issuer ≡ manager.now) }
 {
-    match register_once(rt, manager, door, pid, key) {
+    match register_once(rt, alloc, manager, door, pid, key) {
         Err(RegisterError::NoMemory) => {
             no_memory(rt);
-            register_once(rt, manager, door, pid, key)
+            register_once(rt, alloc, manager, door, pid, key)
         }
         answer => answer,
     }
@@ -101,16 +99,17 @@ fn register<R: Wait + Print>(
 /// A registration that succeeds.
 pub fn registered<R: Wait + Print>(
     rt: &R,
+    alloc: Global,
     manager: &ConnectionManager,
     door: &mut Door,
     pid: i32,
-    key: &Key,
+    key: Key,
 ) -> Result<ConnectionHandle, Stop>
     requires issued { door.old.issuer ≡ manager.now }
     ensures issued { door.new.issuer ≡ manager.now }
     ensures handle { IfOk result (λ h. h.issuer ≡ manager.now) }
 {
-    match register(rt, manager, door, pid, key) {
+    match register(rt, alloc, manager, door, pid, key) {
         Ok(handle) => {
             println!(rt; "register {pid} {}: {}", key.digits, handle.number())?;
             Ok(handle)
@@ -123,15 +122,16 @@ pub fn registered<R: Wait + Print>(
 /// A registration whose pid is taken.
 pub fn refused<R: Wait + Print>(
     rt: &R,
+    alloc: Global,
     manager: &ConnectionManager,
     door: &mut Door,
     pid: i32,
-    key: &Key,
+    key: Key,
 ) -> Result<(), Stop>
     requires issued { door.old.issuer ≡ manager.now }
     ensures issued { door.new.issuer ≡ manager.now }
 {
-    match register(rt, manager, door, pid, key) {
+    match register(rt, alloc, manager, door, pid, key) {
         Err(RegisterError::PidTaken(place)) => {
             println!(rt; "register {pid} {}: taken by {place}", key.digits)?;
             Ok(())
@@ -178,22 +178,39 @@ pub fn asked<R: Wait + Print>(
     Ok(())
 }
 
-/// A cancel.
-pub fn canceled<R: Wait + Print>(
+/// Cancels once.
+fn cancel_once<R: Wait>(
     rt: &R,
+    alloc: Global,
     manager: &ConnectionManager,
     handle: &mut ConnectionHandle,
     pid: i32,
-    key: &Key,
+    key: Key,
+) -> Result<bool, AllocError>
+    requires issued { handle.old.issuer ≡ manager.now }
+    ensures issued { handle.new.issuer ≡ manager.now }
+{
+    let secret = key.secret(alloc)?;
+    manager.cancel(rt, handle, pid, &secret)
+}
+
+/// A cancel.
+pub fn canceled<R: Wait + Print>(
+    rt: &R,
+    alloc: Global,
+    manager: &ConnectionManager,
+    handle: &mut ConnectionHandle,
+    pid: i32,
+    key: Key,
 ) -> Result<(), Stop>
     requires issued { handle.old.issuer ≡ manager.now }
     ensures issued { handle.new.issuer ≡ manager.now }
 {
-    let yes = match manager.cancel(rt, handle, pid, &key.secret) {
+    let yes = match cancel_once(rt, alloc, manager, handle, pid, key) {
         Ok(yes) => yes,
         Err(AllocError) => {
             no_memory(rt);
-            manager.cancel(rt, handle, pid, &key.secret)?
+            cancel_once(rt, alloc, manager, handle, pid, key)?
         }
     };
     let number = handle.number();
@@ -218,12 +235,14 @@ pub fn narrowed<R: Wait + Print>(
     Ok(())
 }
 
-/// What is told of a key of so many zero bytes.
-pub fn key_of_length<R: Print>(rt: &R, alloc: Global, length: usize) -> Result<(), Stop> {
-    let bytes = vec![in alloc; 0u8; length]?;
-    match SecretKey::try_new(alloc, bytes.as_slice()) {
+/// What is told of a key of these bytes.
+pub fn key_of_bytes<R: Print>(rt: &R, alloc: Global, bytes: &[u8]) -> Result<(), Stop> {
+    let length = bytes.len();
+    match SecretKey::try_new(alloc, bytes) {
         Ok(_) => println!(rt; "a key of {length} bytes")?,
-        Err(KeyError::BadLength(bad)) => println!(rt; "no key of {length} bytes: bad length {bad}")?,
+        Err(KeyError::BadLength(bad)) => println!(rt;
+            "no key of {length} bytes: bad length {bad}"
+        )?,
         Err(KeyError::NoMemory) => return Err(Stop::NoMemory),
     }
     Ok(())

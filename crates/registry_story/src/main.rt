@@ -8,60 +8,69 @@ mod calls;
 ghost use Rattle.std.specs.Prelude.{◌≡◌};
 
 use crate::calls::{
-    Key, Stop, asked, canceled, key_of_length, narrowed, refused, registered, started, unregistered,
+    Key, Stop, asked, canceled, key_of_bytes, narrowed, refused, registered, started, unregistered,
 };
 use pg_cancel::{ConnectionHandle, ConnectionManager, Door};
 use std::alloc::Global;
 use std::process::ExitCode;
 use std::sync::Wait;
 
-/// The keys that are told.
-#[derive(Drop)]
-struct Keys {
-    first: Key,
-    other: Key,
-    second: Key,
-    zero: Key,
-    /// One of which the first is the beginning.
-    long: Key,
-}
+/// The key of the first connection.
+const FIRST: Key = Key {
+    bytes: &[1, 2, 3, 4],
+    digits: "01020304",
+};
 
-fn made_keys(alloc: Global) -> Result<Keys, Stop> {
-    Ok(Keys {
-        first: Key::new(alloc, &[1, 2, 3, 4], "01020304")?,
-        other: Key::new(alloc, &[5, 6, 7, 8], "05060708")?,
-        second: Key::new(alloc, &[10, 11, 12, 13], "0a0b0c0d")?,
-        zero: Key::new(alloc, &[0, 0, 0, 0], "00000000")?,
-        long: Key::new(alloc, &[1, 2, 3, 4, 5, 6, 7, 8], "0102030405060708")?,
-    })
-}
+/// Another one for its pid.
+const OTHER: Key = Key {
+    bytes: &[5, 6, 7, 8],
+    digits: "05060708",
+};
+
+/// The key of the second connection.
+const SECOND: Key = Key {
+    bytes: &[10, 11, 12, 13],
+    digits: "0a0b0c0d",
+};
+
+/// One that nobody has.
+const ZERO: Key = Key {
+    bytes: &[0, 0, 0, 0],
+    digits: "00000000",
+};
+
+/// One that begins as the first.
+const LONG: Key = Key {
+    bytes: &[1, 2, 3, 4, 5, 6, 7, 8],
+    digits: "0102030405060708",
+};
 
 /// All calls of the story.
 fn tell<R: Wait + Print>(
     rt: &R,
+    alloc: Global,
     manager: &ConnectionManager,
     door: &mut Door,
-    keys: &Keys,
 ) -> Result<(), Stop>
     requires issued { door.old.issuer ≡ manager.now }
 {
-    let mut first = registered(rt, manager, door, 7, &keys.first)?;
-    refused(rt, manager, door, 7, &keys.other)?;
-    let mut second = registered(rt, manager, door, 8, &keys.second)?;
-    queries(rt, manager, &mut first, &mut second, keys)?;
+    let mut first = registered(rt, alloc, manager, door, 7, FIRST)?;
+    refused(rt, alloc, manager, door, 7, OTHER)?;
+    let mut second = registered(rt, alloc, manager, door, 8, SECOND)?;
+    queries(rt, alloc, manager, &mut first, &mut second)?;
     unregistered(rt, manager, first)?;
-    canceled(rt, manager, &mut second, 7, &keys.first)?;
-    let _third = registered(rt, manager, door, 7, &keys.first)?;
+    canceled(rt, alloc, manager, &mut second, 7, FIRST)?;
+    let _third = registered(rt, alloc, manager, door, 7, FIRST)?;
     Ok(())
 }
 
 /// Two queries of the first connection, of which the second connection cancels one.
 fn queries<R: Wait + Print>(
     rt: &R,
+    alloc: Global,
     manager: &ConnectionManager,
     first: &mut ConnectionHandle,
     second: &mut ConnectionHandle,
-    keys: &Keys,
 ) -> Result<(), Stop>
     requires first { first.old.issuer ≡ manager.now }
     requires second { second.old.issuer ≡ manager.now }
@@ -70,52 +79,76 @@ fn queries<R: Wait + Print>(
 {
     started(rt, manager, first)?;
     asked(rt, manager, first)?;
-    canceled(rt, manager, second, 7, &keys.first)?;
+    canceled(rt, alloc, manager, second, 7, FIRST)?;
     asked(rt, manager, first)?;
     started(rt, manager, first)?;
     asked(rt, manager, first)?;
-    canceled(rt, manager, second, 7, &keys.zero)
+    canceled(rt, alloc, manager, second, 7, ZERO)
 }
 
-/// All calls of the story with long keys, of a registry of its own. The key is narrowed behind a
-/// query that was canceled by the long one.
+/// All calls of the story with long keys, of a registry of its own.
 fn tell_long<R: Wait + Print>(
     rt: &R,
+    alloc: Global,
     manager: &ConnectionManager,
     door: &mut Door,
-    keys: &Keys,
 ) -> Result<(), Stop>
     requires issued { door.old.issuer ≡ manager.now }
 {
-    let mut first = registered(rt, manager, door, 7, &keys.long)?;
-    let mut second = registered(rt, manager, door, 8, &keys.second)?;
-    started(rt, manager, &mut first)?;
-    canceled(rt, manager, &mut second, 7, &keys.first)?;
-    canceled(rt, manager, &mut second, 7, &keys.long)?;
-    asked(rt, manager, &mut first)?;
-    narrowed(rt, manager, &mut first)?;
-    started(rt, manager, &mut first)?;
-    canceled(rt, manager, &mut second, 7, &keys.long)?;
-    canceled(rt, manager, &mut second, 7, &keys.first)?;
-    asked(rt, manager, &mut first)
+    let mut first = registered(rt, alloc, manager, door, 7, LONG)?;
+    let mut second = registered(rt, alloc, manager, door, 8, SECOND)?;
+    long_queries(rt, alloc, manager, &mut first, &mut second)
+}
+
+/// Two queries of the first connection. The first is canceled by the long key, which is narrowed
+/// then, and the second by the short one.
+fn long_queries<R: Wait + Print>(
+    rt: &R,
+    alloc: Global,
+    manager: &ConnectionManager,
+    first: &mut ConnectionHandle,
+    second: &mut ConnectionHandle,
+) -> Result<(), Stop>
+    requires first { first.old.issuer ≡ manager.now }
+    requires second { second.old.issuer ≡ manager.now }
+{
+    started(rt, manager, first)?;
+    canceled(rt, alloc, manager, second, 7, FIRST)?;
+    canceled(rt, alloc, manager, second, 7, LONG)?;
+    asked(rt, manager, first)?;
+    narrowed(rt, manager, first)?;
+    started(rt, manager, first)?;
+    canceled(rt, alloc, manager, second, 7, LONG)?;
+    canceled(rt, alloc, manager, second, 7, FIRST)?;
+    asked(rt, manager, first)
+}
+
+/// The story, at a new registry.
+fn tell_story<R: Wait + Print>(rt: &R, alloc: Global) -> Result<(), Stop> {
+    let (manager, mut door) = ConnectionManager::new(alloc)?;
+    tell(rt, alloc, &manager, &mut door)
+}
+
+/// The story with long keys, at a new registry.
+fn tell_long_story<R: Wait + Print>(rt: &R, alloc: Global) -> Result<(), Stop> {
+    println!(rt; "registry story with long keys")?;
+    let (manager, mut door) = ConnectionManager::new(alloc)?;
+    tell_long(rt, alloc, &manager, &mut door)
 }
 
 /// Which lengths a key may have.
 fn tell_lengths<R: Print>(rt: &R, alloc: Global) -> Result<(), Stop> {
-    for length in [3, 4, 256, 257] {
-        key_of_length(rt, alloc, length)?;
-    }
-    Ok(())
+    let zeros = [0u8; 257];
+    key_of_bytes(rt, alloc, &zeros[..3])?;
+    key_of_bytes(rt, alloc, &zeros[..4])?;
+    key_of_bytes(rt, alloc, &zeros[..256])?;
+    key_of_bytes(rt, alloc, &zeros)
 }
 
 /// Both stories, and the lengths.
 fn tell_all<R: Wait + Print>(rt: &R, alloc: Global) -> Result<(), Stop> {
-    let keys = made_keys(alloc)?;
-    let (manager, mut door) = ConnectionManager::new(alloc)?;
-    tell(rt, &manager, &mut door, &keys)?;
-    println!(rt; "registry story with long keys")?;
-    let (manager, mut door) = ConnectionManager::new(alloc)?;
-    tell_long(rt, &manager, &mut door, &keys)?;
+    tell_story(rt, alloc)?;
+    tell_long_story(rt, alloc)?;
     tell_lengths(rt, alloc)
 }
 

@@ -63,7 +63,7 @@ record IsTaken (rules : Rules (State RelationStatement)) (s : State RelationStat
   replies : List PgWireBackendMessage
   next : Next (State RelationStatement)
   all : text ≡ taken ++ rest
-  division : DividesInto true taken messages unfinished
+  division : DividesInto (rules.awaits s) taken messages unfinished
   answered : conversation rules.table (answers_of calls) s messages ≡ record {
     replies = replies;
     calls = calls;
@@ -71,16 +71,17 @@ record IsTaken (rules : Rules (State RelationStatement)) (s : State RelationStat
   }
 
 asked_within : (relations : List Relation) (rules : Rules (State RelationStatement)) → AsksFew relations rules
-    → (s : State RelationStatement) (text rest : List ℕ) (calls : List DeskCall) → IsTaken rules s text rest calls
+    → (s : State RelationStatement) → rules.awaits s ≡ true → (text rest : List ℕ) (calls : List DeskCall) → IsTaken rules s text rest calls
     → (messages : List PgWireFrontendMessage) (last : List ℕ) → DividesInto true text messages last → HasNoFrame messages last
     → questions calls ≤ runs messages * most_unready relations
-asked_within relations rules few s text rest calls t messages last d h =
+asked_within relations rules few s awaited text rest calls t messages last d h =
     let asked : questions calls ≤ runs t.messages * most_unready relations =
     subst (λ (k : List DeskCall). questions k ≤ runs t.messages * most_unready relations) (ap (λ a. a.calls) t.answered)
     (few (answers_of calls) s t.messages) in
     let kept : DividesInto true text t.messages (t.unfinished ++ rest) =
     subst (λ x. DividesInto true x t.messages (t.unfinished ++ rest)) (sym t.all)
-    (division_kept t.messages true t.taken t.unfinished rest t.division) in
+    (division_kept t.messages true t.taken t.unfinished rest
+    (subst (λ b. DividesInto b t.taken t.messages t.unfinished) awaited t.division)) in
     let front = runs_of_front text t.messages messages (t.unfinished ++ rest) last kept d h in
     let more = mul-le (runs t.messages) (most_unready relations) (runs messages) (most_unready relations) front (omega arith) in
     omega (arith, asked, more)
@@ -142,7 +143,7 @@ complete_at_want relations turns None before after = tt
 complete_at_want relations turns (Some text) before after = λ messages rest d h enough fits sound. tt
 
 module _ (relations : List Relation) (rules : Rules (State RelationStatement)) (few : AsksFew relations rules)
-    (registration : ℤ × List ℕ) (turns : ℕ) where
+    (registration : ℤ × List ℕ) (awaited : rules.awaits (first_state registration.0 registration.1) ≡ true) (turns : ℕ) where
   -- the state of a conversation that begins
   abbrev first : State RelationStatement
   first = first_state registration.0 registration.1
@@ -152,7 +153,7 @@ module _ (relations : List Relation) (rules : Rules (State RelationStatement)) (
       → ReadsGaveBytes (Some text) new_left before.reads after.reads → HasCause (Err fault.TurnLimit) turns (questions calls) before after
       → (rest : List ℕ) → IsTaken rules first text rest calls → IsComplete relations turns (Err fault.TurnLimit) (Some text) before after
   enough_left text new_left calls before after gave cause rest t = λ messages last d h enough fits sound.
-      let within = asked_within relations rules few first text rest calls t messages last d h in
+      let within = asked_within relations rules few first awaited text rest calls t messages last d h in
       unspent before.reads after.reads turns (questions calls) (runs messages * most_unready relations) (length text) (length gave.0)
       (cause fits) gave.2 within enough
 

@@ -62,20 +62,30 @@ fn marked(alloc: Global) -> Result<BytesMut, AllocError> {
 /// The text cell of a value, or the error, and what the buffer then holds.
 fn text<T: ToSqlText>(alloc: Global, value: &T, style: &str) -> Result<String, AllocError> {
     let options = options_with(alloc, style)?;
+    text_under(alloc, value, &options)
+}
+
+fn text_under<T: ToSqlText>(
+    alloc: Global,
+    value: &T,
+    options: &FormatOptions,
+) -> Result<String, AllocError> {
     let mut out = marked(alloc)?;
-    let answer = value.to_sql_text(alloc, PgType::Interval, &mut out, &options);
-    let told = answer_told(alloc, answer)?;
-    let held = std::str::from_utf8(out.as_slice()).unwrap_or("no text");
-    format!(in alloc; "{told}{held}")
+    let answer = value.to_sql_text(alloc, PgType::Interval, &mut out, options);
+    put_held(answer_told(alloc, answer)?, out.as_slice())
+}
+
+/// A text with the buffer's behind it.
+fn put_held(mut text: String, held: &[u8]) -> Result<String, AllocError> {
+    text.push_str(std::str::from_utf8(held).unwrap_or("no text"))?;
+    Ok(text)
 }
 
 /// The binary cell of a value in a column of a type, or the error, and what the buffer then holds.
 fn binary<T: ToSql>(alloc: Global, value: &T, oid: &str) -> Result<String, AllocError> {
-    let ty = type_of(oid);
     let mut out = marked(alloc)?;
-    let answer = value.to_sql_checked(ty, &mut out);
-    let told = answer_told(alloc, answer)?;
-    put_digits(told, out.as_slice())
+    let answer = value.to_sql_checked(type_of(oid), &mut out);
+    put_digits(answer_told(alloc, answer)?, out.as_slice())
 }
 
 /// A text with hexadecimal digits behind it.

@@ -11,20 +11,25 @@ use std::io;
 
 fn main(rt: HostRuntime) -> io::Result<()> {
     for line in rt.lines(rt.alloc()) {
-        let row = line?;
-        let answer = answer(rt.alloc(), row.as_str())?;
-        println!(rt; "{row} => {answer}")?;
+        answer_line(&rt, line?)?;
     }
     Ok(())
+}
+
+/// Prints a row and what it is answered.
+fn answer_line(rt: &HostRuntime, row: String) -> io::Result<()> {
+    answer_row(rt, row.as_str())
+}
+
+fn answer_row(rt: &HostRuntime, row: &str) -> io::Result<()> {
+    let answer = answer(rt.alloc(), row)?;
+    println!(rt; "{row} => {answer}")
 }
 
 /// What a row is answered.
 fn answer(alloc: Global, row: &str) -> Result<String, AllocError> {
     let (word, fields) = cut(row);
-    match options::answer(alloc, word, fields)? {
-        Some(answer) => Ok(answer),
-        None => cells::answer(alloc, word, fields),
-    }
+    options::answer(alloc, word, fields)
 }
 
 /// The first field and the others.

@@ -2,10 +2,10 @@
 ghost use Rattle.std.specs.Prelude.{◌≡◌, ◌↔◌, IsTrue};
 ghost use Rattle.pg_text.specs.Options.{options_cmp};
 
-use crate::cut;
 use crate::told::{
     bytea_output_told, display_told, interval_style_told, name_told, options_told, order_told,
 };
+use crate::{cells, cut};
 use pg_messages::PgStr;
 use pg_text::{
     ByteaOutput, DateStyle, DateStyleDisplayStyle, DateStyleOrder, FieldFormat, FormatOptions,
@@ -15,27 +15,22 @@ use std::alloc::{AllocError, Global};
 use std::cmp::Ordering;
 use std::collections::BTreeMap;
 
-/// What a row on options is answered, or None where it is none.
-pub(crate) fn answer(
-    alloc: Global,
-    word: &str,
-    fields: &str,
-) -> Result<Option<String>, AllocError> {
-    let told = match word {
-        "default" => default_options(alloc)?,
-        "client" => client_options(alloc, fields)?,
-        "compare" => compare_with_default(alloc, fields)?,
-        "first" => first_values(alloc)?,
-        "interval_style" => interval_style(alloc, fields)?,
-        "bytea_output" => bytea_output(alloc, fields)?,
-        "order" => order(alloc, fields)?,
-        "display" => display(alloc, fields)?,
-        "date" => date(alloc, fields)?,
-        "type" => type_of(alloc, fields)?,
-        "format" => format_of(alloc, fields)?,
-        _ => return Ok(None),
-    };
-    Ok(Some(told))
+/// What a row on options is answered, or else one on cells.
+pub(crate) fn answer(alloc: Global, word: &str, fields: &str) -> Result<String, AllocError> {
+    match word {
+        "default" => default_options(alloc),
+        "client" => client_options(alloc, fields),
+        "compare" => compare_with_default(alloc, fields),
+        "first" => first_values(alloc),
+        "interval_style" => interval_style(alloc, fields),
+        "bytea_output" => bytea_output(alloc, fields),
+        "order" => order(alloc, fields),
+        "display" => display(alloc, fields),
+        "date" => date(alloc, fields),
+        "type" => type_of(alloc, fields),
+        "format" => format_of(alloc, fields),
+        _ => cells::answer(alloc, word, fields),
+    }
 }
 
 fn default_options(alloc: Global) -> Result<String, AllocError> {
@@ -58,10 +53,13 @@ fn client_of(alloc: Global, fields: &str) -> Result<FormatOptions, AllocError> {
 /// The default options beside those of parameters: their order, and whether they are equal.
 fn compare_with_default(alloc: Global, fields: &str) -> Result<String, AllocError> {
     let options = client_of(alloc, fields)?;
-    let first = FormatOptions::new_default(alloc)?;
-    let order = order_between(&first, &options);
-    let equal = are_equal(&first, &options);
+    let (order, equal) = beside_default(alloc, &options)?;
     format!(in alloc; "{order:?} {equal}")
+}
+
+fn beside_default(alloc: Global, options: &FormatOptions) -> Result<(Ordering, bool), AllocError> {
+    let first = FormatOptions::new_default(alloc)?;
+    Ok((order_between(&first, options), are_equal(&first, options)))
 }
 
 /// `==` is equality of the five fields.
@@ -140,9 +138,18 @@ fn display(alloc: Global, text: &str) -> Result<String, AllocError> {
 /// The five formats of a date style.
 fn date(alloc: Global, config: &str) -> Result<String, AllocError> {
     let style = DateStyle::new(config);
-    let full = style.full_format_str();
     let zone = style.full_tz_format_str(alloc)?;
     let small = style.full_tz_format_smolstr(alloc)?;
+    date_told(alloc, &style, zone.as_str(), small.as_str())
+}
+
+fn date_told(
+    alloc: Global,
+    style: &DateStyle,
+    zone: &str,
+    small: &str,
+) -> Result<String, AllocError> {
+    let full = style.full_format_str();
     let time = style.time_tz_format_str();
     let date = style.date_format_str();
     format!(in alloc; "{full}|{zone}|{small}|{time}|{date}")

@@ -43,7 +43,7 @@ returns-clause-complete g c =
     let before = counts_of g.S.Source.reads g.S.Source.faults g.K.Sink.faults c.args.source.now c.args.sink.now in
     let after = counts_of g.S.Source.reads g.S.Source.faults g.K.Sink.faults c.serve_by.new.source c.serve_by.new.sink in
     complete_serving c.args.relations.now (cursor_rules (relation_handlers c.args.relations.now))
-    (few_cursor_questions c.args.relations.now) (g.D.CancelDesk.told c.args.desk.now).registration c.args.turn_limit c.serve_by.result
+    (few_cursor_questions c.args.relations.now) (g.D.CancelDesk.told c.args.desk.now).registration refl c.args.turn_limit c.serve_by.result
     (g.S.Source.left c.args.source.now) (g.S.Source.left c.serve_by.new.source) (g.K.Sink.written c.args.sink.now)
     (g.K.Sink.written c.serve_by.new.sink) went.0 before after
     (cause_of_calls c.serve_by.result c.args.turn_limit (g.D.CancelDesk.told c.args.desk.now).calls

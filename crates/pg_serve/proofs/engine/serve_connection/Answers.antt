@@ -8,7 +8,7 @@ use Rattle.pg_serve.proofs.engine.serve_connection.Goals as goal
 
 pub returns-in_err-session-clause-went : goal.returns-in_err-session-clause-went
 returns-in_err-session-clause-went g c =
-    let p = err_from_is_err_and c.from_residual.result c.from_residual.ensures.1 in (
+    let p = err_from_is_err_and c.from_residual-in_err-session.result c.from_residual-in_err-session.ensures.1 in (
       [],
       sym (append-nil (g.D.CancelDesk.told c.args.desk.now).calls),
       rw p.1 (none_went (whole_rules (g.H.PgWireServerHandlers.told (arc_value c.args.handlers)))

@@ -299,3 +299,9 @@ returns-in-Ok-Ended-clause-taken g c =
     i.taken c.in-Ok.n c.receive.new.into i.takes c.in-Ok.ensures.bytes) in
     run_over_taken first.rules first.state (g.S.Source.left c.args.source.now) (g.S.Source.left c.receive.new.self)
     c.in-Ok-Ended.kind takes fed.1 (stands.1 [])
+
+pub returns-in-Ok-Ended-clause-registration : goal.returns-in-Ok-Ended-clause-registration
+returns-in-Ok-Ended-clause-registration g c = goes_on_then _ _ _ c.turns.invariant.registration c.in-Ok-Ended.ensures.registration
+
+pub returns-in-Err-clause-registration : goal.returns-in-Err-clause-registration
+returns-in-Err-clause-registration g c = goes_on_then _ _ _ c.turns.invariant.registration c.in-Err.ensures.registration

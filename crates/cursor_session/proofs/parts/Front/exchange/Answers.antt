@@ -1,7 +1,4 @@
 use Rattle.std.proofs.Common.{◌≡◌, ◌≤◌, ◌^◌, ◌++◌, [], ap, sym, subst, ◌∙◌, refl, length, true, Ok, Err, Some}
-use Rattle.pg_session.specs.declared.ends.Progress.{Progress}
-use Rattle.pg_session.specs.declared.ends.Progress.TheVariants as progress
-use Rattle.pg_session.specs.declared.ends.ServeError.{ServeError}
 use Rattle.pg_session.specs.Session.{whole_rules, is_more}
 use Rattle.pg_session.specs.Steps.{WasFed}
 use Rattle.cursor_table.specs.CursorTable.{cursor_rules, is_ready_phase}

@@ -1,9 +1,8 @@
-use Rattle.std.proofs.Common.{◌≡◌, ◌++◌, [], ap, sym, subst, ◌∙◌, append-nil, OnOk, Ok}
-use Rattle.pg_session.specs.declared.ends.Progress.TheVariants.{More}
+use Rattle.std.proofs.Common.{◌≡◌, ◌++◌, [], ap, sym, subst, ◌∙◌, append-nil, OnOk}
 use Rattle.pg_session.specs.Session.{whole_rules, is_more}
 use Rattle.pg_session.specs.Steps.{WasFed}
 use Rattle.cursor_table.specs.CursorTable.{cursor_rules}
-use Rattle.cursor_session.specs.Fronts.{Takes, FrontValue, IsBegun, around}
+use Rattle.cursor_session.specs.Fronts.{Takes, IsBegun, around}
 use Rattle.cursor_session.proofs.Steps.{pass_takes, pass_stands}
 use Rattle.cursor_session.proofs.parts.Front.pass.Goals as goal
 
