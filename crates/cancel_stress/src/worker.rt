@@ -224,9 +224,7 @@ impl<'a> Worker<'a> {
     ) -> Result<bool, AllocError>
         requires { IsLive beside.old number }
     {
-        let told = self
-            .manager
-            .cancel(rt, &mut self.handle, self.other, &key)?;
+        let told = self.manager.cancel(rt, &mut self.handle, self.other, &key)?;
         let call = RegistryCall::Cancel(self.other, key);
         Ok(beside.apply(number, call)? == answer_of(told))
     }
