@@ -1,6 +1,6 @@
 //! Rows as they are made.
 
-ghost use Rattle.std.specs.Prelude.{◌≤◌, IfOk, length};
+ghost use Rattle.std.specs.Prelude.{◌≤◌, ◌+◌, IfOk, length};
 
 use pg_interval::Interval;
 use pg_messages::{DataRow, PgList, PgStr};
@@ -9,10 +9,16 @@ use pg_text::{FieldFormat, PgType, ToSql, ToSqlText};
 use std::alloc::{AllocError, Global};
 use std::sync::Arc;
 
-/// A column of intervals.
-fn column(alloc: Global, format: FieldFormat) -> Result<FieldInfo, AllocError> {
+/// Appends a column of intervals.
+fn push_column(
+    alloc: Global,
+    fields: &mut PgList<FieldInfo>,
+    format: FieldFormat,
+) -> Result<(), AllocError>
+    ensures { length fields.new ≤ length fields.old + 1 }
+{
     let name = PgStr::copy_of(alloc, "span")?;
-    FieldInfo::new(alloc, name, None, None, PgType::Interval, format)
+    fields.push(FieldInfo::new(alloc, name, None, None, PgType::Interval, format)?)
 }
 
 /// A binary column and a text column.
@@ -20,8 +26,8 @@ fn columns(alloc: Global) -> Result<PgList<FieldInfo>, AllocError>
     ensures { IfOk result (λ fields. length fields ≤ 2) }
 {
     let mut fields = PgList::new(alloc);
-    fields.push(column(alloc, FieldFormat::Binary)?)?;
-    fields.push(column(alloc, FieldFormat::Text)?)?;
+    push_column(alloc, &mut fields, FieldFormat::Binary)?;
+    push_column(alloc, &mut fields, FieldFormat::Text)?;
     Ok(fields)
 }
 
@@ -64,33 +70,25 @@ const NULLS: [u8; 8] = [255; 8];
 
 /// Whether the next row of an encoder is two days, and it has room for another row then.
 fn gives_days(rows: &mut DataRowEncoder) -> Result<bool, AllocError> {
-    if !are_days_encoded(rows) || rows.cells() != 2 {
-        return Ok(false);
-    }
+    let encoded = are_days_encoded(rows);
     let row = rows.take_row()?;
-    Ok(is_row(&row, &DAY_AND_DAY) && rows.cells() == 0 && rows.columns_left() == 2)
+    Ok(encoded && is_row(&row, &DAY_AND_DAY) && rows.columns_left() == 2)
 }
 
-/// Whether a row of days is encoded.
-fn days(alloc: Global) -> Result<bool, AllocError> {
-    let mut rows = encoder(alloc)?;
-    gives_days(&mut rows)
-}
-
-/// Whether a row of nulls is encoded.
-fn nulls(alloc: Global) -> Result<bool, AllocError> {
-    let mut rows = encoder(alloc)?;
+/// Whether the last row of an encoder is two nulls.
+fn ends_in_nulls(mut rows: DataRowEncoder) -> Result<bool, AllocError> {
     let encoded = are_nulls_encoded(&mut rows);
     let row = rows.finish()?;
     Ok(encoded && is_row(&row, &NULLS))
 }
 
-#[test]
-fn rows_of_two_columns(rt: HostRuntime) {
-    assert!(rt; days(rt.alloc()) == Ok(true));
+/// Whether rows of days and of nulls are encoded.
+fn are_rows_encoded(alloc: Global) -> Result<bool, AllocError> {
+    let mut rows = encoder(alloc)?;
+    Ok(gives_days(&mut rows) == Ok(true) && ends_in_nulls(rows)?)
 }
 
 #[test]
-fn rows_of_nulls(rt: HostRuntime) {
-    assert!(rt; nulls(rt.alloc()) == Ok(true));
+fn rows_of_two_columns(rt: HostRuntime) {
+    assert!(rt; are_rows_encoded(rt.alloc()) == Ok(true));
 }

@@ -1,13 +1,13 @@
 //! Pages of portals.
 
-ghost use Rattle.std.specs.Prelude.{IfOk};
 ghost use Rattle.std.specs.List.{AllByRecursion};
 ghost use Rattle.pg_portal.specs.Rows.{IsSendable};
 
 use crate::fixtures::{Items, cursor, push_error, push_row, start};
 use pg_messages::{DataRow, PgList, PgStr};
-use pg_portal::{FetchResult, ListRows, PgWireError, Portal, PortalExecutionState};
+use pg_portal::{FetchResult, ListRows, PgWireError, Portal};
 use std::alloc::{AllocError, Global};
+use std::test::Fail;
 
 /// Whether the next page has such rows, of one byte each, is suspended or not, and has this tag and
 /// number.
@@ -19,17 +19,16 @@ fn is_next(
     suspended: bool,
     tag: (&str, u64),
 ) -> bool {
-    let answer = portal.fetch(alloc, limit);
-    answer
-        .as_ref()
-        .is_ok_and(|page| is_page(page, bytes, suspended, tag))
+    match &portal.fetch(alloc, limit) {
+        Ok(page) => is_page(page, bytes, suspended, tag),
+        Err(_) => false,
+    }
 }
 
 fn is_page(page: &FetchResult, bytes: &[u8], suspended: bool, tag: (&str, u64)) -> bool {
     are_rows(page.rows.as_slice(), bytes)
         && page.suspended == suspended
-        && page.command_tag.as_str() == tag.0
-        && page.delivered == tag.1
+        && (page.command_tag.as_str(), page.delivered) == tag
 }
 
 /// Whether rows are of these bytes, one each.
@@ -43,26 +42,10 @@ fn are_rows(rows: &[DataRow], bytes: &[u8]) -> bool {
 
 /// What refuses the next page, in a word.
 fn refusal(portal: &mut Portal<PgStr, ListRows>, alloc: Global) -> &'static str {
-    let answer = portal.fetch(alloc, 0);
-    word_of(answer.as_ref().err())
-}
-
-/// An error, in a word.
-fn word_of(error: Option<&PgWireError>) -> &'static str {
-    match error {
-        None => "none",
-        Some(PgWireError::FailedToParseParameter(_)) => "an item",
-        Some(PgWireError::PortalNotStarted) => "not started",
-        Some(_) => "another",
-    }
-}
-
-/// How far a portal has come, in a word.
-fn stage(portal: &Portal<PgStr, ListRows>) -> &'static str {
-    match portal.state() {
-        PortalExecutionState::Initial => "initial",
-        PortalExecutionState::Suspended(_) => "suspended",
-        PortalExecutionState::Finished => "finished",
+    match &portal.fetch(alloc, 0) {
+        Err(PgWireError::FailedToParseParameter(_)) => "an item",
+        Err(PgWireError::PortalNotStarted) => "not started",
+        _ => "another",
     }
 }
 
@@ -78,37 +61,11 @@ fn push_all(alloc: Global, items: &mut Items) -> Result<(), AllocError>
     push_row(alloc, items, 13)
 }
 
-/// Two rows, a row and an error behind it, and a row.
-fn all(alloc: Global) -> Result<Items, AllocError>
-    ensures { IfOk result (AllByRecursion IsSendable) }
-{
+/// Starts a portal with all of these.
+fn start_all(portal: &mut Portal<PgStr, ListRows>, alloc: Global) -> Result<(), AllocError> {
     let mut items = PgList::new(alloc);
     push_all(alloc, &mut items)?;
-    Ok(items)
-}
-
-/// A portal that has all of these.
-fn started(alloc: Global) -> Result<Portal<PgStr, ListRows>, AllocError> {
-    let mut portal = cursor(alloc)?;
-    start(alloc, &mut portal, all(alloc)?)?;
-    Ok(portal)
-}
-
-/// Whether the error drops the rows of its own page alone, up to the portal's end.
-fn drops_a_page(portal: &mut Portal<PgStr, ListRows>, alloc: Global) -> bool {
-    is_next(portal, alloc, 2, &[10, 11], true, ("FETCH", 2))
-        && refusal(portal, alloc) == "an item"
-        && stage(portal) == "suspended"
-        && is_next(portal, alloc, 1, &[13], true, ("FETCH", 3))
-        && is_next(portal, alloc, i32::MIN, &[], false, ("FETCH", 3))
-        && is_next(portal, alloc, 2, &[], false, ("SELECT", 3))
-        && stage(portal) == "finished"
-}
-
-/// Whether a count stays at its greatest number.
-fn stands_still(portal: &mut Portal<PgStr, ListRows>, alloc: Global) -> bool {
-    portal.delivered = u64::MAX - 1;
-    is_next(portal, alloc, 2, &[10, 11], true, ("FETCH", u64::MAX)) && portal.delivered == u64::MAX
+    start(alloc, portal, items)
 }
 
 /// Whether a portal that wasn't started has no page.
@@ -116,38 +73,33 @@ fn is_unstarted(portal: &mut Portal<PgStr, ListRows>, alloc: Global) -> bool {
     portal.name.as_str() == "p"
         && portal.parameter_len() == 0
         && refusal(portal, alloc) == "not started"
-        && stage(portal) == "initial"
 }
 
-/// Whether that is so of a portal that was started.
-fn started_drops_a_page(alloc: Global) -> Result<bool, AllocError> {
-    let mut portal = started(alloc)?;
-    Ok(drops_a_page(&mut portal, alloc))
+/// Whether the error drops the rows of its own page alone, up to the portal's end.
+fn drops_a_page(portal: &mut Portal<PgStr, ListRows>, alloc: Global) -> Result<bool, AllocError> {
+    start_all(portal, alloc)?;
+    Ok(
+        is_next(portal, alloc, 2, &[10, 11], true, ("FETCH", 2))
+            && refusal(portal, alloc) == "an item"
+            && is_next(portal, alloc, 1, &[13], true, ("FETCH", 3))
+            && is_next(portal, alloc, i32::MIN, &[], false, ("FETCH", 3))
+            && is_next(portal, alloc, 2, &[], false, ("SELECT", 3)),
+    )
 }
 
-/// Whether the count of a portal that was started stays so.
-fn count_stands_still(alloc: Global) -> Result<bool, AllocError> {
-    let mut portal = started(alloc)?;
-    Ok(stands_still(&mut portal, alloc))
+/// Whether a count stays at its greatest number.
+fn stands_still(portal: &mut Portal<PgStr, ListRows>, alloc: Global) -> Result<bool, AllocError> {
+    start_all(portal, alloc)?;
+    portal.delivered = u64::MAX - 1;
+    Ok(is_next(portal, alloc, 2, &[10, 11], true, ("FETCH", u64::MAX)))
 }
 
-/// Whether a cursor that wasn't started has no page.
-fn cursor_is_unstarted(alloc: Global) -> Result<bool, AllocError> {
-    let mut portal = cursor(alloc)?;
-    Ok(is_unstarted(&mut portal, alloc))
-}
-
+/// One portal, which is started twice.
 #[test]
-fn an_error_drops_its_page(rt: HostRuntime) {
-    assert!(rt; started_drops_a_page(rt.alloc()) == Ok(true));
-}
-
-#[test]
-fn the_count_stands_still(rt: HostRuntime) {
-    assert!(rt; count_stands_still(rt.alloc()) == Ok(true));
-}
-
-#[test]
-fn an_unstarted_portal(rt: HostRuntime) {
-    assert!(rt; cursor_is_unstarted(rt.alloc()) == Ok(true));
+fn pages_of_a_portal(rt: HostRuntime) -> Result<(), Fail> {
+    let mut portal = cursor(rt.alloc())?;
+    assert!(rt; is_unstarted(&mut portal, rt.alloc()));
+    assert!(rt; drops_a_page(&mut portal, rt.alloc()) == Ok(true));
+    assert!(rt; stands_still(&mut portal, rt.alloc()) == Ok(true));
+    Ok(())
 }
