@@ -26,14 +26,15 @@ use sendable::is_encodable;
 use show::{show_bytes, show_message};
 use std::alloc::{AllocError, Global};
 use std::{env, io};
-use times::time_rows;
+use times::{time_frame, time_reply, time_streams};
 
 fn main(rt: HostRuntime) -> io::Result<()> {
-    let count = times_asked(&rt)?;
+    let times = times_asked(&rt)?;
     let text = io::read_to_string(rt.alloc(), rt.reader())?;
-    match count {
-        Some(count) => time_rows(&rt, count, text.as_str()),
-        None => answer_rows(&rt, text.as_str()),
+    answer_rows(&rt, times, text.as_str())?;
+    match times {
+        Some(_) => time_streams(&rt),
+        None => Ok(()),
     }
 }
 
@@ -48,25 +49,25 @@ fn times_asked(rt: &HostRuntime) -> io::Result<Option<u32>> {
     )
 }
 
-/// Prints what the codec makes of each row.
-fn answer_rows(rt: &HostRuntime, rows: &str) -> io::Result<()> {
+/// Prints what the codec makes of each row, or how long it takes.
+fn answer_rows(rt: &HostRuntime, times: Option<u32>, rows: &str) -> io::Result<()> {
     for line in rows.lines() {
         match line.split_once(": ") {
-            Some((name, row)) => answer_row(rt, name, row)?,
+            Some((name, row)) => answer_row(rt, times, name, row)?,
             None => println!(rt; "{line}")?,
         }
     }
     Ok(())
 }
 
-/// Prints what the codec makes of a row.
-fn answer_row(rt: &HostRuntime, name: &str, row: &str) -> io::Result<()> {
-    let words = words_of(rt.alloc(), row)?;
+/// Prints what the codec makes of a row, or how long it takes.
+fn answer_row(rt: &HostRuntime, times: Option<u32>, name: &str, row: &str) -> io::Result<()> {
     print!(rt; "{name}: ")?;
+    let words = words_of(rt.alloc(), row)?;
     match words.as_slice() {
-        ["startup", parts @ ..] => answer_frame(rt, true, parts),
-        ["typed", parts @ ..] => answer_frame(rt, false, parts),
-        [kind, parts @ ..] => answer_reply(rt, kind, parts),
+        ["startup", parts @ ..] => answer_frame(rt, times, true, parts),
+        ["typed", parts @ ..] => answer_frame(rt, times, false, parts),
+        [kind, parts @ ..] => answer_reply(rt, times, kind, parts),
         [] => println!(rt; "no row"),
     }
 }
@@ -79,11 +80,15 @@ fn words_of(alloc: Global, row: &str) -> Result<Vec<&str>, AllocError> {
     Ok(words)
 }
 
-/// Prints the first answer that isn't None while the bytes come one by one, and how many had come;
-/// and what is left where they all come at once.
-fn answer_frame(rt: &HostRuntime, awaiting: bool, parts: &[&str]) -> io::Result<()> {
+/// Prints what the codec makes of the bytes of these words, or how long it takes.
+fn answer_frame(
+    rt: &HostRuntime,
+    times: Option<u32>,
+    awaiting: bool,
+    parts: &[&str],
+) -> io::Result<()> {
     match bytes_of(rt.alloc(), parts) {
-        Ok(bytes) => answer_bytes(rt, awaiting, bytes.as_slice()),
+        Ok(bytes) => answer_bytes(rt, times, awaiting, bytes.as_slice()),
         Err(fault) => show_fault(rt, fault),
     }
 }
@@ -96,7 +101,17 @@ fn show_fault(rt: &HostRuntime, fault: Fault<'_>) -> io::Result<()> {
     }
 }
 
-fn answer_bytes(rt: &HostRuntime, awaiting: bool, bytes: &[u8]) -> io::Result<()> {
+/// Prints the first answer that isn't None while the bytes come one by one, and how many had come;
+/// and what is left where they all come at once. Or else how long the frame takes.
+fn answer_bytes(
+    rt: &HostRuntime,
+    times: Option<u32>,
+    awaiting: bool,
+    bytes: &[u8],
+) -> io::Result<()> {
+    if let Some(count) = times {
+        return time_frame(rt, count, awaiting, bytes);
+    }
     show_one_by_one(rt, awaiting, bytes)?;
     show_at_once(rt, awaiting, bytes)
 }
@@ -176,11 +191,16 @@ fn show_answer(
     shown
 }
 
-/// Prints what the codec makes of the reply of these words.
-fn answer_reply(rt: &HostRuntime, kind: &str, parts: &[&str]) -> io::Result<()> {
+/// Prints what the codec makes of the reply of these words, or how long it takes.
+fn answer_reply(
+    rt: &HostRuntime,
+    times: Option<u32>,
+    kind: &str,
+    parts: &[&str],
+) -> io::Result<()> {
     match reply_of(rt.alloc(), kind, parts) {
         Ok(reply) => {
-            let shown = show_reply(rt, &reply);
+            let shown = show_reply(rt, times, &reply);
             replies::let_go(reply);
             shown
         }
@@ -188,13 +208,19 @@ fn answer_reply(rt: &HostRuntime, kind: &str, parts: &[&str]) -> io::Result<()> 
     }
 }
 
-/// Prints the bytes of a reply behind one that is there already.
-fn show_reply(rt: &HostRuntime, reply: &PgWireBackendMessage) -> io::Result<()> {
+/// Prints the bytes of a reply behind one that is there already, or how long they take.
+fn show_reply(
+    rt: &HostRuntime,
+    times: Option<u32>,
+    reply: &PgWireBackendMessage,
+) -> io::Result<()> {
     if !is_encodable(reply) {
         return println!(rt; "body {}, cannot be sent", reply.body_len());
     }
-    let dst = encoded_behind(rt.alloc(), reply)?;
-    show_encoded(rt, reply.body_len(), dst.as_slice())
+    match times {
+        Some(count) => time_reply(rt, count, reply),
+        None => show_encoded(rt, reply),
+    }
 }
 
 /// A byte, and the bytes of a reply.
@@ -206,8 +232,11 @@ fn encoded_behind(alloc: Global, reply: &PgWireBackendMessage) -> Result<BytesMu
     Ok(dst)
 }
 
-fn show_encoded(rt: &HostRuntime, body_len: u64, bytes: &[u8]) -> io::Result<()> {
-    print!(rt; "body {body_len},")?;
-    show_bytes(rt, bytes)?;
+fn show_encoded(rt: &HostRuntime, reply: &PgWireBackendMessage) -> io::Result<()>
+    requires { IsEncodable reply.now }
+{
+    print!(rt; "body {},", reply.body_len())?;
+    let dst = encoded_behind(rt.alloc(), reply)?;
+    show_bytes(rt, dst.as_slice())?;
     println!(rt;)
 }

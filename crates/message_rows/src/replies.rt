@@ -5,8 +5,7 @@ use pg_messages::{
     AuthenticationOk, BackendKeyData, BindComplete, CloseComplete, CommandComplete,
     CopyBothResponse, CopyData, CopyDone, CopyInResponse, CopyOutResponse, DataRow,
     EmptyQueryResponse, ErrorInfo, ErrorResponse, FieldDescription, GssEncResponse, KeyError,
-    NoData,
-    ParameterDescription, ParameterStatus, ParseComplete, PgBytes, PgList, PgStr,
+    NoData, ParameterDescription, ParameterStatus, ParseComplete, PgBytes, PgList, PgStr,
     PgWireBackendMessage, PortalSuspended, ReadyForQuery, RowDescription, SecretKey, SslResponse,
     TransactionStatus,
 };

@@ -6,73 +6,82 @@ use std::io;
 
 /// Prints a message.
 pub fn show_message(rt: &HostRuntime, message: &PgWireFrontendMessage) -> io::Result<()> {
+    print!(rt; "{}", name_of(message))?;
     match message {
         PgWireFrontendMessage::Startup(m) => show_startup(rt, m),
-        PgWireFrontendMessage::SslNegotiation(SslNegotiationKind::PostgresSsl) => {
-            print!(rt; "SslNegotiation PostgresSsl")
-        }
-        PgWireFrontendMessage::SslNegotiation(SslNegotiationKind::PostgresGss) => {
-            print!(rt; "SslNegotiation PostgresGss")
-        }
         PgWireFrontendMessage::CancelRequest(m) => {
-            print!(rt; "CancelRequest {}", m.pid)?;
+            print!(rt; " {}", m.pid)?;
             show_bytes(rt, m.secret_key.as_slice())
         }
-        PgWireFrontendMessage::CopyData(m) => {
-            print!(rt; "CopyData")?;
-            show_bytes(rt, m.payload.as_slice())
-        }
-        PgWireFrontendMessage::CopyDone(_) => print!(rt; "CopyDone"),
-        PgWireFrontendMessage::CopyFail(m) => show_texts(rt, "CopyFail", &[&m.message]),
-        PgWireFrontendMessage::Query(m) => show_texts(rt, "Query", &[&m.query]),
-        PgWireFrontendMessage::Terminate(_) => print!(rt; "Terminate"),
+        PgWireFrontendMessage::CopyData(m) => show_bytes(rt, m.payload.as_slice()),
+        PgWireFrontendMessage::CopyFail(m) => show_text(rt, m.message.as_str()),
+        PgWireFrontendMessage::Query(m) => show_text(rt, m.query.as_str()),
         _ => show_extended(rt, message),
+    }
+}
+
+/// The name of a message's kind.
+fn name_of(message: &PgWireFrontendMessage) -> &'static str {
+    match message {
+        PgWireFrontendMessage::Startup(_) => "Startup",
+        PgWireFrontendMessage::SslNegotiation(SslNegotiationKind::PostgresSsl) =>
+            "SslNegotiation PostgresSsl",
+        PgWireFrontendMessage::SslNegotiation(SslNegotiationKind::PostgresGss) =>
+            "SslNegotiation PostgresGss",
+        PgWireFrontendMessage::CancelRequest(_) => "CancelRequest",
+        PgWireFrontendMessage::Query(_) => "Query",
+        PgWireFrontendMessage::Parse(_) => "Parse",
+        PgWireFrontendMessage::Bind(_) => "Bind",
+        PgWireFrontendMessage::Describe(_) => "Describe",
+        PgWireFrontendMessage::Execute(_) => "Execute",
+        PgWireFrontendMessage::Close(_) => "Close",
+        PgWireFrontendMessage::Flush(_) => "Flush",
+        PgWireFrontendMessage::PgSync(_) => "PgSync",
+        PgWireFrontendMessage::Terminate(_) => "Terminate",
+        PgWireFrontendMessage::CopyData(_) => "CopyData",
+        PgWireFrontendMessage::CopyDone(_) => "CopyDone",
+        PgWireFrontendMessage::CopyFail(_) => "CopyFail",
     }
 }
 
 fn show_extended(rt: &HostRuntime, message: &PgWireFrontendMessage) -> io::Result<()> {
     match message {
         PgWireFrontendMessage::Parse(m) => {
-            show_texts(rt, "Parse", &[&m.name, &m.query])?;
+            show_two(rt, &m.name, &m.query)?;
             show_items(rt, m.type_oids.as_slice())
         }
         PgWireFrontendMessage::Bind(m) => show_bind(rt, m),
-        PgWireFrontendMessage::Describe(m) => show_target(rt, "Describe", m.target_type, &m.name),
+        PgWireFrontendMessage::Describe(m) => show_target(rt, m.target_type, &m.name),
         PgWireFrontendMessage::Execute(m) => {
-            show_texts(rt, "Execute", &[&m.name])?;
+            show_text(rt, m.name.as_str())?;
             print!(rt; " {}", m.max_rows)
         }
-        PgWireFrontendMessage::Close(m) => show_target(rt, "Close", m.target_type, &m.name),
-        PgWireFrontendMessage::Flush(_) => print!(rt; "Flush"),
-        PgWireFrontendMessage::PgSync(_) => print!(rt; "PgSync"),
-        _ => print!(rt; "not an extended query"),
+        PgWireFrontendMessage::Close(m) => show_target(rt, m.target_type, &m.name),
+        _ => Ok(()),
     }
 }
 
 fn show_startup(rt: &HostRuntime, startup: &Startup) -> io::Result<()> {
-    print!(rt; "Startup {}", startup.code)?;
+    print!(rt; " {}", startup.code)?;
     show_pairs(rt, startup.parameters.as_slice())
 }
 
 fn show_bind(rt: &HostRuntime, bind: &Bind) -> io::Result<()> {
-    show_texts(rt, "Bind", &[&bind.portal_name, &bind.statement_name])?;
+    show_two(rt, &bind.portal_name, &bind.statement_name)?;
     show_items(rt, bind.parameter_format_codes.as_slice())?;
     show_values(rt, bind.parameters.as_slice())?;
     show_items(rt, bind.result_column_format_codes.as_slice())
 }
 
 /// Prints what a Describe or a Close is of.
-fn show_target(rt: &HostRuntime, kind: &str, target_type: u8, name: &PgStr) -> io::Result<()> {
-    print!(rt; "{kind} {target_type}")?;
+fn show_target(rt: &HostRuntime, target_type: u8, name: &PgStr) -> io::Result<()> {
+    print!(rt; " {target_type}")?;
     show_text(rt, name.as_str())
 }
 
-fn show_texts(rt: &HostRuntime, kind: &str, texts: &[&PgStr]) -> io::Result<()> {
-    print!(rt; "{kind}")?;
-    for text in texts {
-        show_text(rt, text.as_str())?;
-    }
-    Ok(())
+fn show_two(rt: &HostRuntime, one: &PgStr, other: &PgStr) -> io::Result<()> {
+    show_text(rt, one.as_str())?;
+    show_text(rt, other.as_str())
 }
 
 /// Prints a text of at most 40 bytes, and of a longer one how many bytes there are, the first and
@@ -137,8 +146,7 @@ fn show_pairs(rt: &HostRuntime, pairs: &[(PgStr, PgStr)]) -> io::Result<()> {
     print!(rt; " [{} pairs", pairs.len())?;
     for (i, (name, value)) in pairs.iter().enumerate() {
         if i < 4 {
-            show_text(rt, name.as_str())?;
-            show_text(rt, value.as_str())?;
+            show_two(rt, name, value)?;
         }
     }
     print!(rt; " ]")
