@@ -31,7 +31,12 @@ fn two(alloc: Global) -> Result<ListCopy, AllocError> {
 
 /// The first byte of the next data, if data are next.
 fn next_byte(copies: &mut ListCopy) -> Option<u8> {
-    match &copies.next() {
+    first_byte(&copies.next())
+}
+
+/// The first byte of data, if there are data.
+fn first_byte(next: &Result<Option<Result<CopyData, PgWireError>>, AllocError>) -> Option<u8> {
+    match next {
         Ok(Some(Ok(copied))) => copied.payload.as_slice().first().copied(),
         _ => None,
     }

@@ -9,19 +9,33 @@ use pg_portal::{FetchResult, ListRows, PgWireError, Portal};
 use std::alloc::{AllocError, Global};
 use std::test::Fail;
 
-/// Whether the next page has such rows, of one byte each, is suspended or not, and has this tag and
-/// number.
+/// What is expected of a fetch.
+#[derive(Clone, Copy)]
+enum Fetch<'b> {
+    /// Rows of one byte each; whether the page is suspended; its tag and number.
+    Page(&'b [u8], bool, (&'static str, u64)),
+    /// The error of an item.
+    ItemError,
+    /// The portal wasn't started.
+    NotStarted,
+}
+
+/// Whether the next page is as expected.
 fn is_next(
     portal: &mut Portal<PgStr, ListRows>,
     alloc: Global,
     limit: i32,
-    bytes: &[u8],
-    suspended: bool,
-    tag: (&str, u64),
+    expected: Fetch<'_>,
 ) -> bool {
-    match &portal.fetch(alloc, limit) {
-        Ok(page) => is_page(page, bytes, suspended, tag),
-        Err(_) => false,
+    is_fetched(&portal.fetch(alloc, limit), expected)
+}
+
+fn is_fetched(answer: &Result<FetchResult, PgWireError>, expected: Fetch<'_>) -> bool {
+    match (answer, expected) {
+        (Ok(page), Fetch::Page(bytes, suspended, tag)) => is_page(page, bytes, suspended, tag),
+        (Err(PgWireError::FailedToParseParameter(_)), Fetch::ItemError) => true,
+        (Err(PgWireError::PortalNotStarted), Fetch::NotStarted) => true,
+        _ => false,
     }
 }
 
@@ -38,15 +52,6 @@ fn are_rows(rows: &[DataRow], bytes: &[u8]) -> bool {
         same = same && row.payload.as_slice() == [*byte].as_slice();
     }
     same
-}
-
-/// What refuses the next page, in a word.
-fn refusal(portal: &mut Portal<PgStr, ListRows>, alloc: Global) -> &'static str {
-    match &portal.fetch(alloc, 0) {
-        Err(PgWireError::FailedToParseParameter(_)) => "an item",
-        Err(PgWireError::PortalNotStarted) => "not started",
-        _ => "another",
-    }
 }
 
 /// Appends two rows, a row and an error behind it, and a row.
@@ -72,18 +77,23 @@ fn start_all(portal: &mut Portal<PgStr, ListRows>, alloc: Global) -> Result<(), 
 fn is_unstarted(portal: &mut Portal<PgStr, ListRows>, alloc: Global) -> bool {
     portal.name.as_str() == "p"
         && portal.parameter_len() == 0
-        && refusal(portal, alloc) == "not started"
+        && is_next(portal, alloc, 0, Fetch::NotStarted)
 }
 
 /// Whether the error drops the rows of its own page alone, up to the portal's end.
 fn drops_a_page(portal: &mut Portal<PgStr, ListRows>, alloc: Global) -> Result<bool, AllocError> {
     start_all(portal, alloc)?;
     Ok(
-        is_next(portal, alloc, 2, &[10, 11], true, ("FETCH", 2))
-            && refusal(portal, alloc) == "an item"
-            && is_next(portal, alloc, 1, &[13], true, ("FETCH", 3))
-            && is_next(portal, alloc, i32::MIN, &[], false, ("FETCH", 3))
-            && is_next(portal, alloc, 2, &[], false, ("SELECT", 3)),
+        is_next(portal, alloc, 2, Fetch::Page(&[10, 11], true, ("FETCH", 2)))
+            && is_next(portal, alloc, 0, Fetch::ItemError)
+            && is_next(portal, alloc, 1, Fetch::Page(&[13], true, ("FETCH", 3)))
+            && is_next(
+                portal,
+                alloc,
+                i32::MIN,
+                Fetch::Page(&[], false, ("FETCH", 3)),
+            )
+            && is_next(portal, alloc, 2, Fetch::Page(&[], false, ("SELECT", 3))),
     )
 }
 
@@ -91,7 +101,12 @@ fn drops_a_page(portal: &mut Portal<PgStr, ListRows>, alloc: Global) -> Result<b
 fn stands_still(portal: &mut Portal<PgStr, ListRows>, alloc: Global) -> Result<bool, AllocError> {
     start_all(portal, alloc)?;
     portal.delivered = u64::MAX - 1;
-    Ok(is_next(portal, alloc, 2, &[10, 11], true, ("FETCH", u64::MAX)))
+    Ok(is_next(
+        portal,
+        alloc,
+        2,
+        Fetch::Page(&[10, 11], true, ("FETCH", u64::MAX)),
+    ))
 }
 
 /// One portal, which is started twice.
