@@ -44,7 +44,7 @@ fn are_calls(calls: &[DeskCall], words: &str, first: bool) -> bool {
     for word in words.split_whitespace() {
         match calls.get(count) {
             None => return first,
-            Some(call) if word == call_name(*call) => {}
+            Some(call) if word == call_name(call) => {}
             Some(_) => return false,
         }
         count = count.saturating_add(1);
@@ -53,12 +53,13 @@ fn are_calls(calls: &[DeskCall], words: &str, first: bool) -> bool {
 }
 
 /// The word for a call.
-fn call_name(call: DeskCall) -> &'static str {
-    match call {
+fn call_name(call: &DeskCall) -> &'static str {
+    match *call {
         DeskCall::Start => "start",
         DeskCall::Ask(true) => "yes",
         DeskCall::Ask(false) => "no",
         DeskCall::Cancel(_, _, _) => "cancel",
+        DeskCall::Narrow => "narrow",
     }
 }
 
