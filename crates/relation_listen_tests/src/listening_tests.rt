@@ -84,6 +84,19 @@ impl<S, K> Keeping<S, K> {
     }
 }
 
+impl<S: Source + Drop, K: Sink + Drop> Keeping<S, K> {
+    /// Keeps a job of the call of this number, and says whether it does.
+    fn keep(&mut self, call: u64, job: ConnectionJob<S, K>) -> bool
+        ensures started { self.new.started ≡ self.old.started }
+        ensures faults { self.new.faults ≡ self.old.faults }
+    {
+        if call == self.fails_at {
+            return false;
+        }
+        self.jobs.push(job).is_ok()
+    }
+}
+
 impl<S: Source + Drop, K: Sink + Drop> Spawner<ConnectionJob<S, K>> for Keeping<S, K> {
     ghost faults = { λ s. s.faults };
 
@@ -92,13 +105,12 @@ impl<S: Source + Drop, K: Sink + Drop> Spawner<ConnectionJob<S, K>> for Keeping<
     fn start(&mut self, job: ConnectionJob<S, K>) -> Result<(), SpawnFailed> {
         let call = self.calls;
         self.calls = call.saturating_add(1);
-        if call != self.fails_at && self.jobs.push(job).is_ok() {
+        if self.keep(call, job) {
             self.started += 1;
-            Ok(())
-        } else {
-            self.faults = self.faults.saturating_add(1);
-            Err(SpawnFailed {})
+            return Ok(());
         }
+        self.faults = self.faults.saturating_add(1);
+        Err(SpawnFailed {})
     }
 }
 
