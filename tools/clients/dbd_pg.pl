@@ -47,6 +47,14 @@ sub in_transaction {
     return $rows;
 }
 
+sub uncommitted {
+    my ($connection) = @_;
+    $connection->{AutoCommit} = 0;
+    my $rows = rows($connection, 'corrections');
+    $connection->commit;
+    return $rows;
+}
+
 # Begins `slow`, cancels it, and uses the connection further.
 sub canceled_async {
     my ($connection) = @_;
@@ -68,7 +76,7 @@ sub canceled_by_signal {
 tell_of('query', sub { rows($_[0], 'shifts') });
 tell_of('unknown relation', sub { rows($_[0], 'nosuch') });
 tell_of('begin_work and commit', sub { in_transaction($_[0], 'commit') });
-tell_of('AutoCommit => 0 and commit', sub { $_[0]->{AutoCommit} = 0; my $rows = rows($_[0], 'corrections'); $_[0]->commit; $rows });
+tell_of('AutoCommit => 0 and commit', \&uncommitted);
 tell_of('COPY and pg_getcopydata', \&copied);
 tell_of('pg_cancel of an async query', \&canceled_async);
 tell_of('cancel from a signal', \&canceled_by_signal);

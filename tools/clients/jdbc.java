@@ -1,4 +1,5 @@
-// What JDBC does over the server: java -cp postgresql.jar jdbc.java HOST PORT. A line tells each thing that was tried, and what came.
+// What JDBC does over the server: java -cp postgresql.jar jdbc.java HOST PORT. A line tells each thing that was tried,
+// and what came.
 import java.io.StringWriter;
 import java.sql.*;
 import java.util.ArrayList;

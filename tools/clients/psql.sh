@@ -16,7 +16,8 @@ tell() {
 # Tells what of psql's output at a terminal has this pattern, where these bytes are typed, a second between two words.
 tell_typed() {
   what=$1 && pattern=$2 && shift 2
-  said=$(for word; do printf "$word" && sleep 1; done | script -qec "psql -X -A -t $where" /dev/null 2>&1 | tr -d '\r' | grep -o "$pattern")
+  said=$(for word; do printf "$word" && sleep 1; done | script -qec "psql -X -A -t $where" /dev/null 2>&1 | tr -d '\r')
+  said=$(grep -o "$pattern" <<< "$said")
   echo "$what:" ${said:-nothing}
 }
 
