@@ -10,10 +10,8 @@ WORDS = {"host": sys.argv[1], "port": int(sys.argv[2]), "user": "demo", "databas
 
 
 class Unreset(asyncpg.Connection):
-    """A connection that a pool takes back as it is."""
-
     async def reset(self, *, timeout=None):
-        pass
+        """Does nothing, so a pool takes the connection back as it is."""
 
 
 async def tell(what, action, **more):

@@ -39,19 +39,11 @@ sub copied {
     return join ', ', @lines;
 }
 
-sub in_transaction {
+# Asks a query in a transaction, and ends that so.
+sub ended {
     my ($connection, $end) = @_;
-    $connection->begin_work;
     my $rows = rows($connection, 'corrections');
     $connection->$end;
-    return $rows;
-}
-
-sub uncommitted {
-    my ($connection) = @_;
-    $connection->{AutoCommit} = 0;
-    my $rows = rows($connection, 'corrections');
-    $connection->commit;
     return $rows;
 }
 
@@ -75,11 +67,11 @@ sub canceled_by_signal {
 
 tell_of('query', sub { rows($_[0], 'shifts') });
 tell_of('unknown relation', sub { rows($_[0], 'nosuch') });
-tell_of('begin_work and commit', sub { in_transaction($_[0], 'commit') });
-tell_of('AutoCommit => 0 and commit', \&uncommitted);
+tell_of('begin_work and commit', sub { $_[0]->begin_work; ended($_[0], 'commit') });
+tell_of('AutoCommit => 0 and commit', sub { $_[0]->{AutoCommit} = 0; ended($_[0], 'commit') });
 tell_of('COPY and pg_getcopydata', \&copied);
 tell_of('pg_cancel of an async query', \&canceled_async);
 tell_of('cancel from a signal', \&canceled_by_signal);
 tell_of('ping', sub { $_[0]->ping || 'no' });
-tell_of('rollback', sub { in_transaction($_[0], 'rollback') });
+tell_of('rollback', sub { $_[0]->begin_work; ended($_[0], 'rollback') });
 tell_of('IntervalStyle in options', sub { rows($_[0], 'corrections') }, ";options='-c IntervalStyle=iso_8601'");

@@ -40,9 +40,8 @@ async function paged(client) {
 }
 
 async function streamed(client) {
-  let count = 0
-  for await (const row of client.query(new QueryStream('shifts', [], { batchSize: 3 }))) count += row ? 1 : 0
-  return count
+  const rows = client.query(new QueryStream('shifts', [], { batchSize: 3 }))
+  return (await rows.toArray()).length
 }
 
 async function pooled() {
