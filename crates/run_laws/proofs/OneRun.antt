@@ -14,7 +14,7 @@ use Rattle.pg_session.specs.Run.{Rules, IsRun, EndsWith}
 
 pub left_with_more : (calls : List DeskCall) (answers more : List Bool) → answers ≡ answers_of calls ++ left_by calls answers
     → left_by calls (answers ++ more) ≡ left_by calls answers ++ more
-pub left_with_more calls answers more e =
+left_with_more calls answers more e =
     ap (λ xs. left_by calls (xs ++ more)) e ∙ ap (λ xs. left_by calls xs) (append_assoc (answers_of calls) (left_by calls answers) more)
     ∙ drop-append_seam (answers_of calls) (left_by calls answers ++ more)
 
@@ -24,23 +24,23 @@ not_both awaiting rest (inl short) bad = let whole = bad.0 in omega (arith, shor
 not_both awaiting rest (inr w) bad = elim bad.1 [ inl n ↦ n w.1 | inr x ↦ let few = w.2 in let all = x.1 in omega (arith, few, all) ]
 
 pub is_made : {T : Type 0} (awaits : T → Bool) (n : Next T) (rest : List ℕ) (k : EndKind) → EndsWith awaits n rest k → IsMade n
-pub is_made awaits (Goes s) rest k h = tt
-pub is_made awaits (Ends kind) rest k h = tt
-pub is_made awaits Stops rest k h = h
+is_made awaits (Goes s) rest k h = tt
+is_made awaits (Ends kind) rest k h = tt
+is_made awaits Stops rest k h = h
 
 -- what is left of the bytes of a run is unfinished or bad
 pub rest_of : {T : Type 0} (awaits : T → Bool) (s : T) (rest : List ℕ) (k : EndKind) → EndsWith awaits (Goes s) rest k
     → IsUnfinished (awaits s) rest ⊎ IsBad (awaits s) rest
-pub rest_of awaits s rest BadFrame h = inr h
-pub rest_of awaits s rest InputEnd h = inl h
-pub rest_of awaits s rest Terminate h = absurd h
-pub rest_of awaits s rest Fatal h = absurd h
-pub rest_of awaits s rest CancelServed h = absurd h
+rest_of awaits s rest BadFrame h = inr h
+rest_of awaits s rest InputEnd h = inl h
+rest_of awaits s rest Terminate h = absurd h
+rest_of awaits s rest Fatal h = absurd h
+rest_of awaits s rest CancelServed h = absurd h
 
 pub no_frame : (awaiting : Bool) (text frame others : List ℕ) (m : PgWireFrontendMessage) → IsUnfinished awaiting text ⊎ IsBad awaiting text
     → text ≡ frame ++ others → IsFrame awaiting frame m → ⊥
-pub no_frame awaiting text frame others m (inl u) e h = frame_finished awaiting frame others m h (subst (IsUnfinished awaiting) e u)
-pub no_frame awaiting text frame others m (inr b) e h = frame_not_bad awaiting frame others m h (subst (IsBad awaiting) e b)
+no_frame awaiting text frame others m (inl u) e h = frame_finished awaiting frame others m h (subst (IsUnfinished awaiting) e u)
+no_frame awaiting text frame others m (inr b) e h = frame_not_bad awaiting frame others m h (subst (IsBad awaiting) e b)
 
 one_end : {T : Type 0} (awaits : T → Bool) (s : T) (rest : List ℕ) (k l : EndKind) → EndsWith awaits (Goes s) rest k
     → EndsWith awaits (Goes s) rest l → k ≡ l
