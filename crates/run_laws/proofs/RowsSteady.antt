@@ -1,5 +1,5 @@
 -- Each row of the whole table asks only so many questions, in order, and comes to something where they are answered.
-use Rattle.std.proofs.Common.{◌≡◌, ◌≤◌, ◌==◌, ℕ, zero, suc, Bool, true, false, if◌then◌else◌, List, [], ◌∷◌, ◌++◌, Option, Some, None, Result, Ok, Err, nat_le, nat_lt, length, refl, ap, sym, ◌∙◌, append-nil, arith}
+use Rattle.std.proofs.Common.{◌≡◌, ◌≤◌, ◌==◌, ℕ, zero, suc, Bool, true, false, if◌then◌else◌, List, [], ◌∷◌, ◌++◌, Option, Some, None, Result, Ok, Err, nat_le, nat_lt, length, refl, ap, sym, append-nil, arith}
 use Rattle.std.specs.FinMap as fin
 use Rattle.pg_messages.specs.declared.startup.CancelRequest.{CancelRequest}
 use Rattle.pg_messages.specs.declared.simplequery.Query.{Query}
@@ -33,7 +33,7 @@ use Rattle.pg_portal.specs.Told.{TablePortal, Stage, Unstarted, Started, Ended, 
 use Rattle.pg_handlers.specs.declared.desk.DeskCall.TheVariants as desk
 use Rattle.pg_handlers.specs.Answer.{BeginsWith, answers_of}
 use Rattle.pg_handlers.specs.CopyRows.{stepped, copied, copy_row}
-use Rattle.pg_handlers.specs.Effect.{Effect, Called, Row, Outcome, Done, Failed, Over, Stopped, says, refuses, silent}
+use Rattle.pg_handlers.specs.Effect.{Effect, Called, Row, Outcome, Stopped, says, refuses, silent}
 use Rattle.pg_handlers.specs.Errors.{unsupported_version, too_few_codes, values_for_empty}
 use Rattle.pg_handlers.specs.ExecuteRow.{at_stage, page_effect, sent_in_execute, fetched, fetched_nothing, executed, execute_polled, executed_nothing, executed_portal, executed_entry}
 use Rattle.pg_handlers.specs.ExtendedRows.{bind_complete, parsed, bound_portal, bound_with_columns, bound, described, described_statement, described_portal, statement_description, portal_description, on_describe}

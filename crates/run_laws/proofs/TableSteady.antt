@@ -1,10 +1,9 @@
 -- The whole table is steady, whatever the handlers tell.
 use Rattle.std.proofs.Common.{◌≡◌, ◌≤◌, ℕ, Bool, true, false, if◌then◌else◌, List, ◌++◌, length, refl, ap, sym, ◌∙◌}
-use Rattle.pg_messages.specs.declared.frontend.PgWireFrontendMessage.{PgWireFrontendMessage}
 use Rattle.pg_portal.specs.Errors.{info_of}
 use Rattle.pg_handlers.specs.declared.desk.DeskCall.{DeskCall}
 use Rattle.pg_handlers.specs.declared.ends.EndKind.TheVariants as end
-use Rattle.pg_handlers.specs.Answer.{Answer, Goes, Ends, Stops, BeginsWith, answers_of}
+use Rattle.pg_handlers.specs.Answer.{Answer, Goes, Ends, BeginsWith, answers_of}
 use Rattle.pg_handlers.specs.Effect.{Called, Row, Scope, Outcome, Done, Failed, Over, Stopped, settle, settled, after_error}
 use Rattle.pg_handlers.specs.Errors.{is_fatal}
 use Rattle.pg_handlers.specs.Handlers.{Handlers}
