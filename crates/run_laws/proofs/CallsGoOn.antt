@@ -1,7 +1,6 @@
 -- The calls of a run begin with those of the frames in front of its bytes.
-use Rattle.std.proofs.Common.{◌≡◌, ℕ, Bool, List, [], ◌∷◌, ◌++◌, refl, ap, sym, subst, ◌∙◌, append_assoc, append-nil, inl, inr, ◌⊎◌}
+use Rattle.std.proofs.Common.{◌≡◌, ℕ, Bool, List, [], ◌∷◌, ◌++◌, refl, ap, sym, subst, ◌∙◌, append_assoc, append-nil, inl, inr}
 use Rattle.pg_messages.specs.declared.frontend.PgWireFrontendMessage.{PgWireFrontendMessage}
-use Rattle.pg_messages.specs.declared.backend.PgWireBackendMessage.{PgWireBackendMessage}
 use Rattle.pg_messages.specs.Frames.{DividesInto, awaits_startup_after}
 use Rattle.pg_messages.proofs.OneReading.{one_frame, division_kept}
 use Rattle.pg_handlers.specs.declared.desk.DeskCall.{DeskCall}
@@ -46,6 +45,12 @@ module _ {T : Type 0} (rules : Rules T) (lawful : IsLawful rules.table rules.awa
       (λ h. by_next d.1 d.4 divides (rules.table answers s m).next refl (λ u f g v. front_calls ms ns (left_by
       (rules.table answers s m).calls answers) more u d.1 x y k f g v) h) p
     where
+      at_end : BeginsWith (conversation rules.table (answers ++ more) s (m ∷ ns)).calls (rules.table answers s m).calls
+      at_end =
+          let a = rules.table (answers ++ more) s m in
+          begins_through (conversation rules.table (answers ++ more) s (m ∷ ns)).calls a.calls (rules.table answers s m).calls
+          (continued_begins a a.next (λ u. conversation rules.table (left_by a.calls (answers ++ more)) u ns)) (steady.grows answers more s m)
+
       by_next : (others : List ℕ) → DividesInto (awaits_startup_after m (rules.awaits s)) others ms x
           → DividesInto (awaits_startup_after m (rules.awaits s)) others ns y
           → (z : Next T) → (rules.table answers s m).next ≡ z
@@ -72,30 +77,24 @@ module _ {T : Type 0} (rules : Rules T) (lawful : IsLawful rules.table rules.awa
       by_next others f g (Ends kind) z ih v = at_end
       by_next others f g Stops z ih v = at_end
 
-      at_end : BeginsWith (conversation rules.table (answers ++ more) s (m ∷ ns)).calls (rules.table answers s m).calls
-      at_end =
-          let a = rules.table (answers ++ more) s m in
-          begins_through (conversation rules.table (answers ++ more) s (m ∷ ns)).calls a.calls (rules.table answers s m).calls
-          (continued_begins a a.next (λ u. conversation rules.table (left_by a.calls (answers ++ more)) u ns)) (steady.grows answers more s m)
-
   module _ (s : T) (front behind replies : List ℕ) (made calls : List DeskCall) (kind : EndKind) (p : IsCalledSoFar rules s front made)
-    (q : IsRun rules s (front ++ behind) replies calls kind) where
-      -- the run's own answer, as it is given
-      abbrev given : Answer T
-      given = record { replies = q.fed.replies; calls = calls; next = q.next }
+      (q : IsRun rules s (front ++ behind) replies calls kind) where
+    -- the run's own answer, as it is given
+    abbrev given : Answer T
+    given = record { replies = q.fed.replies; calls = calls; next = q.next }
 
-      under : (more : List Bool) → conversation rules.table (answers_of made ++ more) s q.fed.messages ≡ given → BeginsWith calls made
-      under more whole =
-          let r = front_calls p.messages q.fed.messages (answers_of made) more s (front ++ behind) (p.rest ++ behind) q.rest kind
-          (division_kept p.messages (rules.awaits s) front p.rest behind p.division) q.fed.division
-          (subst (λ w. EndsWith rules.awaits w.next q.rest kind) (sym whole) q.ended) in
-          (r.0, sym (ap (λ a. a.calls) whole) ∙ r.1 ∙ ap (λ l. l ++ r.0) p.called)
+    under : (more : List Bool) → conversation rules.table (answers_of made ++ more) s q.fed.messages ≡ given → BeginsWith calls made
+    under more whole =
+        let r = front_calls p.messages q.fed.messages (answers_of made) more s (front ++ behind) (p.rest ++ behind) q.rest kind
+        (division_kept p.messages (rules.awaits s) front p.rest behind p.division) q.fed.division
+        (subst (λ w. EndsWith rules.awaits w.next q.rest kind) (sym whole) q.ended) in
+        (r.0, sym (ap (λ a. a.calls) whole) ∙ r.1 ∙ ap (λ l. l ++ r.0) p.called)
 
-      pub calls_go_on : AgreeAsFar (answers_of calls) (answers_of made) → BeginsWith calls made
-      calls_go_on (inl e) = under e.0 (ap (λ xs. conversation rules.table xs s q.fed.messages) (sym e.1) ∙ q.fed.answered)
-      calls_go_on (inr e) =
-          let next : (conversation rules.table (answers_of calls) s q.fed.messages).next ≡ q.next = ap (λ a. a.next) q.fed.answered in
-          let made_one : IsMade (conversation rules.table (answers_of calls) s q.fed.messages).next =
-          subst IsMade (sym next) (is_made rules.awaits q.next q.rest kind q.ended) in
-          under [] (ap (λ xs. conversation rules.table xs s q.fed.messages) (append-nil (answers_of made) ∙ e.1)
-          ∙ unchanged rules lawful (answers_of calls) e.0 s q.fed.messages made_one ∙ q.fed.answered)
+    pub calls_go_on : AgreeAsFar (answers_of calls) (answers_of made) → BeginsWith calls made
+    calls_go_on (inl e) = under e.0 (ap (λ xs. conversation rules.table xs s q.fed.messages) (sym e.1) ∙ q.fed.answered)
+    calls_go_on (inr e) =
+        let next : (conversation rules.table (answers_of calls) s q.fed.messages).next ≡ q.next = ap (λ a. a.next) q.fed.answered in
+        let made_one : IsMade (conversation rules.table (answers_of calls) s q.fed.messages).next =
+        subst IsMade (sym next) (is_made rules.awaits q.next q.rest kind q.ended) in
+        under [] (ap (λ xs. conversation rules.table xs s q.fed.messages) (append-nil (answers_of made) ∙ e.1)
+        ∙ unchanged rules lawful (answers_of calls) e.0 s q.fed.messages made_one ∙ q.fed.answered)
