@@ -67,6 +67,9 @@ inside made told place d more =
 
 -- ---- verdicts
 
+same_bytes : (bytes replies : List ℕ) → Some bytes ≡ Some replies → bytes ≡ replies
+same_bytes bytes replies e = cc
+
 module _ (relations : List Relation) (r : Recording) where
   -- the calls of a front of the client's bytes, under the recorded answers
   pub verdict_so_far : (taken rest : List ℕ) (made : List DeskCall) → r.client ≡ taken ++ rest
@@ -97,10 +100,10 @@ module _ (relations : List Relation) (r : Recording) where
       by_end kind went =
           let rules = whole_rules (relation_handlers relations) in
           let first = first_state r.pid r.key in
-          let same : bytes ≡ went.2 = let e = went.3 in cc in
+          let same : bytes ≡ went.2.0 = same_bytes bytes went.2.0 went.2.1 in
           record {
             run = subst (λ b. IsRun rules first r.client b calls kind) (sym same)
-                (subst (λ text. IsRun rules first text went.2 calls kind) went.1 went.4);
+                (subst (λ text. IsRun rules first text went.2.0 calls kind) went.1 went.2.2);
             answered = answered;
           }
 

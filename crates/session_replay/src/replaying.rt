@@ -1,6 +1,6 @@
 //! A recording is replayed, and compared with its replay.
 
-ghost use Rattle.std.specs.Prelude.{◌≡◌, ◌↔◌, ◌+◌, ◌<◌, ℕ, List, length, IfOk, IsErrOf, IsErr};
+ghost use Rattle.std.specs.Prelude.{◌≡◌, ◌↔◌, ◌+◌, ◌<◌, ◌≤◌, ℕ, List, length, IfOk, IsErrOf, IsErr};
 ghost use Rattle.pg_handlers.specs.Answer.{answers_of};
 ghost use Rattle.pg_handlers.specs.Questions.{questions};
 ghost use Rattle.pg_handlers.specs.declared.desk.DeskCall.{DeskCall};
@@ -35,11 +35,11 @@ pub fn verify(
     ensures same { IfOk result (λ verdict. (verdict ≡ Verdict.Same)
         ↔ IsRecordedRun relations.now recording.now) }
 
-    // Each verdict is that of the recording's replay, of which there is one.
-    ensures verdict { IfOk result (IsVerdictOn relations.now recording.now) }
-    ensures one { IfOk result (λ verdict. (replies : List ℕ) (calls : List DeskCall)
+    // What any verdict says, by the replay, of which there is one.
+    ensures verdict { IfOk result (λ verdict. (replies : List ℕ) (calls : List DeskCall)
         (kind : EndKind) → IsReplay relations.now recording.now replies calls kind
         → IsVerdict recording.now replies calls kind verdict) }
+    ensures exists { IfOk result (IsVerdictOn relations.now recording.now) }
 {
     let turns = turns_of(recording);
     let key = recording.key.copy_of()?;
@@ -74,7 +74,8 @@ fn turns_of(recording: &Recording) -> u64
 
 /// How many questions are among calls.
 fn questions_in(calls: &[DeskCall]) -> usize
-    ensures { result ≡ questions calls.now }
+    ensures count { result ≡ questions calls.now }
+    ensures few { result ≤ length calls.now }
 {
     let mut questions = 0usize;
     for call in calls {
