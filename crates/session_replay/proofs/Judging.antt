@@ -1,12 +1,12 @@
 -- What was served of a recording's bytes, and what it says of the recording.
-use Rattle.std.proofs.Common.{◌≡◌, ◌≢◌, ◌≤◌, ◌<◌, ◌+◌, ◌^◌, ◌++◌, ◌⊎◌, ℕ, Bool, true, false, arith, List, [], ◌∷◌, Option, Some, None, Result, Ok, Err, IfOk, inl, inr, length, refl, sym, ap, subst, ◌∙◌, ⊎_elim, drop}
+use Rattle.std.proofs.Common.{◌≡◌, ◌≢◌, ◌≤◌, ◌<◌, ◌+◌, ◌^◌, ◌++◌, ◌⊎◌, ℕ, ℤ, Bool, true, false, arith, List, [], ◌∷◌, Option, Some, None, Result, Ok, Err, IfOk, inl, inr, length, refl, sym, ap, subst, ◌∙◌, ⊎_elim, drop}
 use Rattle.std.specs.Prelude.{IsErrOf, IsErr}
 use Rattle.std.proofs.lemmas.Bool.{cases_lt}
 use Rattle.pg_handlers.specs.declared.desk.DeskCall.{DeskCall}
 use Rattle.pg_handlers.specs.declared.ends.EndKind.{EndKind}
 use Rattle.pg_handlers.specs.Answer.{BeginsWith, answers_of}
 use Rattle.pg_handlers.specs.Questions.{questions}
-use Rattle.pg_handlers.specs.Script.{scripted, origin_of}
+use Rattle.pg_handlers.specs.Script.{IsScripted, scripted, origin_of}
 use Rattle.pg_handlers.specs.State.{first_state}
 use Rattle.pg_session.specs.declared.ends.ServeError.{ServeError}
 use Rattle.pg_session.specs.declared.ends.ServeError.TheVariants as fault
@@ -39,6 +39,14 @@ one_script (false ∷ script) (false ∷ others) e = ap (λ l. false ∷ l) (one
 one_script (true ∷ script) (false ∷ others) e = cc
 one_script (false ∷ script) (true ∷ others) e = cc
 
+-- the calls of a registry that answers by a script
+pub scripted_calls : (script left recorded : List Bool) (calls made : List DeskCall) → IsScripted script left calls → script ≡ recorded
+    → made ≡ calls
+    → answers_of made ≡ scripted recorded (length (answers_of made))
+scripted_calls script left recorded calls made is same e =
+    subst (λ k. answers_of k ≡ scripted recorded (length (answers_of k))) (sym e)
+    (is.answered ∙ ap (λ l. scripted l (length (answers_of calls))) same)
+
 -- ---- turns
 
 -- where all turns were spent, more was asked than is recorded
@@ -69,6 +77,20 @@ inside made told place d more =
 
 same_bytes : (bytes replies : List ℕ) → Some bytes ≡ Some replies → bytes ≡ replies
 same_bytes bytes replies e = cc
+
+-- what went so, by equal bytes, calls and registration
+pub went_by : (relations : List Relation) (answer : Result EndKind ServeError) (new_left : Option (List ℕ)) (pid own_pid : ℤ)
+    (key own_key client text before bytes written : List ℕ) (calls made : List DeskCall) → own_pid ≡ pid → own_key ≡ key → text ≡ client
+    → before ≡ [] → bytes ≡ written → calls ≡ made
+    → WentByWhole relations (own_pid, own_key) answer (Some text) new_left (Some before) (Some written) made
+    → WentByWhole relations (pid, key) answer (Some client) new_left (Some []) (Some bytes) calls
+went_by relations answer new_left pid own_pid key own_key client text before bytes written calls made p k t b w c went =
+    subst (λ x. WentByWhole relations (pid, key) answer (Some client) new_left (Some []) (Some bytes) x) (sym c)
+    (subst (λ x. WentByWhole relations (pid, key) answer (Some client) new_left (Some []) (Some x) made) (sym w)
+    (subst (λ x. WentByWhole relations (pid, key) answer (Some client) new_left (Some x) (Some written) made) b
+    (subst (λ x. WentByWhole relations (pid, key) answer (Some x) new_left (Some before) (Some written) made) t
+    (subst (λ x. WentByWhole relations (pid, x) answer (Some text) new_left (Some before) (Some written) made) k
+    (subst (λ x. WentByWhole relations (x, own_key) answer (Some text) new_left (Some before) (Some written) made) p went)))))
 
 module _ (relations : List Relation) (r : Recording) where
   -- the calls of a front of the client's bytes, under the recorded answers
