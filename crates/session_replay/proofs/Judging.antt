@@ -68,9 +68,9 @@ pub inside : (made told : List DeskCall) (place : ℕ) → DiffersAt made told p
 inside made told place d more =
     ⊎_elim (λ less. less)
     (λ past.
-        let count : questions told ≡ questions (made ++ drop place told) = ap questions (ended_front made told place d past) in
-        let parts = questions-append made (drop place told) in
-        absurd (omega (arith, count, parts, more)))
+    let count : questions told ≡ questions (made ++ drop place told) = ap questions (ended_front made told place d past) in
+    let parts = questions-append made (drop place told) in
+    absurd (omega (arith, count, parts, more)))
     (cases_lt place (length made))
 
 -- ---- verdicts
@@ -115,49 +115,49 @@ module _ (relations : List Relation) (r : Recording) where
   verdict_so_far taken rest made all so_far answered (End kind) v = absurd v
 
   module _ (new_left : Option (List ℕ)) (bytes : List ℕ) (calls : List DeskCall)
-    (answered : answers_of calls ≡ scripted (answers_of r.calls) (length (answers_of calls))) where
-      -- the replay came to its end
-      by_end : (kind : EndKind) → WentByWhole relations (r.pid, r.key) (Ok kind) (Some r.client) new_left (Some []) (Some bytes) calls
-          → IsReplay relations r bytes calls kind
-      by_end kind went =
-          let rules = whole_rules (relation_handlers relations) in
-          let first = first_state r.pid r.key in
-          let same : bytes ≡ went.2.0 = same_bytes bytes went.2.0 went.2.1 in
-          record {
-            run = subst (λ b. IsRun rules first r.client b calls kind) (sym same)
-                (subst (λ text. IsRun rules first text went.2.0 calls kind) went.1 went.2.2);
-            answered = answered;
-          }
+      (answered : answers_of calls ≡ scripted (answers_of r.calls) (length (answers_of calls))) where
+    -- the replay came to its end
+    by_end : (kind : EndKind) → WentByWhole relations (r.pid, r.key) (Ok kind) (Some r.client) new_left (Some []) (Some bytes) calls
+        → IsReplay relations r bytes calls kind
+    by_end kind went =
+        let rules = whole_rules (relation_handlers relations) in
+        let first = first_state r.pid r.key in
+        let same : bytes ≡ went.2.0 = same_bytes bytes went.2.0 went.2.1 in
+        record {
+          run = subst (λ b. IsRun rules first r.client b calls kind) (sym same)
+              (subst (λ text. IsRun rules first text went.2.0 calls kind) went.1 went.2.2);
+          answered = answered;
+        }
 
-      -- it spent all turns
-      by_turns : WentByWhole relations (r.pid, r.key) (Err fault.TurnLimit) (Some r.client) new_left (Some []) (Some bytes) calls
-          → (verdict : Verdict) → IsVerdictSoFar r calls verdict → IsVerdictOn relations r verdict
-      by_turns (inl went) = verdict_so_far went.0 went.1.0 calls went.1.1
-          (record {
-            messages = went.2.2.fed.messages;
-            rest = went.2.2.rest;
-            division = went.2.2.fed.division;
-            called = ap (λ a. a.calls) went.2.2.fed.answered;
-          })
-          answered
-      by_turns (inr went) = verdict_so_far went.0 went.1.0 calls went.1.1
-          (record {
-            messages = went.2.2.messages;
-            rest = went.2.2.rest;
-            division = went.2.2.division;
-            called = ap (λ a. a.calls) went.2.2.answered;
-          })
-          answered
+    -- it spent all turns
+    by_turns : WentByWhole relations (r.pid, r.key) (Err fault.TurnLimit) (Some r.client) new_left (Some []) (Some bytes) calls
+        → (verdict : Verdict) → IsVerdictSoFar r calls verdict → IsVerdictOn relations r verdict
+    by_turns (inl went) = verdict_so_far went.0 went.1.0 calls went.1.1
+        (record {
+          messages = went.2.2.fed.messages;
+          rest = went.2.2.rest;
+          division = went.2.2.fed.division;
+          called = ap (λ a. a.calls) went.2.2.fed.answered;
+        })
+        answered
+    by_turns (inr went) = verdict_so_far went.0 went.1.0 calls went.1.1
+        (record {
+          messages = went.2.2.messages;
+          rest = went.2.2.rest;
+          division = went.2.2.division;
+          called = ap (λ a. a.calls) went.2.2.answered;
+        })
+        answered
 
-      -- what is judged by the answer is the verdict on the recording
-      pub judged : {E : Type 0} (answer : Result EndKind ServeError) (result : Result Verdict E)
-          → WentByWhole relations (r.pid, r.key) answer (Some r.client) new_left (Some []) (Some bytes) calls
-          → IfOk answer (λ kind. IfOk result (IsVerdict r bytes calls kind))
-          → (IsErrOf answer fault.TurnLimit → IfOk result (IsVerdictSoFar r calls))
-          → (IsErr answer → ¬ IsErrOf answer fault.TurnLimit → IsErr result) → IfOk result (IsVerdictOn relations r)
-      judged answer (Err e) went ended spent given_up = tt
-      judged (Ok kind) (Ok verdict) went ended spent given_up = (bytes, calls, kind, by_end kind went, ended)
-      judged (Err fault.TurnLimit) (Ok verdict) went ended spent given_up = by_turns went verdict (spent refl)
-      judged (Err fault.ReadFault) (Ok verdict) went ended spent given_up = let none = given_up refl (λ e. cc) in cc
-      judged (Err fault.WriteFault) (Ok verdict) went ended spent given_up = let none = given_up refl (λ e. cc) in cc
-      judged (Err fault.NoMemory) (Ok verdict) went ended spent given_up = let none = given_up refl (λ e. cc) in cc
+    -- what is judged by the answer is the verdict on the recording
+    pub judged : {E : Type 0} (answer : Result EndKind ServeError) (result : Result Verdict E)
+        → WentByWhole relations (r.pid, r.key) answer (Some r.client) new_left (Some []) (Some bytes) calls
+        → IfOk answer (λ kind. IfOk result (IsVerdict r bytes calls kind))
+        → (IsErrOf answer fault.TurnLimit → IfOk result (IsVerdictSoFar r calls))
+        → (IsErr answer → ¬ IsErrOf answer fault.TurnLimit → IsErr result) → IfOk result (IsVerdictOn relations r)
+    judged answer (Err e) went ended spent given_up = tt
+    judged (Ok kind) (Ok verdict) went ended spent given_up = (bytes, calls, kind, by_end kind went, ended)
+    judged (Err fault.TurnLimit) (Ok verdict) went ended spent given_up = by_turns went verdict (spent refl)
+    judged (Err fault.ReadFault) (Ok verdict) went ended spent given_up = let none = given_up refl (λ e. cc) in cc
+    judged (Err fault.WriteFault) (Ok verdict) went ended spent given_up = let none = given_up refl (λ e. cc) in cc
+    judged (Err fault.NoMemory) (Ok verdict) went ended spent given_up = let none = given_up refl (λ e. cc) in cc

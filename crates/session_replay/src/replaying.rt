@@ -52,14 +52,7 @@ pub fn verify(
     let mut sink = BytesSink {
         bytes: Vec::new(alloc),
     };
-    let answer = serve_relations_on(
-        alloc,
-        &mut desk,
-        relations,
-        &mut source,
-        &mut sink,
-        turns,
-    );
+    let answer = serve_relations_on(alloc, &mut desk, relations, &mut source, &mut sink, turns);
     judge(answer, desk.calls(), sink.bytes.as_slice(), recording)
 }
 
