@@ -1,10 +1,10 @@
 -- What was served of a recording's bytes, and what it says of the recording.
-use Rattle.std.proofs.Common.{◌≡◌, ◌≢◌, ◌≤◌, ◌<◌, ◌+◌, ◌^◌, ◌++◌, ◌⊎◌, ℕ, ℤ, Bool, true, false, arith, List, [], ◌∷◌, Option, Some, None, Result, Ok, Err, IfOk, inl, inr, length, refl, sym, ap, subst, ◌∙◌, ⊎_elim, drop}
+use Rattle.std.proofs.Common.{◌≡◌, ◌<◌, ◌+◌, ◌^◌, ◌++◌, ℕ, ℤ, Bool, true, false, arith, List, [], ◌∷◌, Option, Some, Result, Ok, Err, IfOk, inl, inr, length, refl, sym, ap, subst, ◌∙◌, ⊎_elim, drop}
 use Rattle.std.specs.Prelude.{IsErrOf, IsErr}
 use Rattle.std.proofs.lemmas.Bool.{cases_lt}
 use Rattle.pg_handlers.specs.declared.desk.DeskCall.{DeskCall}
 use Rattle.pg_handlers.specs.declared.ends.EndKind.{EndKind}
-use Rattle.pg_handlers.specs.Answer.{BeginsWith, answers_of}
+use Rattle.pg_handlers.specs.Answer.{answers_of}
 use Rattle.pg_handlers.specs.Questions.{questions}
 use Rattle.pg_handlers.specs.Script.{IsScripted, scripted, origin_of}
 use Rattle.pg_handlers.specs.State.{first_state}
@@ -14,7 +14,7 @@ use Rattle.pg_session.specs.Run.{IsRun}
 use Rattle.pg_session.specs.Session.{whole_rules}
 use Rattle.pg_session.proofs.Answering.{whole_lawful}
 use Rattle.pg_session.proofs.Spending.{questions-append}
-use Rattle.pg_serve.specs.Serving.{Counts, HasCause, ReadsGaveBytes, IsRunOfTaken, IsStoppedRunOfTaken}
+use Rattle.pg_serve.specs.Serving.{Counts, HasCause, ReadsGaveBytes}
 use Rattle.relation_serving.specs.Serving.{WentByWhole}
 use Rattle.recording_text.specs.declared.recording.Recording.{Recording}
 use Rattle.relation_tables.specs.RelationHandler.{relation_handlers}

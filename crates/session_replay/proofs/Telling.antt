@@ -1,5 +1,5 @@
 -- What calls tell, one call more.
-use Rattle.std.proofs.Common.{◌≡◌, ◌<◌, ◌+◌, ◌++◌, ◌⊎◌, inl, inr, ℕ, ℤ, suc, Bool, List, [], ◌∷◌, refl, sym, ap, ◌∙◌, append-nil, arith, get_or, length, take}
+use Rattle.std.proofs.Common.{◌≡◌, ◌<◌, ◌+◌, ◌++◌, ◌⊎◌, inl, inr, ℕ, ℤ, suc, Bool, List, [], ◌∷◌, refl, sym, ap, ◌∙◌, arith, get_or, length, take}
 use Rattle.std.proofs.Math.Seq.{take-suc}
 use Rattle.pg_handlers.specs.declared.desk.DeskCall.{DeskCall}
 use Rattle.pg_handlers.specs.declared.desk.DeskCall.TheVariants as desk

@@ -1,4 +1,4 @@
-use Rattle.std.proofs.Common.{◌≡◌, ◌<◌, ◌+◌, ◌^◌, ◌++◌, ◌∙◌, ℕ, [], Some, FitsSigned, w32, rules, refl, ap, sym, subst, length}
+use Rattle.std.proofs.Common.{◌<◌, ◌+◌, ◌^◌, ◌++◌, ◌∙◌, Some, FitsSigned, w32, rules, refl, ap, sym, subst, length}
 use Rattle.std.proofs.lemmas.Int.{to_z-of_z}
 use Rattle.std.proofs.lemmas.Result.{IfOk-weaker}
 use Rattle.pg_handlers.specs.Answer.{answers_of}
@@ -6,7 +6,7 @@ use Rattle.pg_handlers.specs.Questions.{questions}
 use Rattle.pg_handlers.specs.Script.{origin_of}
 use Rattle.pg_serve.specs.Serving.{Counts}
 use Rattle.relation_serving.proofs.Complete.{cause_of_calls}
-use Rattle.session_replay.specs.Verdicts.{IsVerdict, IsVerdictOn}
+use Rattle.session_replay.specs.Verdicts.{IsVerdictOn}
 use Rattle.session_replay.proofs.Judging.{one_script, scripted_calls, went_by, asked_more, judged}
 use Rattle.session_replay.proofs.Replays.{same_exactly, verdict_of_each}
 use Rattle.session_replay.proofs.replaying.verify.Goals as goal
