@@ -1,0 +1,15 @@
+//! Sessions recorded, and recordings replayed and verified: the text of a recording, and the program
+//! that records a client over a relation file and that verifies a recording.
+#![tactic(auto)]
+
+mod input;
+mod outcome;
+mod running;
+mod telling;
+mod words;
+
+pub use recording_text::{ReadError, Recording, read_recording, write_recording};
+pub use running::run_replay;
+pub use session_recording::{RecordError, record_session};
+pub use session_replay::{Verdict, verify};
+pub use words::file_word;

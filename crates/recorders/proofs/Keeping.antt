@@ -1,0 +1,111 @@
+-- What is kept, step by step.
+use Rattle.std.proofs.Common.{◌≡◌, ℕ, zero, suc, ◌+◌, ◌-◌, ◌≤◌, min, Bool, false, List, [], ◌∷◌, ◌++◌, Option, Some, None, refl, ap, sym, subst, ◌∙◌, length, take, drop, append_assoc, append-nil, length-append, arith}
+use Rattle.std.specs.Prelude.{IfSome}
+use Rattle.std.proofs.lemmas.List.{take-append-drop, length-take, length-drop, take_at}
+use Rattle.std.proofs.Math.Seq.{drop-append_seam}
+use Rattle.pg_session.specs.Streams.{GivesFront, GrowsBy, GrowsByFront}
+use Rattle.recorders.specs.Kept.{IsTakenOf, IsSentTo, behind, bytes_of, counted, gone}
+
+take_front : (r : ℕ) (a b : List ℕ) → take r (take r a ++ b) ≡ take r (a ++ b)
+take_front zero a b = refl
+take_front (suc r) [] b = refl
+take_front (suc r) (x ∷ a) b = ap (λ l. x ∷ l) (take_front r a b)
+
+counted_more : (n m k : ℕ) → counted (counted n + m) ≡ counted (n + m)
+counted_more n m k = let e : min (min n 18446744073709551615 + m) 18446744073709551615 ≡ min (n + m) 18446744073709551615 = omega arith in e
+
+-- ---- a source
+
+-- how many bytes are gone where these were taken
+gone_are : (taken rest : List ℕ) → gone (taken ++ rest) (Some rest) ≡ length taken
+gone_are taken rest = let e = length-append taken rest in omega (arith, e)
+
+pub is_taken : (taken rest : List ℕ) (room : ℕ) (kept : List ℕ) (count : ℕ) → kept ≡ take room taken → count ≡ counted (length taken)
+    → IsTakenOf (taken ++ rest) (Some rest) room kept count
+is_taken taken rest room kept count e f =
+    let n = gone_are taken rest in
+    let front : take (gone (taken ++ rest) (Some rest)) (taken ++ rest) ≡ taken = take_at taken rest _ n in
+    let back : drop (gone (taken ++ rest) (Some rest)) (taken ++ rest) ≡ rest =
+    ap (λ k. drop k (taken ++ rest)) n ∙ drop-append_seam taken rest in record {
+      rest = ap Some (sym back);
+      front = e ∙ ap (take room) (sym front);
+      number = f ∙ ap (λ l. counted (length l)) (sym front);
+    }
+
+-- one more piece was given
+pub takes_more : (left mid new : Option (List ℕ)) (room n : ℕ) (into kept new_kept : List ℕ) (count new_count : ℕ)
+    → IfSome left (λ text. IsTakenOf text mid room kept count)
+    → IfSome mid (λ bytes. GivesFront n into bytes new) → n ≤ length into
+    → new_kept ≡ take room (kept ++ take n into) → new_count ≡ counted (count + n)
+    → IfSome left (λ text. IsTakenOf text new room new_kept new_count)
+takes_more None mid new room n into kept new_kept count new_count t g w e f = tt
+takes_more (Some text) mid new room n into kept new_kept count new_count t g w e f =
+    let k = gone text mid in
+    let taken = take k text in
+    let rest = drop k text in
+    let given : GivesFront n into rest new = subst (λ o. IfSome o (λ bytes. GivesFront n into bytes new)) t.rest g in
+    let piece = take n into in
+    let len : length piece ≡ n = let q = length-take n into in omega (arith, q, w) in
+    let all : text ≡ (taken ++ piece) ++ drop n rest =
+    sym (take-append-drop k text) ∙ ap (λ l. taken ++ l) (sym (take-append-drop n rest)) ∙ sym (append_assoc taken (take n rest) (drop n rest))
+    ∙ ap (λ l. (taken ++ l) ++ drop n rest) (sym given.given) in
+    let more_kept : new_kept ≡ take room (taken ++ piece) =
+    e ∙ ap (λ l. take room (l ++ piece)) t.front ∙ take_front room taken piece in
+    let more_count : new_count ≡ counted (length (taken ++ piece)) =
+    f ∙ ap (λ c. counted (c + n)) t.number ∙ counted_more (length taken) n 0
+    ∙ ap (λ c. counted c) (sym (length-append taken piece ∙ ap (λ c. length taken + c) len)) in
+    subst (λ o. IsTakenOf text o room new_kept new_count) (sym given.rest)
+    (subst (λ x. IsTakenOf x (Some (drop n rest)) room new_kept new_count) (sym all)
+    (is_taken (taken ++ piece) (drop n rest) room new_kept new_count more_kept more_count))
+
+-- nothing was taken yet
+pub takes_none : (left : Option (List ℕ)) (room : ℕ) (kept : List ℕ) → kept ≡ [] → IfSome left (λ text. IsTakenOf text left room kept 0)
+takes_none None room kept e = tt
+takes_none (Some text) room kept e = is_taken [] text room kept 0 (e ∙ sym (take_none room)) refl
+  where
+    take_none : (r : ℕ) → take r ([] {A = ℕ}) ≡ []
+    take_none zero = refl
+    take_none (suc r) = refl
+
+-- nothing was given
+pub takes_as_before : (left mid new : Option (List ℕ)) (room : ℕ) (kept : List ℕ) (count : ℕ) → new ≡ mid
+    → IfSome left (λ text. IsTakenOf text mid room kept count) → IfSome left (λ text. IsTakenOf text new room kept count)
+takes_as_before left mid new room kept count e t = subst (λ o. IfSome left (λ text. IsTakenOf text o room kept count)) (sym e) t
+
+-- ---- a sink
+
+behind_is : (before sent : List ℕ) → behind before (Some (before ++ sent)) ≡ sent
+behind_is before sent = drop-append_seam before sent
+
+-- these bytes were sent, and a front of others
+pub is_sent : (before sent front : List ℕ) (room : ℕ) (kept : List ℕ) (count : ℕ) (has_refused : Bool) → kept ≡ take room sent
+    → count ≡ counted (length sent) → (has_refused ≡ false → front ≡ [])
+    → IsSentTo before (Some (before ++ sent)) (Some ((before ++ sent) ++ front)) room kept count has_refused
+is_sent before sent front room kept count has_refused e f none = let s = behind_is before sent in record {
+  grown = ap (λ l. Some (before ++ l)) (sym s);
+  more = ap (λ l. Some ((before ++ sent) ++ l)) (sym (behind_is (before ++ sent) front));
+  nothing_else = λ h. ap Some (ap (λ l. (before ++ sent) ++ l) (none h) ∙ append-nil (before ++ sent));
+  front = e ∙ ap (take room) (sym s);
+  number = f ∙ ap (λ l. counted (length l)) (sym s);
+}
+
+-- one more send was answered with Ok
+pub sends_more : (old until mid new : Option (List ℕ)) (room : ℕ) (bytes kept new_kept : List ℕ) (count new_count : ℕ)
+    → IfSome old (λ first. IsSentTo first until mid room kept count false) → GrowsBy mid new bytes
+    → new_kept ≡ take room (kept ++ bytes) → new_count ≡ counted (count + length bytes)
+    → IfSome old (λ first. IsSentTo first new new room new_kept new_count false)
+sends_more None until mid new room bytes kept new_kept count new_count t g e f = tt
+sends_more (Some first) until mid new room bytes kept new_kept count new_count t g e f =
+    let sent = behind first until in
+    let was : mid ≡ Some (first ++ sent) = t.nothing_else refl ∙ t.grown in
+    let is_new : new ≡ Some ((first ++ sent) ++ bytes) = subst (λ o. GrowsBy o new bytes) was g in
+    let one : new ≡ Some (first ++ (sent ++ bytes)) = is_new ∙ ap Some (append_assoc first sent bytes) in
+    let two : new ≡ Some ((first ++ (sent ++ bytes)) ++ []) = one ∙ ap Some (sym (append-nil (first ++ (sent ++ bytes)))) in
+    let more_kept : new_kept ≡ take room (sent ++ bytes) =
+    e ∙ ap (λ l. take room (l ++ bytes)) t.front ∙ take_front room sent bytes in
+    let more_count : new_count ≡ counted (length (sent ++ bytes)) =
+    f ∙ ap (λ c. counted (c + length bytes)) t.number ∙ counted_more (length sent) (length bytes) 0
+    ∙ ap (λ c. counted c) (sym (length-append sent bytes)) in
+    subst (λ o. IsSentTo first o new room new_kept new_count false) (sym one)
+    (subst (λ o. IsSentTo first (Some (first ++ (sent ++ bytes))) o room new_kept new_count false) (sym two)
+    (is_sent first (sent ++ bytes) [] room new_kept new_count false more_kept more_count (λ h. refl)))

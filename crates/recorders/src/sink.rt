@@ -1,0 +1,61 @@
+//! A sink that is recorded.
+
+ghost use Rattle.std.specs.Prelude.{◌≤◌, ◌∷◌, ◌++◌, length, vec_capacity, IfSome};
+ghost use Rattle.std.proofs.Props.{props};
+ghost use Rattle.recorders.specs.Kept.{IsSentTo, told_numbers};
+
+use crate::keeping::{counted, keep};
+use pg_session::{Sink, SinkError};
+use std::snapshot::Snapshot;
+
+/// A sink to which the first bytes written are kept, as many as there is room for, and all are
+/// counted: those of the sends that it answers with Ok, up to the first that it refuses. It is seen
+/// as the sink that it was made over.
+pub struct RecordingSink<'a, K: Sink> {
+    /// The sink that is written to.
+    pub sink: &'a mut K,
+    /// The sink as it was before.
+    pub before: Snapshot<K>,
+    /// The sink behind the last send that was answered with Ok, up to the first that was refused.
+    pub until: Snapshot<K>,
+    /// How many bytes there is room for.
+    pub room: usize,
+    /// The first bytes.
+    pub kept: Vec<u8>,
+    /// The number of all bytes. It stands still at the greatest `u64`.
+    pub count: u64,
+    /// Whether a send was refused.
+    pub has_refused: bool,
+    pub ghost roomy: { room ≤ vec_capacity kept },
+    pub ghost within: { length kept.items ≤ room },
+    pub ghost recorded: { IfSome (K.written before.value) (λ first. IsSentTo first
+        (K.written until.value) (K.written sink.now) room kept.items count has_refused) }
+        by { Prim.hlevel props },
+}
+
+impl<'a, K: Sink> Sink for RecordingSink<'a, K> {
+    ghost written = { λ r. K.written r.sink.now };
+
+    ghost faults = { λ r. K.faults r.sink.now };
+
+    // the sink itself, its room, and what was written before
+    ghost origin = { λ r. r.sink.ghost_name ∷ r.room ∷ length (K.origin r.sink.now)
+        ∷ K.origin r.sink.now ++ told_numbers (K.written r.before.value) };
+
+    fn send(&mut self, bytes: &[u8]) -> Result<(), SinkError> {
+        match self.sink.send(bytes) {
+            Ok(()) => {
+                if !self.has_refused {
+                    self.count = counted(self.count, bytes.len());
+                    keep(&mut self.kept, self.room, bytes);
+                    self.until = Snapshot::of(self.sink);
+                }
+                Ok(())
+            }
+            Err(error) => {
+                self.has_refused = true;
+                Err(error)
+            }
+        }
+    }
+}

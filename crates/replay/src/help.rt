@@ -1,0 +1,49 @@
+//! What the program tells of itself.
+
+use pg_messages::PgStr;
+
+/// What `--help` writes.
+const HELP: &str = "\
+pg_replay records a client that is served over relations of intervals, and verifies recordings: whether the server's
+replies are still those of the conversation's rules.
+
+usage: pg_replay record FILE PID KEY
+       pg_replay verify FILE
+       pg_replay --help | --version
+
+record  serves one client over the relations in FILE: its bytes come on standard input, and the recording goes to standard
+        output: the client's bytes, the calls of the cancel registry, the replies, and how it ended. The client is told
+        PID (1 to 2147483647) and KEY (8 to 512 hexadecimal digits, an even number). No query is canceled.
+verify  reads a recording on standard input, serves its client once more over FILE, and writes one line:
+          same       the recorded calls, replies and end are those that the rules give
+          calls N    the calls of the registry differ first at place N, counted from 0
+          replies N  the bytes of the replies differ first at place N
+          end        the session ends in another way
+
+A relation in FILE is a header line (name, number of unready polls, column names), then a line for each row, of
+intervals as PostgreSQL prints them; fields stand apart by tabs, relations by an empty line.
+
+Examples:
+  pg_replay record data/relations 7 01020304 < client > recording
+  pg_replay verify data/relations < recording
+
+Exit status: 0 recorded, or the same; 2 other words; 3 FILE is refused; 4 a read failed; 5 a write failed;
+6 1000000000 reads and polls were spent; 7 out of memory; 9 FILE can't be read; 20 another verdict than same;
+21 over 268435456 bytes of the client or of the replies; 22 no recording, or over 536871936 bytes.
+Each but 0 and 20 is told by a line on standard error.
+";
+
+/// What `--version` writes.
+const VERSION: &str = "pg_replay 0.1.0\n";
+
+/// What the one word asks for, if it asks to be told something.
+pub fn help_or_version(words: &[PgStr]) -> Option<&'static str> {
+    let [word] = words else {
+        return None;
+    };
+    match word.as_str() {
+        "--help" => Some(HELP),
+        "--version" => Some(VERSION),
+        _ => None,
+    }
+}

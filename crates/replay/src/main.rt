@@ -1,0 +1,91 @@
+// The program pg_replay: it records a client that is served over relations of intervals, and verifies
+// recordings.
+#![tactic(auto)]
+
+mod files;
+mod help;
+
+use crate::files::OpenedFile;
+use crate::help::help_or_version;
+use pg_messages::{PgList, PgStr};
+use pg_replay::{file_word, run_replay};
+use pg_serve::{ReaderSource, WriterSink};
+use pg_session::Sink;
+use std::alloc::{AllocError, Global};
+use std::fs::Files;
+use std::process::ExitCode;
+use std::{env, fs, io};
+
+/// No words, or want of memory where that is why they weren't read.
+fn no_words(alloc: Global, error: io::Error) -> Result<PgList<PgStr>, AllocError> {
+    match error.kind() {
+        io::ErrorKind::OutOfMemory => Err(AllocError),
+        _ => Ok(PgList::new(alloc)),
+    }
+}
+
+/// The words of the command line, without the program's name. A word that isn't UTF-8 makes them no
+/// words at all.
+fn read_words(rt: &HostRuntime) -> Result<PgList<PgStr>, AllocError> {
+    let mut words = PgList::new(rt.alloc());
+    let args = match env::args(rt) {
+        Ok(args) => args,
+        Err(error) => return no_words(rt.alloc(), error),
+    };
+    for word in args.skip(1) {
+        words.push(PgStr::copy_of(rt.alloc(), word.as_str())?)?;
+    }
+    Ok(words)
+}
+
+/// The relation file that the words name, where they name one and it can be opened.
+fn open_file<R: Files>(rt: &R, words: &[PgStr]) -> OpenedFile<R::File> {
+    match file_word(words) {
+        None => OpenedFile::Unopened(0),
+        Some(path) => match fs::open(rt, path) {
+            Err(_) => OpenedFile::Unopened(0),
+            Ok(reader) => OpenedFile::Opened(ReaderSource {
+                reader,
+                reads: 0,
+                faults: 0,
+            }),
+        },
+    }
+}
+
+/// Writes a text, and tells the status of that.
+fn tell<K: Sink, E: Sink>(text: &str, out: &mut K, err: &mut E) -> ExitCode {
+    match out.send(text.as_bytes()) {
+        Ok(()) => ExitCode::SUCCESS,
+        Err(_) => ended(5, "write fault\n", err),
+    }
+}
+
+/// This status, after the line that tells why. A line that can't be written changes no status.
+fn ended<E: Sink>(status: u8, line: &str, err: &mut E) -> ExitCode {
+    let _told = err.send(line.as_bytes());
+    ExitCode::from(status)
+}
+
+fn main(rt: HostRuntime) -> ExitCode {
+    let alloc = rt.alloc();
+    let writer = rt.stdout();
+    let mut out = WriterSink { writer, faults: 0 };
+    let writer = rt.stderr();
+    let mut err = WriterSink { writer, faults: 0 };
+    let Ok(words) = read_words(&rt) else {
+        return ended(7, "out of memory\n", &mut err);
+    };
+    let words = words.as_slice();
+    if let Some(text) = help_or_version(words) {
+        return tell(text, &mut out, &mut err);
+    }
+    let mut file = open_file(&rt, words);
+    let reader = rt.reader();
+    let mut client = ReaderSource {
+        reader,
+        reads: 0,
+        faults: 0,
+    };
+    ExitCode::from(run_replay(alloc, words, &mut file, &mut client, &mut out, &mut err))
+}

@@ -1,0 +1,14 @@
+//! Why there is no recording of a session.
+
+/// Why there is no recording of a session.
+#[derive(Clone, Copy, Debug, PartialEq, Eq)]
+pub enum RecordError {
+    /// There was no room for all bytes: the number of those that were taken, or of those of the
+    /// sends that were answered with Ok, whichever is the greater. It stands still at the greatest
+    /// `u64`.
+    TooLong(u64),
+    /// The session was given up before its end.
+    Unended,
+    /// Memory ran out.
+    NoMemory,
+}

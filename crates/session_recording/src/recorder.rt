@@ -1,0 +1,279 @@
+//! A session over relations is served and recorded.
+
+ghost use Rattle.std.specs.Prelude.{◌≡◌, ◌++◌, ◌≤◌, ◌<◌, ◌^◌, List, [], IfOk, OnOk, length, vec_capacity};
+ghost use Rattle.pg_handlers.specs.Desk.{GoesOn};
+ghost use Rattle.pg_handlers.specs.Questions.{questions_since};
+ghost use Rattle.pg_handlers.specs.State.{first_state};
+ghost use Rattle.pg_handlers.specs.declared.desk.DeskCall.{DeskCall};
+ghost use Rattle.pg_serve.specs.Serving.{HasCause, EndsAtLast, FaultsNeverFall, IsCalm, IsRunOverTaken, ReadsGaveBytes, counts_of};
+ghost use Rattle.pg_session.specs.Session.{whole_rules};
+ghost use Rattle.relation_serving.specs.Completeness.{IsComplete};
+ghost use Rattle.relation_serving.specs.Serving.{WentByTables};
+ghost use Rattle.relation_tables.specs.RelationHandler.{relation_handlers};
+ghost use Rattle.recorders.specs.Kept.{IsTakenSince, IsSentSince};
+ghost use Rattle.session_recording.specs.Recorded.{IsRecorded, IsFaithful, passage};
+
+use crate::error::RecordError;
+use pg_handlers::{CancelDesk, DeskCall, EndKind};
+use pg_messages::{PgBytes, PgList, SecretKey};
+use pg_session::{ServeError, Sink, Source};
+use recorders::{RecordingDesk, RecordingSink, RecordingSource};
+use recording_text::Recording;
+use relation_handlers::RelationTable;
+use relation_serving::serve_relations_on;
+use std::alloc::{AllocError, Global};
+use std::snapshot::Snapshot;
+
+/// Serves a client over relations, as [`serve_relations_on`] does, and records the session. The
+/// first answer is that of serving; the second the recording, whose `pid` and `key` are those that
+/// the desk had before.
+///
+/// There is room for so many bytes of the client, and for so many of the replies, which is made
+/// before anything is served: where there isn't memory enough, both answers are NoMemory. Then each
+/// byte is copied once, and memory is taken for calls of the desk alone.
+///
+/// TooLong comes where there was no room for all bytes, and tells the number of those taken or of
+/// those of the sends that were answered with Ok, whichever is the greater. Else Unended comes where
+/// the first answer is an error.
+pub fn record_session<D: CancelDesk, S: Source, K: Sink>(
+    alloc: Global,
+    relations: &RelationTable,
+    desk: &mut D,
+    source: &mut S,
+    sink: &mut K,
+    turn_limit: u64,
+    room: usize,
+) -> (Result<EndKind, ServeError>, Result<Recording, RecordError>)
+
+    // The recording, or why there is none; and it is that of a run.
+    ensures recorded { (calls : List DeskCall)
+        × ((D.told desk.new).calls ≡ (D.told desk.old).calls ++ calls)
+        × IsRecorded (D.told desk.old).registration room result.0 result.1
+        (passage S.left K.written source.old sink.old source.new sink.new) calls }
+    ensures faithful { IsFaithful relations.now
+        (passage S.left K.written source.old sink.old source.new sink.new) result.1 }
+
+    // The session is served as without a recorder.
+    ensures went { (calls : List DeskCall)
+        × ((D.told desk.new).calls ≡ (D.told desk.old).calls ++ calls)
+        × WentByTables relations.now (D.told desk.old).registration result.0 (S.left source.old)
+        (S.left source.new)
+        (K.written sink.old) (K.written sink.new) calls }
+    ensures cause { HasCause result.0 turn_limit
+        (questions_since (D.told desk.old).calls (D.told desk.new).calls)
+        (counts_of S.reads S.faults K.faults source.old sink.old)
+        (counts_of S.reads S.faults K.faults source.new sink.new) }
+    ensures complete { IsComplete relations.now turn_limit result.0 (S.left source.old)
+        (counts_of S.reads S.faults K.faults source.old sink.old)
+        (counts_of S.reads S.faults K.faults source.new sink.new) }
+    ensures last { IfOk result.0 (EndsAtLast (whole_rules (relation_handlers relations.now))
+        (first_state (D.told desk.old).registration.0 (D.told desk.old).registration.1)
+        (S.left source.old) (S.left source.new)) }
+    ensures calm { OnOk result.0 (IsCalm (counts_of S.reads S.faults K.faults source.old sink.old)
+        (counts_of S.reads S.faults K.faults source.new sink.new)) }
+    ensures never_falls { FaultsNeverFall (counts_of S.reads S.faults K.faults source.old sink.old)
+        (counts_of S.reads S.faults K.faults source.new sink.new) }
+    ensures reads { ReadsGaveBytes (S.left source.old) (S.left source.new) (S.reads source.old)
+        (S.reads source.new) }
+
+    ensures registration { GoesOn (D.told desk.old) (D.told desk.new) }
+    ensures source { S.origin source.new ≡ S.origin source.old }
+    ensures sink { K.origin sink.new ≡ K.origin sink.old }
+{
+    let Ok(space) = reserve(alloc, room, desk) else {
+        return (Err(ServeError::NoMemory), Err(RecordError::NoMemory));
+    };
+    let Space {
+        pid,
+        key,
+        client,
+        replies,
+    } = space;
+    let (answer, kept) = serve_recorded(
+        alloc, relations, desk, source, sink, turn_limit, room, client, replies,
+    );
+    (answer, recording_of(answer, room, pid, key, kept))
+}
+
+/// What is taken before a session is served.
+#[derive(Drop)]
+struct Space {
+    pid: i32,
+    key: SecretKey,
+    client: Vec<u8>,
+    replies: Vec<u8>,
+}
+
+/// Makes room, and copies the registration.
+fn reserve<D: CancelDesk>(alloc: Global, room: usize, desk: &D) -> Result<Space, AllocError>
+    ensures pid { IfOk result (λ space. space.pid ≡ (D.told desk.now).registration.0) }
+    ensures key { IfOk result (λ space. space.key ≡ (D.told desk.now).registration.1) }
+    ensures client { IfOk result (λ space. space.client.items ≡ []) }
+    ensures replies { IfOk result (λ space. space.replies.items ≡ []) }
+    ensures client_room { IfOk result (λ space. room ≤ vec_capacity space.client) }
+    ensures replies_room { IfOk result (λ space. room ≤ vec_capacity space.replies) }
+    ensures small { OnOk result (room < 2 ^ 63) }
+{
+    let (pid, key) = desk.identity();
+    Ok(Space {
+        pid,
+        key: key.copy_of()?,
+        client: Vec::with_capacity(alloc, room)?,
+        replies: Vec::with_capacity(alloc, room)?,
+    })
+}
+
+/// What was kept of a session.
+#[derive(Drop)]
+struct Kept {
+    client: Vec<u8>,
+    taken: u64,
+    replies: Vec<u8>,
+    sent: u64,
+    has_refused: bool,
+    calls: Vec<DeskCall>,
+}
+
+/// Serves a client, and keeps what passes in the room that there is.
+fn serve_recorded<D: CancelDesk, S: Source, K: Sink>(
+    alloc: Global,
+    relations: &RelationTable,
+    desk: &mut D,
+    source: &mut S,
+    sink: &mut K,
+    turn_limit: u64,
+    room: usize,
+    client: Vec<u8>,
+    replies: Vec<u8>,
+) -> (Result<EndKind, ServeError>, Kept)
+    requires client { client.items ≡ [] }
+    requires client_room { room ≤ vec_capacity client }
+    requires replies { replies.items ≡ [] }
+    requires replies_room { room ≤ vec_capacity replies }
+    ensures client { IsTakenSince (S.left source.old) (S.left source.new) room result.1.client.items
+        result.1.taken }
+    ensures replies { IsSentSince (K.written sink.old) (K.written sink.new) room
+        result.1.replies.items result.1.sent result.1.has_refused }
+    ensures calls { (D.told desk.new).calls ≡ (D.told desk.old).calls ++ result.1.calls.items }
+    ensures went { WentByTables relations.now (D.told desk.old).registration result.0
+        (S.left source.old) (S.left source.new)
+        (K.written sink.old) (K.written sink.new) result.1.calls.items }
+    ensures taken { IfOk result.0 (IsRunOverTaken (whole_rules (relation_handlers relations.now))
+        (first_state (D.told desk.old).registration.0 (D.told desk.old).registration.1)
+        (S.left source.old) (S.left source.new) (K.written sink.old) (K.written sink.new)
+        (D.told desk.old).calls (D.told desk.new).calls) }
+    ensures cause { HasCause result.0 turn_limit
+        (questions_since (D.told desk.old).calls (D.told desk.new).calls)
+        (counts_of S.reads S.faults K.faults source.old sink.old)
+        (counts_of S.reads S.faults K.faults source.new sink.new) }
+    ensures complete { IsComplete relations.now turn_limit result.0 (S.left source.old)
+        (counts_of S.reads S.faults K.faults source.old sink.old)
+        (counts_of S.reads S.faults K.faults source.new sink.new) }
+    ensures last { IfOk result.0 (EndsAtLast (whole_rules (relation_handlers relations.now))
+        (first_state (D.told desk.old).registration.0 (D.told desk.old).registration.1)
+        (S.left source.old) (S.left source.new)) }
+    ensures calm { OnOk result.0 (IsCalm (counts_of S.reads S.faults K.faults source.old sink.old)
+        (counts_of S.reads S.faults K.faults source.new sink.new)) }
+    ensures never_falls { FaultsNeverFall (counts_of S.reads S.faults K.faults source.old sink.old)
+        (counts_of S.reads S.faults K.faults source.new sink.new) }
+    ensures reads { ReadsGaveBytes (S.left source.old) (S.left source.new) (S.reads source.old)
+        (S.reads source.new) }
+    ensures registration { GoesOn (D.told desk.old) (D.told desk.new) }
+    ensures source { S.origin source.new ≡ S.origin source.old }
+    ensures sink { K.origin sink.new ≡ K.origin sink.old }
+{
+    let mut desk = RecordingDesk {
+        desk,
+        kept: Vec::new(alloc),
+    };
+    let before = Snapshot::of(source);
+    let mut source = RecordingSource {
+        source,
+        before,
+        room,
+        kept: client,
+        count: 0,
+    };
+    let before = Snapshot::of(sink);
+    let mut sink = RecordingSink {
+        sink,
+        before,
+        room,
+        kept: replies,
+        count: 0,
+        has_refused: false,
+    };
+    let answer = serve_relations_on(
+        alloc,
+        &mut desk,
+        relations,
+        &mut source,
+        &mut sink,
+        turn_limit,
+    );
+    let RecordingDesk {
+        desk: _desk,
+        kept: calls,
+    } = desk;
+    let RecordingSource {
+        source: _source,
+        before: _,
+        room: _,
+        kept: client,
+        count: taken,
+    } = source;
+    let RecordingSink {
+        sink: _sink,
+        before: _,
+        room: _,
+        kept: replies,
+        count: sent,
+        has_refused,
+    } = sink;
+    let kept = Kept {
+        client,
+        taken,
+        replies,
+        sent,
+        has_refused,
+        calls,
+    };
+    (answer, kept)
+}
+
+/// The recording of a session that was answered so, or why there is none.
+fn recording_of(
+    answer: Result<EndKind, ServeError>,
+    room: usize,
+    pid: i32,
+    key: SecretKey,
+    kept: Kept,
+) -> Result<Recording, RecordError> {
+    if kept.has_refused && !may_be_refused(answer) {
+        // A send found no memory, and the session went on; nothing tells what the sink has taken.
+        return Err(RecordError::NoMemory);
+    }
+    let needed = kept.taken.max(kept.sent);
+    if needed > room as u64 {
+        return Err(RecordError::TooLong(needed));
+    }
+    match answer {
+        Err(_) => Err(RecordError::Unended),
+        Ok(end) => Ok(Recording {
+            pid,
+            key,
+            client: PgBytes::from_vec(kept.client),
+            calls: PgList::from_vec(kept.calls),
+            replies: PgBytes::from_vec(kept.replies),
+            end,
+        }),
+    }
+}
+
+/// Whether a session that is answered so may have met a send that was refused.
+fn may_be_refused(answer: Result<EndKind, ServeError>) -> bool {
+    match answer {
+        Err(ServeError::WriteFault) | Err(ServeError::NoMemory) => true,
+        Ok(_) | Err(ServeError::ReadFault) | Err(ServeError::TurnLimit) => false,
+    }
+}
