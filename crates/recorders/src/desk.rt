@@ -1,6 +1,7 @@
 //! A desk that is recorded.
 
 ghost use Rattle.std.specs.Prelude.{◌-◌, ◌∷◌, length};
+ghost use Rattle.std.proofs.Props.{props};
 ghost use Rattle.recorders.specs.Kept.{IsEndOf};
 
 use crate::keeping::keep_call;
@@ -15,7 +16,7 @@ pub struct RecordingDesk<'a, D: CancelDesk> {
     pub desk: &'a mut D,
     /// Its calls so far, with their answers.
     pub kept: Vec<DeskCall>,
-    pub ghost recorded: { ∥ IsEndOf (D.told desk.now).calls kept.items ∥₁ },
+    pub ghost recorded: { IsEndOf (D.told desk.now).calls kept.items } by { Prim.hlevel props },
 }
 
 impl<'a, D: CancelDesk> CancelDesk for RecordingDesk<'a, D> {

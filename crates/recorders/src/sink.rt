@@ -29,8 +29,7 @@ pub struct RecordingSink<'a, K: Sink> {
     pub ghost roomy: { room ≤ vec_capacity kept },
     pub ghost within: { length kept.items ≤ room },
     pub ghost recorded: { IfSome (K.written before.value) (λ first. IsSentTo first
-        (K.written until.value) (K.written sink.now) room kept.items count has_refused) }
-        by { Prim.hlevel props },
+        (K.written until.value) (K.written sink.now) room kept.items count has_refused) } by { Prim.hlevel props },
 }
 
 impl<'a, K: Sink> Sink for RecordingSink<'a, K> {

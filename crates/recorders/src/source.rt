@@ -24,8 +24,7 @@ pub struct RecordingSource<'a, S: Source> {
     pub ghost roomy: { room ≤ vec_capacity kept },
     pub ghost within: { length kept.items ≤ room },
     pub ghost recorded: { IfSome (S.left before.value)
-        (λ text. IsTakenOf text (S.left source.now) room kept.items count) }
-        by { Prim.hlevel props },
+        (λ text. IsTakenOf text (S.left source.now) room kept.items count) } by { Prim.hlevel props },
 }
 
 impl<'a, S: Source> Source for RecordingSource<'a, S> {

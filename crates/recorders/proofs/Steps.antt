@@ -1,7 +1,8 @@
 -- What is kept, step by step.
-use Rattle.std.proofs.Common.{◌≡◌, ℕ, zero, suc, ◌+◌, ◌-◌, ◌≤◌, min, Bool, false, List, [], ◌∷◌, ◌++◌, Option, Some, None, refl, ap, sym, subst, ◌∙◌, length, take, drop, append_assoc, append-nil, length-append, arith}
+use Rattle.std.proofs.Common.{◌≡◌, ℕ, zero, suc, ◌+◌, ◌≤◌, min, Bool, false, true, List, [], ◌∷◌, ◌++◌, Option, Some, None, refl, ap, sym, subst, ◌∙◌, length, take, drop, append_assoc, append-nil, length-append, arith}
 use Rattle.std.specs.Prelude.{IfSome}
-use Rattle.std.proofs.lemmas.List.{take-append-drop, length-take, length-drop, take_at}
+use Rattle.std.proofs.lemmas.List.{take-append-drop, length-take, take_at}
+use Rattle.std.proofs.lemmas.Bool.{false≢true}
 use Rattle.std.proofs.Math.Seq.{drop-append_seam}
 use Rattle.pg_session.specs.Streams.{GivesFront, GrowsBy, GrowsByFront}
 use Rattle.recorders.specs.Kept.{IsTakenOf, IsSentTo, behind, bytes_of, counted, gone}
@@ -11,8 +12,8 @@ take_front zero a b = refl
 take_front (suc r) [] b = refl
 take_front (suc r) (x ∷ a) b = ap (λ l. x ∷ l) (take_front r a b)
 
-counted_more : (n m k : ℕ) → counted (counted n + m) ≡ counted (n + m)
-counted_more n m k = let e : min (min n 18446744073709551615 + m) 18446744073709551615 ≡ min (n + m) 18446744073709551615 = omega arith in e
+counted_more : (n m : ℕ) → counted (counted n + m) ≡ counted (n + m)
+counted_more n m = let e : min (min n 18446744073709551615 + m) 18446744073709551615 ≡ min (n + m) 18446744073709551615 = omega arith in e
 
 -- ---- a source
 
@@ -24,7 +25,7 @@ pub is_taken : (taken rest : List ℕ) (room : ℕ) (kept : List ℕ) (count : �
     → IsTakenOf (taken ++ rest) (Some rest) room kept count
 is_taken taken rest room kept count e f =
     let n = gone_are taken rest in
-    let front : take (gone (taken ++ rest) (Some rest)) (taken ++ rest) ≡ taken = take_at taken rest _ n in
+    let front : take (gone (taken ++ rest) (Some rest)) (taken ++ rest) ≡ taken = take_at taken rest _ (sym n) in
     let back : drop (gone (taken ++ rest) (Some rest)) (taken ++ rest) ≡ rest =
     ap (λ k. drop k (taken ++ rest)) n ∙ drop-append_seam taken rest in record {
       rest = ap Some (sym back);
@@ -52,25 +53,11 @@ takes_more (Some text) mid new room n into kept new_kept count new_count t g w e
     let more_kept : new_kept ≡ take room (taken ++ piece) =
     e ∙ ap (λ l. take room (l ++ piece)) t.front ∙ take_front room taken piece in
     let more_count : new_count ≡ counted (length (taken ++ piece)) =
-    f ∙ ap (λ c. counted (c + n)) t.number ∙ counted_more (length taken) n 0
+    f ∙ ap (λ c. counted (c + n)) t.number ∙ counted_more (length taken) n
     ∙ ap (λ c. counted c) (sym (length-append taken piece ∙ ap (λ c. length taken + c) len)) in
     subst (λ o. IsTakenOf text o room new_kept new_count) (sym given.rest)
     (subst (λ x. IsTakenOf x (Some (drop n rest)) room new_kept new_count) (sym all)
     (is_taken (taken ++ piece) (drop n rest) room new_kept new_count more_kept more_count))
-
--- nothing was taken yet
-pub takes_none : (left : Option (List ℕ)) (room : ℕ) (kept : List ℕ) → kept ≡ [] → IfSome left (λ text. IsTakenOf text left room kept 0)
-takes_none None room kept e = tt
-takes_none (Some text) room kept e = is_taken [] text room kept 0 (e ∙ sym (take_none room)) refl
-  where
-    take_none : (r : ℕ) → take r ([] {A = ℕ}) ≡ []
-    take_none zero = refl
-    take_none (suc r) = refl
-
--- nothing was given
-pub takes_as_before : (left mid new : Option (List ℕ)) (room : ℕ) (kept : List ℕ) (count : ℕ) → new ≡ mid
-    → IfSome left (λ text. IsTakenOf text mid room kept count) → IfSome left (λ text. IsTakenOf text new room kept count)
-takes_as_before left mid new room kept count e t = subst (λ o. IfSome left (λ text. IsTakenOf text o room kept count)) (sym e) t
 
 -- ---- a sink
 
@@ -90,22 +77,53 @@ is_sent before sent front room kept count has_refused e f none = let s = behind_
 }
 
 -- one more send was answered with Ok
-pub sends_more : (old until mid new : Option (List ℕ)) (room : ℕ) (bytes kept new_kept : List ℕ) (count new_count : ℕ)
-    → IfSome old (λ first. IsSentTo first until mid room kept count false) → GrowsBy mid new bytes
-    → new_kept ≡ take room (kept ++ bytes) → new_count ≡ counted (count + length bytes)
-    → IfSome old (λ first. IsSentTo first new new room new_kept new_count false)
-sends_more None until mid new room bytes kept new_kept count new_count t g e f = tt
-sends_more (Some first) until mid new room bytes kept new_kept count new_count t g e f =
+pub sends_more : (old until mid new new_until : Option (List ℕ)) (room : ℕ) (bytes kept new_kept : List ℕ) (count new_count : ℕ)
+    (has_refused : Bool) → IfSome old (λ first. IsSentTo first until mid room kept count has_refused) → has_refused ≡ false
+    → GrowsBy mid new bytes → new_until ≡ new → new_kept ≡ take room (kept ++ bytes) → new_count ≡ counted (count + length bytes)
+    → IfSome old (λ first. IsSentTo first new_until new room new_kept new_count has_refused)
+sends_more None until mid new new_until room bytes kept new_kept count new_count has_refused s h g u e f = tt
+sends_more (Some first) until mid new new_until room bytes kept new_kept count new_count has_refused s h g u e f =
     let sent = behind first until in
-    let was : mid ≡ Some (first ++ sent) = t.nothing_else refl ∙ t.grown in
+    let was : mid ≡ Some (first ++ sent) = s.nothing_else h ∙ s.grown in
     let is_new : new ≡ Some ((first ++ sent) ++ bytes) = subst (λ o. GrowsBy o new bytes) was g in
     let one : new ≡ Some (first ++ (sent ++ bytes)) = is_new ∙ ap Some (append_assoc first sent bytes) in
     let two : new ≡ Some ((first ++ (sent ++ bytes)) ++ []) = one ∙ ap Some (sym (append-nil (first ++ (sent ++ bytes)))) in
     let more_kept : new_kept ≡ take room (sent ++ bytes) =
-    e ∙ ap (λ l. take room (l ++ bytes)) t.front ∙ take_front room sent bytes in
+    e ∙ ap (λ l. take room (l ++ bytes)) s.front ∙ take_front room sent bytes in
     let more_count : new_count ≡ counted (length (sent ++ bytes)) =
-    f ∙ ap (λ c. counted (c + length bytes)) t.number ∙ counted_more (length sent) (length bytes) 0
+    f ∙ ap (λ c. counted (c + length bytes)) s.number ∙ counted_more (length sent) (length bytes)
     ∙ ap (λ c. counted c) (sym (length-append sent bytes)) in
-    subst (λ o. IsSentTo first o new room new_kept new_count false) (sym one)
-    (subst (λ o. IsSentTo first (Some (first ++ (sent ++ bytes))) o room new_kept new_count false) (sym two)
-    (is_sent first (sent ++ bytes) [] room new_kept new_count false more_kept more_count (λ h. refl)))
+    subst (λ o. IsSentTo first o new room new_kept new_count has_refused) (sym (u ∙ one))
+    (subst (λ o. IsSentTo first (Some (first ++ (sent ++ bytes))) o room new_kept new_count has_refused) (sym two)
+    (is_sent first (sent ++ bytes) [] room new_kept new_count has_refused more_kept more_count (λ q. refl)))
+
+-- more was taken behind the sends that are kept
+sent_past : (first : List ℕ) (until mid new : Option (List ℕ)) (room : ℕ) (kept : List ℕ) (count : ℕ) (has_refused : Bool)
+    (more : List ℕ) → IsSentTo first until mid room kept count has_refused
+    → new ≡ Some ((bytes_of until ++ behind (bytes_of until) mid) ++ more) → IsSentTo first until new room kept count true
+sent_past first until mid new room kept count has_refused more s e =
+    let u = bytes_of until in
+    let one : new ≡ Some (u ++ (behind u mid ++ more)) = e ∙ ap Some (append_assoc u (behind u mid) more) in record {
+      grown = s.grown;
+      more = one ∙ ap (λ l. Some (u ++ l)) (sym (ap (behind u) one ∙ behind_is u (behind u mid ++ more)));
+      nothing_else = λ h. absurd (false≢true (sym h));
+      front = s.front;
+      number = s.number;
+    }
+
+-- a send was refused
+pub sends_refused : (old until mid new : Option (List ℕ)) (room : ℕ) (bytes kept : List ℕ) (count : ℕ) (has_refused : Bool)
+    → IfSome old (λ first. IsSentTo first until mid room kept count has_refused) → GrowsByFront mid new bytes
+    → IfSome old (λ first. IsSentTo first until new room kept count true)
+sends_refused None until mid new room bytes kept count has_refused s g = tt
+sends_refused (Some first) until mid new room bytes kept count has_refused s g =
+    let f = subst (λ o. GrowsByFront o new bytes) s.more g in sent_past first until mid new room kept count has_refused f.0 s f.2
+
+-- one more send was answered with Ok, behind one that was refused
+pub sends_past : (old until mid new : Option (List ℕ)) (room : ℕ) (bytes kept : List ℕ) (count : ℕ) (has_refused : Bool)
+    → IfSome old (λ first. IsSentTo first until mid room kept count has_refused) → has_refused ≡ true → GrowsBy mid new bytes
+    → IfSome old (λ first. IsSentTo first until new room kept count has_refused)
+sends_past None until mid new room bytes kept count has_refused s h g = tt
+sends_past (Some first) until mid new room bytes kept count has_refused s h g =
+    let f = subst (λ o. GrowsBy o new bytes) s.more g in
+    subst (λ b. IsSentTo first until new room kept count b) (sym h) (sent_past first until mid new room kept count has_refused bytes s f)
