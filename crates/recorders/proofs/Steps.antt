@@ -34,30 +34,30 @@ is_taken taken rest room kept count e f =
     }
 
 -- one more piece was given
-pub takes_more : (left mid new : Option (List ℕ)) (room n : ℕ) (into kept new_kept : List ℕ) (count new_count : ℕ)
+pub takes_more : (left mid new : Option (List ℕ)) (room new_room n : ℕ) (into kept new_kept : List ℕ) (count new_count : ℕ)
     → IfSome left (λ text. IsTakenOf text mid room kept count)
-    → IfSome mid (λ bytes. GivesFront n into bytes new) → n ≤ length into
-    → new_kept ≡ take room (kept ++ take n into) → new_count ≡ counted (count + n)
-    → IfSome left (λ text. IsTakenOf text new room new_kept new_count)
-takes_more None mid new room n into kept new_kept count new_count t g w e f = tt
-takes_more (Some text) mid new room n into kept new_kept count new_count t g w e f =
+    → IfSome mid (λ bytes. GivesFront n into bytes new) → new_room ≡ room
+    → new_kept ≡ take room (kept ++ take n into) → new_count ≡ counted (count + length (take n into))
+    → IfSome left (λ text. IsTakenOf text new new_room new_kept new_count)
+takes_more None mid new room new_room n into kept new_kept count new_count t g h e f = tt
+takes_more (Some text) mid new room new_room n into kept new_kept count new_count t g h e f =
     let k = gone text mid in
     let taken = take k text in
     let rest = drop k text in
     let given : GivesFront n into rest new = subst (λ o. IfSome o (λ bytes. GivesFront n into bytes new)) t.rest g in
     let piece = take n into in
-    let len : length piece ≡ n = let q = length-take n into in omega (arith, q, w) in
     let all : text ≡ (taken ++ piece) ++ drop n rest =
     sym (take-append-drop k text) ∙ ap (λ l. taken ++ l) (sym (take-append-drop n rest)) ∙ sym (append_assoc taken (take n rest) (drop n rest))
     ∙ ap (λ l. (taken ++ l) ++ drop n rest) (sym given.given) in
     let more_kept : new_kept ≡ take room (taken ++ piece) =
     e ∙ ap (λ l. take room (l ++ piece)) t.front ∙ take_front room taken piece in
     let more_count : new_count ≡ counted (length (taken ++ piece)) =
-    f ∙ ap (λ c. counted (c + n)) t.number ∙ counted_more (length taken) n
-    ∙ ap (λ c. counted c) (sym (length-append taken piece ∙ ap (λ c. length taken + c) len)) in
-    subst (λ o. IsTakenOf text o room new_kept new_count) (sym given.rest)
+    f ∙ ap (λ c. counted (c + length piece)) t.number ∙ counted_more (length taken) (length piece)
+    ∙ ap (λ c. counted c) (sym (length-append taken piece)) in
+    subst (λ r. IsTakenOf text new r new_kept new_count) (sym h)
+    (subst (λ o. IsTakenOf text o room new_kept new_count) (sym given.rest)
     (subst (λ x. IsTakenOf x (Some (drop n rest)) room new_kept new_count) (sym all)
-    (is_taken (taken ++ piece) (drop n rest) room new_kept new_count more_kept more_count))
+    (is_taken (taken ++ piece) (drop n rest) room new_kept new_count more_kept more_count)))
 
 -- ---- a sink
 
@@ -77,12 +77,12 @@ is_sent before sent front room kept count has_refused e f none = let s = behind_
 }
 
 -- one more send was answered with Ok
-pub sends_more : (old until mid new new_until : Option (List ℕ)) (room : ℕ) (bytes kept new_kept : List ℕ) (count new_count : ℕ)
+pub sends_more : (old until mid new new_until : Option (List ℕ)) (room new_room : ℕ) (bytes kept new_kept : List ℕ) (count new_count : ℕ)
     (has_refused : Bool) → IfSome old (λ first. IsSentTo first until mid room kept count has_refused) → has_refused ≡ false
-    → GrowsBy mid new bytes → new_until ≡ new → new_kept ≡ take room (kept ++ bytes) → new_count ≡ counted (count + length bytes)
-    → IfSome old (λ first. IsSentTo first new_until new room new_kept new_count has_refused)
-sends_more None until mid new new_until room bytes kept new_kept count new_count has_refused s h g u e f = tt
-sends_more (Some first) until mid new new_until room bytes kept new_kept count new_count has_refused s h g u e f =
+    → GrowsBy mid new bytes → new_until ≡ new → new_room ≡ room → new_kept ≡ take room (kept ++ bytes) → new_count ≡ counted (count + length bytes)
+    → IfSome old (λ first. IsSentTo first new_until new new_room new_kept new_count has_refused)
+sends_more None until mid new new_until room new_room bytes kept new_kept count new_count has_refused s h g u r e f = tt
+sends_more (Some first) until mid new new_until room new_room bytes kept new_kept count new_count has_refused s h g u r e f =
     let sent = behind first until in
     let was : mid ≡ Some (first ++ sent) = s.nothing_else h ∙ s.grown in
     let is_new : new ≡ Some ((first ++ sent) ++ bytes) = subst (λ o. GrowsBy o new bytes) was g in
@@ -93,9 +93,10 @@ sends_more (Some first) until mid new new_until room bytes kept new_kept count n
     let more_count : new_count ≡ counted (length (sent ++ bytes)) =
     f ∙ ap (λ c. counted (c + length bytes)) s.number ∙ counted_more (length sent) (length bytes)
     ∙ ap (λ c. counted c) (sym (length-append sent bytes)) in
-    subst (λ o. IsSentTo first o new room new_kept new_count has_refused) (sym (u ∙ one))
+    subst (λ q. IsSentTo first new_until new q new_kept new_count has_refused) (sym r)
+    (subst (λ o. IsSentTo first o new room new_kept new_count has_refused) (sym (u ∙ one))
     (subst (λ o. IsSentTo first (Some (first ++ (sent ++ bytes))) o room new_kept new_count has_refused) (sym two)
-    (is_sent first (sent ++ bytes) [] room new_kept new_count has_refused more_kept more_count (λ q. refl)))
+    (is_sent first (sent ++ bytes) [] room new_kept new_count has_refused more_kept more_count (λ q. refl))))
 
 -- more was taken behind the sends that are kept
 sent_past : (first : List ℕ) (until mid new : Option (List ℕ)) (room : ℕ) (kept : List ℕ) (count : ℕ) (has_refused : Bool)
