@@ -18,6 +18,12 @@ IsNext old (Ok (Some item)) new = old ≡ item ∷ new
 IsNext old (Ok None) new = (old ≡ []) × (new ≡ [])
 IsNext old (Err e) new = new ≡ old
 
+-- The first item is taken, which is this row, or none is taken.
+abbrev pub IsNextRow : List RowItem → Result (Option DataRow) AllocError → List RowItem → Type 0
+IsNextRow old (Ok (Some row)) new = old ≡ Ok row ∷ new
+IsNextRow old (Ok None) new = new ≡ old
+IsNextRow old (Err e) new = new ≡ old
+
 -- an error that a reply can tell
 pub record IsTellable (error : PgWireError) : Type 0 where
   pub is_told : error ≢ NoMemory
@@ -35,6 +41,10 @@ is_of_session _ = false
 pub record IsItemError (error : PgWireError) : Type 0 where
   pub tellable : IsTellable error
   pub is_own : is_of_session error ≡ false
+
+-- a row that becomes a reply
+abbrev pub IsSendableRow : DataRow → Type 0
+IsSendableRow row = IsEncodable (server.DataRow row)
 
 -- an item that becomes a reply
 abbrev pub IsSendable : RowItem → Type 0

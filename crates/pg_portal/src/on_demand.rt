@@ -1,9 +1,9 @@
 //! Rows, and data of a COPY, that are made at their turn.
 
-ghost use Rattle.std.specs.Prelude.{◌≡◌, ◌<◌, List, Some, IfOk, IfSome, length, drop, slice_get};
+ghost use Rattle.std.specs.Prelude.{◌≡◌, ◌<◌, List, Some, Ok, IfOk, IfSome, length, drop, slice_get};
 ghost use Rattle.pg_portal.specs.Making.{position_after};
 ghost use Rattle.pg_portal.specs.Copying.{CopyItem, IsNextCopy, IsSendableCopy};
-ghost use Rattle.pg_portal.specs.Rows.{RowItem, IsNext, IsSendable};
+ghost use Rattle.pg_portal.specs.Rows.{RowItem, IsNext, IsSendable, IsSendableRow};
 
 use crate::error::PgWireError;
 use crate::results::copy::CopySource;
@@ -28,6 +28,18 @@ pub trait RowMaker: Drop {
         requires { index < length (items self.now) }
         ensures item { IfOk result (λ item. slice_get (items self.now) index ≡ Some item) }
         ensures sendable { IfOk result IsSendable };
+
+    /// The row at an index, made anew in a short way: without the room that an error in its place
+    /// would take. None says nothing of the item: `make` tells it.
+    #[inline(always)]
+    fn make_row(&self, _index: usize) -> Result<Option<DataRow>, AllocError>
+        requires { _index < length (items self.now) }
+        ensures item { IfOk result (λ found. IfSome found (λ row.
+            slice_get (items self.now) _index ≡ Some (Ok row))) }
+        ensures sendable { IfOk result (λ found. IfSome found IsSendableRow) }
+    {
+        Ok(None)
+    }
 }
 
 /// What makes data of a COPY one at a time, each by its index: finitely many items, each data or an
@@ -96,6 +108,23 @@ impl<M: RowMaker> RowSource for OnDemand<M> {
             }
         } else {
             Ok(None)
+        }
+    }
+
+    /// The row that the maker makes in the short way, and the position moves by one. It stays where
+    /// none is made.
+    #[inline(always)]
+    fn next_row(&mut self) -> Result<Option<DataRow>, AllocError> {
+        if self.position >= self.maker.rows() {
+            return Ok(None);
+        }
+        match self.maker.make_row(self.position) {
+            Ok(Some(row)) => {
+                self.position += 1;
+                Ok(Some(row))
+            }
+            Ok(None) => Ok(None),
+            Err(error) => Err(error),
         }
     }
 }

@@ -100,6 +100,16 @@ pub fn deliver_page<R: RowSource, T: RowReceiver>(
 {
     let mut count = 0;
     while !is_reached(max_rows, count) {
+        // Most rows come in the short way.
+        match rows.next_row() {
+            Ok(Some(row)) => {
+                receiver.receive(row)?;
+                count = count.saturating_add(1);
+                continue;
+            }
+            Ok(None) => {}
+            Err(_) => return Err(PgWireError::NoMemory),
+        }
         match rows.next() {
             Ok(Some(Ok(row))) => receiver.receive(row)?,
             Ok(Some(Err(error))) => return Err(error),

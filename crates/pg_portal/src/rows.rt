@@ -2,7 +2,7 @@
 
 ghost use Rattle.std.specs.Prelude.{◌≡◌, List, IfOk, IfSome};
 ghost use Rattle.std.specs.List.{AllByRecursion};
-ghost use Rattle.pg_portal.specs.Rows.{RowItem, IsNext, IsSendable};
+ghost use Rattle.pg_portal.specs.Rows.{RowItem, IsNext, IsNextRow, IsSendable, IsSendableRow};
 
 use crate::error::PgWireError;
 use pg_messages::{DataRow, PgList};
@@ -20,6 +20,17 @@ pub trait RowSource: Drop {
     fn next(&mut self) -> Result<Option<Result<DataRow, PgWireError>>, AllocError>
         ensures next { IsNext (items self.old) result (items self.new) }
         ensures sendable { IfOk result (λ found. IfSome found IsSendable) };
+
+    /// The next item where it is a row that is made in a short way, without the room that an error
+    /// in its place would take. None takes nothing and says nothing of the items: `next` tells
+    /// them. After an AllocError all items are still to come.
+    #[inline(always)]
+    fn next_row(&mut self) -> Result<Option<DataRow>, AllocError>
+        ensures next { IsNextRow (items self.old) result (items self.new) }
+        ensures sendable { IfOk result (λ found. IfSome found IsSendableRow) }
+    {
+        Ok(None)
+    }
 }
 
 /// The items of a list.

@@ -10,7 +10,7 @@ use pg_messages::{PgList, SecretKey};
 use pg_portal::{ClientInfo, MemPortalStore, PgWireError, Response};
 use pg_serve::{HandleDesk, MemorySink, MemorySource, serve_connection};
 use pg_session::{EndKind, PgWireServerHandlers, ServeError};
-use sample_handlers::SampleQuery;
+use polled_queries::PolledQuery;
 use std::alloc::{AllocError, Global};
 use std::sync::atomic::{AtomicBool, AtomicU64, Ordering};
 use std::sync::{Arc, Wait};
@@ -81,15 +81,15 @@ type Answers = PgList<Response<NoRows, NoRows>>;
 #[derive(Drop)]
 struct HeldQuery {
     flags: Arc<Flags>,
-    query: SampleQuery<Answers>,
+    query: PolledQuery<Answers>,
 }
 
 impl QueryState for HeldQuery {
-    ghost use Rattle.sample_handlers.specs.Queries.{query_told};
+    ghost use Rattle.polled_queries.specs.Queries.{query_told};
 
     type Out = Result<Answers, PgWireError>;
 
-    ghost told = { λ q. query_told q.query.polls q.query.outcome };
+    ghost told = { λ q. query_told q.query.unready q.query.outcome };
 
     fn poll(&mut self) -> Result<Turn<Result<Answers, PgWireError>>, AllocError> {
         self.flags.hold(Moment::Poll);
@@ -125,7 +125,7 @@ impl SimpleQueryHandler for Held {
         self.flags.hold(Moment::Query);
         Ok(HeldQuery {
             flags: Arc::try_clone(&self.flags)?,
-            query: SampleQuery::new(1, Ok(PgList::new(alloc))),
+            query: PolledQuery::new(1, Ok(PgList::new(alloc))),
         })
     }
 }

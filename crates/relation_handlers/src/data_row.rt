@@ -1,6 +1,6 @@
 //! Rows of relations as the protocol sends them (protocol: Message Formats, DataRow).
 
-ghost use Rattle.std.specs.Prelude.{◌≡◌, ◌≤◌, ◌+◌, ◌++◌, [], Some, Ok, Err, IfOk, OnOk, length, map, zip};
+ghost use Rattle.std.specs.Prelude.{◌≡◌, ◌≤◌, ◌+◌, ◌++◌, [], Some, Ok, Err, IfOk, IfSome, OnOk, length, map, zip};
 ghost use Rattle.std.specs.List.{list_any};
 ghost use Rattle.pg_interval.specs.Printed.{printed};
 ghost use Rattle.pg_text.specs.Words.{printed_style};
@@ -8,7 +8,7 @@ ghost use Rattle.pg_messages.specs.declared.backend.PgWireBackendMessage.TheVari
 ghost use Rattle.pg_messages.specs.Replies.{IsEncodable};
 ghost use Rattle.pg_portal.specs.Encoding.{cell_bytes};
 ghost use Rattle.pg_portal.specs.Formats.{is_text};
-ghost use Rattle.pg_portal.specs.Rows.{IsSendable};
+ghost use Rattle.pg_portal.specs.Rows.{IsSendable, IsSendableRow};
 ghost use Rattle.pg_portal.specs.Texts.{IsShortText};
 ghost use Rattle.pg_portal.specs.declared.error.PgWireError.TheVariants as wire;
 ghost use Rattle.relation_tables.specs.RelationHandler.{all_or_error, value, row_item};
@@ -41,6 +41,29 @@ pub(crate) fn row_item(
             Err(error) => Err(error),
         },
         Err(text) => item_without_style(alloc, text, formats, row),
+    }
+}
+
+/// A row in these formats, or None where the session's style isn't one. It can be sent as a reply.
+#[inline(always)]
+pub(crate) fn row_in_style(
+    alloc: Global,
+    style: &SessionStyle,
+    formats: &[FieldFormat],
+    row: &[Interval],
+) -> Result<Option<DataRow>, AllocError>
+    requires same { length formats.now ≡ length row.now }
+    requires narrow { length row.now ≤ 1600 }
+    ensures item { IfOk result (λ found. IfSome found (λ made.
+        Ok made ≡ row_item style.now formats.now row.now)) }
+    ensures sendable { IfOk result (λ found. IfSome found IsSendableRow) }
+{
+    match style.or_text() {
+        Ok(style) => match data_row_of(alloc, style, formats, row) {
+            Ok(row) => Ok(Some(row)),
+            Err(error) => Err(error),
+        },
+        Err(_) => Ok(None),
     }
 }
 

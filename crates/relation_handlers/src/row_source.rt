@@ -8,7 +8,7 @@ ghost use Rattle.relation_tables.specs.RelationHandler.{column_formats};
 ghost use Rattle.relation_handlers.specs.Made.{ToldMaker, GivesFormats, relation_of, row_items, style_in};
 
 use crate::copy_line::line_item;
-use crate::data_row::row_item;
+use crate::data_row::{row_in_style, row_item};
 use crate::style::SessionStyle;
 use crate::table::RelationTable;
 use pg_interval::Interval;
@@ -135,6 +135,13 @@ impl<'r> RowMaker for RelationRows<'r> {
     fn make(&self, index: usize) -> Result<Result<DataRow, PgWireError>, AllocError> {
         let formats = self.each_format.as_slice();
         row_item(self.alloc, &self.style, formats, self.row(index))
+    }
+
+    /// The row at an index, where the session's style is one.
+    #[inline(always)]
+    fn make_row(&self, index: usize) -> Result<Option<DataRow>, AllocError> {
+        let formats = self.each_format.as_slice();
+        row_in_style(self.alloc, &self.style, formats, self.row(index))
     }
 }
 
