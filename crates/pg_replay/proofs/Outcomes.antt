@@ -1,8 +1,10 @@
--- What comes of an order is no refusal of the relation file, where the file was read.
-use Rattle.std.proofs.Common.{◌≡◌, ℕ, ℤ, List, Option, Result, Ok, Err, inl, inr, refl}
+-- What comes of an order: nothing is a front of what is written, and where the file was read it wasn't refused.
+use Rattle.std.proofs.Common.{◌≡◌, ℕ, ℤ, List, [], Option, Some, None, Result, Ok, Err, inl, inr, refl, sym, ap}
+use Rattle.std.proofs.lemmas.List.{append-nil}
 use Rattle.pg_handlers.specs.declared.ends.EndKind.{EndKind}
 use Rattle.pg_session.specs.declared.ends.ServeError.{ServeError}
 use Rattle.pg_session.specs.declared.ends.ServeError.TheVariants as fault
+use Rattle.pg_session.specs.Streams.{GrowsByFront}
 use Rattle.pg_serve.specs.Serving.{Counts}
 use Rattle.recording_text.specs.declared.recording.ReadError.{ReadError}
 use Rattle.recording_text.specs.declared.recording.Recording.{Recording}
@@ -17,6 +19,11 @@ use Rattle.pg_replay.specs.declared.outcome.Outcome.{Outcome}
 use Rattle.pg_replay.specs.declared.outcome.Outcome.TheVariants.{Usage, File, Done, Differs, ReadFault, WriteFault, TurnLimit, NoMemory, TooLong, BadRecording}
 use Rattle.pg_replay.specs.Program.{Surroundings, HasWritten, IsRecordOutcome, HasRecorded, HasRecordedFile, HasToldVerdict, HasJudged, HasVerified, HasVerifiedFile}
 use Rattle.pg_replay.specs.Statuses.{verdict_line, verdict_outcome}
+
+-- where nothing is written, a front is
+pub grows_by_none : (old : Option (List ℕ)) (text : List ℕ) → GrowsByFront old old text
+grows_by_none None text = tt
+grows_by_none (Some before) text = ([], (text, refl), ap Some (sym (append-nil before)))
 
 module _ (e : FileError) (old new : Option (List ℕ)) (faults new_faults : ℕ) where
   done_is_no_refusal : (text : List ℕ) → HasWritten Done text (File e) old new faults new_faults → ⊥

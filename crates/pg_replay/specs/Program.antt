@@ -114,9 +114,9 @@ abbrev pub HasRecorded : ℤ → List ℕ → List Relation → Outcome → Opti
     → Counts → Counts → Type 0
 HasRecorded pid key relations outcome left new_left old new before after =
     ((outcome ≡ NoMemory) × (new_left ≡ left) × (new ≡ old) × (after ≡ before))
-    ⊎ ((answer : Result EndKind ServeError) × ((recorded : Result Recording RecordError)
+    ⊎ ((answer : Result EndKind ServeError) × (recorded : Result Recording RecordError)
     × WasRecorded pid key relations answer recorded left new_left before after
-    × IsRecordOutcome answer recorded outcome old new before.write_faults after.write_faults))
+    × IsRecordOutcome answer recorded outcome old new before.write_faults after.write_faults)
 
 -- What comes of `record`: the file was refused, or else its relations were served and the session recorded.
 abbrev pub HasRecordedFile : ℤ → List ℕ → Outcome → Surroundings → Surroundings → Type 0

@@ -171,8 +171,9 @@ fn record_client<S: Source, K: Sink>(
     let mut sink = BytesSink {
         bytes: Vec::new(alloc),
     };
-    let (answer, recorded) =
-        record_session(alloc, relations, &mut desk, client, &mut sink, TURNS, ROOM);
+    let (answer, recorded) = record_session(
+        alloc, relations, &mut desk, client, &mut sink, TURNS, ROOM,
+    );
     // The desk's own fact, that it answered by its list, is what the contract needs of it.
     let _calls = desk.calls();
     write_recorded(alloc, answer, recorded, out)
