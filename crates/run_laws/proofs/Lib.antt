@@ -1,1 +1,6 @@
 pub mod OneRun
+pub mod Scripted
+pub mod RowsSteady
+pub mod TableSteady
+pub mod CallsGoOn
+pub mod SomeRun

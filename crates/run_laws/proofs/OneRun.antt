@@ -12,7 +12,7 @@ use Rattle.pg_handlers.specs.Answer.{Answer, Next, Goes, Ends, Stops, answers_of
 use Rattle.pg_handlers.specs.Lawful.{IsMade, IsLawful}
 use Rattle.pg_session.specs.Run.{Rules, IsRun, EndsWith}
 
-left_with_more : (calls : List DeskCall) (answers more : List Bool) → answers ≡ answers_of calls ++ left_by calls answers
+pub left_with_more : (calls : List DeskCall) (answers more : List Bool) → answers ≡ answers_of calls ++ left_by calls answers
     → left_by calls (answers ++ more) ≡ left_by calls answers ++ more
 left_with_more calls answers more e =
     ap (λ xs. left_by calls (xs ++ more)) e ∙ ap (λ xs. left_by calls xs) (append_assoc (answers_of calls) (left_by calls answers) more)
@@ -23,13 +23,13 @@ not_both : (awaiting : Bool) (rest : List ℕ) → IsUnfinished awaiting rest �
 not_both awaiting rest (inl short) bad = let whole = bad.0 in omega (arith, short, whole)
 not_both awaiting rest (inr w) bad = elim bad.1 [ inl n ↦ n w.1 | inr x ↦ let few = w.2 in let all = x.1 in omega (arith, few, all) ]
 
-is_made : {T : Type 0} (awaits : T → Bool) (n : Next T) (rest : List ℕ) (k : EndKind) → EndsWith awaits n rest k → IsMade n
+pub is_made : {T : Type 0} (awaits : T → Bool) (n : Next T) (rest : List ℕ) (k : EndKind) → EndsWith awaits n rest k → IsMade n
 is_made awaits (Goes s) rest k h = tt
 is_made awaits (Ends kind) rest k h = tt
 is_made awaits Stops rest k h = h
 
 -- what is left of the bytes of a run is unfinished or bad
-rest_of : {T : Type 0} (awaits : T → Bool) (s : T) (rest : List ℕ) (k : EndKind) → EndsWith awaits (Goes s) rest k
+pub rest_of : {T : Type 0} (awaits : T → Bool) (s : T) (rest : List ℕ) (k : EndKind) → EndsWith awaits (Goes s) rest k
     → IsUnfinished (awaits s) rest ⊎ IsBad (awaits s) rest
 rest_of awaits s rest BadFrame h = inr h
 rest_of awaits s rest InputEnd h = inl h
@@ -37,7 +37,7 @@ rest_of awaits s rest Terminate h = absurd h
 rest_of awaits s rest Fatal h = absurd h
 rest_of awaits s rest CancelServed h = absurd h
 
-no_frame : (awaiting : Bool) (text frame others : List ℕ) (m : PgWireFrontendMessage) → IsUnfinished awaiting text ⊎ IsBad awaiting text
+pub no_frame : (awaiting : Bool) (text frame others : List ℕ) (m : PgWireFrontendMessage) → IsUnfinished awaiting text ⊎ IsBad awaiting text
     → text ≡ frame ++ others → IsFrame awaiting frame m → ⊥
 no_frame awaiting text frame others m (inl u) e h = frame_finished awaiting frame others m h (subst (IsUnfinished awaiting) e u)
 no_frame awaiting text frame others m (inr b) e h = frame_not_bad awaiting frame others m h (subst (IsBad awaiting) e b)

@@ -1,1 +1,4 @@
+pub mod Differing
 pub mod Replays
+pub mod Judging
+pub mod Telling

@@ -1,5 +1,5 @@
 -- What a replay is, and what it says of a recording.
-use Rattle.std.specs.Prelude.{ℕ, List, ◌≡◌, ◌≢◌, take, length, slice_get}
+use Rattle.std.specs.Prelude.{ℕ, List, ◌≡◌, ◌≢◌, ◌<◌, take, length, slice_get}
 use Rattle.pg_handlers.specs.declared.desk.DeskCall.{DeskCall}
 use Rattle.pg_handlers.specs.declared.ends.EndKind.{EndKind}
 use Rattle.pg_handlers.specs.Answer.{answers_of}
@@ -30,3 +30,13 @@ IsVerdict r replies calls kind Same = (calls ≡ r.calls) × (replies ≡ r.repl
 IsVerdict r replies calls kind (Calls place) = DiffersAt calls r.calls place
 IsVerdict r replies calls kind (Replies place) = (calls ≡ r.calls) × DiffersAt replies r.replies place
 IsVerdict r replies calls kind (End other) = (calls ≡ r.calls) × (replies ≡ r.replies) × (other ≡ kind) × (kind ≢ r.end)
+
+-- The verdict on a recording: there is a replay of it, which says so.
+abbrev pub IsVerdictOn : List Relation → Recording → Verdict → Type 0
+IsVerdictOn relations r verdict = (replies : List ℕ) × (calls : List DeskCall) × (kind : EndKind)
+    × IsReplay relations r replies calls kind × IsVerdict r replies calls kind verdict
+
+-- What the first calls of a replay say of the recorded ones, whatever follows: they are others at one of these calls.
+abbrev pub IsVerdictSoFar : Recording → List DeskCall → Verdict → Type 0
+IsVerdictSoFar r made (Calls place) = DiffersAt made r.calls place × (place < length made)
+IsVerdictSoFar r made _ = ⊥

@@ -1,6 +1,6 @@
 //! The first place at which two lists differ.
 
-ghost use Rattle.std.specs.Prelude.{◌≡◌, ◌↔◌, IsTrue, IfSome, IfNone};
+ghost use Rattle.std.specs.Prelude.{◌≡◌, ◌≢◌, ◌↔◌, IsTrue, IfSome, IfNone};
 ghost use Rattle.session_replay.specs.Verdicts.{DiffersAt};
 
 use pg_handlers::{DeskCall, EndKind};
@@ -35,6 +35,8 @@ pub(crate) fn other_call(made: &[DeskCall], told: &[DeskCall]) -> Option<usize>
 
 /// Where one side ends, if not both do.
 fn end_of_one(both: usize, made: usize, told: usize) -> Option<usize>
+    ensures some { IfSome result (λ place. (place ≡ both) × (made ≢ told)) }
+    ensures none { IfNone result (made ≡ told) }
 {
     if made == told { None } else { Some(both) }
 }

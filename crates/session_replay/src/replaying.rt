@@ -1,12 +1,12 @@
 //! A recording is replayed, and compared with its replay.
 
-ghost use Rattle.std.specs.Prelude.{◌≡◌, ◌↔◌, ◌+◌, ◌<◌, ◌^◌, ℕ, List, length, IfOk, IfSome, IfErr};
+ghost use Rattle.std.specs.Prelude.{◌≡◌, ◌↔◌, ◌+◌, ◌<◌, ◌≤◌, ℕ, List, length, IfOk, IsErrOf, IsErr};
 ghost use Rattle.pg_handlers.specs.Answer.{answers_of};
 ghost use Rattle.pg_handlers.specs.Questions.{questions};
 ghost use Rattle.pg_handlers.specs.declared.desk.DeskCall.{DeskCall};
 ghost use Rattle.pg_handlers.specs.declared.ends.EndKind.{EndKind};
 ghost use Rattle.replay_streams.specs.RecordedRuns.{IsRecordedRun};
-ghost use Rattle.session_replay.specs.Verdicts.{IsReplay, IsVerdict};
+ghost use Rattle.session_replay.specs.Verdicts.{IsReplay, IsVerdict, IsVerdictOn, IsVerdictSoFar};
 
 use crate::comparing::{is_same_end, other_byte, other_call};
 use crate::verdict::Verdict;
@@ -35,14 +35,13 @@ pub fn verify(
     ensures same { IfOk result (λ verdict. (verdict ≡ Verdict.Same)
         ↔ IsRecordedRun relations.now recording.now) }
 
-    // What any other verdict says, by the replay, which there is.
+    // What any verdict says, by the replay, of which there is one.
     ensures verdict { IfOk result (λ verdict. (replies : List ℕ) (calls : List DeskCall)
         (kind : EndKind) → IsReplay relations.now recording.now replies calls kind
         → IsVerdict recording.now replies calls kind verdict) }
+    ensures exists { IfOk result (IsVerdictOn relations.now recording.now) }
 {
-    let Some(turns) = turns_of(recording) else {
-        return Err(AllocError);
-    };
+    let turns = turns_of(recording);
     let key = recording.key.copy_of()?;
     let answers = answers_of(alloc, recording.calls.as_slice())?;
     let mut desk = ScriptDesk::new(alloc, recording.pid, key, answers);
@@ -53,31 +52,23 @@ pub fn verify(
     let mut sink = BytesSink {
         bytes: Vec::new(alloc),
     };
-    let answer = serve_relations_on(
-        alloc,
-        &mut desk,
-        relations,
-        &mut source,
-        &mut sink,
-        turns,
-    );
+    let answer = serve_relations_on(alloc, &mut desk, relations, &mut source, &mut sink, turns);
     judge(answer, desk.calls(), sink.bytes.as_slice(), recording)
 }
 
-/// One turn for each byte of the client, one for its end, and one for each recorded question. None
-/// where that is no `u64`.
-fn turns_of(recording: &Recording) -> Option<u64>
-    ensures { IfSome result (λ turns. turns
-        ≡ length recording.now.client + 1 + questions recording.now.calls) }
+/// One turn for each byte of the client, one for its end, and one for each recorded question.
+fn turns_of(recording: &Recording) -> u64
+    ensures { result ≡ length recording.now.client + 1 + questions recording.now.calls }
 {
-    (recording.client.len() as u64)
-        .checked_add(1)?
-        .checked_add(questions_in(recording.calls.as_slice()) as u64)
+    let bytes = recording.client.as_slice().len() as u64;
+    let questions = questions_in(recording.calls.as_slice()) as u64;
+    bytes + 1 + questions
 }
 
 /// How many questions are among calls.
 fn questions_in(calls: &[DeskCall]) -> usize
-    ensures { result ≡ questions calls.now }
+    ensures count { result ≡ questions calls.now }
+    ensures few { result ≤ length calls.now }
 {
     let mut questions = 0usize;
     for call in calls {
@@ -102,19 +93,27 @@ fn answers_of(alloc: Global, calls: &[DeskCall]) -> Result<PgList<bool>, AllocEr
     Ok(answers)
 }
 
-/// The verdict by what the replay was answered, called and written. Where it spent all turns, it
-/// asked more than the recording tells, so that the calls are others.
+/// The verdict by what the replay was answered, called and wrote. Where it spent all turns, it had
+/// asked more than the recording tells, so that its calls are others.
 fn judge(
     answer: Result<EndKind, ServeError>,
     calls: &[DeskCall],
     replies: &[u8],
     recording: &Recording,
-) -> Result<Verdict, AllocError> {
+) -> Result<Verdict, AllocError>
+    requires { IsErrOf answer ServeError.TurnLimit
+        → questions recording.now.calls < questions calls.now }
+    ensures ended { IfOk answer (λ kind.
+        IfOk result (IsVerdict recording.now replies.now calls.now kind)) }
+    ensures spent { IsErrOf answer ServeError.TurnLimit
+        → IfOk result (IsVerdictSoFar recording.now calls.now) }
+    ensures given_up { IsErr answer → ¬ IsErrOf answer ServeError.TurnLimit → IsErr result }
+{
     match answer {
         Ok(kind) => Ok(compared(calls, replies, kind, recording)),
         Err(ServeError::TurnLimit) => match other_call(calls, recording.calls.as_slice()) {
             Some(place) => Ok(Verdict::Calls(place as u64)),
-            None => Err(AllocError),
+            None => unreachable!(),
         },
         Err(_) => Err(AllocError),
     }
