@@ -11,9 +11,9 @@ usage: pg_replay record FILE PID KEY
        pg_replay verify FILE
        pg_replay --help | --version
 
-record  serves one client over the relations in FILE: its bytes come on standard input, and the recording goes to standard
-        output: the client's bytes, the calls of the cancel registry, the replies, and how it ended. The client is told
-        PID (1 to 2147483647) and KEY (8 to 512 hexadecimal digits, an even number). No query is canceled.
+record  serves one client over the relations in FILE. Its bytes come on standard input, and the recording goes to
+        standard output: the client's bytes, the calls of the cancel registry, the replies, and how it ended. The client
+        is told PID (1 to 2147483647) and KEY (8 to 512 hexadecimal digits, an even number). No query is canceled.
 verify  reads a recording on standard input, serves its client once more over FILE, and writes one line:
           same       the recorded calls, replies and end are those that the rules give
           calls N    the calls of the registry differ first at place N, counted from 0
