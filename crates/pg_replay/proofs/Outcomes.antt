@@ -1,9 +1,6 @@
 -- What comes of an order: nothing is a front of what is written, and where the file was read it wasn't refused.
-use Rattle.std.proofs.Common.{◌≡◌, ℕ, ℤ, List, [], Option, Some, None, Result, Ok, Err, inl, inr, refl, sym, ap}
+use Rattle.std.proofs.Common.{ℕ, List, [], Option, Some, None, Result, Ok, Err, inl, inr, refl, sym, ap}
 use Rattle.std.proofs.lemmas.List.{append-nil}
-use Rattle.pg_handlers.specs.declared.ends.EndKind.{EndKind}
-use Rattle.pg_session.specs.declared.ends.ServeError.{ServeError}
-use Rattle.pg_session.specs.declared.ends.ServeError.TheVariants as fault
 use Rattle.pg_session.specs.Streams.{GrowsByFront}
 use Rattle.pg_serve.specs.Serving.{Counts}
 use Rattle.recording_text.specs.declared.recording.ReadError.{ReadError}
@@ -11,13 +8,11 @@ use Rattle.recording_text.specs.declared.recording.Recording.{Recording}
 use Rattle.relation_files.specs.declared.errors.FileError.{FileError}
 use Rattle.relation_files.specs.Files.{IsToldBy}
 use Rattle.relation_tables.specs.declared.Relation.{Relation}
-use Rattle.session_recording.specs.declared.error.RecordError.{RecordError}
-use Rattle.session_recording.specs.declared.error.RecordError.TheVariants as refusal
 use Rattle.session_replay.specs.declared.verdict.Verdict.{Verdict}
 use Rattle.session_replay.specs.declared.verdict.Verdict.TheVariants as verdict
 use Rattle.pg_replay.specs.declared.outcome.Outcome.{Outcome}
 use Rattle.pg_replay.specs.declared.outcome.Outcome.TheVariants.{Usage, File, Done, Differs, ReadFault, WriteFault, TurnLimit, NoMemory, TooLong, BadRecording}
-use Rattle.pg_replay.specs.Program.{Surroundings, HasWritten, IsRecordOutcome, HasRecorded, HasRecordedFile, HasToldVerdict, HasJudged, HasVerified, HasVerifiedFile}
+use Rattle.pg_replay.specs.Program.{Surroundings, HasWritten, HasJudged, HasVerified, HasVerifiedFile}
 use Rattle.pg_replay.specs.Statuses.{verdict_line, verdict_outcome}
 
 -- where nothing is written, a front is
@@ -36,17 +31,6 @@ module _ (e : FileError) (old new : Option (List ℕ)) (faults new_faults : ℕ)
   differs_is_no_refusal text (inl (inr h)) = let f = h.0 in cc
   differs_is_no_refusal text (inr h) = let f = h.0 in cc
 
-  recorded_is_no_refusal : (answer : Result EndKind ServeError) (recorded : Result Recording RecordError)
-      → IsRecordOutcome answer recorded (File e) old new faults new_faults → ⊥
-  recorded_is_no_refusal (Err fault.ReadFault) recorded h = let f = h.0 in cc
-  recorded_is_no_refusal (Err fault.TurnLimit) recorded h = let f = h.0 in cc
-  recorded_is_no_refusal (Err fault.NoMemory) recorded h = let f = h.0 in cc
-  recorded_is_no_refusal (Err fault.WriteFault) recorded h = h
-  recorded_is_no_refusal (Ok kind) (Err (refusal.TooLong n)) h = let f = h.0 in cc
-  recorded_is_no_refusal (Ok kind) (Err refusal.Unended) h = h
-  recorded_is_no_refusal (Ok kind) (Err refusal.NoMemory) h = let f = h.0 in cc
-  recorded_is_no_refusal (Ok kind) (Ok r) h = done_is_no_refusal _ h
-
   verdict_is_no_refusal : (v : Verdict) → HasWritten (verdict_outcome v) (verdict_line v) (File e) old new faults new_faults → ⊥
   verdict_is_no_refusal verdict.Same h = done_is_no_refusal _ h
   verdict_is_no_refusal (verdict.Calls place) h = differs_is_no_refusal _ h
@@ -59,30 +43,6 @@ module _ (e : FileError) (old new : Option (List ℕ)) (faults new_faults : ℕ)
   judged_is_no_refusal relations (Err refused) (inr f, h) = cc
   judged_is_no_refusal relations (Ok r) (inl h) = let f = h.0 in cc
   judged_is_no_refusal relations (Ok r) (inr h) = verdict_is_no_refusal h.0 h.2
-
-  record_is_no_refusal : (pid : ℤ) (key : List ℕ) (relations : List Relation) (left new_left : Option (List ℕ)) (before after : Counts)
-      → before.write_faults ≡ faults → after.write_faults ≡ new_faults
-      → HasRecorded pid key relations (File e) left new_left old new before after → ⊥
-  record_is_no_refusal pid key relations left new_left before after p q (inl h) = let f = h.0 in cc
-  record_is_no_refusal pid key relations left new_left before after p q (inr h) =
-      recorded_is_no_refusal h.0 h.1 (rw (sym p, sym q) h.3)
-
--- what comes of `record` where the file was read
-pub of_recorded : (pid : ℤ) (key : List ℕ) (outcome : Outcome) (relations : List Relation) (old new : Surroundings)
-    → IsToldBy old.file new.file relations
-    → HasRecorded pid key relations outcome old.client new.client old.out new.out old.counts new.counts → HasRecordedFile pid key outcome old new
-of_recorded pid key (File e) relations old new told h =
-    absurd (record_is_no_refusal e old.out new.out old.counts.write_faults new.counts.write_faults pid key relations old.client new.client
-    old.counts new.counts refl refl h)
-of_recorded pid key Usage relations old new told h = (relations, told, h)
-of_recorded pid key Done relations old new told h = (relations, told, h)
-of_recorded pid key Differs relations old new told h = (relations, told, h)
-of_recorded pid key ReadFault relations old new told h = (relations, told, h)
-of_recorded pid key WriteFault relations old new told h = (relations, told, h)
-of_recorded pid key TurnLimit relations old new told h = (relations, told, h)
-of_recorded pid key NoMemory relations old new told h = (relations, told, h)
-of_recorded pid key TooLong relations old new told h = (relations, told, h)
-of_recorded pid key BadRecording relations old new told h = (relations, told, h)
 
 -- what comes of `verify` where the file was read
 verified_is_no_refusal : (e : FileError) (relations : List Relation) (left new_left old new : Option (List ℕ)) (before after : Counts)

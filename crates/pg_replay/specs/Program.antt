@@ -1,5 +1,5 @@
 -- What the program owes: what comes of its words.
-use Rattle.std.specs.Prelude.{ℕ, ℤ, false, List, [], ◌≡◌, ◌≤◌, ◌<◌, ◌⊎◌, ◌↔◌, Option, Some, None, Result, Ok, Err, length, IsErr}
+use Rattle.std.specs.Prelude.{ℕ, ℤ, false, List, [], ◌≡◌, ◌≤◌, ◌<◌, ◌⊎◌, ◌↔◌, Option, Some, None, Result, Ok, Err, length}
 use Rattle.std.specs.List.{AllByRecursion}
 use Rattle.pg_handlers.specs.declared.desk.DeskCall.{DeskCall}
 use Rattle.pg_handlers.specs.declared.ends.EndKind.{EndKind}
@@ -20,12 +20,12 @@ use Rattle.relation_tables.specs.declared.Relation.{Relation}
 use Rattle.replay_streams.specs.RecordedRuns.{IsRecordedRun}
 use Rattle.session_recording.specs.declared.error.RecordError.{RecordError}
 use Rattle.session_recording.specs.declared.error.RecordError.TheVariants as refusal
-use Rattle.session_recording.specs.Recorded.{IsRecorded, IsFaithful, Passage}
+use Rattle.session_recording.specs.Recorded.{IsRecorded, IsFaithful}
 use Rattle.session_replay.specs.declared.verdict.Verdict.{Verdict}
 use Rattle.session_replay.specs.declared.verdict.Verdict.TheVariants as verdict
 use Rattle.session_replay.specs.Verdicts.{IsReplay, IsVerdict, IsVerdictOn}
 use Rattle.pg_replay.specs.declared.outcome.Outcome.{Outcome}
-use Rattle.pg_replay.specs.declared.outcome.Outcome.TheVariants.{Usage, File, Done, Differs, ReadFault, WriteFault, TurnLimit, NoMemory, TooLong, BadRecording}
+use Rattle.pg_replay.specs.declared.outcome.Outcome.TheVariants.{Usage, File, Done, ReadFault, WriteFault, TurnLimit, NoMemory, TooLong, BadRecording}
 use Rattle.pg_replay.specs.Statuses.{verdict_line, verdict_outcome}
 use Rattle.pg_replay.specs.Words.{Ordered, Recording as record_under, Verifying}
 

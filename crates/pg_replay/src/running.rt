@@ -176,6 +176,8 @@ fn record_client<S: Source, K: Sink>(
     );
     // The desk's own fact, that it answered by its list, is what the contract needs of it.
     let _calls = desk.calls();
+    // The replies stand in the recording too, and its text is about to be made.
+    drop(sink);
     write_recorded(alloc, answer, recorded, out)
 }
 
@@ -255,7 +257,11 @@ fn verify_input<S: Source, K: Sink>(
         Err(outcome) => return outcome,
     };
     match read_recording(alloc, text.as_slice()) {
-        Ok(recording) => verify_recording(alloc, relations, &recording, out),
+        Ok(recording) => {
+            // The text is given back before the replies of the replay are held beside the recorded ones.
+            drop(text);
+            verify_recording(alloc, relations, &recording, out)
+        }
         Err(ReadError::NoMemory) => Outcome::NoMemory,
         Err(_) => Outcome::BadRecording,
     }

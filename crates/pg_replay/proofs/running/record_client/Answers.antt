@@ -1,4 +1,4 @@
-use Rattle.std.proofs.Common.{◌≡◌, ◌++◌, ◌∙◌, ℤ, List, ℕ, FitsSigned, w32, rules, inr, ap, sym}
+use Rattle.std.proofs.Common.{◌≡◌, ◌++◌, ◌∙◌, FitsSigned, w32, rules, inr, ap, sym}
 use Rattle.std.proofs.lemmas.Int.{to_z-of_z}
 use Rattle.pg_handlers.specs.Script.{origin_of}
 use Rattle.pg_serve.specs.Serving.{counts_of}
