@@ -1,12 +1,13 @@
 //! A desk that is recorded.
 
-ghost use Rattle.std.specs.Prelude.{◌-◌, ◌∷◌, length};
+ghost use Rattle.std.specs.Prelude.{◌≡◌, ◌-◌, [], ◌∷◌, length};
+ghost use Rattle.std.proofs.Props.{props};
 ghost use Rattle.recorders.specs.Kept.{IsEndOf};
 
 use crate::keeping::keep_call;
 use pg_handlers::{CancelDesk, DeskCall};
 use pg_messages::SecretKey;
-use std::alloc::AllocError;
+use std::alloc::{AllocError, Global};
 
 /// A desk whose calls are kept, with their answers. It makes room for a call before it makes it, and
 /// is seen as the desk that it was made over.
@@ -15,7 +16,21 @@ pub struct RecordingDesk<'a, D: CancelDesk> {
     pub desk: &'a mut D,
     /// Its calls so far, with their answers.
     pub kept: Vec<DeskCall>,
-    pub ghost recorded: { ∥ IsEndOf (D.told desk.now).calls kept.items ∥₁ },
+    pub ghost recorded: { IsEndOf (D.told desk.now).calls kept.items } by { Prim.hlevel props },
+}
+
+impl<'a, D: CancelDesk> RecordingDesk<'a, D> {
+    /// Records a desk. It takes no memory.
+    pub fn new(alloc: Global, desk: &'a mut D) -> RecordingDesk<'a, D>
+        ensures same_reference { result.desk.ghost_name ≡ desk.entry.ghost_name }
+        ensures desk { result.desk.now ≡ desk.old }
+        ensures kept { result.kept.items ≡ [] }
+    {
+        RecordingDesk {
+            desk,
+            kept: Vec::new(alloc),
+        }
+    }
 }
 
 impl<'a, D: CancelDesk> CancelDesk for RecordingDesk<'a, D> {

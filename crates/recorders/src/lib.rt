@@ -8,5 +8,6 @@ mod sink;
 mod source;
 
 pub use desk::RecordingDesk;
+pub use keeping::FirstBytes;
 pub use sink::RecordingSink;
 pub use source::RecordingSource;

@@ -1,10 +1,10 @@
 //! A sink that is recorded.
 
-ghost use Rattle.std.specs.Prelude.{◌≤◌, ◌∷◌, ◌++◌, length, vec_capacity, IfSome};
+ghost use Rattle.std.specs.Prelude.{◌≡◌, [], ◌∷◌, ◌++◌, length, IfSome};
 ghost use Rattle.std.proofs.Props.{props};
 ghost use Rattle.recorders.specs.Kept.{IsSentTo, told_numbers};
 
-use crate::keeping::{counted, keep};
+use crate::keeping::FirstBytes;
 use pg_session::{Sink, SinkError};
 use std::snapshot::Snapshot;
 
@@ -18,19 +18,35 @@ pub struct RecordingSink<'a, K: Sink> {
     pub before: Snapshot<K>,
     /// The sink behind the last send that was answered with Ok, up to the first that was refused.
     pub until: Snapshot<K>,
-    /// How many bytes there is room for.
-    pub room: usize,
-    /// The first bytes.
-    pub kept: Vec<u8>,
-    /// The number of all bytes. It stands still at the greatest `u64`.
-    pub count: u64,
+    /// What it has taken since, up to there.
+    pub kept: FirstBytes,
     /// Whether a send was refused.
     pub has_refused: bool,
-    pub ghost roomy: { room ≤ vec_capacity kept },
-    pub ghost within: { length kept.items ≤ room },
     pub ghost recorded: { IfSome (K.written before.value) (λ first. IsSentTo first
-        (K.written until.value) (K.written sink.now) room kept.items count has_refused) }
-        by { Prim.hlevel props },
+        (K.written until.value) (K.written sink.now) kept.room kept.bytes.items kept.count
+        has_refused) } by { Prim.hlevel props },
+}
+
+impl<'a, K: Sink> RecordingSink<'a, K> {
+    /// Records a sink in the room that there is, of which nothing is used yet.
+    pub fn new(sink: &'a mut K, room: FirstBytes) -> RecordingSink<'a, K>
+        requires bytes { room.bytes.items ≡ [] }
+        requires count { room.count ≡ 0 }
+        ensures same_reference { result.sink.ghost_name ≡ sink.entry.ghost_name }
+        ensures sink { result.sink.now ≡ sink.old }
+        ensures before { result.before.value ≡ sink.old }
+        ensures room { result.kept.room ≡ room.room }
+    {
+        let before = Snapshot::of(sink);
+        let until = Snapshot::of(sink);
+        RecordingSink {
+            sink,
+            before,
+            until,
+            kept: room,
+            has_refused: false,
+        }
+    }
 }
 
 impl<'a, K: Sink> Sink for RecordingSink<'a, K> {
@@ -39,15 +55,14 @@ impl<'a, K: Sink> Sink for RecordingSink<'a, K> {
     ghost faults = { λ r. K.faults r.sink.now };
 
     // the sink itself, its room, and what was written before
-    ghost origin = { λ r. r.sink.ghost_name ∷ r.room ∷ length (K.origin r.sink.now)
+    ghost origin = { λ r. r.sink.ghost_name ∷ r.kept.room ∷ length (K.origin r.sink.now)
         ∷ K.origin r.sink.now ++ told_numbers (K.written r.before.value) };
 
     fn send(&mut self, bytes: &[u8]) -> Result<(), SinkError> {
         match self.sink.send(bytes) {
             Ok(()) => {
                 if !self.has_refused {
-                    self.count = counted(self.count, bytes.len());
-                    keep(&mut self.kept, self.room, bytes);
+                    self.kept.keep(bytes);
                     self.until = Snapshot::of(self.sink);
                 }
                 Ok(())

@@ -1,10 +1,10 @@
 //! A source that is recorded.
 
-ghost use Rattle.std.specs.Prelude.{◌≤◌, ◌∷◌, ◌++◌, length, vec_capacity, IfSome};
+ghost use Rattle.std.specs.Prelude.{◌≡◌, [], ◌∷◌, ◌++◌, length, IfSome};
 ghost use Rattle.std.proofs.Props.{props};
 ghost use Rattle.recorders.specs.Kept.{IsTakenOf, told_numbers};
 
-use crate::keeping::{counted, keep};
+use crate::keeping::FirstBytes;
 use pg_session::{Source, SourceFailed};
 use std::snapshot::Snapshot;
 
@@ -15,17 +15,29 @@ pub struct RecordingSource<'a, S: Source> {
     pub source: &'a mut S,
     /// The source as it was before.
     pub before: Snapshot<S>,
-    /// How many bytes there is room for.
-    pub room: usize,
-    /// The first bytes.
-    pub kept: Vec<u8>,
-    /// The number of all bytes. It stands still at the greatest `u64`.
-    pub count: u64,
-    pub ghost roomy: { room ≤ vec_capacity kept },
-    pub ghost within: { length kept.items ≤ room },
-    pub ghost recorded: { IfSome (S.left before.value)
-        (λ text. IsTakenOf text (S.left source.now) room kept.items count) }
-        by { Prim.hlevel props },
+    /// What it has given since.
+    pub kept: FirstBytes,
+    pub ghost recorded: { IfSome (S.left before.value) (λ text. IsTakenOf text (S.left source.now)
+        kept.room kept.bytes.items kept.count) } by { Prim.hlevel props },
+}
+
+impl<'a, S: Source> RecordingSource<'a, S> {
+    /// Records a source in the room that there is, of which nothing is used yet.
+    pub fn new(source: &'a mut S, room: FirstBytes) -> RecordingSource<'a, S>
+        requires bytes { room.bytes.items ≡ [] }
+        requires count { room.count ≡ 0 }
+        ensures same_reference { result.source.ghost_name ≡ source.entry.ghost_name }
+        ensures source { result.source.now ≡ source.old }
+        ensures before { result.before.value ≡ source.old }
+        ensures room { result.kept.room ≡ room.room }
+    {
+        let before = Snapshot::of(source);
+        RecordingSource {
+            source,
+            before,
+            kept: room,
+        }
+    }
 }
 
 impl<'a, S: Source> Source for RecordingSource<'a, S> {
@@ -36,13 +48,12 @@ impl<'a, S: Source> Source for RecordingSource<'a, S> {
     ghost faults = { λ r. S.faults r.source.now };
 
     // the source itself, its room, and what it had to give before
-    ghost origin = { λ r. r.source.ghost_name ∷ r.room ∷ length (S.origin r.source.now)
+    ghost origin = { λ r. r.source.ghost_name ∷ r.kept.room ∷ length (S.origin r.source.now)
         ∷ S.origin r.source.now ++ told_numbers (S.left r.before.value) };
 
     fn receive(&mut self, into: &mut [u8]) -> Result<usize, SourceFailed> {
         let n = self.source.receive(into)?;
-        self.count = counted(self.count, n);
-        keep(&mut self.kept, self.room, &into[..n]);
+        self.kept.keep(&into[..n]);
         Ok(n)
     }
 }

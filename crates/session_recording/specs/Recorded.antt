@@ -34,8 +34,8 @@ IsSent answer old new sent = GrowsBy old new sent
 
 -- These bytes the session took from the source, and these it sent.
 pub record HasPassed (answer : Result EndKind ServeError) (p : Passage) (taken sent : List ℕ) : Type 0 where
-  pub taken : TakesFrom p.left p.new_left taken
-  pub sent : IsSent answer p.written p.new_written sent
+  pub from_source : TakesFrom p.left p.new_left taken
+  pub to_sink : IsSent answer p.written p.new_written sent
 
 -- how many bytes there have to be room for
 abbrev pub needed : List ℕ → List ℕ → ℕ
@@ -43,13 +43,13 @@ needed taken sent = counted (max (length taken) (length sent))
 
 -- The recording tells a session that came to this end: the registration that the desk had, the bytes that the source gave, the registry
 -- calls with their answers, and the bytes that the sink took.
-pub record IsRecordingOf (registration : ℤ × List ℕ) (kind : EndKind) (p : Passage) (calls : List DeskCall) (r : Recording) : Type 0 where
+pub record IsRecordingOf (registration : ℤ × List ℕ) (came_to : EndKind) (p : Passage) (made : List DeskCall) (r : Recording) : Type 0 where
   pub pid : r.pid ≡ registration.0
   pub key : r.key ≡ registration.1
   pub client : TakesFrom p.left p.new_left r.client
-  pub calls : r.calls ≡ calls
+  pub calls : r.calls ≡ made
   pub replies : GrowsBy p.written p.new_written r.replies
-  pub kind : r.end ≡ kind
+  pub kind : r.end ≡ came_to
 
 -- What comes of recording a session that was answered so, with so much room: where it came to its end and there was room, the recording of
 -- it; TooLong with the greater of the numbers of bytes, where that passes the room; Unended, where that doesn't and the session was given up.

@@ -1,6 +1,6 @@
 //! A session over relations is served and recorded.
 
-ghost use Rattle.std.specs.Prelude.{◌≡◌, ◌++◌, ◌≤◌, ◌<◌, ◌^◌, List, [], IfOk, OnOk, length, vec_capacity};
+ghost use Rattle.std.specs.Prelude.{◌≡◌, ◌++◌, ◌≤◌, ◌<◌, ◌^◌, ◌↔◌, ℕ, Option, List, [], IfOk, OnOk, IfErr, IfSome, IsTrue, length, vec_capacity};
 ghost use Rattle.pg_handlers.specs.Desk.{GoesOn};
 ghost use Rattle.pg_handlers.specs.Questions.{questions_since};
 ghost use Rattle.pg_handlers.specs.State.{first_state};
@@ -10,19 +10,19 @@ ghost use Rattle.pg_session.specs.Session.{whole_rules};
 ghost use Rattle.relation_serving.specs.Completeness.{IsComplete};
 ghost use Rattle.relation_serving.specs.Serving.{WentByTables};
 ghost use Rattle.relation_tables.specs.RelationHandler.{relation_handlers};
-ghost use Rattle.recorders.specs.Kept.{IsTakenSince, IsSentSince};
+ghost use Rattle.recorders.specs.Kept.{IsTakenOf, IsSentTo};
+ghost use Rattle.session_recording.specs.Making.{IsMadeOf, IsRefusedOf, IsUnused, MayMeetRefusal};
 ghost use Rattle.session_recording.specs.Recorded.{IsRecorded, IsFaithful, passage};
 
 use crate::error::RecordError;
 use pg_handlers::{CancelDesk, DeskCall, EndKind};
 use pg_messages::{PgBytes, PgList, SecretKey};
 use pg_session::{ServeError, Sink, Source};
-use recorders::{RecordingDesk, RecordingSink, RecordingSource};
+use recorders::{FirstBytes, RecordingDesk, RecordingSink, RecordingSource};
 use recording_text::Recording;
 use relation_handlers::RelationTable;
 use relation_serving::serve_relations_on;
 use std::alloc::{AllocError, Global};
-use std::snapshot::Snapshot;
 
 /// Serves a client over relations, as [`serve_relations_on`] does, and records the session. The
 /// first answer is that of serving; the second the recording, whose `pid` and `key` are those that
@@ -80,6 +80,7 @@ pub fn record_session<D: CancelDesk, S: Source, K: Sink>(
     ensures source { S.origin source.new ≡ S.origin source.old }
     ensures sink { K.origin sink.new ≡ K.origin sink.old }
 {
+    let _valid = relations.relations();
     let Ok(space) = reserve(alloc, room, desk) else {
         return (Err(ServeError::NoMemory), Err(RecordError::NoMemory));
     };
@@ -90,7 +91,7 @@ pub fn record_session<D: CancelDesk, S: Source, K: Sink>(
         replies,
     } = space;
     let (answer, kept) = serve_recorded(
-        alloc, relations, desk, source, sink, turn_limit, room, client, replies,
+        alloc, relations, desk, source, sink, turn_limit, client, replies,
     );
     (answer, recording_of(answer, room, pid, key, kept))
 }
@@ -100,36 +101,32 @@ pub fn record_session<D: CancelDesk, S: Source, K: Sink>(
 struct Space {
     pid: i32,
     key: SecretKey,
-    client: Vec<u8>,
-    replies: Vec<u8>,
+    client: FirstBytes,
+    replies: FirstBytes,
 }
 
 /// Makes room, and copies the registration.
 fn reserve<D: CancelDesk>(alloc: Global, room: usize, desk: &D) -> Result<Space, AllocError>
     ensures pid { IfOk result (λ space. space.pid ≡ (D.told desk.now).registration.0) }
     ensures key { IfOk result (λ space. space.key ≡ (D.told desk.now).registration.1) }
-    ensures client { IfOk result (λ space. space.client.items ≡ []) }
-    ensures replies { IfOk result (λ space. space.replies.items ≡ []) }
-    ensures client_room { IfOk result (λ space. room ≤ vec_capacity space.client) }
-    ensures replies_room { IfOk result (λ space. room ≤ vec_capacity space.replies) }
+    ensures client { IfOk result (λ space. IsUnused space.client room) }
+    ensures replies { IfOk result (λ space. IsUnused space.replies room) }
     ensures small { OnOk result (room < 2 ^ 63) }
 {
     let (pid, key) = desk.identity();
     Ok(Space {
         pid,
         key: key.copy_of()?,
-        client: Vec::with_capacity(alloc, room)?,
-        replies: Vec::with_capacity(alloc, room)?,
+        client: FirstBytes::with_room(alloc, room)?,
+        replies: FirstBytes::with_room(alloc, room)?,
     })
 }
 
 /// What was kept of a session.
 #[derive(Drop)]
 struct Kept {
-    client: Vec<u8>,
-    taken: u64,
-    replies: Vec<u8>,
-    sent: u64,
+    client: FirstBytes,
+    replies: FirstBytes,
     has_refused: bool,
     calls: Vec<DeskCall>,
 }
@@ -142,18 +139,18 @@ fn serve_recorded<D: CancelDesk, S: Source, K: Sink>(
     source: &mut S,
     sink: &mut K,
     turn_limit: u64,
-    room: usize,
-    client: Vec<u8>,
-    replies: Vec<u8>,
+    client: FirstBytes,
+    replies: FirstBytes,
 ) -> (Result<EndKind, ServeError>, Kept)
-    requires client { client.items ≡ [] }
-    requires client_room { room ≤ vec_capacity client }
-    requires replies { replies.items ≡ [] }
-    requires replies_room { room ≤ vec_capacity replies }
-    ensures client { IsTakenSince (S.left source.old) (S.left source.new) room result.1.client.items
-        result.1.taken }
-    ensures replies { IsSentSince (K.written sink.old) (K.written sink.new) room
-        result.1.replies.items result.1.sent result.1.has_refused }
+    requires client { IsUnused client client.room }
+    requires replies { IsUnused replies replies.room }
+    ensures client { IfSome (S.left source.old) (λ text. IsTakenOf text (S.left source.new)
+        client.room result.1.client.bytes.items result.1.client.count) }
+    ensures replies { IfSome (K.written sink.old) (λ first. (until : Option (List ℕ))
+        × IsSentTo first until (K.written sink.new) replies.room
+        result.1.replies.bytes.items result.1.replies.count result.1.has_refused) }
+    ensures client_room { result.1.client.room ≡ client.room }
+    ensures replies_room { result.1.replies.room ≡ replies.room }
     ensures calls { (D.told desk.new).calls ≡ (D.told desk.old).calls ++ result.1.calls.items }
     ensures went { WentByTables relations.now (D.told desk.old).registration result.0
         (S.left source.old) (S.left source.new)
@@ -182,27 +179,9 @@ fn serve_recorded<D: CancelDesk, S: Source, K: Sink>(
     ensures source { S.origin source.new ≡ S.origin source.old }
     ensures sink { K.origin sink.new ≡ K.origin sink.old }
 {
-    let mut desk = RecordingDesk {
-        desk,
-        kept: Vec::new(alloc),
-    };
-    let before = Snapshot::of(source);
-    let mut source = RecordingSource {
-        source,
-        before,
-        room,
-        kept: client,
-        count: 0,
-    };
-    let before = Snapshot::of(sink);
-    let mut sink = RecordingSink {
-        sink,
-        before,
-        room,
-        kept: replies,
-        count: 0,
-        has_refused: false,
-    };
+    let mut desk = RecordingDesk::new(alloc, desk);
+    let mut source = RecordingSource::new(source, client);
+    let mut sink = RecordingSink::new(sink, replies);
     let answer = serve_relations_on(
         alloc,
         &mut desk,
@@ -211,35 +190,35 @@ fn serve_recorded<D: CancelDesk, S: Source, K: Sink>(
         &mut sink,
         turn_limit,
     );
-    let RecordingDesk {
-        desk: _desk,
-        kept: calls,
-    } = desk;
+    let RecordingDesk { desk, kept: calls } = desk;
+    give_back(desk);
     let RecordingSource {
-        source: _source,
+        source,
         before: _,
-        room: _,
         kept: client,
-        count: taken,
     } = source;
+    give_back(source);
     let RecordingSink {
-        sink: _sink,
+        sink,
         before: _,
-        room: _,
+        until: _,
         kept: replies,
-        count: sent,
         has_refused,
     } = sink;
+    give_back(sink);
     let kept = Kept {
         client,
-        taken,
         replies,
-        sent,
         has_refused,
         calls,
     };
     (answer, kept)
 }
+
+/// Gives back what was lent: from here on it is its owner's again, and stands as it was left.
+fn give_back<T>(_lent: &mut T)
+    ensures { _lent.new ≡ _lent.old }
+{}
 
 /// The recording of a session that was answered so, or why there is none.
 fn recording_of(
@@ -248,12 +227,15 @@ fn recording_of(
     pid: i32,
     key: SecretKey,
     kept: Kept,
-) -> Result<Recording, RecordError> {
+) -> Result<Recording, RecordError>
+    ensures made { IfOk result (IsMadeOf answer room pid key kept) }
+    ensures refused { IfErr result (IsRefusedOf answer room kept) }
+{
     if kept.has_refused && !may_be_refused(answer) {
         // A send found no memory, and the session went on; nothing tells what the sink has taken.
         return Err(RecordError::NoMemory);
     }
-    let needed = kept.taken.max(kept.sent);
+    let needed = kept.client.count.max(kept.replies.count);
     if needed > room as u64 {
         return Err(RecordError::TooLong(needed));
     }
@@ -262,16 +244,18 @@ fn recording_of(
         Ok(end) => Ok(Recording {
             pid,
             key,
-            client: PgBytes::from_vec(kept.client),
+            client: PgBytes::from_vec(kept.client.bytes),
             calls: PgList::from_vec(kept.calls),
-            replies: PgBytes::from_vec(kept.replies),
+            replies: PgBytes::from_vec(kept.replies.bytes),
             end,
         }),
     }
 }
 
 /// Whether a session that is answered so may have met a send that was refused.
-fn may_be_refused(answer: Result<EndKind, ServeError>) -> bool {
+fn may_be_refused(answer: Result<EndKind, ServeError>) -> bool
+    ensures { IsTrue result ↔ MayMeetRefusal answer }
+{
     match answer {
         Err(ServeError::WriteFault) | Err(ServeError::NoMemory) => true,
         Ok(_) | Err(ServeError::ReadFault) | Err(ServeError::TurnLimit) => false,

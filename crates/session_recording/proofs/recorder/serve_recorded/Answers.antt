@@ -1,0 +1,115 @@
+use Rattle.std.proofs.Common.{◌≡◌, ◌∙◌, IfOk, ap, subst, sym}
+use Rattle.pg_handlers.specs.Desk.{DeskTold}
+use Rattle.pg_handlers.specs.State.{first_state}
+use Rattle.pg_serve.specs.Serving.{EndsAtLast, IsRunOverTaken}
+use Rattle.pg_session.specs.Session.{whole_rules}
+use Rattle.relation_serving.specs.Serving.{WentByTables}
+use Rattle.relation_tables.specs.RelationHandler.{relation_handlers}
+use Rattle.recorders.proofs.Origins.{IsSameRecorder, known_again, made_are_kept, same_head}
+use Rattle.session_recording.proofs.Recordings.{of_same, sent_again, taken_again}
+use Rattle.session_recording.proofs.recorder.serve_recorded.Given.{Over}
+use Rattle.session_recording.proofs.recorder.serve_recorded.Goals as goal
+
+-- the source's recorder is known again
+source_known : (g : Over) (c : goal.After-sink-2-1 g) → let new = c.serve_relations_on-answer.new.source in
+    let old = c.new-source.result in
+    IsSameRecorder old.source.ghost_name new.source.ghost_name old.kept.room new.kept.room (g.S.Source.origin old.source.now)
+    (g.S.Source.origin new.source.now) (g.S.Source.left old.before.value) (g.S.Source.left new.before.value)
+source_known g c =
+    let new = c.serve_relations_on-answer.new.source in
+    let old = c.new-source.result in
+    known_again old.source.ghost_name new.source.ghost_name old.kept.room new.kept.room (g.S.Source.origin old.source.now)
+    (g.S.Source.origin new.source.now) (g.S.Source.left old.before.value) (g.S.Source.left new.before.value)
+    c.serve_relations_on-answer.ensures.source
+
+-- and so is the sink's
+sink_known : (g : Over) (c : goal.After-sink-2-1 g) → let new = c.serve_relations_on-answer.new.sink in
+    let old = c.new-sink.result in
+    IsSameRecorder old.sink.ghost_name new.sink.ghost_name old.kept.room new.kept.room (g.K.Sink.origin old.sink.now)
+    (g.K.Sink.origin new.sink.now) (g.K.Sink.written old.before.value) (g.K.Sink.written new.before.value)
+sink_known g c =
+    let new = c.serve_relations_on-answer.new.sink in
+    let old = c.new-sink.result in
+    known_again old.sink.ghost_name new.sink.ghost_name old.kept.room new.kept.room (g.K.Sink.origin old.sink.now)
+    (g.K.Sink.origin new.sink.now) (g.K.Sink.written old.before.value) (g.K.Sink.written new.before.value)
+    c.serve_relations_on-answer.ensures.sink
+
+-- so each was left as its recorder has it
+source_left : (g : Over) (c : goal.After-sink-2-1 g) → c.source-2-1.given.0 ≡ c.serve_relations_on-answer.new.source.source.now
+source_left g c =
+    c.source-2-1.given.1 (sym ((source_known g c).same_name ∙ c.new-source.ensures.same_reference)) ∙ c.give_back-2.ensures
+
+sink_left : (g : Over) (c : goal.After-sink-2-1 g) → c.sink-2-1.given.0 ≡ c.serve_relations_on-answer.new.sink.sink.now
+sink_left g c = c.sink-2-1.given.1 (sym ((sink_known g c).same_name ∙ c.new-sink.ensures.same_reference)) ∙ c.give_back-3.ensures
+
+desk_left : (g : Over) (c : goal.After-sink-2-1 g) → c.desk-2-1.given.0 ≡ c.serve_relations_on-answer.new.desk.desk.now
+desk_left g c =
+    let origins = ap (λ (d : DeskTold). d.origin) c.serve_relations_on-answer.ensures.registration.grown in
+    c.desk-2-1.given.1 (sym c.new-desk.ensures.same_reference ∙ same_head _ _ _ _ origins) ∙ c.give_back.ensures
+
+pub returns-clause-client : goal.returns-clause-client
+returns-clause-client g c =
+    let new = c.serve_relations_on-answer.new.source in
+    let k = source_known g c in
+    taken_again (g.S.Source.left c.args.source.now) (g.S.Source.left new.before.value) (g.S.Source.left new.source.now)
+    (g.S.Source.left c.source-2-1.given.0) c.args.client.room new.kept.room new.kept.bytes.items new.kept.count
+    (k.same_told ∙ ap g.S.Source.left c.new-source.ensures.before) (k.same_room ∙ c.new-source.ensures.room)
+    (ap g.S.Source.left (source_left g c)) new.recorded
+
+pub returns-clause-replies : goal.returns-clause-replies
+returns-clause-replies g c =
+    let new = c.serve_relations_on-answer.new.sink in
+    let k = sink_known g c in
+    sent_again (g.K.Sink.written c.args.sink.now) (g.K.Sink.written new.before.value) (g.K.Sink.written new.until.value)
+    (g.K.Sink.written new.sink.now) (g.K.Sink.written c.sink-2-1.given.0) c.args.replies.room new.kept.room new.kept.bytes.items
+    new.kept.count new.has_refused (k.same_told ∙ ap g.K.Sink.written c.new-sink.ensures.before)
+    (k.same_room ∙ c.new-sink.ensures.room) (ap g.K.Sink.written (sink_left g c)) new.recorded
+
+pub returns-clause-went : goal.returns-clause-went
+returns-clause-went g c =
+    let new = c.serve_relations_on-answer.new.desk in
+    let old = c.new-desk.result in
+    let went = c.serve_relations_on-answer.ensures.went in
+    let origins = ap (λ (d : DeskTold). d.origin) c.serve_relations_on-answer.ensures.registration.grown in
+    let kept = made_are_kept _ _ _ _ (g.D.CancelDesk.told old.desk.now).calls (g.D.CancelDesk.told new.desk.now).calls went.0
+    old.kept.items new.kept.items origins c.new-desk.ensures.kept went.1 new.recorded in
+    of_same (λ d e s t k l. WentByTables c.args.relations.now (g.D.CancelDesk.told d).registration c.serve_relations_on-answer.result
+    (g.S.Source.left s) (g.S.Source.left t) (g.K.Sink.written k) (g.K.Sink.written l) new.kept.items) old.desk.now c.args.desk.now
+    new.desk.now c.desk-2-1.given.0 c.new-source.result.source.now c.args.source.now c.serve_relations_on-answer.new.source.source.now
+    c.source-2-1.given.0 c.new-sink.result.sink.now c.args.sink.now c.serve_relations_on-answer.new.sink.sink.now c.sink-2-1.given.0
+    c.new-desk.ensures.desk (sym (desk_left g c)) c.new-source.ensures.source (sym (source_left g c)) c.new-sink.ensures.sink
+    (sym (sink_left g c))
+    (subst (λ calls. WentByTables c.args.relations.now (g.D.CancelDesk.told old.desk.now).registration
+    c.serve_relations_on-answer.result (g.S.Source.left c.new-source.result.source.now)
+    (g.S.Source.left c.serve_relations_on-answer.new.source.source.now) (g.K.Sink.written c.new-sink.result.sink.now)
+    (g.K.Sink.written c.serve_relations_on-answer.new.sink.sink.now) calls) kept went.2)
+
+pub returns-clause-last : goal.returns-clause-last
+returns-clause-last g c =
+    of_same (λ d e s t k l. IfOk c.serve_relations_on-answer.result
+    (EndsAtLast (whole_rules (relation_handlers c.args.relations.now))
+    (first_state (g.D.CancelDesk.told d).registration.0 (g.D.CancelDesk.told d).registration.1) (g.S.Source.left s)
+    (g.S.Source.left t))) c.new-desk.result.desk.now c.args.desk.now c.serve_relations_on-answer.new.desk.desk.now
+    c.desk-2-1.given.0 c.new-source.result.source.now c.args.source.now c.serve_relations_on-answer.new.source.source.now
+    c.source-2-1.given.0 c.new-sink.result.sink.now c.args.sink.now c.serve_relations_on-answer.new.sink.sink.now c.sink-2-1.given.0
+    c.new-desk.ensures.desk (sym (desk_left g c)) c.new-source.ensures.source (sym (source_left g c)) c.new-sink.ensures.sink
+    (sym (sink_left g c)) c.serve_relations_on-answer.ensures.last
+
+pub returns-clause-taken : goal.returns-clause-taken
+returns-clause-taken g c =
+    of_same (λ d e s t k l. IfOk c.serve_relations_on-answer.result
+    (IsRunOverTaken (whole_rules (relation_handlers c.args.relations.now))
+    (first_state (g.D.CancelDesk.told d).registration.0 (g.D.CancelDesk.told d).registration.1) (g.S.Source.left s) (g.S.Source.left t)
+    (g.K.Sink.written k) (g.K.Sink.written l) (g.D.CancelDesk.told d).calls (g.D.CancelDesk.told e).calls)) c.new-desk.result.desk.now
+    c.args.desk.now c.serve_relations_on-answer.new.desk.desk.now c.desk-2-1.given.0 c.new-source.result.source.now c.args.source.now
+    c.serve_relations_on-answer.new.source.source.now c.source-2-1.given.0 c.new-sink.result.sink.now c.args.sink.now
+    c.serve_relations_on-answer.new.sink.sink.now c.sink-2-1.given.0 c.new-desk.ensures.desk (sym (desk_left g c))
+    c.new-source.ensures.source (sym (source_left g c)) c.new-sink.ensures.sink (sym (sink_left g c))
+    c.serve_relations_on-answer.ensures.taken
+
+pub returns-clause-source : goal.returns-clause-source
+returns-clause-source g c =
+    ap g.S.Source.origin (source_left g c) ∙ (source_known g c).same_origin ∙ ap g.S.Source.origin c.new-source.ensures.source
+
+pub returns-clause-sink : goal.returns-clause-sink
+returns-clause-sink g c = ap g.K.Sink.origin (sink_left g c) ∙ (sink_known g c).same_origin ∙ ap g.K.Sink.origin c.new-sink.ensures.sink

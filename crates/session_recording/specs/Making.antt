@@ -1,0 +1,45 @@
+-- How a recording is made of what was kept of a session.
+use Rattle.std.specs.Prelude.{ℕ, ℤ, Bool, true, false, List, [], Result, Ok, Err, ◌≡◌, ◌≤◌, ◌<◌, max}
+use Rattle.pg_handlers.specs.declared.ends.EndKind.{EndKind}
+use Rattle.pg_session.specs.declared.ends.ServeError.{ServeError}
+use Rattle.pg_session.specs.declared.ends.ServeError.TheVariants.{WriteFault, NoMemory}
+use Rattle.recording_text.specs.declared.recording.Recording.{Recording}
+use Rattle.recorders.specs.declared.keeping.FirstBytes.{FirstBytes}
+use Rattle.session_recording.specs.declared.error.RecordError.{RecordError}
+use Rattle.session_recording.specs.declared.error.RecordError.TheVariants as refusal
+use Rattle.session_recording.specs.declared.recorder.Kept.{Kept}
+
+-- there is room for so many bytes, and none of them is used
+pub record IsUnused (first : FirstBytes) (room : ℕ) : Type 0 where
+  pub room_for : first.room ≡ room
+  pub bytes : first.bytes.items ≡ []
+  pub count : first.count ≡ 0
+
+-- a session that was answered so may have met a send that was refused
+abbrev pub MayMeetRefusal : Result EndKind ServeError → Type 0
+MayMeetRefusal (Err WriteFault) = Unit {0}
+MayMeetRefusal (Err NoMemory) = Unit {0}
+MayMeetRefusal answer = ⊥
+
+-- The recording is made of what was kept: there was room for all of it, no send was refused, and the session came to its end.
+pub record IsMadeOf (answer : Result EndKind ServeError) (room : ℕ) (own_pid : ℤ) (own_key : List ℕ) (kept : Kept)
+    (r : Recording) : Type 0 where
+  pub answered : answer ≡ Ok r.end
+  pub taken : kept.client.count ≤ room
+  pub sent : kept.replies.count ≤ room
+  pub accepted : kept.has_refused ≡ false
+  pub pid : r.pid ≡ own_pid
+  pub key : r.key ≡ own_key
+  pub client : r.client ≡ kept.client.bytes.items
+  pub calls : r.calls ≡ kept.calls.items
+  pub replies : r.replies ≡ kept.replies.bytes.items
+
+-- Why no recording is made of what was kept: it was too long, or else the session was given up. Where a send was refused and the session
+-- went on, memory ran out.
+abbrev pub IsRefusedOf : Result EndKind ServeError → ℕ → Kept → RecordError → Type 0
+IsRefusedOf answer room kept (refusal.TooLong n) = (n ≡ max kept.client.count kept.replies.count) × (room < n)
+    × (kept.has_refused ≡ true → MayMeetRefusal answer)
+IsRefusedOf (Ok kind) room kept refusal.Unended = ⊥
+IsRefusedOf (Err e) room kept refusal.Unended = (kept.client.count ≤ room) × (kept.replies.count ≤ room)
+    × (kept.has_refused ≡ true → MayMeetRefusal (Err e))
+IsRefusedOf answer room kept refusal.NoMemory = (kept.has_refused ≡ true) × (¬ MayMeetRefusal answer)
