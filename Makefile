@@ -23,13 +23,15 @@ serve:
 
 # Runs psql over the sample relations, and compares what it prints; then cancels queries by the keys of 3.0 and of 3.2; then
 # tries a server with few descriptors and threads, large batches, and Unix sockets that were left over; then tells the rotas
-# of README.md; then runs psql's cursors over `pg_cursor`: by the proved programs where they were built.
+# of README.md; then runs psql's cursors over `pg_cursor`; then records the sample client, verifies it, and sees changes named:
+# by the proved programs where they were built.
 try:
 	@tools/try_psql.sh
 	@tools/try_keys
 	@tools/try_limits
 	@tools/try_rota.sh
 	@tools/try_cursor.sh
+	@tools/try_replay
 
 # Tries each client of docs/CLIENTS.md that is installed, over the proved program where it was built: make clients NAMES=psql for
 # one alone.

@@ -188,4 +188,5 @@ def main():
     row("a bad end with a byte behind it", "read", text(EMPTY)[:-1] + b"\5\0", "bad field 34")
 
 
-main()
+if __name__ == "__main__":
+    main()

@@ -1,5 +1,5 @@
 -- What the program owes: what comes of its words.
-use Rattle.std.specs.Prelude.{ℕ, ℤ, false, List, [], ◌≡◌, ◌≤◌, ◌<◌, ◌⊎◌, ◌↔◌, Option, Some, None, Result, Ok, Err, length, IsErr}
+use Rattle.std.specs.Prelude.{ℕ, ℤ, false, List, [], ◌≡◌, ◌≤◌, ◌<◌, ◌⊎◌, ◌↔◌, Option, Some, None, Result, Ok, Err, length}
 use Rattle.std.specs.List.{AllByRecursion}
 use Rattle.pg_handlers.specs.declared.desk.DeskCall.{DeskCall}
 use Rattle.pg_handlers.specs.declared.ends.EndKind.{EndKind}
@@ -11,21 +11,21 @@ use Rattle.pg_session.specs.Streams.{GrowsBy, GrowsByFront, HasRisen}
 use Rattle.pg_serve.specs.Serving.{Counts, HasCause, counts_of}
 use Rattle.recording_text.specs.declared.recording.Recording.{Recording}
 use Rattle.recording_text.specs.declared.recording.ReadError.{ReadError}
-use Rattle.recording_text.specs.declared.recording.ReadError.TheVariants as unread
 use Rattle.recording_text.specs.Judging.{judged}
 use Rattle.recording_text.specs.Text.{recording_text}
 use Rattle.relation_files.specs.Files.{IsToldBy, IsFileCause, Gave, GaveAll}
+use Rattle.relation_serving.specs.Completeness.{IsComplete}
 use Rattle.relation_serving.specs.Serving.{WentByTables}
 use Rattle.relation_tables.specs.declared.Relation.{Relation}
 use Rattle.replay_streams.specs.RecordedRuns.{IsRecordedRun}
 use Rattle.session_recording.specs.declared.error.RecordError.{RecordError}
 use Rattle.session_recording.specs.declared.error.RecordError.TheVariants as refusal
-use Rattle.session_recording.specs.Recorded.{IsRecorded, IsFaithful, Passage}
+use Rattle.session_recording.specs.Recorded.{IsRecorded, IsFaithful}
 use Rattle.session_replay.specs.declared.verdict.Verdict.{Verdict}
 use Rattle.session_replay.specs.declared.verdict.Verdict.TheVariants as verdict
-use Rattle.session_replay.specs.Verdicts.{IsReplay, IsVerdict}
+use Rattle.session_replay.specs.Verdicts.{IsReplay, IsVerdict, IsVerdictOn}
 use Rattle.pg_replay.specs.declared.outcome.Outcome.{Outcome}
-use Rattle.pg_replay.specs.declared.outcome.Outcome.TheVariants.{Usage, File, Done, Differs, ReadFault, WriteFault, TurnLimit, NoMemory, TooLong, BadRecording}
+use Rattle.pg_replay.specs.declared.outcome.Outcome.TheVariants.{Usage, File, Done, ReadFault, WriteFault, TurnLimit, NoMemory, TooLong, BadRecording}
 use Rattle.pg_replay.specs.Statuses.{verdict_line, verdict_outcome}
 use Rattle.pg_replay.specs.Words.{Ordered, Recording as record_under, Verifying}
 
@@ -77,7 +77,8 @@ abbrev pub room : ℕ
 room = 268435456
 
 -- A client was served over the relations under a pid and a key, and recorded: the registry answered each question no, what was sent and
--- called is the conversation tables' answer, why the session came to an end or was given up, and the recording of it, or why there is none.
+-- called is the conversation tables' answer, why the session came to an end or was given up, that turns enough bring it to an end, and the
+-- recording of it, or why there is none.
 pub record WasRecorded (pid : ℤ) (key : List ℕ) (relations : List Relation) (answer : Result EndKind ServeError)
     (recorded : Result Recording RecordError) (left new_left : Option (List ℕ)) (before after : Counts) : Type 0 where
   pub calls : List DeskCall
@@ -85,6 +86,7 @@ pub record WasRecorded (pid : ℤ) (key : List ℕ) (relations : List Relation) 
   pub answered : AllByRecursion (λ yes. yes ≡ false) (answers_of calls)
   pub went : WentByTables relations (pid, key) answer left new_left (Some []) (Some sent) calls
   pub cause : HasCause answer turns (questions calls) before after
+  pub complete : IsComplete relations turns answer left before after
   pub told : IsRecorded (pid, key) room answer recorded
       (record { left = left; new_left = new_left; written = Some []; new_written = Some sent }) calls
   pub faithful : IsFaithful relations (record { left = left; new_left = new_left; written = Some []; new_written = Some sent }) recorded
@@ -112,9 +114,9 @@ abbrev pub HasRecorded : ℤ → List ℕ → List Relation → Outcome → Opti
     → Counts → Counts → Type 0
 HasRecorded pid key relations outcome left new_left old new before after =
     ((outcome ≡ NoMemory) × (new_left ≡ left) × (new ≡ old) × (after ≡ before))
-    ⊎ ((answer : Result EndKind ServeError) × ((recorded : Result Recording RecordError)
+    ⊎ ((answer : Result EndKind ServeError) × (recorded : Result Recording RecordError)
     × WasRecorded pid key relations answer recorded left new_left before after
-    × IsRecordOutcome answer recorded outcome old new before.write_faults after.write_faults))
+    × IsRecordOutcome answer recorded outcome old new before.write_faults after.write_faults)
 
 -- What comes of `record`: the file was refused, or else its relations were served and the session recorded.
 abbrev pub HasRecordedFile : ℤ → List ℕ → Outcome → Surroundings → Surroundings → Type 0
@@ -140,19 +142,24 @@ IsInputCause ReadFault left new_left faults new_faults = HasRisen faults new_fau
 IsInputCause NoMemory left new_left faults new_faults = Unit {0}
 IsInputCause outcome left new_left faults new_faults = ⊥
 
--- Of the verdict on a recording: that of verifying it.
-pub record IsVerdictOn (relations : List Relation) (r : Recording) (v : Verdict) : Type 0 where
+-- The verdict of verifying a recording over the relations: Same exactly where the recording is that of a run; and each verdict is that of
+-- its replay, of which there is one.
+pub record IsVerified (relations : List Relation) (r : Recording) (v : Verdict) : Type 0 where
   pub same : (v ≡ verdict.Same) ↔ IsRecordedRun relations r
-  pub others : (replies : List ℕ) (calls : List DeskCall) (kind : EndKind) → IsReplay relations r replies calls kind
+  pub replayed : IsVerdictOn relations r v
+  pub one : (replies : List ℕ) (calls : List DeskCall) (kind : EndKind) → IsReplay relations r replies calls kind
       → IsVerdict r replies calls kind v
 
--- What comes of a whole input: no recording has it as its text; or the one that has is verified, and the line of the verdict is written.
+-- What comes of verifying a recording: the line of the verdict is written, or memory ran out before there was one.
+abbrev pub HasToldVerdict : List Relation → Recording → Outcome → Option (List ℕ) → Option (List ℕ) → ℕ → ℕ → Type 0
+HasToldVerdict relations r outcome old new faults new_faults = ((outcome ≡ NoMemory) × IsUnwritten old new faults new_faults)
+    ⊎ ((v : Verdict) × IsVerified relations r v × HasWritten (verdict_outcome v) (verdict_line v) outcome old new faults new_faults)
+
+-- What comes of a whole input: no recording has it as its text; or the one that has is verified.
 abbrev pub HasJudged : List Relation → Result Recording ReadError → Outcome → Option (List ℕ) → Option (List ℕ) → ℕ → ℕ → Type 0
-HasJudged relations (Err unread.NoMemory) outcome old new faults new_faults = ⊥
 HasJudged relations (Err e) outcome old new faults new_faults =
     ((outcome ≡ BadRecording) ⊎ (outcome ≡ NoMemory)) × IsUnwritten old new faults new_faults
-HasJudged relations (Ok r) outcome old new faults new_faults = ((outcome ≡ NoMemory) × IsUnwritten old new faults new_faults)
-    ⊎ ((v : Verdict) × IsVerdictOn relations r v × HasWritten (verdict_outcome v) (verdict_line v) outcome old new faults new_faults)
+HasJudged relations (Ok r) outcome old new faults new_faults = HasToldVerdict relations r outcome old new faults new_faults
 
 -- What comes of verifying the input: it wasn't read to its end, and nothing was written; or it was, and it is judged.
 abbrev pub HasVerified : List Relation → Outcome → Option (List ℕ) → Option (List ℕ) → Option (List ℕ) → Option (List ℕ) → Counts → Counts

@@ -28,11 +28,7 @@ pub(crate) fn read_input<S: Source>(alloc: Global, input: &mut S) -> Result<Vec<
 }
 
 /// All bytes of the input, which are read into a buffer and gathered.
-fn read_by<S: Source>(
-    alloc: Global,
-    input: &mut S,
-    buffer: &mut [u8],
-) -> Result<Vec<u8>, Outcome>
+fn read_by<S: Source>(alloc: Global, input: &mut S, buffer: &mut [u8]) -> Result<Vec<u8>, Outcome>
     requires { 0 < length buffer.old }
     ensures whole { IfOk result (λ text. GaveAll (S.left input.old) (S.left input.new) text.items) }
     ensures within { IfOk result (λ text. length text.items ≤ INPUT_LIMIT) }

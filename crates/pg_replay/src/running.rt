@@ -1,9 +1,9 @@
 //! The program over a relation file and an input.
 
-ghost use Rattle.std.specs.Prelude.{◌≡◌, ◌≤◌, IfOk};
-ghost use Rattle.pg_replay.specs.Program.{HasRun, HasRecordedFile, HasVerifiedFile, HasRecorded, HasVerified, HasWritten, surroundings};
+ghost use Rattle.std.specs.Prelude.{◌≤◌, IsErrOf, OnOk};
+ghost use Rattle.pg_replay.specs.Program.{HasRun, HasRecordedFile, HasVerifiedFile, HasRecorded, HasToldVerdict, HasVerified, HasWritten, IsRecordOutcome, surroundings};
 ghost use Rattle.pg_replay.specs.Statuses.{status_of, line_of, verdict_line, verdict_outcome};
-ghost use Rattle.pg_replay.specs.Words.{order_of, told_key};
+ghost use Rattle.pg_replay.specs.Words.{order_of};
 ghost use Rattle.pg_replay.specs.declared.outcome.Outcome.{Outcome};
 ghost use Rattle.recording_text.specs.Text.{recording_text};
 ghost use Rattle.pg_serve.specs.Serving.{FaultsNeverFall, counts_of};
@@ -171,29 +171,40 @@ fn record_client<S: Source, K: Sink>(
     let mut sink = BytesSink {
         bytes: Vec::new(alloc),
     };
-    let (answer, recorded) =
-        record_session(alloc, relations, &mut desk, client, &mut sink, TURNS, ROOM);
+    let (answer, recorded) = record_session(
+        alloc, relations, &mut desk, client, &mut sink, TURNS, ROOM,
+    );
     // The desk's own fact, that it answered by its list, is what the contract needs of it.
     let _calls = desk.calls();
-    match recording_by(answer, recorded) {
-        Ok(recording) => write_to(alloc, &recording, out),
-        Err(outcome) => outcome,
-    }
+    // The replies stand in the recording too, and its text is about to be made.
+    drop(sink);
+    write_recorded(alloc, answer, recorded, out)
 }
 
-/// The recording of a session that came to its end, or the outcome that stands for it.
-fn recording_by(
+/// Writes the recording of a session that came to its end, where there is one. A session in memory
+/// meets no write that fails.
+fn write_recorded<K: Sink>(
+    alloc: Global,
     answer: Result<EndKind, ServeError>,
     recorded: Result<Recording, RecordError>,
-) -> Result<Recording, Outcome> {
+    out: &mut K,
+) -> Outcome
+    requires in_memory { ¬ IsErrOf answer ServeError.WriteFault }
+    requires ended { OnOk answer (¬ IsErrOf recorded RecordError.Unended) }
+    ensures told { IsRecordOutcome answer recorded result (K.written out.old) (K.written out.new)
+        (K.faults out.old) (K.faults out.new) }
+    ensures never_falls { K.faults out.old ≤ K.faults out.new }
+{
     match answer {
-        Err(ServeError::ReadFault) => Err(Outcome::ReadFault),
-        Err(ServeError::TurnLimit) => Err(Outcome::TurnLimit),
-        Err(ServeError::WriteFault) | Err(ServeError::NoMemory) => Err(Outcome::NoMemory),
+        Err(ServeError::ReadFault) => Outcome::ReadFault,
+        Err(ServeError::TurnLimit) => Outcome::TurnLimit,
+        Err(ServeError::NoMemory) => Outcome::NoMemory,
+        Err(ServeError::WriteFault) => unreachable!(),
         Ok(_) => match recorded {
-            Ok(recording) => Ok(recording),
-            Err(RecordError::TooLong(_)) => Err(Outcome::TooLong),
-            Err(RecordError::Unended) | Err(RecordError::NoMemory) => Err(Outcome::NoMemory),
+            Ok(recording) => write_to(alloc, &recording, out),
+            Err(RecordError::TooLong(_)) => Outcome::TooLong,
+            Err(RecordError::NoMemory) => Outcome::NoMemory,
+            Err(RecordError::Unended) => unreachable!(),
         },
     }
 }
@@ -246,7 +257,11 @@ fn verify_input<S: Source, K: Sink>(
         Err(outcome) => return outcome,
     };
     match read_recording(alloc, text.as_slice()) {
-        Ok(recording) => verify_recording(alloc, relations, &recording, out),
+        Ok(recording) => {
+            // The text is given back before the replies of the replay are held beside the recorded ones.
+            drop(text);
+            verify_recording(alloc, relations, &recording, out)
+        }
         Err(ReadError::NoMemory) => Outcome::NoMemory,
         Err(_) => Outcome::BadRecording,
     }
@@ -258,7 +273,11 @@ fn verify_recording<K: Sink>(
     relations: &RelationTable,
     recording: &Recording,
     out: &mut K,
-) -> Outcome {
+) -> Outcome
+    ensures told { HasToldVerdict relations.now recording.now result (K.written out.old)
+        (K.written out.new) (K.faults out.old) (K.faults out.new) }
+    ensures never_falls { K.faults out.old ≤ K.faults out.new }
+{
     match verify(alloc, relations, recording) {
         Ok(verdict) => write_verdict(alloc, verdict, out),
         Err(AllocError) => Outcome::NoMemory,

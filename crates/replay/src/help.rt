@@ -11,9 +11,9 @@ usage: pg_replay record FILE PID KEY
        pg_replay verify FILE
        pg_replay --help | --version
 
-record  serves one client over the relations in FILE: its bytes come on standard input, and the recording goes to standard
-        output: the client's bytes, the calls of the cancel registry, the replies, and how it ended. The client is told
-        PID (1 to 2147483647) and KEY (8 to 512 hexadecimal digits, an even number). No query is canceled.
+record  serves one client over the relations in FILE. Its bytes come on standard input, and the recording goes to
+        standard output: the client's bytes, the calls of the cancel registry, the replies, and how it ended. The client
+        is told PID (1 to 2147483647) and KEY (8 to 512 hexadecimal digits, an even number). No query is canceled.
 verify  reads a recording on standard input, serves its client once more over FILE, and writes one line:
           same       the recorded calls, replies and end are those that the rules give
           calls N    the calls of the registry differ first at place N, counted from 0
@@ -27,10 +27,18 @@ Examples:
   pg_replay record data/relations 7 01020304 < client > recording
   pg_replay verify data/relations < recording
 
-Exit status: 0 recorded, or the same; 2 other words; 3 FILE is refused; 4 a read failed; 5 a write failed;
-6 1000000000 reads and polls were spent; 7 out of memory; 9 FILE can't be read; 20 another verdict than same;
-21 over 268435456 bytes of the client or of the replies; 22 no recording, or over 536871936 bytes.
-Each but 0 and 20 is told by a line on standard error.
+Exit status, and the line on standard error:
+  0   recorded, or the same
+  2   other words than these                                     usage: ..
+  3   FILE is refused                                            line N: REASON, or file too long
+  4   a read of standard input failed                            read fault
+  5   a write failed                                             write fault
+  6   1000000000 reads and polls were spent (record)             turn limit
+  7   memory ran out                                             out of memory
+  9   FILE can't be read                                         file fault
+  20  another verdict than same (verify)                         no line
+  21  over 268435456 bytes of the client or of replies (record)  too long
+  22  no recording, or over 536871936 bytes (verify)             bad recording
 ";
 
 /// What `--version` writes.

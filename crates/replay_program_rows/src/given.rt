@@ -1,0 +1,70 @@
+//! What rows give: words, a relation file, an input, and where the output goes.
+
+use pg_messages::{PgBytes, PgList, PgStr};
+use pg_serve::{MemorySink, MemorySource};
+use row_files::{Fault, hex_words, parsed, push_repeated};
+use std::alloc::{AllocError, Global};
+
+/// The words, split by spaces: `-` is no word.
+pub fn words_of(alloc: Global, text: &str) -> Result<PgList<PgStr>, AllocError> {
+    let mut words = PgList::new(alloc);
+    if text == "-" {
+        return Ok(words);
+    }
+    for word in text.split(" ") {
+        words.push(PgStr::copy_of(alloc, word)?)?;
+    }
+    Ok(words)
+}
+
+/// A file of this text, of which the read of a number fails, if one is told. `*N TEXT` is a text N
+/// times.
+pub fn file_of<'t>(
+    alloc: Global,
+    text: &'t str,
+    fails: &'t str,
+) -> Result<MemorySource, Fault<'t>> {
+    let bytes = bytes_of(alloc, text)?;
+    source_of(alloc, bytes, fails)
+}
+
+/// An input of bytes in hexadecimal digits, of which the read of a number fails, if one is told.
+pub fn input_of<'t>(
+    alloc: Global,
+    digits: &'t str,
+    fails: &'t str,
+) -> Result<MemorySource, Fault<'t>> {
+    let bytes = hex_words(alloc, digits)?;
+    source_of(alloc, bytes, fails)
+}
+
+/// A source of bytes.
+fn source_of<'t>(alloc: Global, bytes: Vec<u8>, fails: &'t str) -> Result<MemorySource, Fault<'t>> {
+    let mut failures = PgList::new(alloc);
+    if fails != "-" {
+        failures.push(parsed(fails)?)?;
+    }
+    Ok(MemorySource::new(PgBytes::from_vec(bytes), PgList::new(alloc), failures))
+}
+
+/// The bytes of a text, or those of `*N TEXT`.
+fn bytes_of<'t>(alloc: Global, text: &'t str) -> Result<Vec<u8>, Fault<'t>> {
+    let mut bytes = Vec::new(alloc);
+    match text.strip_prefix("*") {
+        None => push_repeated(alloc, &mut bytes, 1, text)?,
+        Some(repeated) => {
+            let (times, text) = repeated.split_once(" ").ok_or(Fault::Line(text))?;
+            push_repeated(alloc, &mut bytes, parsed(times)?, text)?;
+        }
+    }
+    Ok(bytes)
+}
+
+/// A sink, whose first write fails behind a number of bytes, if one is told.
+pub fn sink_of<'t>(alloc: Global, fails: &'t str) -> Result<MemorySink, Fault<'t>> {
+    let mut failures = PgList::new(alloc);
+    if fails != "-" {
+        failures.push((0, parsed(fails)?))?;
+    }
+    Ok(MemorySink::new(alloc, failures))
+}
