@@ -35,7 +35,7 @@ impl<'a, K: Sink> RecordingSink<'a, K> {
         ensures same_reference { result.sink.ghost_name ≡ sink.entry.ghost_name }
         ensures sink { result.sink.now ≡ sink.old }
         ensures before { result.before.value ≡ sink.old }
-        ensures room { result.kept.room ≡ room.room }
+        ensures kept { result.kept ≡ room }
     {
         let before = Snapshot::of(sink);
         let until = Snapshot::of(sink);

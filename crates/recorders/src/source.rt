@@ -29,7 +29,7 @@ impl<'a, S: Source> RecordingSource<'a, S> {
         ensures same_reference { result.source.ghost_name ≡ source.entry.ghost_name }
         ensures source { result.source.now ≡ source.old }
         ensures before { result.before.value ≡ source.old }
-        ensures room { result.kept.room ≡ room.room }
+        ensures kept { result.kept ≡ room }
     {
         let before = Snapshot::of(source);
         RecordingSource {
