@@ -28,7 +28,7 @@ pub struct RecordingSink<'a, K: Sink> {
 }
 
 impl<'a, K: Sink> RecordingSink<'a, K> {
-    /// Records a sink in the room that there is, of which nothing is used yet.
+    /// Records a sink from here on, in room of which nothing is used yet.
     pub fn new(sink: &'a mut K, room: FirstBytes) -> RecordingSink<'a, K>
         requires bytes { room.bytes.items ≡ [] }
         requires count { room.count ≡ 0 }

@@ -22,7 +22,7 @@ pub struct RecordingSource<'a, S: Source> {
 }
 
 impl<'a, S: Source> RecordingSource<'a, S> {
-    /// Records a source in the room that there is, of which nothing is used yet.
+    /// Records a source from here on, in room of which nothing is used yet.
     pub fn new(source: &'a mut S, room: FirstBytes) -> RecordingSource<'a, S>
         requires bytes { room.bytes.items ≡ [] }
         requires count { room.count ≡ 0 }

@@ -215,7 +215,8 @@ fn serve_recorded<D: CancelDesk, S: Source, K: Sink>(
     (answer, kept)
 }
 
-/// Gives back what was lent: from here on it is its owner's again, and stands as it was left.
+/// Gives back what was lent: from here on it is its owner's again, and stands as it was left. A
+/// reference that stood beside memory in a struct isn't followed back to its owner by itself.
 fn give_back<T>(_lent: &mut T)
     ensures { _lent.new ≡ _lent.old }
 {}
