@@ -4,13 +4,14 @@ use Rattle.std.proofs.Math.Seq.{take-append_seam, drop-append_seam}
 use Rattle.pg_handlers.specs.declared.desk.DeskCall.{DeskCall}
 use Rattle.recorders.specs.Kept.{IsEndOf, told_numbers}
 
+-- told numbers tell what is told
 same_told : (told new_told : Option (List ℕ)) → told_numbers new_told ≡ told_numbers told → new_told ≡ told
 same_told None None e = refl
 same_told None (Some new_bytes) e = absurd (let f : ⊥ = cc in f)
 same_told (Some bytes) None e = absurd (let f : ⊥ = cc in f)
 same_told (Some bytes) (Some new_bytes) e = cc
 
--- what is told by the origin of a source or of a sink that is recorded
+-- the recorder of a source or of a sink is the same: over the same reference, with the same room, made when the same was told
 pub record IsSameRecorder (name new_name room new_room : ℕ) (origin new_origin : List ℕ) (told new_told : Option (List ℕ)) : Type 0 where
   pub same_name : new_name ≡ name
   pub same_room : new_room ≡ room
@@ -35,7 +36,7 @@ known_again name new_name room new_room origin new_origin told new_told e =
           ∙ drop-append_seam origin (told_numbers told));
     }
 
--- a list that begins as another
+-- two lists that are the same begin alike
 pub same_head : (n new_n : ℕ) (rest new_rest : List ℕ) → new_n ∷ new_rest ≡ n ∷ rest → n ≡ new_n
 same_head n new_n rest new_rest e = cc
 

@@ -14,13 +14,13 @@ use std::alloc::{AllocError, Global};
 pub struct RecordingDesk<'a, D: CancelDesk> {
     /// The desk that is asked.
     pub desk: &'a mut D,
-    /// Its calls so far, with their answers.
+    /// Its calls since it is recorded, with their answers.
     pub kept: Vec<DeskCall>,
     pub ghost recorded: { IsEndOf (D.told desk.now).calls kept.items } by { Prim.hlevel props },
 }
 
 impl<'a, D: CancelDesk> RecordingDesk<'a, D> {
-    /// Records a desk. It takes no memory.
+    /// Records the calls of a desk from here on. It takes no memory.
     pub fn new(alloc: Global, desk: &'a mut D) -> RecordingDesk<'a, D>
         ensures same_reference { result.desk.ghost_name ≡ desk.entry.ghost_name }
         ensures desk { result.desk.now ≡ desk.old }

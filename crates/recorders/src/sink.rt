@@ -28,14 +28,14 @@ pub struct RecordingSink<'a, K: Sink> {
 }
 
 impl<'a, K: Sink> RecordingSink<'a, K> {
-    /// Records a sink in the room that there is, of which nothing is used yet.
+    /// Records a sink from here on, in room of which nothing is used yet.
     pub fn new(sink: &'a mut K, room: FirstBytes) -> RecordingSink<'a, K>
         requires bytes { room.bytes.items ≡ [] }
         requires count { room.count ≡ 0 }
         ensures same_reference { result.sink.ghost_name ≡ sink.entry.ghost_name }
         ensures sink { result.sink.now ≡ sink.old }
         ensures before { result.before.value ≡ sink.old }
-        ensures room { result.kept.room ≡ room.room }
+        ensures kept { result.kept ≡ room }
     {
         let before = Snapshot::of(sink);
         let until = Snapshot::of(sink);

@@ -22,14 +22,14 @@ pub struct RecordingSource<'a, S: Source> {
 }
 
 impl<'a, S: Source> RecordingSource<'a, S> {
-    /// Records a source in the room that there is, of which nothing is used yet.
+    /// Records a source from here on, in room of which nothing is used yet.
     pub fn new(source: &'a mut S, room: FirstBytes) -> RecordingSource<'a, S>
         requires bytes { room.bytes.items ≡ [] }
         requires count { room.count ≡ 0 }
         ensures same_reference { result.source.ghost_name ≡ source.entry.ghost_name }
         ensures source { result.source.now ≡ source.old }
         ensures before { result.before.value ≡ source.old }
-        ensures room { result.kept.room ≡ room.room }
+        ensures kept { result.kept ≡ room }
     {
         let before = Snapshot::of(source);
         RecordingSource {

@@ -1,5 +1,5 @@
 -- How a recording is made of what was kept of a session.
-use Rattle.std.specs.Prelude.{ℕ, ℤ, Bool, true, false, List, [], Result, Ok, Err, ◌≡◌, ◌≤◌, ◌<◌, max}
+use Rattle.std.specs.Prelude.{ℕ, ℤ, true, false, List, [], Result, Ok, Err, ◌≡◌, ◌≤◌, ◌<◌, max}
 use Rattle.pg_handlers.specs.declared.ends.EndKind.{EndKind}
 use Rattle.pg_session.specs.declared.ends.ServeError.{ServeError}
 use Rattle.pg_session.specs.declared.ends.ServeError.TheVariants.{WriteFault, NoMemory}

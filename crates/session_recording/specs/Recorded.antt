@@ -1,5 +1,5 @@
 -- What a recorder owes: the recording of a session, or why there is none.
-use Rattle.std.specs.Prelude.{ℕ, ℤ, List, [], ◌++◌, Option, Result, Ok, Err, ◌≡◌, ◌≤◌, ◌<◌, max, length, IfSome}
+use Rattle.std.specs.Prelude.{ℕ, ℤ, List, ◌++◌, Option, Result, Ok, Err, ◌≡◌, ◌≤◌, ◌<◌, max, length, IfSome}
 use Rattle.pg_handlers.specs.declared.desk.DeskCall.{DeskCall}
 use Rattle.pg_handlers.specs.declared.ends.EndKind.{EndKind}
 use Rattle.pg_session.specs.declared.ends.ServeError.{ServeError}
@@ -53,6 +53,7 @@ pub record IsRecordingOf (registration : ℤ × List ℕ) (came_to : EndKind) (p
 
 -- What comes of recording a session that was answered so, with so much room: where it came to its end and there was room, the recording of
 -- it; TooLong with the greater of the numbers of bytes, where that passes the room; Unended, where that doesn't and the session was given up.
+-- Of memory that runs out nothing is said.
 abbrev pub IsRecorded : ℤ × List ℕ → ℕ → Result EndKind ServeError → Result Recording RecordError → Passage → List DeskCall → Type 0
 IsRecorded registration room (Ok kind) (Ok r) p calls =
     IsRecordingOf registration kind p calls r × (length r.client ≤ room) × (length r.replies ≤ room)

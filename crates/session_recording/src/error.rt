@@ -9,6 +9,7 @@ pub enum RecordError {
     TooLong(u64),
     /// The session was given up before its end.
     Unended,
-    /// Memory ran out.
+    /// Memory ran out before anything was served; or a send found none and the session went on, so
+    /// that nothing tells what the sink has taken.
     NoMemory,
 }

@@ -1,6 +1,6 @@
 //! A session over relations is served and recorded.
 
-ghost use Rattle.std.specs.Prelude.{◌≡◌, ◌++◌, ◌≤◌, ◌<◌, ◌^◌, ◌↔◌, ℕ, Option, List, [], IfOk, OnOk, IfErr, IfSome, IsTrue, length, vec_capacity};
+ghost use Rattle.std.specs.Prelude.{◌≡◌, ◌++◌, ◌<◌, ◌^◌, ◌↔◌, ℕ, Option, List, IfOk, OnOk, IfErr, IfSome, IsTrue};
 ghost use Rattle.pg_handlers.specs.Desk.{GoesOn};
 ghost use Rattle.pg_handlers.specs.Questions.{questions_since};
 ghost use Rattle.pg_handlers.specs.State.{first_state};
@@ -215,7 +215,8 @@ fn serve_recorded<D: CancelDesk, S: Source, K: Sink>(
     (answer, kept)
 }
 
-/// Gives back what was lent: from here on it is its owner's again, and stands as it was left.
+/// Gives back what was lent: from here on it is its owner's again, and stands as it was left. A
+/// reference that stood beside memory in a struct isn't followed back to its owner by itself.
 fn give_back<T>(_lent: &mut T)
     ensures { _lent.new ≡ _lent.old }
 {}

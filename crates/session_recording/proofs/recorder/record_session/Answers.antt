@@ -1,4 +1,4 @@
-use Rattle.std.proofs.Common.{◌≡◌, ◌∙◌, ◌<◌, ◌≤◌, ◌^◌, FitsSigned, length, [], IfOk, arith, append-nil, ap, refl, rules, subst, sym, w32, to_z, of_z}
+use Rattle.std.proofs.Common.{◌∙◌, ◌<◌, ◌≤◌, ◌^◌, FitsSigned, length, [], IfOk, append-nil, refl, rules, subst, sym, w32}
 use Rattle.std.proofs.lemmas.Int.{to_z-of_z}
 use Rattle.pg_handlers.specs.State.{first_state}
 use Rattle.pg_session.specs.Session.{whole_rules}

@@ -5,6 +5,7 @@ use Rattle.pg_serve.specs.Serving.{EndsAtLast, IsRunOverTaken}
 use Rattle.pg_session.specs.Session.{whole_rules}
 use Rattle.relation_serving.specs.Serving.{WentByTables}
 use Rattle.relation_tables.specs.RelationHandler.{relation_handlers}
+use Rattle.recorders.specs.declared.keeping.FirstBytes.{FirstBytes}
 use Rattle.recorders.proofs.Origins.{IsSameRecorder, known_again, made_are_kept, same_head}
 use Rattle.session_recording.proofs.Recordings.{of_same, sent_again, taken_again}
 use Rattle.session_recording.proofs.recorder.serve_recorded.Given.{Over}
@@ -53,7 +54,7 @@ returns-clause-client g c =
     let k = source_known g c in
     taken_again (g.S.Source.left c.args.source.now) (g.S.Source.left new.before.value) (g.S.Source.left new.source.now)
     (g.S.Source.left c.source-2-1.given.0) c.args.client.room new.kept.room new.kept.bytes.items new.kept.count
-    (k.same_told ∙ ap g.S.Source.left c.new-source.ensures.before) (k.same_room ∙ c.new-source.ensures.room)
+    (k.same_told ∙ ap g.S.Source.left c.new-source.ensures.before) (k.same_room ∙ ap (λ (b : FirstBytes). b.room) c.new-source.ensures.kept)
     (ap g.S.Source.left (source_left g c)) new.recorded
 
 pub returns-clause-replies : goal.returns-clause-replies
@@ -63,7 +64,7 @@ returns-clause-replies g c =
     sent_again (g.K.Sink.written c.args.sink.now) (g.K.Sink.written new.before.value) (g.K.Sink.written new.until.value)
     (g.K.Sink.written new.sink.now) (g.K.Sink.written c.sink-2-1.given.0) c.args.replies.room new.kept.room new.kept.bytes.items
     new.kept.count new.has_refused (k.same_told ∙ ap g.K.Sink.written c.new-sink.ensures.before)
-    (k.same_room ∙ c.new-sink.ensures.room) (ap g.K.Sink.written (sink_left g c)) new.recorded
+    (k.same_room ∙ ap (λ (b : FirstBytes). b.room) c.new-sink.ensures.kept) (ap g.K.Sink.written (sink_left g c)) new.recorded
 
 pub returns-clause-went : goal.returns-clause-went
 returns-clause-went g c =
