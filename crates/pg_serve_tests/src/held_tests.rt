@@ -9,7 +9,7 @@ use pg_messages::{PgBytes, PgList, SecretKey};
 use pg_portal::{ClientInfo, MemPortalStore, Response};
 use pg_serve::{HandleDesk, MemorySink, MemorySource, serve_connection};
 use pg_session::{EndKind, PgWireServerHandlers, ServeError};
-use sample_handlers::SampleQuery;
+use polled_queries::PolledQuery;
 use std::alloc::{AllocError, Global};
 use std::cell::Cell;
 use std::sync::{Arc, Wait};
@@ -117,7 +117,7 @@ impl<'t, R: Wait + Drop> SimpleQueryHandler for Held<'t, R> {
 
     type CopyRows = NoRows;
 
-    type Query = SampleQuery<PgList<Response<NoRows, NoRows>>>;
+    type Query = PolledQuery<PgList<Response<NoRows, NoRows>>>;
 
     ghost told = { λ _ client query. record { owes = 1; outcome = Ok [] } };
 
@@ -126,9 +126,9 @@ impl<'t, R: Wait + Drop> SimpleQueryHandler for Held<'t, R> {
         alloc: Global,
         _client: &ClientInfo,
         _query: &str,
-    ) -> Result<SampleQuery<PgList<Response<NoRows, NoRows>>>, AllocError> {
+    ) -> Result<PolledQuery<PgList<Response<NoRows, NoRows>>>, AllocError> {
         self.cancel(alloc);
-        Ok(SampleQuery::new(1, Ok(PgList::new(alloc))))
+        Ok(PolledQuery::new(1, Ok(PgList::new(alloc))))
     }
 }
 

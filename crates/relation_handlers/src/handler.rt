@@ -6,9 +6,9 @@ ghost use Rattle.pg_handlers.specs.Replies.{parameter_description};
 ghost use Rattle.relation_tables.specs.RelationHandler.{given_types};
 
 use crate::columns::fields_of;
-use crate::query::{RelationQuery, RelationResponse};
+use crate::query::{RelationResponse, SimpleQuery};
 use crate::served::ServedRelations;
-use crate::simple::{SimpleQuery, other_query, statement_query};
+use crate::simple::{other_query, statement_query};
 use crate::statement_lookup::find_statement;
 use crate::statement_response::{polls_of, response_of};
 use crate::table::RelationTable;
@@ -19,6 +19,7 @@ use pg_portal::{
     StoredStatement,
 };
 use pg_text::PgType;
+use polled_queries::PolledQuery;
 use query_texts::trimmed;
 use relation_tables::RelationStatement;
 use std::alloc::{AllocError, Global};
@@ -48,7 +49,7 @@ impl<B: ServedRelations> ExtendedQueryHandler for RelationHandlerOver<B> {
 
     type CopyRows = B::Lines;
 
-    type Query = RelationQuery<RelationResponse<B>>;
+    type Query = PolledQuery<RelationResponse<B>>;
 
     ghost told = { λ handler. told_extended (B.told handler.relations) };
 
@@ -91,11 +92,11 @@ impl<B: ServedRelations> ExtendedQueryHandler for RelationHandlerOver<B> {
         client: &ClientInfo,
         portal: &Portal<RelationStatement, B::Rows>,
         _max_rows: i32,
-    ) -> Result<RelationQuery<RelationResponse<B>>, AllocError> {
+    ) -> Result<PolledQuery<RelationResponse<B>>, AllocError> {
         let means = portal.statement.statement;
         let formats = &portal.result_column_format;
         let response = response_of(alloc, &self.relations, client, formats, means)?;
-        Ok(RelationQuery::new(polls_of(self.relations.table(), means), Ok(response)))
+        Ok(PolledQuery::new(polls_of(self.relations.table(), means), Ok(response)))
     }
 }
 

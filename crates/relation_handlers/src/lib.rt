@@ -25,7 +25,6 @@ mod words;
 pub use copy::RelationCopy;
 pub use handler::{RelationHandler, RelationHandlerOver};
 pub use parser::RelationParser;
-pub use query::RelationQuery;
 pub use row_source::RelationRows;
 pub use served::ServedRelations;
 pub use style::SessionStyle;

@@ -1,6 +1,7 @@
 //! Simple queries of relations.
 
 ghost use Rattle.std.specs.Prelude.{◌≡◌, ◌<◌, [], ◌∷◌, false, Ok, Some, IfOk, IsTrue, length};
+ghost use Rattle.polled_queries.specs.Queries.{is_given, query_told};
 ghost use Rattle.pg_portal.specs.Clients.{HasShortMetadata};
 ghost use Rattle.pg_portal.specs.Responses.{told_response, told_responses};
 ghost use Rattle.pg_portal.specs.Texts.{IsShortText};
@@ -9,20 +10,17 @@ ghost use Rattle.pg_handlers.specs.Handlers.{told_all, told_query};
 ghost use Rattle.relation_tables.specs.Queries.{words, copied_name};
 ghost use Rattle.relation_tables.specs.RelationHandler.{copy_of, copy_or_unknown, copy_response, is_statement_of, refused_query, simple_of};
 ghost use Rattle.relation_tables.specs.Relations.{place_of, relation_at};
-ghost use Rattle.relation_handlers.specs.Queries.{is_given, query_told};
 
 use crate::errors::unknown_relation;
-use crate::query::{RelationQuery, RelationResponse};
+use crate::query::{RelationResponse, SimpleQuery};
 use crate::served::ServedRelations;
 use crate::statement_response::{polls_of, response_of};
 use crate::words::copied_name;
 use pg_messages::PgList;
 use pg_portal::{ClientInfo, CopySource, Format, PgWireError, Response, RowSource};
+use polled_queries::PolledQuery;
 use relation_tables::RelationStatement;
 use std::alloc::{AllocError, Global};
-
-/// A simple query of relations.
-pub(crate) type SimpleQuery<B> = RelationQuery<PgList<RelationResponse<B>>>;
 
 /// The query of a statement, whose rows are text.
 pub(crate) fn statement_query<B: ServedRelations>(
@@ -42,7 +40,7 @@ pub(crate) fn statement_query<B: ServedRelations>(
 {
     let response = response_of(alloc, served, client, &Format::UnifiedText, means)?;
     let responses = alone(alloc, response)?;
-    Ok(RelationQuery::new(polls_of(served.table(), means), Ok(responses)))
+    Ok(PolledQuery::new(polls_of(served.table(), means), Ok(responses)))
 }
 
 /// A list of one item.
@@ -99,7 +97,7 @@ fn copy_query<B: ServedRelations>(
     match relations.find(name) {
         Some(place) => {
             let responses = copy_responses(alloc, served, place, client)?;
-            Ok(RelationQuery::new(relations.at(place).unready, Ok(responses)))
+            Ok(PolledQuery::new(relations.at(place).unready, Ok(responses)))
         }
         None => refused_query(alloc, name),
     }
@@ -125,7 +123,7 @@ fn copy_responses<B: ServedRelations>(
 fn refused_query<R: RowSource, C: CopySource>(
     alloc: Global,
     text: &str,
-) -> Result<RelationQuery<PgList<Response<R, C>>>, AllocError>
+) -> Result<PolledQuery<PgList<Response<R, C>>>, AllocError>
     requires { IsShortText text.now }
     ensures unspent { IfOk result (λ query. is_given query.outcome ≡ false) }
     ensures told { IfOk result (λ query.
@@ -134,5 +132,5 @@ fn refused_query<R: RowSource, C: CopySource>(
     ensures sendable { IfOk result (λ query. AreSendable (refused_query text.now).outcome) }
 {
     let info = unknown_relation(alloc, text)?;
-    Ok(RelationQuery::new(0, Err(PgWireError::UserError(info))))
+    Ok(PolledQuery::new(0, Err(PgWireError::UserError(info))))
 }

@@ -1,3 +1,2 @@
 pub mod Meanings
-pub mod Queries
 pub mod Told

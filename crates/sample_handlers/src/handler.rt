@@ -3,7 +3,7 @@
 ghost use Rattle.std.specs.Prelude.{◌≡◌, false, None, IfOk};
 ghost use Rattle.pg_handlers.specs.Good.{AreSendable};
 ghost use Rattle.pg_handlers.specs.Handlers.{told_all, told_query};
-ghost use Rattle.sample_handlers.specs.Queries.{is_given, query_told};
+ghost use Rattle.polled_queries.specs.Queries.{is_given, query_told};
 ghost use Rattle.sample_handlers.specs.Told.{alone_or_not_known, data_left, listed};
 
 use crate::answer::{Answer, polls_of, response, responses};
@@ -12,7 +12,6 @@ use crate::copy::SampleCopy;
 use crate::errors::not_known;
 use crate::meaning::{SampleStatement, meaning_of};
 use crate::parser::SampleParser;
-use crate::query::SampleQuery;
 use pg_handlers::{
     Client, CopyHandler, ExtendedQueryHandler, PgWireServerHandlers, SimpleQueryHandler,
     copy_given_up,
@@ -22,6 +21,7 @@ use pg_portal::{
     ClientInfo, DescribePortalResponse, DescribeStatementResponse, Format, ListRows, PgWireError,
     Portal, PortalStore, StoredStatement,
 };
+use polled_queries::PolledQuery;
 use query_texts::trimmed;
 use std::alloc::{AllocError, Global};
 use std::sync::Arc;
@@ -41,7 +41,7 @@ impl ExtendedQueryHandler for SampleHandler {
 
     type CopyRows = SampleCopy;
 
-    type Query = SampleQuery<Answer>;
+    type Query = PolledQuery<Answer>;
 
     ghost told = { λ _. told_extended };
 
@@ -78,10 +78,10 @@ impl ExtendedQueryHandler for SampleHandler {
         _client: &ClientInfo,
         portal: &Portal<SampleStatement, ListRows>,
         _max_rows: i32,
-    ) -> Result<SampleQuery<Answer>, AllocError> {
+    ) -> Result<PolledQuery<Answer>, AllocError> {
         let statement = portal.statement.statement;
         let answer = response(alloc, &portal.result_column_format, statement)?;
-        Ok(SampleQuery::new(polls_of(statement), Ok(answer)))
+        Ok(PolledQuery::new(polls_of(statement), Ok(answer)))
     }
 }
 
@@ -92,7 +92,7 @@ impl SimpleQueryHandler for SampleHandler {
 
     type CopyRows = SampleCopy;
 
-    type Query = SampleQuery<PgList<Answer>>;
+    type Query = PolledQuery<PgList<Answer>>;
 
     ghost told = { λ _. told_simple };
 
@@ -102,7 +102,7 @@ impl SimpleQueryHandler for SampleHandler {
         alloc: Global,
         _client: &ClientInfo,
         query: &str,
-    ) -> Result<SampleQuery<PgList<Answer>>, AllocError> {
+    ) -> Result<PolledQuery<PgList<Answer>>, AllocError> {
         let text = trimmed(query);
         if text == "pair; done" {
             let statements = [SampleStatement::Pair, SampleStatement::Done];
@@ -129,28 +129,28 @@ fn listed(
     alloc: Global,
     polls: u32,
     statements: &[SampleStatement],
-) -> Result<SampleQuery<PgList<Answer>>, AllocError>
+) -> Result<PolledQuery<PgList<Answer>>, AllocError>
     ensures unspent { IfOk result (λ query. is_given query.outcome ≡ false) }
     ensures told { IfOk result (λ query.
         told_query (told_all (λ rows. rows) (λ c. data_left c.left))
-        (query_told query.polls query.outcome)
+        (query_told query.unready query.outcome)
         ≡ listed polls statements.now) }
     ensures sendable { IfOk result (λ query. AreSendable (listed polls statements.now).outcome) }
 {
-    Ok(SampleQuery::new(polls, Ok(responses(alloc, statements)?)))
+    Ok(PolledQuery::new(polls, Ok(responses(alloc, statements)?)))
 }
 
 /// The query that is refused.
 #[tactic(auto, using(crate::proofs::Sendable::not_known_item))]
-fn refused(alloc: Global) -> Result<SampleQuery<PgList<Answer>>, AllocError>
+fn refused(alloc: Global) -> Result<PolledQuery<PgList<Answer>>, AllocError>
     ensures unspent { IfOk result (λ query. is_given query.outcome ≡ false) }
     ensures told { IfOk result (λ query.
         told_query (told_all (λ rows. rows) (λ c. data_left c.left))
-        (query_told query.polls query.outcome)
+        (query_told query.unready query.outcome)
         ≡ alone_or_not_known None) }
     ensures sendable { IfOk result (λ query. AreSendable (alone_or_not_known None).outcome) }
 {
-    Ok(SampleQuery::new(0, Err(not_known(alloc)?)))
+    Ok(PolledQuery::new(0, Err(not_known(alloc)?)))
 }
 
 impl CopyHandler for SampleHandler {

@@ -9,11 +9,9 @@ mod errors;
 mod handler;
 mod meaning;
 mod parser;
-mod query;
 mod rows;
 
 pub use copy::SampleCopy;
 pub use handler::SampleHandler;
 pub use meaning::SampleStatement;
 pub use parser::SampleParser;
-pub use query::SampleQuery;

@@ -1,5 +1,5 @@
 -- What the handlers of styles tell.
-use Rattle.std.specs.Prelude.{ℕ, Bool, true, false, List, [], ◌∷◌, Option, Some, None, Result, Ok, Err, ◌≡◌, if◌then◌else◌, slice_get, codes, bytes_eq, unwrap_or}
+use Rattle.std.specs.Prelude.{ℕ, true, List, [], ◌∷◌, Option, Some, Result, Ok, Err, ◌≡◌, if◌then◌else◌, slice_get, codes, bytes_eq, unwrap_or}
 use Rattle.pg_interval.specs.declared.pg_interval.Interval.{Interval}
 use Rattle.pg_messages.specs.declared.data.DataRow.{DataRow}
 use Rattle.pg_text.specs.declared.pg_type.PgType.{PgType}
@@ -8,10 +8,9 @@ use Rattle.pg_portal.specs.Formats.{format_for}
 use Rattle.pg_portal.specs.Responses.{ToldResponse}
 use Rattle.pg_portal.specs.Told.{BoundPortal, ParserTold}
 use Rattle.pg_portal.specs.declared.error.PgWireError.{PgWireError}
-use Rattle.pg_portal.specs.declared.error.PgWireError.TheVariants as wire
 use Rattle.pg_portal.specs.declared.portal.Format.{Format}
 use Rattle.pg_portal.specs.declared.portal.Format.TheVariants as format
-use Rattle.pg_handlers.specs.Handlers.{ExtendedTold, Handlers, QueryTold, SimpleTold, ToldQuery, handlers_of}
+use Rattle.pg_handlers.specs.Handlers.{ExtendedTold, Handlers, SimpleTold, ToldQuery, handlers_of}
 use Rattle.pg_handlers.specs.Noop.{noop_copy}
 use Rattle.query_texts.specs.QueryTexts.{trimmed}
 use Rattle.styles.specs.declared.parser.StylesStatement.{StylesStatement}
@@ -19,21 +18,7 @@ use Rattle.styles.specs.declared.parser.StylesStatement.TheVariants as statement
 use Rattle.styles.specs.Reading.{interval_given, interval_of}
 use Rattle.styles.specs.Rows.{Shows, columns, one_row, response_of}
 
--- ---- queries that were begun
-
--- whether the outcome was given
-abbrev pub is_given : {A : Type 0} → Option A → Bool
-is_given (Some outcome) = false
-is_given None = true
-
--- the outcome, where it wasn't given yet
-abbrev pub outcome_of : {A : Type 0} → Option (Result A PgWireError) → Result A PgWireError
-outcome_of (Some outcome) = outcome
-outcome_of None = Err wire.NoMemory
-
--- no query owes a poll
-abbrev pub query_told : {A : Type 0} → Option (Result A PgWireError) → QueryTold (Result A PgWireError)
-query_told outcome = record { is_spent = is_given outcome; owes = 0; outcome = outcome_of outcome }
+-- ---- queries, of which none owes a poll
 
 abbrev pub ready_with : {A : Type 0} → Result A PgWireError → ToldQuery A
 ready_with outcome = record { owes = 0; outcome = outcome }

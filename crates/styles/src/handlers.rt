@@ -5,7 +5,6 @@ ghost use Rattle.pg_portal.specs.Told.{bound_of};
 ghost use Rattle.styles.specs.Told.{interval_asked};
 
 use crate::parser::{StylesParser, StylesStatement, parameters_of};
-use crate::query::StylesQuery;
 use crate::reading::{read_interval, read_parameter};
 use crate::rows::{Answer, columns, response};
 use pg_handlers::{
@@ -17,6 +16,7 @@ use pg_portal::{
     ClientInfo, DescribePortalResponse, DescribeStatementResponse, Format, ListRows, PgWireError,
     Portal, StoredStatement,
 };
+use polled_queries::PolledQuery;
 use query_texts::trimmed;
 use std::alloc::{AllocError, Global};
 use std::sync::Arc;
@@ -35,7 +35,7 @@ impl SimpleQueryHandler for StylesHandler {
 
     type CopyRows = NoRows;
 
-    type Query = StylesQuery<PgList<Answer>>;
+    type Query = PolledQuery<PgList<Answer>>;
 
     ghost told = { λ _. told_simple };
 
@@ -45,14 +45,14 @@ impl SimpleQueryHandler for StylesHandler {
         alloc: Global,
         _client: &ClientInfo,
         query: &str,
-    ) -> Result<StylesQuery<PgList<Answer>>, AllocError> {
+    ) -> Result<PolledQuery<PgList<Answer>>, AllocError> {
         match read_interval(alloc, trimmed(query).as_bytes())? {
             Ok(interval) => {
                 let mut answers = PgList::new(alloc);
                 answers.push(response(alloc, &Format::UnifiedText, &interval)?)?;
-                Ok(StylesQuery::new(Ok(answers)))
+                Ok(PolledQuery::new(0, Ok(answers)))
             }
-            Err(error) => Ok(StylesQuery::new(Err(error))),
+            Err(error) => Ok(PolledQuery::new(0, Err(error))),
         }
     }
 }
@@ -68,7 +68,7 @@ impl ExtendedQueryHandler for StylesHandler {
 
     type CopyRows = NoRows;
 
-    type Query = StylesQuery<Answer>;
+    type Query = PolledQuery<Answer>;
 
     ghost told = { λ _. told_extended };
 
@@ -104,13 +104,13 @@ impl ExtendedQueryHandler for StylesHandler {
         _client: &ClientInfo,
         portal: &Portal<StylesStatement, ListRows>,
         _max_rows: i32,
-    ) -> Result<StylesQuery<Answer>, AllocError> {
+    ) -> Result<PolledQuery<Answer>, AllocError> {
         match interval_asked(alloc, portal)? {
             Ok(interval) => {
                 let answer = response(alloc, &portal.result_column_format, &interval)?;
-                Ok(StylesQuery::new(Ok(answer)))
+                Ok(PolledQuery::new(0, Ok(answer)))
             }
-            Err(error) => Ok(StylesQuery::new(Err(error))),
+            Err(error) => Ok(PolledQuery::new(0, Err(error))),
         }
     }
 }

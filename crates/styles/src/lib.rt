@@ -5,11 +5,9 @@
 mod handlers;
 mod laws;
 mod parser;
-mod query;
 mod reading;
 mod rows;
 
 pub use handlers::StylesHandler;
 pub use laws::each_cell_stands_for_its_query;
 pub use parser::{StylesParser, StylesStatement};
-pub use query::StylesQuery;

@@ -1,4 +1,4 @@
-//! Sample queries that were begun.
+//! Queries that owe polls before they give what they answer.
 
 ghost use Rattle.std.specs.Prelude.{◌≡◌, Some};
 
@@ -6,36 +6,37 @@ use pg_handlers::{QueryState, Turn};
 use pg_portal::PgWireError;
 use std::alloc::AllocError;
 
-/// A query that is found unready by so many polls, and then gives its outcome once.
+/// A query that is found unready by so many polls, and then gives its outcome once. Whoever polls it
+/// again finds no memory.
 #[derive(Drop)]
-pub struct SampleQuery<T> {
-    polls: u32,
+pub struct PolledQuery<T> {
+    unready: u32,
     outcome: Option<Result<T, PgWireError>>,
 }
 
-impl<T: Drop> SampleQuery<T> {
+impl<T: Drop> PolledQuery<T> {
     /// A query of this outcome, which owes so many polls.
-    pub fn new(polls: u32, outcome: Result<T, PgWireError>) -> SampleQuery<T>
-        ensures polls { result.polls ≡ polls }
+    pub fn new(unready: u32, outcome: Result<T, PgWireError>) -> PolledQuery<T>
+        ensures unready { result.unready ≡ unready }
         ensures outcome { result.outcome ≡ Some outcome }
     {
-        SampleQuery {
-            polls,
+        PolledQuery {
+            unready,
             outcome: Some(outcome),
         }
     }
 }
 
-impl<T: Drop> QueryState for SampleQuery<T> {
-    ghost use Rattle.sample_handlers.specs.Queries.{query_told};
+impl<T: Drop> QueryState for PolledQuery<T> {
+    ghost use Rattle.polled_queries.specs.Queries.{query_told};
 
     type Out = Result<T, PgWireError>;
 
-    ghost told = { λ q. query_told q.polls q.outcome };
+    ghost told = { λ q. query_told q.unready q.outcome };
 
     fn poll(&mut self) -> Result<Turn<Result<T, PgWireError>>, AllocError> {
-        if self.polls > 0 {
-            self.polls -= 1;
+        if self.unready > 0 {
+            self.unready -= 1;
             return Ok(Turn::Unready);
         }
         match self.outcome.take() {
