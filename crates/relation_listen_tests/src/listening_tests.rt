@@ -98,10 +98,15 @@ fn are_of_the_file(table: &RelationTable) -> bool {
     }
 }
 
+/// The pid of the connection of this number, from 0.
+fn pid_of(number: u64) -> Option<i32> {
+    i32::try_from(number.saturating_add(1)).ok()
+}
+
 /// Whether a job is that of the connection of this number, from 0: it has the pid and the key of
 /// that, the program's turns and relations, and nothing was read or written.
 fn is_good(job: &SilentJob, number: u64) -> bool {
-    job.handle.pid() as i64 == number as i64 + 1
+    pid_of(number) == Some(job.handle.pid())
         && job.handle.key().as_slice() == key_of(number).as_slice()
         && job.turn_limit == 1_000_000_000
         && are_of_the_file(&job.relations)

@@ -9,7 +9,7 @@ use crate::clients::Registry;
 use pg_cancel::ConnectionManager;
 use pg_messages::PgList;
 use pg_serve::{Counted, MaybeTls, Spawner};
-use relation_server::{ConnectionJob, JobThreads, RelationTable, StartJob, ThreadSpawner, Tries};
+use relation_server::{ConnectionJob, JobThreads, RelationTable, ThreadSpawner, Tries};
 use std::net::Net;
 use std::os::unix::net::UnixStream;
 use std::sync::atomic::{AtomicBool, Ordering};
@@ -210,7 +210,9 @@ fn counted<R: Wait + Net>(
     tries: Tries,
 ) -> Option<(bool, u64)> {
     let job = idle_job(rt, registry, pid)?;
-    let start: StartJob = Box::new(registry.alloc, move |_job: SocketJob| tries).ok()?;
+    let Ok(start) = Box::new(registry.alloc, move |_job: SocketJob| tries) else {
+        return None;
+    };
     let mut spawner = ThreadSpawner::new((), start);
     let is_started = spawner.start(job).is_ok();
     Some((is_started, spawner.faults()))

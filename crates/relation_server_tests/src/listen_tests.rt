@@ -5,9 +5,7 @@ ghost use Rattle.std.specs.Prelude.{◌≡◌, IfSome};
 use crate::clients::{Registry, STARTUP, STARTUP_3_2};
 use crate::relations::table_of;
 use pg_serve::{Listening, RandomKeys, SocketAcceptor};
-use relation_server::{
-    JobThreads, RelationTable, StartJob, ThreadSpawner, jobs_cross_threads, listen,
-};
+use relation_server::{JobThreads, RelationTable, ThreadSpawner, jobs_cross_threads, listen};
 use std::alloc::Global;
 use std::io::{Read, Write};
 use std::net::{Net, SocketAddr, TcpListener, TcpStream};
@@ -130,7 +128,9 @@ fn spawner_of<R: Threads + Wait + Clock + Copy + Send + 'static>(
 {
     let threads = JobThreads::new(alloc).ok()?;
     let theirs = threads.share().ok()?;
-    let start: StartJob = Box::new(alloc, move |job| theirs.start(rt, job)).ok()?;
+    let Ok(start) = Box::new(alloc, move |job| theirs.start(rt, job)) else {
+        return None;
+    };
     Some(ThreadSpawner::new(threads, start))
 }
 
