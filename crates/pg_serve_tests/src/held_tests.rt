@@ -2,13 +2,15 @@
 
 ghost use Rattle.std.specs.Prelude.{◌≡◌, IfSome};
 ghost use Rattle.std.specs.Arc.{arc_value};
+ghost use Rattle.std.specs.FinMap as fin;
+ghost use Rattle.pg_portal.specs.Maps.{no_maps};
 
 use pg_cancel::{ConnectionHandle, ConnectionManager, Door};
 use pg_handlers::{NoRows, NoopHandler, SimpleQueryHandler};
 use pg_messages::{PgBytes, PgList, SecretKey};
-use pg_portal::{ClientInfo, MemPortalStore, Response};
+use pg_portal::{ClientInfo, MemPortalStore, PortalStore, Response};
 use pg_serve::{HandleDesk, MemorySink, MemorySource, serve_connection};
-use pg_session::{EndKind, PgWireServerHandlers, ServeError};
+use pg_session::{EndKind, ExtendedQueryHandler, PgWireServerHandlers, ServeError};
 use polled_queries::PolledQuery;
 use std::alloc::{AllocError, Global};
 use std::cell::Cell;
@@ -161,8 +163,43 @@ impl<'t, R: Wait + Drop> PgWireServerHandlers for Held<'t, R> {
     }
 }
 
-/// Serves a client through its connection.
-fn serve<R: Wait + Drop>(
+/// Serves a client through its connection, by any handlers over an empty store.
+fn serve<
+    R: Wait,
+    H: PgWireServerHandlers,
+    St: PortalStore<
+        Statement = <H::Extended as ExtendedQueryHandler>::Statement,
+        Rows = <H::Extended as ExtendedQueryHandler>::Rows,
+    >,
+>(
+    rt: &R,
+    alloc: Global,
+    manager: &ConnectionManager,
+    handle: &mut ConnectionHandle,
+    handlers: Arc<H>,
+    store: St,
+    source: &mut MemorySource,
+    sink: &mut MemorySink,
+) -> Result<EndKind, ServeError>
+    requires issued { handle.old.issuer ≡ manager.now }
+    requires empty { St.maps store ≡ no_maps }
+{
+    let mut desk = HandleDesk {
+        runtime: rt,
+        manager,
+        handle,
+    };
+    let answer = serve_connection(alloc, handlers, store, &mut desk, source, sink, 9);
+    let HandleDesk {
+        runtime: _,
+        manager: _,
+        handle: _handle,
+    } = desk;
+    answer
+}
+
+/// The same by these handlers.
+fn serve_held<R: Wait + Drop>(
     rt: &R,
     alloc: Global,
     manager: &ConnectionManager,
@@ -176,19 +213,8 @@ fn serve<R: Wait + Drop>(
     let Ok(handlers) = Arc::new(alloc, held) else {
         return Err(ServeError::NoMemory);
     };
-    let mut desk = HandleDesk {
-        runtime: rt,
-        manager,
-        handle,
-    };
     let store = MemPortalStore::new(alloc);
-    let answer = serve_connection(alloc, handlers, store, &mut desk, source, sink, 9);
-    let HandleDesk {
-        runtime: _,
-        manager: _,
-        handle: _handle,
-    } = desk;
-    answer
+    serve(rt, alloc, manager, handle, handlers, store, source, sink)
 }
 
 /// The client's bytes.
@@ -210,7 +236,7 @@ fn is_told<R: Wait + Drop>(
 {
     let mut source = source(alloc)?;
     let mut sink = MemorySink::new(alloc, PgList::new(alloc));
-    let answer = serve(rt, alloc, manager, handle, held, &mut source, &mut sink);
+    let answer = serve_held(rt, alloc, manager, handle, held, &mut source, &mut sink);
     Some(answer == Ok(EndKind::Terminate) && sink.bytes().ends_with(CANCELED))
 }
 

@@ -6,6 +6,7 @@ ghost use Rattle.std.specs.Arc.{arc_value};
 use pg_cancel::{ConnectionHandle, ConnectionManager, Door};
 use pg_messages::SecretKey;
 use std::alloc::Global;
+use std::io::{Read, Write};
 use std::sync::{Arc, Wait};
 
 /// A startup packet of version 3.0 with `user` `demo`.
@@ -39,6 +40,21 @@ D\0\0\0\x1a\0\x01\0\0\0\x10\xff\xff\xff\xff\xff\xf8\x5e\xe0\0\0\0\0\0\0\0\0\
 D\0\0\0\x1a\0\x01\0\0\0\x10\0\0\0\0\0\x2d\xc6\xc0\0\0\0\x02\xff\xff\xff\xff\
 C\0\0\0\x0dSELECT 3\0\
 Z\0\0\0\x05I";
+
+/// Whether bytes are sent.
+pub(crate) fn sends<S: Write>(stream: &mut S, bytes: &[u8]) -> bool {
+    stream.write_all(bytes).is_ok()
+}
+
+/// Whether as many bytes as there is room for are read.
+pub(crate) fn reads<S: Read>(stream: &mut S, into: &mut [u8]) -> bool {
+    stream.read_exact(into).is_ok()
+}
+
+/// Whether a read tells the end.
+pub(crate) fn is_at_its_end<S: Read>(stream: &mut S) -> bool {
+    stream.read(&mut [0u8; 1]).is_ok_and(|n| n == 0)
+}
 
 /// The key of each registration.
 pub(crate) fn key(alloc: Global) -> Option<SecretKey> {

@@ -27,10 +27,10 @@ fn relations(alloc: Global) -> Option<Arc<RelationTable>> {
 /// The job of that client, under the pid 7, with 100 turns.
 fn first_path<R: Wait>(rt: &R, registry: &mut Registry) -> Option<MemoryJob> {
     let alloc = registry.alloc;
-    let source = client(alloc)?;
+    let manager = Arc::try_clone(&registry.manager).ok()?;
     let relations = relations(alloc)?;
     let handle = registry.register(rt, 7)?;
-    let manager = Arc::try_clone(&registry.manager).ok()?;
+    let source = client(alloc)?;
     let sink = MemorySink::new(alloc, PgList::new(alloc));
     Some(ConnectionJob {
         manager,

@@ -1,20 +1,22 @@
 //! Clients that are served side by side over TCP, and cancels of their queries.
 
-ghost use Rattle.std.specs.Prelude.{◌≡◌, IfSome};
+ghost use Rattle.std.specs.Prelude.{◌≡◌};
 
-use crate::clients::{Registry, STARTUP, STARTUP_3_2};
+use crate::clients::{Registry, STARTUP, STARTUP_3_2, is_at_its_end, reads, sends};
 use crate::relations::table_of;
 use pg_serve::{Listening, RandomKeys, SocketAcceptor};
-use relation_server::{JobThreads, RelationTable, ThreadSpawner, jobs_cross_threads, listen};
+use relation_server::{
+    JobThreads, RelationTable, StartJob, ThreadSpawner, jobs_cross_threads, listen,
+};
 use std::alloc::Global;
-use std::io::{Read, Write};
+use std::io::Read;
 use std::net::{Net, SocketAddr, TcpListener, TcpStream};
 use std::random::RandomSource;
 use std::sync::{Arc, Wait};
 use std::test::Fail;
+use std::thread;
 use std::thread::Threads;
 use std::time::{Clock, Duration};
-use std::{io, thread};
 
 /// How often a query is canceled.
 const CANCELS: u32 = 25;
@@ -28,73 +30,73 @@ const PIDS: [i32; 3] = [1, 27, 77];
 /// How many milliseconds pass between two cancels.
 const PAUSE: u64 = 10;
 
-/// Sends one CancelRequest, with its length, of this pid and key, and waits until the server ends
-/// the connection.
-fn cancel<R: Net<Stream = TcpStream>>(
+/// Whether one CancelRequest, with its length, of this pid and key is sent, and the server ends the
+/// connection then.
+fn cancels<R: Net<Stream = TcpStream>>(
     rt: &R,
     server: SocketAddr,
     length: u8,
     registration: &[u8],
-) -> io::Result<()> {
-    let mut stream = TcpStream::connect(rt, server)?;
-    stream.write_all(&[0, 0, 0, length, 0x04, 0xd2, 0x16, 0x2e])?;
-    stream.write_all(registration)?;
-    let _ended = stream.read(&mut [0u8; 1])?;
-    Ok(())
+) -> bool {
+    let head = [0, 0, 0, length, 0x04, 0xd2, 0x16, 0x2e];
+    match TcpStream::connect(rt, server) {
+        Ok(mut stream) => {
+            sends(&mut stream, &head)
+                && sends(&mut stream, registration)
+                && is_at_its_end(&mut stream)
+        }
+        Err(_) => false,
+    }
 }
 
-/// The same from many connections, one after another. Some come while the query runs.
-fn cancel_often<R: Net<Stream = TcpStream> + Clock>(
+/// Whether that is done from many connections, one after another. Some come while the query runs.
+fn cancels_often<R: Net<Stream = TcpStream> + Clock>(
     rt: &R,
     server: SocketAddr,
     length: u8,
     registration: &[u8],
-) -> io::Result<()> {
+) -> bool {
+    let mut are_so = true;
     for _ in 0..CANCELS {
-        cancel(rt, server, length, registration)?;
+        are_so = are_so && cancels(rt, server, length, registration);
         rt.sleep(Duration::from_millis(PAUSE));
     }
-    Ok(())
+    are_so
 }
 
-/// A client that asks a query that never ends. What it is told before is read.
-fn asking<R: Net<Stream = TcpStream>>(
-    rt: &R,
-    server: SocketAddr,
-    startup: &[u8],
-    begun: &mut [u8],
-) -> io::Result<TcpStream> {
-    let mut stream = TcpStream::connect(rt, server)?;
-    stream.write_all(startup)?;
-    stream.read_exact(begun)?;
-    stream.write_all(b"Q\0\0\0\x0cendless\0")?;
-    Ok(stream)
-}
-
-/// Whether the client is told that its query was canceled. It terminates then.
-fn is_told(stream: &mut TcpStream) -> io::Result<bool> {
-    let mut reply = [0u8; 31];
-    stream.read_exact(&mut reply)?;
-    stream.write_all(b"X\0\0\0\x04")?;
-    Ok(reply[5..].starts_with(b"SERROR\0VERROR\0C57014\0"))
+/// Whether a client reads what it is told behind its startup packet, and asks a query that never
+/// ends.
+fn asks(stream: &mut TcpStream, startup: &[u8], begun: &mut [u8]) -> bool {
+    sends(stream, startup) && reads(stream, begun) && sends(stream, b"Q\0\0\0\x0cendless\0")
 }
 
 /// Whether nothing was told to a client yet.
-fn is_silent(stream: &mut TcpStream) -> io::Result<bool> {
-    stream.set_nonblocking(true)?;
+fn is_silent(stream: &mut TcpStream) -> bool {
+    let is_set = stream.set_nonblocking(true).is_ok();
     let is_silent = stream.read(&mut [0u8; 1]).is_err();
-    stream.set_nonblocking(false)?;
-    Ok(is_silent)
+    is_set && is_silent && stream.set_nonblocking(false).is_ok()
+}
+
+/// Whether a client is told that its query was canceled. It terminates then.
+fn is_told(stream: &mut TcpStream) -> bool {
+    let mut reply = [0u8; 31];
+    reads(stream, &mut reply)
+        && reply[5..].starts_with(b"SERROR\0VERROR\0C57014\0")
+        && sends(stream, b"X\0\0\0\x04")
 }
 
 /// Whether a query of a client of 3.0 is canceled by the key that it is told. The pid and the key
 /// are the last eight of the 125 bytes up to the end of BackendKeyData; six bytes of ReadyForQuery
 /// follow.
-fn is_canceled<R: Net<Stream = TcpStream> + Clock>(rt: &R, server: SocketAddr) -> io::Result<bool> {
+fn is_canceled<R: Net<Stream = TcpStream> + Clock>(
+    rt: &R,
+    server: SocketAddr,
+    stream: &mut TcpStream,
+) -> bool {
     let mut begun = [0u8; 131];
-    let mut stream = asking(rt, server, STARTUP, &mut begun)?;
-    cancel_often(rt, server, 16, &begun[117..125])?;
-    is_told(&mut stream)
+    asks(stream, STARTUP, &mut begun)
+        && cancels_often(rt, server, 16, &begun[117..125])
+        && is_told(stream)
 }
 
 /// Whether a query of a client of 3.2 is canceled by the whole key that it is told, of 32 bytes,
@@ -102,36 +104,26 @@ fn is_canceled<R: Net<Stream = TcpStream> + Clock>(rt: &R, server: SocketAddr) -
 fn is_canceled_by_a_long_key<R: Net<Stream = TcpStream> + Clock>(
     rt: &R,
     server: SocketAddr,
-) -> io::Result<bool> {
+    stream: &mut TcpStream,
+) -> bool {
     let mut begun = [0u8; 159];
-    let mut stream = asking(rt, server, STARTUP_3_2, &mut begun)?;
-    cancel_often(rt, server, 16, &begun[117..125])?;
-    let is_silent = is_silent(&mut stream)?;
-    cancel_often(rt, server, 44, &begun[117..153])?;
-    Ok(is_told(&mut stream)? && is_silent)
+    asks(stream, STARTUP_3_2, &mut begun)
+        && cancels_often(rt, server, 16, &begun[117..125])
+        && is_silent(stream)
+        && cancels_often(rt, server, 44, &begun[117..153])
+        && is_told(stream)
 }
 
 /// Whether both are so, one after another.
-fn are_canceled<R: Net<Stream = TcpStream> + Clock>(
-    rt: &R,
-    server: SocketAddr,
-) -> io::Result<bool> {
-    Ok(is_canceled(rt, server)? && is_canceled_by_a_long_key(rt, server)?)
-}
-
-/// A spawner of jobs on threads.
-fn spawner_of<R: Threads + Wait + Clock + Copy + Send + 'static>(
-    rt: R,
-    alloc: Global,
-) -> Option<ThreadSpawner<JobThreads>>
-    ensures { IfSome result (λ spawner. spawner.started ≡ 0) }
-{
-    let threads = JobThreads::new(alloc).ok()?;
-    let theirs = threads.share().ok()?;
-    let Ok(start) = Box::new(alloc, move |job| theirs.start(rt, job)) else {
-        return None;
+fn are_canceled<R: Net<Stream = TcpStream> + Clock>(rt: &R, server: SocketAddr) -> bool {
+    let is_canceled = match TcpStream::connect(rt, server) {
+        Ok(mut stream) => is_canceled(rt, server, &mut stream),
+        Err(_) => false,
     };
-    Some(ThreadSpawner::new(threads, start))
+    match TcpStream::connect(rt, server) {
+        Ok(mut stream) => is_canceled_by_a_long_key(rt, server, &mut stream) && is_canceled,
+        Err(_) => false,
+    }
 }
 
 /// Whether all connections are taken in.
@@ -168,16 +160,20 @@ fn endless(alloc: Global) -> Option<Arc<RelationTable>> {
 }
 
 /// Whether all connections are taken in, and their jobs run to their ends.
-fn are_served<R: Threads + Wait + Clock + RandomSource + Copy + Drop + Send + 'static>(
+fn are_served<R: Wait + Clock + RandomSource + Copy + Drop>(
     rt: R,
     registry: &mut Registry,
     listener: TcpListener,
-) -> Option<bool> {
-    let table = endless(registry.alloc)?;
-    let mut spawner = spawner_of(rt, registry.alloc)?;
-    let taken = are_taken_in(rt, registry, listener, &mut spawner, table);
+    spawner: &mut ThreadSpawner<JobThreads>,
+) -> bool
+    requires started { spawner.old.started ≡ 0 }
+{
+    let Some(table) = endless(registry.alloc) else {
+        return false;
+    };
+    let taken = are_taken_in(rt, registry, listener, spawner, table);
     spawner.threads.finish(&rt);
-    taken
+    taken == Some(true)
 }
 
 /// Whether the pids of both clients and the last are free.
@@ -189,16 +185,39 @@ fn are_free<R: Wait>(rt: &R, registry: &mut Registry) -> bool {
     are_so
 }
 
+/// Whether queries of two clients are canceled at a server whose jobs this spawner starts, and each
+/// job has given its registration back then.
+fn is_canceled_beside<
+    R: Net<Stream = TcpStream, Listener = TcpListener>
+        + Threads
+        + Wait
+        + Clock
+        + RandomSource
+        + Copy
+        + Drop
+        + Send
+        + 'static,
+>(rt: R, registry: &mut Registry, spawner: &mut ThreadSpawner<JobThreads>) -> Option<bool>
+    requires started { spawner.old.started ≡ 0 }
+{
+    let listener = TcpListener::bind(&rt, "127.0.0.1:0").ok()?;
+    let server = listener.local_addr().ok()?;
+    let client = thread::spawn(&rt, move || are_canceled(&rt, server)).ok()?;
+    let are_served = are_served(rt, registry, listener, spawner);
+    Some(client.join(&rt) && are_served && are_free(&rt, registry))
+}
+
 /// Queries that never end are canceled while their connections are being served and others come.
 /// Each job then ends, and gives its registration back.
 #[test]
 fn a_query_is_canceled_over_tcp(rt: HostRuntime) -> Result<(), Fail> {
     jobs_cross_threads();
-    let listener = TcpListener::bind(&rt, "127.0.0.1:0")?;
-    let server = listener.local_addr()?;
     let mut registry = Registry::new(rt.alloc()).ok_or("no registry")?;
-    let client = thread::spawn(&rt, move || are_canceled(&rt, server).unwrap_or(false))?;
-    let served = are_served(rt, &mut registry, listener) == Some(true);
-    assert!(rt; client.join(&rt) && served && are_free(&rt, &mut registry));
+    let threads = JobThreads::new(rt.alloc())?;
+    let theirs = threads.share()?;
+    let start: StartJob = Box::new(rt.alloc(), move |job| theirs.start(rt, job))?;
+    let mut spawner = ThreadSpawner::new(threads, start);
+    let told = is_canceled_beside(rt, &mut registry, &mut spawner);
+    assert!(rt; told == Some(true));
     Ok(())
 }

@@ -1,45 +1,80 @@
 //! One client over TCP, and one over a Unix socket.
 
 ghost use Rattle.std.specs.Prelude.{◌≡◌};
+ghost use Rattle.std.specs.FinMap as fin;
+ghost use Rattle.pg_portal.specs.Maps.{no_maps};
 
-use crate::clients::{FIRST_PATH, FIRST_REPLIES, Registry};
+use crate::clients::{FIRST_PATH, FIRST_REPLIES, Registry, is_at_its_end, reads, sends};
 use pg_cancel::{ConnectionHandle, ConnectionManager};
-use pg_portal::MemPortalStore;
+use pg_portal::{MemPortalStore, PortalStore};
 use pg_serve::{
     Acceptor, Listening, MaybeTls, SocketAcceptor, process_socket, process_socket_unix,
 };
-use pg_session::{EndKind, NoopHandler, ServeError};
+use pg_session::{EndKind, ExtendedQueryHandler, NoopHandler, PgWireServerHandlers, ServeError};
 use relation_server::{RelationHandler, RelationTable, built_in_table};
 use std::alloc::Global;
 use std::io::{Read, Write};
 use std::net::{TcpListener, TcpStream};
 use std::os::unix::net::{UnixListener, UnixStream};
+use std::path::{Path, PathBuf};
 use std::sync::{Arc, Wait};
 use std::test::Fail;
 use std::thread::Threads;
 use std::time::Clock;
-use std::{env, fs, io, process, thread};
+use std::{env, fs, process, thread};
 
 /// Whether a client that sends the first path reads its replies, byte for byte, and then the end.
-fn is_answered<S: Read + Write>(stream: &mut S) -> io::Result<bool> {
-    stream.write_all(FIRST_PATH)?;
+fn is_answered<S: Read + Write>(stream: &mut S) -> bool {
     let mut replies = [0u8; FIRST_REPLIES.len()];
-    stream.read_exact(&mut replies)?;
-    let mut more = [0u8; 1];
-    Ok(replies.as_slice() == FIRST_REPLIES && stream.read(&mut more)? == 0)
+    sends(stream, FIRST_PATH)
+        && reads(stream, &mut replies)
+        && replies.as_slice() == FIRST_REPLIES
+        && is_at_its_end(stream)
 }
 
 /// A thread that reads the replies to the first path.
 fn client_at<R: Threads, S: Read + Write + Drop + Send + 'static>(
     rt: &R,
     stream: S,
-) -> io::Result<thread::JoinHandle<bool>> {
+) -> Option<thread::JoinHandle<bool>> {
     let mut stream = stream;
-    Ok(thread::spawn(rt, move || is_answered(&mut stream).unwrap_or(false))?)
+    thread::spawn(rt, move || is_answered(&mut stream)).ok()
+}
+
+/// Serves a client at a socket, by any handlers over an empty store.
+fn serve<
+    R: Wait,
+    H: PgWireServerHandlers + Drop,
+    St: PortalStore<
+        Statement = <H::Extended as ExtendedQueryHandler>::Statement,
+        Rows = <H::Extended as ExtendedQueryHandler>::Rows,
+    >
+        + Drop,
+>(
+    rt: &R,
+    alloc: Global,
+    handlers: Arc<H>,
+    store: St,
+    manager: &ConnectionManager,
+    handle: &mut ConnectionHandle,
+    reader: &mut MaybeTls,
+    writer: &mut MaybeTls,
+) -> Result<EndKind, ServeError>
+    requires issued { handle.old.issuer ≡ manager.now }
+    requires empty { St.maps store ≡ no_maps }
+{
+    match reader {
+        MaybeTls::Plain(_) => process_socket(
+            rt, alloc, reader, writer, handlers, store, manager, handle, 100,
+        ),
+        MaybeTls::Unix(_) => process_socket_unix(
+            rt, alloc, reader, writer, handlers, store, manager, handle, 100,
+        ),
+    }
 }
 
 /// Serves a client of relations at a socket.
-fn serve<R: Wait>(
+fn serve_relations_at<R: Wait>(
     rt: &R,
     alloc: Global,
     relations: &RelationTable,
@@ -55,14 +90,7 @@ fn serve<R: Wait>(
         return Err(ServeError::NoMemory);
     };
     let store = MemPortalStore::new(alloc);
-    match reader {
-        MaybeTls::Plain(_) => process_socket(
-            rt, alloc, reader, writer, handlers, store, manager, handle, 100,
-        ),
-        MaybeTls::Unix(_) => process_socket_unix(
-            rt, alloc, reader, writer, handlers, store, manager, handle, 100,
-        ),
-    }
+    serve(rt, alloc, handlers, store, manager, handle, reader, writer)
 }
 
 /// Whether a client is served under the pid 7, up to its Terminate.
@@ -74,7 +102,7 @@ fn is_served<R: Wait>(
     writer: &mut MaybeTls,
 ) -> Option<bool> {
     let mut handle = registry.register(rt, 7)?;
-    let end = serve(
+    let end = serve_relations_at(
         rt,
         registry.alloc,
         relations,
@@ -108,30 +136,52 @@ fn is_next_served<R: Wait + Clock + Copy + Drop>(
     is_served_alone(&rt, alloc, &mut reader, &mut writer)
 }
 
+/// Whether a client at this stream, whose connection is the first to come, is answered the first
+/// path.
+fn is_answered_at<R: Threads + Wait + Clock + Copy + Drop, S: Read + Write + Drop + Send + 'static>(
+    rt: R,
+    alloc: Global,
+    listening: Listening,
+    stream: S,
+) -> Option<bool> {
+    let client = client_at(&rt, stream)?;
+    let served = is_next_served(rt, alloc, listening);
+    Some(client.join(&rt) && served == Some(true))
+}
+
 #[test]
 fn first_path_over_tcp(rt: HostRuntime) -> Result<(), Fail> {
     let listener = TcpListener::bind(&rt, "127.0.0.1:0")?;
-    let client = client_at(&rt, TcpStream::connect(&rt, listener.local_addr()?)?)?;
-    let served = is_next_served(rt, rt.alloc(), Listening::Tcp(listener));
-    assert!(rt; client.join(&rt) && served == Some(true));
+    let stream = TcpStream::connect(&rt, listener.local_addr()?)?;
+    let told = is_answered_at(rt, rt.alloc(), Listening::Tcp(listener), stream);
+    assert!(rt; told == Some(true));
     Ok(())
 }
 
-/// A Unix socket that is listened at and a client of it. Its file is removed.
-fn at_unix_socket(rt: &HostRuntime) -> Result<(UnixListener, UnixStream), Fail> {
+/// Where a Unix socket is bound.
+fn socket_path(rt: &HostRuntime) -> Result<PathBuf, Fail> {
+    let folder = env::temp_dir(rt)?;
     let name = format!(in rt.alloc(); "relations-{}.socket", process::id(rt.process()))?;
-    let path = env::temp_dir(rt)?.join(rt.alloc(), name.as_str())?;
-    let listener = UnixListener::bind(rt, path.as_path())?;
-    let stream = UnixStream::connect(rt, path.as_path());
-    fs::remove_file(rt, path.as_path())?;
-    Ok((listener, stream?))
+    Ok(folder.join(rt.alloc(), name.as_str())?)
+}
+
+/// A Unix socket that is listened at and a client of it. Its file is removed.
+fn at_unix_socket(rt: &HostRuntime, path: Path<'_>) -> Option<(UnixListener, UnixStream)> {
+    let listener = UnixListener::bind(rt, path).ok()?;
+    let stream = UnixStream::connect(rt, path).ok();
+    let _removed = fs::remove_file(rt, path);
+    Some((listener, stream?))
 }
 
 #[test]
 fn first_path_over_a_unix_socket(rt: HostRuntime) -> Result<(), Fail> {
-    let (listener, stream) = at_unix_socket(&rt)?;
-    let client = client_at(&rt, stream)?;
-    let served = is_next_served(rt, rt.alloc(), Listening::Unix(listener));
-    assert!(rt; client.join(&rt) && served == Some(true));
+    let path = socket_path(&rt)?;
+    let told = match at_unix_socket(&rt, path.as_path()) {
+        Some((listener, stream)) => {
+            is_answered_at(rt, rt.alloc(), Listening::Unix(listener), stream)
+        }
+        None => None,
+    };
+    assert!(rt; told == Some(true));
     Ok(())
 }
