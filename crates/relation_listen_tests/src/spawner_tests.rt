@@ -10,11 +10,11 @@ use pg_cancel::ConnectionManager;
 use pg_messages::PgList;
 use pg_serve::{Counted, MaybeTls, Spawner};
 use relation_server::{ConnectionJob, JobThreads, RelationTable, ThreadSpawner, Tries};
+use std::alloc::Global;
 use std::net::Net;
 use std::os::unix::net::UnixStream;
 use std::sync::atomic::{AtomicBool, Ordering};
 use std::sync::{Arc, Wait};
-use std::test::Fail;
 use std::thread;
 use std::thread::{JoinHandle, Threads};
 use std::time::{Clock, Duration};
@@ -132,73 +132,90 @@ fn is_refused(tries: Option<Tries>) -> bool {
 }
 
 /// Whether a job, for whose thread there is no room while another runs that ends after a while, is
-/// refused behind the end of that.
+/// refused behind the end of that, which has given its registration back.
 fn is_refused_late<R: Threads + Wait + Clock + Net + Copy + Send + 'static>(
     rt: R,
     threads: &JobThreads,
     registry: &mut Registry,
-    has_left: &Arc<AtomicBool>,
 ) -> Option<bool> {
+    let has_left = Arc::new(registry.alloc, AtomicBool::new(false)).ok()?;
     let client = start_one(rt, threads, registry, 1)?;
-    let client = leaving(rt, None, client, has_left)?;
+    let client = leaving(rt, None, client, &has_left)?;
     let is_refused = is_refused(refused(rt, threads, registry));
     let is_ended = has_left.load(Ordering::SeqCst);
     client.join(&rt);
-    Some(is_refused && is_ended)
+    Some(is_refused && is_ended && registry.is_free(&rt, 1))
+}
+
+/// Threads of which none runs a job, and a registry at which nobody is registered.
+fn begun(alloc: Global) -> Option<(JobThreads, Registry)> {
+    let threads = JobThreads::new(alloc).ok()?;
+    let registry = Registry::new(alloc)?;
+    Some((threads, registry))
 }
 
 /// Where no thread can be started, a job that runs is waited for, and the job is refused behind
-/// five tries while none runs. The one that ran has given its registration back.
+/// five tries while none runs.
 #[test]
-fn a_job_waits_for_room(rt: HostRuntime) -> Result<(), Fail> {
-    let threads = JobThreads::new(rt.alloc())?;
-    let mut registry = Registry::new(rt.alloc()).ok_or("no registry")?;
-    let has_left = Arc::new(rt.alloc(), AtomicBool::new(false))?;
-    let is_late = is_refused_late(rt, &threads, &mut registry, &has_left);
-    assert!(rt; is_late == Some(true) && registry.is_free(&rt, 1));
-    Ok(())
+fn a_job_waits_for_room(rt: HostRuntime) {
+    let told = match begun(rt.alloc()) {
+        Some((threads, mut registry)) => is_refused_late(rt, &threads, &mut registry),
+        None => None,
+    };
+    assert!(rt; told == Some(true));
 }
 
 #[test]
-fn a_job_is_refused_where_none_runs(rt: HostRuntime) -> Result<(), Fail> {
-    let threads = JobThreads::new(rt.alloc())?;
-    let mut registry = Registry::new(rt.alloc()).ok_or("no registry")?;
-    let tries = refused(rt, &threads, &mut registry);
-    let told = Tries {
-        is_started: false,
-        failed: 5,
+fn a_job_is_refused_where_none_runs(rt: HostRuntime) {
+    let told = match begun(rt.alloc()) {
+        Some((threads, mut registry)) => refused(rt, &threads, &mut registry),
+        None => None,
     };
-    assert!(rt; tries == Some(told));
-    Ok(())
+    let is_started = false;
+    assert!(rt;
+        told == Some(Tries {
+            is_started,
+            failed: 5
+        })
+    );
 }
 
 /// Waits for the jobs of two clients, under the pids 1 and 2, which go away one after the other. It
-/// answers whether the last of them had left by then.
+/// answers whether the last of them had left by then, and both pids are free.
 fn finish_two<R: Threads + Wait + Clock + Net + Copy + Send + 'static>(
     rt: R,
     threads: &JobThreads,
     registry: &mut Registry,
-    has_left: &Arc<AtomicBool>,
 ) -> Option<bool> {
     let first = start_one(rt, threads, registry, 1)?;
     let last = start_one(rt, threads, registry, 2)?;
-    let clients = leaving(rt, Some(first), last, has_left)?;
+    let has_left = Arc::new(registry.alloc, AtomicBool::new(false)).ok()?;
+    let clients = leaving(rt, Some(first), last, &has_left)?;
     threads.finish(&rt);
     let is_over = has_left.load(Ordering::SeqCst);
     clients.join(&rt);
-    Some(is_over)
+    Some(is_over && registry.is_free(&rt, 1) && registry.is_free(&rt, 2))
 }
 
 /// `finish` waits for each client that stays, and behind it the jobs have given their registrations
 /// back.
 #[test]
-fn finish_waits_for_a_client_that_stays(rt: HostRuntime) -> Result<(), Fail> {
-    let threads = JobThreads::new(rt.alloc())?;
-    let mut registry = Registry::new(rt.alloc()).ok_or("no registry")?;
-    let has_left = Arc::new(rt.alloc(), AtomicBool::new(false))?;
-    let is_over = finish_two(rt, &threads, &mut registry, &has_left);
-    assert!(rt; is_over == Some(true) && registry.is_free(&rt, 1) && registry.is_free(&rt, 2));
-    Ok(())
+fn finish_waits_for_a_client_that_stays(rt: HostRuntime) {
+    let told = match begun(rt.alloc()) {
+        Some((threads, mut registry)) => finish_two(rt, &threads, &mut registry),
+        None => None,
+    };
+    assert!(rt; told == Some(true));
+}
+
+/// A spawner whose jobs are all answered so.
+fn answering(alloc: Global, tries: Tries) -> Option<ThreadSpawner<()>>
+    ensures { IfSome result (λ spawner. spawner.started ≡ 0) }
+{
+    let Ok(start) = Box::new(alloc, move |_job: SocketJob| tries) else {
+        return None;
+    };
+    Some(ThreadSpawner::new((), start))
 }
 
 /// What a spawner tells of a job, under this pid, that is answered so: whether it is taken as
@@ -210,10 +227,7 @@ fn counted<R: Wait + Net>(
     tries: Tries,
 ) -> Option<(bool, u64)> {
     let job = idle_job(rt, registry, pid)?;
-    let Ok(start) = Box::new(registry.alloc, move |_job: SocketJob| tries) else {
-        return None;
-    };
-    let mut spawner = ThreadSpawner::new((), start);
+    let mut spawner = answering(registry.alloc, tries)?;
     let is_started = spawner.start(job).is_ok();
     Some((is_started, spawner.faults()))
 }
@@ -238,8 +252,10 @@ fn are_counted<R: Wait + Net>(rt: &R, registry: &mut Registry) -> bool {
 
 /// Each try that failed is counted, and a refusal is counted in any case.
 #[test]
-fn failed_tries_are_counted(rt: HostRuntime) -> Result<(), Fail> {
-    let mut registry = Registry::new(rt.alloc()).ok_or("no registry")?;
-    assert!(rt; are_counted(&rt, &mut registry));
-    Ok(())
+fn failed_tries_are_counted(rt: HostRuntime) {
+    let are_so = match Registry::new(rt.alloc()) {
+        Some(mut registry) => are_counted(&rt, &mut registry),
+        None => false,
+    };
+    assert!(rt; are_so);
 }
