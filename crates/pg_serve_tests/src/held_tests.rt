@@ -2,15 +2,13 @@
 
 ghost use Rattle.std.specs.Prelude.{◌≡◌, IfSome};
 ghost use Rattle.std.specs.Arc.{arc_value};
-ghost use Rattle.std.specs.FinMap as fin;
-ghost use Rattle.pg_portal.specs.Maps.{no_maps};
 
 use pg_cancel::{ConnectionHandle, ConnectionManager, Door};
 use pg_handlers::{NoRows, NoopHandler, SimpleQueryHandler};
 use pg_messages::{PgBytes, PgList, SecretKey};
-use pg_portal::{ClientInfo, MemPortalStore, PortalStore, Response};
+use pg_portal::{ClientInfo, MemPortalStore, Response};
 use pg_serve::{HandleDesk, MemorySink, MemorySource, serve_connection};
-use pg_session::{EndKind, ExtendedQueryHandler, PgWireServerHandlers, ServeError};
+use pg_session::{EndKind, PgWireServerHandlers, ServeError};
 use polled_queries::PolledQuery;
 use std::alloc::{AllocError, Global};
 use std::cell::Cell;
@@ -163,32 +161,24 @@ impl<'t, R: Wait + Drop> PgWireServerHandlers for Held<'t, R> {
     }
 }
 
-/// Serves a client through its connection, by any handlers over an empty store.
-fn serve<
-    R: Wait,
-    H: PgWireServerHandlers,
-    St: PortalStore<
-        Statement = <H::Extended as ExtendedQueryHandler>::Statement,
-        Rows = <H::Extended as ExtendedQueryHandler>::Rows,
-    >,
->(
+/// Serves a client through its connection, by any handlers.
+fn serve<R: Wait, H: PgWireServerHandlers>(
     rt: &R,
     alloc: Global,
     manager: &ConnectionManager,
     handle: &mut ConnectionHandle,
     handlers: Arc<H>,
-    store: St,
     source: &mut MemorySource,
     sink: &mut MemorySink,
 ) -> Result<EndKind, ServeError>
     requires issued { handle.old.issuer ≡ manager.now }
-    requires empty { St.maps store ≡ no_maps }
 {
     let mut desk = HandleDesk {
         runtime: rt,
         manager,
         handle,
     };
+    let store = MemPortalStore::new(alloc);
     let answer = serve_connection(alloc, handlers, store, &mut desk, source, sink, 9);
     let HandleDesk {
         runtime: _,
@@ -210,11 +200,10 @@ fn serve_held<R: Wait + Drop>(
 ) -> Result<EndKind, ServeError>
     requires issued { handle.old.issuer ≡ manager.now }
 {
-    let Ok(handlers) = Arc::new(alloc, held) else {
-        return Err(ServeError::NoMemory);
-    };
-    let store = MemPortalStore::new(alloc);
-    serve(rt, alloc, manager, handle, handlers, store, source, sink)
+    match Arc::new(alloc, held) {
+        Ok(handlers) => serve(rt, alloc, manager, handle, handlers, source, sink),
+        Err(_) => Err(ServeError::NoMemory),
+    }
 }
 
 /// The client's bytes.

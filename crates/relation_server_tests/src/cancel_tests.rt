@@ -5,12 +5,11 @@ ghost use Rattle.std.specs.Arc.{arc_value};
 
 use crate::clients::{FIRST_REPLIES, Registry, STARTUP, key};
 use pg_cancel::{ConnectionHandle, ConnectionManager};
-use pg_messages::{PgBytes, PgList, SecretKey};
-use pg_serve::{MemorySink, MemorySource};
-use pg_session::EndKind;
-use relation_server::{RelationTable, built_in_table, serve_relations};
-use std::alloc::{AllocError, Global};
-use std::sync::atomic::{AtomicBool, Ordering};
+use pg_messages::{PgList, SecretKey};
+use pg_serve::MemorySink;
+use pg_session::{EndKind, Source, SourceFailed};
+use relation_server::{built_in_table, serve_relations};
+use std::alloc::Global;
 use std::sync::{Arc, Wait};
 use std::thread;
 use std::thread::Threads;
@@ -42,48 +41,54 @@ struct Canceler {
 
 impl Canceler {
     /// Cancels by the pid 7 and this key, again and again, and tells how often somebody had it.
-    fn cancel<R: Wait>(&mut self, rt: &R, key: &SecretKey) -> u32 {
+    fn run<R: Wait>(mut self, rt: &R, key: &SecretKey) -> u32 {
         let mut met = 0u32;
         for _ in 0..ROUNDS {
             let made = self.manager.cancel(rt, &mut self.handle, 7, key);
             met = met.saturating_add(u32::from(made.unwrap_or(false)));
+            thread::yield_now();
         }
         met
     }
 }
 
-/// What the other thread does: it tells that it has begun, and cancels.
-fn run<R: Wait>(rt: &R, canceler: Canceler, key: &SecretKey, begun: &AtomicBool) -> u32 {
-    let mut canceler = canceler;
-    begun.store(true, Ordering::SeqCst);
-    canceler.cancel(rt, key)
+/// A client that sends its startup packet, makes all queries, and then terminates, and gives the
+/// processor away before each.
+#[derive(Drop)]
+struct Asking {
+    reads: u64,
 }
 
-/// Waits until the other thread has begun.
-fn wait_for<R: Wait>(rt: &R, begun: &AtomicBool) {
-    for _ in rt.forever() {
-        if begun.load(Ordering::SeqCst) {
-            return;
-        }
+/// What it sends at the read of this number.
+fn piece(number: u64) -> &'static [u8] {
+    if number == 0 {
+        STARTUP
+    } else if number <= u64::from(ROUNDS) {
+        QUERY
+    } else {
+        b"X\0\0\0\x04"
+    }
+}
+
+impl Source for Asking {
+    ghost use Rattle.std.specs.Prelude.{None};
+
+    ghost left = { λ _. None };
+
+    ghost reads = { λ s. s.reads };
+
+    ghost faults = { λ _. 0 };
+
+    fn receive(&mut self, into: &mut [u8]) -> Result<usize, SourceFailed> {
         thread::yield_now();
+        let piece = piece(self.reads);
+        let n = piece.len().min(into.len());
+        into[..n].copy_from_slice(&piece[..n]);
+        if n > 0 {
+            self.reads = self.reads.saturating_add(1);
+        }
+        Ok(n)
     }
-}
-
-/// A client that makes all queries, and then terminates.
-fn queries(alloc: Global) -> Result<Vec<u8>, AllocError> {
-    let mut bytes = Vec::from_slice(alloc, STARTUP)?;
-    for _ in 0..ROUNDS {
-        bytes.extend_from_slice(QUERY)?;
-    }
-    bytes.extend_from_slice(b"X\0\0\0\x04")?;
-    Ok(bytes)
-}
-
-/// The source of that client.
-fn source(alloc: Global) -> Option<MemorySource> {
-    let bytes = PgBytes::from_vec(queries(alloc).ok()?);
-    let (pieces, fails) = (PgList::new(alloc), PgList::new(alloc));
-    Some(MemorySource::new(bytes, pieces, fails))
 }
 
 /// How many of the queries were canceled, where each was answered by its row or by that, and
@@ -113,29 +118,14 @@ fn are_answered<R: Wait>(
     alloc: Global,
     manager: &ConnectionManager,
     handle: &mut ConnectionHandle,
-    table: &RelationTable,
-    source: &mut MemorySource,
-    sink: &mut MemorySink,
-) -> bool
-    requires issued { handle.old.issuer ≡ manager.now }
-{
-    let answer = serve_relations(rt, alloc, manager, handle, table, source, sink, 1000);
-    answer == Ok(EndKind::Terminate) && canceled_among(sink.bytes()).is_some()
-}
-
-/// Whether they are over the built-in relations.
-fn is_served<R: Wait>(
-    rt: &R,
-    alloc: Global,
-    manager: &ConnectionManager,
-    handle: &mut ConnectionHandle,
 ) -> Option<bool>
     requires issued { handle.old.issuer ≡ manager.now }
 {
     let table = built_in_table(alloc).ok()?;
-    let mut source = source(alloc)?;
     let mut sink = MemorySink::new(alloc, PgList::new(alloc));
-    Some(are_answered(rt, alloc, manager, handle, &table, &mut source, &mut sink))
+    let source = &mut Asking { reads: 0 };
+    let answer = serve_relations(rt, alloc, manager, handle, &table, source, &mut sink, 1000);
+    Some(answer == Ok(EndKind::Terminate) && canceled_among(sink.bytes()).is_some())
 }
 
 /// The connection of pid 8, which cancels.
@@ -147,29 +137,16 @@ fn canceler_at<R: Wait>(rt: &R, registry: &mut Registry) -> Option<Canceler>
     Some(Canceler { manager, handle })
 }
 
-/// A thread that cancels, once it has begun.
-fn begin<R: Wait + Threads + Copy + Send + 'static>(
-    rt: R,
-    canceler: Canceler,
-    key: SecretKey,
-    begun: &Arc<AtomicBool>,
-) -> Option<thread::JoinHandle<u32>> {
-    let theirs = Arc::try_clone(begun).ok()?;
-    let thread = thread::spawn(&rt, move || run(&rt, canceler, &key, &theirs)).ok()?;
-    wait_for(&rt, begun);
-    Some(thread)
-}
-
-/// A thread that cancels at a registry, once it has begun.
+/// A thread that cancels at a registry.
 fn cancels_at<R: Wait + Threads + Copy + Send + 'static>(
     rt: R,
     registry: &mut Registry,
 ) -> Option<thread::JoinHandle<u32>>
     ensures manager { registry.new.manager ≡ registry.old.manager }
 {
-    let begun = Arc::new(registry.alloc, AtomicBool::new(false)).ok()?;
+    let key = key(registry.alloc)?;
     let canceler = canceler_at(&rt, registry)?;
-    begin(rt, canceler, key(registry.alloc)?, &begun)
+    thread::spawn(&rt, move || canceler.run(&rt, &key)).ok()
 }
 
 /// Whether that is so while cancels come beside the queries, and each cancel meets the connection.
@@ -179,8 +156,8 @@ fn are_answered_beside<R: Wait + Threads + Copy + Send + 'static>(
 ) -> Option<bool> {
     let mut handle = registry.register(&rt, 7)?;
     let canceler = cancels_at(rt, registry)?;
-    let served = is_served(&rt, registry.alloc, &registry.manager, &mut handle);
-    Some(canceler.join(&rt) == ROUNDS && served == Some(true))
+    let told = are_answered(&rt, registry.alloc, &registry.manager, &mut handle);
+    Some(canceler.join(&rt) == ROUNDS && told == Some(true))
 }
 
 /// A hundred queries meet a hundred cancels: each is answered by its row, or that it was canceled.

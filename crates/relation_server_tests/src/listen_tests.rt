@@ -155,7 +155,7 @@ fn are_taken_in<R: Wait + Clock + RandomSource + Copy + Drop>(
 
 /// A relation whose query finds as many polls unready as there can be.
 fn endless(alloc: Global) -> Option<Arc<RelationTable>> {
-    let table = table_of(alloc, "endless", "span", 1, u32::MAX).ok()?;
+    let table = table_of(alloc, "endless", "span", false, u32::MAX).ok()?;
     Arc::new(alloc, table).ok()
 }
 
@@ -188,23 +188,35 @@ fn are_free<R: Wait>(rt: &R, registry: &mut Registry) -> bool {
 /// Whether queries of two clients are canceled at a server whose jobs this spawner starts, and each
 /// job has given its registration back then.
 fn is_canceled_beside<
-    R: Net<Stream = TcpStream, Listener = TcpListener>
-        + Threads
+    R: Threads
         + Wait
         + Clock
         + RandomSource
+        + Net<Stream = TcpStream>
         + Copy
         + Drop
         + Send
         + 'static,
->(rt: R, registry: &mut Registry, spawner: &mut ThreadSpawner<JobThreads>) -> Option<bool>
+>(
+    rt: R,
+    alloc: Global,
+    listener: TcpListener,
+    spawner: &mut ThreadSpawner<JobThreads>,
+) -> Option<bool>
     requires started { spawner.old.started ≡ 0 }
 {
-    let listener = TcpListener::bind(&rt, "127.0.0.1:0").ok()?;
     let server = listener.local_addr().ok()?;
+    let mut registry = Registry::new(alloc)?;
     let client = thread::spawn(&rt, move || are_canceled(&rt, server)).ok()?;
-    let are_served = are_served(rt, registry, listener, spawner);
-    Some(client.join(&rt) && are_served && are_free(&rt, registry))
+    let are_served = are_served(rt, &mut registry, listener, spawner);
+    Some(client.join(&rt) && are_served && are_free(&rt, &mut registry))
+}
+
+/// Threads for jobs, for two owners.
+fn threads_of(alloc: Global) -> Option<(JobThreads, JobThreads)> {
+    let threads = JobThreads::new(alloc).ok()?;
+    let theirs = threads.share().ok()?;
+    Some((threads, theirs))
 }
 
 /// Queries that never end are canceled while their connections are being served and others come.
@@ -212,12 +224,11 @@ fn is_canceled_beside<
 #[test]
 fn a_query_is_canceled_over_tcp(rt: HostRuntime) -> Result<(), Fail> {
     jobs_cross_threads();
-    let mut registry = Registry::new(rt.alloc()).ok_or("no registry")?;
-    let threads = JobThreads::new(rt.alloc())?;
-    let theirs = threads.share()?;
+    let listener = TcpListener::bind(&rt, "127.0.0.1:0")?;
+    let (threads, theirs) = threads_of(rt.alloc()).ok_or("no memory")?;
     let start: StartJob = Box::new(rt.alloc(), move |job| theirs.start(rt, job))?;
     let mut spawner = ThreadSpawner::new(threads, start);
-    let told = is_canceled_beside(rt, &mut registry, &mut spawner);
+    let told = is_canceled_beside(rt, rt.alloc(), listener, &mut spawner);
     assert!(rt; told == Some(true));
     Ok(())
 }

@@ -1,94 +1,74 @@
-//! Tables of one relation, and those that are refused.
+//! Tables of relations, and those that are refused.
 
-use pg_interval::Interval;
 use pg_messages::{PgList, PgStr};
 use relation_server::{Relation, RelationTable, TableError};
 use std::alloc::{AllocError, Global};
 
-/// One column of a name.
-fn column_of(alloc: Global, name: &str) -> Result<PgList<PgStr>, AllocError> {
-    let name = PgStr::copy_of(alloc, name)?;
-    let mut columns = PgList::new(alloc);
-    columns.push(name)?;
-    Ok(columns)
-}
-
-/// A row of so many intervals.
-fn row_of(alloc: Global, width: usize) -> Result<PgList<Interval>, AllocError> {
-    let mut row = PgList::new(alloc);
-    for _ in 0..width {
-        row.push(Interval::new(0, 1, 0))?;
-    }
-    Ok(row)
-}
-
-/// One such row.
-fn rows_of(alloc: Global, width: usize) -> Result<PgList<PgList<Interval>>, AllocError> {
-    let row = row_of(alloc, width)?;
-    let mut rows = PgList::new(alloc);
-    rows.push(row)?;
-    Ok(rows)
-}
-
-/// A relation of a name, one column of a name, and one row of so many intervals, whose query finds
-/// so many polls unready.
+/// A relation of a name and one column of a name, whose query finds so many polls unready. It has no
+/// row, or one that is too short.
 fn relation_of(
     alloc: Global,
     name: &str,
     column: &str,
-    width: usize,
+    is_ragged: bool,
     unready: u32,
 ) -> Result<Relation, AllocError> {
-    let columns = column_of(alloc, column)?;
-    let rows = rows_of(alloc, width)?;
-    let name = PgStr::copy_of(alloc, name)?;
+    let mut columns = PgList::new(alloc);
+    columns.push(PgStr::copy_of(alloc, column)?)?;
+    let mut rows = PgList::new(alloc);
+    if is_ragged {
+        rows.push(PgList::new(alloc))?;
+    }
     Ok(Relation {
-        name,
+        name: PgStr::copy_of(alloc, name)?,
         unready,
         columns,
         rows,
     })
 }
 
-/// A table of that relation.
+/// A table of one such relation.
 pub(crate) fn table_of(
     alloc: Global,
     name: &str,
     column: &str,
-    width: usize,
+    is_ragged: bool,
     unready: u32,
 ) -> Result<RelationTable, TableError> {
-    let relation = relation_of(alloc, name, column, width, unready)?;
     let mut relations = PgList::new(alloc);
-    relations.push(relation)?;
+    relations.push(relation_of(alloc, name, column, is_ragged, unready)?)?;
+    RelationTable::try_new(alloc, relations)
+}
+
+/// A table of two relations of one name.
+fn table_of_two(alloc: Global) -> Result<RelationTable, TableError> {
+    let mut relations = PgList::new(alloc);
+    relations.push(relation_of(alloc, "a", "span", false, 0)?)?;
+    relations.push(relation_of(alloc, "a", "span", false, 0)?)?;
     RelationTable::try_new(alloc, relations)
 }
 
 /// A name of 64 bytes.
 const LONG: &str = "aaaaaaaaaaaaaaaabbbbbbbbbbbbbbbbccccccccccccccccdddddddddddddddd";
 
-/// Why a relation of this name, column and width of its row is no table, if it is none.
-fn refusal(alloc: Global, name: &str, column: &str, width: usize) -> Option<TableError> {
-    table_of(alloc, name, column, width, 0).err()
-}
-
 /// Each rule of a relation refuses what breaks it.
 #[test]
 fn tables_are_judged(rt: HostRuntime) {
     let alloc = rt.alloc();
     let told = [
-        refusal(alloc, "a", "", 1),
-        refusal(alloc, LONG, LONG, 0),
-        refusal(alloc, "a", LONG, 0),
-        refusal(alloc, "a", "span", 0),
+        table_of_two(alloc).err(),
+        table_of(alloc, "a", "span", true, 0).err(),
+        table_of(alloc, "a", LONG, true, 0).err(),
+        table_of(alloc, LONG, LONG, true, 0).err(),
+        table_of(alloc, "a", "", false, 0).err(),
     ];
-    let place = 0;
     assert!(rt;
         told == [
+            Some(TableError::BadName(1)),
+            Some(TableError::RaggedRow(0)),
+            Some(TableError::BadColumn(0)),
+            Some(TableError::BadName(0)),
             None,
-            Some(TableError::BadName(place)),
-            Some(TableError::BadColumn(place)),
-            Some(TableError::RaggedRow(place)),
         ]
     );
 }

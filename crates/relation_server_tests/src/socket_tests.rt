@@ -1,16 +1,14 @@
 //! One client over TCP, and one over a Unix socket.
 
 ghost use Rattle.std.specs.Prelude.{◌≡◌};
-ghost use Rattle.std.specs.FinMap as fin;
-ghost use Rattle.pg_portal.specs.Maps.{no_maps};
 
 use crate::clients::{FIRST_PATH, FIRST_REPLIES, Registry, is_at_its_end, reads, sends};
 use pg_cancel::{ConnectionHandle, ConnectionManager};
-use pg_portal::{MemPortalStore, PortalStore};
+use pg_portal::MemPortalStore;
 use pg_serve::{
     Acceptor, Listening, MaybeTls, SocketAcceptor, process_socket, process_socket_unix,
 };
-use pg_session::{EndKind, ExtendedQueryHandler, NoopHandler, PgWireServerHandlers, ServeError};
+use pg_session::{EndKind, NoopHandler, PgWireServerHandlers, ServeError};
 use relation_server::{RelationHandler, RelationTable, built_in_table};
 use std::alloc::Global;
 use std::io::{Read, Write};
@@ -41,28 +39,19 @@ fn client_at<R: Threads, S: Read + Write + Drop + Send + 'static>(
     thread::spawn(rt, move || is_answered(&mut stream)).ok()
 }
 
-/// Serves a client at a socket, by any handlers over an empty store.
-fn serve<
-    R: Wait,
-    H: PgWireServerHandlers + Drop,
-    St: PortalStore<
-        Statement = <H::Extended as ExtendedQueryHandler>::Statement,
-        Rows = <H::Extended as ExtendedQueryHandler>::Rows,
-    >
-        + Drop,
->(
+/// Serves a client at a socket, by any handlers.
+fn serve<R: Wait, H: PgWireServerHandlers + Drop>(
     rt: &R,
     alloc: Global,
     handlers: Arc<H>,
-    store: St,
     manager: &ConnectionManager,
     handle: &mut ConnectionHandle,
     reader: &mut MaybeTls,
     writer: &mut MaybeTls,
 ) -> Result<EndKind, ServeError>
     requires issued { handle.old.issuer ≡ manager.now }
-    requires empty { St.maps store ≡ no_maps }
 {
+    let store = MemPortalStore::new(alloc);
     match reader {
         MaybeTls::Plain(_) => process_socket(
             rt, alloc, reader, writer, handlers, store, manager, handle, 100,
@@ -86,44 +75,25 @@ fn serve_relations_at<R: Wait>(
     requires issued { handle.old.issuer ≡ manager.now }
 {
     let copying = NoopHandler;
-    let Ok(handlers) = Arc::new(alloc, RelationHandler { relations, copying }) else {
-        return Err(ServeError::NoMemory);
-    };
-    let store = MemPortalStore::new(alloc);
-    serve(rt, alloc, handlers, store, manager, handle, reader, writer)
+    match Arc::new(alloc, RelationHandler { relations, copying }) {
+        Ok(handlers) => serve(rt, alloc, handlers, manager, handle, reader, writer),
+        Err(_) => Err(ServeError::NoMemory),
+    }
 }
 
-/// Whether a client is served under the pid 7, up to its Terminate.
+/// Whether a client is served over the built-in relations under the pid 7, up to its Terminate.
 fn is_served<R: Wait>(
-    rt: &R,
-    relations: &RelationTable,
-    registry: &mut Registry,
-    reader: &mut MaybeTls,
-    writer: &mut MaybeTls,
-) -> Option<bool> {
-    let mut handle = registry.register(rt, 7)?;
-    let end = serve_relations_at(
-        rt,
-        registry.alloc,
-        relations,
-        &registry.manager,
-        &mut handle,
-        reader,
-        writer,
-    );
-    Some(end == Ok(EndKind::Terminate))
-}
-
-/// Whether it is, over the built-in relations.
-fn is_served_alone<R: Wait>(
     rt: &R,
     alloc: Global,
     reader: &mut MaybeTls,
     writer: &mut MaybeTls,
 ) -> Option<bool> {
-    let relations = built_in_table(alloc).ok()?;
     let mut registry = Registry::new(alloc)?;
-    is_served(rt, &relations, &mut registry, reader, writer)
+    let mut handle = registry.register(rt, 7)?;
+    let relations = built_in_table(alloc).ok()?;
+    let manager = &registry.manager;
+    let end = serve_relations_at(rt, alloc, &relations, manager, &mut handle, reader, writer);
+    Some(end == Ok(EndKind::Terminate))
 }
 
 /// Whether the first connection to come is served so. It is ended then.
@@ -133,7 +103,7 @@ fn is_next_served<R: Wait + Clock + Copy + Drop>(
     listening: Listening,
 ) -> Option<bool> {
     let (mut reader, mut writer) = SocketAcceptor::new(listening, rt).accept().ok()?;
-    is_served_alone(&rt, alloc, &mut reader, &mut writer)
+    is_served(&rt, alloc, &mut reader, &mut writer)
 }
 
 /// Whether a client at this stream, whose connection is the first to come, is answered the first
