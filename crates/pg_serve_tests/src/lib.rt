@@ -1,6 +1,6 @@
-//! Tests of the engine's edges: what no row of a table program can say, and no contract. Who
-//! accepts connections and where keys come from, adapters over readers and writers that fail, and
-//! a cancel that comes while a handler makes its query.
+//! Tests of the engine's edges: what no row of a table program can say. Who accepts connections and
+//! where keys come from, adapters over readers and writers that fail, a cancel from another thread,
+//! and calls that a session doesn't make so.
 #![tactic(auto)]
 
 #[cfg(test)]
@@ -11,3 +11,7 @@ mod adapter_tests;
 mod held_tests;
 #[cfg(test)]
 mod key_tests;
+#[cfg(test)]
+mod send_tests;
+#[cfg(test)]
+mod session_tests;
