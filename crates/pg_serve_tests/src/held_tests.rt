@@ -251,9 +251,13 @@ struct Canceler {
 
 impl Canceler {
     /// Once the moment has come, it cancels by the pid 7, and tells whether somebody has it.
-    fn run<R: Wait>(mut self, rt: &R, key: &SecretKey, flags: &Flags) -> bool {
+    fn run<R: Wait>(self, rt: &R, key: &SecretKey, flags: &Flags) -> bool {
+        let Canceler {
+            manager,
+            mut handle,
+        } = self;
         flags.wait_for_moment(rt);
-        let made = self.manager.cancel(rt, &mut self.handle, 7, key);
+        let made = manager.cancel(rt, &mut handle, 7, key);
         flags.canceled.store(true, Ordering::SeqCst);
         made.is_ok_and(|is_met| is_met)
     }

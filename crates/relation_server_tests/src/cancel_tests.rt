@@ -41,7 +41,7 @@ struct Canceler {
 
 impl Canceler {
     /// Cancels by the pid 7 and this key, again and again, and tells how often somebody had it.
-    fn run<R: Wait>(mut self, rt: &R, key: &SecretKey) -> u32 {
+    fn cancel<R: Wait>(&mut self, rt: &R, key: &SecretKey) -> u32 {
         let mut met = 0u32;
         for _ in 0..ROUNDS {
             let made = self.manager.cancel(rt, &mut self.handle, 7, key);
@@ -50,6 +50,12 @@ impl Canceler {
         }
         met
     }
+}
+
+/// What the other thread does.
+fn run<R: Wait>(rt: &R, canceler: Canceler, key: &SecretKey) -> u32 {
+    let mut canceler = canceler;
+    canceler.cancel(rt, key)
 }
 
 /// A client that sends its startup packet, makes all queries, and then terminates, and gives the
@@ -146,7 +152,7 @@ fn cancels_at<R: Wait + Threads + Copy + Send + 'static>(
 {
     let key = key(registry.alloc)?;
     let canceler = canceler_at(&rt, registry)?;
-    thread::spawn(&rt, move || canceler.run(&rt, &key)).ok()
+    thread::spawn(&rt, move || run(&rt, canceler, &key)).ok()
 }
 
 /// Whether that is so while cancels come beside the queries, and each cancel meets the connection.

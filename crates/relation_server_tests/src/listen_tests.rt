@@ -19,16 +19,16 @@ use std::thread::Threads;
 use std::time::{Clock, Duration};
 
 /// How often a query is canceled.
-const CANCELS: u32 = 25;
+const CANCELS: u32 = 50;
 
 /// Two clients, of whom one's query is canceled so often, and the other's twice so often.
-const CONNECTIONS: u64 = 77;
+const CONNECTIONS: u64 = 152;
 
 /// The pids of the clients, and that of the last connection.
-const PIDS: [i32; 3] = [1, 27, 77];
+const PIDS: [i32; 3] = [1, 52, 152];
 
 /// How many milliseconds pass between two cancels.
-const PAUSE: u64 = 10;
+const PAUSE: u64 = 4;
 
 /// Whether one CancelRequest, with its length, of this pid and key is sent, and the server ends the
 /// connection then.
@@ -159,23 +159,6 @@ fn endless(alloc: Global) -> Option<Arc<RelationTable>> {
     Arc::new(alloc, table).ok()
 }
 
-/// Whether all connections are taken in, and their jobs run to their ends.
-fn are_served<R: Wait + Clock + RandomSource + Copy + Drop>(
-    rt: R,
-    registry: &mut Registry,
-    listener: TcpListener,
-    spawner: &mut ThreadSpawner<JobThreads>,
-) -> bool
-    requires started { spawner.old.started ≡ 0 }
-{
-    let Some(table) = endless(registry.alloc) else {
-        return false;
-    };
-    let taken = are_taken_in(rt, registry, listener, spawner, table);
-    spawner.threads.finish(&rt);
-    taken == Some(true)
-}
-
 /// Whether the pids of both clients and the last are free.
 fn are_free<R: Wait>(rt: &R, registry: &mut Registry) -> bool {
     let mut are_so = true;
@@ -185,19 +168,9 @@ fn are_free<R: Wait>(rt: &R, registry: &mut Registry) -> bool {
     are_so
 }
 
-/// Whether queries of two clients are canceled at a server whose jobs this spawner starts, and each
-/// job has given its registration back then.
-fn is_canceled_beside<
-    R: Threads
-        + Wait
-        + Clock
-        + RandomSource
-        + Net<Stream = TcpStream>
-        + Copy
-        + Drop
-        + Send
-        + 'static,
->(
+/// Whether all connections are taken in, and their jobs run to their ends and have given their
+/// registrations back then.
+fn are_served<R: Wait + Clock + RandomSource + Copy + Drop>(
     rt: R,
     alloc: Global,
     listener: TcpListener,
@@ -205,11 +178,11 @@ fn is_canceled_beside<
 ) -> Option<bool>
     requires started { spawner.old.started ≡ 0 }
 {
-    let server = listener.local_addr().ok()?;
+    let table = endless(alloc)?;
     let mut registry = Registry::new(alloc)?;
-    let client = thread::spawn(&rt, move || are_canceled(&rt, server)).ok()?;
-    let are_served = are_served(rt, &mut registry, listener, spawner);
-    Some(client.join(&rt) && are_served && are_free(&rt, &mut registry))
+    let taken = are_taken_in(rt, &mut registry, listener, spawner, table);
+    spawner.threads.finish(&rt);
+    Some(taken == Some(true) && are_free(&rt, &mut registry))
 }
 
 /// Threads for jobs, for two owners.
@@ -225,10 +198,12 @@ fn threads_of(alloc: Global) -> Option<(JobThreads, JobThreads)> {
 fn a_query_is_canceled_over_tcp(rt: HostRuntime) -> Result<(), Fail> {
     jobs_cross_threads();
     let listener = TcpListener::bind(&rt, "127.0.0.1:0")?;
+    let server = listener.local_addr()?;
     let (threads, theirs) = threads_of(rt.alloc()).ok_or("no memory")?;
     let start: StartJob = Box::new(rt.alloc(), move |job| theirs.start(rt, job))?;
     let mut spawner = ThreadSpawner::new(threads, start);
-    let told = is_canceled_beside(rt, rt.alloc(), listener, &mut spawner);
-    assert!(rt; told == Some(true));
+    let client = thread::spawn(&rt, move || are_canceled(&rt, server))?;
+    let served = are_served(rt, rt.alloc(), listener, &mut spawner);
+    assert!(rt; client.join(&rt) && served == Some(true));
     Ok(())
 }
