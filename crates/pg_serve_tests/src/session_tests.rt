@@ -53,7 +53,6 @@ fn awaiting_sync<St: PortalStore<Statement = PgStr>>(
     requires empty { St.maps store ≡ no_maps }
     ensures { IfSome result (λ client. IsGoodState noop_told (state_of St.maps client)) }
 {
-    let outbox = Outbox::new(alloc).ok()?;
     let info = ClientInfo {
         pid: 7,
         secret_key,
@@ -62,6 +61,7 @@ fn awaiting_sync<St: PortalStore<Statement = PgStr>>(
         status: TransactionStatus::Idle,
         state: PgWireConnectionState::AwaitingSync,
     };
+    let outbox = Outbox::new(alloc).ok()?;
     Some(Client {
         info,
         store,

@@ -132,10 +132,10 @@ fn are_taken_in<R: Wait + Clock + RandomSource + Copy + Drop>(
     registry: &mut Registry,
     listener: TcpListener,
     spawner: &mut ThreadSpawner<JobThreads>,
-    table: Arc<RelationTable>,
 ) -> Option<bool>
     requires started { spawner.old.started ≡ 0 }
 {
+    let table = endless(registry.alloc)?;
     let manager = Arc::try_clone(&registry.manager).ok()?;
     let mut acceptor = SocketAcceptor::new(Listening::Tcp(listener), rt);
     let mut keys = RandomKeys::new(registry.alloc, rt);
@@ -174,13 +174,14 @@ fn are_served<R: Wait + Clock + RandomSource + Copy + Drop>(
     rt: R,
     alloc: Global,
     listener: TcpListener,
-    spawner: &mut ThreadSpawner<JobThreads>,
+    threads: JobThreads,
+    start: StartJob,
 ) -> Option<bool>
-    requires started { spawner.old.started ≡ 0 }
+    requires ready { IsAlwaysCallable start }
 {
-    let table = endless(alloc)?;
+    let mut spawner = ThreadSpawner::new(threads, start);
     let mut registry = Registry::new(alloc)?;
-    let taken = are_taken_in(rt, &mut registry, listener, spawner, table);
+    let taken = are_taken_in(rt, &mut registry, listener, &mut spawner);
     spawner.threads.finish(&rt);
     Some(taken == Some(true) && are_free(&rt, &mut registry))
 }
@@ -199,11 +200,10 @@ fn a_query_is_canceled_over_tcp(rt: HostRuntime) -> Result<(), Fail> {
     jobs_cross_threads();
     let listener = TcpListener::bind(&rt, "127.0.0.1:0")?;
     let server = listener.local_addr()?;
+    let client = thread::spawn(&rt, move || are_canceled(&rt, server))?;
     let (threads, theirs) = threads_of(rt.alloc()).ok_or("no memory")?;
     let start: StartJob = Box::new(rt.alloc(), move |job| theirs.start(rt, job))?;
-    let mut spawner = ThreadSpawner::new(threads, start);
-    let client = thread::spawn(&rt, move || are_canceled(&rt, server))?;
-    let served = are_served(rt, rt.alloc(), listener, &mut spawner);
+    let served = are_served(rt, rt.alloc(), listener, threads, start);
     assert!(rt; client.join(&rt) && served == Some(true));
     Ok(())
 }
