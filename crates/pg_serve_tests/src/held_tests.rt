@@ -1,22 +1,35 @@
-//! A cancel from another thread, while a query is being made or polled.
+//! A cancel from another thread, while a query is being made or polled. The client waits for its
+//! replies before it asks.
 
-ghost use Rattle.std.specs.Prelude.{◌≡◌, IfOk};
+ghost use Rattle.std.specs.Prelude.{◌≡◌, IfSome};
 ghost use Rattle.std.specs.Arc.{arc_value};
 
-use crate::fixtures::{STARTED, STARTUP, joined, key};
 use pg_cancel::{ConnectionHandle, ConnectionManager, Door};
 use pg_handlers::{NoRows, NoopHandler, QueryState, SimpleQueryHandler, Turn};
-use pg_messages::{PgList, SecretKey};
+use pg_messages::{PgBytes, PgList, SecretKey};
 use pg_portal::{ClientInfo, MemPortalStore, PgWireError, Response};
 use pg_serve::{HandleDesk, MemorySink, MemorySource, serve_connection};
-use pg_session::{EndKind, PgWireServerHandlers, ServeError};
+use pg_session::{
+    EndKind, PgWireServerHandlers, ServeError, Sink, SinkError, Source, SourceFailed,
+};
 use polled_queries::PolledQuery;
 use std::alloc::{AllocError, Global};
+use std::cell::Cell;
 use std::sync::atomic::{AtomicBool, AtomicU64, Ordering};
 use std::sync::{Arc, Wait};
-use std::test::Fail;
 use std::thread;
-use std::thread::Threads;
+use std::thread::{JoinHandle, Threads};
+
+/// A startup packet of version 3.0 with `user` `demo`, of 19 bytes; a Query; Terminate.
+const CLIENT: &[u8] = b"\0\0\0\x13\0\x03\0\0user\0demo\0\0Q\0\0\0\x06x\0X\0\0\0\x04";
+
+/// The last of the replies to a startup packet.
+const READY: &[u8] = b"Z\0\0\0\x05I";
+
+/// The replies to the Query: ErrorResponse, ReadyForQuery.
+const CANCELED: &[u8] =
+    b"E\0\0\0\x43SERROR\0VERROR\0C57014\0Mcanceling statement due to user request\0\0\
+Z\0\0\0\x05I";
 
 /// How often is looked whether the cancel was made.
 const LOOKS: u32 = 100_000_000;
@@ -40,15 +53,6 @@ struct Flags {
 }
 
 impl Flags {
-    fn new(moment: Moment) -> Flags {
-        Flags {
-            moment,
-            queries: AtomicU64::new(0),
-            waits: AtomicBool::new(false),
-            canceled: AtomicBool::new(false),
-        }
-    }
-
     /// At the given moment it tells so, and gives the cancel time.
     fn hold(&self, moment: Moment) {
         if moment != self.moment {
@@ -159,64 +163,57 @@ impl PgWireServerHandlers for Held {
     }
 }
 
-/// A connection that cancels another one's query.
+/// A client that sends its first piece, and the next only where the server was ready for a query by
+/// then; else it ends.
 #[derive(Drop)]
-struct Canceler {
-    manager: Arc<ConnectionManager>,
-    handle: ConnectionHandle,
-    key: SecretKey,
-    flags: Arc<Flags>,
-    ghost issued: { handle.issuer ≡ arc_value manager },
+struct PatientSource<'f> {
+    source: MemorySource,
+    ready: &'f Cell<bool>,
+    began: bool,
 }
 
-impl Canceler {
-    /// Once the moment has come, it cancels by the pid 7, and tells whether somebody has it.
-    fn run<R: Wait>(self, rt: &R) -> bool {
-        let Canceler {
-            manager,
-            mut handle,
-            key,
-            flags,
-        } = self;
-        flags.wait_for_moment(rt);
-        let made = manager.cancel(rt, &mut handle, 7, &key).unwrap_or(false);
-        flags.canceled.store(true, Ordering::SeqCst);
-        made
+impl<'f> Source for PatientSource<'f> {
+    ghost use Rattle.std.specs.Prelude.{None};
+
+    ghost left = { λ _. None };
+
+    ghost reads = { λ s. s.source.reads };
+
+    ghost faults = { λ s. s.source.faults };
+
+    fn receive(&mut self, into: &mut [u8]) -> Result<usize, SourceFailed> {
+        if self.began && !self.ready.get() {
+            return Ok(0);
+        }
+        self.began = true;
+        self.source.receive(into)
     }
 }
 
-/// A connection whose client is served.
+/// A sink that notes when the server is ready for a query.
 #[derive(Drop)]
-struct Served {
-    manager: Arc<ConnectionManager>,
-    handle: ConnectionHandle,
-    ghost issued: { handle.issuer ≡ arc_value manager },
+struct NotingSink<'f> {
+    sink: MemorySink,
+    ready: &'f Cell<bool>,
 }
 
-impl Served {
-    /// Serves a client that asks one query.
-    fn serve<R: Wait>(
-        &mut self,
-        rt: &R,
-        alloc: Global,
-        handlers: Arc<Held>,
-        source: &mut MemorySource,
-        sink: &mut MemorySink,
-    ) -> Result<EndKind, ServeError> {
-        let mut desk = HandleDesk {
-            runtime: rt,
-            manager: &self.manager,
-            handle: &mut self.handle,
-        };
-        let store = MemPortalStore::new(alloc);
-        let answer = serve_connection(alloc, handlers, store, &mut desk, source, sink, 9);
-        let HandleDesk {
-            runtime: _,
-            manager: _,
-            handle: _handle,
-        } = desk;
-        answer
+impl<'f> Sink for NotingSink<'f> {
+    ghost use Rattle.std.specs.Prelude.{Some};
+
+    ghost written = { λ s. Some s.sink.bytes };
+
+    ghost faults = { λ s. s.sink.faults };
+
+    fn send(&mut self, bytes: &[u8]) -> Result<(), SinkError> {
+        self.sink.send(bytes)?;
+        self.ready.set(self.sink.bytes().ends_with(READY));
+        Ok(())
     }
+}
+
+/// The key of each registration.
+fn key(alloc: Global) -> Option<SecretKey> {
+    SecretKey::try_new(alloc, &[1, 2, 3, 4]).ok()
 }
 
 /// A registry that is shared, and its door.
@@ -228,92 +225,51 @@ struct Registry {
 }
 
 impl Registry {
-    fn new(alloc: Global) -> Result<Registry, Fail> {
-        let (manager, door) = ConnectionManager::new(alloc)?;
-        let manager = Arc::new(alloc, manager)?;
-        Ok(Registry { manager, door })
+    fn new(alloc: Global) -> Option<Registry> {
+        let (manager, door) = ConnectionManager::new(alloc).ok()?;
+        let manager = Arc::new(alloc, manager).ok()?;
+        Some(Registry { manager, door })
     }
 
     /// The connection of a pid.
-    fn register<R: Wait>(
-        &mut self,
-        rt: &R,
-        alloc: Global,
-        pid: i32,
-    ) -> Result<ConnectionHandle, Fail>
+    fn register<R: Wait>(&mut self, rt: &R, alloc: Global, pid: i32) -> Option<ConnectionHandle>
         ensures manager { self.new.manager ≡ self.old.manager }
-        ensures issued { IfOk result (λ handle. handle.issuer ≡ arc_value self.old.manager) }
+        ensures issued { IfSome result (λ handle. handle.issuer ≡ arc_value self.old.manager) }
     {
         let key = key(alloc)?;
-        match self.manager.register(rt, &mut self.door, pid, key) {
-            Ok(handle) => Ok(handle),
-            Err(_) => Err(Fail::from("no registration")),
-        }
+        self.manager.register(rt, &mut self.door, pid, key).ok()
     }
+}
 
-    /// The connection of pid 7, whose client is served.
-    fn served<R: Wait>(&mut self, rt: &R, alloc: Global) -> Result<Served, Fail> {
-        let manager = Arc::try_clone(&self.manager)?;
-        let handle = self.register(rt, alloc, 7)?;
-        Ok(Served { manager, handle })
-    }
+/// A connection that cancels another one's query.
+#[derive(Drop)]
+struct Canceler {
+    manager: Arc<ConnectionManager>,
+    handle: ConnectionHandle,
+    ghost issued: { handle.issuer ≡ arc_value manager },
+}
 
-    /// The connection of pid 8, which cancels.
-    fn canceler<R: Wait>(
-        &mut self,
-        rt: &R,
-        alloc: Global,
-        flags: &Arc<Flags>,
-    ) -> Result<Canceler, Fail> {
-        let manager = Arc::try_clone(&self.manager)?;
-        let flags = Arc::try_clone(flags)?;
-        let handle = self.register(rt, alloc, 8)?;
-        let key = key(alloc)?;
-        Ok(Canceler {
+impl Canceler {
+    /// Once the moment has come, it cancels by the pid 7, and tells whether somebody has it.
+    fn run<R: Wait>(self, rt: &R, key: &SecretKey, flags: &Flags) -> bool {
+        let Canceler {
             manager,
-            handle,
-            key,
-            flags,
-        })
+            mut handle,
+        } = self;
+        flags.wait_for_moment(rt);
+        let made = manager.cancel(rt, &mut handle, 7, key);
+        flags.canceled.store(true, Ordering::SeqCst);
+        made.is_ok_and(|is_met| is_met)
     }
 }
 
-/// Handlers that tell the moment.
-fn handlers(alloc: Global, flags: &Arc<Flags>) -> Result<Arc<Held>, AllocError> {
-    let held = Held {
-        flags: Arc::try_clone(flags)?,
-        noop: NoopHandler,
-    };
-    Ok(Arc::new(alloc, held)?)
-}
-
-/// Whether replies tell that the one query was canceled.
-fn is_told(replies: &[u8]) -> bool {
-    let told = replies.strip_prefix(STARTED).unwrap_or(&[]);
-    told.get(5..)
-        .unwrap_or(&[])
-        .starts_with(b"SERROR\0VERROR\0C57014\0")
-}
-
-/// A client that asks one query.
-fn client(alloc: Global) -> Result<MemorySource, AllocError> {
-    let client = joined(alloc, &[STARTUP, b"Q\0\0\0\x06x\0X\0\0\0\x04"])?;
-    Ok(MemorySource::new(client, PgList::new(alloc), PgList::new(alloc)))
-}
-
-impl Served {
-    /// Whether a client is told that its one query was canceled.
-    fn is_canceled<R: Wait>(
-        &mut self,
-        rt: &R,
-        alloc: Global,
-        handlers: Arc<Held>,
-    ) -> Result<bool, AllocError> {
-        let mut source = client(alloc)?;
-        let mut sink = MemorySink::new(alloc, PgList::new(alloc));
-        let answer = self.serve(rt, alloc, handlers, &mut source, &mut sink);
-        Ok(answer == Ok(EndKind::Terminate) && is_told(sink.bytes()))
-    }
+/// The connection of pid 8, which cancels.
+fn canceler_at<R: Wait>(rt: &R, alloc: Global, registry: &mut Registry) -> Option<Canceler>
+    ensures manager { registry.new.manager ≡ registry.old.manager }
+{
+    let handle = registry.register(rt, alloc, 8)?;
+    let manager = Arc::try_clone(&registry.manager).ok()?;
+    Some(Canceler { manager, handle })
 }
 
 /// A thread that cancels at the moment.
@@ -322,48 +278,125 @@ fn start<R: Wait + Threads + Copy + Send + 'static>(
     alloc: Global,
     registry: &mut Registry,
     flags: &Arc<Flags>,
-) -> Result<thread::JoinHandle<bool>, Fail> {
-    let canceler = registry.canceler(&rt, alloc, flags)?;
-    Ok(thread::spawn(&rt, move || canceler.run(&rt))?)
+) -> Option<JoinHandle<bool>>
+    ensures manager { registry.new.manager ≡ registry.old.manager }
+{
+    let theirs = Arc::try_clone(flags).ok()?;
+    let key = key(alloc)?;
+    let canceler = canceler_at(&rt, alloc, registry)?;
+    thread::spawn(&rt, move || canceler.run(&rt, &key, &theirs)).ok()
 }
 
-/// Whether a cancel is made at the moment, and heard by the one query.
+/// Serves a client through its connection, by any handlers.
+fn serve<R: Wait, H: PgWireServerHandlers>(
+    rt: &R,
+    alloc: Global,
+    manager: &ConnectionManager,
+    handle: &mut ConnectionHandle,
+    handlers: Arc<H>,
+    source: &mut PatientSource<'_>,
+    sink: &mut NotingSink<'_>,
+) -> Result<EndKind, ServeError>
+    requires issued { handle.old.issuer ≡ manager.now }
+{
+    let mut desk = HandleDesk {
+        runtime: rt,
+        manager,
+        handle,
+    };
+    let store = MemPortalStore::new(alloc);
+    let answer = serve_connection(alloc, handlers, store, &mut desk, source, sink, 9);
+    let HandleDesk {
+        runtime: _,
+        manager: _,
+        handle: _handle,
+    } = desk;
+    answer
+}
+
+/// The client's bytes, of which the first read gives the startup packet alone.
+fn source(alloc: Global) -> Option<MemorySource> {
+    let bytes = PgBytes::copy_of(alloc, CLIENT).ok()?;
+    let mut pieces = PgList::new(alloc);
+    pieces.push(19).ok()?;
+    Some(MemorySource::new(bytes, pieces, PgList::new(alloc)))
+}
+
+/// Handlers that tell the moment.
+fn handlers(alloc: Global, flags: &Arc<Flags>) -> Option<Arc<Held>> {
+    let flags = Arc::try_clone(flags).ok()?;
+    let noop = NoopHandler;
+    Arc::new(alloc, Held { flags, noop }).ok()
+}
+
+/// Whether a client of such handlers is told that its query was canceled. It asks only once the
+/// server was ready.
+fn is_told<R: Wait>(
+    rt: &R,
+    alloc: Global,
+    manager: &ConnectionManager,
+    handle: &mut ConnectionHandle,
+    flags: &Arc<Flags>,
+) -> Option<bool>
+    requires issued { handle.old.issuer ≡ manager.now }
+{
+    let ready = &Cell::new(false);
+    let source = source(alloc)?;
+    let handlers = handlers(alloc, flags)?;
+    let began = false;
+    let mut source = PatientSource {
+        source,
+        ready,
+        began,
+    };
+    let sink = MemorySink::new(alloc, PgList::new(alloc));
+    let mut sink = NotingSink { sink, ready };
+    let answer = serve(rt, alloc, manager, handle, handlers, &mut source, &mut sink);
+    Some(answer == Ok(EndKind::Terminate) && sink.sink.bytes().ends_with(CANCELED))
+}
+
+/// Whether a cancel is made at the moment, and heard by the query of the client of pid 7.
 fn is_heard<R: Wait + Threads + Copy + Send + 'static>(
     rt: R,
     alloc: Global,
-    registry: &mut Registry,
     flags: &Arc<Flags>,
-) -> Result<bool, Fail> {
-    let mut served = registry.served(&rt, alloc)?;
-    let canceler = start(rt, alloc, registry, flags)?;
-    let told = served.is_canceled(&rt, alloc, handlers(alloc, flags)?)?;
-    Ok(canceler.join(&rt) && told)
+) -> Option<bool> {
+    let mut registry = Registry::new(alloc)?;
+    let mut handle = registry.register(&rt, alloc, 7)?;
+    let canceler = start(rt, alloc, &mut registry, flags)?;
+    let told = is_told(&rt, alloc, &registry.manager, &mut handle, flags);
+    Some(canceler.join(&rt) && told == Some(true))
 }
 
-/// Whether a cancel is made at this moment, and heard by the one query that the handler was asked
-/// for.
+/// Whether so it is at this moment, and the handler was asked once.
 fn is_canceled<R: Wait + Threads + Copy + Send + 'static>(
     rt: R,
     alloc: Global,
     moment: Moment,
-) -> Result<bool, Fail> {
-    let flags = Arc::new(alloc, Flags::new(moment))?;
-    let mut registry = Registry::new(alloc)?;
-    let heard = is_heard(rt, alloc, &mut registry, &flags)?;
-    Ok(heard && flags.queries.load(Ordering::SeqCst) == 1)
+) -> bool {
+    let flags = Flags {
+        moment,
+        queries: AtomicU64::new(0),
+        waits: AtomicBool::new(false),
+        canceled: AtomicBool::new(false),
+    };
+    match Arc::new(alloc, flags) {
+        Ok(flags) => {
+            is_heard(rt, alloc, &flags) == Some(true) && flags.queries.load(Ordering::SeqCst) == 1
+        }
+        Err(_) => false,
+    }
 }
 
-/// A cancel is made and heard while the query is being polled.
+/// A cancel is made and heard while the query is being polled: no lock is held meanwhile.
 #[test]
-fn a_query_is_canceled_while_it_is_polled(rt: HostRuntime) -> Result<(), Fail> {
-    assert!(rt; is_canceled(rt, rt.alloc(), Moment::Poll)?);
-    Ok(())
+fn a_query_is_canceled_while_it_is_polled(rt: HostRuntime) {
+    assert!(rt; is_canceled(rt, rt.alloc(), Moment::Poll));
 }
 
 /// A cancel is made while the handler makes the query, and heard at its first poll: the query had
 /// been started before. The handler was asked once.
 #[test]
-fn a_query_is_canceled_while_it_is_made(rt: HostRuntime) -> Result<(), Fail> {
-    assert!(rt; is_canceled(rt, rt.alloc(), Moment::Query)?);
-    Ok(())
+fn a_query_is_canceled_while_it_is_made(rt: HostRuntime) {
+    assert!(rt; is_canceled(rt, rt.alloc(), Moment::Query));
 }

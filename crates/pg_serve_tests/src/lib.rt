@@ -1,18 +1,17 @@
-//! Tests of the session, of what handlers send, and of the engine: what no row of a table program
-//! can say, and each public call that takes memory or is generic at a concrete type.
+//! Tests of the engine's edges: what no row of a table program can say. Who accepts connections and
+//! where keys come from, adapters over readers and writers that fail, a cancel from another thread,
+//! and calls that a session doesn't make so.
 #![tactic(auto)]
 
 #[cfg(test)]
 mod acceptor_tests;
 #[cfg(test)]
-mod fixtures;
+mod adapter_tests;
 #[cfg(test)]
 mod held_tests;
 #[cfg(test)]
-mod memory_tests;
+mod key_tests;
 #[cfg(test)]
 mod send_tests;
-#[cfg(test)]
-mod serve_tests;
 #[cfg(test)]
 mod session_tests;

@@ -2,14 +2,30 @@
 
 ghost use Rattle.std.specs.Prelude.{◌≡◌, [], codes, IfOk};
 ghost use Rattle.std.specs.Arc.{arc_value};
+ghost use Rattle.std.specs.List.{AllByRecursion};
+ghost use Rattle.pg_portal.specs.Rows.{IsSendable};
 ghost use Rattle.pg_handlers.specs.Good.{IsTag};
 
-use crate::fixtures::push_row;
-use pg_messages::PgList;
-use pg_portal::{ListRows, QueryResponse};
+use pg_messages::{DataRow, PgBytes, PgList};
+use pg_portal::{ListRows, PgWireError, QueryResponse};
 use pg_session::{Outbox, send_partial_query_response};
 use std::alloc::{AllocError, Global};
 use std::sync::Arc;
+
+/// Appends a row without a cell.
+fn push_row(
+    alloc: Global,
+    items: &mut PgList<Result<DataRow, PgWireError>>,
+) -> Result<(), AllocError>
+    requires { AllByRecursion IsSendable items.old }
+    ensures { AllByRecursion IsSendable items.new }
+{
+    let payload = PgBytes::copy_of(alloc, &[])?;
+    items.push(Ok(DataRow {
+        payload,
+        field_count: 0,
+    }))
+}
 
 /// Two rows without a column.
 fn rows(alloc: Global) -> Result<QueryResponse<ListRows>, AllocError>

@@ -1,27 +1,13 @@
-//! A client's key, sources of bytes, and a registry.
+//! A registry, and keys of registrations.
 
-ghost use Rattle.std.specs.Prelude.{◌≡◌, IfOk};
+ghost use Rattle.std.specs.Prelude.{◌≡◌, IfSome};
 ghost use Rattle.std.specs.Arc.{arc_value};
 ghost use Rattle.relation_server.specs.Jobs.{IsFresh};
 
 use pg_cancel::{ConnectionHandle, ConnectionManager, Door};
-use pg_messages::{PgBytes, PgList, SecretKey};
-use pg_serve::MemorySource;
-use std::alloc::{AllocError, Global};
+use pg_messages::SecretKey;
+use std::alloc::Global;
 use std::sync::{Arc, Wait};
-use std::test::Fail;
-
-/// The key of a registration.
-pub(crate) const KEY: [u8; 4] = [1, 2, 3, 4];
-
-/// A source of these bytes, in one piece.
-pub(crate) fn source_of(alloc: Global, bytes: &[u8]) -> Result<MemorySource, AllocError>
-    ensures { IfOk result (λ source. source.reads ≡ 0) }
-{
-    let bytes = PgBytes::copy_of(alloc, bytes)?;
-    let (pieces, fails) = (PgList::new(alloc), PgList::new(alloc));
-    Ok(MemorySource::new(bytes, pieces, fails))
-}
 
 /// A registry that is shared, and its door.
 #[derive(Drop)]
@@ -37,10 +23,10 @@ pub(crate) struct Registry {
 
 impl Registry {
     /// A registry at which nobody is registered.
-    pub(crate) fn new(alloc: Global) -> Result<Registry, Fail> {
-        let (manager, door) = ConnectionManager::new(alloc)?;
-        let manager = Arc::new(alloc, manager)?;
-        Ok(Registry {
+    pub(crate) fn new(alloc: Global) -> Option<Registry> {
+        let (manager, door) = ConnectionManager::new(alloc).ok()?;
+        let manager = Arc::new(alloc, manager).ok()?;
+        Some(Registry {
             alloc,
             manager,
             door,
@@ -48,23 +34,17 @@ impl Registry {
     }
 
     /// The connection of a pid.
-    pub(crate) fn register<R: Wait>(&mut self, rt: &R, pid: i32) -> Result<ConnectionHandle, Fail>
+    pub(crate) fn register<R: Wait>(&mut self, rt: &R, pid: i32) -> Option<ConnectionHandle>
         ensures manager { self.new.manager ≡ self.old.manager }
-        ensures issued { IfOk result (λ handle. handle.issuer ≡ arc_value self.old.manager) }
-        ensures fresh { IfOk result (λ handle. IsFresh 0 handle) }
+        ensures issued { IfSome result (λ handle. handle.issuer ≡ arc_value self.old.manager) }
+        ensures fresh { IfSome result (λ handle. IsFresh 0 handle) }
     {
-        let key = SecretKey::try_new(self.alloc, &KEY)?;
-        match self.manager.register(rt, &mut self.door, pid, key) {
-            Ok(handle) => Ok(handle),
-            Err(_) => Err(Fail::from("no registration")),
-        }
+        let key = SecretKey::try_new(self.alloc, &[1, 2, 3, 4]).ok()?;
+        self.manager.register(rt, &mut self.door, pid, key).ok()
     }
 
     /// Whether nobody has a pid, who is registered under it now.
     pub(crate) fn is_free<R: Wait>(&mut self, rt: &R, pid: i32) -> bool {
-        match SecretKey::try_new(self.alloc, &KEY) {
-            Ok(key) => self.manager.register(rt, &mut self.door, pid, key).is_ok(),
-            Err(_) => false,
-        }
+        self.register(rt, pid).is_some()
     }
 }

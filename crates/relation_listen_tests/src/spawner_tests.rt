@@ -1,227 +1,261 @@
 //! Jobs on threads: threads that can't be started, and who waits for their end.
 
-ghost use Rattle.std.specs.Prelude.{◌≡◌, ◌<◌, ◌^◌, IfOk};
+ghost use Rattle.std.specs.Prelude.{◌≡◌, IfSome};
+ghost use Rattle.std.specs.Arc.{arc_value};
 ghost use Rattle.relation_server.specs.Jobs.{IsFresh};
 ghost use Rattle.pg_serve.specs.Sockets.{reads_of};
 
 use crate::clients::Registry;
+use pg_cancel::ConnectionManager;
+use pg_messages::PgList;
 use pg_serve::{Counted, MaybeTls, Spawner};
-use relation_server::{ConnectionJob, JobThreads, ThreadSpawner, Tries, built_in_table};
+use relation_server::{ConnectionJob, JobThreads, RelationTable, ThreadSpawner, Tries};
 use std::alloc::Global;
 use std::net::Net;
 use std::os::unix::net::UnixStream;
 use std::sync::atomic::{AtomicBool, Ordering};
 use std::sync::{Arc, Wait};
-use std::test::Fail;
 use std::thread;
+use std::thread::{JoinHandle, Threads};
 use std::time::{Clock, Duration};
 
 /// A job over a socket.
 type SocketJob = ConnectionJob<MaybeTls, MaybeTls>;
 
 /// The two ends of a stream at the server.
-fn ends_of(stream: UnixStream) -> Result<(MaybeTls, MaybeTls), Fail>
-    ensures { IfOk result (λ ends. reads_of ends.0 ≡ 0) }
+fn ends_of(stream: UnixStream) -> Option<(MaybeTls, MaybeTls)>
+    ensures { IfSome result (λ ends. reads_of ends.0 ≡ 0) }
 {
-    let second = stream.try_clone()?;
-    Ok((
+    let second = stream.try_clone().ok()?;
+    Some((
         MaybeTls::Unix(Counted::new(stream)),
         MaybeTls::Unix(Counted::new(second)),
     ))
 }
 
-impl Registry {
-    /// The job of a client at a stream, under this pid.
-    fn job<R: Wait>(
-        &mut self,
-        rt: &R,
-        alloc: Global,
-        pid: i32,
-        stream: UnixStream,
-    ) -> Result<SocketJob, Fail>
-        ensures { IfOk result (λ job. IsFresh (reads_of job.source) job.handle) }
-    {
-        let (source, sink) = ends_of(stream)?;
-        let relations = Arc::new(alloc, built_in_table(alloc)?)?;
-        let manager = Arc::try_clone(&self.manager)?;
-        let handle = self.register(rt, pid)?;
-        Ok(ConnectionJob {
-            manager,
-            relations,
-            handle,
-            source,
-            sink,
-            turn_limit: 100,
-        })
-    }
+/// What jobs share: the registry, and a table without relations.
+fn shared(registry: &Registry) -> Option<(Arc<ConnectionManager>, Arc<RelationTable>)>
+    ensures { IfSome result (λ both. arc_value both.0 ≡ arc_value registry.now.manager) }
+{
+    let table = RelationTable::try_new(registry.alloc, PgList::new(registry.alloc)).ok()?;
+    let relations = Arc::new(registry.alloc, table).ok()?;
+    let manager = Arc::try_clone(&registry.manager).ok()?;
+    Some((manager, relations))
 }
 
-/// A client that sends nothing, and goes away after a while. It tells that it has.
-#[derive(Drop)]
-struct Client {
+/// The job of a client at a stream, under this pid.
+fn job_at<R: Wait>(
+    rt: &R,
+    registry: &mut Registry,
+    pid: i32,
     stream: UnixStream,
-    has_left: Arc<AtomicBool>,
+) -> Option<SocketJob>
+    ensures { IfSome result (λ job. IsFresh (reads_of job.source) job.handle) }
+{
+    let (source, sink) = ends_of(stream)?;
+    let (manager, relations) = shared(registry)?;
+    let handle = registry.register(rt, pid)?;
+    Some(ConnectionJob {
+        manager,
+        relations,
+        handle,
+        source,
+        sink,
+        turn_limit: 100,
+    })
 }
 
-impl Client {
-    fn new(alloc: Global, stream: UnixStream) -> Result<Client, Fail> {
-        let has_left = Arc::new(alloc, AtomicBool::new(false))?;
-        Ok(Client { stream, has_left })
-    }
-
-    fn leave<R: Clock>(self, rt: &R) {
-        rt.sleep(Duration::from_millis(300));
-        self.has_left.store(true, Ordering::SeqCst);
-    }
-}
-
-/// Starts the job of a client under this pid. It answers the client.
-fn start_one<R: thread::Threads + Wait + Clock + Net + Copy + Send + 'static>(
+/// Starts the job of a client under this pid. It answers the client's end, where that needed one
+/// try.
+fn start_one<R: Threads + Wait + Clock + Net + Copy + Send + 'static>(
     rt: R,
-    alloc: Global,
     threads: &JobThreads,
     registry: &mut Registry,
     pid: i32,
-) -> Result<Client, Fail> {
-    let (stream, served) = UnixStream::pair(&rt)?;
-    let tries = threads.start(rt, registry.job(&rt, alloc, pid, served)?);
-    if !tries.is_started || tries.failed != 0 {
-        return Err(Fail::from("no thread"));
+) -> Option<UnixStream> {
+    let (stream, served) = UnixStream::pair(&rt).ok()?;
+    let tries = threads.start(rt, job_at(&rt, registry, pid, served)?);
+    if tries.is_started && tries.failed == 0 {
+        Some(stream)
+    } else {
+        None
     }
-    Client::new(alloc, stream)
+}
+
+/// The job of a client that has gone, under this pid.
+fn idle_job<R: Wait + Net>(rt: &R, registry: &mut Registry, pid: i32) -> Option<SocketJob>
+    ensures { IfSome result (λ job. IsFresh (reads_of job.source) job.handle) }
+{
+    let (_client, served) = UnixStream::pair(rt).ok()?;
+    job_at(rt, registry, pid, served)
 }
 
 /// What is answered to a job for whose thread there is no room.
-fn refused<R: thread::Threads + Wait + Clock + Net + Copy + Send + 'static>(
+fn refused<R: Threads + Wait + Clock + Net + Copy + Send + 'static>(
     rt: R,
-    alloc: Global,
     threads: &JobThreads,
     registry: &mut Registry,
-) -> Result<Tries, Fail> {
-    let (_client, served) = UnixStream::pair(&rt)?;
-    let without_room = threads.share_with_stack(usize::MAX)?;
-    let job = registry.job(&rt, alloc, 2, served)?;
-    Ok(without_room.start(rt, job))
+) -> Option<Tries> {
+    let without_room = threads.share_with_stack(usize::MAX).ok()?;
+    let job = idle_job(&rt, registry, 3)?;
+    Some(without_room.start(rt, job))
 }
 
-/// What is answered to a job, for whose thread there is no room, while another runs that ends after
-/// a while: how many tries failed, and whether the other's client had left then.
-fn waited_for<R: thread::Threads + Wait + Clock + Net + Copy + Send + 'static>(
+/// How many milliseconds a client stays.
+const WHILE: u64 = 200;
+
+/// One client goes away after a while, if there is one, and behind it another one, which has told so
+/// by then.
+fn leave<R: Clock>(rt: &R, first: Option<UnixStream>, last: UnixStream, has_left: &AtomicBool) {
+    rt.sleep(Duration::from_millis(WHILE));
+    drop(first);
+    rt.sleep(Duration::from_millis(WHILE));
+    has_left.store(true, Ordering::SeqCst);
+    drop(last);
+}
+
+/// A thread on which they do.
+fn leaving<R: Threads + Clock + Copy + Send + 'static>(
     rt: R,
-    alloc: Global,
+    first: Option<UnixStream>,
+    last: UnixStream,
+    has_left: &Arc<AtomicBool>,
+) -> Option<JoinHandle<()>> {
+    let theirs = Arc::try_clone(has_left).ok()?;
+    thread::spawn(&rt, move || leave(&rt, first, last, &theirs)).ok()
+}
+
+/// Whether a job for whose thread there is no room is refused, behind five or six tries. There are
+/// six where another job ran at the first.
+fn is_refused(tries: Option<Tries>) -> bool {
+    tries.is_some_and(|tries| !tries.is_started && (tries.failed == 5 || tries.failed == 6))
+}
+
+/// Whether a job, for whose thread there is no room while another runs that ends after a while, is
+/// refused behind the end of that, which has given its registration back.
+fn is_refused_late<R: Threads + Wait + Clock + Net + Copy + Send + 'static>(
+    rt: R,
     threads: &JobThreads,
     registry: &mut Registry,
-) -> Result<(Tries, bool), Fail> {
-    let client = start_one(rt, alloc, threads, registry, 1)?;
-    let has_left = Arc::try_clone(&client.has_left)?;
-    let client = thread::spawn(&rt, move || client.leave(&rt))?;
-    let tries = refused(rt, alloc, threads, registry)?;
+) -> Option<bool> {
+    let has_left = Arc::new(registry.alloc, AtomicBool::new(false)).ok()?;
+    let client = start_one(rt, threads, registry, 1)?;
+    let client = leaving(rt, None, client, &has_left)?;
+    let is_refused = is_refused(refused(rt, threads, registry));
     let is_ended = has_left.load(Ordering::SeqCst);
     client.join(&rt);
-    Ok((tries, is_ended))
+    Some(is_refused && is_ended && registry.is_free(&rt, 1))
+}
+
+/// Threads of which none runs a job, and a registry at which nobody is registered.
+fn begun(alloc: Global) -> Option<(JobThreads, Registry)> {
+    let threads = JobThreads::new(alloc).ok()?;
+    let registry = Registry::new(alloc)?;
+    Some((threads, registry))
 }
 
 /// Where no thread can be started, a job that runs is waited for, and the job is refused behind
 /// five tries while none runs.
 #[test]
-fn a_job_waits_for_room(rt: HostRuntime) -> Result<(), Fail> {
-    let alloc = rt.alloc();
-    let threads = JobThreads::new(alloc)?;
-    let mut registry = Registry::new(alloc)?;
-    let (tries, is_ended) = waited_for(rt, alloc, &threads, &mut registry)?;
-    assert!(rt; !tries.is_started && tries.failed == 6 && is_ended && registry.is_free(&rt, 1));
-    Ok(())
+fn a_job_waits_for_room(rt: HostRuntime) {
+    let told = match begun(rt.alloc()) {
+        Some((threads, mut registry)) => is_refused_late(rt, &threads, &mut registry),
+        None => None,
+    };
+    assert!(rt; told == Some(true));
 }
 
 #[test]
-fn a_job_is_refused_where_none_runs(rt: HostRuntime) -> Result<(), Fail> {
-    let alloc = rt.alloc();
-    let threads = JobThreads::new(alloc)?;
-    let mut registry = Registry::new(alloc)?;
-    let tries = refused(rt, alloc, &threads, &mut registry)?;
-    assert!(rt; !tries.is_started && tries.failed == 5);
-    Ok(())
+fn a_job_is_refused_where_none_runs(rt: HostRuntime) {
+    let told = match begun(rt.alloc()) {
+        Some((threads, mut registry)) => refused(rt, &threads, &mut registry),
+        None => None,
+    };
+    let is_started = false;
+    assert!(rt;
+        told == Some(Tries {
+            is_started,
+            failed: 5
+        })
+    );
 }
 
-/// Two clients that go away one after the other.
-#[derive(Drop)]
-struct Clients {
-    first: Client,
-    last: Client,
-}
-
-impl Clients {
-    /// Starts the jobs of two clients, under the pids 1 and 2.
-    fn start<R: thread::Threads + Wait + Clock + Net + Copy + Send + 'static>(
-        rt: R,
-        alloc: Global,
-        threads: &JobThreads,
-        registry: &mut Registry,
-    ) -> Result<Clients, Fail> {
-        let first = start_one(rt, alloc, threads, registry, 1)?;
-        let last = start_one(rt, alloc, threads, registry, 2)?;
-        Ok(Clients { first, last })
-    }
-
-    fn leave<R: Clock>(self, rt: &R) {
-        let Clients { first, last } = self;
-        first.leave(rt);
-        last.leave(rt);
-    }
-}
-
-/// Waits for the jobs of two clients. It answers whether the last of them had left by then.
-fn finish_two<R: thread::Threads + Wait + Clock + Net + Copy + Send + 'static>(
+/// Waits for the jobs of two clients, under the pids 1 and 2, which go away one after the other. It
+/// answers whether the last of them had left by then, and both pids are free.
+fn finish_two<R: Threads + Wait + Clock + Net + Copy + Send + 'static>(
     rt: R,
-    alloc: Global,
     threads: &JobThreads,
     registry: &mut Registry,
-) -> Result<bool, Fail> {
-    let clients = Clients::start(rt, alloc, threads, registry)?;
-    let has_left = Arc::try_clone(&clients.last.has_left)?;
-    let clients = thread::spawn(&rt, move || clients.leave(&rt))?;
+) -> Option<bool> {
+    let first = start_one(rt, threads, registry, 1)?;
+    let last = start_one(rt, threads, registry, 2)?;
+    let has_left = Arc::new(registry.alloc, AtomicBool::new(false)).ok()?;
+    let clients = leaving(rt, Some(first), last, &has_left)?;
     threads.finish(&rt);
     let is_over = has_left.load(Ordering::SeqCst);
     clients.join(&rt);
-    Ok(is_over)
+    Some(is_over && registry.is_free(&rt, 1) && registry.is_free(&rt, 2))
 }
 
 /// `finish` waits for each client that stays, and behind it the jobs have given their registrations
 /// back.
 #[test]
-fn finish_waits_for_a_client_that_stays(rt: HostRuntime) -> Result<(), Fail> {
-    let alloc = rt.alloc();
-    let threads = JobThreads::new(alloc)?;
-    let mut registry = Registry::new(alloc)?;
-    let is_over = finish_two(rt, alloc, &threads, &mut registry)?;
-    assert!(rt; is_over && registry.is_free(&rt, 1) && registry.is_free(&rt, 2));
-    Ok(())
+fn finish_waits_for_a_client_that_stays(rt: HostRuntime) {
+    let told = match begun(rt.alloc()) {
+        Some((threads, mut registry)) => finish_two(rt, &threads, &mut registry),
+        None => None,
+    };
+    assert!(rt; told == Some(true));
 }
 
-/// The count of faults of a spawner whose one job is answered so, and whether that was taken as
-/// started.
-fn counted<T: Drop, R: Wait + Net>(
-    rt: &R,
-    alloc: Global,
-    mut spawner: ThreadSpawner<T>,
-) -> Result<(bool, u64), Fail>
-    requires { spawner.started ≡ 0 }
+/// A spawner whose jobs are all answered so.
+fn answering(alloc: Global, tries: Tries) -> Option<ThreadSpawner<()>>
+    ensures { IfSome result (λ spawner. spawner.started ≡ 0) }
 {
-    let mut registry = Registry::new(alloc)?;
-    let (_client, served) = UnixStream::pair(rt)?;
-    let job = registry.job(rt, alloc, 1, served)?;
+    let Ok(start) = Box::new(alloc, move |_job: SocketJob| tries) else {
+        return None;
+    };
+    Some(ThreadSpawner::new((), start))
+}
+
+/// What a spawner tells of a job, under this pid, that is answered so: whether it is taken as
+/// started, and the count of faults.
+fn counted<R: Wait + Net>(
+    rt: &R,
+    registry: &mut Registry,
+    pid: i32,
+    tries: Tries,
+) -> Option<(bool, u64)> {
+    let job = idle_job(rt, registry, pid)?;
+    let mut spawner = answering(registry.alloc, tries)?;
     let is_started = spawner.start(job).is_ok();
-    Ok((is_started, spawner.faults()))
+    Some((is_started, spawner.faults()))
+}
+
+/// Answers to jobs, and what a spawner tells of them.
+const ANSWERS: [(i32, bool, u64, u64); 4] = [
+    (1, true, 0, 0),
+    (2, true, 3, 3),
+    (3, false, 0, 1),
+    (4, false, 2, 2),
+];
+
+/// Whether a spawner tells so of each.
+fn are_counted<R: Wait + Net>(rt: &R, registry: &mut Registry) -> bool {
+    let mut are_so = true;
+    for (pid, is_started, failed, faults) in ANSWERS {
+        let told = counted(rt, registry, pid, Tries { is_started, failed });
+        are_so = are_so && told == Some((is_started, faults));
+    }
+    are_so
 }
 
 /// Each try that failed is counted, and a refusal is counted in any case.
 #[test]
-fn failed_tries_are_counted(rt: HostRuntime) -> Result<(), Fail> {
-    let alloc = rt.alloc();
-    for (is_started, failed, faults) in [(true, 0, 0), (true, 3, 3), (false, 0, 1), (false, 2, 2)] {
-        let start = Box::new(alloc, move |_job: SocketJob| Tries { is_started, failed })?;
-        let spawner = ThreadSpawner::new(rt, start);
-        assert!(rt; counted(&rt, alloc, spawner)? == (is_started, faults));
-    }
-    Ok(())
+fn failed_tries_are_counted(rt: HostRuntime) {
+    let are_so = match Registry::new(rt.alloc()) {
+        Some(mut registry) => are_counted(&rt, &mut registry),
+        None => false,
+    };
+    assert!(rt; are_so);
 }

@@ -1,17 +1,13 @@
 //! What clients send, and what they are answered; and a registry.
 
-ghost use Rattle.std.specs.Prelude.{◌≡◌, IfOk};
+ghost use Rattle.std.specs.Prelude.{◌≡◌, IfSome};
 ghost use Rattle.std.specs.Arc.{arc_value};
 
 use pg_cancel::{ConnectionHandle, ConnectionManager, Door};
-use pg_messages::{PgBytes, PgList, SecretKey};
-use pg_serve::MemorySource;
-use std::alloc::{AllocError, Global};
+use pg_messages::SecretKey;
+use std::alloc::Global;
+use std::io::{Read, Write};
 use std::sync::{Arc, Wait};
-use std::test::Fail;
-
-/// The key of a registration.
-pub(crate) const KEY: [u8; 4] = [1, 2, 3, 4];
 
 /// A startup packet of version 3.0 with `user` `demo`.
 pub(crate) const STARTUP: &[u8] = b"\0\0\0\x13\0\x03\0\0user\0demo\0\0";
@@ -45,13 +41,24 @@ D\0\0\0\x1a\0\x01\0\0\0\x10\0\0\0\0\0\x2d\xc6\xc0\0\0\0\x02\xff\xff\xff\xff\
 C\0\0\0\x0dSELECT 3\0\
 Z\0\0\0\x05I";
 
-/// A source of these bytes, in one piece.
-pub(crate) fn source_of(alloc: Global, bytes: &[u8]) -> Result<MemorySource, AllocError>
-    ensures { IfOk result (λ source. source.reads ≡ 0) }
-{
-    let bytes = PgBytes::copy_of(alloc, bytes)?;
-    let (pieces, fails) = (PgList::new(alloc), PgList::new(alloc));
-    Ok(MemorySource::new(bytes, pieces, fails))
+/// Whether bytes are sent.
+pub(crate) fn sends<S: Write>(stream: &mut S, bytes: &[u8]) -> bool {
+    stream.write_all(bytes).is_ok()
+}
+
+/// Whether as many bytes as there is room for are read.
+pub(crate) fn reads<S: Read>(stream: &mut S, into: &mut [u8]) -> bool {
+    stream.read_exact(into).is_ok()
+}
+
+/// Whether a read tells the end.
+pub(crate) fn is_at_its_end<S: Read>(stream: &mut S) -> bool {
+    stream.read(&mut [0u8; 1]).is_ok_and(|n| n == 0)
+}
+
+/// The key of each registration.
+pub(crate) fn key(alloc: Global) -> Option<SecretKey> {
+    SecretKey::try_new(alloc, &[1, 2, 3, 4]).ok()
 }
 
 /// A registry that is shared, and its door.
@@ -68,10 +75,10 @@ pub(crate) struct Registry {
 
 impl Registry {
     /// A registry at which nobody is registered.
-    pub(crate) fn new(alloc: Global) -> Result<Registry, Fail> {
-        let (manager, door) = ConnectionManager::new(alloc)?;
-        let manager = Arc::new(alloc, manager)?;
-        Ok(Registry {
+    pub(crate) fn new(alloc: Global) -> Option<Registry> {
+        let (manager, door) = ConnectionManager::new(alloc).ok()?;
+        let manager = Arc::new(alloc, manager).ok()?;
+        Some(Registry {
             alloc,
             manager,
             door,
@@ -79,22 +86,16 @@ impl Registry {
     }
 
     /// The connection of a pid.
-    pub(crate) fn register<R: Wait>(&mut self, rt: &R, pid: i32) -> Result<ConnectionHandle, Fail>
+    pub(crate) fn register<R: Wait>(&mut self, rt: &R, pid: i32) -> Option<ConnectionHandle>
         ensures manager { self.new.manager ≡ self.old.manager }
-        ensures issued { IfOk result (λ handle. handle.issuer ≡ arc_value self.old.manager) }
+        ensures issued { IfSome result (λ handle. handle.issuer ≡ arc_value self.old.manager) }
     {
-        let key = SecretKey::try_new(self.alloc, &KEY)?;
-        match self.manager.register(rt, &mut self.door, pid, key) {
-            Ok(handle) => Ok(handle),
-            Err(_) => Err(Fail::from("no registration")),
-        }
+        let key = key(self.alloc)?;
+        self.manager.register(rt, &mut self.door, pid, key).ok()
     }
 
     /// Whether nobody has a pid, who is registered under it now.
     pub(crate) fn is_free<R: Wait>(&mut self, rt: &R, pid: i32) -> bool {
-        match SecretKey::try_new(self.alloc, &KEY) {
-            Ok(key) => self.manager.register(rt, &mut self.door, pid, key).is_ok(),
-            Err(_) => false,
-        }
+        self.register(rt, pid).is_some()
     }
 }

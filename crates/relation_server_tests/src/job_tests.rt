@@ -1,69 +1,74 @@
 //! The service of a connection as a value, over memory.
 
-use crate::clients::{FIRST_PATH, FIRST_REPLIES, Registry, source_of};
-use pg_messages::PgList;
+use crate::clients::{FIRST_PATH, FIRST_REPLIES, Registry};
+use pg_messages::{PgBytes, PgList};
 use pg_serve::{MemorySink, MemorySource};
-use pg_session::{EndKind, Source};
-use relation_server::{ConnectionJob, built_in_table};
+use pg_session::EndKind;
+use relation_server::{ConnectionJob, RelationTable, built_in_table};
 use std::alloc::Global;
 use std::sync::{Arc, Wait};
-use std::test::Fail;
 
 /// A job over memory.
 type MemoryJob = ConnectionJob<MemorySource, MemorySink>;
 
-/// The job of a client of the first path, under the pid 7, with 100 turns.
-fn first_path<R: Wait>(rt: &R, alloc: Global, registry: &mut Registry) -> Result<MemoryJob, Fail> {
-    let source = source_of(alloc, FIRST_PATH)?;
-    let relations = Arc::new(alloc, built_in_table(alloc)?)?;
-    let manager = Arc::try_clone(&registry.manager)?;
+/// A client of the first path.
+fn client(alloc: Global) -> Option<MemorySource> {
+    let bytes = PgBytes::copy_of(alloc, FIRST_PATH).ok()?;
+    let (pieces, fails) = (PgList::new(alloc), PgList::new(alloc));
+    Some(MemorySource::new(bytes, pieces, fails))
+}
+
+/// The built-in relations.
+fn relations(alloc: Global) -> Option<Arc<RelationTable>> {
+    let table = built_in_table(alloc).ok()?;
+    Arc::new(alloc, table).ok()
+}
+
+/// The job of that client, under the pid 7, with 100 turns.
+fn first_path<R: Wait>(rt: &R, registry: &mut Registry) -> Option<MemoryJob> {
+    let alloc = registry.alloc;
+    let manager = Arc::try_clone(&registry.manager).ok()?;
+    let relations = relations(alloc)?;
     let handle = registry.register(rt, 7)?;
-    Ok(ConnectionJob {
+    let source = client(alloc)?;
+    let sink = MemorySink::new(alloc, PgList::new(alloc));
+    Some(ConnectionJob {
         manager,
         relations,
         handle,
         source,
-        sink: MemorySink::new(alloc, PgList::new(alloc)),
+        sink,
         turn_limit: 100,
     })
 }
 
-/// Whether nothing is left of a source.
-fn is_read(source: &mut MemorySource) -> bool {
-    source.receive(&mut [0u8; 1]) == Ok(0)
+/// Whether a job that is served ends at Terminate, with all replies of the first path.
+fn is_served<R: Wait>(rt: &R, alloc: Global, job: &mut MemoryJob) -> bool {
+    job.serve(rt, alloc) == Ok(EndKind::Terminate) && job.sink.bytes() == FIRST_REPLIES
 }
 
-/// Whether a job that is served ends so, with all replies of the first path written then.
-fn is_served<R: Wait>(rt: &R, alloc: Global, job: &mut MemoryJob, end: EndKind) -> bool {
-    job.serve(rt, alloc) == Ok(end) && job.sink.bytes() == FIRST_REPLIES
-}
-
-/// A job is served, and then once more: its client's bytes were read, and its handle is still
-/// registered.
-#[test]
-fn a_job_is_served(rt: HostRuntime) -> Result<(), Fail> {
-    let alloc = rt.alloc();
-    let mut registry = Registry::new(alloc)?;
-    let mut job = first_path(&rt, alloc, &mut registry)?;
-    assert!(rt; is_served(&rt, alloc, &mut job, EndKind::Terminate));
-    assert!(rt; is_served(&rt, alloc, &mut job, EndKind::InputEnd));
-    assert!(rt; !registry.is_free(&rt, 7));
-    Ok(())
-}
-
-/// Whether a job that is run answers the replies of the first path, and has read all of its client.
+/// Whether a job whose client's bytes were read is run to its end, and hands back what was written.
 fn is_run<R: Wait>(rt: &R, alloc: Global, job: MemoryJob) -> bool {
-    let (answer, mut source, sink, _note) = job.run(rt, alloc);
-    answer == Ok(EndKind::Terminate) && sink.bytes() == FIRST_REPLIES && is_read(&mut source)
+    let (answer, _source, sink, _note) = job.run(rt, alloc);
+    answer == Ok(EndKind::InputEnd) && sink.bytes() == FIRST_REPLIES
 }
 
-/// A job is run to its end: it hands back the source, of which all was read, and the sink with the
-/// replies, and its registration is gone.
+/// Whether both are so, the one behind the other, and the registration is gone then.
+fn are_both<R: Wait>(rt: &R, registry: &mut Registry) -> Option<bool> {
+    let mut job = first_path(rt, registry)?;
+    let is_served = is_served(rt, registry.alloc, &mut job);
+    let is_taken = !registry.is_free(rt, 7);
+    let is_run = is_run(rt, registry.alloc, job);
+    Some(is_served && is_taken && is_run && registry.is_free(rt, 7))
+}
+
+/// A job is served, and then run to its end: its client's bytes were read by then, and its
+/// registration stood until it ended.
 #[test]
-fn a_job_is_run(rt: HostRuntime) -> Result<(), Fail> {
-    let alloc = rt.alloc();
-    let mut registry = Registry::new(alloc)?;
-    let job = first_path(&rt, alloc, &mut registry)?;
-    assert!(rt; is_run(&rt, alloc, job) && registry.is_free(&rt, 7));
-    Ok(())
+fn a_job_is_run(rt: HostRuntime) {
+    let told = match Registry::new(rt.alloc()) {
+        Some(mut registry) => are_both(&rt, &mut registry),
+        None => None,
+    };
+    assert!(rt; told == Some(true));
 }

@@ -1,5 +1,5 @@
-//! Tests of what a server of relations offers, one for each call that takes memory or is generic.
-//! Conversations are rows of a program of their own.
+//! Tests of what a server of relations offers, which no row of a table program can say and no
+//! contract: jobs, threads and sockets. Conversations are rows of programs of their own.
 #![tactic(auto)]
 
 mod examples;
@@ -11,10 +11,10 @@ mod cancel_tests;
 #[cfg(test)]
 mod clients;
 #[cfg(test)]
-mod connection_tests;
-#[cfg(test)]
 mod job_tests;
 #[cfg(test)]
-mod socket_tests;
+mod listen_tests;
 #[cfg(test)]
-mod tests;
+mod relations;
+#[cfg(test)]
+mod socket_tests;

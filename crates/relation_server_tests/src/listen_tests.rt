@@ -1,0 +1,209 @@
+//! Clients that are served side by side over TCP, and cancels of their queries.
+
+ghost use Rattle.std.specs.Prelude.{◌≡◌};
+
+use crate::clients::{Registry, STARTUP, STARTUP_3_2, is_at_its_end, reads, sends};
+use crate::relations::table_of;
+use pg_serve::{Listening, RandomKeys, SocketAcceptor};
+use relation_server::{
+    JobThreads, RelationTable, StartJob, ThreadSpawner, jobs_cross_threads, listen,
+};
+use std::alloc::Global;
+use std::io::Read;
+use std::net::{Net, SocketAddr, TcpListener, TcpStream};
+use std::random::RandomSource;
+use std::sync::{Arc, Wait};
+use std::test::Fail;
+use std::thread;
+use std::thread::Threads;
+use std::time::{Clock, Duration};
+
+/// How often a query is canceled.
+const CANCELS: u32 = 50;
+
+/// Two clients, of whom one's query is canceled so often, and the other's twice so often.
+const CONNECTIONS: u64 = 152;
+
+/// The pids of the clients, and that of the last connection.
+const PIDS: [i32; 3] = [1, 52, 152];
+
+/// How many milliseconds pass between two cancels.
+const PAUSE: u64 = 4;
+
+/// Whether one CancelRequest, with its length, of this pid and key is sent, and the server ends the
+/// connection then.
+fn cancels<R: Net<Stream = TcpStream>>(
+    rt: &R,
+    server: SocketAddr,
+    length: u8,
+    registration: &[u8],
+) -> bool {
+    let head = [0, 0, 0, length, 0x04, 0xd2, 0x16, 0x2e];
+    match TcpStream::connect(rt, server) {
+        Ok(mut stream) => {
+            sends(&mut stream, &head)
+                && sends(&mut stream, registration)
+                && is_at_its_end(&mut stream)
+        }
+        Err(_) => false,
+    }
+}
+
+/// Whether that is done from many connections, one after another. Some come while the query runs.
+fn cancels_often<R: Net<Stream = TcpStream> + Clock>(
+    rt: &R,
+    server: SocketAddr,
+    length: u8,
+    registration: &[u8],
+) -> bool {
+    let mut are_so = true;
+    for _ in 0..CANCELS {
+        are_so = are_so && cancels(rt, server, length, registration);
+        rt.sleep(Duration::from_millis(PAUSE));
+    }
+    are_so
+}
+
+/// Whether a client reads what it is told behind its startup packet, and asks a query that never
+/// ends.
+fn asks(stream: &mut TcpStream, startup: &[u8], begun: &mut [u8]) -> bool {
+    sends(stream, startup) && reads(stream, begun) && sends(stream, b"Q\0\0\0\x0cendless\0")
+}
+
+/// Whether nothing was told to a client yet.
+fn is_silent(stream: &mut TcpStream) -> bool {
+    let is_set = stream.set_nonblocking(true).is_ok();
+    let is_silent = stream.read(&mut [0u8; 1]).is_err();
+    is_set && is_silent && stream.set_nonblocking(false).is_ok()
+}
+
+/// Whether a client is told that its query was canceled. It terminates then.
+fn is_told(stream: &mut TcpStream) -> bool {
+    let mut reply = [0u8; 31];
+    reads(stream, &mut reply)
+        && reply[5..].starts_with(b"SERROR\0VERROR\0C57014\0")
+        && sends(stream, b"X\0\0\0\x04")
+}
+
+/// Whether a query of a client of 3.0 is canceled by the key that it is told. The pid and the key
+/// are the last eight of the 125 bytes up to the end of BackendKeyData; six bytes of ReadyForQuery
+/// follow.
+fn is_canceled<R: Net<Stream = TcpStream> + Clock>(
+    rt: &R,
+    server: SocketAddr,
+    stream: &mut TcpStream,
+) -> bool {
+    let mut begun = [0u8; 131];
+    asks(stream, STARTUP, &mut begun)
+        && cancels_often(rt, server, 16, &begun[117..125])
+        && is_told(stream)
+}
+
+/// Whether a query of a client of 3.2 is canceled by the whole key that it is told, of 32 bytes,
+/// and not by its first four bytes.
+fn is_canceled_by_a_long_key<R: Net<Stream = TcpStream> + Clock>(
+    rt: &R,
+    server: SocketAddr,
+    stream: &mut TcpStream,
+) -> bool {
+    let mut begun = [0u8; 159];
+    asks(stream, STARTUP_3_2, &mut begun)
+        && cancels_often(rt, server, 16, &begun[117..125])
+        && is_silent(stream)
+        && cancels_often(rt, server, 44, &begun[117..153])
+        && is_told(stream)
+}
+
+/// Whether both are so, one after another.
+fn are_canceled<R: Net<Stream = TcpStream> + Clock>(rt: &R, server: SocketAddr) -> bool {
+    let is_canceled = match TcpStream::connect(rt, server) {
+        Ok(mut stream) => is_canceled(rt, server, &mut stream),
+        Err(_) => false,
+    };
+    match TcpStream::connect(rt, server) {
+        Ok(mut stream) => is_canceled_by_a_long_key(rt, server, &mut stream) && is_canceled,
+        Err(_) => false,
+    }
+}
+
+/// Whether all connections are taken in.
+fn are_taken_in<R: Wait + Clock + RandomSource + Copy + Drop>(
+    rt: R,
+    registry: &mut Registry,
+    listener: TcpListener,
+    spawner: &mut ThreadSpawner<JobThreads>,
+) -> Option<bool>
+    requires started { spawner.old.started ≡ 0 }
+{
+    let table = endless(registry.alloc)?;
+    let manager = Arc::try_clone(&registry.manager).ok()?;
+    let mut acceptor = SocketAcceptor::new(Listening::Tcp(listener), rt);
+    let mut keys = RandomKeys::new(registry.alloc, rt);
+    let answer = listen(
+        &rt,
+        &mut acceptor,
+        spawner,
+        &mut keys,
+        manager,
+        &mut registry.door,
+        table,
+        500_000_000,
+        Some(CONNECTIONS),
+    );
+    Some(answer == Ok(CONNECTIONS))
+}
+
+/// A relation whose query finds as many polls unready as there can be.
+fn endless(alloc: Global) -> Option<Arc<RelationTable>> {
+    let table = table_of(alloc, "endless", "span", false, u32::MAX).ok()?;
+    Arc::new(alloc, table).ok()
+}
+
+/// Whether the pids of both clients and the last are free.
+fn are_free<R: Wait>(rt: &R, registry: &mut Registry) -> bool {
+    let mut are_so = true;
+    for pid in PIDS {
+        are_so = are_so && registry.is_free(rt, pid);
+    }
+    are_so
+}
+
+/// Whether all connections are taken in, and their jobs run to their ends and have given their
+/// registrations back then.
+fn are_served<R: Wait + Clock + RandomSource + Copy + Drop>(
+    rt: R,
+    alloc: Global,
+    listener: TcpListener,
+    threads: JobThreads,
+    start: StartJob,
+) -> Option<bool>
+    requires ready { IsAlwaysCallable start }
+{
+    let mut spawner = ThreadSpawner::new(threads, start);
+    let mut registry = Registry::new(alloc)?;
+    let taken = are_taken_in(rt, &mut registry, listener, &mut spawner);
+    spawner.threads.finish(&rt);
+    Some(taken == Some(true) && are_free(&rt, &mut registry))
+}
+
+/// Threads for jobs, for two owners.
+fn threads_of(alloc: Global) -> Option<(JobThreads, JobThreads)> {
+    let threads = JobThreads::new(alloc).ok()?;
+    let theirs = threads.share().ok()?;
+    Some((threads, theirs))
+}
+
+/// Queries that never end are canceled while their connections are being served and others come.
+/// Each job then ends, and gives its registration back.
+#[test]
+fn a_query_is_canceled_over_tcp(rt: HostRuntime) -> Result<(), Fail> {
+    jobs_cross_threads();
+    let listener = TcpListener::bind(&rt, "127.0.0.1:0")?;
+    let server = listener.local_addr()?;
+    let client = thread::spawn(&rt, move || are_canceled(&rt, server))?;
+    let (threads, theirs) = threads_of(rt.alloc()).ok_or("no memory")?;
+    let start: StartJob = Box::new(rt.alloc(), move |job| theirs.start(rt, job))?;
+    let served = are_served(rt, rt.alloc(), listener, threads, start);
+    assert!(rt; client.join(&rt) && served == Some(true));
+    Ok(())
+}

@@ -1,0 +1,74 @@
+//! Tables of relations, and those that are refused.
+
+use pg_messages::{PgList, PgStr};
+use relation_server::{Relation, RelationTable, TableError};
+use std::alloc::{AllocError, Global};
+
+/// A relation of a name and one column of a name, whose query finds so many polls unready. It has no
+/// row, or one that is too short.
+fn relation_of(
+    alloc: Global,
+    name: &str,
+    column: &str,
+    is_ragged: bool,
+    unready: u32,
+) -> Result<Relation, AllocError> {
+    let mut columns = PgList::new(alloc);
+    columns.push(PgStr::copy_of(alloc, column)?)?;
+    let mut rows = PgList::new(alloc);
+    if is_ragged {
+        rows.push(PgList::new(alloc))?;
+    }
+    Ok(Relation {
+        name: PgStr::copy_of(alloc, name)?,
+        unready,
+        columns,
+        rows,
+    })
+}
+
+/// A table of one such relation.
+pub(crate) fn table_of(
+    alloc: Global,
+    name: &str,
+    column: &str,
+    is_ragged: bool,
+    unready: u32,
+) -> Result<RelationTable, TableError> {
+    let mut relations = PgList::new(alloc);
+    relations.push(relation_of(alloc, name, column, is_ragged, unready)?)?;
+    RelationTable::try_new(alloc, relations)
+}
+
+/// A table of two relations of one name.
+fn table_of_two(alloc: Global) -> Result<RelationTable, TableError> {
+    let mut relations = PgList::new(alloc);
+    relations.push(relation_of(alloc, "a", "span", false, 0)?)?;
+    relations.push(relation_of(alloc, "a", "span", false, 0)?)?;
+    RelationTable::try_new(alloc, relations)
+}
+
+/// A name of 64 bytes.
+const LONG: &str = "aaaaaaaaaaaaaaaabbbbbbbbbbbbbbbbccccccccccccccccdddddddddddddddd";
+
+/// Each rule of a relation refuses what breaks it.
+#[test]
+fn tables_are_judged(rt: HostRuntime) {
+    let alloc = rt.alloc();
+    let told = [
+        table_of_two(alloc).err(),
+        table_of(alloc, "a", "span", true, 0).err(),
+        table_of(alloc, "a", LONG, true, 0).err(),
+        table_of(alloc, LONG, LONG, true, 0).err(),
+        table_of(alloc, "a", "", false, 0).err(),
+    ];
+    assert!(rt;
+        told == [
+            Some(TableError::BadName(1)),
+            Some(TableError::RaggedRow(0)),
+            Some(TableError::BadColumn(0)),
+            Some(TableError::BadName(0)),
+            None,
+        ]
+    );
+}
