@@ -6,7 +6,7 @@ use crate::fronts::{
 use crate::script::Step;
 use crate::serving::{Plan, Reads};
 use crate::told::end_told;
-use crate::verdict::{Between, Expected};
+use crate::verdict::{Between, Expected, expected_at};
 use row_files::Fault;
 
 /// What differs from case to case.
@@ -29,17 +29,18 @@ pub enum Sweep {
 }
 
 /// The sweep of this word.
-pub fn sweep_of<'t>(word: &'t str) -> Result<Sweep, Fault<'t>> {
-    match word {
-        "cuts" => Ok(Sweep::Cuts),
-        "headers" => Ok(Sweep::Headers),
-        "lengths" => Ok(Sweep::Lengths),
-        "reads" => Ok(Sweep::Reads),
-        "writes" => Ok(Sweep::Writes),
-        "turns" => Ok(Sweep::Turns),
-        "desk" => Ok(Sweep::Desk),
-        _ => Err(Fault::Line(word)),
-    }
+pub fn sweep_of<'t>(word: &'t str) -> Result<Option<Sweep>, Fault<'t>> {
+    let sweep = match word {
+        "cuts" => Sweep::Cuts,
+        "headers" => Sweep::Headers,
+        "lengths" => Sweep::Lengths,
+        "reads" => Sweep::Reads,
+        "writes" => Sweep::Writes,
+        "turns" => Sweep::Turns,
+        "desk" => Sweep::Desk,
+        _ => return Err(Fault::Line(word)),
+    };
+    Ok(Some(sweep))
 }
 
 /// The conversation of a sweep: its end, all of it, and how many turns single bytes take.
@@ -72,16 +73,17 @@ pub fn swept_of<'t>(lines: &[&'t str], steps: &[Step]) -> Swept<'t> {
     }
 }
 
-/// How many cases a sweep has.
-pub fn count_of(sweep: Sweep, swept: Swept<'_>) -> usize {
+/// How many cases a sweep has; one without a sweep.
+pub fn count_of(sweep: Option<Sweep>, swept: Swept<'_>) -> usize {
     match sweep {
-        Sweep::Cuts => swept.all.client.saturating_sub(1),
-        Sweep::Headers => 9,
-        Sweep::Lengths => swept.all.client.saturating_add(1),
-        Sweep::Reads => swept.all.client,
-        Sweep::Writes => swept.all.replies,
-        Sweep::Turns => swept.turns.saturating_add(1),
-        Sweep::Desk => swept.all.calls,
+        None => 1,
+        Some(Sweep::Cuts) => swept.all.client.saturating_sub(1),
+        Some(Sweep::Headers) => 9,
+        Some(Sweep::Lengths) => swept.all.client.saturating_add(1),
+        Some(Sweep::Reads) => swept.all.client,
+        Some(Sweep::Writes) => swept.all.replies,
+        Some(Sweep::Turns) => swept.turns.saturating_add(1),
+        Some(Sweep::Desk) => swept.all.calls,
     }
 }
 
@@ -101,28 +103,25 @@ pub fn case_of<'t>(sweep: Sweep, swept: Swept<'t>, steps: &[Step], place: usize)
 impl<'t> Swept<'t> {
     /// All is served.
     fn served(self, reads: Reads<'t>) -> Case<'t> {
-        Case {
-            client: self.all.client,
-            plan: Plan {
-                reads,
-                source_fails: None,
-                sink_fails: None,
-                desk_fails: None,
-                turns: self.turns.saturating_add(1) as u64,
-            },
-            expected: self.expected(self.end, self.all),
+        self.case(self.plan(reads), expected_at(self.end, self.all))
+    }
+
+    /// Nothing fails, and there are turns enough.
+    fn plan(self, reads: Reads<'t>) -> Plan<'t> {
+        Plan {
+            reads,
+            source_fails: None,
+            sink_fails: None,
+            desk_fails: None,
+            turns: self.turns.saturating_add(1) as u64,
         }
     }
 
-    /// What is expected where the conversation comes so far.
-    fn expected(self, end: &'t str, front: Front) -> Expected<'t> {
-        Expected {
-            end,
-            written: Between {
-                least: front.sure,
-                most: front.replies,
-            },
-            calls: Between::just(front.calls),
+    fn case(self, plan: Plan<'t>, expected: Expected<'t>) -> Case<'t> {
+        Case {
+            client: self.all.client,
+            plan,
+            expected,
         }
     }
 
@@ -135,43 +134,32 @@ impl<'t> Swept<'t> {
         };
         Case {
             client: len,
-            expected: self.expected(end, front_of_bytes(steps, len)),
-            ..self.served(Reads::Single)
+            plan: self.plan(Reads::Single),
+            expected: expected_at(end, front_of_bytes(steps, len)),
         }
     }
 
     /// The read of this number fails.
     fn read_fails(self, steps: &[Step], call: usize) -> Case<'t> {
-        let case = self.served(Reads::Single);
-        Case {
-            plan: Plan {
-                source_fails: Some(call as u64),
-                ..case.plan
-            },
-            expected: self.expected("ReadFault", front_of_bytes(steps, call)),
-            ..case
-        }
+        let mut plan = self.plan(Reads::Single);
+        plan.source_fails = Some(call as u64);
+        self.case(plan, expected_at("ReadFault", front_of_bytes(steps, call)))
     }
 
     /// The write of the byte at this place fails, and takes those before it.
     fn write_fails(self, steps: &[Step], place: usize) -> Case<'t> {
         let front = front_of_replies(steps, place);
-        let case = self.served(Reads::Single);
-        Case {
-            plan: Plan {
-                sink_fails: Some((front.answered as u64, place.saturating_sub(front.sure))),
-                ..case.plan
+        let mut plan = self.plan(Reads::Single);
+        plan.sink_fails = Some((front.answered as u64, place.saturating_sub(front.sure)));
+        let expected = Expected {
+            end: "WriteFault",
+            written: Between::just(place),
+            calls: Between {
+                least: 0,
+                most: front.calls,
             },
-            expected: Expected {
-                end: "WriteFault",
-                written: Between::just(place),
-                calls: Between {
-                    least: 0,
-                    most: front.calls,
-                },
-            },
-            ..case
-        }
+        };
+        self.case(plan, expected)
     }
 
     /// There are so many turns.
@@ -181,27 +169,15 @@ impl<'t> Swept<'t> {
         } else {
             self.end
         };
-        let case = self.served(Reads::Single);
-        Case {
-            plan: Plan {
-                turns: turns as u64,
-                ..case.plan
-            },
-            expected: self.expected(end, front_of_turns(steps, turns)),
-            ..case
-        }
+        let mut plan = self.plan(Reads::Single);
+        plan.turns = turns as u64;
+        self.case(plan, expected_at(end, front_of_turns(steps, turns)))
     }
 
     /// The registry's call of this number finds no memory.
     fn desk_fails(self, steps: &[Step], call: usize) -> Case<'t> {
-        let case = self.served(Reads::Single);
-        Case {
-            plan: Plan {
-                desk_fails: Some(call as u64),
-                ..case.plan
-            },
-            expected: self.expected("NoMemory", front_of_calls(steps, call)),
-            ..case
-        }
+        let mut plan = self.plan(Reads::Single);
+        plan.desk_fails = Some(call as u64);
+        self.case(plan, expected_at("NoMemory", front_of_calls(steps, call)))
     }
 }

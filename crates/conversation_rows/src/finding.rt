@@ -1,9 +1,10 @@
 //! What came out otherwise than a row tells.
 
+use row_files::Fault;
 use std::alloc::{AllocError, Global};
 
 /// What came out otherwise.
-#[derive(Clone, Copy, Debug)]
+#[derive(Clone, Copy)]
 pub enum Difference {
     /// The conversation ended so.
     End(&'static str),
@@ -18,7 +19,7 @@ pub enum Difference {
 }
 
 /// What came out otherwise in the case of this number.
-#[derive(Clone, Copy, Debug)]
+#[derive(Clone, Copy)]
 pub struct Finding {
     pub case: usize,
     pub difference: Difference,
@@ -34,18 +35,25 @@ impl Finding {
     }
 
     /// The case and what came out otherwise.
-    pub fn told(self, alloc: Global) -> Result<String, AllocError> {
+    fn told(self, alloc: Global) -> Result<String, AllocError> {
         let case = self.case;
         match self.difference {
             Difference::End(end) => format!(in alloc; "{case}: ends with {end}"),
             Difference::Replies(place) => {
                 format!(in alloc; "{case}: other replies from byte {place} on")
             }
-            Difference::Calls => format!(in alloc; "{case}: other registry calls"),
-            Difference::Writes => format!(in alloc; "{case}: other lengths of writes"),
-            Difference::Cell => {
-                format!(in alloc; "{case}: a cell that is read as another interval")
-            }
+            Difference::Calls => told_of(alloc, case, "other registry calls"),
+            Difference::Writes => told_of(alloc, case, "other lengths of writes"),
+            Difference::Cell => told_of(alloc, case, "a cell that is read as another interval"),
         }
     }
+}
+
+fn told_of(alloc: Global, case: usize, what: &str) -> Result<String, AllocError> {
+    format!(in alloc; "{case}: {what}")
+}
+
+/// A finding in words.
+pub fn told_finding<'t>(alloc: Global, finding: Finding) -> Result<Option<String>, Fault<'t>> {
+    Ok(Some(finding.told(alloc)?))
 }

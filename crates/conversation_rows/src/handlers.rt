@@ -10,7 +10,7 @@ use pg_session::PgWireServerHandlers;
 use relation_serving::serve_relations_on;
 use row_files::{Fault, told};
 use sample_handlers::SampleHandler;
-use std::alloc::{AllocError, Global};
+use std::alloc::Global;
 use std::sync::Arc;
 
 /// Serves a client over the relations that the lines tell, or by the handlers that they name.
@@ -22,10 +22,10 @@ pub fn serve_told<'t>(
 ) -> Result<Ending, Fault<'t>> {
     match told(lines, "handlers") {
         None => serve_relations(alloc, lines, place, turns),
-        Some("noop") => Ok(serve_noop(alloc, place, turns)?),
-        Some("sample") => Ok(serve_by(alloc, SampleHandler, place, turns)?),
-        Some("versions") => Ok(serve_by(alloc, VersionHandlers::new(), place, turns)?),
-        Some("refused_copy") => Ok(serve_refused_copy(alloc, place, turns)?),
+        Some("noop") => serve_noop(alloc, place, turns),
+        Some("sample") => serve_sample(alloc, place, turns),
+        Some("versions") => serve_versions(alloc, place, turns),
+        Some("refused_copy") => serve_refused_copy(alloc, place, turns),
         Some(other) => Err(Fault::Line(other)),
     }
 }
@@ -48,41 +48,53 @@ fn serve_relations<'t>(
     ))
 }
 
+// Serves a client by these handlers. It is written out for each kind of them: a function that is
+// generic over handlers costs more to prove than all of its uses.
+macro_rules! serve_by {
+    ($alloc:expr, $handlers:expr, $place:expr, $turns:expr) => {{
+        let handlers = Arc::new($alloc, $handlers)?;
+        let store = MemPortalStore::new($alloc);
+        Ok(serve_connection(
+            $alloc,
+            handlers,
+            store,
+            &mut $place.desk,
+            &mut $place.source,
+            &mut $place.sink,
+            $turns,
+        ))
+    }};
+}
+
+/// Serves a client by the handler of sample queries.
+fn serve_sample<'t>(alloc: Global, place: &mut Place, turns: u64) -> Result<Ending, Fault<'t>> {
+    serve_by!(alloc, SampleHandler, place, turns)
+}
+
+/// Serves a client by the handler that tells which version its client speaks.
+fn serve_versions<'t>(alloc: Global, place: &mut Place, turns: u64) -> Result<Ending, Fault<'t>> {
+    serve_by!(alloc, VersionHandlers::new(), place, turns)
+}
+
 /// Serves a client by the handler that implements nothing.
-fn serve_noop(alloc: Global, place: &mut Place, turns: u64) -> Result<Ending, AllocError> {
+fn serve_noop<'t>(alloc: Global, place: &mut Place, turns: u64) -> Result<Ending, Fault<'t>> {
     let handlers = NoopHandlers {
         handler: NoopHandler,
     };
-    serve_by(alloc, handlers, place, turns)
+    serve_by!(alloc, handlers, place, turns)
 }
 
 /// Serves a client by the handler of sample queries, with no COPY from the client.
-fn serve_refused_copy(alloc: Global, place: &mut Place, turns: u64) -> Result<Ending, AllocError> {
+fn serve_refused_copy<'t>(
+    alloc: Global,
+    place: &mut Place,
+    turns: u64,
+) -> Result<Ending, Fault<'t>> {
     let handlers = RefusedCopyHandlers {
         queries: SampleHandler,
         copying: NoopHandler,
     };
-    serve_by(alloc, handlers, place, turns)
-}
-
-/// Serves a client by these handlers.
-fn serve_by<H: PgWireServerHandlers>(
-    alloc: Global,
-    handlers: H,
-    place: &mut Place,
-    turns: u64,
-) -> Result<Ending, AllocError> {
-    let handlers = Arc::new(alloc, handlers)?;
-    let store = MemPortalStore::new(alloc);
-    Ok(serve_connection(
-        alloc,
-        handlers,
-        store,
-        &mut place.desk,
-        &mut place.source,
-        &mut place.sink,
-        turns,
-    ))
+    serve_by!(alloc, handlers, place, turns)
 }
 
 /// The handler that implements nothing, of every kind.

@@ -18,6 +18,7 @@ mod told;
 mod verdict;
 mod versions;
 
+use crate::finding::told_finding;
 use crate::sweeps::judge;
 use row_files::{Fault, Judge, judge_blocks, lines_of};
 use std::alloc::Global;
@@ -60,10 +61,15 @@ impl Judge for ConversationRows {
         row: &'t str,
     ) -> Result<Option<String>, Fault<'t>> {
         let lines = lines_of(alloc, text, row, &WORDS)?;
-        match judge(alloc, lines.as_slice())? {
-            None => Ok(None),
-            Some(finding) => Ok(Some(finding.told(alloc)?)),
-        }
+        difference_told(alloc, lines.as_slice())
+    }
+}
+
+/// What is otherwise than the lines expect, if anything is.
+fn difference_told<'t>(alloc: Global, lines: &[&'t str]) -> Result<Option<String>, Fault<'t>> {
+    match judge(alloc, lines)? {
+        None => Ok(None),
+        Some(finding) => told_finding(alloc, finding),
     }
 }
 

@@ -1,7 +1,7 @@
 //! Messages of both sides, by their fields.
 
-use row_files::{Fault, parsed, part, push_hex, told_by};
-use std::alloc::{AllocError, Global};
+use row_files::{Fault, part, push_hex, told_by};
+use std::alloc::Global;
 
 /// The layout of each message: its name, its type byte (`-` for the first packets of a client),
 /// and its fields (protocol: Message Formats). `i` is an Int32 in decimal, `w` an Int16, `y` an
@@ -62,103 +62,269 @@ fn layout_of(name: &str) -> Option<(&'static str, &'static str)> {
     None
 }
 
-/// Appends the bytes of a message: its name and its fields, with a bar before each field; or `hex`
-/// and its bytes.
-pub fn put_message<'t>(alloc: Global, bytes: &mut Vec<u8>, line: &'t str) -> Result<(), Fault<'t>> {
-    match line.strip_prefix("hex ") {
-        Some(digits) => push_hex(bytes, digits),
-        None => put_named(alloc, bytes, line),
-    }
-}
-
-/// Appends the bytes of a message that a name tells.
-fn put_named<'t>(alloc: Global, bytes: &mut Vec<u8>, line: &'t str) -> Result<(), Fault<'t>> {
-    let (name, _) = line.split_once("|").unwrap_or((line, ""));
-    let Some((type_byte, layout)) = layout_of(name.trim()) else {
-        return Err(Fault::Line(line));
-    };
-    if layout == "alone" {
-        return Ok(bytes.extend_from_slice(type_byte.as_bytes())?);
-    }
-    let mut body = Vec::new(alloc);
-    put_fields(alloc, &mut body, layout, line)?;
-    put_framed(bytes, type_byte, body.as_slice())
-}
-
-/// Appends a message with its length.
-fn put_framed<'t>(bytes: &mut Vec<u8>, type_byte: &str, body: &[u8]) -> Result<(), Fault<'t>> {
-    if type_byte != "-" {
-        bytes.extend_from_slice(type_byte.as_bytes())?;
-    }
-    put_count32(bytes, body.len().saturating_add(4))?;
-    Ok(bytes.extend_from_slice(body)?)
-}
-
-/// Appends the fields of a message, as its layout says.
-fn put_fields<'t>(
+/// The bytes of messages, and why they can't be told, if they can't.
+#[derive(Drop)]
+pub struct Frames<'t> {
     alloc: Global,
-    body: &mut Vec<u8>,
-    layout: &str,
-    line: &'t str,
-) -> Result<(), Fault<'t>> {
-    for (place, kind) in layout.bytes().enumerate() {
-        put_kind(alloc, body, kind, place.saturating_add(1), line)?;
-    }
-    Ok(())
+    bytes: Vec<u8>,
+    fault: Option<Fault<'t>>,
 }
 
-/// Appends what a letter of a layout says of the fields, the first of which stands at this place of
-/// the line.
-fn put_kind<'t>(
-    alloc: Global,
-    body: &mut Vec<u8>,
-    kind: u8,
-    place: usize,
-    line: &'t str,
-) -> Result<(), Fault<'t>> {
-    match kind {
-        b'S' | b'E' => Ok(put_texts(body, kind, place, line)?),
-        b'r' => put_cells(alloc, body, line),
-        b'l' => Ok(put_cells_of_line(body, line)?),
-        _ => put_field(alloc, body, kind, part(line, place)?),
-    }
-}
-
-/// Appends each field from a place on as a text, and then a zero.
-fn put_texts(body: &mut Vec<u8>, kind: u8, place: usize, line: &str) -> Result<(), AllocError> {
-    for field in line.split("|").skip(place) {
-        put_text(body, kind, field.trim())?;
-    }
-    Ok(body.push(0)?)
-}
-
-/// Appends the number of fields, and each as a cell. A line without a bar has none.
-fn put_cells<'t>(alloc: Global, body: &mut Vec<u8>, line: &'t str) -> Result<(), Fault<'t>> {
-    put_count16(body, line.split("|").skip(1).count())?;
-    for field in line.split("|").skip(1) {
-        put_cell(alloc, body, field.trim())?;
-    }
-    Ok(())
-}
-
-/// Appends a cell: `null`, `hex` and its bytes, or its text.
-fn put_cell<'t>(alloc: Global, body: &mut Vec<u8>, cell: &'t str) -> Result<(), Fault<'t>> {
-    if cell == "null" || cell.starts_with("hex ") {
-        put_value(alloc, body, cell)
-    } else {
-        put_counted(body, unquoted(cell).as_bytes())
-    }
-}
-
-/// Appends the cells of a line of COPY data: tabs between them, and a newline behind.
-fn put_cells_of_line(body: &mut Vec<u8>, line: &str) -> Result<(), AllocError> {
-    for (place, field) in line.split("|").skip(1).enumerate() {
-        if place > 0 {
-            body.push(b'\t')?;
+impl<'t> Frames<'t> {
+    /// No message.
+    pub fn new(alloc: Global) -> Frames<'t> {
+        Frames {
+            alloc,
+            bytes: Vec::new(alloc),
+            fault: None,
         }
-        body.extend_from_slice(unquoted(field.trim()).as_bytes())?;
     }
-    Ok(body.push(b'\n')?)
+
+    pub fn as_slice(&self) -> &[u8] {
+        self.bytes.as_slice()
+    }
+
+    pub fn len(&self) -> usize {
+        self.bytes.len()
+    }
+
+    /// Why a part of them couldn't be told, if one couldn't, or memory ran out.
+    pub fn fault(&self) -> Option<Fault<'t>> {
+        self.fault
+    }
+
+    fn fail(&mut self, fault: Fault<'t>) {
+        self.fault = Some(fault);
+    }
+
+    fn put(&mut self, more: &[u8]) {
+        if self.bytes.extend_from_slice(more).is_err() {
+            self.fail(Fault::NoMemory);
+        }
+    }
+
+    fn put_hex(&mut self, digits: &'t str) {
+        if let Err(fault) = push_hex(&mut self.bytes, digits) {
+            self.fail(fault);
+        }
+    }
+
+    /// Appends a message: its name and its fields, with a bar before each field; or `hex` and its
+    /// bytes.
+    pub fn put_message(&mut self, line: &'t str) {
+        match line.strip_prefix("hex ") {
+            Some(digits) => self.put_hex(digits),
+            None => self.put_named(line),
+        }
+    }
+
+    /// Appends a message that a name tells.
+    fn put_named(&mut self, line: &'t str) {
+        let (name, _) = line.split_once("|").unwrap_or((line, ""));
+        match layout_of(name.trim()) {
+            None => self.fail(Fault::Line(line)),
+            Some((type_byte, "alone")) => self.put(type_byte.as_bytes()),
+            Some((type_byte, layout)) => self.put_framed(type_byte, layout, line),
+        }
+    }
+
+    /// Appends a message with its length.
+    fn put_framed(&mut self, type_byte: &str, layout: &str, line: &'t str) {
+        if type_byte != "-" {
+            self.put(type_byte.as_bytes());
+        }
+        let mut body = Frames::new(self.alloc);
+        body.put_fields(layout, line);
+        self.put_counted(&body, 4);
+    }
+
+    /// Appends bytes behind their number and so many more.
+    fn put_counted(&mut self, counted: &Frames<'t>, more: usize) {
+        self.put_count32(counted.len().saturating_add(more));
+        self.put(counted.as_slice());
+        if let Some(fault) = counted.fault {
+            self.fail(fault);
+        }
+    }
+
+    /// Appends the fields of a message, as its layout says.
+    fn put_fields(&mut self, layout: &str, line: &'t str) {
+        for (place, kind) in layout.bytes().enumerate() {
+            self.put_kind(kind, place.saturating_add(1), line);
+        }
+    }
+
+    /// Appends what a letter of a layout says of the fields, the first of which stands at this
+    /// place of the line.
+    fn put_kind(&mut self, kind: u8, place: usize, line: &'t str) {
+        match kind {
+            b'S' | b'E' => self.put_texts(kind, place, line),
+            b'r' => self.put_list(kind, line.split_once("|").unwrap_or(("", "")).1, "|"),
+            b'l' => self.put_cells_of_line(line),
+            _ => match part(line, place) {
+                Ok(field) => self.put_field(kind, field),
+                Err(fault) => self.fail(fault),
+            },
+        }
+    }
+
+    /// Appends each field from a place on as a text, and then a zero.
+    fn put_texts(&mut self, kind: u8, place: usize, line: &'t str) {
+        for field in line.split("|").skip(place) {
+            self.put_text(kind, field.trim());
+        }
+        self.put(&[0]);
+    }
+
+    /// Appends a cell: `null`, `hex` and its bytes, or its text.
+    fn put_cell(&mut self, cell: &'t str) {
+        if cell == "null" || cell.starts_with("hex ") {
+            self.put_value(cell);
+        } else {
+            self.put_text_value(unquoted(cell));
+        }
+    }
+
+    /// Appends the cells of a line of COPY data: tabs between them, and a newline behind.
+    fn put_cells_of_line(&mut self, line: &str) {
+        let mut between: &[u8] = b"";
+        for field in line.split("|").skip(1) {
+            self.put(between);
+            self.put(unquoted(field.trim()).as_bytes());
+            between = b"\t";
+        }
+        self.put(b"\n");
+    }
+
+    /// Appends a text with a zero behind it; of an error's field the byte that tells its kind
+    /// first.
+    fn put_text(&mut self, kind: u8, text: &str) {
+        let (byte, text) = match text.split_once(" ") {
+            Some((byte, rest)) if kind == b'E' => (byte, rest),
+            _ => ("", unquoted(text)),
+        };
+        self.put(byte.as_bytes());
+        self.put(text.as_bytes());
+        self.put(&[0]);
+    }
+
+    /// Appends one field.
+    fn put_field(&mut self, kind: u8, field: &'t str) {
+        match kind {
+            b'i' => self.put_int32(field),
+            b'w' => self.put_int16(field),
+            b'y' => self.put_int8(field),
+            b'b' => self.put(field.as_bytes()),
+            b's' => self.put_text(kind, field),
+            b'h' => self.put_payload(field),
+            _ => self.put_list(kind, field, ","),
+        }
+    }
+
+    /// Appends a count and the parts of a list, which this text splits.
+    fn put_list(&mut self, kind: u8, field: &'t str, by: &str) {
+        if field.is_empty() {
+            return self.put_count16(0);
+        }
+        self.put_count16(field.split(by).count());
+        for part in field.split(by) {
+            self.put_part(kind, part.trim());
+        }
+    }
+
+    /// Appends one part of a list.
+    fn put_part(&mut self, kind: u8, part: &'t str) {
+        match kind {
+            b'r' => self.put_cell(part),
+            b'c' => self.put_int16(part),
+            b'o' => self.put_int32(part),
+            b'v' => self.put_value(part),
+            b'f' => self.put_column(part),
+            _ => self.fail(Fault::Line(part)),
+        }
+    }
+
+    /// Appends a value: `null`, or its length and its bytes, told by `hex` or by `text`.
+    fn put_value(&mut self, part: &'t str) {
+        match part.split_once(" ") {
+            Some(("text", text)) => self.put_text_value(text),
+            Some(("hex", digits)) => self.put_hex_value(digits),
+            _ if part == "null" => self.put_int32("-1"),
+            _ => self.fail(Fault::Line(part)),
+        }
+    }
+
+    fn put_text_value(&mut self, text: &str) {
+        self.put_count32(text.len());
+        self.put(text.as_bytes());
+    }
+
+    fn put_hex_value(&mut self, digits: &'t str) {
+        let mut value = Frames::new(self.alloc);
+        value.put_hex(digits);
+        self.put_counted(&value, 0);
+    }
+
+    /// Appends a column of a row description: its name, type oid, type size and format code.
+    fn put_column(&mut self, part: &'t str) {
+        let (name, numbers) = part.split_once(" ").unwrap_or((part, ""));
+        self.put_text(b's', name);
+        self.put(&[0, 0, 0, 0, 0, 0]);
+        self.put_type(numbers);
+    }
+
+    /// Appends the type of a column: its oid, its size, no modifier, and the format code.
+    fn put_type(&mut self, numbers: &'t str) {
+        let (oid, rest) = numbers.split_once(" ").unwrap_or((numbers, ""));
+        let (size, format) = rest.split_once(" ").unwrap_or((rest, ""));
+        self.put_int32(oid);
+        self.put_int16(size);
+        self.put_int32("-1");
+        self.put_int16(format);
+    }
+
+    /// Appends bytes, told by `text` or in hexadecimal.
+    fn put_payload(&mut self, field: &'t str) {
+        match field.strip_prefix("text ") {
+            Some(text) => self.put(unquoted(text).as_bytes()),
+            None => self.put_hex(field),
+        }
+    }
+
+    fn put_int8(&mut self, word: &'t str) {
+        match word.parse::<i8>() {
+            Ok(number) => self.put(&number.to_be_bytes()),
+            Err(_) => self.fail(Fault::Line(word)),
+        }
+    }
+
+    fn put_int16(&mut self, word: &'t str) {
+        match word.parse::<i16>() {
+            Ok(number) => self.put(&number.to_be_bytes()),
+            Err(_) => self.fail(Fault::Line(word)),
+        }
+    }
+
+    fn put_int32(&mut self, word: &'t str) {
+        match word.parse::<i32>() {
+            Ok(number) => self.put(&number.to_be_bytes()),
+            Err(_) => self.fail(Fault::Line(word)),
+        }
+    }
+
+    fn put_count16(&mut self, count: usize) {
+        match u16::try_from(count) {
+            Ok(count) => self.put(&count.to_be_bytes()),
+            Err(_) => self.fail(Fault::Line("too many parts")),
+        }
+    }
+
+    fn put_count32(&mut self, count: usize) {
+        match u32::try_from(count) {
+            Ok(count) => self.put(&count.to_be_bytes()),
+            Err(_) => self.fail(Fault::Line("too many bytes")),
+        }
+    }
 }
 
 /// A text without the quotes round it, which keep the whitespace at its ends.
@@ -167,143 +333,4 @@ fn unquoted(text: &str) -> &str {
         None => text,
         Some(rest) => rest.strip_suffix("\"").unwrap_or(text),
     }
-}
-
-/// Appends a text with a zero behind it; of an error's field the byte that tells its kind first.
-fn put_text(body: &mut Vec<u8>, kind: u8, text: &str) -> Result<(), AllocError> {
-    let (byte, text) = match text.split_once(" ") {
-        Some((byte, rest)) if kind == b'E' => (byte, rest),
-        _ => ("", unquoted(text)),
-    };
-    body.extend_from_slice(byte.as_bytes())?;
-    body.extend_from_slice(text.as_bytes())?;
-    Ok(body.push(0)?)
-}
-
-/// Appends one field.
-fn put_field<'t>(
-    alloc: Global,
-    body: &mut Vec<u8>,
-    kind: u8,
-    field: &'t str,
-) -> Result<(), Fault<'t>> {
-    match kind {
-        b'i' => put_int32(body, field),
-        b'w' => put_int16(body, field),
-        b'y' => put_int8(body, field),
-        b'b' => Ok(body.extend_from_slice(field.as_bytes())?),
-        b's' => Ok(put_text(body, kind, field)?),
-        b'h' => put_payload(body, field),
-        _ => put_list(alloc, body, kind, field),
-    }
-}
-
-/// Appends a count and the parts of a list.
-fn put_list<'t>(
-    alloc: Global,
-    body: &mut Vec<u8>,
-    kind: u8,
-    field: &'t str,
-) -> Result<(), Fault<'t>> {
-    if field.is_empty() {
-        return put_count16(body, 0);
-    }
-    put_count16(body, field.split(",").count())?;
-    for part in field.split(",") {
-        put_part(alloc, body, kind, part.trim())?;
-    }
-    Ok(())
-}
-
-/// Appends one part of a list.
-fn put_part<'t>(
-    alloc: Global,
-    body: &mut Vec<u8>,
-    kind: u8,
-    part: &'t str,
-) -> Result<(), Fault<'t>> {
-    match kind {
-        b'c' => put_int16(body, part),
-        b'o' => put_int32(body, part),
-        b'v' => put_value(alloc, body, part),
-        b'f' => put_column(body, part),
-        _ => Err(Fault::Line(part)),
-    }
-}
-
-/// Appends a value: `null`, or its length and its bytes, told by `hex` or by `text`.
-fn put_value<'t>(alloc: Global, body: &mut Vec<u8>, part: &'t str) -> Result<(), Fault<'t>> {
-    if part == "null" {
-        return Ok(body.extend_from_slice(&(-1i32).to_be_bytes())?);
-    }
-    if let Some(text) = part.strip_prefix("text ") {
-        return put_counted(body, text.as_bytes());
-    }
-    let Some(digits) = part.strip_prefix("hex ") else {
-        return Err(Fault::Line(part));
-    };
-    let mut bytes = Vec::new(alloc);
-    push_hex(&mut bytes, digits)?;
-    put_counted(body, bytes.as_slice())
-}
-
-/// Appends a column of a row description: its name, type oid, type size and format code.
-fn put_column<'t>(body: &mut Vec<u8>, part: &'t str) -> Result<(), Fault<'t>> {
-    let (name, numbers) = part.split_once(" ").ok_or(Fault::Line(part))?;
-    put_text(body, b's', name)?;
-    body.extend_from_slice(&[0, 0, 0, 0, 0, 0])?;
-    put_type(body, numbers)
-}
-
-/// Appends the type of a column: its oid, its size, no modifier, and the format code.
-fn put_type<'t>(body: &mut Vec<u8>, numbers: &'t str) -> Result<(), Fault<'t>> {
-    let (oid, rest) = numbers.split_once(" ").ok_or(Fault::Line(numbers))?;
-    let (size, format) = rest.split_once(" ").ok_or(Fault::Line(numbers))?;
-    put_int32(body, oid)?;
-    put_int16(body, size)?;
-    put_int32(body, "-1")?;
-    put_int16(body, format)
-}
-
-/// Appends bytes, told by `text` or in hexadecimal.
-fn put_payload<'t>(body: &mut Vec<u8>, field: &'t str) -> Result<(), Fault<'t>> {
-    match field.strip_prefix("text ") {
-        Some(text) => Ok(body.extend_from_slice(unquoted(text).as_bytes())?),
-        None => push_hex(body, field),
-    }
-}
-
-fn put_int8<'t>(body: &mut Vec<u8>, word: &'t str) -> Result<(), Fault<'t>> {
-    let number = parsed::<i8>(word)?;
-    Ok(body.extend_from_slice(&number.to_be_bytes())?)
-}
-
-fn put_int16<'t>(body: &mut Vec<u8>, word: &'t str) -> Result<(), Fault<'t>> {
-    let number = parsed::<i16>(word)?;
-    Ok(body.extend_from_slice(&number.to_be_bytes())?)
-}
-
-fn put_int32<'t>(body: &mut Vec<u8>, word: &'t str) -> Result<(), Fault<'t>> {
-    let number = parsed::<i32>(word)?;
-    Ok(body.extend_from_slice(&number.to_be_bytes())?)
-}
-
-/// Appends bytes behind their number.
-fn put_counted<'t>(body: &mut Vec<u8>, bytes: &[u8]) -> Result<(), Fault<'t>> {
-    put_count32(body, bytes.len())?;
-    Ok(body.extend_from_slice(bytes)?)
-}
-
-fn put_count16<'t>(body: &mut Vec<u8>, count: usize) -> Result<(), Fault<'t>> {
-    let Ok(count) = u16::try_from(count) else {
-        return Err(Fault::Line("too many parts"));
-    };
-    Ok(body.extend_from_slice(&count.to_be_bytes())?)
-}
-
-fn put_count32<'t>(body: &mut Vec<u8>, count: usize) -> Result<(), Fault<'t>> {
-    let Ok(count) = u32::try_from(count) else {
-        return Err(Fault::Line("too many bytes"));
-    };
-    Ok(body.extend_from_slice(&count.to_be_bytes())?)
 }

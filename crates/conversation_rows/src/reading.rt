@@ -1,7 +1,7 @@
 //! Text cells are read back.
 
 use crate::relations::intervals_of;
-use pg_interval::{Interval, ParseError};
+use pg_interval::Interval;
 use row_files::{Fault, told, told_by};
 use std::alloc::Global;
 
@@ -9,26 +9,19 @@ use std::alloc::Global;
 /// as the intervals of the row of the same place among the lines that tell rows. Lines that tell no
 /// style have no such cells.
 pub fn is_read_back<'t>(alloc: Global, lines: &[&'t str]) -> Result<bool, Fault<'t>> {
-    let Some(style) = told(lines, "read_back") else {
-        return Ok(true);
-    };
-    let rows = rows_told(alloc, lines)?;
-    are_rows_read(alloc, style, lines, rows.as_slice())
+    match told(lines, "read_back") {
+        None => Ok(true),
+        Some(style) => are_rows_read(alloc, style, lines),
+    }
 }
 
 /// Whether the cells of each row that the lines expect are read as the intervals of the row of the
 /// same place.
-fn are_rows_read<'t>(
-    alloc: Global,
-    style: &'t str,
-    lines: &[&'t str],
-    rows: &[&'t str],
-) -> Result<bool, Fault<'t>> {
+fn are_rows_read<'t>(alloc: Global, style: &str, lines: &[&'t str]) -> Result<bool, Fault<'t>> {
     let mut count = 0usize;
     for line in lines {
         if let Some(cells) = cells_of(line) {
-            let words = rows.get(count).copied().unwrap_or("");
-            if !are_read(alloc, style, cells, words)? {
+            if !are_read(alloc, style, cells, row_told(lines, count))? {
                 return Ok(false);
             }
             count = count.saturating_add(1);
@@ -45,44 +38,49 @@ fn cells_of<'t>(line: &'t str) -> Option<&'t str> {
     }
 }
 
-/// The intervals of each line that tells a row.
-fn rows_told<'t>(alloc: Global, lines: &[&'t str]) -> Result<Vec<&'t str>, Fault<'t>> {
-    let mut rows = Vec::new(alloc);
+/// The intervals of the line at this place among those that tell rows.
+fn row_told<'t>(lines: &[&'t str], place: usize) -> &'t str {
+    let mut left = place;
     for line in lines {
         if let Some(words) = told_by(line, "rows") {
-            let (_, intervals) = words.split_once(" ").unwrap_or(("", words));
-            rows.push(intervals)?;
+            if left == 0 {
+                return words.split_once(" ").unwrap_or(("", words)).1;
+            }
+            left = left.saturating_sub(1);
         }
     }
-    Ok(rows)
+    ""
 }
 
 /// Whether cells are read as the intervals that stand beside.
 fn are_read<'t>(
     alloc: Global,
-    style: &'t str,
-    cells: &'t str,
+    style: &str,
+    cells: &str,
     words: &'t str,
 ) -> Result<bool, Fault<'t>> {
     let intervals = intervals_of(alloc, words)?;
+    Ok(are_cells(style, cells, intervals.as_slice()))
+}
+
+fn are_cells(style: &str, cells: &str, intervals: &[Interval]) -> bool {
     let mut count = 0usize;
     for cell in cells.split("|") {
-        let read = read_in(style, cell.trim())?;
-        if read.ok() != intervals.as_slice().get(count).copied() {
-            return Ok(false);
+        if read_in(style, cell.trim()) != intervals.get(count).copied() {
+            return false;
         }
         count = count.saturating_add(1);
     }
-    Ok(count == intervals.len())
+    count == intervals.len()
 }
 
-/// What the reader of a style makes of a text.
-fn read_in<'t>(style: &'t str, text: &str) -> Result<Result<Interval, ParseError>, Fault<'t>> {
+/// What the reader of a style makes of a text, where there is such a style and it is such a text.
+fn read_in(style: &str, text: &str) -> Option<Interval> {
     match style {
-        "postgres" => Ok(Interval::from_postgres(text)),
-        "postgres_verbose" => Ok(Interval::from_postgres_verbose(text)),
-        "iso_8601" => Ok(Interval::from_iso(text)),
-        "sql_standard" => Ok(Interval::from_sql(text)),
-        _ => Err(Fault::Line(style)),
+        "postgres" => Interval::from_postgres(text).ok(),
+        "postgres_verbose" => Interval::from_postgres_verbose(text).ok(),
+        "iso_8601" => Interval::from_iso(text).ok(),
+        "sql_standard" => Interval::from_sql(text).ok(),
+        _ => None,
     }
 }

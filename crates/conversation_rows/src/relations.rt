@@ -30,33 +30,52 @@ fn served<'t>(table: Result<RelationTable, TableError>) -> Result<RelationTable,
 /// The relations that the lines tell.
 fn relations_of<'t>(alloc: Global, lines: &[&'t str]) -> Result<Vec<Relation>, Fault<'t>> {
     let mut relations = Vec::new(alloc);
-    for (place, line) in lines.iter().enumerate() {
-        if let Some(head) = told_by(line, "relation") {
-            relations.push(relation_of(alloc, head, lines, place)?)?;
-        }
+    for line in lines {
+        push_line(alloc, &mut relations, line)?;
     }
     Ok(relations)
 }
 
-/// A relation, whose rows stand behind its place.
-fn relation_of<'t>(
+/// Appends the relation that a line tells, or to the last one the rows that it tells.
+fn push_line<'t>(
     alloc: Global,
+    relations: &mut Vec<Relation>,
+    line: &'t str,
+) -> Result<(), Fault<'t>> {
+    if let Some(head) = told_by(line, "relation") {
+        return push_relation(alloc, relations, head);
+    }
+    match told_by(line, "rows") {
+        Some(words) => push_rows(alloc, relations.last_mut(), words),
+        None => Ok(()),
+    }
+}
+
+fn push_relation<'t>(
+    alloc: Global,
+    relations: &mut Vec<Relation>,
     head: &'t str,
-    lines: &[&'t str],
-    place: usize,
-) -> Result<Relation, Fault<'t>> {
-    let mut relation = empty_of(alloc, head)?;
-    push_rows(alloc, &mut relation.rows, lines, place.saturating_add(1))?;
-    Ok(relation)
+) -> Result<(), Fault<'t>> {
+    let relation = empty_of(alloc, head)?;
+    Ok(relations.push(relation)?)
 }
 
 /// A relation without rows: its name, how many polls find it unready, and its columns.
 fn empty_of<'t>(alloc: Global, head: &'t str) -> Result<Relation, Fault<'t>> {
-    let (name, rest) = head.split_once(" ").ok_or(Fault::Line(head))?;
+    let (name, rest) = head.split_once(" ").unwrap_or((head, ""));
     let (unready, names) = rest.split_once(" ").unwrap_or((rest, ""));
-    let unready = parsed(unready)?;
+    Ok(relation_with(alloc, name, parsed(unready)?, names)?)
+}
+
+fn relation_with(
+    alloc: Global,
+    name: &str,
+    unready: u32,
+    names: &str,
+) -> Result<Relation, AllocError> {
+    let name = PgStr::copy_of(alloc, name)?;
     Ok(Relation {
-        name: PgStr::copy_of(alloc, name)?,
+        name,
         unready,
         columns: columns_of(alloc, names)?,
         rows: PgList::new(alloc),
@@ -72,33 +91,20 @@ fn columns_of(alloc: Global, names: &str) -> Result<PgList<PgStr>, AllocError> {
     Ok(columns)
 }
 
-/// Appends the rows that stand from a place on, up to the next relation.
+/// Appends so many equal rows as a number tells, each of the intervals behind it.
 fn push_rows<'t>(
     alloc: Global,
-    rows: &mut PgList<PgList<Interval>>,
-    lines: &[&'t str],
-    place: usize,
-) -> Result<(), Fault<'t>> {
-    for line in lines.iter().skip(place) {
-        if told_by(line, "relation").is_some() {
-            return Ok(());
-        }
-        if let Some(words) = told_by(line, "rows") {
-            push_equal_rows(alloc, rows, words)?;
-        }
-    }
-    Ok(())
-}
-
-/// Appends so many equal rows as a number tells, each of the intervals behind it.
-fn push_equal_rows<'t>(
-    alloc: Global,
-    rows: &mut PgList<PgList<Interval>>,
+    relation: Option<&mut Relation>,
     words: &'t str,
 ) -> Result<(), Fault<'t>> {
+    let Some(relation) = relation else {
+        return Ok(());
+    };
     let (count, intervals) = words.split_once(" ").unwrap_or((words, ""));
     for _ in 0..parsed::<u32>(count)? {
-        rows.push(PgList::from_vec(intervals_of(alloc, intervals)?))?;
+        relation
+            .rows
+            .push(PgList::from_vec(intervals_of(alloc, intervals)?))?;
     }
     Ok(())
 }

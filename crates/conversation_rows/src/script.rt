@@ -1,6 +1,6 @@
 //! What a row tells of a conversation, in its order.
 
-use crate::message::put_message;
+use crate::message::Frames;
 use pg_messages::{KeyError, SecretKey};
 use pg_session::DeskCall;
 use row_files::{Fault, hex_words};
@@ -21,76 +21,103 @@ pub enum Step {
 
 /// A conversation.
 #[derive(Drop)]
-pub struct Script {
+pub struct Script<'t> {
     /// The client's bytes.
-    pub client: Vec<u8>,
+    pub client: Frames<'t>,
     /// The bytes of the replies.
-    pub replies: Vec<u8>,
+    pub replies: Frames<'t>,
     /// The registry's calls.
     pub calls: Vec<DeskCall>,
     /// All three, in their order.
     pub steps: Vec<Step>,
+    fault: Option<Fault<'t>>,
 }
 
 /// The conversation that the lines tell.
-pub fn script_of<'t>(alloc: Global, lines: &[&'t str]) -> Result<Script, Fault<'t>> {
+pub fn script_of<'t>(alloc: Global, lines: &[&'t str]) -> Script<'t> {
     let mut script = Script {
-        client: Vec::new(alloc),
-        replies: Vec::new(alloc),
+        client: Frames::new(alloc),
+        replies: Frames::new(alloc),
         calls: Vec::new(alloc),
         steps: Vec::new(alloc),
+        fault: None,
     };
     for line in lines {
-        push_line(alloc, &mut script, line)?;
+        script.push_line(alloc, line);
     }
-    Ok(script)
+    script
 }
 
-/// Appends what a line tells.
-fn push_line<'t>(alloc: Global, script: &mut Script, line: &'t str) -> Result<(), Fault<'t>> {
+impl<'t> Script<'t> {
+    /// Why a line couldn't be told, if one couldn't, or memory ran out.
+    pub fn fault(&self) -> Option<Fault<'t>> {
+        self.fault.or(self.client.fault()).or(self.replies.fault())
+    }
+
+    /// Appends what a line tells.
+    fn push_line(&mut self, alloc: Global, line: &'t str) {
+        match told_apart(line) {
+            ("client", message) => {
+                let len = put_messages(&mut self.client, message);
+                self.push_step(Step::Client(len));
+            }
+            ("reply", message) => {
+                let len = put_messages(&mut self.replies, message);
+                self.push_step(Step::Reply(len));
+            }
+            ("call", words) => self.push_call(call_of(alloc, words), step_of(words)),
+            _ => {}
+        }
+    }
+
+    fn push_step(&mut self, step: Step) {
+        if self.steps.push(step).is_err() {
+            self.fault = Some(Fault::NoMemory);
+        }
+    }
+
+    /// Appends a call of the registry.
+    fn push_call(&mut self, call: Result<DeskCall, Fault<'t>>, step: Step) {
+        match call {
+            Ok(call) => {
+                if self.calls.push(call).is_err() {
+                    self.fault = Some(Fault::NoMemory);
+                }
+                self.push_step(step);
+            }
+            Err(fault) => self.fault = Some(fault),
+        }
+    }
+}
+
+/// The step of the registry call of these words.
+fn step_of(words: &str) -> Step {
+    if words.starts_with("ask") {
+        Step::Ask
+    } else {
+        Step::Call
+    }
+}
+
+/// The first word, and those behind it.
+fn told_apart(line: &str) -> (&str, &str) {
     let (word, rest) = line.split_once(" ").unwrap_or((line, ""));
-    let rest = rest.trim();
-    let step = match word {
-        "client" => Step::Client(put_messages(alloc, &mut script.client, rest)?),
-        "reply" => Step::Reply(put_messages(alloc, &mut script.replies, rest)?),
-        "call" => push_call(alloc, &mut script.calls, rest)?,
-        _ => return Ok(()),
-    };
-    Ok(script.steps.push(step)?)
+    (word, rest.trim())
 }
 
 /// Appends a message as often as the number before it says, and answers how many bytes that are.
-fn put_messages<'t>(
-    alloc: Global,
-    bytes: &mut Vec<u8>,
-    message: &'t str,
-) -> Result<usize, Fault<'t>> {
-    let before = bytes.len();
+fn put_messages<'t>(frames: &mut Frames<'t>, message: &'t str) -> usize {
+    let before = frames.len();
     let (first, rest) = message.split_once(" ").unwrap_or((message, ""));
     match first.parse::<u32>() {
-        Err(_) => put_message(alloc, bytes, message)?,
+        Err(_) => frames.put_message(message),
         Ok(times) => {
             for _ in 0..times {
-                put_message(alloc, bytes, rest)?;
+                frames.put_message(rest);
             }
         }
     }
-    Ok(bytes.len().saturating_sub(before))
-}
-
-/// Appends the registry call of these words, and answers what step it is.
-fn push_call<'t>(
-    alloc: Global,
-    calls: &mut Vec<DeskCall>,
-    words: &'t str,
-) -> Result<Step, Fault<'t>> {
-    let call = call_of(alloc, words)?;
-    let step = match call {
-        DeskCall::Ask(_) => Step::Ask,
-        _ => Step::Call,
-    };
-    calls.push(call)?;
-    Ok(step)
+    frames.len().saturating_sub(before)
 }
 
 /// The registry call of these words: `start`; `ask` and its answer; `narrow`; or `cancel`, its

@@ -1,7 +1,6 @@
 //! A conversation is served.
 
 use crate::counting::CountingSink;
-use crate::handlers::serve_told;
 use crate::script::{Step, key_of};
 use pg_messages::{PgBytes, PgList};
 use pg_serve::{FlakyDesk, MemorySink, MemorySource};
@@ -44,37 +43,18 @@ pub struct Place {
     pub desk: FlakyDesk,
 }
 
-/// What came of serving a row.
-#[derive(Drop)]
-pub struct Outcome {
-    pub end: Ending,
-    pub place: Place,
-}
-
-/// Serves a client's bytes by the plan, with the handlers and the answers that the lines tell. The
-/// steps tell where the messages end.
-pub fn serve<'t>(
+/// The client's bytes, a sink and a registry as the plan and the lines have them. The steps tell
+/// where the messages end.
+pub fn place_of<'t>(
     alloc: Global,
     lines: &[&'t str],
     steps: &[Step],
     client: &[u8],
     plan: Plan<'t>,
-) -> Result<Outcome, Fault<'t>> {
-    let source = source_of(alloc, steps, client, plan)?;
-    let mut place = place_of(alloc, lines, source, plan)?;
-    let end = serve_told(alloc, lines, &mut place, plan.turns)?;
-    Ok(Outcome { end, place })
-}
-
-/// The place of a source, with a sink and a registry as the plan has them.
-fn place_of<'t>(
-    alloc: Global,
-    lines: &[&'t str],
-    source: MemorySource,
-    plan: Plan<'t>,
 ) -> Result<Place, Fault<'t>> {
-    let sink = sink_of(alloc, plan.sink_fails)?;
     let desk = desk_of(alloc, lines, plan.desk_fails)?;
+    let sink = sink_of(alloc, plan.sink_fails)?;
+    let source = source_of(alloc, steps, client, plan)?;
     Ok(Place { source, sink, desk })
 }
 
@@ -135,9 +115,21 @@ fn pieces_of<'t>(
 ) -> Result<Vec<usize>, Fault<'t>> {
     match reads {
         Reads::Told(words) => numbers_of(alloc, words),
-        Reads::First(first) => Ok(up_to_one(alloc, Some(first))?),
-        Reads::Single => Ok(singles(alloc, len)?),
-        Reads::Messages(front) => Ok(pieces_of_messages(alloc, steps, front)?),
+        _ => Ok(pieces_made(alloc, reads, steps, len)?),
+    }
+}
+
+/// The pieces that no line tells by their numbers.
+fn pieces_made(
+    alloc: Global,
+    reads: Reads<'_>,
+    steps: &[Step],
+    len: usize,
+) -> Result<Vec<usize>, AllocError> {
+    match reads {
+        Reads::First(first) => up_to_one(alloc, Some(first)),
+        Reads::Messages(front) => pieces_of_messages(alloc, steps, front),
+        _ => singles(alloc, len),
     }
 }
 
@@ -158,9 +150,7 @@ fn pieces_of_messages(
 
 /// Appends the pieces of a message of this length.
 fn push_message(pieces: &mut Vec<usize>, len: usize, front: usize) -> Result<(), AllocError> {
-    if front >= len {
-        return Ok(pieces.push(len)?);
-    }
+    let front = if front < len { front } else { 0 };
     if front > 0 {
         pieces.push(front)?;
     }

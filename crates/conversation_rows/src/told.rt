@@ -5,19 +5,14 @@ use crate::fronts::{Front, all_of};
 use crate::script::Step;
 use crate::serving::{Plan, Reads};
 use crate::verdict::{Between, Expected};
-use row_files::{Fault, number_told, numbers_of, told};
-use std::alloc::Global;
+use row_files::{Fault, number_told, parsed, told};
 
 /// The one case that the lines tell.
-pub fn case_told<'t>(
-    alloc: Global,
-    lines: &[&'t str],
-    steps: &[Step],
-) -> Result<Case<'t>, Fault<'t>> {
+pub fn case_told<'t>(lines: &[&'t str], steps: &[Step]) -> Result<Case<'t>, Fault<'t>> {
     let all = all_of(steps);
     Ok(Case {
         client: all.client,
-        plan: plan_told(alloc, lines)?,
+        plan: plan_told(lines)?,
         expected: expected_of(lines, all)?,
     })
 }
@@ -57,22 +52,21 @@ fn calls_told(end: &str, all: Front) -> Between {
 }
 
 /// The plan that the lines tell.
-fn plan_told<'t>(alloc: Global, lines: &[&'t str]) -> Result<Plan<'t>, Fault<'t>> {
-    let sink_fails = failing_write(alloc, lines)?;
+fn plan_told<'t>(lines: &[&'t str]) -> Result<Plan<'t>, Fault<'t>> {
     Ok(Plan {
         reads: reads_told(lines),
         source_fails: number_told(lines, "read_fails")?,
-        sink_fails,
+        sink_fails: failing_write(lines)?,
         desk_fails: number_told(lines, "desk_fails")?,
         turns: number_told(lines, "turns")?.unwrap_or(100),
     })
 }
 
 /// The write that fails, if the lines tell one.
-fn failing_write<'t>(alloc: Global, lines: &[&'t str]) -> Result<Option<(u64, usize)>, Fault<'t>> {
+fn failing_write<'t>(lines: &[&'t str]) -> Result<Option<(u64, usize)>, Fault<'t>> {
     match told(lines, "write_fails") {
         None => Ok(None),
-        Some(words) => Ok(Some(pair_of(alloc, words)?)),
+        Some(words) => pair_of(words),
     }
 }
 
@@ -87,10 +81,8 @@ fn reads_told<'t>(lines: &[&'t str]) -> Reads<'t> {
 }
 
 /// The number of a call, and how many bytes it takes.
-fn pair_of<'t>(alloc: Global, words: &'t str) -> Result<(u64, usize), Fault<'t>> {
-    let numbers = numbers_of(alloc, words)?;
-    match numbers.as_slice() {
-        [call, taken] => Ok((*call as u64, *taken)),
-        _ => Err(Fault::Line(words)),
-    }
+fn pair_of<'t>(words: &'t str) -> Result<Option<(u64, usize)>, Fault<'t>> {
+    let (call, taken) = words.split_once(" ").unwrap_or((words, ""));
+    let call = parsed::<u64>(call)?;
+    Ok(Some((call, parsed::<usize>(taken)?)))
 }

@@ -1,8 +1,9 @@
 //! What is otherwise than expected of a conversation.
 
 use crate::finding::Difference;
+use crate::fronts::Front;
 use crate::script::Script;
-use crate::serving::{Ending, Outcome};
+use crate::serving::{Ending, Place};
 use pg_session::{DeskCall, EndKind, ServeError};
 use row_files::common_len;
 
@@ -36,30 +37,43 @@ pub struct Expected<'t> {
     pub calls: Between,
 }
 
-/// The first difference between an outcome and what is expected, if there is one. Another end is
-/// told only where what was written and called is a front of the conversation. No write is empty,
-/// and they are as long as the words tell, where there are such words.
+/// What is expected where a conversation comes so far.
+pub fn expected_at<'t>(end: &'t str, front: Front) -> Expected<'t> {
+    Expected {
+        end,
+        written: Between {
+            least: front.sure,
+            most: front.replies,
+        },
+        calls: Between::just(front.calls),
+    }
+}
+
+/// The first difference between what came of a conversation and what is expected, if there is one.
+/// Another end is told only where what was written and called is a front of the conversation. No
+/// write is empty, and they are as long as the words tell, where there are such words.
 pub fn difference(
-    script: &Script,
-    outcome: &Outcome,
+    script: &Script<'_>,
+    end: Ending,
+    place: &Place,
     expected: Expected<'_>,
     writes: Option<&str>,
 ) -> Option<Difference> {
-    let sent = outcome.place.sink.sink.bytes();
-    let calls = outcome.place.desk.calls();
+    let sent = place.sink.sink.bytes();
+    let calls = place.desk.calls();
     let found = other_content(script, sent, calls);
     if found.is_some() {
         return found;
     }
-    let found = other_extent(end_name(outcome.end), sent.len(), calls.len(), expected);
+    let found = other_extent(end_name(end), sent.len(), calls.len(), expected);
     if found.is_some() {
         return found;
     }
-    other_writes(outcome.place.sink.lengths.as_slice(), writes)
+    other_writes(place.sink.lengths.as_slice(), writes)
 }
 
 /// Where what was sent or called is no front of the conversation.
-fn other_content(script: &Script, sent: &[u8], calls: &[DeskCall]) -> Option<Difference> {
+fn other_content(script: &Script<'_>, sent: &[u8], calls: &[DeskCall]) -> Option<Difference> {
     let replies = script.replies.as_slice();
     if !replies.starts_with(sent) {
         return Some(Difference::Replies(common_len(sent, replies)));

@@ -9,8 +9,8 @@ mod serving;
 mod verdict;
 
 use crate::row::{Row, row_of};
-use crate::serving::{pieces_told, serve};
-use crate::verdict::{Difference, finding, first_difference};
+use crate::serving::{judge_one, pieces_told};
+use crate::verdict::{Difference, finding};
 use row_files::{Fault, Judge, judge_lines, up_to_one};
 use std::alloc::Global;
 use std::io;
@@ -26,11 +26,15 @@ impl Judge for CursorServingRows {
         row: &'t str,
     ) -> Result<Option<String>, Fault<'t>> {
         let row = row_of(alloc, row)?;
-        if row.option("sweep") == Some("cuts") {
-            return judge_cuts(alloc, &row);
-        }
-        let pieces = pieces_told(alloc, &row)?;
-        told(alloc, 0, judge_one(alloc, &row, pieces)?)
+        judge_row(alloc, &row)
+    }
+}
+
+/// What is otherwise than a row expects.
+fn judge_row<'t>(alloc: Global, row: &Row<'t>) -> Result<Option<String>, Fault<'t>> {
+    match row.option("sweep") {
+        Some("cuts") => judge_cuts(alloc, row),
+        _ => told(alloc, 0, judge_one(alloc, row, pieces_told(alloc, row)?)?),
     }
 }
 
@@ -43,16 +47,6 @@ fn judge_cuts<'t>(alloc: Global, row: &Row<'t>) -> Result<Option<String>, Fault<
         }
     }
     Ok(None)
-}
-
-/// What came of a row whose reads give so many bytes.
-fn judge_one<'t>(
-    alloc: Global,
-    row: &Row<'t>,
-    pieces: Vec<usize>,
-) -> Result<Option<Difference>, Fault<'t>> {
-    let outcome = serve(alloc, row, pieces)?;
-    Ok(first_difference(row, &outcome))
 }
 
 /// What came out otherwise in the case of this number, as a text.

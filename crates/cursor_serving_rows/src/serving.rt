@@ -1,49 +1,58 @@
 //! The conversation of a row is served.
 
-use crate::handlers::serve_by;
+use crate::handlers::serve_sample;
 use crate::row::Row;
+use crate::verdict::{Difference, first_difference};
 use cursor_serving::serve_cursors_on;
 use pg_handlers::ScriptDesk;
 use pg_messages::{PgBytes, PgList, SecretKey};
 use pg_serve::{MemorySink, MemorySource};
 use pg_session::{EndKind, ServeError};
-use relation_handlers::RelationTable;
 use relation_serving::built_in_table;
 use row_files::{Fault, numbers_of, parsed, singles, up_to_one};
-use sample_handlers::SampleHandler;
 use std::alloc::{AllocError, Global};
 
 /// How a conversation ends.
 pub type Ending = Result<EndKind, ServeError>;
 
-/// What came of a conversation.
-#[derive(Drop)]
-pub struct Outcome {
-    pub end: Ending,
-    pub sink: MemorySink,
-    pub desk: ScriptDesk,
-}
-
-/// Serves the conversation of a row, whose reads give so many bytes.
-pub fn serve<'t>(alloc: Global, row: &Row<'t>, pieces: Vec<usize>) -> Result<Outcome, Fault<'t>> {
+/// The first difference between what a row expects and what came of it, where its reads give so
+/// many bytes.
+pub fn judge_one<'t>(
+    alloc: Global,
+    row: &Row<'t>,
+    pieces: Vec<usize>,
+) -> Result<Option<Difference>, Fault<'t>> {
     let mut source = source_of(alloc, row, pieces)?;
-    let sink = sink_of(alloc, row)?;
-    let turns = turns_of(row)?;
-    serve_from(alloc, row, &mut source, sink, turns)
+    judge_from(alloc, row, &mut source)
 }
 
-/// Serves a client with the registry's answers that the row tells.
-fn serve_from<'t>(
+fn judge_from<'t>(
     alloc: Global,
     row: &Row<'t>,
     source: &mut MemorySource,
-    mut sink: MemorySink,
-    turns: u64,
-) -> Result<Outcome, Fault<'t>> {
+) -> Result<Option<Difference>, Fault<'t>> {
+    let mut sink = sink_of(alloc, row)?;
+    judge_into(alloc, row, source, &mut sink)
+}
+
+/// Serves a client with the registry's answers that the row tells.
+fn judge_into<'t>(
+    alloc: Global,
+    row: &Row<'t>,
+    source: &mut MemorySource,
+    sink: &mut MemorySink,
+) -> Result<Option<Difference>, Fault<'t>> {
+    let turns = turns_of(row)?;
     let mut desk = desk_of(alloc, row.option("answers").unwrap_or(""))?;
-    let handlers = row.option("handlers");
-    let end = serve_told(alloc, handlers, &mut desk, source, &mut sink, turns)?;
-    Ok(Outcome { end, sink, desk })
+    let end = serve_told(
+        alloc,
+        row.option("handlers"),
+        &mut desk,
+        source,
+        sink,
+        turns,
+    )?;
+    Ok(first_difference(row, end, sink.bytes(), desk.calls()))
 }
 
 /// Serves a client over the built-in relations, or by the handlers of this name.
@@ -56,20 +65,23 @@ fn serve_told<'t>(
     turns: u64,
 ) -> Result<Ending, Fault<'t>> {
     match handlers {
-        None => {
-            let relations = relations(alloc)?;
-            Ok(serve_cursors_on(alloc, desk, &relations, source, sink, turns))
-        }
-        Some("sample") => Ok(serve_by(alloc, SampleHandler, desk, source, sink, turns)?),
+        None => serve_relations(alloc, desk, source, sink, turns),
+        Some("sample") => serve_sample(alloc, desk, source, sink, turns),
         Some(other) => Err(Fault::Line(other)),
     }
 }
 
-/// The built-in relations.
-fn relations(alloc: Global) -> Result<RelationTable, AllocError> {
+/// Serves a client over the built-in relations.
+fn serve_relations<'t>(
+    alloc: Global,
+    desk: &mut ScriptDesk,
+    source: &mut MemorySource,
+    sink: &mut MemorySink,
+    turns: u64,
+) -> Result<Ending, Fault<'t>> {
     match built_in_table(alloc) {
-        Ok(table) => Ok(table),
-        Err(_) => Err(AllocError),
+        Ok(relations) => Ok(serve_cursors_on(alloc, desk, &relations, source, sink, turns)),
+        Err(_) => Err(Fault::NoMemory),
     }
 }
 
@@ -88,10 +100,7 @@ fn source_of<'t>(
     row: &Row<'t>,
     pieces: Vec<usize>,
 ) -> Result<MemorySource, Fault<'t>> {
-    let fails = match row.option("read_fails") {
-        None => None,
-        Some(number) => Some(parsed::<u64>(number)?),
-    };
+    let fails = number_of(row, "read_fails")?;
     Ok(source_with(alloc, row.client.as_slice(), pieces, fails)?)
 }
 
@@ -108,28 +117,31 @@ fn source_with(
 
 /// The sink, with the write that fails.
 fn sink_of<'t>(alloc: Global, row: &Row<'t>) -> Result<MemorySink, Fault<'t>> {
-    let fails = match row.option("write_fails") {
-        None => None,
-        Some(words) => Some(pair_of(alloc, words)?),
-    };
-    Ok(MemorySink::new(alloc, PgList::from_vec(up_to_one(alloc, fails)?)))
+    let fails = up_to_one(alloc, failing_write(row)?)?;
+    Ok(MemorySink::new(alloc, PgList::from_vec(fails)))
 }
 
-/// The number of a call, and how many bytes it takes.
-fn pair_of<'t>(alloc: Global, words: &'t str) -> Result<(u64, usize), Fault<'t>> {
-    let numbers = numbers_of(alloc, words)?;
-    match numbers.as_slice() {
-        [call, taken] => Ok((*call as u64, *taken)),
-        _ => Err(Fault::Line(words)),
+/// The number of the write that fails, and how many bytes it takes.
+fn failing_write<'t>(row: &Row<'t>) -> Result<Option<(u64, usize)>, Fault<'t>> {
+    let Some(words) = row.option("write_fails") else {
+        return Ok(None);
+    };
+    let (call, taken) = words.split_once(" ").unwrap_or((words, ""));
+    let call = parsed::<u64>(call)?;
+    Ok(Some((call, parsed::<usize>(taken)?)))
+}
+
+/// The number that an option tells, if there is one.
+fn number_of<'t>(row: &Row<'t>, name: &str) -> Result<Option<u64>, Fault<'t>> {
+    match row.option(name) {
+        None => Ok(None),
+        Some(digits) => Ok(Some(parsed::<u64>(digits)?)),
     }
 }
 
 /// How many turns the client has.
 fn turns_of<'t>(row: &Row<'t>) -> Result<u64, Fault<'t>> {
-    match row.option("turns") {
-        None => Ok(1000),
-        Some(number) => parsed(number),
-    }
+    Ok(number_of(row, "turns")?.unwrap_or(1000))
 }
 
 /// The registry, under pid 7 and key 01020304, with the answers that words tell.

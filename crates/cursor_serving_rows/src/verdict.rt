@@ -1,13 +1,13 @@
 //! What is otherwise than a row expects.
 
 use crate::row::Row;
-use crate::serving::{Ending, Outcome};
+use crate::serving::Ending;
 use pg_session::{DeskCall, EndKind, ServeError};
 use row_files::common_len;
 use std::alloc::{AllocError, Global};
 
 /// What came out otherwise.
-#[derive(Clone, Copy, Debug)]
+#[derive(Clone, Copy)]
 pub enum Difference {
     /// The conversation ended so.
     End(&'static str),
@@ -17,11 +17,15 @@ pub enum Difference {
     Calls,
 }
 
-/// The first difference between an outcome and what the row expects, if there is one. Where the row
-/// has the option `front`, any first bytes of the replies are expected; where a write fails, any
-/// first calls.
-pub fn first_difference(row: &Row<'_>, outcome: &Outcome) -> Option<Difference> {
-    let sent = outcome.sink.bytes();
+/// The first difference between what came of a conversation and what the row expects, if there is
+/// one. Where the row has the option `front`, any first bytes of the replies are expected; where a
+/// write fails, any first calls.
+pub fn first_difference(
+    row: &Row<'_>,
+    end: Ending,
+    sent: &[u8],
+    calls: &[DeskCall],
+) -> Option<Difference> {
     let replies = row.replies.as_slice();
     if !replies.starts_with(sent) {
         return Some(Difference::Replies(common_len(sent, replies)));
@@ -29,10 +33,11 @@ pub fn first_difference(row: &Row<'_>, outcome: &Outcome) -> Option<Difference> 
     if sent.len() < replies.len() && row.option("front").is_none() {
         return Some(Difference::Replies(sent.len()));
     }
-    if end_name(outcome.end) != row.end {
-        return Some(Difference::End(end_name(outcome.end)));
+    let end = end_name(end);
+    if end != row.end {
+        return Some(Difference::End(end));
     }
-    if !are_calls(outcome.desk.calls(), row.calls, row.end == "WriteFault") {
+    if !are_calls(calls, row.calls, end == "WriteFault") {
         return Some(Difference::Calls);
     }
     None

@@ -4,22 +4,28 @@
 // N totals` has the sums alone.
 #![tactic(auto)]
 
+ghost use Rattle.std.specs.Prelude.{◌≤◌};
+
 use pg_interval::Interval;
 use pg_messages::{PgList, PgStr};
 use relation_demo::{demo_client, demo_table};
 use relation_tables::Relation;
-use std::alloc::{AllocError, Global};
+use std::alloc::Global;
 use std::io;
 
 fn main(rt: HostRuntime) -> io::Result<()> {
     for line in rt.lines(rt.alloc()) {
-        let line = line?;
-        match row_of(line.as_str()) {
-            Some((seed, count, is_short)) => print_load(&rt, rt.alloc(), seed, count, is_short)?,
-            None => println!(rt; "no row")?,
-        }
+        print_row(&rt, line?)?;
     }
     Ok(())
+}
+
+/// Prints what there is to tell of a row's load.
+fn print_row(rt: &HostRuntime, line: String) -> io::Result<()> {
+    match row_of(line.as_str()) {
+        Some((seed, count, is_short)) => print_load(rt, seed, count, is_short),
+        None => println!(rt; "no row"),
+    }
 }
 
 /// The seed of a row, how many relations it asks for, and whether it asks for the sums alone.
@@ -37,70 +43,87 @@ fn row_of(line: &str) -> Option<(u64, u32, bool)> {
 }
 
 /// Prints what there is to tell of a load.
-fn print_load(
-    rt: &impl Print,
-    alloc: Global,
-    seed: u64,
-    count: u32,
-    is_short: bool,
-) -> io::Result<()> {
+fn print_load(rt: &HostRuntime, seed: u64, count: u32, is_short: bool) -> io::Result<()> {
     println!(rt; "demo {seed} {count}")?;
     if count > 10000 {
         return println!(rt; "too many relations");
     }
+    print_table(rt, rt.alloc(), seed, count, is_short)?;
+    print_client(rt, rt.alloc(), count)
+}
+
+/// Prints what there is to tell of a load's relations.
+fn print_table(
+    rt: &HostRuntime,
+    alloc: Global,
+    seed: u64,
+    count: u32,
+    is_short: bool,
+) -> io::Result<()>
+    requires { count ≤ 10000 }
+{
     let table = demo_table(alloc, seed, count)?;
-    if !is_short {
-        for relation in table.relations() {
-            println!(rt; "{}", told(alloc, relation)?.as_str())?;
-        }
+    if is_short {
+        print_totals(rt, totals_of(table.relations()))
+    } else {
+        print_relations(rt, table.relations())
     }
-    println!(rt; "{}", sums_of(alloc, table.relations())?.as_str())?;
-    let client = demo_client(alloc, count)?;
-    let sum = sum_of_bytes(client.as_slice());
-    println!(rt; "client {} bytes, of sum {sum}", client.len())
 }
 
-/// A relation's name, the polls that it owes, its columns, how many rows it has, and its first
-/// cell.
-fn told(alloc: Global, relation: &Relation) -> Result<String, AllocError> {
-    let name = relation.name.as_str();
-    let unready = relation.unready;
-    let columns = joined(alloc, relation.columns.as_slice())?;
-    let columns = columns.as_str();
-    let rows = relation.rows.len();
-    let cell = first_cell(alloc, relation.rows.as_slice())?;
-    let cell = cell.as_str();
-    format!(in alloc; "{name}: unready {unready}, columns{columns}, rows {rows}, first cell {cell}")
+/// Prints a line for each relation, and the sums over all of them.
+fn print_relations(rt: &HostRuntime, relations: &[Relation]) -> io::Result<()> {
+    for relation in relations {
+        print_relation(rt, relation)?;
+    }
+    print_totals(rt, totals_of(relations))
 }
 
-/// The names, with a space before each.
-fn joined(alloc: Global, names: &[PgStr]) -> Result<String, AllocError> {
-    let mut text = String::new(alloc);
+/// Prints a relation's name, the polls that it owes, its columns, how many rows it has, and its
+/// first cell.
+fn print_relation(rt: &HostRuntime, relation: &Relation) -> io::Result<()> {
+    let rows = relation.rows.as_slice();
+    print!(rt;
+        "{}: unready {}, columns",
+        relation.name.as_str(),
+        relation.unready
+    )?;
+    print_names(rt, relation.columns.as_slice())?;
+    print!(rt; ", rows {}, first cell ", rows.len())?;
+    print_cell(rt, first_cell(rows))
+}
+
+/// Prints the names, with a space before each.
+fn print_names(rt: &HostRuntime, names: &[PgStr]) -> io::Result<()> {
     for name in names {
-        text.push_str(" ")?;
-        text.push_str(name.as_str())?;
+        print!(rt; " {}", name.as_str())?;
     }
-    Ok(text)
+    Ok(())
 }
 
-/// The numbers of the first cell of rows.
-fn first_cell(alloc: Global, rows: &[PgList<Interval>]) -> Result<String, AllocError> {
-    let Some(row) = rows.first() else {
-        return String::from_str(alloc, "none");
-    };
-    let Some(cell) = row.as_slice().first() else {
-        return String::from_str(alloc, "none");
-    };
-    let Interval {
-        months,
-        days,
-        microseconds,
-    } = *cell;
-    format!(in alloc; "{months} {days} {microseconds}")
+/// The first cell of rows.
+fn first_cell(rows: &[PgList<Interval>]) -> Option<Interval> {
+    match rows.first() {
+        Some(row) => row.as_slice().first().copied(),
+        None => None,
+    }
+}
+
+/// Prints the numbers of a cell, and ends the line.
+fn print_cell(rt: &HostRuntime, cell: Option<Interval>) -> io::Result<()> {
+    match cell {
+        Some(
+            Interval {
+                months,
+                days,
+                microseconds,
+            },
+        ) => println!(rt; "{months} {days} {microseconds}"),
+        None => println!(rt; "none"),
+    }
 }
 
 /// What all relations have.
-#[derive(Drop)]
+#[derive(Clone, Copy)]
 struct Totals {
     unready: u64,
     columns: u64,
@@ -111,7 +134,7 @@ struct Totals {
 }
 
 /// The sums over all relations and all cells.
-fn sums_of(alloc: Global, relations: &[Relation]) -> Result<String, AllocError> {
+fn totals_of(relations: &[Relation]) -> Totals {
     let mut totals = Totals {
         unready: 0,
         columns: 0,
@@ -126,6 +149,11 @@ fn sums_of(alloc: Global, relations: &[Relation]) -> Result<String, AllocError> 
         totals.rows = totals.rows.saturating_add(relation.rows.len() as u64);
         add_cells(&mut totals, relation.rows.as_slice());
     }
+    totals
+}
+
+/// Prints the sums.
+fn print_totals(rt: &HostRuntime, totals: Totals) -> io::Result<()> {
     let Totals {
         unready,
         columns,
@@ -134,7 +162,7 @@ fn sums_of(alloc: Global, relations: &[Relation]) -> Result<String, AllocError> 
         days,
         microseconds,
     } = totals;
-    format!(in alloc;
+    println!(rt;
         "unready {unready}, columns {columns}, rows {rows}, cells {months} {days} {microseconds}"
     )
 }
@@ -153,6 +181,19 @@ fn add_row(totals: &mut Totals, row: &[Interval]) {
         totals.days = totals.days.saturating_add(i64::from(cell.days));
         totals.microseconds = totals.microseconds.saturating_add(cell.microseconds);
     }
+}
+
+/// Prints how many bytes the client sends, and their sum.
+fn print_client(rt: &HostRuntime, alloc: Global, count: u32) -> io::Result<()>
+    requires { count ≤ 10000 }
+{
+    let client = demo_client(alloc, count)?;
+    print_bytes(rt, client.as_slice())
+}
+
+fn print_bytes(rt: &HostRuntime, bytes: &[u8]) -> io::Result<()> {
+    let sum = sum_of_bytes(bytes);
+    println!(rt; "client {} bytes, of sum {sum}", bytes.len())
 }
 
 /// The sum of bytes.

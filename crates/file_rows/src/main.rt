@@ -22,9 +22,9 @@ impl Judge for FileRows {
         _text: &'t str,
         row: &'t str,
     ) -> Result<Option<String>, Fault<'t>> {
-        let answer = answer_of(alloc, row)?;
         let mut expected = Vec::new(alloc);
         push_repeats(alloc, &mut expected, part(row, 2)?)?;
+        let answer = answer_of(alloc, row)?;
         Ok(unexpected(answer, expected.as_slice()))
     }
 }

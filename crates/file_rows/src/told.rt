@@ -24,12 +24,23 @@ pub fn told_answer(
 /// The line's number and its reason.
 fn told_line(alloc: Global, number: u64, reason: &LineReason) -> Result<String, AllocError> {
     match reason {
-        LineReason::Text => format!(in alloc; "line {number}: text"),
-        LineReason::Header => format!(in alloc; "line {number}: header"),
-        LineReason::Name => format!(in alloc; "line {number}: name"),
-        LineReason::Column => format!(in alloc; "line {number}: column"),
-        LineReason::Width => format!(in alloc; "line {number}: width"),
         LineReason::Cell(error) => format!(in alloc; "line {number}: cell {error:?}"),
+        _ => {
+            let word = reason_word(reason);
+            format!(in alloc; "line {number}: {word}")
+        }
+    }
+}
+
+/// The word for a reason.
+fn reason_word(reason: &LineReason) -> &'static str {
+    match reason {
+        LineReason::Text => "text",
+        LineReason::Header => "header",
+        LineReason::Name => "name",
+        LineReason::Column => "column",
+        LineReason::Width => "width",
+        LineReason::Cell(_) => "cell",
     }
 }
 

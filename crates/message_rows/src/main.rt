@@ -16,115 +16,101 @@ mod show;
 mod times;
 
 use bytes::{BufMut, BytesMut};
-use parts::bytes_of;
+use parts::{bytes_of, first_of};
 use pg_messages::{
     FrameError, PgWireBackendMessage, PgWireFrontendMessage, PgWireMessageServerCodec,
 };
 use replies::reply_of;
-use row_files::Fault;
 use sendable::is_encodable;
 use show::{show_bytes, show_message};
 use std::alloc::{AllocError, Global};
 use std::{env, io};
-use times::time_rows;
+use times::{time_frame, time_reply, time_streams};
 
 fn main(rt: HostRuntime) -> io::Result<()> {
-    let count = times_asked(&rt)?;
+    let times = times_asked(&rt)?;
     let text = io::read_to_string(rt.alloc(), rt.reader())?;
-    match count {
-        Some(count) => time_rows(&rt, count, text.as_str()),
-        None => answer_rows(&rt, text.as_str()),
-    }
+    answer_rows(&rt, times, text.as_str())
 }
 
 /// The number that the first argument is.
 fn times_asked(rt: &HostRuntime) -> io::Result<Option<u32>> {
     let mut words = env::args(rt)?;
     let _program = words.next();
-    Ok(
-        words
-            .next()
-            .map(|word| word.as_str().parse::<u32>().unwrap_or(1)),
-    )
+    Ok(count_of(words.next()))
 }
 
-/// Prints what the codec makes of each row.
-fn answer_rows(rt: &HostRuntime, rows: &str) -> io::Result<()> {
+fn count_of(word: Option<String>) -> Option<u32> {
+    match word {
+        Some(word) => Some(word.as_str().parse::<u32>().unwrap_or(1)),
+        None => None,
+    }
+}
+
+/// Prints what the codec makes of each row, or how long it takes.
+fn answer_rows(rt: &HostRuntime, times: Option<u32>, rows: &str) -> io::Result<()> {
     for line in rows.lines() {
-        match line.split_once(": ") {
-            Some((name, row)) => answer_row(rt, name, row)?,
-            None => println!(rt; "{line}")?,
-        }
+        answer_line(rt, times, line)?;
     }
-    Ok(())
+    match times {
+        Some(_) => time_streams(rt),
+        None => Ok(()),
+    }
 }
 
-/// Prints what the codec makes of a row.
-fn answer_row(rt: &HostRuntime, name: &str, row: &str) -> io::Result<()> {
-    let words = words_of(rt.alloc(), row)?;
+fn answer_line(rt: &HostRuntime, times: Option<u32>, line: &str) -> io::Result<()> {
+    match line.split_once(": ") {
+        Some((name, row)) => answer_row(rt, times, name, row),
+        None => println!(rt; "{line}"),
+    }
+}
+
+/// Prints what the codec makes of a row, or how long it takes.
+fn answer_row(rt: &HostRuntime, times: Option<u32>, name: &str, row: &str) -> io::Result<()> {
     print!(rt; "{name}: ")?;
-    match words.as_slice() {
-        ["startup", parts @ ..] => answer_frame(rt, true, parts),
-        ["typed", parts @ ..] => answer_frame(rt, false, parts),
-        [kind, parts @ ..] => answer_reply(rt, kind, parts),
-        [] => println!(rt; "no row"),
+    let (kind, parts) = first_of(row);
+    match kind {
+        "startup" => answer_frame(rt, times, true, parts),
+        "typed" => answer_frame(rt, times, false, parts),
+        _ => answer_reply(rt, times, kind, parts),
     }
 }
 
-fn words_of(alloc: Global, row: &str) -> Result<Vec<&str>, AllocError> {
-    let mut words = Vec::new(alloc);
-    for word in row.split_whitespace() {
-        words.push(word)?;
+/// Prints what the codec makes of the bytes of these words, or how long it takes.
+fn answer_frame(
+    rt: &HostRuntime,
+    times: Option<u32>,
+    awaiting: bool,
+    parts: &str,
+) -> io::Result<()> {
+    let bytes = bytes_of(rt.alloc(), parts)?;
+    match times {
+        Some(count) => time_frame(rt, count, awaiting, bytes.as_slice()),
+        None => show_frame(rt, awaiting, bytes.as_slice()),
     }
-    Ok(words)
 }
 
 /// Prints the first answer that isn't None while the bytes come one by one, and how many had come;
-/// and what is left where they all come at once.
-fn answer_frame(rt: &HostRuntime, awaiting: bool, parts: &[&str]) -> io::Result<()> {
-    match bytes_of(rt.alloc(), parts) {
-        Ok(bytes) => answer_bytes(rt, awaiting, bytes.as_slice()),
-        Err(fault) => show_fault(rt, fault),
-    }
-}
-
-/// Tells that a row says nothing.
-fn show_fault(rt: &HostRuntime, fault: Fault<'_>) -> io::Result<()> {
-    match fault {
-        Fault::NoMemory => Err(io::Error::from(AllocError)),
-        Fault::Line(_) => println!(rt; "not of the form"),
-    }
-}
-
-fn answer_bytes(rt: &HostRuntime, awaiting: bool, bytes: &[u8]) -> io::Result<()> {
-    show_one_by_one(rt, awaiting, bytes)?;
-    show_at_once(rt, awaiting, bytes)
-}
-
-/// Prints the first answer that isn't None while the bytes come one by one, and how many had come.
-fn show_one_by_one(rt: &HostRuntime, awaiting: bool, bytes: &[u8]) -> io::Result<()> {
+/// and whether they give a frame where they all come at once, and how many are left.
+fn show_frame(rt: &HostRuntime, awaiting: bool, bytes: &[u8]) -> io::Result<()> {
     let count = answered_at(rt.alloc(), awaiting, bytes)?;
     let (front, _) = bytes.split_at(count.min(bytes.len()));
-    show_decoded(rt, awaiting, BytesMut::copy_from_slice(rt.alloc(), front)?)?;
-    print!(rt; " at {count}")
+    show_front(rt, awaiting, front)?;
+    let (is_frame, left) = taken_at_once(rt.alloc(), awaiting, bytes)?;
+    println!(rt; " at {count}, at once {is_frame} with {left} left")
 }
 
 /// Prints the answer to these bytes.
-fn show_decoded(rt: &HostRuntime, awaiting: bool, mut src: BytesMut) -> io::Result<()> {
+fn show_front(rt: &HostRuntime, awaiting: bool, front: &[u8]) -> io::Result<()> {
+    let mut src = BytesMut::copy_from_slice(rt.alloc(), front)?;
     show_answer(rt, codec_at(awaiting).decode(rt.alloc(), &mut src))
-}
-
-/// Prints whether all the bytes give a frame, and how many are left.
-fn show_at_once(rt: &HostRuntime, awaiting: bool, bytes: &[u8]) -> io::Result<()> {
-    let (kind, left) = taken_at_once(rt.alloc(), awaiting, bytes)?;
-    println!(rt; ", at once {kind} with {left} left")
 }
 
 /// Whether all the bytes give a frame, and how many are left.
 fn taken_at_once(alloc: Global, awaiting: bool, bytes: &[u8]) -> Result<(bool, usize), AllocError> {
     let mut src = BytesMut::copy_from_slice(alloc, bytes)?;
-    let kind = is_frame(codec_at(awaiting).decode(alloc, &mut src));
-    Ok((kind, src.len()))
+    let is_frame = is_frame(codec_at(awaiting).decode(alloc, &mut src));
+    Ok((is_frame, src.len()))
 }
 
 fn codec_at(awaiting_startup: bool) -> PgWireMessageServerCodec {
@@ -168,33 +154,46 @@ fn show_answer(
 ) -> io::Result<()> {
     let shown = match &answer {
         Ok(Some(message)) => show_message(rt, message),
-        Ok(None) => print!(rt; "unfinished"),
-        Err(FrameError::Bad) => print!(rt; "bad"),
-        Err(FrameError::NoMemory) => print!(rt; "no memory"),
+        Ok(None) => rt.print("unfinished"),
+        Err(FrameError::Bad) => rt.print("bad"),
+        Err(FrameError::NoMemory) => rt.print("no memory"),
     };
     let_go(answer);
     shown
 }
 
-/// Prints what the codec makes of the reply of these words.
-fn answer_reply(rt: &HostRuntime, kind: &str, parts: &[&str]) -> io::Result<()> {
-    match reply_of(rt.alloc(), kind, parts) {
-        Ok(reply) => {
-            let shown = show_reply(rt, &reply);
+/// Prints what the codec makes of the reply of these words, or how long it takes.
+fn answer_reply(rt: &HostRuntime, times: Option<u32>, kind: &str, parts: &str) -> io::Result<()> {
+    match reply_of(rt.alloc(), kind, parts)? {
+        Some(reply) => {
+            let shown = show_reply(rt, times, &reply);
             replies::let_go(reply);
             shown
         }
-        Err(fault) => show_fault(rt, fault),
+        None => rt.println("no such reply"),
     }
 }
 
-/// Prints the bytes of a reply behind one that is there already.
-fn show_reply(rt: &HostRuntime, reply: &PgWireBackendMessage) -> io::Result<()> {
+/// Prints the bytes of a reply behind one that is there already, or how long they take.
+fn show_reply(
+    rt: &HostRuntime,
+    times: Option<u32>,
+    reply: &PgWireBackendMessage,
+) -> io::Result<()> {
     if !is_encodable(reply) {
         return println!(rt; "body {}, cannot be sent", reply.body_len());
     }
-    let dst = encoded_behind(rt.alloc(), reply)?;
-    show_encoded(rt, reply.body_len(), dst.as_slice())
+    match times {
+        Some(count) => time_reply(rt, count, reply),
+        None => show_encoded(rt, reply),
+    }
+}
+
+fn show_encoded(rt: &HostRuntime, reply: &PgWireBackendMessage) -> io::Result<()>
+    requires { IsEncodable reply.now }
+{
+    print!(rt; "body {},", reply.body_len())?;
+    show_line(rt, encoded_behind(rt.alloc(), reply)?)
 }
 
 /// A byte, and the bytes of a reply.
@@ -206,8 +205,7 @@ fn encoded_behind(alloc: Global, reply: &PgWireBackendMessage) -> Result<BytesMu
     Ok(dst)
 }
 
-fn show_encoded(rt: &HostRuntime, body_len: u64, bytes: &[u8]) -> io::Result<()> {
-    print!(rt; "body {body_len},")?;
-    show_bytes(rt, bytes)?;
-    println!(rt;)
+fn show_line(rt: &HostRuntime, bytes: BytesMut) -> io::Result<()> {
+    show_bytes(rt, bytes.as_slice())?;
+    rt.println("")
 }

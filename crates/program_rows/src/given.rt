@@ -64,8 +64,8 @@ pub fn sources_of<'t>(
 
 /// The relation file.
 fn file_of<'t>(alloc: Global, lines: &[&'t str]) -> Result<MemorySource, Fault<'t>> {
-    let bytes = unescaped(alloc, told(lines, "file").unwrap_or(""))?;
     let fails = number_told(lines, "file_fails")?;
+    let bytes = unescaped(alloc, told(lines, "file").unwrap_or(""))?;
     source_of(alloc, bytes, told(lines, "file_reads"), fails)
 }
 
@@ -75,8 +75,8 @@ fn client_of<'t>(
     text: &'t str,
     lines: &[&'t str],
 ) -> Result<MemorySource, Fault<'t>> {
-    let bytes = message_bytes(alloc, text, told(lines, "client").unwrap_or(""))?;
     let fails = number_told(lines, "client_fails")?;
+    let bytes = message_bytes(alloc, text, told(lines, "client").unwrap_or(""))?;
     source_of(alloc, bytes, told(lines, "client_reads"), fails)
 }
 

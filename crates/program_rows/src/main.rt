@@ -10,8 +10,8 @@ mod sessions;
 mod sink;
 mod verdict;
 
-use crate::sessions::sessions_difference;
-use crate::verdict::commands_difference;
+use crate::sessions::judge_sessions;
+use crate::verdict::judge_commands;
 use row_files::{Fault, Tally, lines_of, name_of, told};
 use std::alloc::Global;
 use std::io;
@@ -52,10 +52,27 @@ fn row_difference<'t, R: Wait>(
     text: &'t str,
     block: &'t str,
 ) -> Result<Option<String>, Fault<'t>> {
+    let mut found = String::new(alloc);
+    judge_row(rt, alloc, text, block, &mut found)?;
+    Ok(some_text(found))
+}
+
+fn some_text(text: String) -> Option<String> {
+    if text.is_empty() { None } else { Some(text) }
+}
+
+/// Writes what is otherwise than a row expects.
+fn judge_row<'t, R: Wait>(
+    rt: &R,
+    alloc: Global,
+    text: &'t str,
+    block: &'t str,
+    found: &mut String,
+) -> Result<(), Fault<'t>> {
     let lines = lines_of(alloc, text, block, &WORDS)?;
     match told(lines.as_slice(), "session") {
-        None => commands_difference(rt, alloc, text, block, lines.as_slice()),
-        Some(word) => sessions_difference(rt, alloc, text, lines.as_slice(), word),
+        None => judge_commands(rt, alloc, text, block, lines.as_slice(), found),
+        Some(word) => judge_sessions(rt, alloc, text, lines.as_slice(), word, found),
     }
 }
 

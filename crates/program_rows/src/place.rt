@@ -2,10 +2,11 @@
 
 ghost use Rattle.std.specs.Prelude.{◌≡◌, IfOk};
 
+use crate::given::Sources;
 use crate::sessions::{Client, Ends};
+use crate::sink::Sinks;
 use pg_cancel::{ConnectionHandle, ConnectionManager, Door, RegisterError};
 use pg_messages::{PgStr, SecretKey};
-use pg_session::{Sink, Source};
 use relation_server::{RelationTable, run};
 use row_files::{Fault, parsed};
 use std::alloc::{AllocError, Global};
@@ -72,15 +73,13 @@ impl Place {
     }
 
     /// Runs the words, and answers the status, and whether there is a note.
-    pub fn run<R: Wait, F: Source, S: Source, K: Sink, E: Sink>(
+    pub fn run<R: Wait>(
         &mut self,
         rt: &R,
         alloc: Global,
         words: &[PgStr],
-        file: &mut F,
-        client: &mut S,
-        out: &mut K,
-        err: &mut E,
+        sources: &mut Sources,
+        sinks: &mut Sinks,
     ) -> (u8, bool) {
         let (status, note) = run(
             rt,
@@ -88,10 +87,10 @@ impl Place {
             words,
             &self.manager,
             &mut self.door,
-            file,
-            client,
-            out,
-            err,
+            &mut sources.file,
+            &mut sources.client,
+            &mut sinks.out,
+            &mut sinks.err,
         );
         (status, note.is_some())
     }

@@ -129,8 +129,11 @@ fn source_of(
 
 /// A sink, whose first write fails behind so many bytes, if a number is told.
 fn sink_of(alloc: Global, write_fails: Option<usize>) -> Result<MemorySink, AllocError> {
-    let fails = up_to_one(alloc, write_fails.map(|taken| (0, taken)))?;
-    Ok(MemorySink::new(alloc, PgList::from_vec(fails)))
+    let fails = match write_fails {
+        None => None,
+        Some(taken) => Some((0, taken)),
+    };
+    Ok(MemorySink::new(alloc, PgList::from_vec(up_to_one(alloc, fails)?)))
 }
 
 /// The client whose session fails in this case.
@@ -165,16 +168,38 @@ fn is_served_again<'t, R: Wait>(
     failing: Failing,
     case: usize,
 ) -> Result<bool, Fault<'t>> {
-    let bytes = example.client.as_slice();
-    let mut first = failing_client(alloc, bytes, failing, case)?;
-    let mut second = client_of(alloc, bytes, false, 1000, None, None)?;
-    let ends = ends_of(rt, alloc, &example.table, &mut first, &mut second)?;
-    let replies = example.replies.as_slice();
+    let mut first = failing_client(alloc, example.client.as_slice(), failing, case)?;
+    is_served_behind(rt, alloc, example, failing, &mut first)
+}
+
+fn is_served_behind<'t, R: Wait>(
+    rt: &R,
+    alloc: Global,
+    example: &Example,
+    failing: Failing,
+    first: &mut Client,
+) -> Result<bool, Fault<'t>> {
+    let mut second = client_of(alloc, example.client.as_slice(), false, 1000, None, None)?;
+    let ends = ends_of(rt, alloc, &example.table, first, &mut second)?;
     Ok(
-        ends == (Err(error_of(failing)), Ok(EndKind::Terminate))
-            && replies.starts_with(first.sink.bytes())
-            && replies == second.sink.bytes(),
+        are_ends(ends, error_of(failing))
+            && are_replies(
+                example.replies.as_slice(),
+                first.sink.bytes(),
+                second.sink.bytes(),
+            ),
     )
+}
+
+/// Whether the first session fails so, and the second is served to its end.
+fn are_ends(ends: Ends, error: ServeError) -> bool {
+    let (first, second) = ends;
+    first == Err(error) && second == Ok(EndKind::Terminate)
+}
+
+/// Whether the first client got a front of the replies, and the second all of them.
+fn are_replies(replies: &[u8], first: &[u8], second: &[u8]) -> bool {
+    replies.starts_with(first) && replies == second
 }
 
 /// How the sessions of two clients end that one connection of a new registry serves in turn.
@@ -193,24 +218,35 @@ fn ends_of<'t, R: Wait>(
 }
 
 /// Serves the client in each case of what the word names, and again on the same connection, and
-/// tells in which case that goes otherwise.
-pub fn sessions_difference<'t, R: Wait>(
+/// writes in which case that goes otherwise.
+pub fn judge_sessions<'t, R: Wait>(
     rt: &R,
     alloc: Global,
     text: &'t str,
     lines: &[&'t str],
     word: &'t str,
-) -> Result<Option<String>, Fault<'t>> {
+    found: &mut String,
+) -> Result<(), Fault<'t>> {
     let failing = failing_of(word)?;
     let example = example_of(alloc, text, lines)?;
+    judge_cases(rt, alloc, &example, failing, found)
+}
+
+fn judge_cases<'t, R: Wait>(
+    rt: &R,
+    alloc: Global,
+    example: &Example,
+    failing: Failing,
+    found: &mut String,
+) -> Result<(), Fault<'t>> {
     let count = match failing {
         Failing::Writes => example.replies.len(),
         _ => example.client.len(),
     };
     for case in 0..count {
-        if !is_served_again(rt, alloc, &example, failing, case)? {
-            return Ok(Some(format!(in alloc; "session {case}: another end or other replies")?));
+        if !is_served_again(rt, alloc, example, failing, case)? {
+            return Ok(write!(found, "session {case}: another end or other replies")?);
         }
     }
-    Ok(None)
+    Ok(())
 }

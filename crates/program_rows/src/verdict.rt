@@ -1,30 +1,44 @@
 //! What is otherwise than a row expects.
 
 use crate::WORDS;
-use crate::command::{Answer, answer_to};
+use crate::command::run_told;
 use crate::given::message_bytes;
 use crate::place::Place;
-use crate::sink::{RowSink, Sinks};
+use crate::sink::{RowSink, Sinks, sinks_of};
 use row_files::{Fault, common_len, lines_of, number_told, told, told_by, unescaped};
 use std::alloc::{AllocError, Global};
 use std::sync::Wait;
 
-/// Runs the commands of a row, and tells what is otherwise than it expects, if anything is.
-pub fn commands_difference<'t, R: Wait>(
+/// Runs the commands of a row, up to the first that goes otherwise than it expects, and writes what
+/// is otherwise.
+pub fn judge_commands<'t, R: Wait>(
     rt: &R,
     alloc: Global,
     text: &'t str,
     block: &'t str,
     lines: &[&'t str],
-) -> Result<Option<String>, Fault<'t>> {
+    found: &mut String,
+) -> Result<(), Fault<'t>> {
     let mut place = Place::new(alloc)?;
-    occupy(rt, &mut place, lines)?;
+    judge_at(rt, alloc, &mut place, text, block, lines, found)
+}
+
+fn judge_at<'t, R: Wait>(
+    rt: &R,
+    alloc: Global,
+    place: &mut Place,
+    text: &'t str,
+    block: &'t str,
+    lines: &[&'t str],
+    found: &mut String,
+) -> Result<(), Fault<'t>> {
+    occupy(rt, place, lines)?;
     for part in block.split("\nwords ").skip(1) {
-        if let Some(difference) = part_difference(rt, alloc, &mut place, text, part)? {
-            return Ok(Some(difference));
+        if found.is_empty() {
+            judge_part(rt, alloc, place, text, part, found)?;
         }
     }
-    registry_difference(rt, alloc, &mut place, lines)
+    judge_registry(rt, place, lines, found)
 }
 
 /// Registers the pids that are live before the commands.
@@ -37,117 +51,124 @@ fn occupy<'t, R: Wait>(rt: &R, place: &mut Place, lines: &[&'t str]) -> Result<(
     Ok(())
 }
 
-/// Runs a command, whose words stand in the first line, and tells what is otherwise than the
+/// Runs a command, whose words stand in the first line, and writes what is otherwise than the
 /// further lines expect.
-fn part_difference<'t, R: Wait>(
+fn judge_part<'t, R: Wait>(
     rt: &R,
     alloc: Global,
     place: &mut Place,
     text: &'t str,
     part: &'t str,
-) -> Result<Option<String>, Fault<'t>> {
+    found: &mut String,
+) -> Result<(), Fault<'t>> {
     let (words, own) = part.split_once("\n").unwrap_or((part, ""));
     let lines = lines_of(alloc, text, own, &WORDS)?;
-    command_difference(rt, alloc, place, words, text, lines.as_slice())
+    judge_command(rt, alloc, place, words, text, lines.as_slice(), found)
 }
 
-/// Runs the words, and tells what is otherwise than the lines expect, if anything is.
-fn command_difference<'t, R: Wait>(
+/// Runs the words, and writes what is otherwise than the lines expect.
+fn judge_command<'t, R: Wait>(
     rt: &R,
     alloc: Global,
     place: &mut Place,
     words: &'t str,
     text: &'t str,
     lines: &[&'t str],
-) -> Result<Option<String>, Fault<'t>> {
-    let (status, note) = expected_of(lines)?;
-    let answer = answer_to(rt, alloc, place, words, text, lines)?;
-    match status_difference(alloc, words, status, note, &answer)? {
-        None => output_difference(alloc, words, text, lines, &answer.sinks),
-        Some(difference) => Ok(Some(difference)),
+    found: &mut String,
+) -> Result<(), Fault<'t>> {
+    let mut sinks = sinks_of(alloc, lines)?;
+    let (status, is_noted) = run_told(rt, alloc, place, words, text, lines, &mut sinks)?;
+    judge_answer(alloc, words, text, lines, status, is_noted, &sinks, found)
+}
+
+/// Writes where a command was answered otherwise than the lines expect.
+fn judge_answer<'t>(
+    alloc: Global,
+    words: &str,
+    text: &'t str,
+    lines: &[&'t str],
+    status: u8,
+    is_noted: bool,
+    sinks: &Sinks,
+    found: &mut String,
+) -> Result<(), Fault<'t>> {
+    judge_status(words, lines, status, is_noted, found)?;
+    judge_err(alloc, words, lines, &sinks.err, found)?;
+    judge_out(alloc, words, text, lines, &sinks.out, found)
+}
+
+/// Writes the status and whether there is a note, where the lines expect otherwise.
+fn judge_status<'t>(
+    words: &str,
+    lines: &[&'t str],
+    status: u8,
+    is_noted: bool,
+    found: &mut String,
+) -> Result<(), Fault<'t>> {
+    if expected_of(lines)? == (u64::from(status), is_noted) {
+        return Ok(());
     }
+    Ok(write!(found, "{words}: status {status}, noted: {is_noted}; ")?)
 }
 
 /// The status that the lines expect, and whether they expect a note.
 fn expected_of<'t>(lines: &[&'t str]) -> Result<(u64, bool), Fault<'t>> {
-    let Some(status) = number_told(lines, "status")? else {
-        return Err(Fault::Line("a command without a status"));
-    };
-    match told(lines, "note") {
-        None => Err(Fault::Line("a command without a note")),
-        Some(note) => Ok((status, note == "yes")),
+    let status = number_told(lines, "status")?;
+    match (status, told(lines, "note")) {
+        (Some(status), Some(note)) => Ok((status, note == "yes")),
+        _ => Err(Fault::Line("a command without a status or a note")),
     }
 }
 
-/// Where an answer has another status, or a note against what is expected.
-fn status_difference(
+/// Writes where the line of errors is other than the lines expect.
+fn judge_err<'t>(
     alloc: Global,
     words: &str,
-    status: u64,
-    note: bool,
-    answer: &Answer,
-) -> Result<Option<String>, AllocError> {
-    let told = answer.status;
-    if status != u64::from(told) {
-        return Ok(Some(format!(in alloc; "{words}: status {told}")?));
-    }
-    if note != answer.is_noted {
-        return Ok(Some(format!(in alloc; "{words}: otherwise noted")?));
-    }
-    Ok(None)
-}
-
-/// What was written otherwise than the lines expect, if anything was.
-fn output_difference<'t>(
-    alloc: Global,
-    words: &'t str,
-    text: &'t str,
-    lines: &[&'t str],
-    sinks: &Sinks,
-) -> Result<Option<String>, Fault<'t>> {
-    match err_difference(alloc, words, lines, &sinks.err)? {
-        None => {
-            let out = output_told(alloc, text, lines)?;
-            Ok(out_difference(alloc, words, &sinks.out, out.as_slice())?)
-        }
-        Some(difference) => Ok(Some(difference)),
-    }
-}
-
-/// Where the line of errors is other than the lines expect.
-fn err_difference<'t>(
-    alloc: Global,
-    words: &'t str,
     lines: &[&'t str],
     err: &RowSink,
-) -> Result<Option<String>, Fault<'t>> {
+    found: &mut String,
+) -> Result<(), Fault<'t>> {
     let expected = unescaped(alloc, told(lines, "err").unwrap_or(""))?;
-    if err.sink.bytes() == expected.as_slice() {
-        Ok(None)
-    } else {
-        Ok(Some(told_err(alloc, words, err)?))
+    Ok(tell_err(words, err.sink.bytes(), expected.as_slice(), found)?)
+}
+
+fn tell_err(
+    words: &str,
+    written: &[u8],
+    expected: &[u8],
+    found: &mut String,
+) -> Result<(), AllocError> {
+    if written == expected {
+        return Ok(());
     }
+    let line = str::from_utf8(written).unwrap_or("other bytes");
+    write!(found, "{words}: the line {line}; ")
 }
 
-/// The line of errors that was written.
-fn told_err(alloc: Global, words: &str, err: &RowSink) -> Result<String, AllocError> {
-    let told = str::from_utf8(err.sink.bytes()).unwrap_or("other bytes");
-    format!(in alloc; "{words}: the line {told}")
-}
-
-/// Where the output is other than these bytes.
-fn out_difference(
+/// Writes where the output is other than the lines expect.
+fn judge_out<'t>(
     alloc: Global,
     words: &str,
+    text: &'t str,
+    lines: &[&'t str],
     out: &RowSink,
+    found: &mut String,
+) -> Result<(), Fault<'t>> {
+    let expected = output_told(alloc, text, lines)?;
+    Ok(tell_out(words, out.sink.bytes(), expected.as_slice(), found)?)
+}
+
+fn tell_out(
+    words: &str,
+    written: &[u8],
     expected: &[u8],
-) -> Result<Option<String>, AllocError> {
-    let written = out.sink.bytes();
+    found: &mut String,
+) -> Result<(), AllocError> {
     if written == expected {
-        return Ok(None);
+        return Ok(());
     }
     let len = common_len(written, expected);
-    Ok(Some(format!(in alloc; "{words}: other output from byte {len} on")?))
+    write!(found, "{words}: other output from byte {len} on; ")
 }
 
 /// The output that the lines expect: a text, or else messages.
@@ -158,48 +179,52 @@ fn output_told<'t>(alloc: Global, text: &'t str, lines: &[&'t str]) -> Result<Ve
     }
 }
 
-/// What the registry has got otherwise than the lines expect, if anything is.
-fn registry_difference<'t, R: Wait>(
+/// Writes what the registry has got otherwise than the lines expect.
+fn judge_registry<'t, R: Wait>(
     rt: &R,
-    alloc: Global,
     place: &mut Place,
     lines: &[&'t str],
-) -> Result<Option<String>, Fault<'t>> {
-    let calls = place.calls(rt)?;
+    found: &mut String,
+) -> Result<(), Fault<'t>> {
+    judge_calls(place.calls(rt)?, lines, found)?;
+    judge_pids(rt, place, told(lines, "free").unwrap_or(""), false, found)?;
+    judge_pids(rt, place, told(lines, "taken").unwrap_or(""), true, found)
+}
+
+/// Writes how many calls the registry got, where that is another number than the lines expect.
+fn judge_calls<'t>(calls: u64, lines: &[&'t str], found: &mut String) -> Result<(), Fault<'t>> {
     match number_told(lines, "calls")? {
-        Some(told) if told != calls => Ok(Some(format!(in alloc; "{calls} calls")?)),
-        _ => pids_difference(rt, alloc, place, lines),
+        Some(expected) if expected != calls => Ok(write!(found, "{calls} calls; ")?),
+        _ => Ok(()),
     }
 }
 
-/// A pid that is taken where the lines expect that it is free, or free where they expect that it is
-/// taken.
-fn pids_difference<'t, R: Wait>(
-    rt: &R,
-    alloc: Global,
-    place: &mut Place,
-    lines: &[&'t str],
-) -> Result<Option<String>, Fault<'t>> {
-    if let Some(pid) = pid_that_is(rt, place, told(lines, "free").unwrap_or(""), true)? {
-        return Ok(Some(format!(in alloc; "the pid {pid} is taken")?));
-    }
-    match pid_that_is(rt, place, told(lines, "taken").unwrap_or(""), false)? {
-        None => Ok(None),
-        Some(pid) => Ok(Some(format!(in alloc; "the pid {pid} is free")?)),
-    }
-}
-
-/// The first of the pids that is taken, or that is free.
-fn pid_that_is<'t, R: Wait>(
+/// Writes which of the pids are taken, or are not, against what is expected.
+fn judge_pids<'t, R: Wait>(
     rt: &R,
     place: &mut Place,
     pids: &'t str,
-    taken: bool,
-) -> Result<Option<&'t str>, Fault<'t>> {
+    expected: bool,
+    found: &mut String,
+) -> Result<(), Fault<'t>> {
     for pid in pids.split(" ") {
-        if !pid.is_empty() && place.is_taken(rt, pid)? == taken {
-            return Ok(Some(pid));
+        if !pid.is_empty() {
+            judge_pid(rt, place, pid, expected, found)?;
         }
     }
-    Ok(None)
+    Ok(())
+}
+
+fn judge_pid<'t, R: Wait>(
+    rt: &R,
+    place: &mut Place,
+    pid: &'t str,
+    expected: bool,
+    found: &mut String,
+) -> Result<(), Fault<'t>> {
+    let is_taken = place.is_taken(rt, pid)?;
+    if is_taken != expected {
+        write!(found, "the pid {pid} is taken: {is_taken}; ")?;
+    }
+    Ok(())
 }

@@ -6,7 +6,6 @@ mod cells;
 mod options;
 mod told;
 
-use std::alloc::{AllocError, Global};
 use std::io;
 
 fn main(rt: HostRuntime) -> io::Result<()> {
@@ -16,20 +15,15 @@ fn main(rt: HostRuntime) -> io::Result<()> {
     Ok(())
 }
 
-/// Prints a row and what it is answered.
 fn answer_line(rt: &HostRuntime, row: String) -> io::Result<()> {
     answer_row(rt, row.as_str())
 }
 
+/// Prints a row and what it is answered.
 fn answer_row(rt: &HostRuntime, row: &str) -> io::Result<()> {
-    let answer = answer(rt.alloc(), row)?;
-    println!(rt; "{row} => {answer}")
-}
-
-/// What a row is answered.
-fn answer(alloc: Global, row: &str) -> Result<String, AllocError> {
+    print!(rt; "{row} => ")?;
     let (word, fields) = cut(row);
-    options::answer(alloc, word, fields)
+    options::answer(rt, word, fields)
 }
 
 /// The first field and the others.

@@ -2,9 +2,7 @@
 ghost use Rattle.std.specs.Prelude.{◌≡◌, ◌↔◌, IsTrue};
 ghost use Rattle.pg_text.specs.Options.{options_cmp};
 
-use crate::told::{
-    bytea_output_told, display_told, interval_style_told, name_told, options_told, order_told,
-};
+use crate::told::{show_named, show_options};
 use crate::{cells, cut};
 use pg_messages::PgStr;
 use pg_text::{
@@ -14,52 +12,64 @@ use pg_text::{
 use std::alloc::{AllocError, Global};
 use std::cmp::Ordering;
 use std::collections::BTreeMap;
+use std::io;
 
-/// What a row on options is answered, or else one on cells.
-pub(crate) fn answer(alloc: Global, word: &str, fields: &str) -> Result<String, AllocError> {
+/// Prints what a row on options is answered, or else one on cells.
+pub(crate) fn answer(rt: &HostRuntime, word: &str, fields: &str) -> io::Result<()> {
     match word {
-        "default" => default_options(alloc),
-        "client" => client_options(alloc, fields),
-        "compare" => compare_with_default(alloc, fields),
-        "first" => first_values(alloc),
-        "interval_style" => interval_style(alloc, fields),
-        "bytea_output" => bytea_output(alloc, fields),
-        "order" => order(alloc, fields),
-        "display" => display(alloc, fields),
-        "date" => date(alloc, fields),
-        "type" => type_of(alloc, fields),
-        "format" => format_of(alloc, fields),
-        _ => cells::answer(alloc, word, fields),
+        "default" => default_options(rt),
+        "client" => client_options(rt, fields, false),
+        "compare" => client_options(rt, fields, true),
+        "first" => first_values(rt),
+        "interval_style" => show_named(rt, IntervalStyle::try_from_text(rt.alloc(), fields)),
+        "bytea_output" => show_named(rt, ByteaOutput::try_from_text(rt.alloc(), fields)),
+        "order" => show_named(rt, DateStyleOrder::try_from_text(rt.alloc(), fields)),
+        "display" => show_named(rt, DateStyleDisplayStyle::try_from_text(rt.alloc(), fields)),
+        "date" => date(rt, fields),
+        "type" => type_of(rt, fields),
+        "format" => format_of(rt, fields),
+        _ => cells::answer(rt, word, fields),
     }
 }
 
-fn default_options(alloc: Global) -> Result<String, AllocError> {
-    let options = FormatOptions::new_default(alloc)?;
-    let copy = options.copy_of(alloc)?;
-    options_told(alloc, &copy)
+fn default_options(rt: &HostRuntime) -> io::Result<()> {
+    let options = FormatOptions::new_default(rt.alloc())?;
+    show_copy(rt, &options)
+}
+
+fn show_copy(rt: &HostRuntime, options: &FormatOptions) -> io::Result<()> {
+    let copy = options.copy_of(rt.alloc())?;
+    show_options(rt, &copy)
+}
+
+/// Prints the options of parameters, or what they are beside the default options.
+fn client_options(rt: &HostRuntime, fields: &str, is_compared: bool) -> io::Result<()> {
+    let options = client_of(rt.alloc(), fields)?;
+    if is_compared {
+        show_beside_default(rt, &options)
+    } else {
+        show_options(rt, &options)
+    }
 }
 
 /// The options of parameters, which are names and values in turn.
-fn client_options(alloc: Global, fields: &str) -> Result<String, AllocError> {
-    let options = client_of(alloc, fields)?;
-    options_told(alloc, &options)
-}
-
 fn client_of(alloc: Global, fields: &str) -> Result<FormatOptions, AllocError> {
     let parameters = parameters(alloc, fields)?;
     FormatOptions::from_client_metadata(alloc, &parameters)
 }
 
-/// The default options beside those of parameters: their order, and whether they are equal.
-fn compare_with_default(alloc: Global, fields: &str) -> Result<String, AllocError> {
-    let options = client_of(alloc, fields)?;
-    let (order, equal) = beside_default(alloc, &options)?;
-    format!(in alloc; "{order:?} {equal}")
+/// Prints the order of the default options beside others, and whether they are equal.
+fn show_beside_default(rt: &HostRuntime, options: &FormatOptions) -> io::Result<()> {
+    let first = FormatOptions::new_default(rt.alloc())?;
+    show_compared(
+        rt,
+        order_between(&first, options),
+        are_equal(&first, options),
+    )
 }
 
-fn beside_default(alloc: Global, options: &FormatOptions) -> Result<(Ordering, bool), AllocError> {
-    let first = FormatOptions::new_default(alloc)?;
-    Ok((order_between(&first, options), are_equal(&first, options)))
+fn show_compared(rt: &HostRuntime, order: Ordering, are_equal: bool) -> io::Result<()> {
+    println!(rt; "{order:?} {are_equal}")
 }
 
 /// `==` is equality of the five fields.
@@ -79,97 +89,57 @@ fn order_between(a: &FormatOptions, b: &FormatOptions) -> Ordering
 fn parameters(alloc: Global, fields: &str) -> Result<BTreeMap<PgStr, PgStr>, AllocError> {
     let mut map = BTreeMap::new(alloc);
     for field in fields.split('|') {
-        if let Some((name, value)) = field.split_once('=') {
-            put(alloc, &mut map, name, value)?;
-        }
+        put(alloc, &mut map, field)?;
     }
     Ok(map)
 }
 
-fn put(
-    alloc: Global,
-    map: &mut BTreeMap<PgStr, PgStr>,
-    name: &str,
-    value: &str,
-) -> Result<(), AllocError> {
-    let name = PgStr::copy_of(alloc, name)?;
-    let value = PgStr::copy_of(alloc, value)?;
-    map.insert(name, value)?;
+fn put(alloc: Global, map: &mut BTreeMap<PgStr, PgStr>, field: &str) -> Result<(), AllocError> {
+    if let Some((name, value)) = field.split_once('=') {
+        let name = PgStr::copy_of(alloc, name)?;
+        map.insert(name, PgStr::copy_of(alloc, value)?)?;
+    }
     Ok(())
 }
 
-/// The defaults of the four.
-fn first_values(alloc: Global) -> Result<String, AllocError> {
-    let interval = interval_style_told(IntervalStyle::default());
-    let bytea = bytea_output_told(ByteaOutput::default());
-    let order = order_told(DateStyleOrder::default());
-    let display = display_told(DateStyleDisplayStyle::default());
-    format!(in alloc; "{interval} {bytea} {order} {display}")
-}
-
-fn interval_style(alloc: Global, text: &str) -> Result<String, AllocError> {
-    name_told(
-        alloc,
-        IntervalStyle::try_from_text(alloc, text).map(interval_style_told),
+/// Prints the defaults of the four.
+fn first_values(rt: &HostRuntime) -> io::Result<()> {
+    println!(rt;
+        "{:?} {:?} {:?} {:?}",
+        IntervalStyle::default(),
+        ByteaOutput::default(),
+        DateStyleOrder::default(),
+        DateStyleDisplayStyle::default()
     )
 }
 
-fn bytea_output(alloc: Global, text: &str) -> Result<String, AllocError> {
-    name_told(
-        alloc,
-        ByteaOutput::try_from_text(alloc, text).map(bytea_output_told),
-    )
-}
-
-fn order(alloc: Global, text: &str) -> Result<String, AllocError> {
-    name_told(
-        alloc,
-        DateStyleOrder::try_from_text(alloc, text).map(order_told),
-    )
-}
-
-fn display(alloc: Global, text: &str) -> Result<String, AllocError> {
-    name_told(
-        alloc,
-        DateStyleDisplayStyle::try_from_text(alloc, text).map(display_told),
-    )
-}
-
-/// The five formats of a date style.
-fn date(alloc: Global, config: &str) -> Result<String, AllocError> {
+/// Prints the five formats of a date style.
+fn date(rt: &HostRuntime, config: &str) -> io::Result<()> {
     let style = DateStyle::new(config);
-    let zone = style.full_tz_format_str(alloc)?;
-    let small = style.full_tz_format_smolstr(alloc)?;
-    date_told(alloc, &style, zone.as_str(), small.as_str())
+    let zone = style.full_tz_format_str(rt.alloc())?;
+    let small = style.full_tz_format_smolstr(rt.alloc())?;
+    show_date(rt, &style, zone.as_str(), small.as_str())
 }
 
-fn date_told(
-    alloc: Global,
-    style: &DateStyle,
-    zone: &str,
-    small: &str,
-) -> Result<String, AllocError> {
-    let full = style.full_format_str();
-    let time = style.time_tz_format_str();
-    let date = style.date_format_str();
-    format!(in alloc; "{full}|{zone}|{small}|{time}|{date}")
+fn show_date(rt: &HostRuntime, style: &DateStyle, zone: &str, small: &str) -> io::Result<()> {
+    println!(rt;
+        "{}|{zone}|{small}|{}|{}",
+        style.full_format_str(),
+        style.time_tz_format_str(),
+        style.date_format_str()
+    )
 }
 
-/// The type of a number, with its name and its number.
-fn type_of(alloc: Global, oid: &str) -> Result<String, AllocError> {
+/// Prints the type of a number, with its name and its number.
+fn type_of(rt: &HostRuntime, oid: &str) -> io::Result<()> {
     match PgType::from_oid(oid.parse::<u32>().unwrap_or(0)) {
-        Some(ty) => {
-            let name = ty.name();
-            let oid = ty.oid();
-            format!(in alloc; "{ty:?} {name} {oid}")
-        }
-        None => String::from_str(alloc, "None"),
+        Some(ty) => println!(rt; "{ty:?} {} {}", ty.name(), ty.oid()),
+        None => rt.println("None"),
     }
 }
 
-/// The format of a code, and its code.
-fn format_of(alloc: Global, code: &str) -> Result<String, AllocError> {
+/// Prints the format of a code, and its code.
+fn format_of(rt: &HostRuntime, code: &str) -> io::Result<()> {
     let format = FieldFormat::from(cut(code).0.parse::<i16>().unwrap_or(0));
-    let value = format.value();
-    format!(in alloc; "{format:?} {value}")
+    println!(rt; "{format:?} {}", format.value())
 }

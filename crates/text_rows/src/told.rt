@@ -1,75 +1,78 @@
-// How values are told.
-use pg_text::{
-    ByteaOutput, CellError, DateStyleDisplayStyle, DateStyleOrder, FormatOptions, IntervalStyle,
-};
-use std::alloc::{AllocError, Global};
+// How values are told, each at the end of a line but an error.
+use pg_interval::Interval;
+use pg_text::{CellError, FormatOptions};
+use std::fmt::Debug;
+use std::io;
 
 /// The options, field by field.
-pub(crate) fn options_told(alloc: Global, options: &FormatOptions) -> Result<String, AllocError> {
-    let date = options.date_style.as_str();
-    let interval = options.interval_style.as_str();
-    let bytea = options.bytea_output.as_str();
-    let zone = options.time_zone.as_str();
-    let digits = options.extra_float_digits;
-    format!(in alloc; "{date}|{interval}|{bytea}|{zone}|{digits}")
+pub(crate) fn show_options(rt: &HostRuntime, options: &FormatOptions) -> io::Result<()> {
+    println!(rt;
+        "{}|{}|{}|{}|{}",
+        options.date_style.as_str(),
+        options.interval_style.as_str(),
+        options.bytea_output.as_str(),
+        options.time_zone.as_str(),
+        options.extra_float_digits
+    )
 }
 
 /// The error with what it holds.
-pub(crate) fn error_told(alloc: Global, error: &CellError) -> Result<String, AllocError> {
+pub(crate) fn show_error(rt: &HostRuntime, error: &CellError) -> io::Result<()> {
     match error {
-        CellError::WrongType => String::from_str(alloc, "WrongType"),
-        CellError::ShortCell => String::from_str(alloc, "ShortCell"),
-        CellError::NotUtf8 => String::from_str(alloc, "NotUtf8"),
-        CellError::Parse(reason) => format!(in alloc; "Parse({reason})"),
+        CellError::Parse(reason) => print!(rt; "Parse({reason})"),
         CellError::InvalidOptionValue(value) => {
-            let text = value.as_str();
-            format!(in alloc; "InvalidOptionValue({text})")
+            print!(rt; "InvalidOptionValue({})", value.as_str())
         }
-        CellError::DurationOverflow => String::from_str(alloc, "DurationOverflow"),
-        CellError::NoMemory => String::from_str(alloc, "NoMemory"),
+        CellError::WrongType => rt.print("WrongType"),
+        CellError::ShortCell => rt.print("ShortCell"),
+        CellError::NotUtf8 => rt.print("NotUtf8"),
+        CellError::DurationOverflow => rt.print("DurationOverflow"),
+        CellError::NoMemory => rt.print("NoMemory"),
     }
+}
+
+/// The error, and the end of the line.
+fn show_refusal(rt: &HostRuntime, error: CellError) -> io::Result<()> {
+    show_error(rt, &error)?;
+    rt.println("")
 }
 
 /// The name, or the error.
-pub(crate) fn name_told(
-    alloc: Global,
-    named: Result<&str, CellError>,
-) -> Result<String, AllocError> {
+pub(crate) fn show_named<T: Debug + Copy>(
+    rt: &HostRuntime,
+    named: Result<T, CellError>,
+) -> io::Result<()> {
     match named {
-        Ok(name) => String::from_str(alloc, name),
-        Err(error) => error_told(alloc, &error),
+        Ok(name) => println!(rt; "{name:?}"),
+        Err(error) => show_refusal(rt, error),
     }
 }
 
-pub(crate) fn interval_style_told(style: IntervalStyle) -> &'static str {
-    match style {
-        IntervalStyle::Postgres => "Postgres",
-        IntervalStyle::ISO8601 => "ISO8601",
-        IntervalStyle::SQLStandard => "SQLStandard",
-        IntervalStyle::PostgresVerbose => "PostgresVerbose",
+/// The numbers of an interval, or the error.
+pub(crate) fn show_interval(
+    rt: &HostRuntime,
+    answer: Result<Interval, CellError>,
+) -> io::Result<()> {
+    match answer {
+        Ok(
+            Interval {
+                months,
+                days,
+                microseconds,
+            },
+        ) => println!(rt; "{months} {days} {microseconds}"),
+        Err(error) => show_refusal(rt, error),
     }
 }
 
-pub(crate) fn bytea_output_told(output: ByteaOutput) -> &'static str {
-    match output {
-        ByteaOutput::Hex => "Hex",
-        ByteaOutput::Escape => "Escape",
-    }
-}
-
-pub(crate) fn order_told(order: DateStyleOrder) -> &'static str {
-    match order {
-        DateStyleOrder::DMY => "DMY",
-        DateStyleOrder::MDY => "MDY",
-        DateStyleOrder::YMD => "YMD",
-    }
-}
-
-pub(crate) fn display_told(style: DateStyleDisplayStyle) -> &'static str {
-    match style {
-        DateStyleDisplayStyle::ISO => "ISO",
-        DateStyleDisplayStyle::SQL => "SQL",
-        DateStyleDisplayStyle::German => "German",
-        DateStyleDisplayStyle::Postgres => "Postgres",
+/// The same where there may be none.
+pub(crate) fn show_some(
+    rt: &HostRuntime,
+    answer: Result<Option<Interval>, CellError>,
+) -> io::Result<()> {
+    match answer {
+        Ok(Some(interval)) => show_interval(rt, Ok(interval)),
+        Ok(None) => rt.println("None"),
+        Err(error) => show_refusal(rt, error),
     }
 }

@@ -22,10 +22,15 @@ impl Judge for WordRows {
     ) -> Result<Option<String>, Fault<'t>> {
         let (_name, rest) = next_part(row)?;
         let (words, expected) = next_part(rest)?;
-        let words = words_of(alloc, words)?;
-        let order = order_of(alloc, words.as_slice())?;
+        let order = order_told(alloc, words)?;
         Ok(unexpected(order, expected.as_bytes()))
     }
+}
+
+/// What the words of a text order.
+fn order_told(alloc: Global, words: &str) -> Result<String, AllocError> {
+    let words = words_of(alloc, words)?;
+    order_of(alloc, words.as_slice())
 }
 
 /// The words, which stand apart by single spaces; `-` is no word.
