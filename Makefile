@@ -1,4 +1,4 @@
-.PHONY: demo serve try build test edits bench docs pages
+.PHONY: demo serve try clients build test edits bench docs pages
 
 CLIENT = tools/demo_client.hex
 ROSTERS = $(CURDIR)/data/rosters
@@ -32,6 +32,11 @@ try:
 	@tools/try_rota.sh
 	@tools/try_cursor.sh
 	@tools/try_replay
+
+# Tries each client of docs/CLIENTS.md that is installed, over the proved program where it was built: make clients NAMES=psql for
+# one alone.
+clients:
+	@tools/try_clients $(NAMES)
 
 # Proves the program and all that it stands on, builds it, and shows the same frames from what was built.
 build:
