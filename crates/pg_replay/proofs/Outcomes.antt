@@ -5,6 +5,7 @@ use Rattle.pg_session.specs.Streams.{GrowsByFront}
 use Rattle.pg_serve.specs.Serving.{Counts}
 use Rattle.recording_text.specs.declared.recording.ReadError.{ReadError}
 use Rattle.recording_text.specs.declared.recording.Recording.{Recording}
+use Rattle.recording_text.specs.declared.recording.Recording.{Recording}
 use Rattle.relation_files.specs.declared.errors.FileError.{FileError}
 use Rattle.relation_files.specs.Files.{IsToldBy}
 use Rattle.relation_tables.specs.declared.Relation.{Relation}
@@ -12,7 +13,7 @@ use Rattle.session_replay.specs.declared.verdict.Verdict.{Verdict}
 use Rattle.session_replay.specs.declared.verdict.Verdict.TheVariants as verdict
 use Rattle.pg_replay.specs.declared.outcome.Outcome.{Outcome}
 use Rattle.pg_replay.specs.declared.outcome.Outcome.TheVariants.{Usage, File, Done, Differs, ReadFault, WriteFault, TurnLimit, NoMemory, TooLong, BadRecording}
-use Rattle.pg_replay.specs.Program.{Surroundings, HasWritten, HasJudged, HasVerified, HasVerifiedFile}
+use Rattle.pg_replay.specs.Program.{Surroundings, HasToldVerdict, HasWritten, HasJudged, HasVerified, HasVerifiedFile}
 use Rattle.pg_replay.specs.Statuses.{verdict_line, verdict_outcome}
 
 -- where nothing is written, a front is
@@ -37,19 +38,23 @@ module _ (e : FileError) (old new : Option (List ℕ)) (faults new_faults : ℕ)
   verdict_is_no_refusal (verdict.Replies place) h = differs_is_no_refusal _ h
   verdict_is_no_refusal (verdict.End kind) h = differs_is_no_refusal _ h
 
-  judged_is_no_refusal : (relations : List Relation) (read : Result Recording ReadError)
-      → HasJudged relations read (File e) old new faults new_faults → ⊥
-  judged_is_no_refusal relations (Err refused) (inl f, h) = cc
-  judged_is_no_refusal relations (Err refused) (inr f, h) = cc
-  judged_is_no_refusal relations (Ok r) (inl h) = let f = h.0 in cc
-  judged_is_no_refusal relations (Ok r) (inr h) = verdict_is_no_refusal h.0 h.2
+  told_is_no_refusal : (relations : List Relation) (r : Recording) → HasToldVerdict relations r (File e) old new faults new_faults → ⊥
+  told_is_no_refusal relations r (inl h) = let f = h.0 in cc
+  told_is_no_refusal relations r (inr h) = verdict_is_no_refusal h.0 h.2
+
+  judged_is_no_refusal : (relations : List Relation) (text : List ℕ) (read : Result Recording ReadError)
+      → HasJudged relations text read (File e) old new faults new_faults → ⊥
+  judged_is_no_refusal relations text (Err refused) (inl f, h) = cc
+  judged_is_no_refusal relations text (Err refused) (inr f, h) = cc
+  judged_is_no_refusal relations text (Ok r) (inl h) = let f = h.0 in cc
+  judged_is_no_refusal relations text (Ok r) (inr h) = told_is_no_refusal relations r h.2
 
 -- what comes of `verify` where the file was read
 verified_is_no_refusal : (e : FileError) (relations : List Relation) (left new_left old new : Option (List ℕ)) (before after : Counts)
     → HasVerified relations (File e) left new_left old new before after → ⊥
 verified_is_no_refusal e relations left new_left old new before after (inl h) = h.0
 verified_is_no_refusal e relations left new_left old new before after (inr h) =
-    judged_is_no_refusal e old new before.write_faults after.write_faults relations _ h.3
+    judged_is_no_refusal e old new before.write_faults after.write_faults relations h.0 _ h.3
 
 pub of_verified : (outcome : Outcome) (relations : List Relation) (old new : Surroundings) → IsToldBy old.file new.file relations
     → HasVerified relations outcome old.client new.client old.out new.out old.counts new.counts → HasVerifiedFile outcome old new

@@ -12,7 +12,7 @@ use Rattle.pg_serve.specs.Serving.{Counts, HasCause, counts_of}
 use Rattle.recording_text.specs.declared.recording.Recording.{Recording}
 use Rattle.recording_text.specs.declared.recording.ReadError.{ReadError}
 use Rattle.recording_text.specs.Judging.{judged}
-use Rattle.recording_text.specs.Text.{recording_text}
+use Rattle.recording_text.specs.Text.{recording_text, IsRecordable}
 use Rattle.relation_files.specs.Files.{IsToldBy, IsFileCause, Gave, GaveAll}
 use Rattle.relation_serving.specs.Completeness.{IsComplete}
 use Rattle.relation_serving.specs.Serving.{WentByTables}
@@ -155,11 +155,12 @@ abbrev pub HasToldVerdict : List Relation → Recording → Outcome → Option (
 HasToldVerdict relations r outcome old new faults new_faults = ((outcome ≡ NoMemory) × IsUnwritten old new faults new_faults)
     ⊎ ((v : Verdict) × IsVerified relations r v × HasWritten (verdict_outcome v) (verdict_line v) outcome old new faults new_faults)
 
--- What comes of a whole input: no recording has it as its text; or the one that has is verified.
-abbrev pub HasJudged : List Relation → Result Recording ReadError → Outcome → Option (List ℕ) → Option (List ℕ) → ℕ → ℕ → Type 0
-HasJudged relations (Err e) outcome old new faults new_faults =
+-- What comes of a whole input: no recording has it as its text; or the one that has is verified, unless memory ran out before.
+abbrev pub HasJudged : List Relation → List ℕ → Result Recording ReadError → Outcome → Option (List ℕ) → Option (List ℕ) → ℕ → ℕ → Type 0
+HasJudged relations text (Err e) outcome old new faults new_faults =
     ((outcome ≡ BadRecording) ⊎ (outcome ≡ NoMemory)) × IsUnwritten old new faults new_faults
-HasJudged relations (Ok r) outcome old new faults new_faults = HasToldVerdict relations r outcome old new faults new_faults
+HasJudged relations text (Ok r) outcome old new faults new_faults = ((outcome ≡ NoMemory) × IsUnwritten old new faults new_faults)
+    ⊎ (IsRecordable r × (text ≡ recording_text r) × HasToldVerdict relations r outcome old new faults new_faults)
 
 -- What comes of verifying the input: it wasn't read to its end, and nothing was written; or it was, and it is judged.
 abbrev pub HasVerified : List Relation → Outcome → Option (List ℕ) → Option (List ℕ) → Option (List ℕ) → Option (List ℕ) → Counts → Counts
@@ -168,7 +169,7 @@ HasVerified relations outcome left new_left old new before after =
     (IsInputCause outcome left new_left before.read_faults after.read_faults
     × IsUnwritten old new before.write_faults after.write_faults)
     ⊎ ((text : List ℕ) × GaveAll left new_left text × (length text ≤ input_limit)
-    × HasJudged relations (judged text) outcome old new before.write_faults after.write_faults)
+    × HasJudged relations text (judged text) outcome old new before.write_faults after.write_faults)
 
 -- What comes of `verify`: the file was refused, or else the input is verified over its relations.
 abbrev pub HasVerifiedFile : Outcome → Surroundings → Surroundings → Type 0

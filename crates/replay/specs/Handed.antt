@@ -1,6 +1,5 @@
 -- What is handed to the program: the relation file, as it could be opened.
 use Rattle.std.specs.Prelude.{ℕ}
-use Rattle.pg_serve.specs.declared.adapters.ReaderSource.{ReaderSource}
 use Rattle.replay.specs.declared.files.OpenedFile.{OpenedFile}
 use Rattle.replay.specs.declared.files.OpenedFile.TheVariants.{Opened, Unopened}
 

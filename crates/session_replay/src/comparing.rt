@@ -10,6 +10,10 @@ pub(crate) fn other_byte(made: &[u8], told: &[u8]) -> Option<usize>
     ensures some { IfSome result (λ place. DiffersAt made.now told.now place) }
     ensures none { IfNone result (made.now ≡ told.now) }
 {
+    // Mostly they are the same, which is seen sooner of all of them at once.
+    if made == told {
+        return None;
+    }
     let both = made.len().min(told.len());
     for place in 0..both {
         if made[place] != told[place] {
