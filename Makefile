@@ -40,7 +40,7 @@ clients:
 
 # Proves the program and all that it stands on, builds it, and shows the same frames from what was built.
 build:
-	@echo "The program is proved and built: from nothing up to an hour of processor time, later only what changed."
+	@echo "The program is proved and built: from nothing some 40 minutes of processor time, later only what changed."
 	@$(call QUIETLY,crates/server,rt run -- --version)
 	@python3 tools/show_frames.py $(CLIENT) crates/server/out/server $(WORDS)
 
