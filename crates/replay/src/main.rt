@@ -2,19 +2,17 @@
 // recordings.
 #![tactic(auto)]
 
-mod files;
 mod help;
 
-use crate::files::OpenedFile;
 use crate::help::help_or_version;
+use opened_files::open_file;
 use pg_messages::{PgList, PgStr};
 use pg_replay::{file_word, run_replay};
 use pg_serve::{ReaderSource, WriterSink};
 use pg_session::Sink;
 use std::alloc::{AllocError, Global};
-use std::fs::Files;
 use std::process::ExitCode;
-use std::{env, fs, io};
+use std::{env, io};
 
 /// No words, or want of memory where that is why they weren't read.
 fn no_words(alloc: Global, error: io::Error) -> Result<PgList<PgStr>, AllocError> {
@@ -36,21 +34,6 @@ fn read_words(rt: &HostRuntime) -> Result<PgList<PgStr>, AllocError> {
         words.push(PgStr::copy_of(rt.alloc(), word.as_str())?)?;
     }
     Ok(words)
-}
-
-/// The relation file that the words name, where they name one and it can be opened.
-fn open_file<R: Files>(rt: &R, words: &[PgStr]) -> OpenedFile<R::File> {
-    match file_word(words) {
-        None => OpenedFile::Unopened(0),
-        Some(path) => match fs::open(rt, path) {
-            Err(_) => OpenedFile::Unopened(0),
-            Ok(reader) => OpenedFile::Opened(ReaderSource {
-                reader,
-                reads: 0,
-                faults: 0,
-            }),
-        },
-    }
 }
 
 /// Writes a text, and tells the status of that.
@@ -80,7 +63,7 @@ fn main(rt: HostRuntime) -> ExitCode {
     if let Some(text) = help_or_version(words) {
         return tell(text, &mut out, &mut err);
     }
-    let mut file = open_file(&rt, words);
+    let mut file = open_file(&rt, file_word(words));
     let reader = rt.reader();
     let mut client = ReaderSource {
         reader,

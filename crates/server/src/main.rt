@@ -5,13 +5,12 @@
 ghost use Rattle.std.specs.Prelude.{◌≡◌};
 ghost use Rattle.server.specs.Handed.{accepted_at};
 
-mod files;
 mod help;
 mod places;
 
-use crate::files::OpenedFile;
 use crate::help::help_or_version;
 use crate::places::{BoundPlace, bind_place, leave_place};
+use opened_files::open_file;
 use pg_cancel::ConnectionManager;
 use pg_messages::{PgList, PgStr};
 use pg_serve::{KeySource, MaybeTls, RandomKeys, ReaderSource, Spawner, WriterSink};
@@ -26,7 +25,7 @@ use std::io::Input;
 use std::process::ExitCode;
 use std::sync::{Arc, Wait};
 use std::time::Clock;
-use std::{env, fs, io};
+use std::{env, io};
 
 /// No words, or want of memory where that is why they weren't read.
 fn no_words(alloc: Global, error: io::Error) -> Result<PgList<PgStr>, AllocError> {
@@ -50,21 +49,6 @@ fn read_words(rt: &HostRuntime) -> Result<PgList<PgStr>, AllocError> {
     Ok(words)
 }
 
-/// The relation file that the words name, where they name one and it can be opened.
-fn open_file<R: Files>(rt: &R, words: &[PgStr]) -> OpenedFile<R::File> {
-    match file_word(words) {
-        None => OpenedFile::Unopened(0),
-        Some(path) => match fs::open(rt, path) {
-            Err(_) => OpenedFile::Unopened(0),
-            Ok(reader) => OpenedFile::Opened(ReaderSource {
-                reader,
-                reads: 0,
-                faults: 0,
-            }),
-        },
-    }
-}
-
 /// Serves one client.
 fn serve_one<R: Wait + Files, S: Source, K: Sink, E: Sink>(
     rt: &R,
@@ -75,7 +59,7 @@ fn serve_one<R: Wait + Files, S: Source, K: Sink, E: Sink>(
     err: &mut E,
 ) -> Result<u8, AllocError> {
     let (manager, mut door) = ConnectionManager::new(alloc)?;
-    let mut file = open_file(rt, words);
+    let mut file = open_file(rt, file_word(words));
     let (status, _note) = run(
         rt, alloc, words, &manager, &mut door, &mut file, client, out, err,
     );
@@ -102,7 +86,7 @@ fn serve_many<
 {
     let (manager, mut door) = ConnectionManager::new(alloc)?;
     let manager = Arc::new(alloc, manager)?;
-    let mut file = open_file(rt, words);
+    let mut file = open_file(rt, file_word(words));
     let status = run_listen(
         rt, alloc, words, manager, &mut door, &mut file, acceptor, spawner, keys, err,
     );

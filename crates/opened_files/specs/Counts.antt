@@ -1,8 +1,7 @@
--- What is handed to the program: the relation file, as it could be opened.
+-- The counts of a file, as it could be opened.
 use Rattle.std.specs.Prelude.{ℕ}
-use Rattle.pg_serve.specs.declared.adapters.ReaderSource.{ReaderSource}
-use Rattle.cursor.specs.declared.files.OpenedFile.{OpenedFile}
-use Rattle.cursor.specs.declared.files.OpenedFile.TheVariants.{Opened, Unopened}
+use Rattle.opened_files.specs.declared.opened_file.OpenedFile.{OpenedFile}
+use Rattle.opened_files.specs.declared.opened_file.OpenedFile.TheVariants.{Opened, Unopened}
 
 -- the reads of a file that gave at least one byte
 abbrev pub reads_of_file : {R : Type 0} → OpenedFile R → ℕ

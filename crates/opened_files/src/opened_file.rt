@@ -1,7 +1,12 @@
-//! The relation file, as it could be opened.
+//! A file, as it could be opened.
+
+ghost use Rattle.std.specs.Prelude.{◌≡◌};
+ghost use Rattle.opened_files.specs.Counts.{reads_of_file, faults_of_file};
 
 use pg_serve::ReaderSource;
 use pg_session::{Source, SourceFailed};
+use std::fs;
+use std::fs::Files;
 use std::io::Read;
 
 /// A file that was opened, or one that could not be, whose reads all fail.
@@ -15,7 +20,7 @@ pub enum OpenedFile<R: Read> {
 
 impl<R: Read> Source for OpenedFile<R> {
     ghost use Rattle.std.specs.Prelude.{None};
-    ghost use Rattle.rota.specs.Handed.{reads_of_file, faults_of_file};
+    ghost use Rattle.opened_files.specs.Counts.{reads_of_file, faults_of_file};
 
     ghost left = { λ _. None };
 
@@ -31,5 +36,23 @@ impl<R: Read> Source for OpenedFile<R> {
                 Err(SourceFailed {})
             }
         }
+    }
+}
+
+/// The file at a path, where there is one and it can be opened.
+pub fn open_file<R: Files>(rt: &R, path: Option<&str>) -> OpenedFile<R::File>
+    ensures reads { reads_of_file result ≡ 0 }
+    ensures faults { faults_of_file result ≡ 0 }
+{
+    let Some(path) = path else {
+        return OpenedFile::Unopened(0);
+    };
+    match fs::open(rt, path) {
+        Err(_) => OpenedFile::Unopened(0),
+        Ok(reader) => OpenedFile::Opened(ReaderSource {
+            reader,
+            reads: 0,
+            faults: 0,
+        }),
     }
 }
