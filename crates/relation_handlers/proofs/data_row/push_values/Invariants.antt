@@ -3,7 +3,7 @@ use Rattle.std.specs.List.{zip}
 use Rattle.relation_tables.specs.RelationHandler.{all_or_error, value}
 use Rattle.relation_handlers.specs.Values.{joined}
 use Rattle.relation_handlers.proofs.ValueLemmas.{finish, from}
-use Rattle.relation_handlers.proofs.data_row.row_values.Given as goal
+use Rattle.relation_handlers.proofs.data_row.push_values.Given as goal
 
 abbrev pub invariant-loop-index : goal.invariant-loop-index
 invariant-loop-index l = record {

@@ -2,7 +2,7 @@ use Rattle.std.proofs.Common.{◌≡◌, ◌≤◌, ◌*◌, Ok, length, map}
 use Rattle.relation_tables.specs.RelationHandler.{all_or_error, text_of}
 use Rattle.relation_handlers.specs.Values.{tab_joined}
 use Rattle.relation_handlers.proofs.CopyLineLemmas.{finish_line, texts_from}
-use Rattle.relation_handlers.proofs.copy_line.line_texts.Given as goal
+use Rattle.relation_handlers.proofs.copy_line.push_texts.Given as goal
 
 abbrev pub invariant-loop-index : goal.invariant-loop-index
 invariant-loop-index l = record {

@@ -5,7 +5,7 @@ use Rattle.pg_portal.specs.declared.error.PgWireError.{PgWireError}
 use Rattle.relation_tables.specs.RelationHandler.{all_or_error, text_of}
 use Rattle.relation_handlers.specs.Values.{tab_joined}
 use Rattle.relation_handlers.proofs.CopyLineLemmas.{texts_step}
-use Rattle.relation_handlers.proofs.copy_line.line_texts.Goals as goal
+use Rattle.relation_handlers.proofs.copy_line.push_texts.Goals as goal
 
 pub loop-index-preserved : goal.loop-index-preserved
 loop-index-preserved c =
