@@ -1,23 +1,15 @@
 -- Describe of an empty statement.
-use Rattle.std.proofs.Common.{◌≡◌, ℕ, List, ◌++◌, true, Option, Some, refl, sym, ap, ◌∙◌}
+use Rattle.std.proofs.Common.{◌≡◌, ℕ, List, ◌++◌, true, Some, refl, ap, ◌∙◌}
 use Rattle.std.specs.FinMap as fin
-use Rattle.std.specs.Option.{option_map}
 use Rattle.pg_messages.specs.declared.extendedquery.Describe.{Describe}
 use Rattle.pg_messages.specs.Replies.{replies_bytes}
 use Rattle.pg_messages.specs.Frames.{statement_target}
-use Rattle.pg_portal.specs.declared.store.Entry.{Entry}
 use Rattle.pg_portal.specs.declared.store.Entry.TheVariants as entry
 use Rattle.pg_portal.specs.Describing.{Described, no_data}
-use Rattle.pg_portal.specs.Told.{entry_map}
 use Rattle.pg_handlers.specs.Effect.{IsEffect, Done}
 use Rattle.pg_handlers.specs.ExtendedRows.{on_describe, description}
 use Rattle.pg_handlers.specs.Handlers.{ExtendedTold}
 use Rattle.pg_handlers.specs.State.{State}
-
--- where a store found an empty entry under a name it tells one
-pub found_empty : {X Y : Type 0} (f : X → Y) (found : Option (Entry X)) (e : Entry X) (told : Option (Entry Y))
-    → option_map (entry_map f) found ≡ told → found ≡ Some e → e ≡ entry.Empty → told ≡ Some entry.Empty
-found_empty f found e told h i j = sym h ∙ ap (λ o. option_map (entry_map f) o) (i ∙ ap Some j)
 
 pub empty_described : {S : Type 0} (h : ExtendedTold S) (s : State S) (m : Describe) (out new_out : List ℕ) (d : Described)
     → m.target_type ≡ statement_target

@@ -10,11 +10,13 @@ use crate::ends::{SessionError, Turns};
 use pg_portal::PgWireError;
 use std::alloc::AllocError;
 
+mod describing;
 pub mod extended;
 mod respond;
 mod run;
 pub mod send;
 pub mod simple;
+mod started;
 mod statements;
 
 /// What a poll answers.
@@ -45,6 +47,7 @@ pub trait QueryState: Drop {
 /// Waits for a query: each poll that finds it unready spends a turn, and the desk is then asked
 /// whether the query was canceled. Where it was, the error is QueryCanceled. TurnLimit comes where
 /// no turn is left and one more was met.
+#[inline(always)]
 fn wait<Q: QueryState, D: CancelDesk>(
     query: &mut Q,
     desk: &mut D,
@@ -75,6 +78,7 @@ fn wait<Q: QueryState, D: CancelDesk>(
 }
 
 /// Waits for a query as `wait`, and lets it go.
+#[inline(always)]
 pub(crate) fn wait_for<Q: QueryState, D: CancelDesk>(
     query: Q,
     desk: &mut D,
