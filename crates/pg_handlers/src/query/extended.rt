@@ -162,7 +162,13 @@ pub trait ExtendedQueryHandler {
         };
         let found = parse_by(alloc, &client.info, &message, parser);
         let name = name_of(message);
-        store_parsed(alloc, client, name, found?)
+        match found {
+            Ok(found) => store_parsed(alloc, client, name, found),
+            Err(error) => {
+                drop(name);
+                Err(error)
+            }
+        }
     }
 
     /// Bind: stores a portal of the statement, and appends BindComplete. StatementNotFound comes

@@ -64,9 +64,10 @@ fn wait<Q: QueryState, D: CancelDesk>(
     ensures keeps { KeepsDesk (D.told desk.old) (D.told desk.new) }
 {
     loop {
-        match query.poll()? {
-            Turn::Ready(out) => return Ok(out),
-            Turn::Unready => {}
+        match query.poll() {
+            Ok(Turn::Ready(out)) => return Ok(out),
+            Ok(Turn::Unready) => {}
+            Err(_) => return Err(SessionError::Wire(PgWireError::NoMemory)),
         }
         if !turns.spend() {
             return Err(SessionError::TurnLimit);
@@ -80,7 +81,7 @@ fn wait<Q: QueryState, D: CancelDesk>(
 /// Waits for a query as `wait`, and lets it go.
 #[inline(always)]
 pub(crate) fn wait_for<Q: QueryState, D: CancelDesk>(
-    query: Q,
+    mut query: Q,
     desk: &mut D,
     turns: &mut Turns,
 ) -> Result<Q::Out, SessionError>
@@ -94,6 +95,5 @@ pub(crate) fn wait_for<Q: QueryState, D: CancelDesk>(
     ensures bounded { turns.old.spent ≤ turns.old.limit → turns.new.spent ≤ turns.new.limit }
     ensures keeps { KeepsDesk (D.told desk.old) (D.told desk.new) }
 {
-    let mut query = query;
     wait(&mut query, desk, turns)
 }

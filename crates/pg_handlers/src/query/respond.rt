@@ -21,6 +21,7 @@ ghost use Rattle.pg_handlers.specs.Sending.{IsAllSent, behind};
 ghost use Rattle.pg_handlers.specs.State.{state_of};
 
 use crate::client::Client;
+use crate::ends::out_of_memory;
 use crate::query::send::{
     push_reply, send_copy_both_response, send_copy_in, send_copy_out_response, send_done,
     send_execution_response, send_next_page, send_query_response,
@@ -207,7 +208,10 @@ pub(crate) fn send_page<S: Drop, R: RowSource>(
     let page = match &mut portal.state {
         PortalExecutionState::Initial => return Err(PgWireError::PortalNotStarted),
         PortalExecutionState::Finished => {
-            return Ok(send_done(alloc, outbox, "SELECT", delivered)?);
+            let Ok(()) = send_done(alloc, outbox, "SELECT", delivered) else {
+                return out_of_memory(());
+            };
+            return Ok(());
         }
         PortalExecutionState::Suspended(response) => {
             let start = outbox.len();

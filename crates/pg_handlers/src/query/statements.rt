@@ -67,6 +67,7 @@ pub(crate) fn statement_under<'s, St: PortalStore>(
 }
 
 /// The name that a Parse tells.
+#[inline(always)]
 pub(crate) fn name_of(message: Parse) -> PgStr
     ensures { result ≡ message.name }
 {
@@ -102,6 +103,7 @@ pub(crate) fn missing_portal(name: PgStr) -> PgWireError
 }
 
 /// Stores what a parser found under a name: a statement of this name, or an empty one.
+#[inline(always)]
 fn store_statement<St: PortalStore>(
     alloc: Global,
     store: &mut St,
@@ -124,6 +126,7 @@ fn store_statement<St: PortalStore>(
 
 /// Appends ParseComplete, and stores what a parser found under a name. After an error neither is
 /// done.
+#[inline(always)]
 pub(crate) fn store_parsed<St: PortalStore>(
     alloc: Global,
     client: &mut Client<St>,
