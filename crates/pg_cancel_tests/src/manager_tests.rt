@@ -28,6 +28,22 @@ pub fn register<R: Wait>(
     manager.register(rt, door, pid, key)
 }
 
+/// Registers the pid 7 under a key of these bytes, and the pid 8.
+pub fn register_two<R: Wait>(
+    rt: &R,
+    alloc: Global,
+    manager: &ConnectionManager,
+    door: &mut Door,
+    key: &[u8],
+) -> Result<(ConnectionHandle, ConnectionHandle), RegisterError>
+    requires { door.old.issuer ≡ manager.now }
+    ensures { IfOk result (λ both. (both.0.issuer ≡ manager.now) × (both.1.issuer ≡ manager.now)) }
+{
+    let first = register(rt, alloc, manager, door, 7, key)?;
+    let second = register(rt, alloc, manager, door, 8, &C)?;
+    Ok((first, second))
+}
+
 /// Cancels the query of the pid 7 by a key of these bytes.
 pub fn cancel<R: Wait>(
     rt: &R,
@@ -71,8 +87,7 @@ fn is_heard<R: Wait>(
 ) -> Result<bool, Fail>
     requires { door.old.issuer ≡ manager.now }
 {
-    let mut first = register(rt, alloc, manager, door, 7, &A)?;
-    let mut second = register(rt, alloc, manager, door, 8, &C)?;
+    let (mut first, mut second) = register_two(rt, alloc, manager, door, &A)?;
     Ok(hears(rt, alloc, manager, &mut first, &mut second)?)
 }
 

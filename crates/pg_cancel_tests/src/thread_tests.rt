@@ -4,7 +4,7 @@ ghost use Rattle.std.specs.Prelude.{◌≡◌, IfSome};
 ghost use Rattle.std.specs.Thread.{IsSync};
 
 use crate::keys::{A, B, C, LONG, ZERO};
-use crate::manager_tests::{cancel, register};
+use crate::manager_tests::{cancel, register, register_two};
 use crate::step_gate::StepGate;
 use pg_cancel::{ConnectionHandle, ConnectionManager, Door, RegisterError};
 use std::alloc::{AllocError, Global};
@@ -192,20 +192,20 @@ fn story_on_two_threads(rt: HostRuntime) -> Result<(), Fail> {
 fn narrow_by_steps<R: Wait>(
     rt: &R,
     manager: &ConnectionManager,
-    mut handle: ConnectionHandle,
+    handle: &mut ConnectionHandle,
     gate: &StepGate,
 ) -> Result<bool, AllocError>
-    requires { handle.issuer ≡ manager.now }
+    requires { handle.old.issuer ≡ manager.now }
 {
-    manager.start_query(rt, &mut handle)?;
+    manager.start_query(rt, handle)?;
     gate.open(rt, 1);
     gate.wait(rt, 2);
-    let by_long = manager.ask(rt, &mut handle)?;
-    manager.narrow(rt, &mut handle)?;
-    manager.start_query(rt, &mut handle)?;
+    let by_long = manager.ask(rt, handle)?;
+    manager.narrow(rt, handle)?;
+    manager.start_query(rt, handle)?;
     gate.open(rt, 3);
     gate.wait(rt, 4);
-    let by_short = manager.ask(rt, &mut handle)?;
+    let by_short = manager.ask(rt, handle)?;
     Ok(by_long && by_short)
 }
 
@@ -214,20 +214,45 @@ fn cancel_by_both<R: Wait>(
     rt: &R,
     alloc: Global,
     manager: &ConnectionManager,
-    mut handle: ConnectionHandle,
+    handle: &mut ConnectionHandle,
     gate: &StepGate,
 ) -> Result<bool, AllocError>
-    requires { handle.issuer ≡ manager.now }
+    requires { handle.old.issuer ≡ manager.now }
 {
     gate.wait(rt, 1);
-    let early = cancel(rt, alloc, manager, &mut handle, &A)?;
-    let long = cancel(rt, alloc, manager, &mut handle, &LONG)?;
+    let early = cancel(rt, alloc, manager, handle, &A)?;
+    let long = cancel(rt, alloc, manager, handle, &LONG)?;
     gate.open(rt, 2);
     gate.wait(rt, 3);
-    let late = cancel(rt, alloc, manager, &mut handle, &LONG)?;
-    let short = cancel(rt, alloc, manager, &mut handle, &A)?;
+    let late = cancel(rt, alloc, manager, handle, &LONG)?;
+    let short = cancel(rt, alloc, manager, handle, &A)?;
     gate.open(rt, 4);
     Ok(!early && long && !late && short)
+}
+
+/// Whether the first is told what it has to be.
+fn narrows<R: Wait>(
+    rt: &R,
+    manager: &ConnectionManager,
+    mut handle: ConnectionHandle,
+    gate: &StepGate,
+) -> bool
+    requires { handle.issuer ≡ manager.now }
+{
+    narrow_by_steps(rt, manager, &mut handle, gate).is_ok_and(|right| right)
+}
+
+/// Whether the second is told what it has to be.
+fn cancels_by_both<R: Wait>(
+    rt: &R,
+    alloc: Global,
+    manager: &ConnectionManager,
+    mut handle: ConnectionHandle,
+    gate: &StepGate,
+) -> bool
+    requires { handle.issuer ≡ manager.now }
+{
+    cancel_by_both(rt, alloc, manager, &mut handle, gate).is_ok_and(|right| right)
 }
 
 /// Whether both, on threads of their own, are told what they have to be.
@@ -243,21 +268,32 @@ fn is_narrowed<R: Threads + Wait + Sync>(
     let gate = StepGate::new();
     let (asked, hit) = join(
         rt,
-        || -> Result<bool, AllocError>
+        || -> bool
             requires { IsSync R.row × (first.issuer ≡ manager.now) }
-        { narrow_by_steps(rt, manager, first, &gate) },
-        || -> Result<bool, AllocError>
+        { narrows(rt, manager, first, &gate) },
+        || -> bool
             requires { IsSync R.row × (second.issuer ≡ manager.now) }
-        { cancel_by_both(rt, alloc, manager, second, &gate) },
+        { cancels_by_both(rt, alloc, manager, second, &gate) },
     );
-    asked.is_ok_and(|right| right) && hit.is_ok_and(|right| right)
+    asked && hit
+}
+
+/// Whether that is so of two new connections, the first of a long key.
+fn are_narrowed<R: Threads + Wait + Sync>(
+    rt: &R,
+    alloc: Global,
+    manager: &ConnectionManager,
+    door: &mut Door,
+) -> Result<bool, RegisterError>
+    requires { door.old.issuer ≡ manager.now }
+{
+    let (first, second) = register_two(rt, alloc, manager, door, &LONG)?;
+    Ok(is_narrowed(rt, alloc, manager, first, second))
 }
 
 #[test]
 fn narrow_on_two_threads(rt: HostRuntime) -> Result<(), Fail> {
     let (manager, mut door) = ConnectionManager::new(rt.alloc())?;
-    let first = register(&rt, rt.alloc(), &manager, &mut door, 7, &LONG)?;
-    let second = register(&rt, rt.alloc(), &manager, &mut door, 8, &C)?;
-    assert!(rt; is_narrowed(&rt, rt.alloc(), &manager, first, second));
+    assert!(rt; are_narrowed(&rt, rt.alloc(), &manager, &mut door)?);
     Ok(())
 }

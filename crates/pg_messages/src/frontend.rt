@@ -1,6 +1,6 @@
 //! The messages of a client, and the reading of each by its kind.
 
-ghost use Rattle.std.specs.Prelude.{◌≡◌, ◌≢◌, true, false, [], OnOk, OnErr};
+ghost use Rattle.std.specs.Prelude.{◌≡◌, ◌≢◌, true, false, [], ◌∷◌, Contains, OnOk, OnErr};
 ghost use Rattle.pg_messages.specs.Frames.{is_extended_query};
 ghost use Rattle.pg_messages.specs.Reading.{Gives, message_at};
 
@@ -102,29 +102,26 @@ pub fn typed_message(
         b'D' => Ok(PgWireFrontendMessage::Describe(whole(alloc, body)?)),
         b'E' => Ok(PgWireFrontendMessage::Execute(whole(alloc, body)?)),
         b'C' => Ok(PgWireFrontendMessage::Close(whole(alloc, body)?)),
-        b'd' => {
-            let payload = PgBytes::copy_of(alloc, body)?;
-            Ok(PgWireFrontendMessage::CopyData(CopyData { payload }))
-        }
-        b'f' => Ok(PgWireFrontendMessage::CopyFail(whole(alloc, body)?)),
-        b'H' => {
-            empty(body)?;
-            Ok(PgWireFrontendMessage::Flush(Flush {}))
-        }
-        b'S' => {
-            empty(body)?;
-            Ok(PgWireFrontendMessage::PgSync(PgSync {}))
-        }
-        b'X' => {
-            empty(body)?;
-            Ok(PgWireFrontendMessage::Terminate(Terminate {}))
-        }
-        b'c' => {
-            empty(body)?;
-            Ok(PgWireFrontendMessage::CopyDone(CopyDone {}))
-        }
+        b'd' | b'f' => copy_message(alloc, kind, body),
+        b'H' if body.is_empty() => Ok(PgWireFrontendMessage::Flush(Flush {})),
+        b'S' if body.is_empty() => Ok(PgWireFrontendMessage::PgSync(PgSync {})),
+        b'X' if body.is_empty() => Ok(PgWireFrontendMessage::Terminate(Terminate {})),
+        b'c' if body.is_empty() => Ok(PgWireFrontendMessage::CopyDone(CopyDone {})),
         _ => Err(FrameError::Bad),
     }
+}
+
+/// The message of a body of COPY from the client, behind a type byte.
+#[tactic(auto, unfolding(crate::specs::Reading::message_at))]
+fn copy_message(alloc: Global, kind: u8, body: &[u8]) -> Result<PgWireFrontendMessage, FrameError>
+    requires { Contains (100 ∷ 102 ∷ []) kind }
+    ensures { Gives (λ m. m) result (message_at false kind body.now) }
+{
+    if kind == b'f' {
+        return Ok(PgWireFrontendMessage::CopyFail(whole(alloc, body)?));
+    }
+    let payload = PgBytes::copy_of(alloc, body)?;
+    Ok(PgWireFrontendMessage::CopyData(CopyData { payload }))
 }
 
 fn empty(body: &[u8]) -> Result<(), FrameError>

@@ -1,6 +1,6 @@
 //! Chunks, and how long a reply is.
 
-ghost use Rattle.std.specs.Prelude.{◌≡◌, ◌≤◌, length, IfOk};
+ghost use Rattle.std.specs.Prelude.{◌≡◌, ◌≤◌, [], length, IfOk};
 ghost use Rattle.pg_messages.specs.Replies.{IsEncodable, reply_bytes};
 
 use bytes::BytesMut;
@@ -12,8 +12,19 @@ use std::collections::VecDeque;
 /// after a message.
 pub const CHUNK: usize = 65536;
 
+// How many bytes the first chunk has room for at first: what a connection is answered at its start,
+// and short answers. It grows as it is written.
+const FIRST_ROOM: usize = 512;
+
 // So many chunks are more than any machine has memory for, and their bytes can be counted.
 pub const MOST_CHUNKS: usize = 4294967296;
+
+// The first chunk, which is empty.
+pub fn first_chunk(alloc: Global) -> Result<BytesMut, AllocError>
+    ensures { IfOk result (λ chunk. chunk.items ≡ []) }
+{
+    BytesMut::with_capacity(alloc, FIRST_ROOM)
+}
 
 // A chunk that begins with these bytes. Its room is reserved, and touched where it is written.
 pub fn chunk_of(alloc: Global, bytes: &[u8]) -> Result<BytesMut, AllocError>

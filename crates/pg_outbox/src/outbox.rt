@@ -4,7 +4,7 @@ ghost use Rattle.std.specs.Prelude.{◌≡◌, ◌≤◌, ◌<◌, ◌++◌, [],
 ghost use Rattle.pg_messages.specs.Replies.{IsEncodable, reply_bytes};
 ghost use Rattle.pg_messages.specs.declared.backend.PgWireBackendMessage.TheVariants as server;
 
-use crate::chunk::{CHUNK, MOST_CHUNKS, chunk_of, next_chunk, reply_len, settle};
+use crate::chunk::{CHUNK, MOST_CHUNKS, first_chunk, next_chunk, reply_len, settle};
 use bytes::BytesMut;
 use pg_messages::{
     CopyData, DataRow, PgWireBackendMessage, PgWireMessageServerCodec, put_copied, put_row,
@@ -38,14 +38,14 @@ impl Model for Outbox {
 }
 
 impl Outbox {
-    /// An empty outbox with the first chunk reserved, or AllocError where there is no memory for
+    /// An empty outbox with room for some short replies, or AllocError where there is no memory for
     /// it.
     pub fn new(alloc: Global) -> Result<Outbox, AllocError>
         ensures { IfOk result (λ outbox. outbox ≡ []) }
     {
         Ok(Outbox {
             whole: VecDeque::new(alloc),
-            last: chunk_of(alloc, &[])?,
+            last: first_chunk(alloc)?,
             spare: None,
             alloc,
         })

@@ -1,5 +1,5 @@
 -- COPY: the data that the server sends, and the formats of its columns (protocol: COPY Operations).
-use Rattle.std.specs.Prelude.{ℕ, ℤ, pos, Bool, List, [], ◌∷◌, Option, Some, None, Result, Ok, Err, ◌≡◌, replicate}
+use Rattle.std.specs.Prelude.{ℕ, ℤ, pos, Bool, true, false, List, [], ◌∷◌, Option, Some, None, Result, Ok, Err, ◌≡◌, replicate}
 use Rattle.std.specs.Ordering.{int_eq}
 use Rattle.std.specs.declared.alloc.AllocError.{AllocError}
 use Rattle.pg_messages.specs.declared.copy.CopyData.{CopyData}
@@ -17,6 +17,16 @@ abbrev pub IsNextCopy : List CopyItem → Result (Option CopyItem) AllocError �
 IsNextCopy old (Ok (Some item)) new = old ≡ item ∷ new
 IsNextCopy old (Ok None) new = (old ≡ []) × (new ≡ [])
 IsNextCopy old (Err e) new = new ≡ old
+
+-- The first item is taken, which is these data, or none is taken.
+abbrev pub IsNextCopied : List CopyItem → Result Bool AllocError → CopyData → List CopyItem → Type 0
+IsNextCopied old (Ok true) copied new = old ≡ Ok copied ∷ new
+IsNextCopied old (Ok false) copied new = new ≡ old
+IsNextCopied old (Err e) copied new = new ≡ old
+
+-- data that become a reply
+abbrev pub IsSendableData : CopyData → Type 0
+IsSendableData copied = IsEncodable (server.CopyData copied)
 
 -- an item that becomes a reply
 abbrev pub IsSendableCopy : CopyItem → Type 0

@@ -19,10 +19,10 @@ IsNext old (Ok None) new = (old ≡ []) × (new ≡ [])
 IsNext old (Err e) new = new ≡ old
 
 -- The first item is taken, which is this row, or none is taken.
-abbrev pub IsNextRow : List RowItem → Result (Option DataRow) AllocError → List RowItem → Type 0
-IsNextRow old (Ok (Some row)) new = old ≡ Ok row ∷ new
-IsNextRow old (Ok None) new = new ≡ old
-IsNextRow old (Err e) new = new ≡ old
+abbrev pub IsNextRow : List RowItem → Result Bool AllocError → DataRow → List RowItem → Type 0
+IsNextRow old (Ok true) row new = old ≡ Ok row ∷ new
+IsNextRow old (Ok false) row new = new ≡ old
+IsNextRow old (Err e) row new = new ≡ old
 
 -- an error that a reply can tell
 pub record IsTellable (error : PgWireError) : Type 0 where

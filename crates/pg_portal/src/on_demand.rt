@@ -1,8 +1,8 @@
 //! Rows, and data of a COPY, that are made at their turn.
 
-ghost use Rattle.std.specs.Prelude.{◌≡◌, ◌<◌, List, Some, Ok, IfOk, IfSome, length, drop, slice_get};
+ghost use Rattle.std.specs.Prelude.{◌≡◌, ◌<◌, List, Some, Ok, true, IfOk, IfSome, length, drop, slice_get};
 ghost use Rattle.pg_portal.specs.Making.{position_after};
-ghost use Rattle.pg_portal.specs.Copying.{CopyItem, IsNextCopy, IsSendableCopy};
+ghost use Rattle.pg_portal.specs.Copying.{CopyItem, IsNextCopy, IsSendableCopy, IsSendableData};
 ghost use Rattle.pg_portal.specs.Rows.{RowItem, IsNext, IsSendable, IsSendableRow};
 
 use crate::error::PgWireError;
@@ -29,16 +29,18 @@ pub trait RowMaker: Drop {
         ensures item { IfOk result (λ item. slice_get (items self.now) index ≡ Some item) }
         ensures sendable { IfOk result IsSendable };
 
-    /// The row at an index, made anew in a short way: without the room that an error in its place
-    /// would take. None says nothing of the item: `make` tells it.
+    /// Writes the row at an index over one that is lent, in a short way: in the memory of that row,
+    /// and without the room that an error in its place would take. False says nothing of the item:
+    /// `make` tells it. What the lent row was is nothing to what is written; unless the answer is
+    /// true, nothing is said of what it is then.
     #[inline(always)]
-    fn make_row(&self, _index: usize) -> Result<Option<DataRow>, AllocError>
+    fn make_row(&self, _index: usize, _row: &mut DataRow) -> Result<bool, AllocError>
         requires { _index < length (items self.now) }
-        ensures item { IfOk result (λ found. IfSome found (λ row.
-            slice_get (items self.now) _index ≡ Some (Ok row))) }
-        ensures sendable { IfOk result (λ found. IfSome found IsSendableRow) }
+        ensures item { result ≡ Ok true
+            → slice_get (items self.now) _index ≡ Some (Ok _row.new) }
+        ensures sendable { result ≡ Ok true → IsSendableRow _row.new }
     {
-        Ok(None)
+        Ok(false)
     }
 }
 
@@ -59,6 +61,20 @@ pub trait CopyMaker: Drop {
         requires { index < length (items self.now) }
         ensures item { IfOk result (λ item. slice_get (items self.now) index ≡ Some item) }
         ensures sendable { IfOk result IsSendableCopy };
+
+    /// Writes the data at an index over data that are lent, in a short way: in their memory, and
+    /// without the room that an error in their place would take. False says nothing of the item:
+    /// `make_data` tells it. What the lent data were is nothing to what is written; unless the
+    /// answer is true, nothing is said of what they are then.
+    #[inline(always)]
+    fn make_copied(&self, _index: usize, _copied: &mut CopyData) -> Result<bool, AllocError>
+        requires { _index < length (items self.now) }
+        ensures item { result ≡ Ok true
+            → slice_get (items self.now) _index ≡ Some (Ok _copied.new) }
+        ensures sendable { result ≡ Ok true → IsSendableData _copied.new }
+    {
+        Ok(false)
+    }
 }
 
 /// The items of a maker from a position on, each made when it is asked for. No item is kept.
@@ -114,18 +130,15 @@ impl<M: RowMaker> RowSource for OnDemand<M> {
     /// The row that the maker makes in the short way, and the position moves by one. It stays where
     /// none is made.
     #[inline(always)]
-    fn next_row(&mut self) -> Result<Option<DataRow>, AllocError> {
+    fn next_row(&mut self, row: &mut DataRow) -> Result<bool, AllocError> {
         if self.position >= self.maker.rows() {
-            return Ok(None);
+            return Ok(false);
         }
-        match self.maker.make_row(self.position) {
-            Ok(Some(row)) => {
-                self.position += 1;
-                Ok(Some(row))
-            }
-            Ok(None) => Ok(None),
-            Err(error) => Err(error),
+        let is_made = self.maker.make_row(self.position, row)?;
+        if is_made {
+            self.position += 1;
         }
+        Ok(is_made)
     }
 }
 
@@ -156,5 +169,19 @@ impl<M: CopyMaker> CopySource for OnDemand<M> {
         } else {
             Ok(None)
         }
+    }
+
+    /// The data that the maker makes in the short way, and the position moves by one. It stays
+    /// where none are made.
+    #[inline(always)]
+    fn next_copied(&mut self, copied: &mut CopyData) -> Result<bool, AllocError> {
+        if self.position >= self.maker.data_len() {
+            return Ok(false);
+        }
+        let is_made = self.maker.make_copied(self.position, copied)?;
+        if is_made {
+            self.position += 1;
+        }
+        Ok(is_made)
     }
 }

@@ -10,8 +10,8 @@ ghost use Rattle.pg_portal.specs.Rows.{IsAnswerableItem};
 
 use crate::error::PgWireError;
 use crate::rows::RowSource;
-use pg_messages::{DataRow, PgList};
-use std::alloc::AllocError;
+use pg_messages::{DataRow, PgBytes, PgList};
+use std::alloc::{AllocError, Global};
 
 /// Who receives rows one by one.
 pub trait RowReceiver {
@@ -19,9 +19,9 @@ pub trait RowReceiver {
     ghost with_rows: { Self → List DataRow → Self };
 
     /// Receives the next row, which can be sent as a reply. After an error it is as it was.
-    fn receive(&mut self, row: DataRow) -> Result<(), AllocError>
-        requires { IsEncodable (server.DataRow row) }
-        ensures ok { OnOk result (self.new ≡ with_rows self.old (row ∷ [])) }
+    fn receive(&mut self, alloc: Global, row: &DataRow) -> Result<(), AllocError>
+        requires { IsEncodable (server.DataRow row.now) }
+        ensures ok { OnOk result (self.new ≡ with_rows self.old (row.now ∷ [])) }
         ensures err { OnErr result (self.new ≡ self.old) };
 
     // no rows leave it as it is, and rows behind rows are all of them
@@ -31,13 +31,16 @@ pub trait RowReceiver {
         → with_rows (with_rows receiver rows) behind ≡ with_rows receiver (rows ++ behind) };
 }
 
-/// A list keeps the rows, in their order.
+/// A list keeps a copy of each row, in their order.
 impl RowReceiver for PgList<DataRow> {
     ghost with_rows = { λ list rows. list ++ rows };
 
-    #[inline(always)]
-    fn receive(&mut self, row: DataRow) -> Result<(), AllocError> {
-        self.push(row)
+    fn receive(&mut self, alloc: Global, row: &DataRow) -> Result<(), AllocError> {
+        let payload = PgBytes::copy_of(alloc, row.payload.as_slice())?;
+        self.push(DataRow {
+            payload,
+            field_count: row.field_count,
+        })
     }
 
     ghost none = { append-nil };
@@ -78,10 +81,42 @@ fn delivered_after(before: u64, rows: usize) -> u64
 ///
 /// The error of an item is answered: the receiver has the rows before it, and the item is gone.
 /// After `NoMemory` the receiver has the rows so far, and of those that are gone at most the last
-/// is lost. No row is taken ahead.
+/// is lost. No row is taken ahead. The rows of a page that are made in the short way share their
+/// memory.
 pub fn deliver_page<R: RowSource, T: RowReceiver>(
+    alloc: Global,
     rows: &mut R,
     receiver: &mut T,
+    delivered: u64,
+    max_rows: i32,
+) -> Result<DeliveredPage, PgWireError>
+    ensures ended { IfOk result (λ page. EndsPage (item_page max_rows (R.items rows.old)).ending
+        page.suspended (R.items rows.new)) }
+    ensures delivered { IfOk result (λ page. page.delivered
+        ≡ delivered_after delivered (length (item_page max_rows (R.items rows.old)).rows)) }
+    ensures received { OnOk result (receiver.new
+        ≡ T.with_rows receiver.old (item_page max_rows (R.items rows.old)).rows) }
+    ensures taken { OnOk result (R.items rows.old
+        ≡ map Ok (item_page max_rows (R.items rows.old)).rows ++ R.items rows.new) }
+    ensures cut_short { IfErr result (λ error. (received : List DataRow)
+        × CutsPage max_rows (R.items rows.old) received error (R.items rows.new)
+        × (receiver.new ≡ T.with_rows receiver.old received)) }
+    ensures own { IfErr result IsAnswerableItem }
+{
+    let mut row = DataRow {
+        payload: PgBytes::from_vec(Vec::new(alloc)),
+        field_count: 0,
+    };
+    deliver_through(alloc, rows, receiver, &mut row, delivered, max_rows)
+}
+
+/// The next page, as `deliver_page`, whose rows are lent this one.
+#[inline(always)]
+fn deliver_through<R: RowSource, T: RowReceiver>(
+    alloc: Global,
+    rows: &mut R,
+    receiver: &mut T,
+    lent: &mut DataRow,
     delivered: u64,
     max_rows: i32,
 ) -> Result<DeliveredPage, PgWireError>
@@ -101,17 +136,17 @@ pub fn deliver_page<R: RowSource, T: RowReceiver>(
     let mut count = 0;
     while !is_reached(max_rows, count) {
         // Most rows come in the short way.
-        match rows.next_row() {
-            Ok(Some(row)) => {
-                receiver.receive(row)?;
+        match rows.next_row(lent) {
+            Ok(true) => {
+                receiver.receive(alloc, lent)?;
                 count = count.saturating_add(1);
                 continue;
             }
-            Ok(None) => {}
+            Ok(false) => {}
             Err(_) => return Err(PgWireError::NoMemory),
         }
         match rows.next() {
-            Ok(Some(Ok(row))) => receiver.receive(row)?,
+            Ok(Some(Ok(row))) => receiver.receive(alloc, &row)?,
             Ok(Some(Err(error))) => return Err(error),
             Ok(None) => {
                 return Ok(DeliveredPage {

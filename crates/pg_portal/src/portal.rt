@@ -299,7 +299,13 @@ fn next_page<R: RowSource>(
 {
     let command_tag = PgStr::copy_of(alloc, response.command_tag.as_str())?;
     let mut rows = PgList::new(alloc);
-    let page = deliver_page(&mut response.data_rows, &mut rows, delivered, max_rows)?;
+    let page = deliver_page(
+        alloc,
+        &mut response.data_rows,
+        &mut rows,
+        delivered,
+        max_rows,
+    )?;
     Ok(FetchResult {
         rows,
         command_tag,

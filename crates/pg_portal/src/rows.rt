@@ -1,6 +1,6 @@
 //! Rows that come one by one.
 
-ghost use Rattle.std.specs.Prelude.{◌≡◌, List, IfOk, IfSome};
+ghost use Rattle.std.specs.Prelude.{◌≡◌, List, Ok, true, IfOk, IfSome};
 ghost use Rattle.std.specs.List.{AllByRecursion};
 ghost use Rattle.pg_portal.specs.Rows.{RowItem, IsNext, IsNextRow, IsSendable, IsSendableRow};
 
@@ -21,15 +21,17 @@ pub trait RowSource: Drop {
         ensures next { IsNext (items self.old) result (items self.new) }
         ensures sendable { IfOk result (λ found. IfSome found IsSendable) };
 
-    /// The next item where it is a row that is made in a short way, without the room that an error
-    /// in its place would take. None takes nothing and says nothing of the items: `next` tells
-    /// them. After an AllocError all items are still to come.
+    /// Writes the next item over a row that is lent, where the item is a row that is made in a
+    /// short way: in the memory of that row, and without the room that an error in its place would
+    /// take. False takes nothing and says nothing of the items: `next` tells them. After an
+    /// AllocError all items are still to come. What the lent row was is nothing to what is written;
+    /// unless the answer is true, nothing is said of what it is then.
     #[inline(always)]
-    fn next_row(&mut self) -> Result<Option<DataRow>, AllocError>
-        ensures next { IsNextRow (items self.old) result (items self.new) }
-        ensures sendable { IfOk result (λ found. IfSome found IsSendableRow) }
+    fn next_row(&mut self, _row: &mut DataRow) -> Result<bool, AllocError>
+        ensures next { IsNextRow (items self.old) result _row.new (items self.new) }
+        ensures sendable { result ≡ Ok true → IsSendableRow _row.new }
     {
-        Ok(None)
+        Ok(false)
     }
 }
 

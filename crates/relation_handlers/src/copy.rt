@@ -43,4 +43,10 @@ impl<'r, A: Drop> CopySource for RelationCopy<'r, A> {
     fn next(&mut self) -> Result<Option<Result<CopyData, PgWireError>>, AllocError> {
         CopySource::next(&mut self.lines)
     }
+
+    /// One line in the short way.
+    #[inline(always)]
+    fn next_copied(&mut self, copied: &mut CopyData) -> Result<bool, AllocError> {
+        CopySource::next_copied(&mut self.lines, copied)
+    }
 }

@@ -1,9 +1,9 @@
 //! Rows of relations as lines of a COPY (protocol: COPY Operations).
 
-ghost use Rattle.std.specs.Prelude.{◌≡◌, ◌≤◌, ◌+◌, Ok, Err, IfOk, OnOk, length, map};
+ghost use Rattle.std.specs.Prelude.{◌≡◌, ◌≤◌, ◌+◌, [], true, Ok, Err, IfOk, OnOk, length, map};
 ghost use Rattle.pg_messages.specs.declared.backend.PgWireBackendMessage.TheVariants as server;
 ghost use Rattle.pg_messages.specs.Replies.{IsEncodable};
-ghost use Rattle.pg_portal.specs.Copying.{IsSendableCopy};
+ghost use Rattle.pg_portal.specs.Copying.{IsSendableCopy, IsSendableData};
 ghost use Rattle.pg_portal.specs.Texts.{IsShortText};
 ghost use Rattle.pg_portal.specs.declared.error.PgWireError.TheVariants as wire;
 ghost use Rattle.relation_tables.specs.RelationHandler.{all_or_error, text_of, line_item};
@@ -15,6 +15,7 @@ use pg_messages::{CopyData, PgBytes, PgStr};
 use pg_portal::{PgWireError, push_line_cell};
 use pg_text::IntervalStyle;
 use std::alloc::{AllocError, Global};
+use std::mem;
 
 /// A row as a line, or `InvalidOptionValue` in its place where the session's style isn't one. It
 /// can be sent as a reply.
@@ -34,6 +35,28 @@ pub(crate) fn line_item(
             Err(error) => Err(error),
         },
         Err(text) => line_without_style(alloc, text, row),
+    }
+}
+
+/// Writes a row as a line over data that are lent, where the session's style is one, and answers
+/// whether it is. What is written can be sent as a reply.
+#[inline(always)]
+pub(crate) fn write_line_in_style(
+    alloc: Global,
+    style: &SessionStyle,
+    row: &[Interval],
+    made: &mut CopyData,
+) -> Result<bool, AllocError>
+    requires { length row.now ≤ 1600 }
+    ensures item { result ≡ Ok true → Ok made.new ≡ line_item style.now row.now }
+    ensures sendable { result ≡ Ok true → IsSendableData made.new }
+{
+    match style.or_text() {
+        Ok(style) => {
+            write_line(alloc, style, row, made)?;
+            Ok(true)
+        }
+        Err(_) => Ok(false),
     }
 }
 
@@ -60,7 +83,6 @@ fn line_without_style(
 }
 
 /// A row as a line: its texts in a style, split by tabs and ended by a newline.
-#[inline(always)]
 fn copy_line_of(
     alloc: Global,
     style: IntervalStyle,
@@ -70,27 +92,53 @@ fn copy_line_of(
     ensures item { IfOk result (λ made. Ok made ≡ line_item (Ok style) row.now) }
     ensures encodable { IfOk result (λ made. IsEncodable (server.CopyData made)) }
 {
-    let mut payload = line_texts(alloc, style, row)?;
-    payload.extend_from_slice(b"\n")?;
-    Ok(CopyData {
-        payload: PgBytes::from_vec(payload),
-    })
+    let mut made = CopyData {
+        payload: PgBytes::from_vec(Vec::new(alloc)),
+    };
+    write_line(alloc, style, row, &mut made)?;
+    Ok(made)
 }
 
-/// The texts of a row, split by tabs. There is room for them, each of at most 96 bytes, and for the
-/// newline.
+/// Writes a row as a line over data that are lent, in their memory.
 #[inline(always)]
-fn line_texts(alloc: Global, style: IntervalStyle, row: &[Interval]) -> Result<Vec<u8>, AllocError>
+fn write_line(
+    alloc: Global,
+    style: IntervalStyle,
+    row: &[Interval],
+    made: &mut CopyData,
+) -> Result<(), AllocError>
     requires { length row.now ≤ 1600 }
-    ensures texts { IfOk result (λ payload. Ok payload.items
-        ≡ tab_joined (all_or_error (map (text_of (Ok style)) row.now))) }
-    ensures short { IfOk result (λ payload. length payload.items ≤ 6560000) }
+    ensures item { OnOk result (Ok made.new ≡ line_item (Ok style) row.now) }
+    ensures encodable { OnOk result (IsEncodable (server.CopyData made.new)) }
 {
-    let mut payload = Vec::with_capacity(alloc, 97 * row.len() + 1)?;
+    let none = PgBytes::from_vec(Vec::new(alloc));
+    let mut payload = mem::replace(&mut made.payload, none).into_vec();
+    payload.clear();
+    push_texts(&mut payload, style, row)?;
+    payload.extend_from_slice(b"\n")?;
+    made.payload = PgBytes::from_vec(payload);
+    Ok(())
+}
+
+/// Writes the texts of a row, split by tabs. There is room for them, each of at most 96 bytes, and
+/// for the newline.
+#[inline(always)]
+fn push_texts(
+    payload: &mut Vec<u8>,
+    style: IntervalStyle,
+    row: &[Interval],
+) -> Result<(), AllocError>
+    requires empty { payload.old.items ≡ [] }
+    requires narrow { length row.now ≤ 1600 }
+    ensures texts { OnOk result (Ok payload.new.items
+        ≡ tab_joined (all_or_error (map (text_of (Ok style)) row.now))) }
+    ensures short { OnOk result (length payload.new.items ≤ 6560000) }
+{
+    payload.reserve(97 * row.len() + 1)?;
     for (index, interval) in row.iter().enumerate() {
-        push_cell(&mut payload, style, index, interval)?;
+        push_cell(payload, style, index, interval)?;
     }
-    Ok(payload)
+    Ok(())
 }
 
 /// Appends the text at an index of a line, behind its tab.

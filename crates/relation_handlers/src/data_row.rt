@@ -1,6 +1,6 @@
 //! Rows of relations as the protocol sends them (protocol: Message Formats, DataRow).
 
-ghost use Rattle.std.specs.Prelude.{◌≡◌, ◌≤◌, ◌+◌, ◌++◌, [], Some, Ok, Err, IfOk, IfSome, OnOk, length, map, zip};
+ghost use Rattle.std.specs.Prelude.{◌≡◌, ◌≤◌, ◌+◌, ◌++◌, [], true, Some, Ok, Err, IfOk, OnOk, length, map, zip};
 ghost use Rattle.std.specs.List.{list_any};
 ghost use Rattle.pg_interval.specs.Printed.{printed};
 ghost use Rattle.pg_text.specs.Words.{printed_style};
@@ -20,6 +20,7 @@ use pg_messages::{DataRow, PgBytes, PgStr};
 use pg_portal::{PgWireError, push_cell, push_cell_of_sixteen};
 use pg_text::{FieldFormat, IntervalStyle};
 use std::alloc::{AllocError, Global};
+use std::mem;
 
 /// A row in these formats, one for each column, or `InvalidOptionValue` in its place where a column
 /// is text and the session's style isn't one. It can be sent as a reply.
@@ -44,26 +45,27 @@ pub(crate) fn row_item(
     }
 }
 
-/// A row in these formats, or None where the session's style isn't one. It can be sent as a reply.
+/// Writes a row in these formats over one that is lent, where the session's style is one, and
+/// answers whether it is. What is written can be sent as a reply.
 #[inline(always)]
-pub(crate) fn row_in_style(
+pub(crate) fn write_in_style(
     alloc: Global,
     style: &SessionStyle,
     formats: &[FieldFormat],
     row: &[Interval],
-) -> Result<Option<DataRow>, AllocError>
+    made: &mut DataRow,
+) -> Result<bool, AllocError>
     requires same { length formats.now ≡ length row.now }
     requires narrow { length row.now ≤ 1600 }
-    ensures item { IfOk result (λ found. IfSome found (λ made.
-        Ok made ≡ row_item style.now formats.now row.now)) }
-    ensures sendable { IfOk result (λ found. IfSome found IsSendableRow) }
+    ensures item { result ≡ Ok true → Ok made.new ≡ row_item style.now formats.now row.now }
+    ensures sendable { result ≡ Ok true → IsSendableRow made.new }
 {
     match style.or_text() {
-        Ok(style) => match data_row_of(alloc, style, formats, row) {
-            Ok(row) => Ok(Some(row)),
-            Err(error) => Err(error),
-        },
-        Err(_) => Ok(None),
+        Ok(style) => {
+            write_row(alloc, style, formats, row, made)?;
+            Ok(true)
+        }
+        Err(_) => Ok(false),
     }
 }
 
@@ -92,7 +94,6 @@ fn item_without_style(
 }
 
 /// A row in these formats, whose texts are in a style.
-#[inline(always)]
 fn data_row_of(
     alloc: Global,
     style: IntervalStyle,
@@ -104,11 +105,35 @@ fn data_row_of(
     ensures item { IfOk result (λ made. Ok made ≡ row_item (Ok style) formats.now row.now) }
     ensures encodable { IfOk result (λ made. IsEncodable (server.DataRow made)) }
 {
-    let payload = row_values(alloc, style, formats, row)?;
-    Ok(DataRow {
-        payload: PgBytes::from_vec(payload),
-        field_count: row.len() as i16,
-    })
+    let mut made = DataRow {
+        payload: PgBytes::from_vec(Vec::new(alloc)),
+        field_count: 0,
+    };
+    write_row(alloc, style, formats, row, &mut made)?;
+    Ok(made)
+}
+
+/// Writes a row in these formats, whose texts are in a style, over one that is lent, in its memory.
+#[inline(always)]
+fn write_row(
+    alloc: Global,
+    style: IntervalStyle,
+    formats: &[FieldFormat],
+    row: &[Interval],
+    made: &mut DataRow,
+) -> Result<(), AllocError>
+    requires same { length formats.now ≡ length row.now }
+    requires narrow { length row.now ≤ 1600 }
+    ensures item { OnOk result (Ok made.new ≡ row_item (Ok style) formats.now row.now) }
+    ensures encodable { OnOk result (IsEncodable (server.DataRow made.new)) }
+{
+    let none = PgBytes::from_vec(Vec::new(alloc));
+    let mut payload = mem::replace(&mut made.payload, none).into_vec();
+    payload.clear();
+    push_values(&mut payload, style, formats, row)?;
+    made.payload = PgBytes::from_vec(payload);
+    made.field_count = row.len() as i16;
+    Ok(())
 }
 
 /// Whether one of the formats is text.
@@ -120,37 +145,37 @@ fn have_text(formats: &[FieldFormat]) -> bool
         .any(|format| matches!(format, FieldFormat::Text))
 }
 
-/// The values of a row, one after another.
+/// Writes the values of a row, one after another.
 #[inline(always)]
-fn row_values(
-    alloc: Global,
+fn push_values(
+    payload: &mut Vec<u8>,
     style: IntervalStyle,
     formats: &[FieldFormat],
     row: &[Interval],
-) -> Result<Vec<u8>, AllocError>
+) -> Result<(), AllocError>
+    requires empty { payload.old.items ≡ [] }
     requires same { length formats.now ≡ length row.now }
     requires narrow { length row.now ≤ 1600 }
-    ensures values { IfOk result (λ payload. Ok payload.items
+    ensures values { OnOk result (Ok payload.new.items
         ≡ joined (all_or_error (map (λ p. value (Ok style) p.0 p.1) (zip formats.now row.now)))) }
-    ensures short { IfOk result (λ payload. length payload.items ≤ 6560000) }
+    ensures short { OnOk result (length payload.new.items ≤ 6560000) }
 {
-    let mut payload = empty_payload(alloc, formats)?;
+    payload.reserve(room_for(formats))?;
     for (index, interval) in row.iter().enumerate() {
-        push_value(&mut payload, style, formats[index], interval)?;
+        push_value(payload, style, formats[index], interval)?;
     }
-    Ok(payload)
+    Ok(())
 }
 
-/// No value yet, with room for those of a row: a binary value has 20 bytes, and a text with its
-/// length at most 100. The first column's format decides, since mostly all are alike.
+/// Room for the values of a row: a binary value has 20 bytes, and a text with its length at most
+/// 100. The first column's format decides, since mostly all are alike.
 #[inline(always)]
-fn empty_payload(alloc: Global, formats: &[FieldFormat]) -> Result<Vec<u8>, AllocError>
+fn room_for(formats: &[FieldFormat]) -> usize
     requires { length formats.now ≤ 1600 }
-    ensures { IfOk result (λ payload. payload.items ≡ []) }
 {
     match formats.first() {
-        Some(FieldFormat::Binary) => Vec::with_capacity(alloc, 20 * formats.len()),
-        _ => Vec::with_capacity(alloc, 100 * formats.len()),
+        Some(FieldFormat::Binary) => 20 * formats.len(),
+        _ => 100 * formats.len(),
     }
 }
 

@@ -7,8 +7,8 @@ ghost use Rattle.relation_tables.specs.Relations.{relation_at};
 ghost use Rattle.relation_tables.specs.RelationHandler.{column_formats};
 ghost use Rattle.relation_handlers.specs.Made.{ToldMaker, GivesFormats, relation_of, row_items, style_in};
 
-use crate::copy_line::line_item;
-use crate::data_row::{row_in_style, row_item};
+use crate::copy_line::{line_item, write_line_in_style};
+use crate::data_row::{row_item, write_in_style};
 use crate::style::SessionStyle;
 use crate::table::RelationTable;
 use pg_interval::Interval;
@@ -139,9 +139,9 @@ impl<'r> RowMaker for RelationRows<'r> {
 
     /// The row at an index, where the session's style is one.
     #[inline(always)]
-    fn make_row(&self, index: usize) -> Result<Option<DataRow>, AllocError> {
+    fn make_row(&self, index: usize, made: &mut DataRow) -> Result<bool, AllocError> {
         let formats = self.each_format.as_slice();
-        row_in_style(self.alloc, &self.style, formats, self.row(index))
+        write_in_style(self.alloc, &self.style, formats, self.row(index), made)
     }
 }
 
@@ -158,5 +158,11 @@ impl<'r> CopyMaker for RelationRows<'r> {
     /// The line at an index.
     fn make_data(&self, index: usize) -> Result<Result<CopyData, PgWireError>, AllocError> {
         line_item(self.alloc, &self.style, self.row(index))
+    }
+
+    /// The line at an index, where the session's style is one.
+    #[inline(always)]
+    fn make_copied(&self, index: usize, made: &mut CopyData) -> Result<bool, AllocError> {
+        write_line_in_style(self.alloc, &self.style, self.row(index), made)
     }
 }

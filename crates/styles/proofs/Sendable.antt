@@ -1,5 +1,5 @@
 -- What the handlers of styles tell can be sent as replies.
-use Rattle.std.proofs.Common.{◌≡◌, ℕ, ◌≤◌, IsTrue, List, [], ◌∷◌, ◌++◌, Option, Some, None, Result, Ok, Err, length, codes, refl, arith, inr, subst, slice_get, length-append}
+use Rattle.std.proofs.Common.{◌≡◌, ℕ, ◌≤◌, IsTrue, List, [], ◌∷◌, ◌++◌, Option, Some, None, Result, Ok, Err, length, codes, refl, arith, inr, subst, length-append}
 use Rattle.pg_interval.specs.declared.pg_interval.Interval.{Interval}
 use Rattle.pg_interval.specs.declared.interval_parse.parse_error.IntError.TheVariants as integer
 use Rattle.pg_interval.specs.declared.interval_parse.parse_error.DecimalError.TheVariants as decimal
@@ -15,21 +15,15 @@ use Rattle.pg_text.specs.declared.field_format.FieldFormat.{FieldFormat}
 use Rattle.pg_text.specs.declared.field_format.FieldFormat.TheVariants as field
 use Rattle.pg_text.specs.declared.format.interval_style.IntervalStyle.{IntervalStyle}
 use Rattle.pg_text.specs.declared.format.interval_style.IntervalStyle.TheVariants as style
-use Rattle.pg_portal.specs.Formats.{format_for}
-use Rattle.pg_portal.specs.Rows.{IsAnswerable, IsItemError}
-use Rattle.pg_portal.specs.Told.{BoundPortal}
+use Rattle.pg_portal.specs.Rows.{IsAnswerableItem, IsItemError}
 use Rattle.pg_portal.specs.declared.error.PgWireError.{PgWireError}
 use Rattle.pg_portal.specs.declared.portal.Format.{Format}
-use Rattle.pg_portal.specs.declared.portal.Format.TheVariants as format
-use Rattle.pg_handlers.specs.Good.{AreSendable, IsSendableOutcome}
 use Rattle.pg_handlers.specs.Replies.{row_description}
-use Rattle.pg_handlers.proofs.Encodable.{HasNoZero-append, by_test, has_no_zero, select_is_tag}
+use Rattle.pg_handlers.proofs.Encodable.{HasNoZero-append, by_test, has_no_zero}
 use Rattle.pg_handlers.proofs.ErrorTexts.{tellable_error}
-use Rattle.styles.specs.declared.parser.StylesStatement.{StylesStatement}
-use Rattle.styles.specs.declared.parser.StylesStatement.TheVariants as statement
+use Rattle.row_handlers.specs.Answers.{format_at}
 use Rattle.styles.specs.Reading.{interval_given, interval_in, interval_of, no_interval, or_refused, reason, refused, style_of}
-use Rattle.styles.specs.Rows.{column, columns, format_at}
-use Rattle.styles.specs.Told.{alone, answer_of, interval_asked, interval_under}
+use Rattle.styles.specs.Rows.{column, columns}
 
 -- ---- columns
 
@@ -92,15 +86,13 @@ reason_plain cell.NoMemory = plain _ (omega arith) refl
 
 refused_item : (reader : List ℕ) → IsPlain reader → (cause : CellError) → IsItemError (refused reader cause)
 refused_item reader r cause =
-    let x = codes "no interval in " in let y = codes ": " in let q = reason_plain cause in
-    let a = length-append ((x ++ reader) ++ y) (reason cause) in
-    let b = length-append (x ++ reader) y in let e = length-append x reader in
+    let x = codes "no interval in " in let y = codes ": " in let why = y ++ reason cause in let q = reason_plain cause in
+    let a = length-append x (reader ++ why) in let b = length-append reader why in let e = length-append y (reason cause) in
     let short = r.short in let few = q.short in
     record {
-      tellable = tellable_error (codes "22007") (((x ++ reader) ++ y) ++ reason cause) (omega arith) (by_test (codes "22007") refl)
-          (omega arith)
-          (HasNoZero-append ((x ++ reader) ++ y) (reason cause)
-          (HasNoZero-append (x ++ reader) y (HasNoZero-append x reader (by_test x refl) r.clean) (by_test y refl)) q.clean);
+      tellable = tellable_error (codes "22007") (x ++ (reader ++ why)) (omega arith) (by_test (codes "22007") refl) (omega arith)
+          (HasNoZero-append x (reader ++ why) (by_test x refl)
+          (HasNoZero-append reader why r.clean (HasNoZero-append y (reason cause) (by_test y refl) q.clean)));
       is_own = refl;
     }
 
@@ -139,32 +131,17 @@ parameter_errs format (Some (Some bytes)) = bytes_err format bytes
 parameter_errs format (Some None) = no_interval_item
 parameter_errs format None = no_interval_item
 
--- ---- what is answered
+-- ---- what a client is told of them
 
-sendable_one : (formats : Format) (asked : Result Interval PgWireError) → ErrsAsItem asked → IsSendableOutcome (answer_of formats asked)
-sendable_one formats (Ok i) h = (columns_sendable formats, select_is_tag)
-sendable_one formats (Err e) h = h
-
-sendable_alone : (asked : Result Interval PgWireError) → ErrsAsItem asked → AreSendable (alone (answer_of format.UnifiedText asked))
-sendable_alone (Ok i) h = ((columns_sendable format.UnifiedText, select_is_tag), tt)
-sendable_alone (Err e) h = h
-
-under_errs : (s : StylesStatement) (p : BoundPortal StylesStatement) → ErrsAsItem (interval_under s p)
-under_errs (statement.Interval i) p = tt
-under_errs statement.Parameter p = parameter_errs (format_for p.parameter_format 0) (slice_get p.parameters 0)
-
-pub simple_sendable : (text : List ℕ) → AreSendable (alone (answer_of format.UnifiedText (interval_of text)))
-simple_sendable text = sendable_alone (interval_of text) (text_errs text)
-
-pub extended_sendable : (p : BoundPortal StylesStatement)
-    → IsSendableOutcome (answer_of p.result_column_format (interval_asked p))
-extended_sendable p = sendable_one p.result_column_format (interval_asked p) (under_errs p.statement.statement p)
-
-error_answerable : (asked : Result Interval PgWireError) (e : PgWireError) → ErrsAsItem asked → asked ≡ Err e → IsAnswerable e
-error_answerable (Ok i) e h same = cc
-error_answerable (Err d) e h same =
+errs_answerable : (asked : Result Interval PgWireError) (e : PgWireError) → ErrsAsItem asked → asked ≡ Err e → IsAnswerableItem e
+errs_answerable (Ok i) e h same = cc
+errs_answerable (Err d) e h same =
     let told : d ≡ e = cc in
-    subst IsAnswerable told (inr h.tellable)
+    subst IsAnswerableItem told (inr h)
 
-pub meaning_answerable : (text : List ℕ) (e : PgWireError) → interval_of text ≡ Err e → IsAnswerable e
-meaning_answerable text e same = error_answerable (interval_of text) e (text_errs text) same
+pub text_answerable : (text : List ℕ) (e : PgWireError) → interval_of text ≡ Err e → IsAnswerableItem e
+text_answerable text e same = errs_answerable (interval_of text) e (text_errs text) same
+
+pub parameter_answerable : (format : Option FieldFormat) (value : Option (Option (List ℕ))) (e : PgWireError)
+    → interval_given format value ≡ Err e → IsAnswerableItem e
+parameter_answerable format value e same = errs_answerable (interval_given format value) e (parameter_errs format value) same

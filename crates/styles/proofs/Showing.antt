@@ -5,9 +5,9 @@ use Rattle.pg_interval.specs.Reading.{Style, Postgres, PostgresVerbose, Iso8601,
 use Rattle.pg_interval.specs.declared.pg_interval.Interval.{Interval}
 use Rattle.pg_portal.specs.declared.error.PgWireError.{PgWireError}
 use Rattle.pg_portal.specs.declared.portal.Format.{Format}
-use Rattle.pg_portal.specs.declared.portal.Format.TheVariants as format
-use Rattle.styles.specs.Rows.{Shows, row_of}
-use Rattle.styles.specs.Told.{AreAnsweredBy, IsAnsweredBy, alone, answer_of}
+use Rattle.row_handlers.specs.Told.{alone, answered, simple_answer}
+use Rattle.styles.specs.Rows.{Shows, columns, row_of}
+use Rattle.styles.specs.Told.{AreAnsweredBy, IsAnsweredBy, rows_of, stated, told_styles}
 
 -- a text that stands for an interval stands for no other
 stands_alone : (style : Style) (text : List ℕ) (i : Interval) → reading style text ≡ Ok i → StandsForOnly style text i
@@ -28,9 +28,9 @@ shows i a b c d = record {
 }
 
 pub answered_one : (formats : Format) (asked : Result Interval PgWireError) (i : Interval) → asked ≡ Ok i → Shows (row_of i) i
-    → IsAnsweredBy formats (answer_of formats asked) i
+    → IsAnsweredBy formats (answered (columns formats) (rows_of asked)) i
 answered_one formats asked i same h = (row_of i, rw same refl, h)
 
-pub answered_alone : (asked : Result Interval PgWireError) (i : Interval) → asked ≡ Ok i → Shows (row_of i) i
-    → AreAnsweredBy (alone (answer_of format.UnifiedText asked)) i
-answered_alone asked i same h = (row_of i, rw same refl, h)
+pub answered_alone : (read : Result Interval PgWireError) (i : Interval) → read ≡ Ok i → Shows (row_of i) i
+    → AreAnsweredBy (alone (simple_answer told_styles (stated read))) i
+answered_alone read i same h = (row_of i, rw same refl, h)

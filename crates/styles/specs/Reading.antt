@@ -33,7 +33,7 @@ reason _ = codes "not UTF-8"
 
 -- the error that tells which reader refused, and why
 abbrev pub refused : List ℕ → CellError → PgWireError
-refused reader cause = wire.UserError (error (codes "22007") (codes "no interval in " ++ reader ++ codes ": " ++ reason cause))
+refused reader cause = wire.UserError (error (codes "22007") (codes "no interval in " ++ (reader ++ (codes ": " ++ reason cause))))
 
 -- what a reader read, or its refusal
 abbrev pub or_refused : List ℕ → Result Interval CellError → Result Interval PgWireError

@@ -1,5 +1,5 @@
 -- The row of an interval: its text in each of PostgreSQL's four styles, under columns of their names.
-use Rattle.std.specs.Prelude.{ℕ, pos, negsuc, List, [], ◌∷◌, Option, Some, None, Ok, ◌≡◌, length, codes, unwrap_or}
+use Rattle.std.specs.Prelude.{ℕ, pos, negsuc, List, [], ◌∷◌, Some, ◌≡◌, length}
 use Rattle.std.specs.List.{flat_map}
 use Rattle.pg_interval.specs.Printed.{printed}
 use Rattle.pg_interval.specs.Reading.{Style, Postgres, PostgresVerbose, Iso8601, SqlStandard, StandsForOnly}
@@ -7,24 +7,17 @@ use Rattle.pg_interval.specs.declared.pg_interval.Interval.{Interval}
 use Rattle.pg_messages.specs.declared.data.DataRow.{DataRow}
 use Rattle.pg_text.specs.Words.{interval_style_name}
 use Rattle.pg_text.specs.declared.field_format.FieldFormat.{FieldFormat}
-use Rattle.pg_text.specs.declared.field_format.FieldFormat.TheVariants as field
 use Rattle.pg_text.specs.declared.format.interval_style.IntervalStyle.{IntervalStyle}
 use Rattle.pg_text.specs.declared.format.interval_style.IntervalStyle.TheVariants as style
 use Rattle.pg_text.specs.declared.pg_type.PgType.TheVariants as type
 use Rattle.pg_portal.specs.Encoding.{cell_bytes}
-use Rattle.pg_portal.specs.Fields.{Field, plain_field}
-use Rattle.pg_portal.specs.Formats.{format_for}
-use Rattle.pg_portal.specs.Responses as response
-use Rattle.pg_portal.specs.Responses.{ToldResponse}
+use Rattle.pg_portal.specs.Fields.{Field}
 use Rattle.pg_portal.specs.declared.portal.Format.{Format}
+use Rattle.row_handlers.specs.Answers.{column_of, format_at}
 
 -- the column of a style, of type text, whose bytes are the same in both formats
 abbrev pub column : FieldFormat → IntervalStyle → Field
-column f s = record (plain_field (interval_style_name s) None None type.Text f) { type_size = negsuc 0 }
-
--- the format of a column; text where there is none
-abbrev pub format_at : Format → ℕ → FieldFormat
-format_at formats index = unwrap_or (format_for formats index) field.Text
+column f s = column_of f (interval_style_name s) type.Text (negsuc 0)
 
 abbrev pub columns : Format → List Field
 columns formats = column (format_at formats 0) style.Postgres ∷ column (format_at formats 1) style.PostgresVerbose
@@ -52,10 +45,3 @@ pub record Shows (row : DataRow) (i : Interval) : Type 0 where
   pub verbose_stands : StandsForOnly PostgresVerbose verbose i
   pub iso_stands : StandsForOnly Iso8601 iso i
   pub sql_stands : StandsForOnly SqlStandard sql i
-
--- one row under its columns
-abbrev pub one_row : Format → DataRow → ToldResponse
-one_row formats row = response.Query (record { command_tag = codes "SELECT"; fields = columns formats; items = Ok row ∷ [] })
-
-abbrev pub response_of : Format → Interval → ToldResponse
-response_of formats i = one_row formats (row_of i)

@@ -8,8 +8,9 @@ ghost use Rattle.pg_portal.specs.declared.client.ClientInfo.{ClientInfo};
 ghost use Rattle.pg_portal.specs.declared.portal.Format.TheVariants as format;
 ghost use Rattle.query_texts.specs.QueryTexts.{trimmed};
 ghost use Rattle.styles.specs.Reading.{interval_of};
-ghost use Rattle.styles.specs.Told.{IsAnsweredBy, AreAnsweredBy, interval_asked, told_extended, told_simple};
-ghost use Rattle.styles.specs.declared.parser.StylesStatement.{StylesStatement};
+ghost use Rattle.row_handlers.specs.Told.{told_extended, told_simple};
+ghost use Rattle.styles.specs.Told.{IsAnsweredBy, AreAnsweredBy, interval_asked, told_styles};
+ghost use Rattle.styles.specs.declared.answers.StylesStatement.{StylesStatement};
 
 use pg_interval::printed_texts_are_read_back;
 
@@ -18,10 +19,10 @@ use pg_interval::printed_texts_are_read_back;
 pub fn each_cell_stands_for_its_query()
     ensures simple { (client : ClientInfo) (query : List ℕ) (i : Interval) → IsInterval i
         → interval_of (trimmed query) ≡ Ok i
-        → AreAnsweredBy (told_simple client query).outcome i }
+        → AreAnsweredBy (told_simple told_styles client query).outcome i }
     ensures extended { (client : ClientInfo) (p : BoundPortal StylesStatement) (limit : ℤ)
         (i : Interval) → IsInterval i → interval_asked p ≡ Ok i
-        → IsAnsweredBy p.result_column_format (told_extended.query client p limit).outcome i }
+        → IsAnsweredBy p.result_column_format ((told_extended told_styles).query client p limit).outcome i }
 {
     printed_texts_are_read_back();
 }

@@ -2,12 +2,10 @@
 //! that interval in each of PostgreSQL's four styles.
 #![tactic(auto)]
 
-mod handlers;
+mod answers;
 mod laws;
-mod parser;
 mod reading;
 mod rows;
 
-pub use handlers::StylesHandler;
+pub use answers::{Styles, StylesStatement};
 pub use laws::each_cell_stands_for_its_query;
-pub use parser::{StylesParser, StylesStatement};

@@ -5,25 +5,22 @@ ghost use Rattle.std.specs.List.{list_any};
 ghost use Rattle.std.specs.Option.{option_copied};
 ghost use Rattle.pg_interval.specs.Texts.{is_letter};
 ghost use Rattle.pg_text.specs.Words.{interval_style_name};
-ghost use Rattle.pg_portal.specs.Errors.{error};
-ghost use Rattle.pg_portal.specs.declared.error.PgWireError.TheVariants as wire;
-ghost use Rattle.styles.specs.Reading.{style_of, reason, refused, or_refused, interval_of, interval_given};
+ghost use Rattle.pg_portal.specs.Told.{IsOutcome};
+ghost use Rattle.styles.specs.Reading.{style_of, reason, or_refused, interval_of, interval_given};
 
 use pg_interval::Interval;
-use pg_messages::{ErrorInfo, PgBytes, PgStr};
+use pg_messages::PgBytes;
 use pg_portal::PgWireError;
 use pg_text::{CellError, FieldFormat, FromSql, IntervalStyle, PgType};
+use row_handlers::user_error;
 use std::alloc::{AllocError, Global};
 
-/// The interval that a text stands for, or what a client is told of its refusal.
-pub(crate) fn read_interval(
-    alloc: Global,
-    text: &[u8],
-) -> Result<Result<Interval, PgWireError>, AllocError>
-    ensures { IfOk result (λ answer. answer ≡ interval_of text.now) }
+/// The interval that a text stands for.
+pub(crate) fn read_interval(alloc: Global, text: &[u8]) -> Result<Interval, PgWireError>
+    ensures { IsOutcome (interval_of text.now) result }
 {
-    let style = style_of(text);
-    or_refused(alloc, name_of(style), style.read(text))
+    let (style, name) = style_of(text);
+    or_refused(alloc, name, style.read(text))
 }
 
 /// The interval that a parameter stands for: by its text, or by its sixteen bytes where its format
@@ -32,12 +29,12 @@ pub(crate) fn read_parameter(
     alloc: Global,
     format: Option<FieldFormat>,
     value: Option<&Option<PgBytes>>,
-) -> Result<Result<Interval, PgWireError>, AllocError>
-    ensures { IfOk result (λ answer. answer ≡ interval_given format (option_copied value.entry)) }
+) -> Result<Interval, PgWireError>
+    ensures { IsOutcome (interval_given format (option_copied value.entry)) result }
 {
     match (format, value) {
         (_, Some(None)) | (_, None) => {
-            Ok(Err(error(alloc, "22004", "there is no interval for $1")?))
+            Err(user_error(alloc, "22004", "there is no interval for $1")?)
         }
         (Some(FieldFormat::Binary), Some(Some(bytes))) => {
             let read = <Interval as FromSql>::from_sql(PgType::Interval, bytes.as_slice());
@@ -47,16 +44,17 @@ pub(crate) fn read_parameter(
     }
 }
 
-/// The style that a text is read in: `@` begins one of postgres_verbose and `P` one of iso_8601;
-/// any other with a letter is one of postgres, and one without of sql_standard.
-fn style_of(text: &[u8]) -> IntervalStyle
-    ensures { result ≡ style_of text.now }
+/// The style that a text is read in, and its name: `@` begins one of postgres_verbose and `P` one of
+/// iso_8601; any other with a letter is one of postgres, and one without of sql_standard.
+fn style_of(text: &[u8]) -> (IntervalStyle, &'static str)
+    ensures style { result.0 ≡ style_of text.now }
+    ensures name { result.1.now ≡ interval_style_name (style_of text.now) }
 {
     match text {
-        [b'@', ..] => IntervalStyle::PostgresVerbose,
-        [b'P', ..] => IntervalStyle::ISO8601,
-        _ if has_letter(text) => IntervalStyle::Postgres,
-        _ => IntervalStyle::SQLStandard,
+        [b'@', ..] => (IntervalStyle::PostgresVerbose, "postgres_verbose"),
+        [b'P', ..] => (IntervalStyle::ISO8601, "iso_8601"),
+        _ if has_letter(text) => (IntervalStyle::Postgres, "postgres"),
+        _ => (IntervalStyle::SQLStandard, "sql_standard"),
     }
 }
 
@@ -67,41 +65,22 @@ fn has_letter(text: &[u8]) -> bool
     text.iter().any(|byte| byte.is_ascii_alphabetic())
 }
 
-/// The name of a style.
-pub(crate) fn name_of(style: IntervalStyle) -> &'static str
-    ensures { result.now ≡ interval_style_name style }
-{
-    match style {
-        IntervalStyle::Postgres => "postgres",
-        IntervalStyle::ISO8601 => "iso_8601",
-        IntervalStyle::SQLStandard => "sql_standard",
-        IntervalStyle::PostgresVerbose => "postgres_verbose",
-    }
-}
-
-/// What was read, or what a client is told of its refusal.
+/// What was read, or the error that tells which reader refused, and why.
 fn or_refused(
     alloc: Global,
     reader: &str,
     read: Result<Interval, CellError>,
-) -> Result<Result<Interval, PgWireError>, AllocError>
-    ensures { IfOk result (λ answer. answer ≡ or_refused reader.now read) }
+) -> Result<Interval, PgWireError>
+    ensures { IsOutcome (or_refused reader.now read) result }
 {
     match read {
-        Ok(interval) => Ok(Ok(interval)),
-        Err(cause) => Ok(Err(refused(alloc, reader, &cause)?)),
+        Ok(interval) => Ok(interval),
+        Err(cause) => {
+            let reason = reason(alloc, &cause)?;
+            let message = format!(in alloc; "no interval in {reader}: {reason}")?;
+            Err(user_error(alloc, "22007", message.as_str())?)
+        }
     }
-}
-
-/// The error that tells which reader refused, and why.
-fn refused(alloc: Global, reader: &str, cause: &CellError) -> Result<PgWireError, AllocError>
-    ensures { IfOk result (λ e. e ≡ refused reader.now cause.now) }
-{
-    let mut message = String::from_str(alloc, "no interval in ")?;
-    message.push_str(reader)?;
-    message.push_str(": ")?;
-    message.push_str(reason(alloc, cause)?.as_str())?;
-    error(alloc, "22007", message.as_str())
 }
 
 /// Why a reader refused.
@@ -113,15 +92,4 @@ fn reason(alloc: Global, cause: &CellError) -> Result<String, AllocError>
         CellError::ShortCell => String::from_str(alloc, "fewer than sixteen bytes"),
         _ => String::from_str(alloc, "not UTF-8"),
     }
-}
-
-/// The error of this code and message.
-fn error(alloc: Global, code: &str, message: &str) -> Result<PgWireError, AllocError>
-    ensures { IfOk result (λ e. e ≡ wire.UserError (error code.now message.now)) }
-{
-    Ok(PgWireError::UserError(ErrorInfo::new(
-        PgStr::copy_of(alloc, "ERROR")?,
-        PgStr::copy_of(alloc, code)?,
-        PgStr::copy_of(alloc, message)?,
-    )))
 }

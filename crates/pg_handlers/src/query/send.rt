@@ -29,8 +29,8 @@ ghost use Rattle.pg_handlers.specs.Telling.{IsToldSo};
 use itoa::Buffer;
 use pg_messages::{
     CommandComplete, CopyBothResponse, CopyData, CopyDone, CopyInResponse, CopyOutResponse,
-    DataRow, FieldDescription, NoData, ParameterDescription, PgList, PgStr, PgWireBackendMessage,
-    PortalSuspended, ReadyForQuery, RowDescription, TransactionStatus,
+    DataRow, FieldDescription, NoData, ParameterDescription, PgBytes, PgList, PgStr,
+    PgWireBackendMessage, PortalSuspended, ReadyForQuery, RowDescription, TransactionStatus,
 };
 use pg_outbox::Outbox;
 use pg_portal::{
@@ -110,7 +110,7 @@ fn tag_with_rows(alloc: Global, command: &str, rows: u64) -> Result<PgStr, Alloc
     text.push_str(command)?;
     text.push_str(" ")?;
     text.push_str(digits.format(rows))?;
-    PgStr::copy_of(alloc, text.as_str())
+    Ok(PgStr::from_string(text))
 }
 
 /// The descriptions of columns.
@@ -265,8 +265,8 @@ impl<'a> RowReceiver for RowSender<'a> {
 
     /// Appends DataRow.
     #[inline(always)]
-    fn receive(&mut self, row: DataRow) -> Result<(), AllocError> {
-        self.outbox.push_row(&row)
+    fn receive(&mut self, _alloc: Global, row: &DataRow) -> Result<(), AllocError> {
+        self.outbox.push_row(row)
     }
 
     ghost none = { λ sender. ap (λ now. record sender
@@ -315,7 +315,7 @@ pub(crate) fn send_next_page<R: RowSource>(
     ensures begins { length outbox.old ≤ length outbox.new }
     ensures kept { take (length outbox.old) outbox.new ≡ outbox.old }
 {
-    let page = deliver_to(outbox, &mut results.data_rows, delivered, max_rows)?;
+    let page = deliver_to(alloc, outbox, &mut results.data_rows, delivered, max_rows)?;
     // A length is a usize, and the rows are no more than their bytes, so that their number doesn't
     // stand still.
     let _waiting = outbox.len();
@@ -325,6 +325,7 @@ pub(crate) fn send_next_page<R: RowSource>(
 
 /// Appends the rows of the next page, as `deliver_page` delivers them.
 fn deliver_to<R: RowSource>(
+    alloc: Global,
     outbox: &mut Outbox,
     rows: &mut R,
     delivered: u64,
@@ -344,7 +345,7 @@ fn deliver_to<R: RowSource>(
     ensures own { IfErr result IsAnswerableItem }
 {
     let mut sender = RowSender { outbox };
-    let page = deliver_page(rows, &mut sender, delivered, max_rows)?;
+    let page = deliver_page(alloc, rows, &mut sender, delivered, max_rows)?;
     Ok(page)
 }
 
@@ -466,13 +467,13 @@ fn next_trailer(
 }
 
 /// Appends data of a COPY and counts them: empty data are skipped, and the trailer isn't counted.
-fn push_data(outbox: &mut Outbox, copied: CopyData, count: usize) -> Result<usize, AllocError>
-    requires encodable { IsEncodable (server.CopyData copied) }
+fn push_data(outbox: &mut Outbox, copied: &CopyData, count: usize) -> Result<usize, AllocError>
+    requires encodable { IsEncodable (server.CopyData copied.now) }
     requires fewer { count ≤ length outbox.old }
     ensures pushed { OnOk result
-        (outbox.new ≡ outbox.old ++ replies_bytes (copy_replies (not_empty (copied ∷ [])))) }
+        (outbox.new ≡ outbox.old ++ replies_bytes (copy_replies (not_empty (copied.now ∷ [])))) }
     ensures err { OnErr result (outbox.new ≡ outbox.old) }
-    ensures counted { IfOk result (λ all. all ≡ count + copy_count (not_empty (copied ∷ []))) }
+    ensures counted { IfOk result (λ all. all ≡ count + copy_count (not_empty (copied.now ∷ []))) }
     ensures fewer { IfOk result (λ all. all ≤ length outbox.new) }
 {
     let bytes = copied.payload.as_slice();
@@ -480,7 +481,7 @@ fn push_data(outbox: &mut Outbox, copied: CopyData, count: usize) -> Result<usiz
         return Ok(count);
     }
     let is_trailer = bytes == [255, 255].as_slice();
-    outbox.push_copied(&copied)?;
+    outbox.push_copied(copied)?;
     // A length is a usize, so that the count, which is no larger, doesn't wrap.
     let _waiting = outbox.len();
     if is_trailer {
@@ -489,7 +490,8 @@ fn push_data(outbox: &mut Outbox, copied: CopyData, count: usize) -> Result<usiz
     Ok(count + 1)
 }
 
-/// Appends the data of a COPY, and answers how many count.
+/// Appends the data of a COPY, and answers how many count. Data that are made in the short way
+/// share their memory.
 fn send_copy_data<C: CopySource>(
     alloc: Global,
     outbox: &mut Outbox,
@@ -502,12 +504,38 @@ fn send_copy_data<C: CopySource>(
     ensures answerable { IfErr result IsAnswerableItem }
     ensures kept { take (length outbox.old) outbox.new ≡ outbox.old }
 {
+    let mut copied = CopyData {
+        payload: PgBytes::from_vec(Vec::new(alloc)),
+    };
+    send_copy_through(alloc, outbox, resp, &mut copied)
+}
+
+/// Appends the data of a COPY, as `send_copy_data`, which are lent these.
+#[inline(always)]
+fn send_copy_through<C: CopySource>(
+    alloc: Global,
+    outbox: &mut Outbox,
+    resp: &mut CopyResponse<C>,
+    lent: &mut CopyData,
+) -> Result<usize, PgWireError>
+    ensures sent { IfOk result
+        (IsSentData (copy_items (told_copy C.items resp.old)) outbox.old outbox.new) }
+    ensures refused { IfErr result (λ e. (e ≡ PgWireError.NoMemory)
+        ⊎ IsRefusedData (copy_items (told_copy C.items resp.old)) outbox.old outbox.new e) }
+    ensures answerable { IfErr result IsAnswerableItem }
+    ensures kept { take (length outbox.old) outbox.new ≡ outbox.old }
+{
     let mut count = 0;
     loop {
+        // Most data come in the short way.
+        if resp.data_stream.next_copied(lent)? {
+            count = push_data(outbox, lent, count)?;
+            continue;
+        }
         match next_data(alloc, resp)? {
             None => return Ok(count),
             Some(Err(error)) => return Err(error),
-            Some(Ok(copied)) => count = push_data(outbox, copied, count)?,
+            Some(Ok(copied)) => count = push_data(outbox, &copied, count)?,
         }
     }
 }

@@ -1,7 +1,7 @@
 //! Answers that begin a COPY, and the data that the server sends in one.
 
-ghost use Rattle.std.specs.Prelude.{◌≡◌, ◌≤◌, List, IfOk, IfSome};
-ghost use Rattle.pg_portal.specs.Copying.{CopyItem, IsNextCopy, IsSendableCopy, trailer};
+ghost use Rattle.std.specs.Prelude.{◌≡◌, ◌≤◌, List, Ok, true, IfOk, IfSome};
+ghost use Rattle.pg_portal.specs.Copying.{CopyItem, IsNextCopied, IsNextCopy, IsSendableCopy, IsSendableData, trailer};
 
 use crate::error::PgWireError;
 use pg_messages::{CopyData, PgBytes, PgList};
@@ -20,6 +20,19 @@ pub trait CopySource: Drop {
     fn next(&mut self) -> Result<Option<Result<CopyData, PgWireError>>, AllocError>
         ensures next { IsNextCopy (items self.old) result (items self.new) }
         ensures sendable { IfOk result (λ found. IfSome found IsSendableCopy) };
+
+    /// Writes the next item over data that are lent, where the item is data that are made in a
+    /// short way: in their memory, and without the room that an error in their place would take.
+    /// False takes nothing and says nothing of the items: `next` tells them. After an AllocError
+    /// all items are still to come. What the lent data were is nothing to what is written; unless
+    /// the answer is true, nothing is said of what they are then.
+    #[inline(always)]
+    fn next_copied(&mut self, _copied: &mut CopyData) -> Result<bool, AllocError>
+        ensures next { IsNextCopied (items self.old) result _copied.new (items self.new) }
+        ensures sendable { result ≡ Ok true → IsSendableData _copied.new }
+    {
+        Ok(false)
+    }
 }
 
 /// The items of a list.

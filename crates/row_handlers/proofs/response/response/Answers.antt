@@ -1,0 +1,8 @@
+use Rattle.std.proofs.Common.{sym, subst}
+use Rattle.pg_handlers.specs.Good.{IsSendableResponse}
+use Rattle.pg_handlers.proofs.Encodable.{select_is_tag}
+use Rattle.row_handlers.proofs.response.response.Goals as goal
+
+pub returns-clause-sendable : goal.returns-clause-sendable
+returns-clause-sendable g c =
+    subst IsSendableResponse (sym c.in_ok-rows_under.ensures) (c.in_ok-fields.ensures.sendable, select_is_tag)

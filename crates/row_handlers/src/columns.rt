@@ -1,0 +1,40 @@
+//! Columns and rows, made in short.
+
+ghost use Rattle.std.specs.Prelude.{◌≡◌, [], ◌∷◌, Ok, IfOk};
+ghost use Rattle.pg_messages.specs.declared.backend.PgWireBackendMessage.TheVariants as server;
+ghost use Rattle.pg_messages.specs.Replies.{IsEncodable};
+ghost use Rattle.row_handlers.specs.Answers.{column_of, format_at};
+
+use pg_messages::{DataRow, PgList, PgStr};
+use pg_portal::{FieldInfo, Format, ListRows};
+use pg_text::{FieldFormat, PgType};
+use std::alloc::{AllocError, Global};
+
+/// The column of this name at this place, counted from 0: of no table, and in the format of its
+/// place, or text where there is none. A type of varying length has the size -1.
+pub fn column(
+    alloc: Global,
+    formats: &Format,
+    index: usize,
+    name: &str,
+    datatype: PgType,
+    size: i16,
+) -> Result<FieldInfo, AllocError>
+    ensures { IfOk result (λ field.
+        field ≡ column_of (format_at formats.now index) name.now datatype size) }
+{
+    let format = formats.format_for(index).unwrap_or(FieldFormat::Text);
+    let name = PgStr::copy_of(alloc, name)?;
+    let field = FieldInfo::new(alloc, name, None, None, datatype, format)?;
+    Ok(field.with_type_size(size))
+}
+
+/// This row alone.
+pub fn one_row(alloc: Global, row: DataRow) -> Result<ListRows, AllocError>
+    requires { IsEncodable (server.DataRow row) }
+    ensures { IfOk result (λ rows. rows ≡ Ok row ∷ []) }
+{
+    let mut rows = PgList::new(alloc);
+    rows.push(Ok(row))?;
+    Ok(ListRows::new(rows))
+}
