@@ -1,20 +1,24 @@
 -- Bind of a statement: too few codes are refused, and a portal that is bound is good.
-use Rattle.std.proofs.Common.{◌≡◌, ◌<◌, ℕ, ℤ, Bool, true, false, nat_le, List, [], ◌∷◌, ◌⊎◌, inl, inr, None, Result, Ok, Err, length, refl, sym, ap, subst, arith, append-nil, if◌then◌else◌}
+use Rattle.std.proofs.Common.{◌≡◌, ◌<◌, ◌∙◌, ℕ, ℤ, Bool, true, false, nat_le, List, [], ◌∷◌, ◌⊎◌, inl, inr, Option, Some, None, Result, Ok, Err, length, refl, sym, ap, subst, arith, append-nil, if◌then◌else◌}
+use Rattle.std.specs.FinMap as fin
 use Rattle.std.proofs.lemmas.Bool.{le-leb, lt-ltb, le-ltb, leb-true}
 use Rattle.pg_messages.specs.declared.extendedquery.Bind.{Bind}
 use Rattle.pg_portal.specs.declared.error.PgWireError.{PgWireError}
 use Rattle.pg_portal.specs.declared.error.PgWireError.TheVariants as wire
 use Rattle.pg_portal.specs.declared.stmt.StoredStatement.{StoredStatement}
+use Rattle.pg_portal.specs.declared.store.Entry.{Entry}
+use Rattle.pg_portal.specs.declared.store.Entry.TheVariants as entry
 use Rattle.pg_text.specs.declared.field_format.FieldFormat.{FieldFormat}
 use Rattle.pg_text.specs.declared.field_format.FieldFormat.TheVariants as field
 use Rattle.pg_text.specs.Formats.{format_of_code}
 use Rattle.pg_portal.specs.Formats.{format_of, unified}
 use Rattle.pg_portal.specs.Fields.{Field}
 use Rattle.pg_portal.specs.Statements.{bound_by}
-use Rattle.pg_portal.specs.Told.{ParserTold, TablePortal, Unstarted}
-use Rattle.pg_handlers.specs.Effect.{Effect, IsEffect, IsRefusedEffect, Failed}
-use Rattle.pg_handlers.specs.ExtendedRows.{bound_statement, bound_with_columns, bound_portal, HasEnough, IsTooFew}
+use Rattle.pg_portal.specs.Told.{ParserTold, TablePortal, Unstarted, value_under}
+use Rattle.pg_handlers.specs.Effect.{Effect, IsEffect, IsRefusedEffect, Failed, refuses}
+use Rattle.pg_handlers.specs.ExtendedRows.{on_bind, bound, bound_empty, bound_statement, bound_with_columns, bound_portal, HasEnough, IsTooFew}
 use Rattle.pg_handlers.specs.Good.{IsGoodStatement, IsGoodPortal, HasCodes, HasGoodTag}
+use Rattle.pg_handlers.specs.Handlers.{ExtendedTold}
 use Rattle.pg_handlers.specs.State.{State}
 
 one_format : (f : FieldFormat) (columns : Result (List Field) PgWireError) → HasCodes (unified f) columns
@@ -84,6 +88,34 @@ pub bound_enough : {S : Type 0} (parser : ParserTold S) (s : State S) (m : Bind)
 bound_enough parser s m statement enough =
     with_enough s m statement (parser.columns statement.statement None) (nat_le 2 (length m.result_column_format_codes)) refl enough
 
+-- what a Bind comes to where its name leads to a statement
+bound_to : {S : Type 0} (h : ExtendedTold S) (s : State S) (m : Bind) (o : Option (Entry (StoredStatement S))) (statement : StoredStatement S)
+    → value_under o ≡ Some statement → bound h s m o ≡ bound_statement h.parser s m statement
+bound_to h s m None statement e = cc
+bound_to h s m (Some entry.Empty) statement e = cc
+bound_to h s m (Some (entry.Value x)) statement e = let same : x ≡ statement = cc in ap (bound_statement h.parser s m) same
+
 -- none and one code are always enough
 pub few_are_enough : (n : ℕ) (columns : Result (List Field) PgWireError) → n < 2 → HasEnough n columns
 few_are_enough n columns few several = absurd (omega (arith, few, several))
+
+module _ {S : Type 0} (h : ExtendedTold S) (s : State S) (m : Bind) (statement : StoredStatement S)
+    (found : value_under (fin.get s.statements m.statement_name) ≡ Some statement) where
+  -- the statement that stands under the name is bound
+  pub binds : (parser : ParserTold S) (there : StoredStatement S) → parser ≡ h.parser → there ≡ statement
+      → bound_statement parser s m there ≡ on_bind h s m
+  binds parser there i j = ap (λ p. bound_statement p s m there) i ∙ ap (bound_statement h.parser s m) j
+      ∙ sym (bound_to h s m (fin.get s.statements m.statement_name) statement found)
+
+  pub binds_few : (there : StoredStatement S) → length m.result_column_format_codes < 2 → there ≡ statement
+      → bound_portal s m there ≡ on_bind h s m
+  binds_few there few j = sym (bound_enough h.parser s m there (few_are_enough _ _ few)) ∙ binds h.parser there refl j
+
+-- nothing is bound where nothing stands under the name, and an empty portal where an empty statement does
+pub binds_none : {S : Type 0} (h : ExtendedTold S) (s : State S) (m : Bind) → fin.get s.statements m.statement_name ≡ None
+    → refuses s (wire.StatementNotFound m.statement_name) ≡ on_bind h s m
+binds_none h s m e = ap (bound h s m) (sym e)
+
+pub binds_empty : {S : Type 0} (h : ExtendedTold S) (s : State S) (m : Bind) → fin.get s.statements m.statement_name ≡ Some entry.Empty
+    → bound_empty s m ≡ on_bind h s m
+binds_empty h s m e = ap (bound h s m) (sym e)

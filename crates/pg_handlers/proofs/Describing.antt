@@ -1,27 +1,26 @@
--- Describe of an empty statement.
-use Rattle.std.proofs.Common.{◌≡◌, ℕ, List, ◌++◌, true, Option, Some, refl, sym, ap, ◌∙◌}
+-- Describe of an empty statement, and of an empty portal.
+use Rattle.std.proofs.Common.{◌≡◌, ℕ, List, ◌++◌, true, false, Some, refl, ap, ◌∙◌}
 use Rattle.std.specs.FinMap as fin
-use Rattle.std.specs.Option.{option_map}
 use Rattle.pg_messages.specs.declared.extendedquery.Describe.{Describe}
 use Rattle.pg_messages.specs.Replies.{replies_bytes}
-use Rattle.pg_messages.specs.Frames.{statement_target}
-use Rattle.pg_portal.specs.declared.store.Entry.{Entry}
+use Rattle.pg_messages.specs.Frames.{statement_target, portal_target}
 use Rattle.pg_portal.specs.declared.store.Entry.TheVariants as entry
 use Rattle.pg_portal.specs.Describing.{Described, no_data}
-use Rattle.pg_portal.specs.Told.{entry_map}
 use Rattle.pg_handlers.specs.Effect.{IsEffect, Done}
 use Rattle.pg_handlers.specs.ExtendedRows.{on_describe, description}
 use Rattle.pg_handlers.specs.Handlers.{ExtendedTold}
 use Rattle.pg_handlers.specs.State.{State}
-
--- where a store found an empty entry under a name it tells one
-pub found_empty : {X Y : Type 0} (f : X → Y) (found : Option (Entry X)) (e : Entry X) (told : Option (Entry Y))
-    → option_map (entry_map f) found ≡ told → found ≡ Some e → e ≡ entry.Empty → told ≡ Some entry.Empty
-found_empty f found e told h i j = sym h ∙ ap (λ o. option_map (entry_map f) o) (i ∙ ap Some j)
 
 pub empty_described : {S : Type 0} (h : ExtendedTold S) (s : State S) (m : Describe) (out new_out : List ℕ) (d : Described)
     → m.target_type ≡ statement_target
     → fin.get s.statements m.name ≡ Some entry.Empty → d ≡ no_data true → new_out ≡ out ++ replies_bytes (description d)
     → IsEffect (on_describe h s m) out new_out (Done s)
 empty_described h s m out new_out d i j k e = rw (i, j)
+    (record { replied = e ∙ ap (λ x. out ++ replies_bytes (description x)) k; came = refl })
+
+pub empty_portal_described : {S : Type 0} (h : ExtendedTold S) (s : State S) (m : Describe) (out new_out : List ℕ) (d : Described)
+    → m.target_type ≡ portal_target
+    → fin.get s.portals m.name ≡ Some entry.Empty → d ≡ no_data false → new_out ≡ out ++ replies_bytes (description d)
+    → IsEffect (on_describe h s m) out new_out (Done s)
+empty_portal_described h s m out new_out d i j k e = rw (i, j)
     (record { replied = e ∙ ap (λ x. out ++ replies_bytes (description x)) k; came = refl })

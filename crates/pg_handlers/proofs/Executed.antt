@@ -234,37 +234,6 @@ module _ {S : Type 0} (h : ExtendedTold S) (m : Execute) (s : State S) (p : Tabl
         keeps = keeps_then desk begun new_desk (keeps_after desk begun (call.Start ∷ []) starts) keeps;
       }
 
--- What is executed on a state that is the same is so on this one.
-pub executed_as : {S A : Type 0} (h : ExtendedTold S) (m : Execute) (s same s' : State S) (out new_out : List ℕ) (desk new_desk : DeskTold)
-    (turns new_turns : Turns) (result : Result A SessionError) → same ≡ s
-    → IsExecuted h m same s' out new_out desk new_desk turns new_turns result
-    → IsExecuted h m s s' out new_out desk new_desk turns new_turns result
-executed_as {S} h m s same s' out new_out desk new_desk turns new_turns result e x =
-    subst (λ (t : State S). IsExecuted h m t s' out new_out desk new_desk turns new_turns result) e x
-
--- as `query_executed`, where the portal was lent before
-pub query_lent : {S A : Type 0} (h : ExtendedTold S) (m : Execute) (s : State S) (p : TablePortal S)
-    (found : value_under (fin.get s.portals m.name) ≡ Some p) (fresh : p.stage ≡ Unstarted) (good : IsGoodState h.parser s)
-    (desk begun : DeskTold) (starts : begun ≡ after_calls desk (call.Start ∷ [])) (turns : Turns) (out : List ℕ) (t : State S) → t ≡ s
-    → (query : ToldQuery ToldResponse) → query ≡ h.query t.info p.bound m.max_rows → (s' : State S) (new_out : List ℕ)
-    (new_desk : DeskTold) (new_turns : Turns) (result : Result A SessionError)
-    → ((q : TablePortal S) → portal_under (maps_of t) m.name ≡ Some q → (verdict : Verdict)
-    × IsAsked query.owes begun.calls new_desk.calls verdict
-    × IsRunEnd (execute_polled t m q verdict query.outcome) verdict out new_out s' result)
-    → IfErr result IsAnswerableError → IfErr result (IsCausedSo begun.calls new_desk.calls)
-    → IfErr result (λ e. AtTurnLimit e ((s' ≡ t) × (new_out ≡ out))) → OnErr result (s'.info ≡ t.info)
-    → OnErr result (IsLeftBehind (maps_of t) m.name (maps_of s')) → take (length out) new_out ≡ out
-    → ((parser : ParserTold S) → IsGoodState parser t → IsGoodState parser s')
-    → HasSpent turns new_turns (questions_since begun.calls new_desk.calls) result
-    → (turns.spent ≤ turns.limit → new_turns.spent ≤ new_turns.limit) → KeepsDesk begun new_desk
-    → IsExecuted h m s s' out new_out desk new_desk turns new_turns result
-query_lent {S} h m s p found fresh good desk begun starts turns out t same query query_is s' new_out new_desk new_turns result ran
-    answerable cause limit info left kept good' spent bounded keeps =
-    executed_as h m s t s' out new_out desk new_desk turns new_turns result same
-    (query_executed h m t p (subst (λ (t : State S). value_under (fin.get t.portals m.name) ≡ Some p) (sym same) found) fresh
-    (subst (IsGoodState h.parser) (sym same) good) desk begun starts turns out query query_is s' new_out new_desk new_turns result ran
-    answerable cause limit info left kept good' spent bounded keeps)
-
 -- what is returned
 pub returned : {S A : Type 0} {h : ExtendedTold S} {m : Execute} {s s' : State S} {out new_out : List ℕ} {desk new_desk : DeskTold}
     {turns new_turns : Turns} {result other : Result A SessionError} → result ≡ other

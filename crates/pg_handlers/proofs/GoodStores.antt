@@ -1,5 +1,5 @@
 -- A state stays good: what is put is good, and an empty entry, a removal and a change of info that keeps the metadata change no value.
-use Rattle.std.proofs.Common.{◌≡◌, ◌==◌, ℕ, Bool, true, false, cond, if◌then◌else◌, List, Option, Some, None, sym, ap, subst, ◌∙◌}
+use Rattle.std.proofs.Common.{◌≡◌, ◌==◌, ℕ, Bool, true, false, cond, if◌then◌else◌, List, Option, Some, None, Result, Ok, Err, sym, ap, subst, ◌∙◌}
 use Rattle.std.specs.Cmp.Lexicographic.{slice_cmp, nat_list_cmp_total}
 use Rattle.std.specs.Ordering.{nat_cmp, eq_by_cmp}
 use Rattle.std.specs.FinMap as fin
@@ -13,6 +13,7 @@ use Rattle.pg_portal.specs.declared.store.Entry.{Entry}
 use Rattle.pg_portal.specs.declared.store.Entry.TheVariants as entry
 use Rattle.pg_portal.specs.Clients.{HasShortMetadata}
 use Rattle.std.specs.Option.{option_map}
+use Rattle.std.specs.Prelude.{is_none, OnOk, OnErr}
 use Rattle.pg_portal.specs.Told.{ParserTold, TablePortal, entry_map, value_under, value_of}
 use Rattle.pg_handlers.specs.Good.{IsGoodStatement, IsGoodPortal, IsGoodState}
 use Rattle.pg_handlers.specs.ExtendedRows.{maps_after_close}
@@ -109,7 +110,15 @@ good_closed {S} parser info old new m e good =
     by_byte false true = good_without_portal parser (state_in info old) m.name good
     by_byte false false = good
 
--- what a store found under a name is what it tells
-pub found_value : {X Y : Type 0} (f : X → Y) (found : Option (Entry X)) (e : Entry X) (x : X) (told : Option (Entry Y))
-    → option_map (entry_map f) found ≡ told → found ≡ Some e → e ≡ entry.Value x → value_under told ≡ Some (f x)
-found_value f found e x told h i j = ap value_under (sym h) ∙ ap (λ o. value_under (option_map (entry_map f) o)) (i ∙ ap Some j)
+-- what holds of the state where an entry was put, and where it is kept, holds behind the call
+pub put_or_kept : {S A E : Type 0} (result : Result A E) (P : State S → Type 0) (old new put : State S) → OnOk result (new ≡ put)
+    → OnErr result (new ≡ old) → P put → P old → P new
+put_or_kept (Ok x) P old new put e kept there before = subst P (sym e) there
+put_or_kept (Err x) P old new put e kept there before = subst P (sym kept) before
+
+-- a name under which a store found an entry without a value
+pub empty_under : {X Y : Type 0} (f : X → Y) (found : Option (Entry X)) (told : Option (Entry Y)) → option_map (entry_map f) found ≡ told
+    → is_none found ≡ false → value_under told ≡ None → told ≡ Some entry.Empty
+empty_under f None told e some none = cc
+empty_under f (Some entry.Empty) told e some none = sym e
+empty_under f (Some (entry.Value x)) told e some none = let value : value_under told ≡ Some (f x) = ap value_under (sym e) in cc

@@ -1,5 +1,5 @@
 -- What an Execute makes of the table, where the store lends the portal of its name.
-use Rattle.std.proofs.Common.{◌≡◌, ℕ, inl, inr, Bool, true, false, List, [], ◌∷◌, ◌++◌, Option, Some, None, Result, Ok, Err, length, refl, ap, sym, subst, ◌∙◌}
+use Rattle.std.proofs.Common.{◌≡◌, ℕ, inl, inr, Bool, false, List, [], ◌∷◌, ◌++◌, Option, Some, None, Result, Ok, Err, length, refl, ap, sym, subst, ◌∙◌}
 use Rattle.std.specs.Prelude.{IfErr, OnOk}
 use Rattle.std.specs.FinMap as fin
 use Rattle.pg_messages.specs.declared.data.DataRow.{DataRow}
@@ -143,11 +143,6 @@ no_portal h answers s m (Some (entry.Value p)) e = cc
 
 -- ---- what is written back
 
-pub unstarted_is : (stage : Stage) → is_unstarted stage ≡ true → stage ≡ Unstarted
-unstarted_is Unstarted e = refl
-unstarted_is (Started r d) e = cc
-unstarted_is (Ended d) e = cc
-
 -- the state where a portal was written back
 pub written_state : {S : Type 0} (info : ClientInfo) (old new : Maps S) (name shown : List ℕ) (p w : TablePortal S)
     → shown ≡ name → new ≡ maps_with_portal old shown (entry.Value w) → w.bound ≡ p.bound
@@ -240,9 +235,3 @@ left_lent s s' name p stage l come = inr (p, stage, l.found, come, ap maps_of l.
 -- a portal that isn't started may come anywhere
 pub comes_from_unstarted : (old new : Stage) → old ≡ Unstarted → HasComeTo old new
 comes_from_unstarted old new e = subst (λ (st : Stage). HasComeTo st new) (sym e) tt
-
--- what was lent and not changed is as it was
-pub lent_same : {S : Type 0} (s s' : State S) (name : List ℕ) (p : TablePortal S) → IsLent s name p p.stage s' → s' ≡ s
-lent_same {S} s s' name p l =
-    l.written ∙ ap (λ portals. let t : State S = record { info = s.info; statements = s.statements; portals = portals } in t)
-    (insert-same s.portals name (entry.Value p) (at_value (fin.get s.portals name) p l.found))

@@ -1,5 +1,5 @@
 -- A portal that isn't started: its first page, and a response without rows.
-use Rattle.std.proofs.Common.{◌≡◌, ℕ, ℤ, false, inl, List, Option, Some, Result, Ok, Err, refl, ap, sym, subst}
+use Rattle.std.proofs.Common.{◌≡◌, ℕ, ℤ, false, inl, List, IfSome, Option, Some, None, Result, Ok, Err, refl, ap, sym, subst}
 use Rattle.std.specs.Prelude.{IfErr, OnOk, OnErr}
 use Rattle.std.specs.Option.{IsSomeAnd}
 use Rattle.pg_messages.specs.declared.extendedquery.Execute.{Execute}
@@ -27,6 +27,12 @@ pub fresh_under : {S : Type 0} (maps : Maps S) (name : List ℕ) (p : TablePorta
     → HasUnstarted maps name → p.stage ≡ Unstarted
 fresh_under {S} maps name p found has =
     subst (λ (o : Option (TablePortal S)). IsSomeAnd o (λ (p : TablePortal S). p.stage ≡ Unstarted)) found has
+
+-- what holds of a portal, where there is one, and of each that there is
+pub started_there : {X : Type 0} (A B : X → Type 0) (o : Option X) → IfSome o A → ((p : X) → o ≡ Some p → B p)
+    → IfSome o (λ p. A p × B p)
+started_there A B None a b = tt
+started_there A B (Some p) a b = (a, b p refl)
 
 pub on_err : {A E P : Type 0} (result : Result A E) → P → OnErr result P
 on_err (Ok x) p = tt

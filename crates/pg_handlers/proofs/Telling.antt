@@ -1,8 +1,7 @@
 -- Describe of a statement or a portal, by what its handler told.
-use Rattle.std.proofs.Common.{◌≡◌, ◌∙◌, ℕ, List, Option, Some, Result, Ok, Err, inl, inr, refl, sym, ap, append-nil}
+use Rattle.std.proofs.Common.{◌≡◌, ◌∙◌, ℕ, List, Option, Some, None, Result, Ok, Err, inl, inr, refl, sym, ap, append-nil}
 use Rattle.std.specs.Prelude.{OnOk, IfErr}
 use Rattle.std.specs.FinMap as fin
-use Rattle.std.specs.Option.{option_map}
 use Rattle.pg_messages.specs.declared.extendedquery.Describe.{Describe}
 use Rattle.pg_messages.specs.Frames.{statement_target, portal_target}
 use Rattle.pg_portal.specs.declared.error.PgWireError.{PgWireError}
@@ -10,7 +9,7 @@ use Rattle.pg_portal.specs.declared.error.PgWireError.TheVariants as wire
 use Rattle.pg_portal.specs.declared.stmt.StoredStatement.{StoredStatement}
 use Rattle.pg_portal.specs.declared.store.Entry.{Entry}
 use Rattle.pg_portal.specs.declared.store.Entry.TheVariants as entry
-use Rattle.pg_portal.specs.Told.{IsOutcome, TablePortal, entry_map}
+use Rattle.pg_portal.specs.Told.{IsOutcome, TablePortal, value_under}
 use Rattle.pg_handlers.specs.Effect.{IsEffect, IsRefusedEffect, Done, Failed}
 use Rattle.pg_handlers.specs.ExtendedRows.{on_describe, described, statement_description, portal_description}
 use Rattle.pg_handlers.specs.Handlers.{ExtendedTold}
@@ -18,20 +17,21 @@ use Rattle.pg_handlers.specs.Replies.{Replies}
 use Rattle.pg_handlers.specs.State.{State}
 use Rattle.pg_handlers.specs.Telling.{IsToldSo}
 
--- where a store found a value under a name it tells it
-pub found_entry : {X Y : Type 0} (f : X → Y) (found : Option (Entry X)) (e : Entry X) (x : X) (told : Option (Entry Y))
-    → option_map (entry_map f) found ≡ told → found ≡ Some e → e ≡ entry.Value x → told ≡ Some (entry.Value (f x))
-found_entry f found e x told h i j = sym h ∙ ap (λ o. option_map (entry_map f) o) (i ∙ ap Some j)
+-- an entry with a value is this value's
+entry_with : {X : Type 0} (o : Option (Entry X)) (x : X) → value_under o ≡ Some x → o ≡ Some (entry.Value x)
+entry_with None x e = cc
+entry_with (Some entry.Empty) x e = cc
+entry_with (Some (entry.Value y)) x e = let same : y ≡ x = cc in ap (λ y. Some (entry.Value y)) same
 
-pub describes_statement : {S : Type 0} (h : ExtendedTold S) (s : State S) (m : Describe) (statement : StoredStatement S)
-    → m.target_type ≡ statement_target → fin.get s.statements m.name ≡ Some (entry.Value statement)
-    → on_describe h s m ≡ described s statement_description (h.describe_statement s.info statement)
-describes_statement h s m statement i j = rw (i, j) refl
+module _ {S : Type 0} (h : ExtendedTold S) (s : State S) (m : Describe) where
+  pub describes_statement : (statement : StoredStatement S) → m.target_type ≡ statement_target
+      → value_under (fin.get s.statements m.name) ≡ Some statement
+      → described s statement_description (h.describe_statement s.info statement) ≡ on_describe h s m
+  describes_statement statement i j = rw (i, entry_with (fin.get s.statements m.name) statement j) refl
 
-pub describes_portal : {S : Type 0} (h : ExtendedTold S) (s : State S) (m : Describe) (p : TablePortal S)
-    → m.target_type ≡ portal_target → fin.get s.portals m.name ≡ Some (entry.Value p)
-    → on_describe h s m ≡ described s portal_description (h.describe_portal s.info p.bound)
-describes_portal h s m p i j = rw (i, j) refl
+  pub describes_portal : (p : TablePortal S) → m.target_type ≡ portal_target → value_under (fin.get s.portals m.name) ≡ Some p
+      → described s portal_description (h.describe_portal s.info p.bound) ≡ on_describe h s m
+  describes_portal p i j = rw (i, entry_with (fin.get s.portals m.name) p j) refl
 
 told_as : {S D : Type 0} (s : State S) (shown : D → Replies) (d spec : Result D PgWireError) → d ≡ spec
     → described s shown spec ≡ described s shown d

@@ -1,7 +1,9 @@
 //! How conversations end, and the turns that they have.
 
-ghost use Rattle.std.specs.Prelude.{◌≡◌, ◌+◌, ◌<◌, ◌↔◌, IsTrue};
+ghost use Rattle.std.specs.Prelude.{◌≡◌, ◌+◌, ◌<◌, ◌↔◌, Err, IsTrue};
 ghost use Rattle.std.specs.Bool.{OnTrue, OnFalse};
+ghost use Rattle.pg_portal.specs.declared.error.PgWireError.TheVariants as wire;
+ghost use Rattle.pg_handlers.specs.declared.ends.SessionError.TheVariants as session;
 ghost use Rattle.pg_handlers.specs.Outcomes.{session_outcome};
 
 use pg_portal::PgWireError;
@@ -63,6 +65,24 @@ pub(crate) fn session_outcome(outcome: Result<(), PgWireError>) -> Result<(), Se
         Ok(()) => Ok(()),
         Err(error) => Err(SessionError::Wire(error)),
     }
+}
+
+/// Memory ran out at a message: what is left of it is let go.
+#[cold]
+#[inline(never)]
+pub(crate) fn out_of_memory<T: Drop>(_left: T) -> Result<(), PgWireError>
+    ensures { result ≡ Err wire.NoMemory }
+{
+    Err(PgWireError::NoMemory)
+}
+
+/// Memory ran out at a query: what is left of it is let go.
+#[cold]
+#[inline(never)]
+pub(crate) fn query_out_of_memory<T: Drop>(_left: T) -> Result<(), SessionError>
+    ensures { result ≡ Err (session.Wire wire.NoMemory) }
+{
+    Err(SessionError::Wire(PgWireError::NoMemory))
 }
 
 /// The turns of a session: those that are spent, and how many there are. A turn is a read that gave

@@ -26,23 +26,27 @@ ghost use Rattle.pg_handlers.specs.Sending.{IsAnswerableError, AtTurnLimit};
 
 use crate::client::Client;
 use crate::desk::CancelDesk;
-use crate::ends::{SessionError, Turns, session_outcome};
+use crate::ends::{SessionError, Turns, out_of_memory, query_out_of_memory};
 use crate::query::QueryState;
-use crate::query::respond::{is_unstarted, send_page};
+use crate::query::describing::{
+    describe_no_portal, describe_no_statement, described_portal, described_statement,
+    invalid_target,
+};
 use crate::query::run::run_unstarted;
-use crate::query::send::{push_reply, send_described, send_ready_for_query, send_told};
+use crate::query::send::{push_reply, send_ready_for_query, send_told};
+use crate::query::started::{execute_started, unstarted_portal};
 use crate::query::statements::{
-    bind_checked, bind_empty, bind_statement, close, execute_no_portal, missing_portal,
-    missing_statement, name_of, no_statement, parse_by, store_parsed,
+    bind_checked, bind_no_statement, bind_statement, close, name_of, parse_by, statement_under,
+    store_parsed,
 };
 use pg_messages::{
     Bind, Close, CloseComplete, Describe, Execute, Flush, Parse, PgSync, PgWireBackendMessage,
     TARGET_TYPE_BYTE_PORTAL, TARGET_TYPE_BYTE_STATEMENT,
 };
 use pg_portal::{
-    ClientInfo, CopySource, DescribePortalResponse, DescribeResponse, DescribeStatementResponse,
-    Entry, PgWireConnectionState, PgWireError, Portal, PortalStore, QueryParser, Response,
-    RowSource, StoredStatement,
+    ClientInfo, CopySource, DescribePortalResponse, DescribeStatementResponse,
+    PgWireConnectionState, PgWireError, Portal, PortalStore, QueryParser, Response, RowSource,
+    StoredStatement,
 };
 use std::alloc::{AllocError, Global};
 use std::mem::drop;
@@ -153,11 +157,18 @@ pub trait ExtendedQueryHandler {
         ensures waiting { OnErr result (client.new.outbox ≡ client.old.outbox) }
         ensures good { IsGoodState (told self.now).parser (state_of St.maps client.new) }
     {
-        let parser = self.query_parser(alloc)?;
-        let found = parse_by(alloc, &client.info, &message, parser)?;
+        let Ok(parser) = self.query_parser(alloc) else {
+            return out_of_memory(message);
+        };
+        let found = parse_by(alloc, &client.info, &message, parser);
         let name = name_of(message);
-        store_parsed(alloc, client, name.as_str(), found)?;
-        Ok(())
+        match found {
+            Ok(found) => store_parsed(alloc, client, name, found),
+            Err(error) => {
+                drop(name);
+                Err(error)
+            }
+        }
     }
 
     /// Bind: stores a portal of the statement, and appends BindComplete. StatementNotFound comes
@@ -184,18 +195,20 @@ pub trait ExtendedQueryHandler {
         ensures waiting { OnErr result (client.new.outbox ≡ client.old.outbox) }
         ensures good { IsGoodState (told self.now).parser (state_of St.maps client.new) }
     {
-        match client.store.get_statement(message.statement_name.as_str()) {
-            Some(Entry::Value(statement)) => {
-                let statement = statement.clone()?;
-                if message.result_column_format_codes.len() < 2 {
-                    return bind_statement(alloc, client, message, statement);
-                }
-                let parser = self.query_parser(alloc)?;
-                bind_checked(alloc, client, parser, message, statement)
-            }
-            Some(Entry::Empty) => bind_empty(alloc, client, &message),
-            None => Err(no_statement(message)),
+        let Some(statement) = statement_under(&client.store, message.statement_name.as_str()) else {
+            return bind_no_statement(alloc, client, message);
+        };
+        let Ok(statement) = statement.clone() else {
+            return out_of_memory(message);
+        };
+        if message.result_column_format_codes.len() < 2 {
+            return bind_statement(alloc, client, message, statement);
         }
+        let Ok(parser) = self.query_parser(alloc) else {
+            drop(statement);
+            return out_of_memory(message);
+        };
+        bind_checked(alloc, client, parser, message, statement)
     }
 
     /// Execute: the row of the table where the client awaits a query, and NotReadyForQuery, which
@@ -292,17 +305,16 @@ pub trait ExtendedQueryHandler {
         ensures bounded { turns.old.spent ≤ turns.old.limit → turns.new.spent ≤ turns.new.limit }
         ensures keeps { KeepsDesk (D.told desk.old) (D.told desk.new) }
     {
-        let Some(portal) = client.store.portal_mut(message.name.as_str()) else {
-            return session_outcome(execute_no_portal(client, message.name));
+        let Some(portal) = unstarted_portal(&client.store, message.name.as_str()) else {
+            return execute_started(alloc, client, message);
         };
-        if !is_unstarted(&*portal) {
-            let limit = message.max_rows;
-            drop(message);
-            return session_outcome(send_page(alloc, &mut client.outbox, portal, limit));
-        }
-        desk.start()?;
-        let query = self.do_query(alloc, &client.info, portal, message.max_rows)?;
-        run_unstarted(alloc, client, &message, query, desk, turns)
+        let Ok(()) = desk.start() else {
+            return query_out_of_memory(message);
+        };
+        let Ok(query) = self.do_query(alloc, &client.info, portal, message.max_rows) else {
+            return query_out_of_memory(message);
+        };
+        run_unstarted(alloc, client, message, query, desk, turns)
     }
 
     /// Describe of a statement (`S`) or a portal (`P`): what describes it. StatementNotFound and
@@ -353,38 +365,22 @@ pub trait ExtendedQueryHandler {
         ensures waiting { OnErr result (client.new.outbox ≡ client.old.outbox) }
         ensures good { IsGoodState (told self.now).parser (state_of St.maps client.new) }
     {
-        let name = message.name;
         match message.target_type {
-            TARGET_TYPE_BYTE_STATEMENT => match client.store.get_statement(name.as_str()) {
-                Some(Entry::Value(statement)) => {
-                    drop(name);
-                    let told = self.do_describe_statement(alloc, &client.info, &*statement);
+            TARGET_TYPE_BYTE_STATEMENT => match described_statement(&client.store, message) {
+                Ok(statement) => {
+                    let told = self.do_describe_statement(alloc, &client.info, statement);
                     send_told(alloc, &mut client.outbox, told)
                 }
-                Some(Entry::Empty) => {
-                    drop(name);
-                    let told = DescribeStatementResponse::no_data(alloc);
-                    Ok(send_described(alloc, &mut client.outbox, told)?)
-                }
-                None => Err(missing_statement(name)),
+                Err(message) => describe_no_statement(alloc, client, message),
             },
-            TARGET_TYPE_BYTE_PORTAL => match client.store.get_portal(name.as_str()) {
-                Some(Entry::Value(portal)) => {
-                    drop(name);
+            TARGET_TYPE_BYTE_PORTAL => match described_portal(&client.store, message) {
+                Ok(portal) => {
                     let told = self.do_describe_portal(alloc, &client.info, portal);
                     send_told(alloc, &mut client.outbox, told)
                 }
-                Some(Entry::Empty) => {
-                    drop(name);
-                    let told = DescribePortalResponse::no_data(alloc);
-                    Ok(send_described(alloc, &mut client.outbox, told)?)
-                }
-                None => Err(missing_portal(name)),
+                Err(message) => describe_no_portal(alloc, client, message),
             },
-            byte => {
-                drop(name);
-                Err(PgWireError::InvalidTargetType(byte))
-            }
+            _ => Err(invalid_target(message)),
         }
     }
 
@@ -426,8 +422,9 @@ pub trait ExtendedQueryHandler {
         ensures waiting { OnErr result (client.new.outbox ≡ client.old.outbox) }
         ensures good { IsGoodState (told self.now).parser (state_of St.maps client.new) }
     {
-        let _ = message;
-        send_ready_for_query(&mut client.outbox, client.info.status)?;
+        let Ok(()) = send_ready_for_query(&mut client.outbox, client.info.status) else {
+            return out_of_memory(message);
+        };
         client.store.rm_portal("");
         client.info.state = PgWireConnectionState::ReadyForQuery;
         Ok(())

@@ -10,11 +10,13 @@ use crate::ends::{SessionError, Turns};
 use pg_portal::PgWireError;
 use std::alloc::AllocError;
 
+mod describing;
 pub mod extended;
 mod respond;
 mod run;
 pub mod send;
 pub mod simple;
+mod started;
 mod statements;
 
 /// What a poll answers.
@@ -45,6 +47,7 @@ pub trait QueryState: Drop {
 /// Waits for a query: each poll that finds it unready spends a turn, and the desk is then asked
 /// whether the query was canceled. Where it was, the error is QueryCanceled. TurnLimit comes where
 /// no turn is left and one more was met.
+#[inline(always)]
 fn wait<Q: QueryState, D: CancelDesk>(
     query: &mut Q,
     desk: &mut D,
@@ -61,9 +64,10 @@ fn wait<Q: QueryState, D: CancelDesk>(
     ensures keeps { KeepsDesk (D.told desk.old) (D.told desk.new) }
 {
     loop {
-        match query.poll()? {
-            Turn::Ready(out) => return Ok(out),
-            Turn::Unready => {}
+        match query.poll() {
+            Ok(Turn::Ready(out)) => return Ok(out),
+            Ok(Turn::Unready) => {}
+            Err(_) => return Err(SessionError::Wire(PgWireError::NoMemory)),
         }
         if !turns.spend() {
             return Err(SessionError::TurnLimit);
@@ -75,8 +79,9 @@ fn wait<Q: QueryState, D: CancelDesk>(
 }
 
 /// Waits for a query as `wait`, and lets it go.
+#[inline(always)]
 pub(crate) fn wait_for<Q: QueryState, D: CancelDesk>(
-    query: Q,
+    mut query: Q,
     desk: &mut D,
     turns: &mut Turns,
 ) -> Result<Q::Out, SessionError>
@@ -90,6 +95,5 @@ pub(crate) fn wait_for<Q: QueryState, D: CancelDesk>(
     ensures bounded { turns.old.spent ≤ turns.old.limit → turns.new.spent ≤ turns.new.limit }
     ensures keeps { KeepsDesk (D.told desk.old) (D.told desk.new) }
 {
-    let mut query = query;
     wait(&mut query, desk, turns)
 }

@@ -21,6 +21,7 @@ ghost use Rattle.pg_handlers.specs.Sending.{IsAllSent, behind};
 ghost use Rattle.pg_handlers.specs.State.{state_of};
 
 use crate::client::Client;
+use crate::ends::out_of_memory;
 use crate::query::send::{
     push_reply, send_copy_both_response, send_copy_in, send_copy_out_response, send_done,
     send_execution_response, send_next_page, send_query_response,
@@ -56,27 +57,31 @@ impl Behind {
 }
 
 /// Appends EmptyQueryResponse.
-pub(crate) fn send_empty_query_response(outbox: &mut Outbox) -> Result<(), AllocError>
+pub(crate) fn send_empty_query_response(outbox: &mut Outbox) -> Result<(), PgWireError>
     ensures ok { OnOk result (outbox.new ≡ outbox.old
         ++ replies_bytes (server.EmptyQueryResponse (record {}) ∷ [])) }
+    ensures refused { IfErr result (λ e. e ≡ PgWireError.NoMemory) }
     ensures err { OnErr result (outbox.new ≡ outbox.old) }
 {
     push_reply(
         outbox,
         PgWireBackendMessage::EmptyQueryResponse(EmptyQueryResponse {}),
-    )
+    )?;
+    Ok(())
 }
 
 /// Appends ErrorResponse.
-pub(crate) fn send_error(outbox: &mut Outbox, info: ErrorInfo) -> Result<(), AllocError>
+fn send_error(outbox: &mut Outbox, info: ErrorInfo) -> Result<(), PgWireError>
     requires { IsEncodable (error_reply info) }
     ensures ok { OnOk result (outbox.new ≡ outbox.old ++ replies_bytes (error_reply info ∷ [])) }
+    ensures refused { IfErr result (λ e. e ≡ PgWireError.NoMemory) }
     ensures err { OnErr result (outbox.new ≡ outbox.old) }
 {
     push_reply(
         outbox,
         PgWireBackendMessage::ErrorResponse(ErrorResponse { info }),
-    )
+    )?;
+    Ok(())
 }
 
 /// Appends what a response sends where the transaction status is this, and answers what it left. An
@@ -134,12 +139,12 @@ fn send_replies<R: RowSource, C: CopySource>(
     ensures kept { take (length outbox.old) outbox.new ≡ outbox.old }
 {
     match response {
-        Response::EmptyQuery => Ok(send_empty_query_response(outbox)?),
+        Response::EmptyQuery => send_empty_query_response(outbox),
         Response::Query(rows) => send_query_response(alloc, outbox, rows, true),
         Response::Execution(tag)
         | Response::TransactionStart(tag)
         | Response::TransactionEnd(tag) => { Ok(send_execution_response(alloc, outbox, tag)?) }
-        Response::Error(info) => Ok(send_error(outbox, info)?),
+        Response::Error(info) => send_error(outbox, info),
         Response::CopyIn(copy) => Ok(send_copy_in(alloc, outbox, copy)?),
         Response::CopyOut(copy) => send_copy_out_response(alloc, outbox, copy),
         Response::CopyBoth(copy) => send_copy_both_response(alloc, outbox, copy),
@@ -203,7 +208,10 @@ pub(crate) fn send_page<S: Drop, R: RowSource>(
     let page = match &mut portal.state {
         PortalExecutionState::Initial => return Err(PgWireError::PortalNotStarted),
         PortalExecutionState::Finished => {
-            return Ok(send_done(alloc, outbox, "SELECT", delivered)?);
+            let Ok(()) = send_done(alloc, outbox, "SELECT", delivered) else {
+                return out_of_memory(());
+            };
+            return Ok(());
         }
         PortalExecutionState::Suspended(response) => {
             let start = outbox.len();

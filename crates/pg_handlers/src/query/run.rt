@@ -24,9 +24,11 @@ use crate::query::{QueryState, wait_for};
 use pg_messages::Execute;
 use pg_portal::{CopySource, PgWireError, PortalStore, QueryResponse, Response};
 use std::alloc::Global;
+use std::mem::drop;
 
 /// What an Execute does with the query of a portal that isn't started, behind the desk's `start`:
 /// it waits for the query, and answers with its response. Until then nothing is changed.
+#[inline(always)]
 pub(crate) fn run_unstarted<
     St: PortalStore,
     C: CopySource,
@@ -35,20 +37,20 @@ pub(crate) fn run_unstarted<
 >(
     alloc: Global,
     client: &mut Client<St>,
-    message: &Execute,
+    message: Execute,
     query: Q,
     desk: &mut D,
     turns: &mut Turns,
 ) -> Result<(), SessionError>
-    requires given { IsGiven (frontend.Execute message.now) }
-    requires portal { HasUnstarted (St.maps client.old.store) message.now.name }
+    requires given { IsGiven (frontend.Execute message) }
+    requires portal { HasUnstarted (St.maps client.old.store) message.name }
     requires unspent { (Q.told query).is_spent ≡ false }
     requires sendable { IsSendableOutcome
         (told_one St.Rows.items C.items (Q.told query).outcome) }
     ensures ran { (p : TablePortal St.Statement)
-        → portal_under (St.maps client.old.store) message.now.name ≡ Some p → (verdict : Verdict)
+        → portal_under (St.maps client.old.store) message.name ≡ Some p → (verdict : Verdict)
         × IsAsked (Q.told query).owes (D.told desk.old).calls (D.told desk.new).calls verdict
-        × IsRunEnd (execute_polled (state_of St.maps client.old) message.now p verdict
+        × IsRunEnd (execute_polled (state_of St.maps client.old) message p verdict
         (told_one St.Rows.items C.items (Q.told query).outcome)) verdict
         client.old.outbox client.new.outbox (state_of St.maps client.new) result }
     ensures answerable { IfErr result IsAnswerableError }
@@ -57,7 +59,7 @@ pub(crate) fn run_unstarted<
         ((state_of St.maps client.new ≡ state_of St.maps client.old)
         × (client.new.outbox ≡ client.old.outbox))) }
     ensures info { OnErr result (client.new.info ≡ client.old.info) }
-    ensures left { OnErr result (IsLeftBehind (St.maps client.old.store) message.now.name
+    ensures left { OnErr result (IsLeftBehind (St.maps client.old.store) message.name
         (St.maps client.new.store)) }
     ensures kept { take (length client.old.outbox) client.new.outbox ≡ client.old.outbox }
     ensures good { (parser : ParserTold St.Statement)
@@ -68,35 +70,47 @@ pub(crate) fn run_unstarted<
     ensures bounded { turns.old.spent ≤ turns.old.limit → turns.new.spent ≤ turns.new.limit }
     ensures keeps { KeepsDesk (D.told desk.old) (D.told desk.new) }
 {
-    let response = wait_for(query, desk, turns)??;
-    answer(alloc, client, message, response)?;
-    Ok(())
+    match wait_for(query, desk, turns) {
+        Ok(Ok(response)) => {
+            answer(alloc, client, message, response)?;
+            Ok(())
+        }
+        Ok(Err(error)) => {
+            drop(message);
+            Err(SessionError::Wire(error))
+        }
+        Err(error) => {
+            drop(message);
+            Err(error)
+        }
+    }
 }
 
 /// Answers an Execute with the response of its portal's query: rows start the portal, and its first
 /// page is appended; any other response leaves the portal as it is.
+#[inline(always)]
 fn answer<St: PortalStore, C: CopySource>(
     alloc: Global,
     client: &mut Client<St>,
-    message: &Execute,
+    message: Execute,
     response: Response<St::Rows, C>,
 ) -> Result<(), PgWireError>
-    requires given { IsGiven (frontend.Execute message.now) }
-    requires portal { HasUnstarted (St.maps client.old.store) message.now.name }
+    requires given { IsGiven (frontend.Execute message) }
+    requires portal { HasUnstarted (St.maps client.old.store) message.name }
     requires sendable { IsSendableResponse (told_response St.Rows.items C.items response) }
     ensures ok { (p : TablePortal St.Statement)
-        → portal_under (St.maps client.old.store) message.now.name ≡ Some p → OnOk result (IsEffect
-        (executed (state_of St.maps client.old) message.now p
+        → portal_under (St.maps client.old.store) message.name ≡ Some p → OnOk result (IsEffect
+        (executed (state_of St.maps client.old) message p
         (told_response St.Rows.items C.items response)) client.old.outbox client.new.outbox
         (Done (state_of St.maps client.new))) }
     ensures refused { (p : TablePortal St.Statement)
-        → portal_under (St.maps client.old.store) message.now.name ≡ Some p
-        → IfErr result (IsRefusedEffect (executed (state_of St.maps client.old) message.now p
+        → portal_under (St.maps client.old.store) message.name ≡ Some p
+        → IfErr result (IsRefusedEffect (executed (state_of St.maps client.old) message p
         (told_response St.Rows.items C.items response)) client.old.outbox client.new.outbox
         (state_of St.maps client.new)) }
     ensures answerable { IfErr result IsAnswerableItem }
     ensures info { OnErr result (client.new.info ≡ client.old.info) }
-    ensures left { OnErr result (IsLeftBehind (St.maps client.old.store) message.now.name
+    ensures left { OnErr result (IsLeftBehind (St.maps client.old.store) message.name
         (St.maps client.new.store)) }
     ensures kept { take (length client.old.outbox) client.new.outbox ≡ client.old.outbox }
     ensures good { (parser : ParserTold St.Statement)
@@ -105,32 +119,36 @@ fn answer<St: PortalStore, C: CopySource>(
 {
     match response {
         Response::Query(rows) => start_portal(alloc, client, message, rows),
-        other => respond(alloc, client, other),
+        other => {
+            drop(message);
+            respond(alloc, client, other)
+        }
     }
 }
 
 /// Starts the portal of an Execute with these rows, and appends its first page.
+#[inline(always)]
 fn start_portal<St: PortalStore>(
     alloc: Global,
     client: &mut Client<St>,
-    message: &Execute,
+    message: Execute,
     rows: QueryResponse<St::Rows>,
 ) -> Result<(), PgWireError>
-    requires given { IsGiven (frontend.Execute message.now) }
-    requires portal { HasUnstarted (St.maps client.old.store) message.now.name }
+    requires given { IsGiven (frontend.Execute message) }
+    requires portal { HasUnstarted (St.maps client.old.store) message.name }
     requires tag { IsTag rows.command_tag }
     ensures ok { (p : TablePortal St.Statement)
-        → portal_under (St.maps client.old.store) message.now.name ≡ Some p → OnOk result (IsEffect
-        (fetched (state_of St.maps client.old) message.now p (told_rows St.Rows.items rows) 0)
+        → portal_under (St.maps client.old.store) message.name ≡ Some p → OnOk result (IsEffect
+        (fetched (state_of St.maps client.old) message p (told_rows St.Rows.items rows) 0)
         client.old.outbox client.new.outbox (Done (state_of St.maps client.new))) }
     ensures refused { (p : TablePortal St.Statement)
-        → portal_under (St.maps client.old.store) message.now.name ≡ Some p
+        → portal_under (St.maps client.old.store) message.name ≡ Some p
         → IfErr result (IsRefusedEffect
-        (fetched (state_of St.maps client.old) message.now p (told_rows St.Rows.items rows) 0)
+        (fetched (state_of St.maps client.old) message p (told_rows St.Rows.items rows) 0)
         client.old.outbox client.new.outbox (state_of St.maps client.new)) }
     ensures answerable { IfErr result IsAnswerableItem }
     ensures info { client.new.info ≡ client.old.info }
-    ensures left { OnErr result (IsLeftBehind (St.maps client.old.store) message.now.name
+    ensures left { OnErr result (IsLeftBehind (St.maps client.old.store) message.name
         (St.maps client.new.store)) }
     ensures kept { take (length client.old.outbox) client.new.outbox ≡ client.old.outbox }
     ensures good { (parser : ParserTold St.Statement)
@@ -140,6 +158,8 @@ fn start_portal<St: PortalStore>(
     let Some(portal) = client.store.portal_mut(message.name.as_str()) else {
         unreachable!()
     };
+    let limit = message.max_rows;
+    drop(message);
     portal.start(rows);
-    send_page(alloc, &mut client.outbox, portal, message.max_rows)
+    send_page(alloc, &mut client.outbox, portal, limit)
 }

@@ -25,7 +25,7 @@ ghost use Rattle.pg_handlers.specs.declared.ends.SessionError.TheVariants as ses
 
 use crate::client::Client;
 use crate::desk::CancelDesk;
-use crate::ends::{SessionError, Turns, session_outcome};
+use crate::ends::{SessionError, Turns, query_out_of_memory, session_outcome};
 use crate::query::respond::{send_empty_query_response, send_responses};
 use crate::query::send::send_ready_for_query;
 use crate::query::{QueryState, wait_for};
@@ -163,7 +163,9 @@ pub trait SimpleQueryHandler {
             drop(query);
             return session_outcome(answer_blank(&mut client.outbox, client.info.status));
         }
-        desk.start()?;
+        let Ok(()) = desk.start() else {
+            return query_out_of_memory(query);
+        };
         let state = self.do_query(alloc, &client.info, query.query.as_str());
         drop(query);
         run_query(alloc, client, state?, desk, turns)

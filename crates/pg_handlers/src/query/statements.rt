@@ -1,12 +1,13 @@
 //! What Parse, Bind and Close do to the store.
 
 ghost use Rattle.std.specs.Prelude.{◌≡◌, ◌≤◌, ◌⊎◌, ◌++◌, ◌==◌, length, Some, None, Option, IsTrue, IfOk, IfErr, IfSome, OnOk, OnErr, codes, string_bytes, if◌then◌else◌};
+ghost use Rattle.std.specs.Option.{option_map};
 ghost use Rattle.pg_messages.specs.Replies.{replies_bytes};
 ghost use Rattle.pg_portal.specs.Errors.{error as error_info};
 ghost use Rattle.pg_portal.specs.Maps.{maps_with_statement};
-ghost use Rattle.pg_portal.specs.Told.{IsOutcome, ParserTold, portal_of, value_under};
+ghost use Rattle.pg_portal.specs.Told.{IsOutcome, ParserTold, Unstarted, bound_of, portal_of, stage_of, value_under};
 ghost use Rattle.pg_portal.specs.Clients.{HasShortMetadata};
-ghost use Rattle.pg_portal.specs.Statements.{prepared};
+ghost use Rattle.pg_portal.specs.Statements.{prepared, bound_by};
 ghost use Rattle.pg_handlers.specs.Errors.{values_for_empty, too_few_codes};
 ghost use Rattle.std.specs.Arc.{arc_value};
 ghost use Rattle.std.specs.FinMap as fin;
@@ -17,21 +18,25 @@ ghost use Rattle.pg_portal.specs.declared.error.PgWireError.{PgWireError};
 ghost use Rattle.pg_portal.specs.declared.error.PgWireError.TheVariants as wire;
 ghost use Rattle.pg_portal.specs.declared.store.Entry.TheVariants as entry;
 ghost use Rattle.pg_handlers.specs.Effect.{IsEffect, IsRefusedEffect, Done};
-ghost use Rattle.pg_handlers.specs.ExtendedRows.{parse_complete, bind_complete, bound_empty, bound_portal, bound_statement, entry_of, maps_after_close, HasEnough, IsTooFew};
+ghost use Rattle.pg_handlers.specs.ExtendedRows.{parse_complete, bind_complete, bound_empty, bound_portal, bound_statement, on_bind, entry_of, maps_after_close, HasEnough, IsTooFew};
+ghost use Rattle.pg_handlers.specs.Handlers.{ExtendedTold};
+ghost use Rattle.pg_portal.specs.Formats.{format_of};
 ghost use Rattle.pg_handlers.specs.ExecuteRow.{executed_nothing};
 ghost use Rattle.pg_handlers.specs.Good.{IsGiven, IsGoodStatement, IsGoodState};
 ghost use Rattle.pg_handlers.specs.State.{state_of, with_portal, with_statement};
 
 use crate::client::Client;
+use crate::ends::out_of_memory;
 use crate::query::respond::send_empty_query_response;
 use crate::query::send::push_reply;
 use pg_messages::{
-    Bind, BindComplete, Close, ErrorInfo, Parse, ParseComplete, PgStr, PgWireBackendMessage,
-    TARGET_TYPE_BYTE_PORTAL, TARGET_TYPE_BYTE_STATEMENT,
+    Bind, BindComplete, Close, ErrorInfo, Parse, ParseComplete, PgList, PgStr,
+    PgWireBackendMessage, TARGET_TYPE_BYTE_PORTAL, TARGET_TYPE_BYTE_STATEMENT,
 };
 use pg_outbox::Outbox;
 use pg_portal::{
-    ClientInfo, Entry, PgWireError, Portal, PortalStore, QueryParser, StoredStatement,
+    ClientInfo, Entry, Format, PgWireError, Portal, PortalExecutionState, PortalStore, QueryParser,
+    RowSource, StoredStatement,
 };
 use std::alloc::{AllocError, Global};
 use std::mem::drop;
@@ -46,16 +51,23 @@ pub(crate) fn missing_statement(name: PgStr) -> PgWireError
     PgWireError::StatementNotFound(name)
 }
 
-/// No statement has the name that a Bind tells.
-pub(crate) fn no_statement(message: Bind) -> PgWireError
-    requires { IsGiven (frontend.Bind message) }
-    ensures error { result ≡ wire.StatementNotFound message.statement_name }
-    ensures answerable { IsAnswerable result }
+/// The statement under a name, or None where none stands there or it is empty.
+#[inline(always)]
+pub(crate) fn statement_under<'s, St: PortalStore>(
+    store: &'s St,
+    name: &str,
+) -> Option<&'s Arc<StoredStatement<St::Statement>>>
+    ensures { option_map (λ s. arc_value s.now) result
+        ≡ value_under (fin.get (St.maps store.now).statements name.now) }
 {
-    missing_statement(message.statement_name)
+    match store.get_statement(name) {
+        Some(Entry::Value(statement)) => Some(statement),
+        Some(Entry::Empty) | None => None,
+    }
 }
 
 /// The name that a Parse tells.
+#[inline(always)]
 pub(crate) fn name_of(message: Parse) -> PgStr
     ensures { result ≡ message.name }
 {
@@ -63,6 +75,7 @@ pub(crate) fn name_of(message: Parse) -> PgStr
 }
 
 /// The statement of a Parse, as `StoredStatement::parse`, and the parser is let go.
+#[inline(always)]
 pub(crate) fn parse_by<Q: QueryParser + Drop>(
     alloc: Global,
     client: &ClientInfo,
@@ -90,7 +103,8 @@ pub(crate) fn missing_portal(name: PgStr) -> PgWireError
 }
 
 /// Stores what a parser found under a name: a statement of this name, or an empty one.
-pub(crate) fn store_statement<St: PortalStore>(
+#[inline(always)]
+fn store_statement<St: PortalStore>(
     alloc: Global,
     store: &mut St,
     name: &str,
@@ -112,30 +126,35 @@ pub(crate) fn store_statement<St: PortalStore>(
 
 /// Appends ParseComplete, and stores what a parser found under a name. After an error neither is
 /// done.
+#[inline(always)]
 pub(crate) fn store_parsed<St: PortalStore>(
     alloc: Global,
     client: &mut Client<St>,
-    name: &str,
+    name: PgStr,
     found: Option<StoredStatement<St::Statement>>,
-) -> Result<(), AllocError>
-    requires { IfSome found (λ statement. statement.id ≡ name.now) }
+) -> Result<(), PgWireError>
+    requires { IfSome found (λ statement. statement.id ≡ name) }
     ensures ok { OnOk result (state_of St.maps client.new
-        ≡ with_statement (state_of St.maps client.old) name.now (entry_of found)) }
+        ≡ with_statement (state_of St.maps client.old) name (entry_of found)) }
     ensures replied { OnOk result (client.new.outbox
         ≡ client.old.outbox ++ replies_bytes parse_complete) }
-    ensures err { OnErr result
+    ensures refused { IfErr result (λ e. e ≡ wire.NoMemory) }
+    ensures kept { OnErr result
         (state_of St.maps client.new ≡ state_of St.maps client.old) }
     ensures waiting { OnErr result (client.new.outbox ≡ client.old.outbox) }
 {
     let start = client.outbox.len();
-    push_reply(
-        &mut client.outbox,
-        PgWireBackendMessage::ParseComplete(ParseComplete {}),
-    )?;
-    if let Err(error) = store_statement(alloc, &mut client.store, name, found) {
+    let complete = PgWireBackendMessage::ParseComplete(ParseComplete {});
+    let Ok(()) = push_reply(&mut client.outbox, complete) else {
+        drop(found);
+        return out_of_memory(name);
+    };
+    let stored = store_statement(alloc, &mut client.store, name.as_str(), found);
+    drop(name);
+    let Ok(()) = stored else {
         client.outbox.truncate(start);
-        return Err(error);
-    }
+        return out_of_memory(());
+    };
     Ok(())
 }
 
@@ -175,8 +194,53 @@ fn too_few_codes(alloc: Global, count: usize, columns: usize) -> Result<PgWireEr
     protocol_violation(alloc, text)
 }
 
+/// Bind where no statement has this name, or an empty one: an empty portal of an empty statement,
+/// where there are no parameters.
+pub(crate) fn bind_no_statement<St: PortalStore>(
+    alloc: Global,
+    client: &mut Client<St>,
+    message: Bind,
+) -> Result<(), PgWireError>
+    requires given { IsGiven (frontend.Bind message) }
+    requires none { value_under
+        (fin.get (St.maps client.old.store).statements message.statement_name) ≡ None }
+    ensures ok { (h : ExtendedTold St.Statement) → OnOk result (IsEffect
+        (on_bind h (state_of St.maps client.old) message)
+        client.old.outbox client.new.outbox (Done (state_of St.maps client.new))) }
+    ensures refused { (h : ExtendedTold St.Statement) → IfErr result (IsRefusedEffect
+        (on_bind h (state_of St.maps client.old) message)
+        client.old.outbox client.new.outbox (state_of St.maps client.new)) }
+    ensures answerable { IfErr result IsAnswerable }
+    ensures kept { OnErr result
+        (state_of St.maps client.new ≡ state_of St.maps client.old) }
+    ensures waiting { OnErr result (client.new.outbox ≡ client.old.outbox) }
+    ensures good { (parser : ParserTold St.Statement)
+        → IsGoodState parser (state_of St.maps client.old)
+        → IsGoodState parser (state_of St.maps client.new) }
+{
+    if client
+        .store
+        .get_statement(message.statement_name.as_str())
+        .is_none()
+    {
+        return Err(no_statement(message));
+    }
+    let bound = bind_empty(alloc, client, &message);
+    drop(message);
+    bound
+}
+
+/// No statement has the name that a Bind tells.
+fn no_statement(message: Bind) -> PgWireError
+    requires { IsGiven (frontend.Bind message) }
+    ensures error { result ≡ wire.StatementNotFound message.statement_name }
+    ensures answerable { IsAnswerable result }
+{
+    missing_statement(message.statement_name)
+}
+
 /// Bind of an empty statement: an empty portal, where there are no parameters.
-pub(crate) fn bind_empty<St: PortalStore>(
+fn bind_empty<St: PortalStore>(
     alloc: Global,
     client: &mut Client<St>,
     message: &Bind,
@@ -265,6 +329,7 @@ pub(crate) fn bind_checked<St: PortalStore, Q: QueryParser<Statement = St::State
 
 /// Bind of a statement of whose columns there are enough result codes: a portal of it, unstarted.
 /// The only error is NoMemory.
+#[inline(always)]
 pub(crate) fn bind_statement<St: PortalStore>(
     alloc: Global,
     client: &mut Client<St>,
@@ -284,33 +349,66 @@ pub(crate) fn bind_statement<St: PortalStore>(
         → IsGoodState parser (state_of St.maps client.old)
         → IsGoodState parser (state_of St.maps client.new) }
 {
-    let portal = Portal::try_new(alloc, &message, statement);
-    drop(message);
-    store_portal(alloc, client, portal?)?;
-    Ok(())
+    store_portal(alloc, client, portal_for(message, statement))
+}
+
+/// The portal that a Bind makes of a statement, unstarted. What the message holds is moved into it,
+/// and no memory is taken.
+#[inline(always)]
+fn portal_for<S: Drop, R: RowSource>(
+    message: Bind,
+    statement: Arc<StoredStatement<S>>,
+) -> Portal<S, R>
+    ensures bound { bound_of result ≡ bound_by message (arc_value statement) }
+    ensures unstarted { stage_of R.items result ≡ Unstarted }
+{
+    Portal {
+        name: message.portal_name,
+        statement,
+        parameter_format: format_of(message.parameter_format_codes),
+        parameters: message.parameters,
+        result_column_format: format_of(message.result_column_format_codes),
+        state: PortalExecutionState::Initial,
+        delivered: 0,
+    }
+}
+
+/// The formats of a Bind's codes: none is text, one is for all, several are one for each.
+fn format_of(codes: PgList<i16>) -> Format
+    ensures { result ≡ format_of codes }
+{
+    match codes.as_slice() {
+        [] => Format::UnifiedText,
+        [code] => Format::from(*code),
+        _ => Format::Individual(codes),
+    }
 }
 
 /// Appends BindComplete, and stores a portal under its name. After an error neither is done.
+#[inline(always)]
 fn store_portal<St: PortalStore>(
     alloc: Global,
     client: &mut Client<St>,
     portal: Portal<St::Statement, St::Rows>,
-) -> Result<(), AllocError>
+) -> Result<(), PgWireError>
     ensures ok { OnOk result (state_of St.maps client.new
         ≡ with_portal (state_of St.maps client.old) portal.name
         (entry.Value (portal_of St.Rows.items portal))) }
     ensures replied { OnOk result (client.new.outbox
         ≡ client.old.outbox ++ replies_bytes bind_complete) }
-    ensures err { OnErr result
+    ensures refused { IfErr result (λ e. e ≡ wire.NoMemory) }
+    ensures kept { OnErr result
         (state_of St.maps client.new ≡ state_of St.maps client.old) }
     ensures waiting { OnErr result (client.new.outbox ≡ client.old.outbox) }
 {
     let start = client.outbox.len();
-    push_bind_complete(&mut client.outbox)?;
-    if let Err(error) = client.store.put_portal(alloc, portal) {
+    let Ok(()) = push_bind_complete(&mut client.outbox) else {
+        return out_of_memory(portal);
+    };
+    let Ok(()) = client.store.put_portal(alloc, portal) else {
         client.outbox.truncate(start);
-        return Err(error);
-    }
+        return out_of_memory(());
+    };
     Ok(())
 }
 

@@ -23,40 +23,38 @@ loop-out-preserved g c = record {
   keeps = keeps_then _ _ _ c.loop-out.invariant.keeps (keeps_after _ _ _ c.in_ok-ask.ensures.ok);
 }
 
-pub returns-in_err-out-clause-asked : goal.returns-in_err-out-clause-asked
-returns-in_err-out-clause-asked g c =
-    let p = err_from_is_err_and c.from_residual.result c.from_residual.ensures.1 in (
-      verdict_at (g.Q.QueryState.told c.loop-out.query).owes,
-      asked_so_far (g.Q.QueryState.told c.args.query.now) (g.Q.QueryState.told c.loop-out.query) (g.D.CancelDesk.told c.args.desk.now).calls
-          (g.D.CancelDesk.told c.loop-out.desk).calls c.args.turns.now c.loop-out.turns c.loop-out.invariant.so_far,
-      rw (p.1, p.2) (inr refl),
-    )
+pub returns-in-Err-clause-asked : goal.returns-in-Err-clause-asked
+returns-in-Err-clause-asked g c = (
+  verdict_at (g.Q.QueryState.told c.loop-out.query).owes,
+  asked_so_far (g.Q.QueryState.told c.args.query.now) (g.Q.QueryState.told c.loop-out.query) (g.D.CancelDesk.told c.args.desk.now).calls
+      (g.D.CancelDesk.told c.loop-out.desk).calls c.args.turns.now c.loop-out.turns c.loop-out.invariant.so_far,
+  inr refl,
+)
 
-pub returns-in_err-out-clause-turns : goal.returns-in_err-out-clause-turns
-returns-in_err-out-clause-turns g c =
-    let p = err_from_is_err_and c.from_residual.result c.from_residual.ensures.1 in
-    rw (p.1, p.2) (inl (spent_so_far (g.Q.QueryState.told c.args.query.now) (g.Q.QueryState.told c.loop-out.query)
+pub returns-in-Err-clause-turns : goal.returns-in-Err-clause-turns
+returns-in-Err-clause-turns g c =
+    inl (spent_so_far (g.Q.QueryState.told c.args.query.now) (g.Q.QueryState.told c.loop-out.query)
     (g.D.CancelDesk.told c.args.desk.now).calls
-    (g.D.CancelDesk.told c.loop-out.desk).calls c.args.turns.now c.loop-out.turns c.loop-out.invariant.so_far))
+    (g.D.CancelDesk.told c.loop-out.desk).calls c.args.turns.now c.loop-out.turns c.loop-out.invariant.so_far)
 
-pub returns-in_err-out-clause-bounded : goal.returns-in_err-out-clause-bounded
-returns-in_err-out-clause-bounded g c = c.loop-out.invariant.bounded
+pub returns-in-Err-clause-bounded : goal.returns-in-Err-clause-bounded
+returns-in-Err-clause-bounded g c = c.loop-out.invariant.bounded
 
-pub returns-in-Ready-clause-asked : goal.returns-in-Ready-clause-asked
-returns-in-Ready-clause-asked g c = (
+pub returns-in-Ok-Ready-clause-asked : goal.returns-in-Ok-Ready-clause-asked
+returns-in-Ok-Ready-clause-asked g c = (
   Passed,
   passed (g.Q.QueryState.told c.args.query.now) (g.Q.QueryState.told c.loop-out.query) (g.D.CancelDesk.told c.args.desk.now).calls
       (g.D.CancelDesk.told c.loop-out.desk).calls c.args.turns.now c.loop-out.turns c.loop-out.invariant.so_far (search rules),
   (refl, (search rules)),
 )
 
-pub returns-in-Ready-clause-turns : goal.returns-in-Ready-clause-turns
-returns-in-Ready-clause-turns g c =
+pub returns-in-Ok-Ready-clause-turns : goal.returns-in-Ok-Ready-clause-turns
+returns-in-Ok-Ready-clause-turns g c =
     spent_so_far (g.Q.QueryState.told c.args.query.now) (g.Q.QueryState.told c.loop-out.query) (g.D.CancelDesk.told c.args.desk.now).calls
     (g.D.CancelDesk.told c.loop-out.desk).calls c.args.turns.now c.loop-out.turns c.loop-out.invariant.so_far
 
-pub returns-in-Ready-clause-bounded : goal.returns-in-Ready-clause-bounded
-returns-in-Ready-clause-bounded g c = c.loop-out.invariant.bounded
+pub returns-in-Ok-Ready-clause-bounded : goal.returns-in-Ok-Ready-clause-bounded
+returns-in-Ok-Ready-clause-bounded g c = c.loop-out.invariant.bounded
 
 pub returns-then-not-spend-clause-asked : goal.returns-then-not-spend-clause-asked
 returns-then-not-spend-clause-asked g c = (
@@ -85,7 +83,7 @@ returns-then-not-spend-clause-bounded g c = λ h.
 
 pub returns-in_err-ask-clause-asked : goal.returns-in_err-ask-clause-asked
 returns-in_err-ask-clause-asked g c =
-    let p = err_from_is_err_and c.from_residual-in_err-ask.result c.from_residual-in_err-ask.ensures.1 in (
+    let p = err_from_is_err_and c.from_residual.result c.from_residual.ensures.1 in (
       Unanswered,
       subst (λ calls. IsAsked (g.Q.QueryState.told c.args.query.now).owes (g.D.CancelDesk.told c.args.desk.now).calls calls Unanswered)
           (sym (ap (λ d. d.calls) c.in_err-ask.ensures.err))
@@ -97,7 +95,7 @@ returns-in_err-ask-clause-asked g c =
 
 pub returns-in_err-ask-clause-turns : goal.returns-in_err-ask-clause-turns
 returns-in_err-ask-clause-turns g c =
-    let p = err_from_is_err_and c.from_residual-in_err-ask.result c.from_residual-in_err-ask.ensures.1 in
+    let p = err_from_is_err_and c.from_residual.result c.from_residual.ensures.1 in
     let is = spent_in_vain (g.Q.QueryState.told c.args.query.now) (g.Q.QueryState.told c.loop-out.query)
     (g.D.CancelDesk.told c.args.desk.now).calls
     (g.D.CancelDesk.told c.loop-out.desk).calls c.args.turns.now c.loop-out.turns c.loop-out.invariant.so_far c.spend.new.self
@@ -128,13 +126,12 @@ returns-then-branch-clause-turns g c =
     (g.D.CancelDesk.told c.ask.new.self).calls
     (search rules) c.spend.new.self (search rules) (search rules))
 
-pub returns-in_err-out-clause-caused : goal.returns-in_err-out-clause-caused
-returns-in_err-out-clause-caused g c =
-    let p = err_from_is_err_and c.from_residual.result c.from_residual.ensures.1 in rw (p.1, p.2) tt
+pub returns-in-Err-clause-caused : goal.returns-in-Err-clause-caused
+returns-in-Err-clause-caused g c = tt
 
 pub returns-in_err-ask-clause-caused : goal.returns-in_err-ask-clause-caused
 returns-in_err-ask-clause-caused g c =
-    let p = err_from_is_err_and c.from_residual-in_err-ask.result c.from_residual-in_err-ask.ensures.1 in rw (p.1, p.2) tt
+    let p = err_from_is_err_and c.from_residual.result c.from_residual.ensures.1 in rw (p.1, p.2) tt
 
 pub returns-then-branch-clause-caused : goal.returns-then-branch-clause-caused
 returns-then-branch-clause-caused g c =

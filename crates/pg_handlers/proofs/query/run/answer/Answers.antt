@@ -10,7 +10,7 @@ use Rattle.pg_handlers.proofs.query.run.answer.Goals as goal
 
 pub returns-in_default : goal.returns-in_default
 returns-in_default g c =
-    let maps = g.St.PortalStore.maps in let s = state_of maps c.args.client.now in let m = c.args.message.now in
+    let maps = g.St.PortalStore.maps in let s = state_of maps c.args.client.now in let m = c.args.message in
     let r = told_response g.St.Rows.RowSource.items g.C.CopySource.items c.args.response in
     let s' = state_of maps c.respond.new.client in
     let plain : has_rows r ≡ false = search rules in

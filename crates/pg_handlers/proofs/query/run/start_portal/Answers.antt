@@ -10,7 +10,7 @@ use Rattle.pg_handlers.proofs.query.run.start_portal.Goals as goal
 pub returns : goal.returns
 returns g c =
     let R = g.St.Rows.RowSource.items in let maps = g.St.PortalStore.maps in
-    let s = state_of maps c.args.client.now in let m = c.args.message.now in
+    let s = state_of maps c.args.client.now in let m = c.args.message in
     let p = portal_of R c.in-Some.portal.now in let w = portal_of R c.send_page.new.portal in
     let l = lent s.info (maps c.args.client.now.store) (maps (c.portal_mut.follows.lender c.send_page.new.portal)) m.name
     c.as_str.result.now p w c.as_str.ensures c.in-Some.ensures.value

@@ -1,22 +1,19 @@
-use Rattle.std.proofs.Common.{sym, subst, refl}
+use Rattle.std.proofs.Common.{refl}
 use Rattle.std.specs.Arc.{arc_value}
 use Rattle.pg_portal.specs.Told.{portal_of}
 use Rattle.pg_portal.specs.declared.store.Entry.TheVariants as entry
 use Rattle.pg_handlers.specs.Good.{IsGoodPortal, IsGoodState}
 use Rattle.pg_handlers.specs.State.{state_of}
 use Rattle.pg_handlers.proofs.Binds.{bound_is_good}
-use Rattle.pg_handlers.proofs.GoodStores.{good_with_portal, one_value}
+use Rattle.pg_handlers.proofs.GoodStores.{good_with_portal, one_value, put_or_kept}
 use Rattle.pg_handlers.proofs.query.statements.bind_statement.Goals as goal
-
-pub returns-in_err-store_portal-clause-good : goal.returns-in_err-store_portal-clause-good
-returns-in_err-store_portal-clause-good g c = λ parser statement enough good.
-    subst (IsGoodState parser) (sym c.in_err-store_portal.ensures.err) good
 
 pub returns-clause-good : goal.returns-clause-good
 returns-clause-good g c = λ parser statement enough good.
     let s = state_of g.St.PortalStore.maps c.args.client.now in
-    let portal = portal_of g.St.Rows.RowSource.items c.in_ok-portal.field-0 in
+    let portal = portal_of g.St.Rows.RowSource.items c.portal_for.result in
     let bound : IsGoodPortal parser portal = bound_is_good parser c.args.message (arc_value c.args.statement) (arc_value c.args.statement)
-    _ portal refl refl c.in_ok-portal.ensures.bound c.in_ok-portal.ensures.unstarted statement enough in
-    subst (IsGoodState parser) (sym c.in_ok-store_portal.ensures.ok)
-    (good_with_portal parser s _ (entry.Value portal) (one_value (IsGoodPortal parser) portal bound) good)
+    _ portal refl refl c.portal_for.ensures.bound c.portal_for.ensures.unstarted statement enough in
+    put_or_kept c.store_portal.result (IsGoodState parser) s (state_of g.St.PortalStore.maps c.store_portal.new.client) _
+    c.store_portal.ensures.ok c.store_portal.ensures.kept
+    (good_with_portal parser s _ (entry.Value portal) (one_value (IsGoodPortal parser) portal bound) good) good

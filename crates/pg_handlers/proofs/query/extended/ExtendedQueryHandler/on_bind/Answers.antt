@@ -1,38 +1,66 @@
-use Rattle.std.proofs.Common.{rules, ◌≡◌, ◌<◌, length, sym, subst, Bor, Some, Global}
+use Rattle.std.proofs.Common.{rules, ◌≡◌, ◌<◌, ◌∙◌, length, ap, sym, subst, Some}
+use Rattle.std.specs.Prelude.{IfErr, OnOk}
 use Rattle.std.specs.Arc.{arc_value}
 use Rattle.std.specs.FinMap as fin
-use Rattle.std.specs.declared.sync.Arc.{Arc}
-use Rattle.pg_portal.specs.declared.stmt.StoredStatement.{StoredStatement}
 use Rattle.pg_portal.specs.Told.{value_under}
+use Rattle.pg_handlers.specs.Effect.{Done, Effect, IsEffect, IsRefusedEffect}
 use Rattle.pg_handlers.specs.Good.{IsGoodStatement}
-use Rattle.pg_handlers.proofs.Binds.{few_are_enough}
-use Rattle.pg_handlers.proofs.GoodStores.{found_value}
+use Rattle.pg_handlers.specs.State.{state_of}
+use Rattle.pg_handlers.proofs.Binds.{binds, binds_few, few_are_enough}
 use Rattle.pg_handlers.proofs.query.extended.ExtendedQueryHandler.on_bind.Goals as goal
 
-pub bind_checked-requires-clause-good : goal.bind_checked-requires-clause-good
-bind_checked-requires-clause-good g c =
-    let parser = (g.Self.ExtendedQueryHandler.told c.args.self.now).parser in
-    let statement = arc_value c.in-Some-Value.statement.now in
-    let found : value_under (fin.get (g.St.PortalStore.maps c.args.client.now.store).statements c.as_str.result.now) ≡ Some statement =
-    found_value (λ (s : Bor (Arc (StoredStatement g.row.Self-Statement.Denot) Global)). arc_value s.now) c.get_statement.result
-    c.in-Some-Value.field-0 c.in-Some-Value.statement _
-    c.get_statement.ensures c.in-Some-Value.is c.in-Some-Value.field-0-is in
-    let good = c.requires.good.statements c.as_str.result.now statement found in
-    subst (λ p. IsGoodStatement p (arc_value c.in_ok-statement-in-Some-Value.statement)) (sym c.in_ok-parser-in-Some-Value.ensures)
-    (subst (IsGoodStatement parser) (sym c.in_ok-statement-in-Some-Value.ensures.cases) good)
+pub returns-in_default-clause-ok : goal.returns-in_default-clause-ok
+returns-in_default-clause-ok g c = c.bind_no_statement.ensures.ok (g.Self.ExtendedQueryHandler.told c.args.self.now)
+
+pub returns-in_default-clause-refused : goal.returns-in_default-clause-refused
+returns-in_default-clause-refused g c = c.bind_no_statement.ensures.refused (g.Self.ExtendedQueryHandler.told c.args.self.now)
+
+pub returns-in_default-clause-good : goal.returns-in_default-clause-good
+returns-in_default-clause-good g c =
+    c.bind_no_statement.ensures.good (g.Self.ExtendedQueryHandler.told c.args.self.now).parser c.requires.good
+
+pub returns-then-len-lt2-clause-ok : goal.returns-then-len-lt2-clause-ok
+returns-then-len-lt2-clause-ok g c =
+    let s = state_of g.St.PortalStore.maps c.args.client.now in
+    let found : value_under (fin.get s.statements c.args.message.statement_name) ≡ Some (arc_value c.in-Some.statement.now) =
+    ap (λ n. value_under (fin.get s.statements n)) (sym c.as_str.ensures) ∙ sym c.in-Some.ensures in
+    let few : length c.args.message.result_column_format_codes < 2 = search rules in
+    subst (λ (effect : Effect g.row.Self-Statement.Denot). OnOk c.bind_statement.result (IsEffect effect c.args.client.now.outbox
+    c.bind_statement.new.client.outbox (Done (state_of g.St.PortalStore.maps c.bind_statement.new.client))))
+    (binds_few (g.Self.ExtendedQueryHandler.told c.args.self.now) s c.args.message _ found (arc_value c.in-Ok.statement) few
+    c.in-Ok.ensures.cases) c.bind_statement.ensures.ok
 
 pub returns-then-len-lt2-clause-good : goal.returns-then-len-lt2-clause-good
 returns-then-len-lt2-clause-good g c =
     let parser = (g.Self.ExtendedQueryHandler.told c.args.self.now).parser in
-    let statement = arc_value c.in-Some-Value.statement.now in
-    let found : value_under (fin.get (g.St.PortalStore.maps c.args.client.now.store).statements c.as_str.result.now) ≡ Some statement =
-    found_value (λ (s : Bor (Arc (StoredStatement g.row.Self-Statement.Denot) Global)). arc_value s.now) c.get_statement.result
-    c.in-Some-Value.field-0 c.in-Some-Value.statement _
-    c.get_statement.ensures c.in-Some-Value.is c.in-Some-Value.field-0-is in
-    let good = c.requires.good.statements c.as_str.result.now statement found in
+    let good = c.requires.good.statements c.as_str.result.now (arc_value c.in-Some.statement.now) (sym c.in-Some.ensures) in
     let few : length c.args.message.result_column_format_codes < 2 = search rules in
-    c.bind_statement.ensures.good parser (subst (IsGoodStatement parser) (sym c.in_ok-statement-in-Some-Value.ensures.cases) good)
-    (few_are_enough _ _ few) c.requires.good
+    c.bind_statement.ensures.good parser (subst (IsGoodStatement parser) (sym c.in-Ok.ensures.cases) good) (few_are_enough _ _ few)
+    c.requires.good
 
-pub returns-in-Some-Empty-clause-good : goal.returns-in-Some-Empty-clause-good
-returns-in-Some-Empty-clause-good g c = c.bind_empty.ensures.good (g.Self.ExtendedQueryHandler.told c.args.self.now).parser c.requires.good
+pub bind_checked-requires-clause-good : goal.bind_checked-requires-clause-good
+bind_checked-requires-clause-good g c =
+    let parser = (g.Self.ExtendedQueryHandler.told c.args.self.now).parser in
+    let good = c.requires.good.statements c.as_str.result.now (arc_value c.in-Some.statement.now) (sym c.in-Some.ensures) in
+    subst (λ p. IsGoodStatement p (arc_value c.in-Ok.statement)) (sym c.in-Ok-query_parser.ensures)
+    (subst (IsGoodStatement parser) (sym c.in-Ok.ensures.cases) good)
+
+pub returns-clause-ok : goal.returns-clause-ok
+returns-clause-ok g c =
+    let s = state_of g.St.PortalStore.maps c.args.client.now in
+    let found : value_under (fin.get s.statements c.args.message.statement_name) ≡ Some (arc_value c.in-Some.statement.now) =
+    ap (λ n. value_under (fin.get s.statements n)) (sym c.as_str.ensures) ∙ sym c.in-Some.ensures in
+    subst (λ (effect : Effect g.row.Self-Statement.Denot). OnOk c.bind_checked.result (IsEffect effect c.args.client.now.outbox
+    c.bind_checked.new.client.outbox (Done (state_of g.St.PortalStore.maps c.bind_checked.new.client))))
+    (binds (g.Self.ExtendedQueryHandler.told c.args.self.now) s c.args.message _ found _ (arc_value c.in-Ok.statement)
+    c.in-Ok-query_parser.ensures c.in-Ok.ensures.cases) c.bind_checked.ensures.ok
+
+pub returns-clause-refused : goal.returns-clause-refused
+returns-clause-refused g c =
+    let s = state_of g.St.PortalStore.maps c.args.client.now in
+    let found : value_under (fin.get s.statements c.args.message.statement_name) ≡ Some (arc_value c.in-Some.statement.now) =
+    ap (λ n. value_under (fin.get s.statements n)) (sym c.as_str.ensures) ∙ sym c.in-Some.ensures in
+    subst (λ (effect : Effect g.row.Self-Statement.Denot). IfErr c.bind_checked.result (IsRefusedEffect effect c.args.client.now.outbox
+    c.bind_checked.new.client.outbox (state_of g.St.PortalStore.maps c.bind_checked.new.client)))
+    (binds (g.Self.ExtendedQueryHandler.told c.args.self.now) s c.args.message _ found _ (arc_value c.in-Ok.statement)
+    c.in-Ok-query_parser.ensures c.in-Ok.ensures.cases) c.bind_checked.ensures.refused

@@ -29,13 +29,12 @@ returns-then-is_blank g c =
       keeps = x.keeps;
     }
 
-pub returns-in_err-start : goal.returns-in_err-start
-returns-in_err-start g c =
-    let u = err_from_is_err_and c.from_residual.result c.from_residual.ensures.1 in
+pub returns-in_default : goal.returns-in_default
+returns-in_default g c =
     let maps = g.St.PortalStore.maps in let told = g.D.CancelDesk.told in let s = state_of maps c.args.client.now in
     let h = g.Self.SimpleQueryHandler.told c.args.self.now in let m = c.args.query in let out = c.args.client.now.outbox in
-    let x = returned (u.1 ∙ ap Err u.2) (none_started h m s out (told c.args.desk.now) (told c.start.new.self) c.args.turns.now
-    c.in_err-start.ensures.err) in
+    let x = returned c.query_out_of_memory.ensures (none_started h m s out (told c.args.desk.now) (told c.start.new.self) c.args.turns.now
+    c.in_default.ensures.err) in
     record {
       ok = x.ok;
       refused = x.refused;
@@ -53,11 +52,11 @@ returns-in_err-start g c =
 
 pub returns-in_err-state : goal.returns-in_err-state
 returns-in_err-state g c =
-    let u = err_from_is_err_and c.from_residual-in_err-state.result c.from_residual-in_err-state.ensures.1 in
+    let u = err_from_is_err_and c.from_residual.result c.from_residual.ensures.1 in
     let maps = g.St.PortalStore.maps in let told = g.D.CancelDesk.told in let s = state_of maps c.args.client.now in
     let h = g.Self.SimpleQueryHandler.told c.args.self.now in let m = c.args.query in let out = c.args.client.now.outbox in
     let busy : is_blank m.query ≡ false = ap is_blank (sym c.as_str.ensures) ∙ sym c.is_blank.ensures ∙ c.if-is_blank.false in
-    let x = returned (u.1 ∙ ap Err u.2) (none_begun h m s busy (told c.args.desk.now) (told c.start.new.self) c.in_ok-start.ensures.ok
+    let x = returned (u.1 ∙ ap Err u.2) (none_begun h m s busy (told c.args.desk.now) (told c.start.new.self) c.in-Ok.ensures.ok
     c.args.turns.now out) in
     record {
       ok = x.ok;
@@ -86,7 +85,7 @@ returns g c =
     let h = g.Self.SimpleQueryHandler.told c.args.self.now in let m = c.args.query in let out = c.args.client.now.outbox in
     let busy : is_blank m.query ≡ false = ap is_blank (sym c.as_str.ensures) ∙ sym c.is_blank.ensures ∙ c.if-is_blank.false in
     let e = c.run_query.ensures in
-    let x = query_ran h m s busy (told c.args.desk.now) (told c.start.new.self) c.in_ok-start.ensures.ok c.args.turns.now out
+    let x = query_ran h m s busy (told c.args.desk.now) (told c.start.new.self) c.in-Ok.ensures.ok c.args.turns.now out
     (state_of maps c.run_query.new.client) c.run_query.new.client.outbox (told c.run_query.new.desk) c.run_query.new.turns
     c.run_query.result _ (c.in_ok-state.ensures.told ∙ ap (h s.info) c.as_str-2.ensures) e.ran e.answerable e.caused e.limit e.info e.kept
     e.turns e.bounded e.keeps in
