@@ -1,6 +1,7 @@
 -- Rows of a phase that calls nothing, told with an error of a session.
 use Rattle.std.proofs.Common.{◌≡◌, ℕ, List, Bool, Option, Result, Ok, Err, IfOk, IfErr, refl, subst, sym}
 use Rattle.pg_messages.specs.declared.frontend.PgWireFrontendMessage.{PgWireFrontendMessage}
+use Rattle.pg_portal.specs.declared.client.PgWireConnectionState.{PgWireConnectionState}
 use Rattle.pg_portal.specs.declared.client.PgWireConnectionState.TheVariants as phase
 use Rattle.pg_handlers.specs.CopyRows.{copy_row}
 use Rattle.pg_handlers.specs.Handlers.{Handlers}
@@ -67,3 +68,11 @@ sync_row h answers s m is = rw is refl
 pub copy_phase_row : {S : Type 0} (h : Handlers S) (answers : List Bool) (s : State S) (m : PgWireFrontendMessage) (is_extended : Bool)
     → s.info.state ≡ phase.CopyInProgress is_extended → message_row h answers s m ≡ silent (copy_row h.copying is_extended s m)
 copy_phase_row h answers s m is_extended is = rw is refl
+
+-- the phase that is left
+pub last_phase : (p : PgWireConnectionState) → (p ≡ phase.AwaitingStartup → ⊥) → ((b : Bool) → p ≡ phase.CopyInProgress b → ⊥)
+    → (p ≡ phase.ReadyForQuery → ⊥) → p ≡ phase.AwaitingSync
+last_phase phase.AwaitingStartup startup copy ready = absurd (startup refl)
+last_phase phase.ReadyForQuery startup copy ready = absurd (ready refl)
+last_phase phase.AwaitingSync startup copy ready = refl
+last_phase (phase.CopyInProgress b) startup copy ready = absurd (copy b refl)
