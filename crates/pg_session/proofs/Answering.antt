@@ -1,5 +1,5 @@
 -- The answer of a message is that of its row, and of what follows its error.
-use Rattle.std.proofs.Common.{◌≡◌, ◌≢◌, ℕ, ◌⊎◌, inl, inr, Bool, true, false, if◌then◌else◌, List, [], ◌∷◌, ◌++◌, Option, Some, None, Result, Ok, Err, IfOk, OnOk, refl, sym, ap, ◌∙◌, append_assoc, append-nil}
+use Rattle.std.proofs.Common.{◌≡◌, ◌≢◌, ℕ, inl, inr, Bool, true, false, if◌then◌else◌, List, [], ◌∷◌, ◌++◌, Option, Some, None, Result, Ok, Err, IfOk, OnOk, refl, sym, ap, ◌∙◌, append_assoc, append-nil}
 use Rattle.pg_messages.specs.declared.frontend.PgWireFrontendMessage.{PgWireFrontendMessage}
 use Rattle.pg_messages.specs.Replies.{replies_bytes}
 use Rattle.pg_portal.specs.declared.error.PgWireError.{PgWireError}
@@ -185,13 +185,3 @@ module _ {S : Type 0} (h : Handlers S) (s : State S) (m : PgWireFrontendMessage)
   answered_where_told out mid new t n e scope (Ok end) refused same known replied goes_on = answered_by_error out mid new t e scope
       (next_of end n) (row_where_told out mid t e known refused) same replied goes_on
   answered_where_told out mid new t n e scope (Err error) refused same known replied goes_on = tt
-
--- ---- ends
-
-pub none_or_fatal : (e : Option EndKind) → (e ≡ None) ⊎ (e ≡ Some end.Fatal) → e ≢ Some end.InputEnd
-none_or_fatal e (inl h) k = cc
-none_or_fatal e (inr h) k = cc
-
-pub goes_on_alike : (E F : Type 0) (e : Option EndKind) → goes_on {E = E} (Ok e) ≡ goes_on {E = F} (Ok e)
-goes_on_alike E F None = refl
-goes_on_alike E F (Some kind) = refl

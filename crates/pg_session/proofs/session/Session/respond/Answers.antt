@@ -42,5 +42,6 @@ returns-in-Err-Wire-clause-answer g c =
     answered_where_told h session.state c.args.message (g.D.CancelDesk.told c.args.desk.now).calls
     (g.D.CancelDesk.told c.process_message.new.desk).calls session.unsent mid.unsent c.tell.new.self.unsent mid.state
     c.tell.new.self.state c.in-Err-Wire.error (scope_for c.waits_for_sync-wait_for_sync.result) c.tell.result refused
-    (c.waits_for_sync-wait_for_sync.ensures ∙ ap (λ v. scope_in v.state.info.state c.args.message) c.self.view_is)
+    (◌∙◌ {b = scope_in c.self.inside.client.info.state c.args.message} c.waits_for_sync-wait_for_sync.ensures
+    (ap (λ v. scope_in v.state.info.state c.args.message) c.self.view_is))
     c.tell.ensures.known c.tell.ensures.replied c.tell.ensures.next
