@@ -1,5 +1,5 @@
 -- The answer of a message is that of its row, and of what follows its error.
-use Rattle.std.proofs.Common.{◌≡◌, ◌≢◌, ℕ, ◌⊎◌, inl, inr, Bool, true, false, if◌then◌else◌, List, [], ◌∷◌, ◌++◌, Option, Some, None, Ok, refl, sym, ap, ◌∙◌, append_assoc, append-nil}
+use Rattle.std.proofs.Common.{◌≡◌, ◌≢◌, ℕ, inl, inr, Bool, true, false, if◌then◌else◌, List, [], ◌∷◌, ◌++◌, Option, Some, None, Result, Ok, Err, IfOk, OnOk, refl, sym, ap, ◌∙◌, append_assoc, append-nil}
 use Rattle.pg_messages.specs.declared.frontend.PgWireFrontendMessage.{PgWireFrontendMessage}
 use Rattle.pg_messages.specs.Replies.{replies_bytes}
 use Rattle.pg_portal.specs.declared.error.PgWireError.{PgWireError}
@@ -20,6 +20,7 @@ use Rattle.pg_handlers.specs.Table.{message_row, whole_table, scope_in, awaits}
 use Rattle.pg_handlers.proofs.Awaiting.{row_keeps}
 use Rattle.pg_handlers.proofs.Steady.{row_same, settled_row_takes}
 use Rattle.pg_session.specs.Messages.{outcome_of, next_of}
+use Rattle.pg_session.specs.declared.ends.ServeError.{ServeError}
 use Rattle.pg_session.specs.Session.{goes_on}
 use Rattle.pg_session.specs.Steps.{IsAnswered, IsCutAnswer, IsStoppedAnswer}
 use Rattle.pg_session.proofs.ReplyBytes.{replies_bytes-append}
@@ -173,12 +174,14 @@ module _ {S : Type 0} (h : Handlers S) (s : State S) (m : PgWireFrontendMessage)
   row_where_told out mid t e ne (inl x) = absurd (ne x.0)
   row_where_told out mid t e ne (inr x) = x
 
--- ---- ends
-
-pub none_or_fatal : (e : Option EndKind) → (e ≡ None) ⊎ (e ≡ Some end.Fatal) → e ≢ Some end.InputEnd
-none_or_fatal e (inl h) k = cc
-none_or_fatal e (inr h) k = cc
-
-pub goes_on_alike : (E F : Type 0) (e : Option EndKind) → goes_on {E = E} (Ok e) ≡ goes_on {E = F} (Ok e)
-goes_on_alike E F None = refl
-goes_on_alike E F (Some kind) = refl
+  -- the same with what follows it, where it was told
+  pub answered_where_told : (out mid new : List ℕ) (t n : State S) (e : PgWireError) (scope : Scope)
+      (result : Result (Option EndKind) ServeError)
+      → IsRefusedRow (λ answers. message_row h answers s m) out mid calls new_calls t (session.Wire e)
+      → scope ≡ scope_in s.info.state m → OnOk result (e ≢ wire.NoMemory)
+      → OnOk result (new ≡ mid ++ replies_bytes (failed scope [] [] t (info_of e)).replies)
+      → IfOk result (λ end. (failed scope [] [] t (info_of e)).next ≡ next_of end n)
+      → IfOk result (λ end. IsAnswered (whole_table h) s m out new calls new_calls (next_of end n))
+  answered_where_told out mid new t n e scope (Ok end) refused same known replied goes_on = answered_by_error out mid new t e scope
+      (next_of end n) (row_where_told out mid t e known refused) same replied goes_on
+  answered_where_told out mid new t n e scope (Err error) refused same known replied goes_on = tt

@@ -1,9 +1,7 @@
 -- The turns that a session spends, piece by piece.
-use Rattle.std.proofs.Common.{arith, ◌≡◌, ◌≢◌, ◌+◌, ◌++◌, ◌⊎◌, inl, inr, ℕ, List, [], ◌∷◌, Result, Ok, Err, refl, ap, sym, subst, ◌∙◌, append_assoc}
+use Rattle.std.proofs.Common.{arith, ◌≡◌, ◌+◌, ◌++◌, inl, inr, ℕ, List, [], ◌∷◌, Result, Ok, Err, refl, ap, sym, subst, ◌∙◌, append_assoc}
 use Rattle.std.proofs.Math.Seq.{drop-append_seam, drop-length}
 use Rattle.std.specs.Result.{IsErrAnd}
-use Rattle.pg_portal.specs.declared.error.PgWireError.{PgWireError}
-use Rattle.pg_portal.specs.declared.error.PgWireError.TheVariants as wire
 use Rattle.pg_handlers.specs.declared.desk.DeskCall.{DeskCall}
 use Rattle.pg_handlers.specs.declared.desk.DeskCall.TheVariants as desk
 use Rattle.pg_handlers.specs.declared.ends.Turns.{Turns}
@@ -68,21 +66,6 @@ pub fed_then : {A : Type 0} (turns now new : Turns) (k l m a b : List DeskCall) 
 fed_then turns now new k l m a b result p q e h =
     fed_behind turns new (questions_since k l) (questions_since l m) (questions_since k m) result (since_then k l m a b p q)
     (subst (λ t. HasFed t new (questions_since l m) result) e h)
-
--- what an error that isn't want of turns took
-abbrev pub TookTurns : Turns → Turns → ℕ → PgWireError → Type 0
-TookTurns turns new n e = (new ≡ spent_more turns n) ⊎ ((e ≡ wire.NoMemory) × (new ≡ spent_in_vain turns n))
-
--- an error that is told takes no turn
-pub fed_where_told : (turns new : Turns) (n : ℕ) (e : PgWireError) → e ≢ wire.NoMemory → TookTurns turns new n e → new ≡ spent_more turns n
-fed_where_told turns new n e ne (inl h) = h
-fed_where_told turns new n e ne (inr h) = absurd (ne h.0)
-
--- memory is wanting
-pub fed_no_memory : (turns new : Turns) (n : ℕ) (e : PgWireError) → TookTurns turns new n e
-    → (new ≡ spent_more turns n) ⊎ (new ≡ spent_in_vain turns n)
-fed_no_memory turns new n e (inl h) = inl h
-fed_no_memory turns new n e (inr h) = inr h.1
 
 -- an error takes what it takes, whatever the call would have told
 err_alike : (A B : Type 0) (turns new : Turns) (n : ℕ) (e : ServeError) → HasFed {A = A} turns new n (Err e)

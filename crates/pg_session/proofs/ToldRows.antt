@@ -1,6 +1,7 @@
 -- Rows of a phase that calls nothing, told with an error of a session.
 use Rattle.std.proofs.Common.{◌≡◌, ℕ, List, Bool, Option, Result, Ok, Err, IfOk, IfErr, refl, subst, sym}
 use Rattle.pg_messages.specs.declared.frontend.PgWireFrontendMessage.{PgWireFrontendMessage}
+use Rattle.pg_portal.specs.declared.client.PgWireConnectionState.{PgWireConnectionState}
 use Rattle.pg_portal.specs.declared.client.PgWireConnectionState.TheVariants as phase
 use Rattle.pg_handlers.specs.CopyRows.{copy_row}
 use Rattle.pg_handlers.specs.Handlers.{Handlers}
@@ -35,14 +36,6 @@ with_session_error_refused row e out new_out calls s (Err error) same x =
 
 -- ---- the row of a phase
 
-pub startup_told : {S : Type 0} (h : Handlers S) (s : State S) (m : PgWireFrontendMessage) (out new_out : List ℕ)
-    (calls new_calls : List DeskCall) (n : State S) (answer : Result (Option EndKind) SessionError)
-    → s.info.state ≡ phase.AwaitingStartup
-    → IfOk answer (λ end. IsRow (λ answers. startup_row answers s m) out new_out calls new_calls (outcome_of end n))
-    → IfOk answer (λ end. IsRow (λ answers. message_row h answers s m) out new_out calls new_calls (outcome_of end n))
-startup_told h s m out new_out calls new_calls n answer is x = subst (λ p. IfOk answer (λ end. IsRow
-    (λ answers. row h answers s m p) out new_out calls new_calls (outcome_of end n))) (sym is) x
-
 pub startup_refused : {S : Type 0} (h : Handlers S) (s : State S) (m : PgWireFrontendMessage) (out new_out : List ℕ)
     (calls new_calls : List DeskCall) (n : State S) (answer : Result (Option EndKind) SessionError)
     → s.info.state ≡ phase.AwaitingStartup
@@ -67,3 +60,11 @@ sync_row h answers s m is = rw is refl
 pub copy_phase_row : {S : Type 0} (h : Handlers S) (answers : List Bool) (s : State S) (m : PgWireFrontendMessage) (is_extended : Bool)
     → s.info.state ≡ phase.CopyInProgress is_extended → message_row h answers s m ≡ silent (copy_row h.copying is_extended s m)
 copy_phase_row h answers s m is_extended is = rw is refl
+
+-- the phase that is left
+pub last_phase : (p : PgWireConnectionState) → (p ≡ phase.AwaitingStartup → ⊥) → ((b : Bool) → p ≡ phase.CopyInProgress b → ⊥)
+    → (p ≡ phase.ReadyForQuery → ⊥) → p ≡ phase.AwaitingSync
+last_phase phase.AwaitingStartup startup copy ready = absurd (startup refl)
+last_phase phase.ReadyForQuery startup copy ready = absurd (ready refl)
+last_phase phase.AwaitingSync startup copy ready = refl
+last_phase (phase.CopyInProgress b) startup copy ready = absurd (copy b refl)

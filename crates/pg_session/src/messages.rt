@@ -1,32 +1,38 @@
 //! What each message of a client is answered, by the phase of the conversation.
 
 ghost use Rattle.std.specs.Prelude.{◌≡◌, ◌≢◌, ◌≤◌, Some, IfOk, IfErr, OnOk};
+ghost use Rattle.pg_messages.specs.declared.extendedquery.Bind.{Bind};
+ghost use Rattle.pg_messages.specs.declared.extendedquery.Parse.{Parse};
+ghost use Rattle.pg_messages.specs.declared.extendedquery.PgSync.{PgSync};
+ghost use Rattle.pg_messages.specs.declared.frontend.PgWireFrontendMessage.TheVariants as frontend;
+ghost use Rattle.pg_messages.specs.declared.startup.Terminate.{Terminate};
 ghost use Rattle.pg_portal.specs.Rows.{IsAnswerable};
 ghost use Rattle.pg_portal.specs.declared.error.PgWireError.{PgWireError};
 ghost use Rattle.pg_portal.specs.declared.client.PgWireConnectionState.TheVariants as phase;
-ghost use Rattle.pg_handlers.specs.Desk.{KeepsDesk};
+ghost use Rattle.pg_handlers.specs.Desk.{GoesOn, KeepsDesk};
 ghost use Rattle.pg_handlers.specs.CopyRows.{copy_row, copied};
 ghost use Rattle.pg_handlers.specs.Effect.{IsRow, IsRefusedRow, IsEffect, IsRefusedEffect, Done};
 ghost use Rattle.pg_handlers.specs.Good.{IsGiven, IsGoodState};
 ghost use Rattle.pg_handlers.specs.Questions.{HasSpent, questions_since};
 ghost use Rattle.pg_handlers.specs.Sending.{IsAnswerableError};
 ghost use Rattle.pg_handlers.specs.State.{state_of};
-ghost use Rattle.pg_handlers.specs.Table.{ready_row, statement_row, IsPlain, awaiting_sync_row};
+ghost use Rattle.pg_handlers.specs.Table.{message_row, ready_row, statement_row, IsPlain, awaiting_sync_row};
 ghost use Rattle.pg_handlers.specs.declared.ends.EndKind.TheVariants.{InputEnd};
-ghost use Rattle.pg_session.specs.Messages.{outcome_of, with_session_error};
+ghost use Rattle.pg_handlers.specs.declared.ends.Turns.{Turns};
+ghost use Rattle.pg_session.specs.Messages.{IsGivenIn, outcome_of, with_session_error};
 
-use crate::startup::let_go;
+use crate::startup::{let_go, on_startup_phase};
 use pg_handlers::{
     CancelDesk, Client, CopyHandler, EndKind, ExtendedQueryHandler, PgWireServerHandlers,
     SessionError, SimpleQueryHandler, Turns, send_ready_for_query,
 };
-use pg_messages::PgWireFrontendMessage;
+use pg_messages::{CopyDone, PgWireFrontendMessage};
 use pg_portal::{PgWireConnectionState, PgWireError, PortalStore};
 use std::alloc::Global;
 
 /// The same answer, with an error of a message as one of a session.
 #[inline(always)]
-pub(crate) fn with_session_error(
+fn with_session_error(
     answer: Result<Option<EndKind>, PgWireError>,
 ) -> Result<Option<EndKind>, SessionError>
     ensures { result ≡ with_session_error answer }
@@ -37,9 +43,109 @@ pub(crate) fn with_session_error(
     }
 }
 
+/// A message in any phase of the conversation.
+#[inline(always)]
+pub(crate) fn on_message<
+    H: PgWireServerHandlers,
+    St: PortalStore<
+        Statement = <H::Extended as ExtendedQueryHandler>::Statement,
+        Rows = <H::Extended as ExtendedQueryHandler>::Rows,
+    >,
+    D: CancelDesk,
+>(
+    alloc: Global,
+    handlers: &H,
+    client: &mut Client<St>,
+    desk: &mut D,
+    turns: &mut Turns,
+    message: PgWireFrontendMessage,
+) -> Result<Option<EndKind>, SessionError>
+    requires given { IsGivenIn (state_of St.maps client.old) message }
+    requires good { IsGoodState (H.told handlers.now).extended.parser
+        (state_of St.maps client.old) }
+    ensures ok { IfOk result (λ end. IsRow
+        (λ answers. message_row
+        (H.told handlers.now)
+        answers (state_of St.maps client.old) message)
+        client.old.outbox client.new.outbox (D.told desk.old).calls (D.told desk.new).calls
+        (outcome_of end (state_of St.maps client.new))) }
+    ensures refused { IfErr result (IsRefusedRow
+        (λ answers. message_row
+        (H.told handlers.now)
+        answers (state_of St.maps client.old) message)
+        client.old.outbox client.new.outbox (D.told desk.old).calls (D.told desk.new).calls
+        (state_of St.maps client.new)) }
+    ensures answerable { IfErr result IsAnswerableError }
+    ensures ends { IfOk result (λ end. end ≢ Some InputEnd) }
+    ensures good { IsGoodState (H.told handlers.now).extended.parser (state_of St.maps client.new) }
+    ensures turns { HasSpent turns.old turns.new
+        (questions_since (D.told desk.old).calls (D.told desk.new).calls) result }
+    ensures bounded { turns.old.spent ≤ turns.old.limit → turns.new.spent ≤ turns.new.limit }
+    ensures registration { GoesOn (D.told desk.old) (D.told desk.new) }
+{
+    match client.info.state {
+        PgWireConnectionState::ReadyForQuery => {
+            on_ready(alloc, handlers, client, desk, turns, message)
+        }
+        _ => on_unready(alloc, handlers, client, desk, message),
+    }
+}
+
+/// A message of a session that isn't ready. It spends no turns.
+#[inline(never)]
+fn on_unready<
+    H: PgWireServerHandlers,
+    St: PortalStore<
+        Statement = <H::Extended as ExtendedQueryHandler>::Statement,
+        Rows = <H::Extended as ExtendedQueryHandler>::Rows,
+    >,
+    D: CancelDesk,
+>(
+    alloc: Global,
+    handlers: &H,
+    client: &mut Client<St>,
+    desk: &mut D,
+    message: PgWireFrontendMessage,
+) -> Result<Option<EndKind>, SessionError>
+    requires given { IsGivenIn (state_of St.maps client.old) message }
+    requires unready { client.old.info.state ≢ phase.ReadyForQuery }
+    requires good { IsGoodState (H.told handlers.now).extended.parser
+        (state_of St.maps client.old) }
+    ensures ok { IfOk result (λ end. IsRow
+        (λ answers. message_row
+        (H.told handlers.now)
+        answers (state_of St.maps client.old) message)
+        client.old.outbox client.new.outbox (D.told desk.old).calls (D.told desk.new).calls
+        (outcome_of end (state_of St.maps client.new))) }
+    ensures refused { IfErr result (IsRefusedRow
+        (λ answers. message_row
+        (H.told handlers.now)
+        answers (state_of St.maps client.old) message)
+        client.old.outbox client.new.outbox (D.told desk.old).calls (D.told desk.new).calls
+        (state_of St.maps client.new)) }
+    ensures answerable { IfErr result IsAnswerableError }
+    ensures ends { IfOk result (λ end. end ≢ Some InputEnd) }
+    ensures good { IsGoodState (H.told handlers.now).extended.parser (state_of St.maps client.new) }
+    ensures turns { (turns : Turns) → HasSpent turns turns
+        (questions_since (D.told desk.old).calls (D.told desk.new).calls) result }
+    ensures registration { GoesOn (D.told desk.old) (D.told desk.new) }
+{
+    match client.info.state {
+        PgWireConnectionState::AwaitingStartup => on_startup_phase(alloc, client, desk, message),
+        PgWireConnectionState::CopyInProgress(is_extended) => with_session_error(on_copy(
+            alloc,
+            handlers,
+            client,
+            is_extended,
+            message,
+        )),
+        _ => with_session_error(on_awaiting_sync(handlers, client, message)),
+    }
+}
+
 /// A message of a session that is ready.
 #[inline(always)]
-pub(crate) fn on_ready<
+fn on_ready<
     H: PgWireServerHandlers,
     St: PortalStore<
         Statement = <H::Extended as ExtendedQueryHandler>::Statement,
@@ -133,12 +239,47 @@ fn on_statement<
         PgWireFrontendMessage::Bind(m) => handlers
             .extended_query_handler()
             .on_bind(alloc, client, m),
+        PgWireFrontendMessage::PgSync(m) => handlers.extended_query_handler().on_sync(client, m),
+        other => on_rarer_statement(alloc, handlers, client, other),
+    }
+}
+
+/// One of these messages that is neither Parse, Bind nor Sync.
+#[inline(never)]
+fn on_rarer_statement<
+    H: PgWireServerHandlers,
+    St: PortalStore<
+        Statement = <H::Extended as ExtendedQueryHandler>::Statement,
+        Rows = <H::Extended as ExtendedQueryHandler>::Rows,
+    >,
+>(
+    alloc: Global,
+    handlers: &H,
+    client: &mut Client<St>,
+    message: PgWireFrontendMessage,
+) -> Result<(), PgWireError>
+    requires given { IsGiven message }
+    requires plain { IsPlain message }
+    requires no_parse { (m : Parse) → message ≢ frontend.Parse m }
+    requires no_bind { (m : Bind) → message ≢ frontend.Bind m }
+    requires no_sync { (m : PgSync) → message ≢ frontend.PgSync m }
+    requires good { IsGoodState (H.told handlers.now).extended.parser
+        (state_of St.maps client.old) }
+    ensures ok { OnOk result (IsEffect
+        (statement_row (H.told handlers.now).extended (state_of St.maps client.old) message)
+        client.old.outbox client.new.outbox (Done (state_of St.maps client.new))) }
+    ensures refused { IfErr result (IsRefusedEffect
+        (statement_row (H.told handlers.now).extended (state_of St.maps client.old) message)
+        client.old.outbox client.new.outbox (state_of St.maps client.new)) }
+    ensures answerable { IfErr result IsAnswerable }
+    ensures good { IsGoodState (H.told handlers.now).extended.parser (state_of St.maps client.new) }
+{
+    match message {
         PgWireFrontendMessage::Describe(m) => handlers
             .extended_query_handler()
             .on_describe(alloc, client, m),
         PgWireFrontendMessage::Close(m) => handlers.extended_query_handler().on_close(client, m),
         PgWireFrontendMessage::Flush(m) => handlers.extended_query_handler().on_flush(client, m),
-        PgWireFrontendMessage::PgSync(m) => handlers.extended_query_handler().on_sync(client, m),
         other => {
             let_go(other);
             Ok(())
@@ -148,7 +289,7 @@ fn on_statement<
 
 /// A message after an error: all but Sync and Terminate is dropped.
 #[inline(never)]
-pub(crate) fn on_awaiting_sync<
+fn on_awaiting_sync<
     H: PgWireServerHandlers,
     St: PortalStore<
         Statement = <H::Extended as ExtendedQueryHandler>::Statement,
@@ -187,7 +328,7 @@ pub(crate) fn on_awaiting_sync<
 
 /// A message of a COPY from the client: all but those of the COPY and Terminate are dropped.
 #[inline(never)]
-pub(crate) fn on_copy<
+fn on_copy<
     H: PgWireServerHandlers,
     St: PortalStore<
         Statement = <H::Extended as ExtendedQueryHandler>::Statement,
@@ -215,23 +356,90 @@ pub(crate) fn on_copy<
 {
     match message {
         PgWireFrontendMessage::Terminate(_) => Ok(Some(EndKind::Terminate)),
+        other => match on_copied(alloc, handlers, client, is_extended, other) {
+            Ok(()) => Ok(None),
+            Err(error) => Err(error),
+        },
+    }
+}
+
+/// A message of a COPY from the client that doesn't end the conversation.
+fn on_copied<
+    H: PgWireServerHandlers,
+    St: PortalStore<
+        Statement = <H::Extended as ExtendedQueryHandler>::Statement,
+        Rows = <H::Extended as ExtendedQueryHandler>::Rows,
+    >,
+>(
+    alloc: Global,
+    handlers: &H,
+    client: &mut Client<St>,
+    is_extended: bool,
+    message: PgWireFrontendMessage,
+) -> Result<(), PgWireError>
+    requires given { IsGiven message }
+    requires goes_on { (m : Terminate) → message ≢ frontend.Terminate m }
+    requires good { IsGoodState (H.told handlers.now).extended.parser
+        (state_of St.maps client.old) }
+    ensures ok { OnOk result (IsEffect
+        (copy_row (H.told handlers.now).copying is_extended (state_of St.maps client.old) message)
+        client.old.outbox client.new.outbox (Done (state_of St.maps client.new))) }
+    ensures refused { IfErr result (IsRefusedEffect
+        (copy_row (H.told handlers.now).copying is_extended (state_of St.maps client.old) message)
+        client.old.outbox client.new.outbox (state_of St.maps client.new)) }
+    ensures answerable { IfErr result IsAnswerable }
+    ensures good { IsGoodState (H.told handlers.now).extended.parser (state_of St.maps client.new) }
+{
+    match message {
         PgWireFrontendMessage::CopyData(m) => {
-            handlers.copy_handler().on_copy_data(alloc, client, m)?;
-            Ok(None)
+            handlers.copy_handler().on_copy_data(alloc, client, m)
         }
-        PgWireFrontendMessage::CopyDone(m) => {
-            handlers.copy_handler().on_copy_done(alloc, client, m)?;
-            end_copy(client, is_extended)?;
-            Ok(None)
-        }
+        PgWireFrontendMessage::CopyDone(m) => copy_done(alloc, handlers, client, is_extended, m),
         PgWireFrontendMessage::CopyFail(m) => {
             Err(handlers.copy_handler().on_copy_fail(alloc, client, m))
         }
         other => {
             let_go(other);
-            Ok(None)
+            Ok(())
         }
     }
+}
+
+/// All data of a COPY have come.
+fn copy_done<
+    H: PgWireServerHandlers,
+    St: PortalStore<
+        Statement = <H::Extended as ExtendedQueryHandler>::Statement,
+        Rows = <H::Extended as ExtendedQueryHandler>::Rows,
+    >,
+>(
+    alloc: Global,
+    handlers: &H,
+    client: &mut Client<St>,
+    is_extended: bool,
+    message: CopyDone,
+) -> Result<(), PgWireError>
+    requires given { IsGiven (frontend.CopyDone message) }
+    requires good { IsGoodState (H.told handlers.now).extended.parser
+        (state_of St.maps client.old) }
+    ensures ok { OnOk result (IsEffect
+        (copy_row
+        (H.told handlers.now).copying
+        is_extended (state_of St.maps client.old) (frontend.CopyDone message))
+        client.old.outbox client.new.outbox (Done (state_of St.maps client.new))) }
+    ensures refused { IfErr result (IsRefusedEffect
+        (copy_row
+        (H.told handlers.now).copying
+        is_extended (state_of St.maps client.old) (frontend.CopyDone message))
+        client.old.outbox client.new.outbox (state_of St.maps client.new)) }
+    ensures answerable { IfErr result IsAnswerable }
+    ensures good { IsGoodState (H.told handlers.now).extended.parser (state_of St.maps client.new) }
+{
+    handlers
+        .copy_handler()
+        .on_copy_done(alloc, client, message)?;
+    end_copy(client, is_extended)?;
+    Ok(())
 }
 
 /// The COPY is done: in a Query ReadyForQuery with the status that was kept, in an extended query

@@ -1,16 +1,22 @@
 //! The session: a conversation with one client, fed with the client's bytes piece by piece.
 
-ghost use Rattle.std.specs.Prelude.{◌≡◌, ◌≢◌, ◌≤◌, ◌<◌, ◌++◌, ◌⊎◌, [], true, false, length, Option, Some, None, IfOk, IfErr, OnOk, OnErr, IsErrOf};
+ghost use Rattle.std.specs.Prelude.{◌≡◌, ◌≢◌, ◌≤◌, ◌<◌, ◌++◌, ◌⊎◌, [], true, false, length, Option, Some, None, Err, IfOk, IfErr, OnOk, OnErr, IsErrOf};
 ghost use Rattle.std.specs.Arc.{arc_value};
 ghost use Rattle.std.specs.FinMap as fin;
+ghost use Rattle.pg_messages.specs.Replies.{replies_bytes};
+ghost use Rattle.pg_portal.specs.Errors.{info_of};
 ghost use Rattle.pg_portal.specs.Maps.{no_maps};
+ghost use Rattle.pg_portal.specs.Rows.{IsAnswerable};
+ghost use Rattle.pg_portal.specs.declared.error.PgWireError.TheVariants as wire;
 ghost use Rattle.pg_handlers.specs.Desk.{GoesOn};
+ghost use Rattle.pg_handlers.specs.Effect.{failed};
 ghost use Rattle.pg_handlers.specs.Questions.{HasSpent, questions_since};
 ghost use Rattle.pg_handlers.specs.State.{first_info, first_state};
 ghost use Rattle.pg_handlers.specs.Table.{whole_table, scope_in};
 ghost use Rattle.pg_handlers.specs.declared.ends.EndKind.TheVariants.{InputEnd};
+ghost use Rattle.pg_handlers.specs.declared.ends.SessionError.TheVariants as session;
 ghost use Rattle.pg_session.specs.Messages.{IsGivenIn, scope_for, next_of};
-ghost use Rattle.pg_session.specs.Session.{goes_on, HasFed};
+ghost use Rattle.pg_session.specs.Session.{goes_on, stays_open, HasFed};
 ghost use Rattle.pg_session.specs.Steps.{IsAnswered, IsCutAnswer, IsStoppedAnswer};
 ghost use Rattle.pg_session.specs.declared.ends.ServeError.TheVariants as serve;
 
@@ -213,12 +219,38 @@ impl<
         match process_message(alloc, self, desk, turns, message) {
             Ok(end) => Ok(end),
             Err(SessionError::TurnLimit) => Err(ServeError::TurnLimit),
-            Err(SessionError::Wire(error)) => match error {
-                PgWireError::NoMemory => Err(ServeError::NoMemory),
-                error => match process_error(alloc, self, error, wait_for_sync) {
-                    Ok(end) => Ok(end),
-                    Err(_) => Err(ServeError::NoMemory),
-                },
+            Err(SessionError::Wire(error)) => self.tell(alloc, error, wait_for_sync),
+        }
+    }
+
+    /// Tells the client an error of a message, and does what follows it. Want of memory isn't told.
+    #[cold]
+    #[inline(never)]
+    fn tell(
+        &mut self,
+        alloc: Global,
+        error: PgWireError,
+        wait_for_sync: bool,
+    ) -> Result<Option<EndKind>, ServeError>
+        requires open { self.old.is_open ≡ stays_open (Err (session.Wire error)) }
+        requires answerable { IsAnswerable error }
+        ensures known { OnOk result (error ≢ wire.NoMemory) }
+        ensures replied { OnOk result (self.new.unsent ≡ self.old.unsent ++ replies_bytes
+            (failed (scope_for wait_for_sync) [] [] self.old.state (info_of error)).replies) }
+        ensures next { IfOk result (λ end.
+            (failed (scope_for wait_for_sync) [] [] self.old.state (info_of error)).next
+            ≡ next_of end self.new.state) }
+        ensures ends { IfOk result (λ end. end ≢ Some InputEnd) }
+        ensures only { IfErr result (λ e. e ≡ serve.NoMemory) }
+        ensures open { self.new.is_open ≡ goes_on result }
+        ensures handlers { self.new.handlers ≡ self.old.handlers }
+        ensures rest { self.new.rest ≡ self.old.rest }
+    {
+        match error {
+            PgWireError::NoMemory => Err(ServeError::NoMemory),
+            error => match process_error(alloc, self, error, wait_for_sync) {
+                Ok(end) => Ok(end),
+                Err(_) => Err(ServeError::NoMemory),
             },
         }
     }

@@ -270,11 +270,19 @@ fn push_parameter(
     ensures { OnOk result
         (outbox.new ≡ outbox.old ++ replies_bytes (parameter name.now value.now ∷ [])) }
 {
-    let status = ParameterStatus {
+    let status = parameter_status(alloc, name, value)?;
+    outbox.push(&PgWireBackendMessage::ParameterStatus(status))
+}
+
+/// A ParameterStatus of these texts.
+fn parameter_status(alloc: Global, name: &str, value: &str) -> Result<ParameterStatus, AllocError>
+    ensures { IfOk result (λ status.
+        status ≡ record { name = name.now; value = value.now }) }
+{
+    Ok(ParameterStatus {
         name: PgStr::copy_of(alloc, name)?,
         value: PgStr::copy_of(alloc, value)?,
-    };
-    outbox.push(&PgWireBackendMessage::ParameterStatus(status))
+    })
 }
 
 /// Appends BackendKeyData.

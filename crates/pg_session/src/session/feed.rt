@@ -51,6 +51,23 @@ fn flush_all<K: Sink>(outbox: &mut Outbox, sink: &mut K) -> Result<(), ServeErro
     flushed
 }
 
+/// Sends what waits in the outbox, and tells then how the conversation goes on.
+fn told_when_sent<K: Sink>(
+    outbox: &mut Outbox,
+    sink: &mut K,
+    told: Progress,
+) -> Result<Progress, ServeError>
+    ensures told { IfOk result (λ t. t ≡ told) }
+    ensures empty { OnOk result (outbox.new ≡ []) }
+    ensures ok { OnOk result (GrowsBy (K.written sink.old) (K.written sink.new) outbox.old) }
+    ensures err { OnErr result (GrowsByFront (K.written sink.old) (K.written sink.new) outbox.old) }
+    ensures cause { HasFlushed (K.faults sink.old) (K.faults sink.new) result }
+    ensures sink { K.origin sink.new ≡ K.origin sink.old }
+{
+    flush_all(outbox, sink)?;
+    Ok(told)
+}
+
 /// Sends what waits in the outbox where it is a chunk or more.
 #[inline(always)]
 fn flush_if_full<K: Sink>(outbox: &mut Outbox, sink: &mut K) -> Result<(), ServeError>
@@ -187,10 +204,7 @@ impl<
         'messages: loop {
             match self.step(alloc, desk, sink, turns)? {
                 None => {}
-                Some(told) => {
-                    flush_all(&mut self.client.outbox, sink)?;
-                    return Ok(told);
-                }
+                Some(told) => return told_when_sent(&mut self.client.outbox, sink, told),
             }
         }
     }
@@ -234,8 +248,10 @@ impl<
         ensures registration { GoesOn (D.told desk.old) (D.told desk.new) }
         ensures sink { K.origin sink.new ≡ K.origin sink.old }
     {
-        self.rest.extend_from_slice(piece)?;
-        self.run(alloc, desk, sink, turns)
+        match self.rest.extend_from_slice(piece) {
+            Ok(()) => self.run(alloc, desk, sink, turns),
+            Err(_) => Err(ServeError::NoMemory),
+        }
     }
 
     /// Takes a piece of the client's bytes, sends what waits, and writes the whole answer to the

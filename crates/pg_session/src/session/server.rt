@@ -1,26 +1,27 @@
 //! Messages and errors, one by one.
 
-ghost use Rattle.std.specs.Prelude.{◌≡◌, ◌≢◌, ◌≤◌, ◌++◌, ◌⊎◌, [], Some, None, false, true, IfOk, IfErr, OnOk};
-ghost use Rattle.pg_messages.specs.Replies.{replies_bytes};
+ghost use Rattle.std.specs.Prelude.{◌≡◌, ◌≢◌, ◌≤◌, ◌++◌, ◌⊎◌, ◌↔◌, [], Some, None, false, true, codes, IsTrue, IfOk, IfErr, OnOk};
+ghost use Rattle.pg_messages.specs.Replies.{IsEncodable, replies_bytes, reply_bytes};
 ghost use Rattle.pg_portal.specs.Errors.{info_of};
 ghost use Rattle.pg_portal.specs.Rows.{IsTellable};
 ghost use Rattle.pg_handlers.specs.Desk.{GoesOn};
 ghost use Rattle.pg_handlers.specs.Effect.{IsRow, IsRefusedRow, failed};
 ghost use Rattle.pg_handlers.specs.Questions.{HasSpent, questions_since};
+ghost use Rattle.pg_handlers.specs.Replies.{error_reply};
 ghost use Rattle.pg_handlers.specs.Sending.{IsAnswerableError};
+ghost use Rattle.pg_handlers.specs.State.{state_of};
 ghost use Rattle.pg_handlers.specs.Table.{message_row};
 ghost use Rattle.pg_handlers.specs.declared.ends.EndKind.TheVariants.{InputEnd, Fatal};
 ghost use Rattle.pg_session.specs.Messages.{IsGivenIn, outcome_of, scope_for, next_of};
 ghost use Rattle.pg_session.specs.Session.{stays_open, goes_on};
 
-use crate::messages::{on_awaiting_sync, on_copy, on_ready, with_session_error};
+use crate::messages::on_message;
 use crate::session::Session;
-use crate::startup::on_startup_phase;
 use pg_handlers::{
-    CancelDesk, EndKind, ExtendedQueryHandler, PgWireServerHandlers, SessionError, Turns,
-    send_ready_for_query,
+    CancelDesk, Client, EndKind, ExtendedQueryHandler, Outbox, PgWireServerHandlers, SessionError,
+    Turns, send_ready_for_query,
 };
-use pg_messages::{ErrorResponse, PgWireBackendMessage, PgWireFrontendMessage};
+use pg_messages::{ErrorInfo, ErrorResponse, PgWireBackendMessage, PgWireFrontendMessage};
 use pg_portal::{PgWireConnectionState, PgWireError, PortalStore};
 use std::alloc::{AllocError, Global};
 
@@ -81,42 +82,34 @@ pub fn process_message<
     ensures bounded { turns.old.spent ≤ turns.old.limit → turns.new.spent ≤ turns.new.limit }
     ensures registration { GoesOn (D.told desk.old) (D.told desk.new) }
 {
-    match session.client.info.state {
-        PgWireConnectionState::AwaitingStartup => {
-            let outcome = on_startup_phase(alloc, &mut session.client, desk, message);
-            session.opened = stays_open(&outcome);
-            outcome
-        }
-        PgWireConnectionState::ReadyForQuery => {
-            let handlers = &*session.handlers;
-            let outcome = on_ready(alloc, handlers, &mut session.client, desk, turns, message);
-            session.opened = stays_open(&outcome);
-            outcome
-        }
-        PgWireConnectionState::AwaitingSync => {
-            let handlers = &*session.handlers;
-            let outcome = with_session_error(on_awaiting_sync(
-                handlers,
-                &mut session.client,
-                message,
-            ));
-            session.opened = stays_open(&outcome);
-            outcome
-        }
-        PgWireConnectionState::CopyInProgress(is_extended) => {
-            let handlers = &*session.handlers;
-            let client = &mut session.client;
-            let outcome = with_session_error(on_copy(
-                alloc,
-                handlers,
-                client,
-                is_extended,
-                message,
-            ));
-            session.opened = stays_open(&outcome);
-            outcome
-        }
-    }
+    let handlers = &*session.handlers;
+    let outcome = on_message(alloc, handlers, &mut session.client, desk, turns, message);
+    session.opened = stays_open(&outcome);
+    outcome
+}
+
+/// Appends the ErrorResponse of an error, and tells whether its severity is FATAL.
+#[cold]
+#[inline(never)]
+fn tell_error(alloc: Global, outbox: &mut Outbox, error: PgWireError) -> Result<bool, AllocError>
+    requires { IsTellable error }
+    ensures replied { OnOk result
+        (outbox.new ≡ outbox.old ++ reply_bytes (error_reply (info_of error))) }
+    ensures fatal { IfOk result (λ fatal.
+        IsTrue fatal ↔ ((info_of error).severity ≡ codes "FATAL")) }
+{
+    let info = error.into_info(alloc)?;
+    let is_fatal = info.is_fatal();
+    push_error(outbox, info)?;
+    Ok(is_fatal)
+}
+
+/// Appends an ErrorResponse, and lets it go.
+fn push_error(outbox: &mut Outbox, info: ErrorInfo) -> Result<(), AllocError>
+    requires { IsEncodable (error_reply info) }
+    ensures { OnOk result (outbox.new ≡ outbox.old ++ reply_bytes (error_reply info)) }
+{
+    outbox.push(&PgWireBackendMessage::ErrorResponse(ErrorResponse { info }))
 }
 
 /// Tells the client an error of a message, and does what follows it: ErrorResponse, and where the
@@ -153,23 +146,50 @@ pub fn process_error<
     ensures handlers { session.new.handlers ≡ session.old.handlers }
     ensures rest { session.new.rest ≡ session.old.rest }
 {
-    session.opened = false;
-    let info = error.into_info(alloc)?;
-    let is_fatal = info.is_fatal();
-    let told = PgWireBackendMessage::ErrorResponse(ErrorResponse { info });
-    session.client.outbox.push(&told)?;
-    if is_fatal {
+    let outcome = error_told(alloc, &mut session.client, error, wait_for_sync);
+    session.opened = goes_on(&outcome);
+    outcome
+}
+
+/// Whether a session is open after an error that it told.
+fn goes_on(outcome: &Result<Option<EndKind>, AllocError>) -> bool
+    ensures { result ≡ goes_on outcome.now }
+{
+    match outcome {
+        Ok(end) => end.is_none(),
+        Err(_) => false,
+    }
+}
+
+/// Tells a client an error of a message, and does what follows it.
+fn error_told<St: PortalStore>(
+    alloc: Global,
+    client: &mut Client<St>,
+    error: PgWireError,
+    wait_for_sync: bool,
+) -> Result<Option<EndKind>, AllocError>
+    requires { IsTellable error }
+    ensures replied { OnOk result (client.new.outbox ≡ client.old.outbox ++ replies_bytes (failed
+        (scope_for wait_for_sync)
+        [] [] (state_of St.maps client.old) (info_of error)).replies) }
+    ensures next { IfOk result (λ end. (failed
+        (scope_for wait_for_sync)
+        [] [] (state_of St.maps client.old) (info_of error)).next
+        ≡ next_of end (state_of St.maps client.new)) }
+    ensures ends { IfOk result (λ end. (end ≡ None) ⊎ (end ≡ Some Fatal)) }
+    ensures store { client.new.store ≡ client.old.store }
+    ensures metadata { client.new.info.metadata ≡ client.old.info.metadata }
+{
+    if tell_error(alloc, &mut client.outbox, error)? {
         return Ok(Some(EndKind::Fatal));
     }
-    let status = session.client.info.status.to_error_state();
-    session.client.info.status = status;
+    let status = client.info.status.to_error_state();
+    client.info.status = status;
     if wait_for_sync {
-        session.client.info.state = PgWireConnectionState::AwaitingSync;
-        session.opened = true;
+        client.info.state = PgWireConnectionState::AwaitingSync;
         return Ok(None);
     }
-    send_ready_for_query(&mut session.client.outbox, status)?;
-    session.client.info.state = PgWireConnectionState::ReadyForQuery;
-    session.opened = true;
+    send_ready_for_query(&mut client.outbox, status)?;
+    client.info.state = PgWireConnectionState::ReadyForQuery;
     Ok(None)
 }

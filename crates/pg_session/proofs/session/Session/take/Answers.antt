@@ -1,16 +1,11 @@
 use Rattle.std.proofs.Common.{◌++◌}
-use Rattle.pg_handlers.proofs.Desks.{goes_on_none}
 use Rattle.pg_session.specs.Session.{whole_rules}
-use Rattle.pg_session.proofs.Stepping.{on_err_always, cut_none}
+use Rattle.pg_session.proofs.Stepping.{cut_none}
 use Rattle.pg_session.proofs.session.Session.take.Goals as goal
 
-pub returns-in_err-extend_from_slice-clause-cut_off : goal.returns-in_err-extend_from_slice-clause-cut_off
-returns-in_err-extend_from_slice-clause-cut_off g c =
+pub returns-in-Err-clause-cut_off : goal.returns-in-Err-clause-cut_off
+returns-in-Err-clause-cut_off g c =
     let x = c.args.self.now.handlers in
-    on_err_always c.from_residual.result
-    (cut_none (whole_rules (g.H.PgWireServerHandlers.told x))
+    cut_none (whole_rules (g.H.PgWireServerHandlers.told x))
     c.args.self.now.state (c.args.self.now.rest ++ c.args.piece.now) (g.K.Sink.written c.args.sink.now) c.args.self.now.unsent
-    (g.D.CancelDesk.told c.args.desk.now).calls)
-
-pub returns-in_err-extend_from_slice-clause-registration : goal.returns-in_err-extend_from_slice-clause-registration
-returns-in_err-extend_from_slice-clause-registration g c = goes_on_none _
+    (g.D.CancelDesk.told c.args.desk.now).calls
