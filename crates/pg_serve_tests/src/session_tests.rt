@@ -1,6 +1,6 @@
 //! A handler that is asked for a query which its client must not make yet.
 
-ghost use Rattle.std.specs.Prelude.{◌≡◌, IfSome};
+ghost use Rattle.std.specs.Prelude.{◌≡◌, false, IfSome};
 ghost use Rattle.std.specs.FinMap as fin;
 ghost use Rattle.pg_portal.specs.Maps.{no_maps};
 ghost use Rattle.pg_portal.specs.Noop.{noop_told};
@@ -27,19 +27,33 @@ fn key(alloc: Global) -> Option<SecretKey> {
     SecretKey::try_new(alloc, &[1, 2, 3, 4]).ok()
 }
 
-/// An Execute of the unnamed portal.
-fn execute(alloc: Global) -> Option<Execute>
-    ensures { IfSome result (λ execute. IsGiven (frontend.Execute execute)) }
+/// A codec of messages behind the startup packet.
+fn codec() -> PgWireMessageServerCodec
+    ensures { result.context.awaiting_startup ≡ false }
 {
     let mut codec = PgWireMessageServerCodec::new();
     codec.context = DecodeContext {
         awaiting_startup: false,
         protocol: ProtocolVersion::PROTOCOL3_0,
     };
+    codec
+}
+
+/// The message of a frame.
+fn message_of(alloc: Global, frame: &[u8]) -> Option<PgWireFrontendMessage>
+    ensures { IfSome result IsGiven }
+{
     let mut bytes = BytesMut::new(alloc);
-    bytes.extend_from_slice(b"E\0\0\0\x09\0\0\0\0\0").ok()?;
-    match codec.decode(alloc, &mut bytes) {
-        Ok(Some(PgWireFrontendMessage::Execute(execute))) => Some(execute),
+    bytes.extend_from_slice(frame).ok()?;
+    codec().decode(alloc, &mut bytes).ok()?
+}
+
+/// An Execute of the unnamed portal.
+fn execute(alloc: Global) -> Option<Execute>
+    ensures { IfSome result (λ execute. IsGiven (frontend.Execute execute)) }
+{
+    match message_of(alloc, b"E\0\0\0\x09\0\0\0\0\0")? {
+        PgWireFrontendMessage::Execute(execute) => Some(execute),
         _ => None,
     }
 }
@@ -74,27 +88,25 @@ fn is_refused<St: PortalStore<Statement = PgStr, Rows = NoRows>>(
     alloc: Global,
     client: &mut Client<St>,
     desk: &mut ScriptDesk,
-    execute: Execute,
-) -> bool
-    requires given { IsGiven (frontend.Execute execute) }
+) -> Option<bool>
     requires good { IsGoodState noop_told (state_of St.maps client.old) }
 {
+    let execute = execute(alloc)?;
     let mut turns = Turns { spent: 0, limit: 9 };
     let answer = NoopHandler.on_execute(alloc, client, desk, &mut turns, execute);
     let refused = matches!(
         answer,
         Err(SessionError::Wire(PgWireError::NotReadyForQuery))
     );
-    refused && client.outbox.len() == 0
+    Some(refused && client.outbox.len() == 0)
 }
 
 /// Whether so it is of a client that awaits Sync.
 fn is_refused_before_sync(alloc: Global, desk: &mut ScriptDesk) -> Option<bool> {
-    let execute = execute(alloc)?;
     let key = key(alloc)?;
     let store: MemPortalStore<PgStr, NoRows> = MemPortalStore::new(alloc);
     let mut client = awaiting_sync(alloc, store, key)?;
-    Some(is_refused(alloc, &mut client, desk, execute))
+    is_refused(alloc, &mut client, desk)
 }
 
 #[test]
