@@ -1,5 +1,7 @@
 -- What the handlers of styles tell can be sent as replies.
-use Rattle.std.proofs.Common.{◌≡◌, ℕ, ◌≤◌, IsTrue, List, [], ◌∷◌, ◌++◌, Option, Some, None, Result, Ok, Err, length, codes, refl, arith, inr, subst, length-append}
+use Rattle.std.proofs.Common.{◌≡◌, ℕ, ◌≤◌, IsTrue, List, [], ◌∷◌, ◌++◌, Option, Some, None, Result, Ok, Err, length, codes, IfErr, false, ◌⊎◌, refl, arith, inl, inr, sym, ◌∙◌, subst, length-append}
+use Rattle.std.specs.Result.{IsErrAnd}
+use Rattle.std.specs.Str.{bytes_eq}
 use Rattle.pg_interval.specs.declared.pg_interval.Interval.{Interval}
 use Rattle.pg_interval.specs.declared.interval_parse.parse_error.IntError.TheVariants as integer
 use Rattle.pg_interval.specs.declared.interval_parse.parse_error.DecimalError.TheVariants as decimal
@@ -14,9 +16,12 @@ use Rattle.pg_text.specs.declared.error.CellError.TheVariants as cell
 use Rattle.pg_text.specs.declared.field_format.FieldFormat.{FieldFormat}
 use Rattle.pg_text.specs.declared.field_format.FieldFormat.TheVariants as field
 use Rattle.pg_text.specs.declared.format.interval_style.IntervalStyle.{IntervalStyle}
+use Rattle.pg_text.specs.declared.pg_type.PgType.{PgType}
 use Rattle.pg_text.specs.declared.format.interval_style.IntervalStyle.TheVariants as style
 use Rattle.pg_portal.specs.Rows.{IsAnswerableItem, IsItemError}
+use Rattle.pg_portal.specs.Told.{IsOutcome}
 use Rattle.pg_portal.specs.declared.error.PgWireError.{PgWireError}
+use Rattle.pg_portal.specs.declared.error.PgWireError.TheVariants as wire
 use Rattle.pg_portal.specs.declared.portal.Format.{Format}
 use Rattle.pg_handlers.specs.Replies.{row_description}
 use Rattle.pg_handlers.proofs.Encodable.{HasNoZero-append, by_test, has_no_zero}
@@ -24,6 +29,7 @@ use Rattle.pg_handlers.proofs.ErrorTexts.{tellable_error}
 use Rattle.row_handlers.specs.Answers.{format_at}
 use Rattle.styles.specs.Reading.{interval_given, interval_in, interval_of, no_interval, or_refused, reason, refused, style_of}
 use Rattle.styles.specs.Rows.{column, columns}
+use Rattle.styles.specs.Told.{meaning_of, stated}
 
 -- ---- columns
 
@@ -97,7 +103,7 @@ refused_item reader r cause =
     }
 
 -- the error of an answer, where it is one, can stand in the place of a row
-abbrev ErrsAsItem : Result Interval PgWireError → Type 0
+abbrev pub ErrsAsItem : Result Interval PgWireError → Type 0
 ErrsAsItem (Ok i) = Unit {0}
 ErrsAsItem (Err e) = IsItemError e
 
@@ -126,7 +132,7 @@ bytes_err (Some field.Binary) bytes = refused_or_read (codes "binary") (plain _ 
 bytes_err (Some field.Text) bytes = text_errs bytes
 bytes_err None bytes = text_errs bytes
 
-parameter_errs : (format : Option FieldFormat) (value : Option (Option (List ℕ))) → ErrsAsItem (interval_given format value)
+pub parameter_errs : (format : Option FieldFormat) (value : Option (Option (List ℕ))) → ErrsAsItem (interval_given format value)
 parameter_errs format (Some (Some bytes)) = bytes_err format bytes
 parameter_errs format (Some None) = no_interval_item
 parameter_errs format None = no_interval_item
@@ -142,6 +148,22 @@ errs_answerable (Err d) e h same =
 pub text_answerable : (text : List ℕ) (e : PgWireError) → interval_of text ≡ Err e → IsAnswerableItem e
 text_answerable text e same = errs_answerable (interval_of text) e (text_errs text) same
 
-pub parameter_answerable : (format : Option FieldFormat) (value : Option (Option (List ℕ))) (e : PgWireError)
-    → interval_given format value ≡ Err e → IsAnswerableItem e
-parameter_answerable format value e same = errs_answerable (interval_given format value) e (parameter_errs format value) same
+-- the error of a call that gave what is told
+pub error_answerable : {T : Type 0} (told : Result Interval PgWireError) (e : PgWireError) (r : Result T PgWireError)
+    → ErrsAsItem told → IsOutcome told (Err e) → IsErrAnd r (λ k. k ≡ e) → IfErr r IsAnswerableItem
+error_answerable told e (Ok x) h given is = tt
+error_answerable told e (Err k) h (inl same) is = subst IsAnswerableItem (sym is) (errs_answerable told e h (sym same))
+error_answerable told e (Err k) h (inr none) is =
+    let wanting : e ≡ wire.NoMemory = cc in
+    inl (is ∙ wanting)
+
+-- ---- what a text means that is no `$1`, or may have no parameter
+
+pub text_refused : (text : List ℕ) (types : Option (List (Option PgType))) (e : PgWireError)
+    → (types ≡ None) ⊎ (bytes_eq text (codes "$1") ≡ false) → IsOutcome (interval_of text) (Err e)
+    → IsOutcome (meaning_of text types) (Err e)
+text_refused text None e apart (inl told) = inl (subst (λ r. Err e ≡ stated r) told refl)
+text_refused text None e apart (inr none) = inr (cc)
+text_refused text (Some types) e (inl none) given = cc
+text_refused text (Some types) e (inr other) (inl told) = inl (rw other (subst (λ r. Err e ≡ stated r) told refl))
+text_refused text (Some types) e (inr other) (inr none) = inr (cc)

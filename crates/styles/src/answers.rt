@@ -41,9 +41,13 @@ impl RowAnswers for Styles {
         query: &str,
         types: Option<&[Option<PgType>]>,
     ) -> Result<StylesStatement, PgWireError> {
-        match (trimmed(query), types) {
-            ("$1", Some(_)) => Ok(StylesStatement::Parameter),
-            (text, _) => Ok(StylesStatement::Interval(read_interval(alloc, text.as_bytes())?)),
+        let text = trimmed(query);
+        if types.is_some() && text == "$1" {
+            return Ok(StylesStatement::Parameter);
+        }
+        match read_interval(alloc, text.as_bytes()) {
+            Ok(interval) => Ok(StylesStatement::Interval(interval)),
+            Err(error) => Err(error),
         }
     }
 
@@ -76,7 +80,6 @@ impl RowAnswers for Styles {
         Ok(fields)
     }
 
-    #[tactic(auto, using(crate::proofs::Sendable::parameter_answerable))]
     fn rows(
         &self,
         alloc: Global,
