@@ -94,6 +94,19 @@ impl Outbox {
         self.spill_copied(copied)
     }
 
+    /// Appends bytes of a reply, for a caller that appends the reply piece by piece. After an error
+    /// the outbox is as it was.
+    #[inline(always)]
+    pub fn push_bytes(&mut self, bytes: &[u8]) -> Result<(), AllocError>
+        ensures ok { OnOk result (self.new ≡ self.old ++ bytes.now) }
+        ensures err { OnErr result (self.new ≡ self.old) }
+    {
+        if bytes.len() <= CHUNK - self.last.len() {
+            return self.last.extend_from_slice(bytes);
+        }
+        self.append_all(bytes)
+    }
+
     /// How many bytes wait.
     pub fn len(&self) -> usize
         ensures { result ≡ length self.now }
@@ -196,7 +209,9 @@ impl Outbox {
         self.append_all(reply.as_slice())
     }
 
-    // Appends bytes; after an error the outbox is as it was.
+    // Appends bytes that reach behind the end of the chunk; after an error the outbox is as it was.
+    #[cold]
+    #[inline(never)]
     fn append_all(&mut self, bytes: &[u8]) -> Result<(), AllocError>
         ensures ok { OnOk result (self.new ≡ self.old ++ bytes.now) }
         ensures err { OnErr result (self.new ≡ self.old) }

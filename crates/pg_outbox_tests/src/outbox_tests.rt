@@ -111,6 +111,18 @@ fn has_copied(outbox: &mut Outbox, alloc: Global) -> Result<bool, AllocError> {
     Ok(is_short && are_taken(outbox, &[65536, 34494]))
 }
 
+/// Whether pieces of a reply stand in a chunk, up to its last byte, and over its end.
+fn has_pieces(outbox: &mut Outbox, alloc: Global) -> Result<bool, AllocError> {
+    let piece = bytes(alloc, 65531)?;
+    outbox.push_bytes(b"C")?;
+    outbox.push_bytes(&[0, 0, 0, 4])?;
+    outbox.push_bytes(piece.as_slice())?;
+    let is_full = outbox.len() == CHUNK;
+    outbox.push_bytes(piece.as_slice())?;
+    outbox.push_bytes(piece.as_slice())?;
+    Ok(is_full && are_taken(outbox, &[65536, 65536, 65526]))
+}
+
 /// One outbox, which is empty again behind each line.
 #[test]
 fn replies_over_chunks(rt: HostRuntime) -> Result<(), Fail> {
@@ -121,5 +133,6 @@ fn replies_over_chunks(rt: HostRuntime) -> Result<(), Fail> {
     assert!(rt; is_released(&mut outbox, rt.alloc()) == Ok(true));
     assert!(rt; has_rows(&mut outbox, rt.alloc()) == Ok(true));
     assert!(rt; has_copied(&mut outbox, rt.alloc()) == Ok(true));
+    assert!(rt; has_pieces(&mut outbox, rt.alloc()) == Ok(true));
     Ok(())
 }
