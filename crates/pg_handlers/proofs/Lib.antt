@@ -14,6 +14,7 @@ pub mod GoodStores
 pub mod Lends
 pub mod Narrowing
 pub mod PagesSent
+pub mod Pieces
 pub mod Parsing
 pub mod Queried
 pub mod Rows

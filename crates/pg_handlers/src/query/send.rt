@@ -1,7 +1,8 @@
 //! Replies to queries, appended to the outbox.
 
 ghost use Rattle.std.specs.Prelude.{◌≡◌, ◌≤◌, ◌<◌, ◌+◌, ◌^◌, ◌++◌, ◌⊎◌, [], ◌∷◌, Some, None, true, false, length, map, take, Bool, List, Ok, codes, IfOk, IfErr, IfSome, OnOk, OnErr};
-ghost use Rattle.pg_messages.specs.Replies.{IsEncodable, reply_bytes, replies_bytes};
+ghost use Rattle.pg_messages.specs.Fields.{count16, count32, int16, int32};
+ghost use Rattle.pg_messages.specs.Replies.{IsEncodable, reply_body, reply_bytes, replies_bytes, field_description};
 ghost use Rattle.std.specs.Arc.{arc_value};
 ghost use Rattle.std.proofs.Common.{ap, append-nil};
 ghost use Rattle.pg_messages.specs.declared.response.TransactionStatus.{TransactionStatus};
@@ -12,7 +13,7 @@ ghost use Rattle.pg_portal.specs.Responses.{told_copy};
 ghost use Rattle.pg_portal.specs.Copying.{IsNextCopy, IsSendableCopy};
 ghost use Rattle.pg_portal.specs.Rows.{IsAnswerable, IsAnswerableItem};
 ghost use Rattle.pg_portal.specs.Page.{CutsPage, EndsPage, delivered_after, item_page, before_error};
-ghost use Rattle.pg_portal.specs.Tags.{spaced, tag_text};
+ghost use Rattle.pg_portal.specs.Tags.{tag_text};
 ghost use Rattle.pg_portal.specs.Fetching.{IsRest};
 ghost use Rattle.pg_portal.specs.Told.{told_rows};
 ghost use Rattle.pg_portal.specs.declared.error.PgWireError.{PgWireError};
@@ -28,9 +29,9 @@ ghost use Rattle.pg_handlers.specs.Telling.{IsToldSo};
 
 use itoa::Buffer;
 use pg_messages::{
-    CommandComplete, CopyBothResponse, CopyData, CopyDone, CopyInResponse, CopyOutResponse,
-    DataRow, FieldDescription, NoData, ParameterDescription, PgBytes, PgList, PgStr,
-    PgWireBackendMessage, PortalSuspended, ReadyForQuery, RowDescription, TransactionStatus,
+    CopyBothResponse, CopyData, CopyDone, CopyInResponse, CopyOutResponse, DataRow, NoData,
+    ParameterDescription, PgBytes, PgList, PgWireBackendMessage, PortalSuspended, ReadyForQuery,
+    TransactionStatus,
 };
 use pg_outbox::Outbox;
 use pg_portal::{
@@ -94,34 +95,39 @@ pub(crate) fn send_done(
         (outbox.new ≡ outbox.old ++ replies_bytes (done_with command.now rows ∷ [])) }
     ensures err { OnErr result (outbox.new ≡ outbox.old) }
 {
-    let tag = tag_with_rows(alloc, command, rows)?;
-    push_reply(
-        outbox,
-        PgWireBackendMessage::CommandComplete(CommandComplete { tag }),
-    )
-}
-
-/// The text of a command's tag with so many rows. Its room is made at once.
-fn tag_with_rows(alloc: Global, command: &str, rows: u64) -> Result<PgStr, AllocError>
-    ensures { IfOk result (λ tag. tag ≡ command.now ++ spaced rows) }
-{
-    let mut digits = Buffer::new();
-    let mut text = String::with_capacity(alloc, command.len().saturating_add(21))?;
-    text.push_str(command)?;
-    text.push_str(" ")?;
-    text.push_str(digits.format(rows))?;
-    Ok(PgStr::from_string(text))
-}
-
-/// The descriptions of columns.
-fn descriptions(alloc: Global, fields: &[FieldInfo]) -> Result<PgList<FieldDescription>, AllocError>
-    ensures { IfOk result (λ told. told ≡ map description_of fields.now) }
-{
-    let mut told = PgList::new(alloc);
-    for field in fields {
-        told.push(field.to_description(alloc)?)?;
+    let start = outbox.len();
+    if let Err(error) = push_done(outbox, command, rows) {
+        outbox.truncate(start);
+        return Err(error);
     }
-    Ok(told)
+    Ok(())
+}
+
+/// Appends the bytes of CommandComplete of a command with so many rows, piece by piece, with no
+/// text of the tag. After an error some of them.
+fn push_done(outbox: &mut Outbox, command: &str, rows: u64) -> Result<(), AllocError>
+    requires { IsTag command.now }
+    ensures ok { OnOk result
+        (outbox.new ≡ outbox.old ++ replies_bytes (done_with command.now rows ∷ [])) }
+    ensures err { OnErr result (take (length outbox.old) outbox.new ≡ outbox.old) }
+{
+    let mut buffer = Buffer::new();
+    let digits = buffer.format(rows);
+    outbox.push_bytes(&done_head(command.len() + digits.len() + 2))?;
+    outbox.push_bytes(command.as_bytes())?;
+    outbox.push_bytes(b" ")?;
+    outbox.push_bytes(digits.as_bytes())?;
+    outbox.push_bytes(&[0])?;
+    Ok(())
+}
+
+/// Type byte and length of a CommandComplete with so many bytes behind them.
+fn done_head(body: usize) -> [u8; 5]
+    requires { body ≤ 1073741823 }
+    ensures { result ≡ 67 ∷ count32 (4 + body) }
+{
+    let [a, b, c, d] = (body as u32 + 4).to_be_bytes();
+    [b'C', a, b, c, d]
 }
 
 /// Appends RowDescription.
@@ -135,11 +141,97 @@ fn send_row_description(
         (outbox.new ≡ outbox.old ++ replies_bytes (row_description fields.now ∷ [])) }
     ensures err { OnErr result (outbox.new ≡ outbox.old) }
 {
-    let fields = descriptions(alloc, fields)?;
-    push_reply(
-        outbox,
-        PgWireBackendMessage::RowDescription(RowDescription { fields }),
+    let start = outbox.len();
+    if let Err(error) = push_row_description(outbox, fields) {
+        outbox.truncate(start);
+        return Err(error);
+    }
+    Ok(())
+}
+
+/// Appends the bytes of RowDescription, column by column. After an error some of them.
+fn push_row_description(outbox: &mut Outbox, fields: &[FieldInfo]) -> Result<(), AllocError>
+    requires { IsEncodable (row_description fields.now) }
+    ensures ok { OnOk result
+        (outbox.new ≡ outbox.old ++ replies_bytes (row_description fields.now ∷ [])) }
+    ensures err { OnErr result (take (length outbox.old) outbox.new ≡ outbox.old) }
+{
+    outbox.push_bytes(&description_head(body_len(fields), fields.len()))?;
+    for field in fields {
+        push_column(outbox, field)?;
+    }
+    Ok(())
+}
+
+/// How many bytes stand behind the length of a RowDescription: a count, and for each column its
+/// name and 19 bytes.
+fn body_len(fields: &[FieldInfo]) -> usize
+    requires { IsEncodable (row_description fields.now) }
+    ensures { result ≡ length (reply_body (row_description fields.now)) }
+{
+    let mut len = 2;
+    for field in fields {
+        len += field.name().len() + 19;
+    }
+    len
+}
+
+/// Type byte, length and count of a RowDescription with so many bytes behind the length.
+fn description_head(body: usize, count: usize) -> [u8; 7]
+    requires body { body ≤ 1073741823 }
+    requires count { count ≤ 32767 }
+    ensures { result ≡ 84 ∷ count32 (4 + body) ++ count16 count }
+{
+    let [a, b, c, d] = (body as u32 + 4).to_be_bytes();
+    let [e, f] = (count as u16).to_be_bytes();
+    [b'T', a, b, c, d, e, f]
+}
+
+/// Appends the bytes that tell of a column. After an error some of them.
+fn push_column(outbox: &mut Outbox, field: &FieldInfo) -> Result<(), AllocError>
+    ensures ok { OnOk result
+        (outbox.new ≡ outbox.old ++ field_description (description_of field.now)) }
+    ensures err { OnErr result (take (length outbox.old) outbox.new ≡ outbox.old) }
+{
+    outbox.push_bytes(field.name().as_bytes())?;
+    outbox.push_bytes(&behind_name(field))?;
+    Ok(())
+}
+
+/// What stands behind a column's name: the zero byte that ends it, and its numbers. An absent table
+/// or column is 0.
+fn behind_name(field: &FieldInfo) -> [u8; 19]
+    ensures { field_description (description_of field.now) ≡ field.now.name ++ result }
+{
+    column_bytes(
+        field.table_id().unwrap_or(0),
+        field.column_id().unwrap_or(0),
+        field.datatype().oid(),
+        field.type_size(),
+        field.type_modifier(),
+        field.format().value(),
     )
+}
+
+/// A zero byte, Int32 table, Int16 column, Int32 type, Int16 size, Int32 modifier, Int16 format.
+fn column_bytes(
+    table: i32,
+    column: i16,
+    type_id: u32,
+    size: i16,
+    modifier: i32,
+    format: i16,
+) -> [u8; 19]
+    ensures { result ≡ 0 ∷ int32 table ++ int16 column ++ count32 type_id ++ int16 size
+        ++ int32 modifier ++ int16 format }
+{
+    let [a, b, c, d] = table.to_be_bytes();
+    let [e, f] = column.to_be_bytes();
+    let [g, h, i, j] = type_id.to_be_bytes();
+    let [k, l] = size.to_be_bytes();
+    let [m, n, o, p] = modifier.to_be_bytes();
+    let [q, r] = format.to_be_bytes();
+    [0, a, b, c, d, e, f, g, h, i, j, k, l, m, n, o, p, q, r]
 }
 
 /// The numbers of types.
