@@ -94,6 +94,25 @@ module _ {T : Type 0} (with_rows : T → List DataRow → T) (none : (t : T) →
             p.received,
           )
 
+      -- no row was received: memory was wanting for one, or an error stood there
+      pub cut_at_next : (error : PgWireError) (behind : List RowItem) (then : T) → CutsPage (pos 1) left [] error behind → then ≡ now
+          → (received : List DataRow) × CutsPage limit old received error behind × (then ≡ with_rows begun received)
+      cut_at_next error behind then (inl (want, (lost, few, is'))) same = (
+        p.rows,
+        inl (
+          want,
+          (
+            lost,
+            few,
+            p.going.taken ∙ ap (λ l. map Ok p.rows ++ l) is'
+                ∙ sym (ap (λ l. l ++ behind) (map-append Ok p.rows lost) ∙ append_assoc (map Ok p.rows) (map Ok lost) behind),
+          ),
+        ),
+        same ∙ p.received,
+      )
+      cut_at_next error behind then (inr (at, is')) same =
+          let cut = cut_at_error error behind is' in (cut.0, cut.1, same ∙ cut.2)
+
       -- the next row was received
       pub delivering_goes_on : (row : DataRow) (behind : List RowItem) (then : T) (next : ℕ) → left ≡ Ok row ∷ behind
           → then ≡ with_rows now (row ∷ []) → next ≡ delivered_after count 1

@@ -48,6 +48,7 @@ impl<S: Drop, R: RowSource> PortalStore for MemPortalStore<S, R> {
       portals = map_values (entry_map (portal_of R.items)) store.portals;
     } };
 
+    #[inline(always)]
     fn put_statement(
         &mut self,
         alloc: Global,
@@ -80,6 +81,7 @@ impl<S: Drop, R: RowSource> PortalStore for MemPortalStore<S, R> {
         }
     }
 
+    #[inline(always)]
     fn put_portal(&mut self, alloc: Global, portal: Portal<S, R>) -> Result<(), AllocError>
         ensures ok { OnOk result (⟦<MemPortalStore<S, R> as PortalStore>⟧.maps self.new
             ≡ maps_with_portal (⟦<MemPortalStore<S, R> as PortalStore>⟧.maps self.old)

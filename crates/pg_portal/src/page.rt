@@ -1,6 +1,6 @@
 //! A page of rows, and who receives it.
 
-ghost use Rattle.std.specs.Prelude.{◌≡◌, ◌++◌, [], ◌∷◌, List, Ok, length, map, IfOk, IfErr, OnOk, OnErr};
+ghost use Rattle.std.specs.Prelude.{◌≡◌, ◌++◌, [], ◌∷◌, List, Ok, true, false, pos, length, map, IfOk, IfErr, OnOk, OnErr};
 ghost use Rattle.std.proofs.Common.{append-nil, append_assoc};
 ghost use Rattle.pg_messages.specs.declared.backend.PgWireBackendMessage.TheVariants as server;
 ghost use Rattle.pg_messages.specs.declared.data.DataRow.{DataRow};
@@ -137,22 +137,14 @@ fn deliver_through<R: RowSource, T: RowReceiver>(
     while !is_reached(max_rows, count) {
         // Most rows come in the short way.
         match rows.next_row(lent) {
-            Ok(true) => {
-                receiver.receive(alloc, lent)?;
-                count = count.saturating_add(1);
-                continue;
-            }
-            Ok(false) => {}
-            Err(_) => return Err(PgWireError::NoMemory),
-        }
-        match rows.next() {
-            Ok(Some(Ok(row))) => receiver.receive(alloc, &row)?,
-            Ok(Some(Err(error))) => return Err(error),
-            Ok(None) => {
-                return Ok(DeliveredPage {
-                    suspended: false,
-                    delivered: delivered_after(delivered, count),
-                });
+            Ok(true) => receiver.receive(alloc, lent)?,
+            Ok(false) => {
+                if !deliver_next(alloc, rows, receiver)? {
+                    return Ok(DeliveredPage {
+                        suspended: false,
+                        delivered: delivered_after(delivered, count),
+                    });
+                }
             }
             Err(_) => return Err(PgWireError::NoMemory),
         }
@@ -164,4 +156,31 @@ fn deliver_through<R: RowSource, T: RowReceiver>(
         suspended: true,
         delivered: delivered_after(delivered, count),
     })
+}
+
+/// Delivers the next item, which doesn't come in the short way, where it is a row, and answers
+/// whether there was an item. Where it is an error, that is answered.
+#[cold]
+#[inline(never)]
+fn deliver_next<R: RowSource, T: RowReceiver>(
+    alloc: Global,
+    rows: &mut R,
+    receiver: &mut T,
+) -> Result<bool, PgWireError>
+    ensures row { result ≡ Ok true → (row : DataRow) × (R.items rows.old ≡ Ok row ∷ R.items rows.new)
+        × (receiver.new ≡ T.with_rows receiver.old (row ∷ [])) }
+    ensures end { result ≡ Ok false → (R.items rows.old ≡ []) × (R.items rows.new ≡ [])
+        × (receiver.new ≡ receiver.old) }
+    ensures cut_short { IfErr result (λ error.
+        CutsPage (pos 1) (R.items rows.old) [] error (R.items rows.new)) }
+    ensures kept { OnErr result (receiver.new ≡ receiver.old) }
+    ensures own { IfErr result IsAnswerableItem }
+{
+    match rows.next() {
+        Ok(Some(Ok(row))) => receiver.receive(alloc, &row)?,
+        Ok(Some(Err(error))) => return Err(error),
+        Ok(None) => return Ok(false),
+        Err(_) => return Err(PgWireError::NoMemory),
+    }
+    Ok(true)
 }

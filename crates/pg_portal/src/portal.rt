@@ -117,6 +117,18 @@ fn format_of(alloc: Global, codes: &[i16]) -> Result<Format, AllocError>
     }
 }
 
+/// The formats of a Bind's parameters, and of the columns that it asks for.
+fn formats_of(alloc: Global, bind: &Bind) -> Result<(Format, Format), AllocError>
+    ensures parameters { IfOk result (λ formats.
+        formats.0 ≡ format_of bind.now.parameter_format_codes) }
+    ensures columns { IfOk result (λ formats.
+        formats.1 ≡ format_of bind.now.result_column_format_codes) }
+{
+    let parameters = format_of(alloc, bind.parameter_format_codes.as_slice())?;
+    let columns = format_of(alloc, bind.result_column_format_codes.as_slice())?;
+    Ok((parameters, columns))
+}
+
 /// How far a portal has come.
 #[derive(Default, Drop)]
 pub enum PortalExecutionState<R> {
@@ -177,12 +189,15 @@ impl<S: Drop, R: RowSource> Portal<S, R> {
         ensures delivered { IfOk result (λ portal. portal.delivered ≡ 0) }
         ensures refusal { IfErr result (λ error. error ≡ PgWireError.NoMemory) }
     {
+        let name = PgStr::copy_of(alloc, bind.portal_name.as_str())?;
+        let parameters = copy_of_parameters(alloc, bind.parameters.as_slice())?;
+        let (parameter_format, result_column_format) = formats_of(alloc, bind)?;
         Ok(Portal {
-            name: PgStr::copy_of(alloc, bind.portal_name.as_str())?,
+            name,
             statement,
-            parameter_format: format_of(alloc, bind.parameter_format_codes.as_slice())?,
-            parameters: copy_of_parameters(alloc, bind.parameters.as_slice())?,
-            result_column_format: format_of(alloc, bind.result_column_format_codes.as_slice())?,
+            parameter_format,
+            parameters,
+            result_column_format,
             state: PortalExecutionState::Initial,
             delivered: 0,
         })
