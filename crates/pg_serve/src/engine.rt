@@ -16,7 +16,7 @@ use pg_session::{
     CancelDesk, EndKind, ExtendedQueryHandler, PgWireServerHandlers, Progress, ServeError, Session,
     Sink, Source, Turns,
 };
-use std::alloc::Global;
+use std::alloc::{AllocError, Global};
 use std::sync::Arc;
 
 /// How many bytes a read asks for.
@@ -79,11 +79,44 @@ pub fn serve_connection<
     ensures source { S.origin source.new ≡ S.origin source.old }
     ensures sink { K.origin sink.new ≡ K.origin sink.old }
 {
+    let mut session = session_at(alloc, handlers, store, desk)?;
+    let ended = serve(alloc, &mut session, desk, source, sink, turn_limit);
+    let_go(session);
+    ended
+}
+
+/// A session that awaits the startup packet of the client whom this desk knows. The only error is
+/// want of memory.
+fn session_at<
+    H: PgWireServerHandlers,
+    St: PortalStore<
+        Statement = <H::Extended as ExtendedQueryHandler>::Statement,
+        Rows = <H::Extended as ExtendedQueryHandler>::Rows,
+    >,
+    D: CancelDesk,
+>(alloc: Global, handlers: Arc<H>, store: St, desk: &D) -> Result<Session<H, St>, AllocError>
+    requires empty { St.maps store ≡ no_maps }
+    ensures { IfOk result (λ session. session ≡ record {
+      handlers = arc_value handlers;
+      state = first_state (D.told desk.now).registration.0 (D.told desk.now).registration.1;
+      rest = [];
+      unsent = [];
+      is_open = true;
+    }) }
+{
     let (pid, key) = desk.identity();
     let key = key.copy_of()?;
-    let mut session = Session::new(alloc, handlers, store, pid, key)?;
-    serve(alloc, &mut session, desk, source, sink, turn_limit)
+    Session::new(alloc, handlers, store, pid, key)
 }
+
+/// Gives back what a session holds.
+fn let_go<
+    H: PgWireServerHandlers,
+    St: PortalStore<
+        Statement = <H::Extended as ExtendedQueryHandler>::Statement,
+        Rows = <H::Extended as ExtendedQueryHandler>::Rows,
+    >,
+>(_session: Session<H, St>) {}
 
 /// Serves a client by any conversation that has taken nothing yet, as [`serve_connection`] does by
 /// a session.

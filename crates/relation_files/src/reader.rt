@@ -1,6 +1,6 @@
 //! The relations that lines told so far.
 
-ghost use Rattle.std.specs.Prelude.{◌≡◌, ◌++◌, [], None, IfOk, IfErr, OnOk, length};
+ghost use Rattle.std.specs.Prelude.{◌≡◌, ◌<◌, ◌++◌, [], None, IfOk, IfErr, OnOk, length};
 ghost use Rattle.relation_files.specs.Reader.{IsReason, reason_at, after, all_of, nothing_read};
 
 use crate::errors::LineError;
@@ -64,6 +64,17 @@ impl Reader {
             relation.rows.push(row)?;
             return Ok(());
         }
+        self.take_header(alloc, line)
+    }
+
+    /// Takes a header, where no relation is open. After an error nothing has changed.
+    fn take_header(&mut self, alloc: Global, line: &[u8]) -> Result<(), LineError>
+        requires closed { self.old.current ≡ None }
+        requires filled { 0 < length line.now }
+        ensures good { OnOk result (reason_at self.old line.now ≡ None) }
+        ensures taken { OnOk result (self.new ≡ after self.old line.now) }
+        ensures refused { IfErr result (λ error. IsReason error (reason_at self.old line.now)) }
+    {
         let relation = read_header(alloc, &self.taken, line)?;
         self.taken
             .put(PgStr::copy_of(alloc, relation.name.as_str())?, ())?;

@@ -8,7 +8,7 @@ use Rattle.pg_serve.proofs.engine.serve_connection.Goals as goal
 
 pub returns-in_err-session-clause-went : goal.returns-in_err-session-clause-went
 returns-in_err-session-clause-went g c =
-    let p = err_from_is_err_and c.from_residual-in_err-session.result c.from_residual-in_err-session.ensures.1 in (
+    let p = err_from_is_err_and c.from_residual.result c.from_residual.ensures.1 in (
       [],
       sym (append-nil (g.D.CancelDesk.told c.args.desk.now).calls),
       rw p.1 (none_went (whole_rules (g.H.PgWireServerHandlers.told (arc_value c.args.handlers)))
@@ -18,16 +18,3 @@ returns-in_err-session-clause-went g c =
 
 pub returns-in_err-session-clause-reads : goal.returns-in_err-session-clause-reads
 returns-in_err-session-clause-reads g c = gave_none (g.S.Source.left c.args.source.now) (g.S.Source.reads c.args.source.now)
-
-pub returns-in_err-key-clause-went : goal.returns-in_err-key-clause-went
-returns-in_err-key-clause-went g c =
-    let p = err_from_is_err_and c.from_residual.result c.from_residual.ensures.1 in (
-      [],
-      sym (append-nil (g.D.CancelDesk.told c.args.desk.now).calls),
-      rw p.1 (none_went (whole_rules (g.H.PgWireServerHandlers.told (arc_value c.args.handlers)))
-          (first_state (g.D.CancelDesk.told c.args.desk.now).registration.0 (g.D.CancelDesk.told c.args.desk.now).registration.1)
-          (g.S.Source.left c.args.source.now) (g.K.Sink.written c.args.sink.now) p.0 p.2),
-    )
-
-pub returns-in_err-key-clause-reads : goal.returns-in_err-key-clause-reads
-returns-in_err-key-clause-reads g c = gave_none (g.S.Source.left c.args.source.now) (g.S.Source.reads c.args.source.now)
