@@ -2,7 +2,8 @@
 // protocol.
 #![tactic(auto)]
 
-ghost use Rattle.std.specs.Prelude.{◌≡◌};
+ghost use Rattle.std.specs.Prelude.{◌≡◌, IfOk};
+ghost use Rattle.std.specs.Arc.{arc_value};
 ghost use Rattle.server.specs.Handed.{accepted_at};
 
 mod help;
@@ -11,7 +12,7 @@ mod places;
 use crate::help::help_or_version;
 use crate::places::{BoundPlace, bind_place, leave_place};
 use opened_files::open_file;
-use pg_cancel::ConnectionManager;
+use pg_cancel::{ConnectionManager, Door};
 use pg_messages::{PgList, PgStr};
 use pg_serve::{KeySource, MaybeTls, RandomKeys, ReaderSource, Spawner, WriterSink};
 use pg_session::{Sink, Source};
@@ -22,7 +23,9 @@ use relation_words::file_word;
 use std::alloc::{AllocError, Global};
 use std::fs::Files;
 use std::io::Input;
+use std::net::{Net, TcpListener, TcpStream};
 use std::process::ExitCode;
+use std::random::RandomSource;
 use std::sync::{Arc, Wait};
 use std::time::Clock;
 use std::{env, io};
@@ -84,13 +87,51 @@ fn serve_many<
     requires accepted { accepted_at acceptor.old ≡ 0 }
     requires started { P.started spawner.old ≡ 0 }
 {
-    let (manager, mut door) = ConnectionManager::new(alloc)?;
-    let manager = Arc::new(alloc, manager)?;
+    let (manager, mut door) = shared_registry(alloc)?;
     let mut file = open_file(rt, file_word(words));
     let status = run_listen(
         rt, alloc, words, manager, &mut door, &mut file, acceptor, spawner, keys, err,
     );
     Ok(status)
+}
+
+/// An empty registry for jobs to share, and its door.
+fn shared_registry(alloc: Global) -> Result<(Arc<ConnectionManager>, Door), AllocError>
+    ensures { IfOk result (λ registry. registry.1.issuer ≡ arc_value registry.0) }
+{
+    let (manager, door) = ConnectionManager::new(alloc)?;
+    let manager = Arc::new(alloc, manager)?;
+    Ok((manager, door))
+}
+
+/// Binds a place, serves the clients that come to it, and leaves it, so that nothing of what was
+/// bound stays behind.
+fn serve_place<
+    R: Wait
+        + Net<Stream = TcpStream, Listener = TcpListener>
+        + Files
+        + Clock
+        + Print
+        + RandomSource
+        + Copy
+        + Drop,
+    P: Spawner<ConnectionJob<MaybeTls, MaybeTls>>,
+    E: Sink,
+>(
+    rt: R,
+    alloc: Global,
+    words: &[PgStr],
+    place: ListenPlace<'_>,
+    spawner: &mut P,
+    err: &mut E,
+) -> Result<u8, AllocError>
+    requires started { P.started spawner.old ≡ 0 }
+{
+    let mut keys = RandomKeys::new(alloc, rt);
+    let mut acceptor = bind_place(rt, place);
+    let status = serve_many(&rt, alloc, words, &mut acceptor, spawner, &mut keys, err);
+    leave_place(&rt, place, acceptor);
+    status
 }
 
 /// Serves the client on standard input and output.
@@ -136,6 +177,29 @@ fn served<E: Sink>(status: Result<u8, AllocError>, err: &mut E) -> ExitCode {
     }
 }
 
+/// Does what the words order where they name no place to listen at: the help, the version, or one
+/// client.
+fn obey_alone<R: Wait + Files + Input, K: Sink, E: Sink>(
+    rt: &R,
+    alloc: Global,
+    words: &[PgStr],
+    out: &mut K,
+    err: &mut E,
+) -> ExitCode {
+    if let Some(text) = help_or_version(words) {
+        return tell(text, out, err);
+    }
+    let status = serve_standard(rt, alloc, words, out, err);
+    served(status, err)
+}
+
+/// The threads of jobs, for two owners.
+fn shared_threads(alloc: Global) -> Result<(JobThreads, JobThreads), AllocError> {
+    let threads = JobThreads::new(alloc)?;
+    let theirs = threads.share()?;
+    Ok((threads, theirs))
+}
+
 fn main(rt: HostRuntime) -> ExitCode {
     let alloc = rt.alloc();
     let writer = rt.stdout();
@@ -146,36 +210,17 @@ fn main(rt: HostRuntime) -> ExitCode {
         return out_of_memory(&mut err);
     };
     let words = words.as_slice();
-    if let Some(text) = help_or_version(words) {
-        return tell(text, &mut out, &mut err);
-    }
     let Some(place) = listen_place(words) else {
-        let status = serve_standard(&rt, alloc, words, &mut out, &mut err);
-        return served(status, &mut err);
+        return obey_alone(&rt, alloc, words, &mut out, &mut err);
     };
-    let Ok(threads) = JobThreads::new(alloc) else {
-        return out_of_memory(&mut err);
-    };
-    let mut keys = RandomKeys::new(alloc, rt);
-    let Ok(theirs) = threads.share() else {
+    let Ok((threads, theirs)) = shared_threads(alloc) else {
         return out_of_memory(&mut err);
     };
     let Ok(start) = Box::new(alloc, move |job| theirs.start(rt, job)) else {
         return out_of_memory(&mut err);
     };
     let mut spawner = ThreadSpawner::new(threads, start);
-    // What is bound is left below, so that nothing of it stays behind.
-    let mut acceptor = bind_place(rt, place);
-    let status = serve_many(
-        &rt,
-        alloc,
-        words,
-        &mut acceptor,
-        &mut spawner,
-        &mut keys,
-        &mut err,
-    );
-    leave_place(&rt, place, acceptor);
+    let status = serve_place(rt, alloc, words, place, &mut spawner, &mut err);
     spawner.threads.finish(&rt);
     served(status, &mut err)
 }
