@@ -83,6 +83,29 @@ fn awaiting_sync<St: PortalStore<Statement = PgStr>>(
     })
 }
 
+/// Whether an answer is that the client must not ask yet.
+fn is_not_ready(answer: &Result<(), SessionError>) -> bool {
+    matches!(
+        answer,
+        Err(SessionError::Wire(PgWireError::NotReadyForQuery))
+    )
+}
+
+/// Whether an Execute is refused so.
+fn is_turned_down<St: PortalStore<Statement = PgStr, Rows = NoRows>>(
+    alloc: Global,
+    client: &mut Client<St>,
+    desk: &mut ScriptDesk,
+    execute: Execute,
+) -> bool
+    requires given { IsGiven (frontend.Execute execute) }
+    requires good { IsGoodState noop_told (state_of St.maps client.old) }
+{
+    let mut turns = Turns { spent: 0, limit: 9 };
+    let answer = NoopHandler.on_execute(alloc, client, desk, &mut turns, execute);
+    is_not_ready(&answer)
+}
+
 /// Whether an Execute is refused, and answered nothing.
 fn is_refused<St: PortalStore<Statement = PgStr, Rows = NoRows>>(
     alloc: Global,
@@ -92,21 +115,27 @@ fn is_refused<St: PortalStore<Statement = PgStr, Rows = NoRows>>(
     requires good { IsGoodState noop_told (state_of St.maps client.old) }
 {
     let execute = execute(alloc)?;
-    let mut turns = Turns { spent: 0, limit: 9 };
-    let answer = NoopHandler.on_execute(alloc, client, desk, &mut turns, execute);
-    let refused = matches!(
-        answer,
-        Err(SessionError::Wire(PgWireError::NotReadyForQuery))
-    );
-    Some(refused && client.outbox.len() == 0)
+    let is_so = is_turned_down(alloc, client, desk, execute);
+    Some(is_so && client.outbox.len() == 0)
+}
+
+/// Whether so it is of a client of this store, an empty one, that awaits Sync.
+fn is_refused_at<St: PortalStore<Statement = PgStr, Rows = NoRows>>(
+    alloc: Global,
+    store: St,
+    desk: &mut ScriptDesk,
+) -> Option<bool>
+    requires empty { St.maps store ≡ no_maps }
+{
+    let key = key(alloc)?;
+    let mut client = awaiting_sync(alloc, store, key)?;
+    is_refused(alloc, &mut client, desk)
 }
 
 /// Whether so it is of a client that awaits Sync.
 fn is_refused_before_sync(alloc: Global, desk: &mut ScriptDesk) -> Option<bool> {
-    let key = key(alloc)?;
     let store: MemPortalStore<PgStr, NoRows> = MemPortalStore::new(alloc);
-    let mut client = awaiting_sync(alloc, store, key)?;
-    is_refused(alloc, &mut client, desk)
+    is_refused_at(alloc, store, desk)
 }
 
 #[test]

@@ -8,18 +8,51 @@ use row_files::{Fault, next_part, push_digits, push_shown};
 use std::alloc::{AllocError, Global};
 use std::fmt::Write;
 
+/// What a row gives, as it tells it.
+#[derive(Clone, Copy)]
+struct Given<'t> {
+    words: &'t str,
+    file: &'t str,
+    file_fails: &'t str,
+    input: &'t str,
+    input_fails: &'t str,
+    out_fails: &'t str,
+}
+
+/// What the parts of a row give.
+fn given_of<'t>(parts: &'t str) -> Result<Given<'t>, Fault<'t>> {
+    let (words, parts) = next_part(parts)?;
+    let (file, parts) = next_part(parts)?;
+    let (file_fails, parts) = next_part(parts)?;
+    let (input, parts) = next_part(parts)?;
+    let (input_fails, out_fails) = next_part(parts)?;
+    Ok(Given {
+        words,
+        file,
+        file_fails,
+        input,
+        input_fails,
+        out_fails,
+    })
+}
+
 /// What the program tells of a row's words, file and input: its status, what it wrote, and the line
 /// of errors.
-pub fn answer_of<'t>(alloc: Global, given: &'t str) -> Result<String, Fault<'t>> {
-    let (words, given) = next_part(given)?;
-    let (file, given) = next_part(given)?;
-    let (file_fails, given) = next_part(given)?;
-    let (input, given) = next_part(given)?;
-    let (input_fails, out_fails) = next_part(given)?;
-    let mut file = file_of(alloc, file, file_fails)?;
-    let mut input = input_of(alloc, input, input_fails)?;
-    let mut out = sink_of(alloc, out_fails)?;
-    Ok(answer_to(alloc, words, &mut file, &mut input, &mut out)?)
+pub fn answer_of<'t>(alloc: Global, parts: &'t str) -> Result<String, Fault<'t>> {
+    let given = given_of(parts)?;
+    let mut file = file_of(alloc, given.file, given.file_fails)?;
+    answer_over(alloc, given, &mut file)
+}
+
+/// What the program tells of a row's words and input over this file.
+fn answer_over<'t>(
+    alloc: Global,
+    given: Given<'t>,
+    file: &mut MemorySource,
+) -> Result<String, Fault<'t>> {
+    let mut input = input_of(alloc, given.input, given.input_fails)?;
+    let mut out = sink_of(alloc, given.out_fails)?;
+    Ok(answer_to(alloc, given.words, file, &mut input, &mut out)?)
 }
 
 /// What the program tells of these words.
