@@ -198,6 +198,7 @@ fn push_value(
 }
 
 /// Appends the text of an interval as a value of a row.
+#[inline(always)]
 fn push_text(
     payload: &mut Vec<u8>,
     style: IntervalStyle,

@@ -119,6 +119,7 @@ impl<'r> ServedRelations for &'r RelationTable {
 }
 
 /// The rows of the relation at a place in these formats, under their columns and the tag SELECT.
+#[inline(always)]
 fn rows_response<'r>(
     alloc: Global,
     relations: &'r RelationTable,
@@ -163,6 +164,7 @@ fn copy_response<'r>(
 
 /// The rows of the relation at a place from the first on, in the options of a client. The format of
 /// each column is judged already.
+#[inline(always)]
 fn rows_from_first<'r>(
     alloc: Global,
     relations: &'r RelationTable,

@@ -29,6 +29,7 @@ pub(crate) fn polls_of(relations: &RelationTable, means: RelationStatement) -> u
 }
 
 /// What a statement comes to, with its rows in these formats.
+#[inline(always)]
 pub(crate) fn response_of<B: ServedRelations>(
     alloc: Global,
     served: &B,
