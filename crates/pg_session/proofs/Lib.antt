@@ -8,6 +8,7 @@ pub mod Narrowed
 pub mod Pieces
 pub mod ReplyBytes
 pub mod Rows
+pub mod Silently
 pub mod Spending
 pub mod Starting
 pub mod StartupTurns

@@ -1,10 +1,11 @@
 -- What messages do to a session: the outbox and the registry's calls grow by their answer, and the state is the next one.
-use Rattle.std.specs.Prelude.{ℕ, Bool, List, [], ◌++◌, ◌≡◌, ◌≢◌, Option, Some, None, Result, Ok, Err}
+use Rattle.std.specs.Prelude.{ℕ, Bool, List, [], ◌++◌, ◌≡◌, ◌≢◌, Option, Some, None, Result, Ok, Err, IfOk, OnErr}
 use Rattle.pg_messages.specs.declared.frontend.PgWireFrontendMessage.{PgWireFrontendMessage}
 use Rattle.pg_messages.specs.declared.backend.PgWireBackendMessage.{PgWireBackendMessage}
 use Rattle.pg_messages.specs.Frames.{IsUnfinished, DividesInto}
 use Rattle.pg_messages.specs.Replies.{replies_bytes}
 use Rattle.pg_handlers.specs.declared.desk.DeskCall.{DeskCall}
+use Rattle.pg_handlers.specs.declared.ends.EndKind.{EndKind}
 use Rattle.pg_handlers.specs.declared.ends.EndKind.TheVariants as end
 use Rattle.pg_session.specs.declared.ends.Progress.{Progress}
 use Rattle.pg_session.specs.declared.ends.Progress.TheVariants as progress
@@ -39,6 +40,12 @@ pub record IsCutAnswer {T : Type 0} (table : Table T) (s : T) (m : PgWireFronten
   pub made : List DeskCall
   pub front : BeginsWith (table (answers_of made) s m).calls made
   pub grown : new_calls ≡ calls ++ made
+
+-- A message was answered without a call, or its answer was cut off, whatever was called before; where it was answered, this comes next.
+abbrev pub IsSilentlyAnswered : {T : Type 0} → Table T → T → PgWireFrontendMessage → List ℕ → List ℕ → (Option EndKind → Next T)
+    → Result (Option EndKind) ServeError → Type 0
+IsSilentlyAnswered table s m out new_out next result = (calls : List DeskCall)
+    → IfOk result (λ end. IsAnswered table s m out new_out calls calls (next end)) × OnErr result (IsCutAnswer table s m calls calls)
 
 -- The answer to a message stops at a question: all calls were made, and the next one is a question, whose answer isn't there.
 pub record IsStoppedAnswer {T : Type 0} (table : Table T) (s : T) (m : PgWireFrontendMessage)

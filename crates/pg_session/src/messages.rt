@@ -26,7 +26,7 @@ use pg_handlers::{
     CancelDesk, Client, CopyHandler, EndKind, ExtendedQueryHandler, PgWireServerHandlers,
     SessionError, SimpleQueryHandler, Turns, send_ready_for_query,
 };
-use pg_messages::{CopyDone, PgWireFrontendMessage};
+use pg_messages::{CopyDone, Execute, PgWireFrontendMessage, Query};
 use pg_portal::{PgWireConnectionState, PgWireError, PortalStore};
 use std::alloc::Global;
 
@@ -185,18 +185,8 @@ fn on_ready<
     ensures keeps { KeepsDesk (D.told desk.old) (D.told desk.new) }
 {
     match message {
-        PgWireFrontendMessage::Query(m) => {
-            handlers
-                .simple_query_handler()
-                .on_query(alloc, client, desk, turns, m)?;
-            Ok(None)
-        }
-        PgWireFrontendMessage::Execute(m) => {
-            handlers
-                .extended_query_handler()
-                .on_execute(alloc, client, desk, turns, m)?;
-            Ok(None)
-        }
+        PgWireFrontendMessage::Query(m) => on_query(alloc, handlers, client, desk, turns, m),
+        PgWireFrontendMessage::Execute(m) => on_execute(alloc, handlers, client, desk, turns, m),
         PgWireFrontendMessage::Terminate(_) => Ok(Some(EndKind::Terminate)),
         other => match on_statement(alloc, handlers, client, other) {
             Ok(()) => Ok(None),
@@ -205,9 +195,103 @@ fn on_ready<
     }
 }
 
+/// A Query of a session that is ready.
+#[inline(always)]
+fn on_query<
+    H: PgWireServerHandlers,
+    St: PortalStore<
+        Statement = <H::Extended as ExtendedQueryHandler>::Statement,
+        Rows = <H::Extended as ExtendedQueryHandler>::Rows,
+    >,
+    D: CancelDesk,
+>(
+    alloc: Global,
+    handlers: &H,
+    client: &mut Client<St>,
+    desk: &mut D,
+    turns: &mut Turns,
+    message: Query,
+) -> Result<Option<EndKind>, SessionError>
+    requires given { IsGiven (frontend.Query message) }
+    requires ready { client.old.info.state ≡ phase.ReadyForQuery }
+    requires good { IsGoodState (H.told handlers.now).extended.parser
+        (state_of St.maps client.old) }
+    ensures ok { IfOk result (λ end. IsRow
+        (λ answers. ready_row
+        (H.told handlers.now)
+        answers (state_of St.maps client.old) (frontend.Query message))
+        client.old.outbox client.new.outbox (D.told desk.old).calls (D.told desk.new).calls
+        (outcome_of end (state_of St.maps client.new))) }
+    ensures refused { IfErr result (IsRefusedRow
+        (λ answers. ready_row
+        (H.told handlers.now)
+        answers (state_of St.maps client.old) (frontend.Query message))
+        client.old.outbox client.new.outbox (D.told desk.old).calls (D.told desk.new).calls
+        (state_of St.maps client.new)) }
+    ensures answerable { IfErr result IsAnswerableError }
+    ensures ends { IfOk result (λ end. end ≢ Some InputEnd) }
+    ensures good { IsGoodState (H.told handlers.now).extended.parser (state_of St.maps client.new) }
+    ensures turns { HasSpent turns.old turns.new
+        (questions_since (D.told desk.old).calls (D.told desk.new).calls) result }
+    ensures bounded { turns.old.spent ≤ turns.old.limit → turns.new.spent ≤ turns.new.limit }
+    ensures keeps { KeepsDesk (D.told desk.old) (D.told desk.new) }
+{
+    handlers
+        .simple_query_handler()
+        .on_query(alloc, client, desk, turns, message)?;
+    Ok(None)
+}
+
+/// An Execute of a session that is ready.
+#[inline(always)]
+fn on_execute<
+    H: PgWireServerHandlers,
+    St: PortalStore<
+        Statement = <H::Extended as ExtendedQueryHandler>::Statement,
+        Rows = <H::Extended as ExtendedQueryHandler>::Rows,
+    >,
+    D: CancelDesk,
+>(
+    alloc: Global,
+    handlers: &H,
+    client: &mut Client<St>,
+    desk: &mut D,
+    turns: &mut Turns,
+    message: Execute,
+) -> Result<Option<EndKind>, SessionError>
+    requires given { IsGiven (frontend.Execute message) }
+    requires ready { client.old.info.state ≡ phase.ReadyForQuery }
+    requires good { IsGoodState (H.told handlers.now).extended.parser
+        (state_of St.maps client.old) }
+    ensures ok { IfOk result (λ end. IsRow
+        (λ answers. ready_row
+        (H.told handlers.now)
+        answers (state_of St.maps client.old) (frontend.Execute message))
+        client.old.outbox client.new.outbox (D.told desk.old).calls (D.told desk.new).calls
+        (outcome_of end (state_of St.maps client.new))) }
+    ensures refused { IfErr result (IsRefusedRow
+        (λ answers. ready_row
+        (H.told handlers.now)
+        answers (state_of St.maps client.old) (frontend.Execute message))
+        client.old.outbox client.new.outbox (D.told desk.old).calls (D.told desk.new).calls
+        (state_of St.maps client.new)) }
+    ensures answerable { IfErr result IsAnswerableError }
+    ensures ends { IfOk result (λ end. end ≢ Some InputEnd) }
+    ensures good { IsGoodState (H.told handlers.now).extended.parser (state_of St.maps client.new) }
+    ensures turns { HasSpent turns.old turns.new
+        (questions_since (D.told desk.old).calls (D.told desk.new).calls) result }
+    ensures bounded { turns.old.spent ≤ turns.old.limit → turns.new.spent ≤ turns.new.limit }
+    ensures keeps { KeepsDesk (D.told desk.old) (D.told desk.new) }
+{
+    handlers
+        .extended_query_handler()
+        .on_execute(alloc, client, desk, turns, message)?;
+    Ok(None)
+}
+
 /// A message of a session that is ready, which calls nothing and doesn't end the conversation.
 #[inline(always)]
-fn on_statement<
+pub(crate) fn on_statement<
     H: PgWireServerHandlers,
     St: PortalStore<
         Statement = <H::Extended as ExtendedQueryHandler>::Statement,

@@ -7,20 +7,23 @@ ghost use Rattle.pg_messages.specs.Replies.{replies_bytes};
 ghost use Rattle.pg_portal.specs.Errors.{info_of};
 ghost use Rattle.pg_portal.specs.Maps.{no_maps};
 ghost use Rattle.pg_portal.specs.Rows.{IsAnswerable};
+ghost use Rattle.pg_portal.specs.declared.client.PgWireConnectionState.TheVariants as phase;
 ghost use Rattle.pg_portal.specs.declared.error.PgWireError.TheVariants as wire;
 ghost use Rattle.pg_handlers.specs.Desk.{GoesOn};
 ghost use Rattle.pg_handlers.specs.Effect.{failed};
+ghost use Rattle.pg_handlers.specs.Good.{IsGiven};
 ghost use Rattle.pg_handlers.specs.Questions.{HasSpent, questions_since};
 ghost use Rattle.pg_handlers.specs.State.{first_info, first_state};
-ghost use Rattle.pg_handlers.specs.Table.{whole_table, scope_in};
+ghost use Rattle.pg_handlers.specs.Table.{whole_table, scope_in, IsPlain};
 ghost use Rattle.pg_handlers.specs.declared.ends.EndKind.TheVariants.{InputEnd};
 ghost use Rattle.pg_handlers.specs.declared.ends.SessionError.TheVariants as session;
 ghost use Rattle.pg_session.specs.Messages.{IsGivenIn, scope_for, next_of};
-ghost use Rattle.pg_session.specs.Session.{goes_on, stays_open, HasFed};
-ghost use Rattle.pg_session.specs.Steps.{IsAnswered, IsCutAnswer, IsStoppedAnswer};
+ghost use Rattle.pg_session.specs.Session.{goes_on, HasFed};
+ghost use Rattle.pg_session.specs.Steps.{IsAnswered, IsCutAnswer, IsSilentlyAnswered, IsStoppedAnswer};
 ghost use Rattle.pg_session.specs.declared.ends.ServeError.TheVariants as serve;
 
 use crate::ends::ServeError;
+use crate::messages::on_statement;
 use bytes::BytesMut;
 use pg_handlers::{
     CancelDesk, Client, EndKind, ExtendedQueryHandler, Outbox, PgWireServerHandlers, SessionError,
@@ -215,6 +218,124 @@ impl<
         ensures bounded { turns.old.spent ≤ turns.old.limit → turns.new.spent ≤ turns.new.limit }
         ensures registration { GoesOn (D.told desk.old) (D.told desk.new) }
     {
+        match self.state() {
+            PgWireConnectionState::ReadyForQuery => {
+                self.respond_ready(alloc, desk, turns, message)
+            }
+            _ => self.respond_any(alloc, desk, turns, message),
+        }
+    }
+
+    /// Answers a message of a session that is ready. What makes no call of the registry is told apart,
+    /// since it has fewer answers.
+    #[inline(always)]
+    fn respond_ready<D: CancelDesk>(
+        &mut self,
+        alloc: Global,
+        desk: &mut D,
+        turns: &mut Turns,
+        message: PgWireFrontendMessage,
+    ) -> Result<Option<EndKind>, ServeError>
+        requires open { self.old.is_open ≡ true }
+        requires ready { self.old.state.info.state ≡ phase.ReadyForQuery }
+        requires given { IsGivenIn self.old.state message }
+        ensures answer { IfOk result (λ end. IsAnswered
+            (whole_table
+            (H.told self.old.handlers))
+            self.old.state message self.old.unsent self.new.unsent (D.told desk.old).calls
+            (D.told desk.new).calls
+            (next_of end self.new.state)) }
+        ensures err { OnErr result (IsCutAnswer
+            (whole_table
+            (H.told self.old.handlers))
+            self.old.state message (D.told desk.old).calls (D.told desk.new).calls) }
+        ensures stopped { IsErrOf result serve.TurnLimit → IsStoppedAnswer
+            (whole_table
+            (H.told self.old.handlers))
+            self.old.state message (D.told desk.old).calls (D.told desk.new).calls }
+        ensures only { IfErr result (λ e. (e ≡ serve.NoMemory) ⊎ (e ≡ serve.TurnLimit)) }
+        ensures ends { IfOk result (λ end. end ≢ Some InputEnd) }
+        ensures open { self.new.is_open ≡ goes_on result }
+        ensures handlers { self.new.handlers ≡ self.old.handlers }
+        ensures rest { self.new.rest ≡ self.old.rest }
+        ensures turns { HasFed turns.old turns.new
+            (questions_since (D.told desk.old).calls (D.told desk.new).calls) result }
+        ensures bounded { turns.old.spent ≤ turns.old.limit → turns.new.spent ≤ turns.new.limit }
+        ensures registration { GoesOn (D.told desk.old) (D.told desk.new) }
+    {
+        match message {
+            PgWireFrontendMessage::Query(_)
+            | PgWireFrontendMessage::Execute(_)
+            | PgWireFrontendMessage::Terminate(_) => self.respond_any(alloc, desk, turns, message),
+            other => self.respond_silently(alloc, other),
+        }
+    }
+
+    /// Answers a message of a session that is ready, which calls nothing and doesn't end the
+    /// conversation.
+    #[inline(always)]
+    fn respond_silently(
+        &mut self,
+        alloc: Global,
+        message: PgWireFrontendMessage,
+    ) -> Result<Option<EndKind>, ServeError>
+        requires open { self.old.is_open ≡ true }
+        requires ready { self.old.state.info.state ≡ phase.ReadyForQuery }
+        requires given { IsGiven message }
+        requires plain { IsPlain message }
+        ensures answer { IsSilentlyAnswered
+            (whole_table
+            (H.told self.old.handlers))
+            self.old.state message self.old.unsent self.new.unsent
+            (λ end. next_of end self.new.state) result }
+        ensures only { IfErr result (λ e. e ≡ serve.NoMemory) }
+        ensures ends { IfOk result (λ end. end ≢ Some InputEnd) }
+        ensures open { self.new.is_open ≡ goes_on result }
+        ensures handlers { self.new.handlers ≡ self.old.handlers }
+        ensures rest { self.new.rest ≡ self.old.rest }
+    {
+        let handlers = &*self.handlers;
+        match on_statement(alloc, handlers, &mut self.client, message) {
+            Ok(()) => Ok(None),
+            Err(error) => self.tell(alloc, error, true),
+        }
+    }
+
+    /// Answers any message.
+    #[inline(never)]
+    fn respond_any<D: CancelDesk>(
+        &mut self,
+        alloc: Global,
+        desk: &mut D,
+        turns: &mut Turns,
+        message: PgWireFrontendMessage,
+    ) -> Result<Option<EndKind>, ServeError>
+        requires open { self.old.is_open ≡ true }
+        requires given { IsGivenIn self.old.state message }
+        ensures answer { IfOk result (λ end. IsAnswered
+            (whole_table
+            (H.told self.old.handlers))
+            self.old.state message self.old.unsent self.new.unsent (D.told desk.old).calls
+            (D.told desk.new).calls
+            (next_of end self.new.state)) }
+        ensures err { OnErr result (IsCutAnswer
+            (whole_table
+            (H.told self.old.handlers))
+            self.old.state message (D.told desk.old).calls (D.told desk.new).calls) }
+        ensures stopped { IsErrOf result serve.TurnLimit → IsStoppedAnswer
+            (whole_table
+            (H.told self.old.handlers))
+            self.old.state message (D.told desk.old).calls (D.told desk.new).calls }
+        ensures only { IfErr result (λ e. (e ≡ serve.NoMemory) ⊎ (e ≡ serve.TurnLimit)) }
+        ensures ends { IfOk result (λ end. end ≢ Some InputEnd) }
+        ensures open { self.new.is_open ≡ goes_on result }
+        ensures handlers { self.new.handlers ≡ self.old.handlers }
+        ensures rest { self.new.rest ≡ self.old.rest }
+        ensures turns { HasFed turns.old turns.new
+            (questions_since (D.told desk.old).calls (D.told desk.new).calls) result }
+        ensures bounded { turns.old.spent ≤ turns.old.limit → turns.new.spent ≤ turns.new.limit }
+        ensures registration { GoesOn (D.told desk.old) (D.told desk.new) }
+    {
         let wait_for_sync = waits_for_sync(self.client.info.state, &message);
         match process_message(alloc, self, desk, turns, message) {
             Ok(end) => Ok(end),
@@ -223,7 +344,8 @@ impl<
         }
     }
 
-    /// Tells the client an error of a message, and does what follows it. Want of memory isn't told.
+    /// Tells the client an error of a message, and does what follows it. Want of memory isn't told,
+    /// and closes the session.
     #[cold]
     #[inline(never)]
     fn tell(
@@ -232,7 +354,7 @@ impl<
         error: PgWireError,
         wait_for_sync: bool,
     ) -> Result<Option<EndKind>, ServeError>
-        requires open { self.old.is_open ≡ stays_open (Err (session.Wire error)) }
+        requires open { error ≢ wire.NoMemory → self.old.is_open ≡ true }
         requires answerable { IsAnswerable error }
         ensures known { OnOk result (error ≢ wire.NoMemory) }
         ensures replied { OnOk result (self.new.unsent ≡ self.old.unsent ++ replies_bytes
@@ -247,7 +369,10 @@ impl<
         ensures rest { self.new.rest ≡ self.old.rest }
     {
         match error {
-            PgWireError::NoMemory => Err(ServeError::NoMemory),
+            PgWireError::NoMemory => {
+                self.opened = false;
+                Err(ServeError::NoMemory)
+            }
             error => match process_error(alloc, self, error, wait_for_sync) {
                 Ok(end) => Ok(end),
                 Err(_) => Err(ServeError::NoMemory),

@@ -1,42 +1,11 @@
-use Rattle.std.proofs.Common.{ap, inl}
-use Rattle.std.proofs.lemmas.Result.{err_from_is_err_and}
+use Rattle.std.proofs.Common.{inl}
 use Rattle.pg_handlers.proofs.Desks.{keeps_none}
 use Rattle.pg_handlers.specs.State.{state_of}
 use Rattle.pg_handlers.specs.Table.{statement_row}
 use Rattle.pg_handlers.specs.declared.ends.SessionError.TheVariants as session
-use Rattle.pg_handlers.proofs.GoodStores.{good_parts}
 use Rattle.pg_handlers.proofs.Rows.{no_turn}
 use Rattle.pg_session.proofs.Rows.{silent_row, silent_refused, same_row, same_refused, plain_row, ended_row}
 use Rattle.pg_session.proofs.messages.on_ready.Goals as goal
-
-pub returns-in_err-on_query-in-Query-clause-good : goal.returns-in_err-on_query-in-Query-clause-good
-returns-in_err-on_query-in-Query-clause-good g c =
-    let s = state_of g.St.PortalStore.maps c.args.client.now in
-    let n = state_of g.St.PortalStore.maps c.on_query.new.client in
-    good_parts (g.H.PgWireServerHandlers.told c.args.handlers.now).extended.parser s n.info n.statements n.portals
-    c.in_err-on_query-in-Query.ensures.metadata (ap (λ st. (g.St.PortalStore.maps st).statements) c.in_err-on_query-in-Query.ensures.store)
-    (ap (λ st. (g.St.PortalStore.maps st).portals) c.in_err-on_query-in-Query.ensures.store) c.requires.good
-
-pub returns-in_err-on_query-in-Query-clause-refused : goal.returns-in_err-on_query-in-Query-clause-refused
-returns-in_err-on_query-in-Query-clause-refused g c =
-    let p = err_from_is_err_and c.from_residual.result c.from_residual.ensures.1 in
-    let refused = rw c.requires.ready at c.in_err-on_query-in-Query.ensures.refused in
-    rw (p.1, p.2, c.in-Query.is, ← c.simple_query_handler.ensures) refused
-
-pub returns-in_err-on_execute-in-Execute-clause-refused : goal.returns-in_err-on_execute-in-Execute-clause-refused
-returns-in_err-on_execute-in-Execute-clause-refused g c =
-    let p = err_from_is_err_and c.from_residual-in_err-on_execute-in-Execute.result
-    c.from_residual-in_err-on_execute-in-Execute.ensures.1 in
-    let refused = rw c.requires.ready at c.in_err-on_execute-in-Execute.ensures.refused in
-    rw (p.1, p.2, c.in-Execute.is, ← c.extended_query_handler.ensures) refused
-
-pub returns-in_ok-on_query-in-Query-clause-good : goal.returns-in_ok-on_query-in-Query-clause-good
-returns-in_ok-on_query-in-Query-clause-good g c =
-    let s = state_of g.St.PortalStore.maps c.args.client.now in
-    let n = state_of g.St.PortalStore.maps c.on_query.new.client in
-    good_parts (g.H.PgWireServerHandlers.told c.args.handlers.now).extended.parser s n.info n.statements n.portals
-    c.in_ok-on_query-in-Query.ensures.metadata (ap (λ st. (g.St.PortalStore.maps st).statements) c.in_ok-on_query-in-Query.ensures.store)
-    (ap (λ st. (g.St.PortalStore.maps st).portals) c.in_ok-on_query-in-Query.ensures.store) c.requires.good
 
 pub returns-in-Terminate-clause-ok : goal.returns-in-Terminate-clause-ok
 returns-in-Terminate-clause-ok g c =
@@ -77,3 +46,9 @@ returns-in-Err g c =
       bounded = λ p. p;
       keeps = keeps_none _;
     }
+
+pub returns-in-Query-clause-refused : goal.returns-in-Query-clause-refused
+returns-in-Query-clause-refused g c = rw c.in-Query.is c.on_query.ensures.refused
+
+pub returns-in-Execute-clause-refused : goal.returns-in-Execute-clause-refused
+returns-in-Execute-clause-refused g c = rw c.in-Execute.is c.on_execute.ensures.refused

@@ -3,7 +3,7 @@ use Rattle.pg_handlers.specs.Table.{scope_in}
 use Rattle.pg_session.specs.Messages.{scope_for}
 use Rattle.pg_session.proofs.Answering.{cut_behind_stopped, stopped_row, cut_refused, answered_where_told}
 use Rattle.pg_session.proofs.Stepping.{on_err_always}
-use Rattle.pg_session.proofs.session.Session.respond.Goals as goal
+use Rattle.pg_session.proofs.session.Session.respond_any.Goals as goal
 
 pub returns-in-Err-TurnLimit-clause-err : goal.returns-in-Err-TurnLimit-clause-err
 returns-in-Err-TurnLimit-clause-err g c =
