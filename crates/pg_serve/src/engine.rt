@@ -79,10 +79,10 @@ pub fn serve_connection<
     ensures source { S.origin source.new ≡ S.origin source.old }
     ensures sink { K.origin sink.new ≡ K.origin sink.old }
 {
-    let mut session = session_at(alloc, handlers, store, desk)?;
-    let ended = serve(alloc, &mut session, desk, source, sink, turn_limit);
-    let_go(session);
-    ended
+    let Ok(session) = session_at(alloc, handlers, store, desk) else {
+        return Err(ServeError::NoMemory);
+    };
+    serve_whole(alloc, session, desk, source, sink, turn_limit)
 }
 
 /// A session that awaits the startup packet of the client whom this desk knows. The only error is
@@ -109,14 +109,46 @@ fn session_at<
     Session::new(alloc, handlers, store, pid, key)
 }
 
-/// Gives back what a session holds.
-fn let_go<
-    H: PgWireServerHandlers,
-    St: PortalStore<
-        Statement = <H::Extended as ExtendedQueryHandler>::Statement,
-        Rows = <H::Extended as ExtendedQueryHandler>::Rows,
-    >,
->(_session: Session<H, St>) {}
+/// Serves a client by a conversation of its own, as [`serve`] does, and lets the conversation go.
+fn serve_whole<C: Conversation + Drop, D: CancelDesk, S: Source, K: Sink>(
+    alloc: Global,
+    mut conversation: C,
+    desk: &mut D,
+    source: &mut S,
+    sink: &mut K,
+    turn_limit: u64,
+) -> Result<EndKind, ServeError>
+    requires open { (C.told conversation).is_open ≡ true }
+    requires rest { (C.told conversation).rest ≡ [] }
+    requires unsent { (C.told conversation).unsent ≡ [] }
+    ensures went { (calls : List DeskCall)
+        × ((D.told desk.new).calls ≡ (D.told desk.old).calls ++ calls)
+        × WentSo (C.told conversation).rules (C.told conversation).state
+        result (S.left source.old) (S.left source.new) (K.written sink.old) (K.written sink.new)
+        calls }
+    ensures cause { HasCause result turn_limit
+        (questions_since (D.told desk.old).calls (D.told desk.new).calls)
+        (counts_of S.reads S.faults K.faults source.old sink.old)
+        (counts_of S.reads S.faults K.faults source.new sink.new) }
+    ensures last { IfOk result (EndsAtLast (C.told conversation).rules
+        (C.told conversation).state
+        (S.left source.old) (S.left source.new)) }
+    ensures taken { IfOk result (IsRunOverTaken (C.told conversation).rules
+        (C.told conversation).state
+        (S.left source.old) (S.left source.new) (K.written sink.old) (K.written sink.new)
+        (D.told desk.old).calls (D.told desk.new).calls) }
+    ensures calm { OnOk result (IsCalm (counts_of S.reads S.faults K.faults source.old sink.old)
+        (counts_of S.reads S.faults K.faults source.new sink.new)) }
+    ensures never_falls { FaultsNeverFall (counts_of S.reads S.faults K.faults source.old sink.old)
+        (counts_of S.reads S.faults K.faults source.new sink.new) }
+    ensures reads { ReadsGaveBytes (S.left source.old) (S.left source.new) (S.reads source.old)
+        (S.reads source.new) }
+    ensures registration { GoesOn (D.told desk.old) (D.told desk.new) }
+    ensures source { S.origin source.new ≡ S.origin source.old }
+    ensures sink { K.origin sink.new ≡ K.origin sink.old }
+{
+    serve(alloc, &mut conversation, desk, source, sink, turn_limit)
+}
 
 /// Serves a client by any conversation that has taken nothing yet, as [`serve_connection`] does by
 /// a session.
