@@ -1,5 +1,5 @@
 -- What comes of a registration, and of what is served under it.
-use Rattle.std.proofs.Common.{◌≡◌, ◌⊎◌, ℕ, ℤ, List, [], ◌++◌, Option, Some, Result, Ok, Err, inl, inr, length, sym, ap, subst, ◌∙◌, refl}
+use Rattle.std.proofs.Common.{◌≡◌, ◌⊎◌, ℕ, ℤ, List, [], ◌++◌, Option, Some, None, Result, Ok, Err, inl, inr, length, sym, ap, subst, ◌∙◌, refl}
 use Rattle.std.specs.Prelude.{IsOk, IsErr}
 use Rattle.pg_cancel.specs.declared.entries.Entry.{Entry}
 use Rattle.pg_cancel.specs.declared.entries.RegistryCall.TheVariants.{Register}
@@ -21,9 +21,9 @@ use Rattle.relation_words.specs.declared.commands.Load.{Load}
 use Rattle.relation_words.specs.declared.commands.Service.{Service}
 use Rattle.relation_server.specs.declared.outcome.Outcome.{Outcome}
 use Rattle.relation_server.specs.declared.outcome.Outcome.TheVariants as out
-use Rattle.relation_server.specs.Demo.{HasTold, WasCounted, HasCounted}
+use Rattle.relation_server.specs.Demo.{HasTold, IsNotRegistered, WasCounted, HasCounted}
 use Rattle.relation_server.specs.Jobs.{HasConversed}
-use Rattle.relation_server.specs.Program.{Surroundings, WasTaken, WasRegistered, WasConnected, HasServed, HasServedFile, HasShown, demo_lines, demo_registration, newcomer}
+use Rattle.relation_server.specs.Program.{ListenSurroundings, Surroundings, IsClientUntouched, HasListened, HasNoRelations, WasTaken, WasRegistered, WasConnected, HasServed, HasServedFile, HasShown, demo_lines, demo_registration, newcomer}
 
 -- ---- a pid that is taken
 
@@ -50,7 +50,40 @@ file_served issuer s relations out.Usage w old new told h = absurd h
 file_served issuer s relations out.AcceptFault w old new told h = absurd h
 file_served issuer s relations out.SpawnFault w old new told h = absurd h
 
+-- no connection was taken in
+pub nothing_shared : (count : Option ℕ) (outcome : Outcome) (old new : ListenSurroundings)
+    → HasNoRelations outcome old.file new.file old.file_faults new.file_faults → new.taking ≡ old.taking → new.seen ≡ old.seen
+    → HasListened count outcome old new
+nothing_shared count (out.File e) old new h taking seen = (h, taking, seen)
+nothing_shared count (out.Conversation (Err fault.NoMemory)) old new h taking seen = (h, inr (refl, taking, seen))
+nothing_shared count (out.Conversation (Err fault.ReadFault)) old new h taking seen = absurd h
+nothing_shared count (out.Conversation (Err fault.WriteFault)) old new h taking seen = absurd h
+nothing_shared count (out.Conversation (Err fault.TurnLimit)) old new h taking seen = absurd h
+nothing_shared count (out.Conversation (Ok kind)) old new h taking seen = absurd h
+nothing_shared count out.Done old new h taking seen = absurd h
+nothing_shared count out.Usage old new h taking seen = absurd h
+nothing_shared count out.PidTaken old new h taking seen = absurd h
+nothing_shared count out.AcceptFault old new h taking seen = absurd h
+nothing_shared count out.SpawnFault old new h taking seen = absurd h
+
 -- ---- the demo
+
+-- pid 1 was not registered
+pub not_registered : (issuer : Issuer) (l : Load) (outcome : Outcome) (old new : Surroundings) → IsNotRegistered outcome old.seen new.seen
+    → IsClientUntouched old new → HasShown issuer l outcome None old new
+not_registered issuer l out.PidTaken old new h untouched =
+    (record { number = h.0; holder = h.1; taken = h.2; has_pid = h.3 }, untouched, refl)
+not_registered issuer l (out.Conversation (Err fault.NoMemory)) old new h untouched =
+    (inl (h, untouched.1, refl), ap (λ (c : Counts). c.write_faults) untouched.2)
+not_registered issuer l (out.Conversation (Err fault.ReadFault)) old new h untouched = absurd h
+not_registered issuer l (out.Conversation (Err fault.WriteFault)) old new h untouched = absurd h
+not_registered issuer l (out.Conversation (Err fault.TurnLimit)) old new h untouched = absurd h
+not_registered issuer l (out.Conversation (Ok kind)) old new h untouched = absurd h
+not_registered issuer l (out.File e) old new h untouched = absurd h
+not_registered issuer l out.Done old new h untouched = absurd h
+not_registered issuer l out.Usage old new h untouched = absurd h
+not_registered issuer l out.AcceptFault old new h untouched = absurd h
+not_registered issuer l out.SpawnFault old new h untouched = absurd h
 
 -- a conversation that came to its end is counted
 pub counted : (h : Connection) (relations : List Relation) (turns count size : ℕ) (answer : Result EndKind ServeError)

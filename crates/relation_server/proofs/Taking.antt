@@ -9,7 +9,7 @@ use Rattle.pg_cancel.specs.declared.entries.RegistryAnswer.TheVariants.{Register
 use Rattle.pg_cancel.specs.Connections.{is_register, registers_of, entry, Registers}
 use Rattle.relation_server.specs.declared.accept_loop.ListenError.{ListenError}
 use Rattle.relation_server.specs.declared.accept_loop.ListenError.TheVariants.{AcceptFault, SpawnFault, PidTaken, NoMemory}
-use Rattle.relation_server.specs.Listening.{pids, pid_of_call, HasRegistered, IsRefusedAt, HasAdmitted, HasRefused, Taking, HasEndedSo, HasTakenIn, NeverFalls, HasTaken, connections_of}
+use Rattle.relation_server.specs.Listening.{pids, pid_of_call, HasRegistered, IsRefusedAt, HasAdmitted, HasRefused, IsTurnedAway, Taking, HasEndedSo, HasTakenIn, NeverFalls, HasTaken, connections_of}
 use Rattle.pg_session.specs.Streams.{HasRisen}
 use Rattle.pg_serve.proofs.Serving.{risen_since}
 
@@ -72,6 +72,14 @@ pub took_in : (result : Result (Unit {0}) ListenError) (pid : ℕ) (old new : Ta
 took_in (Ok done) pid old new seen seen' accepted a started failed = ((accepted, started), a)
 took_in (Err e) pid old new seen seen' accepted a started failed =
     subst (λ e. HasTakenIn (Err e) pid old new seen seen') (sym failed.0) (failed.1, (accepted, omega (arith, failed.2)), a)
+
+-- a connection that was accepted and then not registered
+pub turned_away : (e : ListenError) (pid : ℕ) (old new : Taking) (seen seen' : List Entry) → new.accepted ≡ old.accepted + 1
+    → new.started ≡ old.started → IsTurnedAway e pid seen seen' → HasTakenIn (Err e) pid old new seen seen'
+turned_away AcceptFault pid old new seen seen' accepted started h = absurd h
+turned_away SpawnFault pid old new seen seen' accepted started h = absurd h
+turned_away (PidTaken m) pid old new seen seen' accepted started h = ((accepted, omega (arith, started)), h)
+turned_away NoMemory pid old new seen seen' accepted started h = ((accepted, omega (arith, started)), h)
 
 -- ---- all of them
 

@@ -1,7 +1,10 @@
 -- What comes of serving the demo load and of telling its counts. No public contract cites it.
-use Rattle.std.specs.Prelude.{ℕ, List, ◌≡◌, ◌⊎◌, Option, Some, Err, length}
+use Rattle.std.specs.Prelude.{ℕ, pos, List, ◌≡◌, ◌⊎◌, Option, Some, Err, length}
 use Rattle.pg_cancel.specs.declared.entries.Entry.{Entry}
-use Rattle.pg_cancel.specs.Connections.{Connection, Witness}
+use Rattle.pg_cancel.specs.declared.entries.RegistryCall.TheVariants.{Register}
+use Rattle.pg_cancel.specs.declared.entries.RegistryAnswer.TheVariants.{Taken}
+use Rattle.pg_cancel.specs.Connections.{Connection, Registers, Witness, before_last}
+use Rattle.pg_cancel.specs.LegalHistory.{HasPid}
 use Rattle.pg_handlers.specs.declared.ends.EndKind.{EndKind}
 use Rattle.pg_handlers.specs.State.{first_state}
 use Rattle.pg_session.specs.declared.ends.ServeError.TheVariants.{WriteFault, NoMemory}
@@ -13,9 +16,18 @@ use Rattle.relation_demo.specs.Counting.{row_count}
 use Rattle.relation_tables.specs.declared.Relation.{Relation}
 use Rattle.relation_tables.specs.RelationHandler.{relation_handlers}
 use Rattle.relation_server.specs.declared.outcome.Outcome.{Outcome}
-use Rattle.relation_server.specs.declared.outcome.Outcome.TheVariants.{Done, Conversation}
+use Rattle.relation_server.specs.declared.outcome.Outcome.TheVariants.{Done, PidTaken, Conversation}
 use Rattle.relation_server.specs.Jobs.{IsLeftBehind}
-use Rattle.relation_server.specs.Program.{demo_lines}
+use Rattle.relation_server.specs.Program.{demo_lines, demo_registration}
+
+-- The demo's client was not registered: the door's last entry is its Register, which was answered that a live registration has the pid; or
+-- memory ran out, and the door gained nothing.
+abbrev pub IsNotRegistered : Outcome → List Entry → List Entry → Type 0
+IsNotRegistered PidTaken seen seen' = (number : ℕ) × (holder : ℕ)
+    × Registers number (Register demo_registration.0 demo_registration.1) seen seen' (Taken holder)
+    × HasPid (before_last seen') holder demo_registration.0
+IsNotRegistered (Conversation (Err NoMemory)) seen seen' = seen' ≡ seen
+IsNotRegistered outcome seen seen' = ⊥
 
 -- What came of writing lines: all were written, or a front of them.
 abbrev pub HasTold : Outcome → List ℕ → Option (List ℕ) → Option (List ℕ) → ℕ → ℕ → Type 0

@@ -69,6 +69,13 @@ pub record HasRefused (m : ℕ) (seen seen' : List Entry) (pid : ℕ) : Type 0 w
   pub pid_is : pid_of_call last.call ≡ Some (pos pid)
   pub taken : last.answer ≡ Taken m
 
+-- A connection was not registered under this pid: the door's last entry is its Register, which was answered that the registration at a
+-- place has it; or memory ran out, and the door gained nothing.
+abbrev pub IsTurnedAway : ListenError → ℕ → List Entry → List Entry → Type 0
+IsTurnedAway (PidTaken m) pid seen seen' = HasRefused m seen seen' pid
+IsTurnedAway NoMemory pid seen seen' = seen' ≡ seen
+IsTurnedAway error pid seen seen' = ⊥
+
 -- what a server that listens had counted when it began, and counted when it came to an end
 pub record Taking : Type 0 where
   pub accepted : ℕ

@@ -205,6 +205,12 @@ pub record ListenSurroundings : Type 0 where
 abbrev pub listen_surroundings : Option (List ℕ) → ℕ → Taking → List Entry → ListenSurroundings
 listen_surroundings file file_faults taking seen = record { file = file; file_faults = file_faults; taking = taking; seen = seen }
 
+-- No relations came to be shared: the file was refused; or memory ran out behind its relations.
+abbrev pub HasNoRelations : Outcome → Option (List ℕ) → Option (List ℕ) → ℕ → ℕ → Type 0
+HasNoRelations (File e) left new_left faults new_faults = IsFileCause e left new_left faults new_faults
+HasNoRelations (Conversation (Err NoMemory)) left new_left faults new_faults = (relations : List Relation) × IsToldBy left new_left relations
+HasNoRelations outcome left new_left faults new_faults = ⊥
+
 -- What came of listening for so many connections: the file was refused; or connections were taken in over its relations; or memory ran
 -- out before.
 abbrev pub HasListened : Option ℕ → Outcome → ListenSurroundings → ListenSurroundings → Type 0

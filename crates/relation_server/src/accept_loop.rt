@@ -1,14 +1,15 @@
 //! Many clients at once: each connection is registered and served by a job of its own.
 
-ghost use Rattle.std.specs.Prelude.{◌≡◌, ◌↔◌, ◌<◌, ◌≤◌, ◌+◌, ◌^◌, ℕ, IfErr, Err, OnOk};
+ghost use Rattle.std.specs.Prelude.{◌≡◌, ◌↔◌, ◌<◌, ◌≤◌, ◌+◌, ◌^◌, ℕ, IfErr, IfOk, Err, OnOk};
 ghost use Rattle.std.specs.Arc.{arc_value};
 ghost use mathlib.Core.List.{IsPrefix};
-ghost use Rattle.relation_server.specs.Listening.{HasEndedSo, HasTakenIn, NeverFalls, IsRefusedAt, connections_of, taking_of};
+ghost use Rattle.relation_server.specs.Jobs.{IsFresh};
+ghost use Rattle.relation_server.specs.Listening.{HasAdmitted, HasEndedSo, HasTakenIn, IsTurnedAway, NeverFalls, IsRefusedAt, connections_of, taking_of};
 ghost use Rattle.pg_session.specs.Streams.{HasRisen, greatest_count};
 ghost use Rattle.relation_server.specs.declared.accept_loop.ListenError.{ListenError};
 
 use crate::connection_job::ConnectionJob;
-use pg_cancel::{ConnectionManager, Door, RegisterError};
+use pg_cancel::{ConnectionHandle, ConnectionManager, Door, RegisterError};
 use pg_serve::{Acceptor, Job, KeySource, SpawnFailed, Spawner};
 use relation_handlers::RelationTable;
 use std::alloc::AllocError;
@@ -118,21 +119,65 @@ fn take_in<R: Wait, A: Acceptor, P: Spawner<ConnectionJob<A::In, A::Out>>, G: Ke
     let Ok((source, sink)) = acceptor.accept() else {
         return Err(ListenError::AcceptFault);
     };
+    let (manager, relations, handle) = admit(rt, keys, manager, door, relations, pid)?;
+    start(
+        spawner,
+        ConnectionJob {
+            manager,
+            relations,
+            handle,
+            source,
+            sink,
+            turn_limit,
+        },
+    )
+}
+
+/// Registers a connection under this pid, and gives what its job shares with the server, and the
+/// registration.
+fn admit<R: Wait, G: KeySource>(
+    rt: &R,
+    keys: &mut G,
+    manager: &Arc<ConnectionManager>,
+    door: &mut Door,
+    relations: &Arc<RelationTable>,
+    pid: u64,
+) -> Result<(Arc<ConnectionManager>, Arc<RelationTable>, ConnectionHandle), ListenError>
+    requires issued { door.old.issuer ≡ arc_value manager.now }
+    requires pid { pid ≤ 2147483647 }
+    ensures handle { IfOk result (λ admitted. admitted.2.issuer ≡ arc_value admitted.0) }
+    ensures fresh { IfOk result (λ admitted. IsFresh 0 admitted.2) }
+    ensures admitted { OnOk result (HasAdmitted door.old.seen door.new.seen pid) }
+    ensures refused { IfErr result (λ error. IsTurnedAway error pid door.old.seen door.new.seen) }
+    ensures seen { IsPrefix door.old.seen door.new.seen }
+    ensures issued { door.new.issuer ≡ door.old.issuer }
+{
     let manager = Arc::try_clone(manager)?;
     let relations = Arc::try_clone(relations)?;
+    let handle = register_next(rt, keys, &manager, door, pid)?;
+    Ok((manager, relations, handle))
+}
+
+/// Registers a connection under this pid and the next key.
+fn register_next<R: Wait, G: KeySource>(
+    rt: &R,
+    keys: &mut G,
+    manager: &ConnectionManager,
+    door: &mut Door,
+    pid: u64,
+) -> Result<ConnectionHandle, ListenError>
+    requires issued { door.old.issuer ≡ manager.now }
+    requires pid { pid ≤ 2147483647 }
+    ensures handle { IfOk result (λ handle. handle.issuer ≡ manager.now) }
+    ensures fresh { IfOk result (λ handle. IsFresh 0 handle) }
+    ensures admitted { OnOk result (HasAdmitted door.old.seen door.new.seen pid) }
+    ensures refused { IfErr result (λ error. IsTurnedAway error pid door.old.seen door.new.seen) }
+    ensures seen { IsPrefix door.old.seen door.new.seen }
+    ensures issued { door.new.issuer ≡ door.old.issuer }
+{
     let key = keys.next_key()?;
     match manager.register(rt, door, pid as i32, key) {
-        Ok(handle) => start(
-            spawner,
-            ConnectionJob {
-                manager,
-                relations,
-                handle,
-                source,
-                sink,
-                turn_limit,
-            },
-        ),
+        Ok(handle) => Ok(handle),
         Err(RegisterError::PidTaken(holder)) => Err(ListenError::PidTaken(holder)),
         Err(RegisterError::NoMemory) => Err(ListenError::NoMemory),
     }

@@ -1,13 +1,18 @@
 //! The program's command `demo`: a generated load is served in memory, and counted.
 
-ghost use Rattle.std.specs.Prelude.{◌≡◌, ◌≤◌, List, ℕ, Option, Err, length, string_bytes, IfOk, IsOk, IsErr};
+ghost use Rattle.std.specs.Prelude.{◌≡◌, ◌≤◌, List, ℕ, Option, Err, length, string_bytes, IfErr, IfOk, IsOk, IsErr};
+ghost use Rattle.pg_cancel.specs.Connections.{Registers};
+ghost use Rattle.pg_cancel.specs.declared.entries.RegistryAnswer.{RegistryAnswer};
+ghost use Rattle.pg_cancel.specs.declared.entries.RegistryCall.{RegistryCall};
 ghost use Rattle.pg_messages.specs.declared.backend.PgWireBackendMessage.{PgWireBackendMessage};
 ghost use Rattle.pg_messages.specs.Replies.{replies_bytes};
+ghost use Rattle.relation_demo.specs.Client as client;
 ghost use Rattle.relation_demo.specs.Counting.{row_count};
+ghost use Rattle.relation_demo.specs.Load.{demo_relations};
 ghost use Rattle.pg_session.specs.declared.ends.ServeError.{ServeError};
 ghost use Rattle.relation_server.specs.declared.outcome.Outcome.{Outcome};
-ghost use Rattle.relation_server.specs.Demo.{HasCounted, HasTold};
-ghost use Rattle.relation_server.specs.Program.{HasShown, counts, demo_lines, surroundings};
+ghost use Rattle.relation_server.specs.Demo.{HasCounted, HasTold, IsNotRegistered};
+ghost use Rattle.relation_server.specs.Program.{HasShown, counts, demo_lines, demo_registration, newcomer, surroundings};
 
 use crate::connection_job::serve_and_leave;
 use crate::outcome::Outcome;
@@ -54,21 +59,51 @@ pub(crate) fn show_demo<R: Wait, K: Sink>(
     ensures never_falls { K.faults out.old ≤ K.faults out.new }
     ensures issued { door.new.issuer ≡ door.old.issuer }
 {
-    let Ok(relations) = demo_table(alloc, load.seed, load.count) else {
+    let Ok((relations, client)) = generate(alloc, load) else {
         return (Outcome::OUT_OF_MEMORY, None);
     };
-    let Ok(client) = demo_client(alloc, load.count) else {
-        return (Outcome::OUT_OF_MEMORY, None);
-    };
-    let Ok(key) = SecretKey::try_new(alloc, &KEY) else {
-        return (Outcome::OUT_OF_MEMORY, None);
-    };
-    match manager.register(rt, door, PID, key) {
-        Err(RegisterError::PidTaken(_)) => (Outcome::PidTaken, None),
-        Err(RegisterError::NoMemory) => (Outcome::OUT_OF_MEMORY, None),
+    match register_client(rt, alloc, manager, door) {
+        Err(outcome) => (outcome, None),
         Ok(handle) => serve_demo(
             rt, alloc, load.count, manager, handle, &relations, client, out,
         ),
+    }
+}
+
+/// Generates the relations of the load, and the bytes of its client.
+fn generate(alloc: Global, load: Load) -> Result<(RelationTable, PgBytes), AllocError>
+    requires few { load.count ≤ 10000 }
+    ensures table { IfOk result (λ made. made.0 ≡ demo_relations load.seed load.count) }
+    ensures client { IfOk result (λ made. made.1 ≡ client.demo_client load.count) }
+{
+    let relations = demo_table(alloc, load.seed, load.count)?;
+    let client = demo_client(alloc, load.count)?;
+    Ok((relations, client))
+}
+
+/// Registers the demo's client.
+fn register_client<R: Wait>(
+    rt: &R,
+    alloc: Global,
+    manager: &ConnectionManager,
+    door: &mut Door,
+) -> Result<ConnectionHandle, Outcome>
+    requires issued { door.old.issuer ≡ manager.now }
+    ensures handle { IfOk result (λ handle.
+        handle ≡ newcomer manager.now handle.number demo_registration door.new.seen) }
+    ensures registered { IfOk result (λ handle. Registers handle.number
+        (RegistryCall.Register demo_registration.0 demo_registration.1)
+        door.old.seen door.new.seen RegistryAnswer.Registered) }
+    ensures refused { IfErr result (λ outcome. IsNotRegistered outcome door.old.seen door.new.seen) }
+    ensures issued { door.new.issuer ≡ door.old.issuer }
+{
+    let Ok(key) = SecretKey::try_new(alloc, &KEY) else {
+        return Err(Outcome::OUT_OF_MEMORY);
+    };
+    match manager.register(rt, door, PID, key) {
+        Ok(handle) => Ok(handle),
+        Err(RegisterError::PidTaken(_)) => Err(Outcome::PidTaken),
+        Err(RegisterError::NoMemory) => Err(Outcome::OUT_OF_MEMORY),
     }
 }
 

@@ -1,14 +1,15 @@
 //! The program over many clients: its command `listen`.
 
-ghost use Rattle.std.specs.Prelude.{◌≡◌, ◌≤◌, ◌<◌, ◌^◌};
+ghost use Rattle.std.specs.Prelude.{◌≡◌, ◌≤◌, ◌<◌, ◌^◌, IfErr, IfOk};
 ghost use Rattle.std.specs.Arc.{arc_value};
+ghost use Rattle.relation_files.specs.Files.{IsToldBy};
 ghost use Rattle.relation_words.specs.Listening.{listen_count_of};
 ghost use Rattle.relation_server.specs.declared.outcome.Outcome.{Outcome};
 ghost use mathlib.Core.List.{IsPrefix};
 ghost use Rattle.relation_server.specs.Listening.{NeverFalls, taking_of};
 ghost use Rattle.relation_server.specs.Outcomes.{status_of, line_of};
 ghost use Rattle.status_lines.specs.StatusLines.{IsReported};
-ghost use Rattle.relation_server.specs.Program.{HasListened, HasRunListening, listen_surroundings, outcome_of};
+ghost use Rattle.relation_server.specs.Program.{HasListened, HasNoRelations, HasRunListening, listen_surroundings, outcome_of};
 
 use crate::accept_loop::{ListenError, listen};
 use crate::connection_job::ConnectionJob;
@@ -19,6 +20,7 @@ use pg_messages::PgStr;
 use pg_serve::{Acceptor, KeySource, Spawner};
 use pg_session::{Sink, Source};
 use relation_files::read_relations;
+use relation_handlers::RelationTable;
 use relation_words::listen_count;
 use std::alloc::Global;
 use std::sync::{Arc, Wait};
@@ -118,16 +120,30 @@ fn listen_over<
     ensures seen { IsPrefix door.old.seen door.new.seen }
     ensures issued { door.new.issuer ≡ door.old.issuer }
 {
+    match shared_relations(alloc, file) {
+        Err(outcome) => outcome,
+        Ok(relations) => outcome_of(listen(
+            rt, acceptor, spawner, keys, manager, door, relations, TURNS, count,
+        )),
+    }
+}
+
+/// Reads the relations of the file, for the jobs to share.
+fn shared_relations<F: Source>(alloc: Global, file: &mut F) -> Result<Arc<RelationTable>, Outcome>
+    ensures ok { IfOk result (λ relations. IsToldBy (F.left file.old) (F.left file.new)
+        (arc_value relations)) }
+    ensures err { IfErr result (λ outcome. HasNoRelations outcome (F.left file.old)
+        (F.left file.new) (F.faults file.old) (F.faults file.new)) }
+    ensures never_falls { F.faults file.old ≤ F.faults file.new }
+{
     let relations = match read_relations(alloc, file) {
-        Err(error) => return Outcome::File(error),
+        Err(error) => return Err(Outcome::File(error)),
         Ok(relations) => relations,
     };
-    let Ok(relations) = Arc::new(alloc, relations) else {
-        return Outcome::OUT_OF_MEMORY;
+    let Ok(shared) = Arc::new(alloc, relations) else {
+        return Err(Outcome::OUT_OF_MEMORY);
     };
-    outcome_of(listen(
-        rt, acceptor, spawner, keys, manager, door, relations, TURNS, count,
-    ))
+    Ok(shared)
 }
 
 /// The outcome of listening.

@@ -1,5 +1,6 @@
-use Rattle.std.proofs.Common.{inr, refl, rules}
+use Rattle.std.proofs.Common.{refl}
+use Rattle.relation_server.proofs.Registering.{nothing_shared}
 use Rattle.relation_server.proofs.many_clients_program.listen_over.Goals as goal
 
-pub returns-in_default-clause-listened : goal.returns-in_default-clause-listened
-returns-in_default-clause-listened g c = ((c.in-Ok.relations, c.in-Ok.ensures.ok), inr (refl, refl, search rules))
+pub returns-in-Err-clause-listened : goal.returns-in-Err-clause-listened
+returns-in-Err-clause-listened g c = nothing_shared c.args.count c.in-Err.outcome _ _ c.in-Err.ensures.err refl refl
