@@ -22,7 +22,7 @@ use relation_server::{
 use relation_words::file_word;
 use std::alloc::{AllocError, Global};
 use std::fs::Files;
-use std::io::Input;
+use std::io::{Input, Write};
 use std::net::{Net, TcpListener, TcpStream};
 use std::process::ExitCode;
 use std::random::RandomSource;
@@ -178,18 +178,19 @@ fn served<E: Sink>(status: Result<u8, AllocError>, err: &mut E) -> ExitCode {
 }
 
 /// Does what the words order where they name no place to listen at: the help, the version, or one
-/// client.
-fn obey_alone<R: Wait + Files + Input, K: Sink, E: Sink>(
+/// client. What is told goes to the writer.
+fn obey_alone<R: Wait + Files + Input, W: Write + Drop, E: Sink>(
     rt: &R,
     alloc: Global,
     words: &[PgStr],
-    out: &mut K,
+    writer: W,
     err: &mut E,
 ) -> ExitCode {
+    let mut out = WriterSink { writer, faults: 0 };
     if let Some(text) = help_or_version(words) {
-        return tell(text, out, err);
+        return tell(text, &mut out, err);
     }
-    let status = serve_standard(rt, alloc, words, out, err);
+    let status = serve_standard(rt, alloc, words, &mut out, err);
     served(status, err)
 }
 
@@ -202,8 +203,6 @@ fn shared_threads(alloc: Global) -> Result<(JobThreads, JobThreads), AllocError>
 
 fn main(rt: HostRuntime) -> ExitCode {
     let alloc = rt.alloc();
-    let writer = rt.stdout();
-    let mut out = WriterSink { writer, faults: 0 };
     let writer = rt.stderr();
     let mut err = WriterSink { writer, faults: 0 };
     let Ok(words) = read_words(&rt) else {
@@ -211,7 +210,7 @@ fn main(rt: HostRuntime) -> ExitCode {
     };
     let words = words.as_slice();
     let Some(place) = listen_place(words) else {
-        return obey_alone(&rt, alloc, words, &mut out, &mut err);
+        return obey_alone(&rt, alloc, words, rt.stdout(), &mut err);
     };
     let Ok((threads, theirs)) = shared_threads(alloc) else {
         return out_of_memory(&mut err);
