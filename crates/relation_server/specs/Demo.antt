@@ -1,5 +1,5 @@
 -- What comes of serving the demo load and of telling its counts. No public contract cites it.
-use Rattle.std.specs.Prelude.{ℕ, pos, List, ◌≡◌, ◌⊎◌, Option, Some, Err, length}
+use Rattle.std.specs.Prelude.{ℕ, List, ◌≡◌, ◌⊎◌, Option, Some, Err, length}
 use Rattle.pg_cancel.specs.declared.entries.Entry.{Entry}
 use Rattle.pg_cancel.specs.declared.entries.RegistryCall.TheVariants.{Register}
 use Rattle.pg_cancel.specs.declared.entries.RegistryAnswer.TheVariants.{Taken}

@@ -1,4 +1,4 @@
-use Rattle.std.proofs.Common.{◌≡◌, ◌∙◌, ℕ, pos, [], ◌∷◌, Err, ap, refl, sym, subst}
+use Rattle.std.proofs.Common.{◌≡◌, ◌∙◌, ℕ, pos, [], ◌∷◌, Err, ap, sym, subst}
 use Rattle.pg_cancel.specs.declared.entries.RegistryCall.TheVariants.{Register}
 use Rattle.pg_cancel.specs.declared.entries.RegistryAnswer.TheVariants.{Registered, Taken}
 use Rattle.pg_cancel.specs.Connections.{Registers, entry}
