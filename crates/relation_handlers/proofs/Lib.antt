@@ -8,3 +8,4 @@ pub mod ReadSoFar
 pub mod EvenRows
 pub mod MadeLemmas
 pub mod RefusedRows
+pub mod SettingsLemmas

@@ -1,16 +1,21 @@
 -- What is answered can be sent.
-use Rattle.std.proofs.Common.{◌≡◌, ◌≤◌, subst, List, Option, length, unwrap_or, arith}
+use Rattle.std.proofs.Common.{◌≡◌, ◌≤◌, subst, List, Option, Result, Ok, Err, IfOk, map, codes, length, unwrap_or, refl, arith}
+use Rattle.std.specs.Arc.{arc_value}
 use Rattle.std.proofs.lemmas.List.{length-map}
 use Rattle.pg_messages.specs.Replies.{IsEncodable}
 use Rattle.pg_text.specs.declared.pg_type.PgType.{PgType}
 use Rattle.pg_text.specs.declared.pg_type.PgType.TheVariants as type
 use Rattle.pg_portal.specs.declared.client.ClientInfo.{ClientInfo}
 use Rattle.pg_portal.specs.declared.portal.Format.{Format}
+use Rattle.pg_portal.specs.declared.results.response.QueryResponse.{QueryResponse}
+use Rattle.pg_portal.specs.Responses as response
+use Rattle.pg_portal.specs.Rows.{RowItem}
+use Rattle.pg_portal.specs.Told.{told_rows}
 use Rattle.pg_handlers.specs.Good.{IsSendableResponse}
 use Rattle.pg_handlers.specs.Replies.{parameter_description, row_description}
 use Rattle.pg_handlers.proofs.Encodable.{select_is_tag}
 use Rattle.relation_tables.specs.declared.Relation.{Relation}
-use Rattle.relation_tables.specs.RelationHandler.{columns_in, given_types, rows_response}
+use Rattle.relation_tables.specs.RelationHandler.{column_formats, columns_in, given_types, row_item, rows_response, session_style}
 use Rattle.relation_tables.proofs.GoodColumns.{good_columns}
 use Rattle.relation_tables.proofs.Sendable.{columns_sendable, types_sendable}
 use Rattle.relation_handlers.specs.Shared.{told_columns}
@@ -25,6 +30,14 @@ pub sendable_rows : (client : ClientInfo) (formats : Format) (r : Relation) (col
     → IsEncodable (row_description columns.fields) → IsSendableResponse (rows_response client formats r)
 sendable_rows client formats r columns e encodable =
     (subst (λ (c : ToldColumns). IsEncodable (row_description c.fields)) e encodable, select_is_tag)
+
+-- rows of these columns, in the session's style
+pub told_query : {R E : Type 0} (left : R → List RowItem) (made : Result (QueryResponse R) E) (client : ClientInfo) (formats : Format)
+    (r : Relation) → IfOk made (λ m. m.command_tag ≡ codes "SELECT") → IfOk made (λ m. arc_value m.row_schema ≡ columns_in formats r.columns)
+    → IfOk made (λ m. left m.data_rows ≡ map (row_item (session_style client) (column_formats formats r.columns)) r.rows)
+    → IfOk made (λ m. response.Query (told_rows left m) ≡ rows_response client formats r)
+told_query left (Ok m) client formats r tag fields rows = rw (tag, fields, rows) refl
+told_query left (Err e) client formats r tag fields rows = tt
 
 pub sendable_types : (types : List (Option PgType)) → length types ≤ 32767 → IsEncodable (parameter_description (given_types types))
 sendable_types types few =

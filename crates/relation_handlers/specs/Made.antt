@@ -1,5 +1,5 @@
 -- The rows of a relation, and its lines, as they are made on demand.
-use Rattle.std.specs.Prelude.{ℕ, ◌≡◌, ◌<◌, IsTrue, is_some, List, Result, map, drop, length}
+use Rattle.std.specs.Prelude.{ℕ, ◌≡◌, ◌<◌, ⊤, IsTrue, is_some, List, Result, map, drop, length}
 use Rattle.pg_interval.specs.declared.pg_interval.Interval.{Interval}
 use Rattle.pg_text.specs.declared.field_format.FieldFormat.{FieldFormat}
 use Rattle.pg_text.specs.declared.format.FormatOptions.{FormatOptions}
@@ -9,6 +9,7 @@ use Rattle.pg_text.specs.Words.{interval_style_of}
 use Rattle.pg_portal.specs.declared.client.ClientInfo.{ClientInfo}
 use Rattle.pg_portal.specs.declared.error.PgWireError.{PgWireError}
 use Rattle.pg_portal.specs.declared.portal.Format.{Format}
+use Rattle.pg_portal.specs.declared.portal.Format.TheVariants as format
 use Rattle.pg_portal.specs.Copying.{CopyItem}
 use Rattle.pg_portal.specs.Formats.{format_for}
 use Rattle.pg_portal.specs.Rows.{RowItem}
@@ -67,3 +68,9 @@ pub record IsMaker (m : ToldMaker) (kept_rows : List (List Interval)) (kept_form
 -- The options of a session: of its startup parameters only the interval style tells how intervals are written.
 abbrev pub session_options : ClientInfo → FormatOptions
 session_options client = record default_options { interval_style = style_text client }
+
+-- The options of a query in these formats: those of its session, and where all results are binary any, since nothing is written as text.
+abbrev pub IsSettled : Format → ClientInfo → FormatOptions → Type 0
+IsSettled format.UnifiedText client options = options ≡ session_options client
+IsSettled format.UnifiedBinary client options = ⊤
+IsSettled (format.Individual codes) client options = options ≡ session_options client

@@ -29,7 +29,8 @@ pub struct RelationRows<'r> {
     pub relation: u32,
     /// The formats of the columns in a row. A line is text.
     pub formats: Format,
-    /// The options of the session, whose interval style a text has.
+    /// The options whose interval style a text has: those of the session. Where no row is asked for
+    /// as text they may be others.
     pub options: Arc<FormatOptions>,
     // the rows of the relation, looked up once
     rows: &'r PgList<PgList<Interval>>,

@@ -8,12 +8,13 @@ ghost use Rattle.pg_portal.specs.Responses.{told_copy};
 ghost use Rattle.pg_portal.specs.Told.{told_rows};
 ghost use Rattle.pg_handlers.specs.Good.{IsSendableResponse};
 ghost use Rattle.relation_tables.specs.Relations.{relation_at};
-ghost use Rattle.relation_tables.specs.RelationHandler.{column_formats, copy_response, line_item, row_item, rows_response, session_style, told_parser};
+ghost use Rattle.relation_tables.specs.RelationHandler.{column_formats, copy_response, line_item, row_item, rows_response, told_parser};
 ghost use Rattle.relation_tables.specs.declared.Relation.{Relation};
-ghost use Rattle.relation_handlers.specs.Made.{GivesFormats, line_items, lines_left, row_items, rows_left};
+ghost use Rattle.relation_handlers.specs.Made.{GivesFormats, IsSettled, line_items, lines_left, row_items, rows_left, style_in};
 
 use crate::columns::columns_at;
 use crate::copy::RelationCopy;
+use crate::options::Settings;
 use crate::parser::RelationParser;
 use crate::row_source::RelationRows;
 use crate::table::RelationTable;
@@ -138,8 +139,9 @@ fn rows_response<'r>(
 {
     let columns = columns_at(alloc, relations, place, formats)?;
     let (fields, each_format) = columns.into_parts();
+    let settings = query_settings(alloc, relations, client, formats)?;
     let formats = formats.copy_of(alloc)?;
-    let rows = rows_from_first(alloc, relations, client, place, formats, each_format)?;
+    let rows = rows_from_first(alloc, relations, place, formats, each_format, settings);
     QueryResponse::new(alloc, fields, rows)
 }
 
@@ -157,36 +159,53 @@ fn copy_response<'r>(
 {
     let formats = Format::UnifiedText;
     let (_fields, each_format) = columns_at(alloc, relations, place, &formats)?.into_parts();
-    let lines = rows_from_first(alloc, relations, client, place, formats, each_format)?;
+    let settings = relations.settings_of(alloc, client)?;
+    let lines = rows_from_first(alloc, relations, place, formats, each_format, settings);
     let lines = RelationCopy::new(alloc, lines);
     Ok(CopyResponse::new(0, relations.at(place).columns.len(), lines))
 }
 
-/// The rows of the relation at a place from the first on, in the options of a client. The format of
-/// each column is judged already.
+/// The settings of a query in these formats. Where all results are binary the client's style counts
+/// for nothing, and isn't looked up.
+#[inline(always)]
+fn query_settings(
+    alloc: Global,
+    relations: &RelationTable,
+    client: &ClientInfo,
+    formats: &Format,
+) -> Result<Settings, AllocError>
+    requires { HasShortMetadata client.now }
+    ensures { IfOk result (λ settings. IsSettled formats.now client.now settings) }
+{
+    match formats {
+        Format::UnifiedBinary => relations.default_settings(),
+        Format::UnifiedText => relations.settings_of(alloc, client),
+        Format::Individual(_) => relations.settings_of(alloc, client),
+    }
+}
+
+/// The rows of the relation at a place from the first on, in these settings. The format of each
+/// column is judged already.
 #[inline(always)]
 fn rows_from_first<'r>(
     alloc: Global,
     relations: &'r RelationTable,
-    client: &ClientInfo,
     place: u32,
     formats: Format,
     each_format: Arc<PgList<FieldFormat>>,
-) -> Result<OnDemand<RelationRows<'r>>, AllocError>
+    settings: Settings,
+) -> OnDemand<RelationRows<'r>>
     requires place { place < length relations.now }
     requires formats { GivesFormats formats (length (relation_at relations.now place).columns) }
     requires judged { arc_value each_format
         ≡ column_formats formats (relation_at relations.now place).columns }
-    requires short_metadata { HasShortMetadata client.now }
-    ensures rows { IfOk result (λ rows. rows_left rows ≡ map
-        (row_item (session_style client.now)
+    ensures rows { rows_left result ≡ map (row_item (style_in settings)
         (column_formats formats (relation_at relations.now place).columns))
-        (relation_at relations.now place).rows) }
-    ensures lines { IfOk result (λ rows. lines_left rows
-        ≡ map (line_item (session_style client.now)) (relation_at relations.now place).rows) }
+        (relation_at relations.now place).rows }
+    ensures lines { lines_left result
+        ≡ map (line_item (style_in settings)) (relation_at relations.now place).rows }
 {
-    let options = relations.options_of(alloc, client)?;
-    let style = relations.style_of(alloc, client)?;
+    let (options, style) = settings.into_parts();
     let maker = RelationRows::new(
         alloc,
         relations,
@@ -196,5 +215,5 @@ fn rows_from_first<'r>(
         each_format,
         style,
     );
-    Ok(OnDemand::new(maker))
+    OnDemand::new(maker)
 }

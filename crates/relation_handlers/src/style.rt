@@ -45,22 +45,25 @@ impl SessionStyle {
         ensures { IfOk result (λ style. style ≡ session_style client.now) }
     {
         let name = PgStr::copy_of(alloc, "intervalstyle")?;
-        SessionStyle::under(alloc, client, &name)
+        SessionStyle::named(alloc, text_under(client, &name))
     }
 
-    /// The style of a client, where the name `intervalstyle` is at hand. A style that is one takes
-    /// no memory.
-    pub(crate) fn under(
-        alloc: Global,
-        client: &ClientInfo,
-        name: &PgStr,
-    ) -> Result<SessionStyle, AllocError>
-        requires short_metadata { HasShortMetadata client.now }
-        requires name { name.now ≡ codes "intervalstyle" }
-        ensures { IfOk result (λ style. style ≡ session_style client.now) }
+    /// The style that a text names. One that is a style takes no memory.
+    pub(crate) fn named(alloc: Global, text: &str) -> Result<SessionStyle, AllocError>
+        requires { IsShortText text.now }
+        ensures { IfOk result (λ style.
+            style ≡ or_refused text.now (interval_style_of text.now)) }
     {
-        let style = judged(alloc, text_under(client, name))?;
+        let style = judged(alloc, text)?;
         Ok(SessionStyle { style })
+    }
+
+    /// A style that is one.
+    #[inline(always)]
+    pub(crate) fn known(style: IntervalStyle) -> SessionStyle
+        ensures { result ≡ Ok style }
+    {
+        SessionStyle { style: Ok(style) }
     }
 
     /// The style, or the text that names none.
@@ -101,7 +104,7 @@ pub(crate) fn refusal(alloc: Global, text: &PgStr) -> Result<PgWireError, AllocE
 }
 
 /// The startup parameter of this name, and `postgres` without one.
-pub(crate) fn text_under<'c>(client: &'c ClientInfo, name: &PgStr) -> &'c str
+fn text_under<'c>(client: &'c ClientInfo, name: &PgStr) -> &'c str
     ensures { result.now ≡ unwrap_or (fin.get client.now.metadata name.now) (codes "postgres") }
 {
     match client.metadata.get(name) {

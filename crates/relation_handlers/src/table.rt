@@ -1,28 +1,24 @@
 //! A table of relations: its rules, and the look-up of a name.
 
 ghost use Rattle.std.specs.Prelude.{◌≡◌, ℕ, List, [], ◌^◌, ◌<◌, ◌++◌, ◌||◌, ◌==◌, not, Option, Some, None, length, IfOk, IfErr, OnOk};
-ghost use Rattle.std.specs.Arc.{arc_value};
 ghost use Rattle.std.specs.FinMap as map;
 ghost use Rattle.std.specs.List.{list_all};
+ghost use Rattle.pg_text.specs.Options.{default_options};
 ghost use Rattle.pg_portal.specs.Clients.{HasShortMetadata};
-ghost use Rattle.relation_tables.specs.RelationHandler.{session_style};
 ghost use Rattle.relation_tables.specs.Relations.{are_even, place_of, relation_at};
 ghost use Rattle.relation_handlers.specs.Made.{session_options};
 ghost use Rattle.relation_handlers.specs.Shared.{shared_columns};
 ghost use Rattle.relation_handlers.specs.Tables.{is_transaction_word, is_foreign_to_names, is_name, is_column_name, are_columns, refusal_at, refusal, HoldIntervals, IsSound, IsValid, IsCause};
 
-use crate::options::{StyledOptions, options_under, shared_options};
+use crate::options::{Settings, SharedOptions};
 use crate::shared::{SharedColumns, shared_columns};
-use crate::style::{SessionStyle, text_under};
 use crate::within::visit_relations;
 use pg_interval::Interval;
 use pg_messages::{PgList, PgStr};
 use pg_portal::{ClientInfo, Named};
-use pg_text::FormatOptions;
 use relation_tables::Relation;
 use std::alloc::{AllocError, Global};
 use std::marker::Model;
-use std::sync::Arc;
 
 /// Why relations are no table, with the place of the first that breaks a rule.
 #[derive(Clone, Copy, Debug, PartialEq, Eq)]
@@ -58,8 +54,8 @@ pub struct RelationTable {
     columns: PgList<SharedColumns>,
     // the name of the startup parameter `intervalstyle`
     style_name: PgStr,
-    // the options of clients, by the style that they give
-    options: PgList<StyledOptions>,
+    // the options of clients, by the style that they name
+    options: SharedOptions,
 }
 
 impl Model for RelationTable {
@@ -70,6 +66,7 @@ impl Model for RelationTable {
 
     ghost Value = { List Relation };
 
+    ghost use Rattle.pg_text.specs.declared.format.interval_style.IntervalStyle.TheVariants as interval_style;
     ghost use Rattle.relation_tables.specs.Relations.{place_of};
     ghost use Rattle.relation_handlers.specs.Shared.{shared_columns};
     ghost use Rattle.relation_handlers.specs.Tables.{HoldIntervals, IsValid};
@@ -80,6 +77,7 @@ impl Model for RelationTable {
         × ((name : List ℕ) → map.get t.places name ≡ place_of t.relations name)
         × (t.columns ≡ list.map shared_columns t.relations)
         × (t.style_name ≡ codes "intervalstyle")
+        × (t.options.postgres ≡ interval_style.Postgres)
         × HoldIntervals t.relations };
 }
 
@@ -95,7 +93,7 @@ impl RelationTable {
         let places = places_of(alloc, relations.as_slice())?;
         let columns = shared_columns(alloc, relations.as_slice())?;
         let style_name = PgStr::copy_of(alloc, "intervalstyle")?;
-        let options = shared_options(alloc)?;
+        let options = SharedOptions::new(alloc)?;
         visit_relations(relations.as_slice());
         Ok(RelationTable {
             relations,
@@ -130,29 +128,28 @@ impl RelationTable {
         &self.columns.as_slice()[place as usize]
     }
 
-    /// The style of a client.
-    pub(crate) fn style_of(
+    /// The settings of a client, whose interval style is looked up once. Where that is one of the
+    /// four by its very name, as it is without one, they are shared, which takes no memory.
+    pub(crate) fn settings_of(
         &self,
         alloc: Global,
         client: &ClientInfo,
-    ) -> Result<SessionStyle, AllocError>
+    ) -> Result<Settings, AllocError>
         requires { HasShortMetadata client.now }
-        ensures { IfOk result (λ style. style ≡ session_style client.now) }
+        ensures { IfOk result (λ settings. settings ≡ session_options client.now) }
     {
-        SessionStyle::under(alloc, client, &self.style_name)
+        match client.metadata.get(&self.style_name) {
+            Some(text) => self.options.named(alloc, text.as_str()),
+            None => self.options.unnamed(),
+        }
     }
 
-    /// The options of a client. Where its interval style is one of the four by its very name, as it
-    /// is without one, they are shared, which takes no memory.
-    pub(crate) fn options_of(
-        &self,
-        alloc: Global,
-        client: &ClientInfo,
-    ) -> Result<Arc<FormatOptions>, AllocError>
-        ensures { IfOk result (λ options. arc_value options ≡ session_options client.now) }
+    /// The settings of a client that names no style. They take no memory.
+    #[inline(always)]
+    pub(crate) fn default_settings(&self) -> Result<Settings, AllocError>
+        ensures { IfOk result (λ settings. settings ≡ default_options) }
     {
-        let style = text_under(client, &self.style_name);
-        options_under(alloc, self.options.as_slice(), style)
+        self.options.unnamed()
     }
 
     /// The relations, in their order.

@@ -1,4 +1,4 @@
-use Rattle.std.proofs.Common.{sym, ◌∙◌}
+use Rattle.std.proofs.Common.{Ok, Err, sym, ◌∙◌}
 use Rattle.pg_text.specs.declared.format.interval_style.IntervalStyle.TheVariants as style
 use Rattle.pg_portal.specs.declared.error.PgWireError.TheVariants as wire
 use Rattle.relation_handlers.proofs.RefusedRows.{refused_row, row_without_text}
@@ -12,5 +12,5 @@ returns-then-have_text-clause-item c =
 pub returns-clause-item : goal.returns-clause-item
 returns-clause-item c =
     c.in_ok-data_row_of.ensures.item
-    ∙ sym (row_without_text (wire.InvalidOptionValue c.args.text.now) style.Postgres c.args.formats.now c.args.row.now
+    ∙ sym (row_without_text (Err (wire.InvalidOptionValue c.args.text.now)) (Ok style.Postgres) c.args.formats.now c.args.row.now
     (sym c.have_text.ensures ∙ c.if-have_text.false))
