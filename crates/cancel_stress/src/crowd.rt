@@ -6,7 +6,7 @@ use crate::plain::is_legal;
 use crate::worker::{Counts, Worker, are_in_order, are_within_cancels, end_all, workers};
 use pg_cancel::{ConnectionManager, Door, Registry};
 use pg_messages::SecretKey;
-use std::alloc::Global;
+use std::alloc::{AllocError, Global};
 use std::sync::Wait;
 use std::thread::Threads;
 use std::time::{Clock, Instant};
@@ -33,10 +33,7 @@ pub struct Heard {
 /// So many calls of each thread, and then the end of each connection. The number of a registration
 /// after all of them is how many entries there were. None where there was no memory.
 pub fn stressed<R: Threads + Wait + Sync>(rt: &R, alloc: Global, calls: u64) -> Option<Told> {
-    let (manager, mut door) = ConnectionManager::new(alloc).ok()?;
-    let heard = called(rt, alloc, &manager, &mut door, calls)?;
-    let last = SecretKey::try_new(alloc, &[0; 4]).ok()?;
-    let entries = manager.register(rt, &mut door, 0, last).ok()?.number();
+    let (heard, entries) = at_once(rt, alloc, calls)?;
     let legal = in_turn(rt, alloc, calls)?;
     Some(Told {
         heard,
@@ -45,24 +42,89 @@ pub fn stressed<R: Threads + Wait + Sync>(rt: &R, alloc: Global, calls: u64) -> 
     })
 }
 
+/// What the threads are answered, and how many entries there are after it. None where there was no
+/// memory.
+fn at_once<R: Threads + Wait + Sync>(rt: &R, alloc: Global, calls: u64) -> Option<(Heard, u64)> {
+    let (manager, mut door) = ConnectionManager::new(alloc).ok()?;
+    let heard = called(rt, alloc, &manager, &mut door, calls)?;
+    let entries = entries_so_far(rt, alloc, &manager, &mut door)?;
+    Some((heard, entries))
+}
+
+/// How many entries there are: the number of a registration after all of them. None where there was
+/// no memory.
+fn entries_so_far<R: Wait>(
+    rt: &R,
+    alloc: Global,
+    manager: &ConnectionManager,
+    door: &mut Door,
+) -> Option<u64>
+    requires { door.old.issuer ≡ manager.now }
+{
+    let last = SecretKey::try_new(alloc, &[0; 4]).ok()?;
+    Some(manager.register(rt, door, 0, last).ok()?.number())
+}
+
 /// Whether connections that make so many calls each, in turn, are answered as a `Registry` beside
 /// them is, and whether its history is legal. None where there was no memory.
 fn in_turn<R: Wait>(rt: &R, alloc: Global, calls: u64) -> Option<bool> {
     let (manager, mut door) = ConnectionManager::new(alloc).ok()?;
     let mut all = workers(rt, alloc, &manager, &mut door, THREADS)?;
+    are_legal_too(rt, alloc, all.as_mut_slice(), calls)
+}
+
+/// Whether these connections are answered so, and the history of the registry is legal.
+fn are_legal_too<R: Wait>(
+    rt: &R,
+    alloc: Global,
+    all: &mut [Worker<'_>],
+    calls: u64,
+) -> Option<bool> {
     let mut beside = Registry::new(alloc);
-    let mut same = true;
-    for worker in all.iter() {
-        same = worker.registers(&mut beside).ok()? && same;
-    }
-    for call in 0..calls {
-        for worker in all.iter_mut() {
-            same = worker.agrees(rt, &mut beside, call).ok()? && same;
-        }
-    }
+    let same = are_alike(rt, all, &mut beside, calls).ok()?;
     Some(same && is_legal(alloc, beside.history()).ok()?)
 }
 
+/// Whether connections that register, and then make so many calls each, in turn, are answered as
+/// the registry beside them is.
+fn are_alike<R: Wait>(
+    rt: &R,
+    all: &mut [Worker<'_>],
+    beside: &mut Registry,
+    calls: u64,
+) -> Result<bool, AllocError> {
+    let mut same = are_registered(all, beside)?;
+    for call in 0..calls {
+        same = round_agrees(rt, all, beside, call)? && same;
+    }
+    Ok(same)
+}
+
+/// Registers the connections beside too. Whether they have the same numbers there.
+fn are_registered(all: &[Worker<'_>], beside: &mut Registry) -> Result<bool, AllocError> {
+    let mut same = true;
+    for worker in all {
+        same = worker.registers(beside)? && same;
+    }
+    Ok(same)
+}
+
+/// Makes a call of each connection, beside too. Whether all are answered alike.
+fn round_agrees<R: Wait>(
+    rt: &R,
+    all: &mut [Worker<'_>],
+    beside: &mut Registry,
+    call: u64,
+) -> Result<bool, AllocError> {
+    let mut same = true;
+    for worker in all.iter_mut() {
+        same = worker.agrees(rt, beside, call)? && same;
+    }
+    Ok(same)
+}
+
+/// The calls of each of as many threads, and the end of each connection. None where there was no
+/// memory.
 fn called<R: Threads + Wait + Sync>(
     rt: &R,
     alloc: Global,
@@ -99,13 +161,24 @@ pub fn timed<R: Threads + Wait + Clock + Sync>(
     let Some(all) = longer(rt, alloc, &manager, &mut door, threads, entries) else {
         return Ok(0);
     };
+    let nanoseconds = timed_queries(rt, all, calls)?;
+    Ok(nanoseconds / (u128::from(threads.max(1)) * u128::from(calls.max(1))))
+}
+
+/// Nanoseconds of so many starts and questions of each connection, on threads of their own. 0 where
+/// there was no memory.
+fn timed_queries<R: Threads + Wait + Clock + Sync>(
+    rt: &R,
+    all: Vec<Worker<'_>>,
+    calls: u64,
+) -> io::Result<u128> {
     let start = Instant::now(rt)?;
     let Ok(all) = thread::map_vec(rt, all, &|worker: Worker| worker.after_queries(rt, calls)) else {
         return Ok(0);
     };
     let nanoseconds = start.elapsed(rt)?.as_nanos();
     drop(all);
-    Ok(nanoseconds / (u128::from(threads.max(1)) * u128::from(calls.max(1))))
+    Ok(nanoseconds)
 }
 
 /// The connections of so many threads, the first of which has made so many calls.

@@ -10,18 +10,33 @@ mod worker;
 
 use crowd::{Told, stressed, timed};
 use std::alloc::Global;
+use std::sync::Wait;
+use std::thread::Threads;
+use std::time::Clock;
 use std::{env, io};
+use worker::Counts;
 
 fn main(rt: HostRuntime) -> io::Result<()> {
     let [calls, entries, each] = numbers_of(env::args(&rt)?);
     if calls > 0 {
-        return match stressed(&rt, rt.alloc(), calls) {
+        match stressed(&rt, rt.alloc(), calls) {
             Some(told) => tell(&rt, calls, told),
             None => println!(rt; "no memory"),
-        };
+        }
+    } else {
+        tell_times(&rt, rt.alloc(), entries, each)
     }
+}
+
+/// Tells the nanoseconds of a call on 1, 2, 4 and 8 threads after so many entries.
+fn tell_times<R: Threads + Wait + Clock + Sync + Print>(
+    rt: &R,
+    alloc: Global,
+    entries: u64,
+    calls: u64,
+) -> io::Result<()> {
     for threads in [1, 2, 4, 8] {
-        let told = timed(&rt, rt.alloc(), threads, entries, each)?;
+        let told = timed(rt, alloc, threads, entries, calls)?;
         println!(rt; "{threads} threads: {told} ns a call")?;
     }
     Ok(())
@@ -39,8 +54,15 @@ fn numbers_of(words: env::Args<Global>) -> [u64; 3] {
 }
 
 fn tell(rt: &impl Print, calls: u64, told: Told) -> io::Result<()> {
-    let counts = told.heard.counts;
     println!(rt; "calls of each thread {calls}")?;
+    tell_counts(rt, told.heard.counts)?;
+    println!(rt; "answers in order {}", told.heard.in_order)?;
+    println!(rt; "canceled within the cancels {}", told.heard.within)?;
+    println!(rt; "entries {}", told.entries)?;
+    println!(rt; "legal {}", told.legal)
+}
+
+fn tell_counts(rt: &impl Print, counts: Counts) -> io::Result<()> {
     println!(rt;
         "cancels by pid and key {}, true {}",
         counts.right, counts.hits
@@ -48,9 +70,5 @@ fn tell(rt: &impl Print, calls: u64, told: Told) -> io::Result<()> {
     println!(rt;
         "cancels by another key {}, true {}",
         counts.wrong, counts.misses
-    )?;
-    println!(rt; "answers in order {}", told.heard.in_order)?;
-    println!(rt; "canceled within the cancels {}", told.heard.within)?;
-    println!(rt; "entries {}", told.entries)?;
-    println!(rt; "legal {}", told.legal)
+    )
 }

@@ -1,5 +1,5 @@
 //! A connection that makes calls in a thread of its own.
-ghost use Rattle.std.specs.Prelude.{◌≡◌};
+ghost use Rattle.std.specs.Prelude.{◌≡◌, ◌<◌};
 ghost use Rattle.pg_cancel.specs.LegalHistory.{IsLive};
 
 use pg_cancel::{
@@ -196,14 +196,8 @@ impl<'a> Worker<'a> {
             return Ok(false);
         }
         match call % 5 {
-            0 => {
-                self.start(rt)?;
-                Ok(beside.apply(number, RegistryCall::Start)? == RegistryAnswer::Done)
-            }
-            1 | 3 => {
-                let told = self.manager.ask(rt, &mut self.handle)?;
-                Ok(beside.apply(number, RegistryCall::Ask)? == answer_of(told))
-            }
+            0 => self.starts(rt, beside, number),
+            1 | 3 => self.asks(rt, beside, number),
             2 => {
                 let key = self.key.copy_of()?;
                 self.cancels(rt, beside, number, key)
@@ -213,6 +207,30 @@ impl<'a> Worker<'a> {
                 self.cancels(rt, beside, number, key)
             }
         }
+    }
+
+    fn starts<R: Wait>(
+        &mut self,
+        rt: &R,
+        beside: &mut Registry,
+        number: u64,
+    ) -> Result<bool, AllocError>
+        requires { IsLive beside.old number }
+    {
+        self.start(rt)?;
+        Ok(beside.apply(number, RegistryCall::Start)? == RegistryAnswer::Done)
+    }
+
+    fn asks<R: Wait>(
+        &mut self,
+        rt: &R,
+        beside: &mut Registry,
+        number: u64,
+    ) -> Result<bool, AllocError>
+        requires { IsLive beside.old number }
+    {
+        let told = self.manager.ask(rt, &mut self.handle)?;
+        Ok(beside.apply(number, RegistryCall::Ask)? == answer_of(told))
     }
 
     fn cancels<R: Wait>(
@@ -261,16 +279,32 @@ pub fn workers<'a, R: Wait>(
 {
     let mut all = Vec::new(alloc);
     for place in 0..count {
-        let pid = (place % 1000) as i32 + 1;
-        let own = key_of(alloc, pid)?;
-        let handle = manager.register(rt, door, pid, own).ok()?;
-        let other = if place + 1 < count { pid + 1 } else { 1 };
-        let key = key_of(alloc, other)?;
-        let wrong = SecretKey::try_new(alloc, &[0xff; 4]).ok()?;
-        all.push(Worker::new(manager, handle, other, key, wrong))
-            .ok()?;
+        let worker = worker_at(rt, alloc, manager, door, place, count)?;
+        all.push(worker).ok()?;
     }
     Some(all)
+}
+
+/// The connection at a place among so many. None where there was no memory.
+fn worker_at<'a, R: Wait>(
+    rt: &R,
+    alloc: Global,
+    manager: &'a ConnectionManager,
+    door: &mut Door,
+    place: u32,
+    count: u32,
+) -> Option<Worker<'a>>
+    requires issued { door.old.issuer ≡ manager.now }
+    requires within { place < count }
+    ensures { door.new.issuer ≡ door.old.issuer }
+{
+    let pid = (place % 1000) as i32 + 1;
+    let own = key_of(alloc, pid)?;
+    let handle = manager.register(rt, door, pid, own).ok()?;
+    let other = if place + 1 < count { pid + 1 } else { 1 };
+    let key = key_of(alloc, other)?;
+    let wrong = SecretKey::try_new(alloc, &[0xff; 4]).ok()?;
+    Some(Worker::new(manager, handle, other, key, wrong))
 }
 
 /// Whether each thread was answered in order: a query that was told to be canceled stays so until
