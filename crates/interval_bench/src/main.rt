@@ -11,8 +11,11 @@ mod style;
 
 use printing::print_drawn;
 use reading::read_texts;
+use std::alloc::Global;
+use std::io::Input;
+use std::time::Clock;
 use std::{env, io};
-use style::style_named;
+use style::{Style, style_named};
 
 fn main(rt: HostRuntime) -> io::Result<()> {
     let mut words = env::args(&rt)?;
@@ -20,15 +23,34 @@ fn main(rt: HostRuntime) -> io::Result<()> {
     let reads = words.next().is_some_and(|word| word.as_str() == "read");
     let first = words.next();
     let second = words.next();
-    if !reads {
-        let count = first.map_or(0, |word| word.as_str().parse::<u32>().unwrap_or(0));
-        return print_drawn(&rt, rt.alloc(), count, second.is_some());
+    if reads {
+        read_lines(&rt, rt.alloc(), style_of(first), number_of(second))
+    } else {
+        let timed = second.is_some();
+        print_drawn(&rt, rt.alloc(), number_of(first), timed)
     }
-    let style = first.map_or(style_named(""), |word| style_named(word.as_str()));
-    let rounds = second.map_or(0, |word| word.as_str().parse::<u32>().unwrap_or(0));
-    let mut texts: Vec<String> = Vec::new(rt.alloc());
-    for line in rt.lines(rt.alloc()) {
+}
+
+/// The number that the word tells, 0 where there is none.
+fn number_of(word: Option<String>) -> u32 {
+    word.map_or(0, |word| word.as_str().parse::<u32>().unwrap_or(0))
+}
+
+/// The style that the word names.
+fn style_of(word: Option<String>) -> Style {
+    word.map_or(style_named(""), |word| style_named(word.as_str()))
+}
+
+/// Reads the lines of standard input as texts in a style.
+fn read_lines<R: Print + Clock + Input>(
+    rt: &R,
+    alloc: Global,
+    style: Style,
+    rounds: u32,
+) -> io::Result<()> {
+    let mut texts: Vec<String> = Vec::new(alloc);
+    for line in rt.lines(alloc) {
         texts.push(line?)?;
     }
-    read_texts(&rt, style, rounds, texts.as_slice())
+    read_texts(rt, style, rounds, texts.as_slice())
 }

@@ -1,3 +1,5 @@
+ghost use Rattle.std.specs.Prelude.{◌≢◌};
+
 use crate::draw::Draw;
 use crate::style::{STYLES, Style, name_of};
 use pg_interval::{Interval, IntervalText};
@@ -7,6 +9,16 @@ use std::time::{Clock, Instant};
 
 /// Room for a text.
 const ROW: usize = 96;
+
+/// What the texts of a style came to, and the nanoseconds that they took: each in memory of its own,
+/// and each appended to a buffer.
+#[derive(Clone, Copy)]
+struct Printed {
+    kept_bytes: u64,
+    kept_nanoseconds: u128,
+    appended_bytes: u64,
+    appended_nanoseconds: u128,
+}
 
 /// Prints as many intervals, drawn from a seed, in each of the four styles, small ones and then
 /// ones of any size, each into a text with memory of its own and then on the stack, appended to a
@@ -19,21 +31,71 @@ pub fn print_drawn<R: Print + Clock>(
 ) -> io::Result<()> {
     for small in [true, false] {
         let intervals = drawn(alloc, count, small)?;
-        for style in STYLES {
-            let start = Instant::now(rt)?;
-            let bytes = kept_bytes(alloc, style, intervals.as_slice())?;
-            let kept = start.elapsed(rt)?.as_nanos();
-            let start = Instant::now(rt)?;
-            let same = cell_bytes(alloc, style, intervals.as_slice())?;
-            let appended = start.elapsed(rt)?.as_nanos();
-            println!(rt; "{}, {}: {bytes}, {same}", size_name(small), name_of(style))?;
-            if timed && count > 0 {
-                let each = u128::from(count);
-                println!(rt; "  {} ns, {} ns", kept / each, appended / each)?;
-            }
+        print_styles(rt, alloc, small, intervals.as_slice(), timed)?;
+    }
+    Ok(())
+}
+
+/// Prints the intervals in each of the four styles, and tells what came of it.
+fn print_styles<R: Print + Clock>(
+    rt: &R,
+    alloc: Global,
+    small: bool,
+    intervals: &[Interval],
+    timed: bool,
+) -> io::Result<()> {
+    for style in STYLES {
+        let printed = printed_in(rt, alloc, style, intervals)?;
+        tell_bytes(rt, small, style, printed)?;
+        if timed && !intervals.is_empty() {
+            tell_times(rt, intervals.len() as u128, printed)?;
         }
     }
     Ok(())
+}
+
+/// Prints the intervals in a style, both ways.
+fn printed_in<R: Clock>(
+    rt: &R,
+    alloc: Global,
+    style: Style,
+    intervals: &[Interval],
+) -> io::Result<Printed> {
+    let start = Instant::now(rt)?;
+    let kept_bytes = kept_bytes(alloc, style, intervals)?;
+    let kept_nanoseconds = start.elapsed(rt)?.as_nanos();
+    let start = Instant::now(rt)?;
+    let appended_bytes = cell_bytes(alloc, style, intervals)?;
+    let appended_nanoseconds = start.elapsed(rt)?.as_nanos();
+    Ok(Printed {
+        kept_bytes,
+        kept_nanoseconds,
+        appended_bytes,
+        appended_nanoseconds,
+    })
+}
+
+/// Tells how many bytes the texts gave.
+fn tell_bytes(rt: &impl Print, small: bool, style: Style, printed: Printed) -> io::Result<()> {
+    let Printed {
+        kept_bytes,
+        appended_bytes,
+        ..
+    } = printed;
+    println!(rt;
+        "{}, {}: {kept_bytes}, {appended_bytes}",
+        size_name(small),
+        name_of(style)
+    )
+}
+
+/// Tells the nanoseconds of each of so many prints.
+fn tell_times(rt: &impl Print, prints: u128, printed: Printed) -> io::Result<()>
+    requires { prints ≢ 0 }
+{
+    let kept = printed.kept_nanoseconds / prints;
+    let appended = printed.appended_nanoseconds / prints;
+    println!(rt; "  {kept} ns, {appended} ns")
 }
 
 /// The draw's name.

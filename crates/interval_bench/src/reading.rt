@@ -1,3 +1,5 @@
+ghost use Rattle.std.specs.Prelude.{◌≢◌, length};
+
 use crate::style::Style;
 use pg_interval::{Interval, ParseError};
 use std::io;
@@ -15,6 +17,19 @@ pub fn read_texts<R: Print + Clock>(
     if rounds == 0 || texts.is_empty() {
         return Ok(());
     }
+    tell_times(rt, style, rounds, texts)
+}
+
+/// Reads the texts so many times, and tells the nanoseconds of a read.
+fn tell_times<R: Print + Clock>(
+    rt: &R,
+    style: Style,
+    rounds: u32,
+    texts: &[String],
+) -> io::Result<()>
+    requires rounds { rounds ≢ 0 }
+    requires texts { length texts.now ≢ 0 }
+{
     let start = Instant::now(rt)?;
     let mut sum = 0u64;
     for _ in 0..rounds {
@@ -22,8 +37,7 @@ pub fn read_texts<R: Print + Clock>(
     }
     let nanoseconds = start.elapsed(rt)?.as_nanos();
     let reads = u128::from(rounds) * (texts.len() as u128);
-    println!(rt; "{} ns, {sum} good", nanoseconds / reads)?;
-    Ok(())
+    println!(rt; "{} ns, {sum} good", nanoseconds / reads)
 }
 
 /// How many of the texts stand for an interval.
