@@ -31,7 +31,11 @@ fn two(alloc: Global) -> Result<ListCopy, AllocError> {
 
 /// The first byte of the next data, if data are next.
 fn next_byte(copies: &mut ListCopy) -> Option<u8> {
-    match &copies.next() {
+    first_byte(&copies.next())
+}
+
+fn first_byte(told: &Result<Option<Result<CopyData, PgWireError>>, AllocError>) -> Option<u8> {
+    match told {
         Ok(Some(Ok(copied))) => copied.payload.as_slice().first().copied(),
         _ => None,
     }

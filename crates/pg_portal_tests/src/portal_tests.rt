@@ -19,7 +19,16 @@ fn is_next(
     suspended: bool,
     tag: (&str, u64),
 ) -> bool {
-    match &portal.fetch(alloc, limit) {
+    is_told(&portal.fetch(alloc, limit), bytes, suspended, tag)
+}
+
+fn is_told(
+    told: &Result<FetchResult, PgWireError>,
+    bytes: &[u8],
+    suspended: bool,
+    tag: (&str, u64),
+) -> bool {
+    match told {
         Ok(page) => is_page(page, bytes, suspended, tag),
         Err(_) => false,
     }
@@ -42,7 +51,11 @@ fn are_rows(rows: &[DataRow], bytes: &[u8]) -> bool {
 
 /// What refuses the next page, in a word.
 fn refusal(portal: &mut Portal<PgStr, ListRows>, alloc: Global) -> &'static str {
-    match &portal.fetch(alloc, 0) {
+    refusal_in(&portal.fetch(alloc, 0))
+}
+
+fn refusal_in(told: &Result<FetchResult, PgWireError>) -> &'static str {
+    match told {
         Err(PgWireError::FailedToParseParameter(_)) => "an item",
         Err(PgWireError::PortalNotStarted) => "not started",
         _ => "another",
