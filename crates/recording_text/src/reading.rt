@@ -3,7 +3,7 @@
 ghost use Rattle.std.specs.Prelude.{◌≡◌, ◌≤◌, ◌-◌, ℕ, length, IfOk, IfErr, Ok};
 ghost use Rattle.std.specs.Int.{w16, w32, w64};
 ghost use Rattle.recording_text.specs.declared.recording.Recording.{Recording};
-ghost use Rattle.recording_text.specs.Judging.{AnswersUnlessNoMemory, Gives, number_at, signed_at, number_is_at, key_len_at, key_at, counted_at, registration_at, call_at, calls_at, end_at, items_at, judged};
+ghost use Rattle.recording_text.specs.Judging.{AnswersUnlessNoMemory, Gives, both_at, tag_at, number_at, signed_at, number_is_at, key_len_at, key_at, counted_at, registration_at, call_at, calls_at, end_at, items_at, judged};
 ghost use Rattle.recording_text.specs.Text.{tag, recording_text, IsKey, IsRecordable};
 
 use crate::recording::{ReadError, Recording};
@@ -40,10 +40,7 @@ fn whole(alloc: Global, bytes: &[u8]) -> Result<Recording, ReadError>
     ensures { Gives (λ r. r) result (judged bytes.now) }
 {
     let all = bytes.len();
-    let (_, rest) = number_is(TAG, all, bytes)?;
-    let (pid, rest) = signed(rest)?;
-    let (key, rest) = key(alloc, all, rest)?;
-    let (client, rest) = counted(alloc, rest)?;
+    let ((((_, pid), key), client), rest) = front(alloc, all, bytes)?;
     let (calls, rest) = calls(alloc, all, rest)?;
     let (replies, rest) = counted(alloc, rest)?;
     let (end, rest) = end(all, rest)?;
@@ -58,6 +55,23 @@ fn whole(alloc: Global, bytes: &[u8]) -> Result<Recording, ReadError>
         replies,
         end,
     })
+}
+
+/// The tag, the registration and the client's bytes.
+fn front(
+    alloc: Global,
+    all: usize,
+    bytes: &[u8],
+) -> Result<((((u32, i32), SecretKey), PgBytes), &[u8]), ReadError>
+    ensures { Gives (λ x. (x.0, x.1.now)) result
+        (both_at (both_at (both_at (tag_at all) (signed_at w32)) (key_at all)) counted_at
+        bytes.now) }
+{
+    let (tag, rest) = number_is(TAG, all, bytes)?;
+    let (pid, rest) = signed(rest)?;
+    let (key, rest) = key(alloc, all, rest)?;
+    let (client, rest) = counted(alloc, rest)?;
+    Ok(((((tag, pid), key), client), rest))
 }
 
 /// The place of the first of these bytes, the last ones of so many.
