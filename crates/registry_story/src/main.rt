@@ -58,6 +58,22 @@ fn tell<R: Wait + Print>(
     refused(rt, alloc, manager, door, 7, OTHER)?;
     let mut second = registered(rt, alloc, manager, door, 8, SECOND)?;
     queries(rt, alloc, manager, &mut first, &mut second)?;
+    tell_end(rt, alloc, manager, door, first, second)
+}
+
+/// The first connection ends: then its key reaches nobody, and its pid is free again.
+fn tell_end<R: Wait + Print>(
+    rt: &R,
+    alloc: Global,
+    manager: &ConnectionManager,
+    door: &mut Door,
+    first: ConnectionHandle,
+    mut second: ConnectionHandle,
+) -> Result<(), Stop>
+    requires issued { door.old.issuer ≡ manager.now }
+    requires first { first.issuer ≡ manager.now }
+    requires second { second.issuer ≡ manager.now }
+{
     unregistered(rt, manager, first)?;
     canceled(rt, alloc, manager, &mut second, 7, FIRST)?;
     let _third = registered(rt, alloc, manager, door, 7, FIRST)?;
@@ -117,6 +133,21 @@ fn long_queries<R: Wait + Print>(
     canceled(rt, alloc, manager, second, 7, LONG)?;
     asked(rt, manager, first)?;
     narrowed(rt, manager, first)?;
+    short_key_query(rt, alloc, manager, first, second)
+}
+
+/// A query of the first connection, whose key is narrowed: the long key doesn't cancel it, and the
+/// short one does.
+fn short_key_query<R: Wait + Print>(
+    rt: &R,
+    alloc: Global,
+    manager: &ConnectionManager,
+    first: &mut ConnectionHandle,
+    second: &mut ConnectionHandle,
+) -> Result<(), Stop>
+    requires first { first.old.issuer ≡ manager.now }
+    requires second { second.old.issuer ≡ manager.now }
+{
     started(rt, manager, first)?;
     canceled(rt, alloc, manager, second, 7, LONG)?;
     canceled(rt, alloc, manager, second, 7, FIRST)?;
