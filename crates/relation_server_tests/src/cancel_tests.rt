@@ -134,16 +134,7 @@ fn are_answered<R: Wait>(
     Some(answer == Ok(EndKind::Terminate) && canceled_among(sink.bytes()).is_some())
 }
 
-/// The connection of pid 8, which cancels.
-fn canceler_at<R: Wait>(rt: &R, registry: &mut Registry) -> Option<Canceler>
-    ensures manager { registry.new.manager ≡ registry.old.manager }
-{
-    let handle = registry.register(rt, 8)?;
-    let manager = Arc::try_clone(&registry.manager).ok()?;
-    Some(Canceler { manager, handle })
-}
-
-/// A thread that cancels at a registry.
+/// A thread on which the connection of pid 8 cancels at a registry.
 fn cancels_at<R: Wait + Threads + Copy + Send + 'static>(
     rt: R,
     registry: &mut Registry,
@@ -151,7 +142,9 @@ fn cancels_at<R: Wait + Threads + Copy + Send + 'static>(
     ensures manager { registry.new.manager ≡ registry.old.manager }
 {
     let key = key(registry.alloc)?;
-    let canceler = canceler_at(&rt, registry)?;
+    let handle = registry.register(&rt, 8)?;
+    let manager = Arc::try_clone(&registry.manager).ok()?;
+    let canceler = Canceler { manager, handle };
     thread::spawn(&rt, move || run(&rt, canceler, &key)).ok()
 }
 

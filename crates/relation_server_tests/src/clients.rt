@@ -53,7 +53,7 @@ pub(crate) fn reads<S: Read>(stream: &mut S, into: &mut [u8]) -> bool {
 
 /// Whether a read tells the end.
 pub(crate) fn is_at_its_end<S: Read>(stream: &mut S) -> bool {
-    stream.read(&mut [0u8; 1]).is_ok_and(|n| n == 0)
+    matches!(stream.read(&mut [0u8; 1]), Ok(0))
 }
 
 /// The key of each registration.

@@ -1,6 +1,10 @@
 //! The service of a connection as a value, over memory.
 
+ghost use Rattle.std.specs.Prelude.{◌≡◌, IfSome};
+ghost use Rattle.std.specs.Arc.{arc_value};
+
 use crate::clients::{FIRST_PATH, FIRST_REPLIES, Registry};
+use pg_cancel::ConnectionManager;
 use pg_messages::{PgBytes, PgList};
 use pg_serve::{MemorySink, MemorySource};
 use pg_session::EndKind;
@@ -18,26 +22,27 @@ fn client(alloc: Global) -> Option<MemorySource> {
     Some(MemorySource::new(bytes, pieces, fails))
 }
 
-/// The built-in relations.
-fn relations(alloc: Global) -> Option<Arc<RelationTable>> {
-    let table = built_in_table(alloc).ok()?;
-    Arc::new(alloc, table).ok()
+/// What jobs share: the registry, and the built-in relations.
+fn shared(registry: &Registry) -> Option<(Arc<ConnectionManager>, Arc<RelationTable>)>
+    ensures { IfSome result (λ both. arc_value both.0 ≡ arc_value registry.now.manager) }
+{
+    let table = built_in_table(registry.alloc).ok()?;
+    let relations = Arc::new(registry.alloc, table).ok()?;
+    let manager = Arc::try_clone(&registry.manager).ok()?;
+    Some((manager, relations))
 }
 
 /// The job of that client, under the pid 7, with 100 turns.
 fn first_path<R: Wait>(rt: &R, registry: &mut Registry) -> Option<MemoryJob> {
-    let alloc = registry.alloc;
-    let manager = Arc::try_clone(&registry.manager).ok()?;
-    let relations = relations(alloc)?;
+    let source = client(registry.alloc)?;
     let handle = registry.register(rt, 7)?;
-    let source = client(alloc)?;
-    let sink = MemorySink::new(alloc, PgList::new(alloc));
+    let (manager, relations) = shared(registry)?;
     Some(ConnectionJob {
         manager,
         relations,
         handle,
         source,
-        sink,
+        sink: MemorySink::new(registry.alloc, PgList::new(registry.alloc)),
         turn_limit: 100,
     })
 }

@@ -1,14 +1,16 @@
 //! Clients that are served side by side over TCP, and cancels of their queries.
 
-ghost use Rattle.std.specs.Prelude.{◌≡◌};
+ghost use Rattle.std.specs.Prelude.{◌≡◌, IfSome};
+ghost use Rattle.std.specs.Arc.{arc_value};
 
 use crate::clients::{Registry, STARTUP, STARTUP_3_2, is_at_its_end, reads, sends};
 use crate::relations::table_of;
+use pg_cancel::ConnectionManager;
 use pg_serve::{Listening, RandomKeys, SocketAcceptor};
 use relation_server::{
     JobThreads, RelationTable, StartJob, ThreadSpawner, jobs_cross_threads, listen,
 };
-use std::alloc::Global;
+use std::alloc::{AllocError, Global};
 use std::io::Read;
 use std::net::{Net, SocketAddr, TcpListener, TcpStream};
 use std::random::RandomSource;
@@ -126,37 +128,41 @@ fn are_canceled<R: Net<Stream = TcpStream> + Clock>(rt: &R, server: SocketAddr) 
     }
 }
 
+/// What connections share: the registry, and a relation whose query finds as many polls unready as
+/// there can be.
+fn shared(registry: &Registry) -> Option<(Arc<ConnectionManager>, Arc<RelationTable>)>
+    ensures { IfSome result (λ both. arc_value both.0 ≡ arc_value registry.now.manager) }
+{
+    let table = table_of(registry.alloc, "endless", "span", false, u32::MAX).ok()?;
+    let relations = Arc::new(registry.alloc, table).ok()?;
+    let manager = Arc::try_clone(&registry.manager).ok()?;
+    Some((manager, relations))
+}
+
 /// Whether all connections are taken in.
 fn are_taken_in<R: Wait + Clock + RandomSource + Copy + Drop>(
     rt: R,
     registry: &mut Registry,
-    listener: TcpListener,
+    acceptor: &mut SocketAcceptor<Listening, R>,
     spawner: &mut ThreadSpawner<JobThreads>,
 ) -> Option<bool>
+    requires accepted { acceptor.old.accepted ≡ 0 }
     requires started { spawner.old.started ≡ 0 }
 {
-    let table = endless(registry.alloc)?;
-    let manager = Arc::try_clone(&registry.manager).ok()?;
-    let mut acceptor = SocketAcceptor::new(Listening::Tcp(listener), rt);
+    let (manager, relations) = shared(registry)?;
     let mut keys = RandomKeys::new(registry.alloc, rt);
     let answer = listen(
         &rt,
-        &mut acceptor,
+        acceptor,
         spawner,
         &mut keys,
         manager,
         &mut registry.door,
-        table,
+        relations,
         500_000_000,
         Some(CONNECTIONS),
     );
     Some(answer == Ok(CONNECTIONS))
-}
-
-/// A relation whose query finds as many polls unready as there can be.
-fn endless(alloc: Global) -> Option<Arc<RelationTable>> {
-    let table = table_of(alloc, "endless", "span", false, u32::MAX).ok()?;
-    Arc::new(alloc, table).ok()
 }
 
 /// Whether the pids of both clients and the last are free.
@@ -172,25 +178,66 @@ fn are_free<R: Wait>(rt: &R, registry: &mut Registry) -> bool {
 /// registrations back then.
 fn are_served<R: Wait + Clock + RandomSource + Copy + Drop>(
     rt: R,
-    alloc: Global,
+    registry: &mut Registry,
     listener: TcpListener,
-    threads: JobThreads,
-    start: StartJob,
-) -> Option<bool>
+    spawner: &mut ThreadSpawner<JobThreads>,
+) -> bool
+    requires started { spawner.old.started ≡ 0 }
+{
+    let mut acceptor = SocketAcceptor::new(Listening::Tcp(listener), rt);
+    let taken = are_taken_in(rt, registry, &mut acceptor, spawner);
+    drop(acceptor);
+    spawner.threads.finish(&rt);
+    taken == Some(true) && are_free(&rt, registry)
+}
+
+/// Whether that is so while another thread cancels the queries of two clients.
+fn are_served_beside<
+    R: Threads
+        + Wait
+        + Clock
+        + Net<Stream = TcpStream, Listener = TcpListener>
+        + RandomSource
+        + Copy
+        + Drop
+        + Send
+        + 'static,
+>(rt: R, registry: &mut Registry, spawner: &mut ThreadSpawner<JobThreads>) -> Result<bool, Fail>
+    requires started { spawner.old.started ≡ 0 }
+{
+    let listener = TcpListener::bind(&rt, "127.0.0.1:0")?;
+    let server = listener.local_addr()?;
+    let client = thread::spawn(&rt, move || are_canceled(&rt, server))?;
+    let are_served = are_served(rt, registry, listener, spawner);
+    Ok(client.join(&rt) && are_served)
+}
+
+/// Whether so it is at a new registry, where jobs are started so.
+fn are_served_on<
+    R: Threads
+        + Wait
+        + Clock
+        + Net<Stream = TcpStream, Listener = TcpListener>
+        + RandomSource
+        + Copy
+        + Drop
+        + Send
+        + 'static,
+>(rt: R, alloc: Global, threads: JobThreads, start: StartJob) -> Result<bool, Fail>
     requires ready { IsAlwaysCallable start }
 {
     let mut spawner = ThreadSpawner::new(threads, start);
-    let mut registry = Registry::new(alloc)?;
-    let taken = are_taken_in(rt, &mut registry, listener, &mut spawner);
-    spawner.threads.finish(&rt);
-    Some(taken == Some(true) && are_free(&rt, &mut registry))
+    match Registry::new(alloc) {
+        Some(mut registry) => are_served_beside(rt, &mut registry, &mut spawner),
+        None => Ok(false),
+    }
 }
 
 /// Threads for jobs, for two owners.
-fn threads_of(alloc: Global) -> Option<(JobThreads, JobThreads)> {
-    let threads = JobThreads::new(alloc).ok()?;
-    let theirs = threads.share().ok()?;
-    Some((threads, theirs))
+fn threads_of(alloc: Global) -> Result<(JobThreads, JobThreads), AllocError> {
+    let threads = JobThreads::new(alloc)?;
+    let theirs = threads.share()?;
+    Ok((threads, theirs))
 }
 
 /// Queries that never end are canceled while their connections are being served and others come.
@@ -198,12 +245,9 @@ fn threads_of(alloc: Global) -> Option<(JobThreads, JobThreads)> {
 #[test]
 fn a_query_is_canceled_over_tcp(rt: HostRuntime) -> Result<(), Fail> {
     jobs_cross_threads();
-    let listener = TcpListener::bind(&rt, "127.0.0.1:0")?;
-    let server = listener.local_addr()?;
-    let client = thread::spawn(&rt, move || are_canceled(&rt, server))?;
-    let (threads, theirs) = threads_of(rt.alloc()).ok_or("no memory")?;
+    let (threads, theirs) = threads_of(rt.alloc())?;
     let start: StartJob = Box::new(rt.alloc(), move |job| theirs.start(rt, job))?;
-    let served = are_served(rt, rt.alloc(), listener, threads, start);
-    assert!(rt; client.join(&rt) && served == Some(true));
+    let are_served = are_served_on(rt, rt.alloc(), threads, start)?;
+    assert!(rt; are_served);
     Ok(())
 }

@@ -81,7 +81,23 @@ fn serve_relations_at<R: Wait>(
     }
 }
 
-/// Whether a client is served over the built-in relations under the pid 7, up to its Terminate.
+/// Whether a client is served over the built-in relations, up to its Terminate.
+fn is_served_by<R: Wait>(
+    rt: &R,
+    alloc: Global,
+    manager: &ConnectionManager,
+    handle: &mut ConnectionHandle,
+    reader: &mut MaybeTls,
+    writer: &mut MaybeTls,
+) -> Option<bool>
+    requires issued { handle.old.issuer ≡ manager.now }
+{
+    let relations = built_in_table(alloc).ok()?;
+    let end = serve_relations_at(rt, alloc, &relations, manager, handle, reader, writer);
+    Some(end == Ok(EndKind::Terminate))
+}
+
+/// Whether so it is under the pid 7 of a new registry.
 fn is_served<R: Wait>(
     rt: &R,
     alloc: Global,
@@ -90,10 +106,7 @@ fn is_served<R: Wait>(
 ) -> Option<bool> {
     let mut registry = Registry::new(alloc)?;
     let mut handle = registry.register(rt, 7)?;
-    let relations = built_in_table(alloc).ok()?;
-    let manager = &registry.manager;
-    let end = serve_relations_at(rt, alloc, &relations, manager, &mut handle, reader, writer);
-    Some(end == Ok(EndKind::Terminate))
+    is_served_by(rt, alloc, &registry.manager, &mut handle, reader, writer)
 }
 
 /// Whether the first connection to come is served so. It is ended then.
