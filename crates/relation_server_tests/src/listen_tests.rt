@@ -174,6 +174,15 @@ fn are_free<R: Wait>(rt: &R, registry: &mut Registry) -> bool {
     are_so
 }
 
+/// A listener at a free port, and its address.
+fn bound<R: Net<Stream = TcpStream, Listener = TcpListener>>(
+    rt: &R,
+) -> Result<(TcpListener, SocketAddr), Fail> {
+    let listener = TcpListener::bind(rt, "127.0.0.1:0")?;
+    let server = listener.local_addr()?;
+    Ok((listener, server))
+}
+
 /// Whether all connections are taken in, and their jobs run to their ends and have given their
 /// registrations back then.
 fn are_served<R: Wait + Clock + RandomSource + Copy + Drop>(
@@ -205,8 +214,7 @@ fn are_served_beside<
 >(rt: R, registry: &mut Registry, spawner: &mut ThreadSpawner<JobThreads>) -> Result<bool, Fail>
     requires started { spawner.old.started ≡ 0 }
 {
-    let listener = TcpListener::bind(&rt, "127.0.0.1:0")?;
-    let server = listener.local_addr()?;
+    let (listener, server) = bound(&rt)?;
     let client = thread::spawn(&rt, move || are_canceled(&rt, server))?;
     let are_served = are_served(rt, registry, listener, spawner);
     Ok(client.join(&rt) && are_served)
