@@ -180,6 +180,32 @@ fn a_job_is_refused_where_none_runs(rt: HostRuntime) {
     );
 }
 
+/// A thread on which the clients of two jobs, under the pids 1 and 2, go away one after the other.
+fn two_leaving<R: Threads + Wait + Clock + Net + Copy + Send + 'static>(
+    rt: R,
+    threads: &JobThreads,
+    registry: &mut Registry,
+    has_left: &Arc<AtomicBool>,
+) -> Option<JoinHandle<()>> {
+    let first = start_one(rt, threads, registry, 1)?;
+    let last = start_one(rt, threads, registry, 2)?;
+    leaving(rt, Some(first), last, has_left)
+}
+
+/// Waits for these jobs. It answers whether the last of the clients had left by then.
+fn finish_leaving<R: Threads + Wait + Clock + Net + Copy + Send + 'static>(
+    rt: R,
+    threads: &JobThreads,
+    registry: &mut Registry,
+    has_left: &Arc<AtomicBool>,
+) -> Option<bool> {
+    let clients = two_leaving(rt, threads, registry, has_left)?;
+    threads.finish(&rt);
+    let is_over = has_left.load(Ordering::SeqCst);
+    clients.join(&rt);
+    Some(is_over)
+}
+
 /// Waits for the jobs of two clients, under the pids 1 and 2, which go away one after the other. It
 /// answers whether the last of them had left by then, and both pids are free.
 fn finish_two<R: Threads + Wait + Clock + Net + Copy + Send + 'static>(
@@ -187,13 +213,8 @@ fn finish_two<R: Threads + Wait + Clock + Net + Copy + Send + 'static>(
     threads: &JobThreads,
     registry: &mut Registry,
 ) -> Option<bool> {
-    let first = start_one(rt, threads, registry, 1)?;
-    let last = start_one(rt, threads, registry, 2)?;
     let has_left = Arc::new(registry.alloc, AtomicBool::new(false)).ok()?;
-    let clients = leaving(rt, Some(first), last, &has_left)?;
-    threads.finish(&rt);
-    let is_over = has_left.load(Ordering::SeqCst);
-    clients.join(&rt);
+    let is_over = finish_leaving(rt, threads, registry, &has_left)?;
     Some(is_over && registry.is_free(&rt, 1) && registry.is_free(&rt, 2))
 }
 
@@ -218,6 +239,19 @@ fn answering(alloc: Global, tries: Tries) -> Option<ThreadSpawner<()>>
     Some(ThreadSpawner::new((), start))
 }
 
+/// Whether a job, under this pid, is taken as started by a spawner that has started none.
+fn is_taken<R: Wait + Net>(
+    rt: &R,
+    registry: &mut Registry,
+    pid: i32,
+    spawner: &mut ThreadSpawner<()>,
+) -> Option<bool>
+    requires { spawner.old.started ≡ 0 }
+{
+    let job = idle_job(rt, registry, pid)?;
+    Some(spawner.start(job).is_ok())
+}
+
 /// What a spawner tells of a job, under this pid, that is answered so: whether it is taken as
 /// started, and the count of faults.
 fn counted<R: Wait + Net>(
@@ -226,9 +260,8 @@ fn counted<R: Wait + Net>(
     pid: i32,
     tries: Tries,
 ) -> Option<(bool, u64)> {
-    let job = idle_job(rt, registry, pid)?;
     let mut spawner = answering(registry.alloc, tries)?;
-    let is_started = spawner.start(job).is_ok();
+    let is_started = is_taken(rt, registry, pid, &mut spawner)?;
     Some((is_started, spawner.faults()))
 }
 
