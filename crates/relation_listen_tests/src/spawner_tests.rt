@@ -132,19 +132,30 @@ fn is_refused(tries: Option<Tries>) -> bool {
 }
 
 /// Whether a job, for whose thread there is no room while another runs that ends after a while, is
-/// refused behind the end of that, which has given its registration back.
+/// refused behind the end of that.
+fn is_refused_behind<R: Threads + Wait + Clock + Net + Copy + Send + 'static>(
+    rt: R,
+    threads: &JobThreads,
+    registry: &mut Registry,
+    has_left: &Arc<AtomicBool>,
+) -> Option<bool> {
+    let client = start_one(rt, threads, registry, 1)?;
+    let client = leaving(rt, None, client, has_left)?;
+    let is_refused = is_refused(refused(rt, threads, registry));
+    let is_ended = has_left.load(Ordering::SeqCst);
+    client.join(&rt);
+    Some(is_refused && is_ended)
+}
+
+/// Whether that is so, and the other job has given its registration back.
 fn is_refused_late<R: Threads + Wait + Clock + Net + Copy + Send + 'static>(
     rt: R,
     threads: &JobThreads,
     registry: &mut Registry,
 ) -> Option<bool> {
     let has_left = Arc::new(registry.alloc, AtomicBool::new(false)).ok()?;
-    let client = start_one(rt, threads, registry, 1)?;
-    let client = leaving(rt, None, client, &has_left)?;
-    let is_refused = is_refused(refused(rt, threads, registry));
-    let is_ended = has_left.load(Ordering::SeqCst);
-    client.join(&rt);
-    Some(is_refused && is_ended && registry.is_free(&rt, 1))
+    let is_refused = is_refused_behind(rt, threads, registry, &has_left)?;
+    Some(is_refused && registry.is_free(&rt, 1))
 }
 
 /// Threads of which none runs a job, and a registry at which nobody is registered.
