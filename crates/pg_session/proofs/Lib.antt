@@ -1,5 +1,7 @@
 pub mod Answering
 pub mod BadFrames
+pub mod Behind
+pub mod Failing
 pub mod Feeding
 pub mod Flowing
 pub mod GoodStates
@@ -7,6 +9,7 @@ pub mod Held
 pub mod Narrowed
 pub mod Pieces
 pub mod ReplyBytes
+pub mod Rounds
 pub mod Rows
 pub mod Silently
 pub mod Spending
@@ -15,3 +18,4 @@ pub mod StartupTurns
 pub mod Stepping
 pub mod ToldErrors
 pub mod ToldRows
+pub mod Unread

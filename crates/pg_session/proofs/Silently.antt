@@ -1,5 +1,5 @@
 -- A message of a session that is ready and that calls nothing: its answer, where it was done, and where its error was told.
-use Rattle.std.proofs.Common.{◌≡◌, ◌≢◌, ◌++◌, ℕ, Bool, List, [], Option, None, Result, Ok, Err, IfOk, IfErr, OnOk, OnErr, refl, sym, ap, subst, inl, ◌⊎◌, IsErrOf}
+use Rattle.std.proofs.Common.{◌≡◌, ◌≢◌, ◌++◌, ℕ, Bool, List, [], Option, None, Result, Ok, Err, IfOk, IfErr, OnOk, OnErr, refl, sym, subst, inl, ◌⊎◌, IsErrOf}
 use Rattle.pg_messages.specs.declared.frontend.PgWireFrontendMessage.{PgWireFrontendMessage}
 use Rattle.pg_messages.specs.declared.frontend.PgWireFrontendMessage.TheVariants as client
 use Rattle.pg_messages.specs.Replies.{replies_bytes}

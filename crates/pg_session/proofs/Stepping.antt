@@ -16,8 +16,6 @@ use Rattle.std.specs.Result.{IsErrAnd}
 use Rattle.pg_handlers.specs.Lawful.{IsLawful}
 use Rattle.pg_session.specs.Run.{Rules, IsFed}
 use Rattle.pg_session.specs.Messages.{next_of}
-use Rattle.pg_session.specs.declared.ends.ServeError.{ServeError}
-use Rattle.pg_session.specs.Session.{goes_on, is_going}
 use Rattle.pg_session.specs.Streams.{GrowsByFront}
 use Rattle.pg_session.specs.Steps.{Flows, IsAnswered, IsCutAnswer, IsStoppedAnswer, IsServed, IsCutOff, IsStopped, StandsAfterStep}
 use Rattle.pg_session.proofs.Pieces.{IsFed-none, IsFed-one, IsFed-then, divides-then, one_piece, one_piece_under, conversation-one}
@@ -51,17 +49,6 @@ stands_by awaits (Some kind) s rest step h told = subst (λ p. StandsAfterStep a
       (ap Some e),
   λ more. refl,
 )
-
--- a session in which a message told no end is open
-pub going_is_open : (e : Option EndKind) (step : Option Progress) (b : Bool) → step ≡ option_map (λ kind. progress.Ended kind) e
-    → b ≡ goes_on {E = ServeError} (Ok e)
-    → is_going step ≡ true → b ≡ true
-going_is_open None step b h k going = k
-going_is_open (Some kind) step b h k going = absurd (let not : false ≡ true = ap is_going (sym h) ∙ going in cc)
-
-pub more_is_going : (told : Progress) → ◌≡◌ {A = Result Progress ServeError} (Ok told) (Ok progress.More) → is_going (Some told) ≡ true
-more_is_going progress.More e = refl
-more_is_going (progress.Ended kind) e = cc
 
 pub bad_is_no_end_of_input : end.BadFrame ≢ end.InputEnd
 bad_is_no_end_of_input e = cc

@@ -1,7 +1,11 @@
 -- A session as contracts see it, and what it answers by.
 use Rattle.std.specs.Prelude.{ℕ, Bool, true, false, List, Option, Some, None, Result, Ok, Err, ◌≡◌, ◌+◌, ◌≤◌, ◌⊎◌}
 use Rattle.pg_portal.specs.declared.error.PgWireError.TheVariants as wire
+use Rattle.pg_messages.specs.Frames.{IsUnfinished, IsBad}
+use Rattle.pg_messages.specs.declared.codec.FrameError.{FrameError}
+use Rattle.pg_messages.specs.declared.codec.FrameError.TheVariants as frame
 use Rattle.pg_handlers.specs.declared.ends.EndKind.{EndKind}
+use Rattle.pg_handlers.specs.declared.ends.EndKind.TheVariants as end
 use Rattle.pg_handlers.specs.declared.ends.SessionError.{SessionError}
 use Rattle.pg_handlers.specs.declared.ends.SessionError.TheVariants as session
 use Rattle.pg_handlers.specs.declared.ends.Turns.{Turns}
@@ -52,6 +56,23 @@ abbrev pub goes_on : {E : Type 0} → Result (Option EndKind) E → Bool
 goes_on (Ok None) = true
 goes_on (Ok (Some kind)) = false
 goes_on (Err e) = false
+
+-- what a step tells where no message could be read
+abbrev pub unread : FrameError → Result (Option Progress) ServeError
+unread frame.Bad = Ok (Some (progress.Ended end.BadFrame))
+unread frame.NoMemory = Err serve.NoMemory
+
+-- a step tells this of bytes that begin with no good frame: more of them are awaited, or they begin with a bad one, or memory was wanting
+abbrev pub IsUnread : Bool → List ℕ → Result (Option Progress) ServeError → Type 0
+IsUnread awaiting text (Ok (Some progress.More)) = IsUnfinished awaiting text
+IsUnread awaiting text (Ok (Some (progress.Ended kind))) = (kind ≡ end.BadFrame) × IsBad awaiting text
+IsUnread awaiting text (Ok None) = ⊥
+IsUnread awaiting text (Err error) = error ≡ serve.NoMemory
+
+-- what is told after a round: where it tells nothing the conversation goes on
+abbrev pub told_or_more : Option (Result Progress ServeError) → Result Progress ServeError
+told_or_more None = Ok progress.More
+told_or_more (Some told) = told
 
 -- the conversation goes on after a step
 abbrev pub is_going : Option Progress → Bool

@@ -7,6 +7,14 @@ use Rattle.pg_messages.specs.Replies.{replies_bytes}
 use Rattle.pg_handlers.specs.declared.desk.DeskCall.{DeskCall}
 use Rattle.pg_handlers.specs.declared.ends.EndKind.{EndKind}
 use Rattle.pg_handlers.specs.declared.ends.EndKind.TheVariants as end
+use Rattle.pg_handlers.specs.declared.ends.SessionError.{SessionError}
+use Rattle.pg_handlers.specs.declared.ends.SessionError.TheVariants as session
+use Rattle.pg_handlers.specs.Effect.{Scope, failed}
+use Rattle.pg_handlers.specs.State.{State}
+use Rattle.pg_portal.specs.Errors.{info_of}
+use Rattle.pg_portal.specs.declared.error.PgWireError.{PgWireError}
+use Rattle.pg_portal.specs.declared.error.PgWireError.TheVariants as wire
+use Rattle.pg_session.specs.Messages.{next_of}
 use Rattle.pg_session.specs.declared.ends.Progress.{Progress}
 use Rattle.pg_session.specs.declared.ends.Progress.TheVariants as progress
 use Rattle.pg_session.specs.declared.ends.ServeError.{ServeError}
@@ -55,6 +63,20 @@ pub record IsStoppedAnswer {T : Type 0} (table : Table T) (s : T) (m : PgWireFro
   pub stops : (table (answers_of made) s m).next ≡ Stops
   pub asks : AsksNext (λ answers. (table answers s m).calls) made
   pub grown : new_calls ≡ calls ++ made
+
+-- An error of a message was told, which is no want of memory, and the conversation goes on or ends as its answer says.
+pub record IsToldError {S : Type 0} (e : PgWireError) (scope : Scope) (s new_s : State S) (out new_out : List ℕ) (end : Option EndKind)
+    : Type 0 where
+  pub known : e ≢ wire.NoMemory
+  pub replied : new_out ≡ out ++ replies_bytes (failed scope [] [] s (info_of e)).replies
+  pub next : (failed scope [] [] s (info_of e)).next ≡ next_of end new_s
+
+-- What became of an error: want of a turn ends the serving; any other was told, or memory was wanting.
+abbrev pub FailedSo : {S : Type 0} → SessionError → Scope → State S → State S → List ℕ → List ℕ → Result (Option EndKind) ServeError
+    → Type 0
+FailedSo session.TurnLimit scope s new_s out new_out result = result ≡ Err serve.TurnLimit
+FailedSo (session.Wire e) scope s new_s out new_out (Ok end) = IsToldError e scope s new_s out new_out end
+FailedSo (session.Wire e) scope s new_s out new_out (Err error) = error ≡ serve.NoMemory
 
 -- ---- a text
 
@@ -122,3 +144,20 @@ WasFed rules s text new_s rest written new_written out calls new_calls (Err serv
     IsStopped rules s text written new_written out calls new_calls
 WasFed rules s text new_s rest written new_written out calls new_calls (Err e) =
     IsCutOff rules s text written new_written out calls new_calls
+
+-- What became of a text in one round: it was served as far as it goes, and the conversation goes on; or a session was fed with it.
+abbrev pub RoundSo : {T : Type 0} → Rules T → T → List ℕ → T → List ℕ → Option (List ℕ) → Option (List ℕ) → List ℕ → List ℕ → List DeskCall
+    → List DeskCall → Option (Result Progress ServeError) → Type 0
+RoundSo rules s text new_s rest written new_written out new_out calls new_calls None =
+    IsServed rules s text rest (Goes new_s) written new_written out new_out calls new_calls
+RoundSo rules s text new_s rest written new_written out new_out calls new_calls (Some told) =
+    WasFed rules s text new_s rest written new_written out calls new_calls told
+
+-- Behind a step that tells something all that waits was sent, and then it was told, or the sink failed; behind any other nothing was sent.
+abbrev pub SentBehind : Option (List ℕ) → Option (List ℕ) → List ℕ → List ℕ → Result (Option Progress) ServeError
+    → Option (Result Progress ServeError) → Type 0
+SentBehind written new_written out new_out (Ok (Some told)) (Some (Ok t)) = (t ≡ told) × (new_out ≡ []) × GrowsBy written new_written out
+SentBehind written new_written out new_out (Ok (Some told)) (Some (Err e)) = GrowsByFront written new_written out
+SentBehind written new_written out new_out (Ok None) None = (new_written ≡ written) × (new_out ≡ out)
+SentBehind written new_written out new_out (Err error) (Some (Err e)) = (e ≡ error) × (new_written ≡ written)
+SentBehind written new_written out new_out _ _ = ⊥

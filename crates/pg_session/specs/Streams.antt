@@ -1,6 +1,7 @@
 -- What goes in and out of a conversation: bytes that come, bytes that go, and counts.
 use Rattle.std.specs.Prelude.{ℕ, List, [], ◌++◌, Option, Some, Result, Ok, Err, ◌≡◌, ◌≤◌, ◌<◌, ◌+◌, ◌==◌, ◌⊎◌, IfSome, IsErrOf, OnOk, if◌then◌else◌, min, take, drop, length}
 use Rattle.pg_handlers.specs.Answer.{BeginsWith}
+use Rattle.pg_session.specs.declared.ends.Progress.{Progress}
 use Rattle.pg_session.specs.declared.ends.ServeError.{ServeError}
 use Rattle.pg_session.specs.declared.ends.ServeError.TheVariants.{ReadFault, WriteFault, TurnLimit, NoMemory}
 use Rattle.pg_session.specs.declared.streams.SinkError.{SinkError}
@@ -55,3 +56,8 @@ pub record HasSinkCause {T : Type 0} (old new : ℕ) (result : Result T ServeErr
   pub no_read_fault : ¬ IsErrOf result ReadFault
   pub never_falls : old ≤ new
   pub calm : OnOk result (new ≡ old)
+
+-- The cause of what is told behind a step: that of a flush where the step tells something, and of nothing else.
+abbrev pub HasSentCause : ℕ → ℕ → Result (Option Progress) ServeError → Option (Result Progress ServeError) → Type 0
+HasSentCause old new (Ok (Some told)) (Some result) = HasFlushed old new result
+HasSentCause old new step result = new ≡ old

@@ -43,57 +43,9 @@ fn with_session_error(
     }
 }
 
-/// A message in any phase of the conversation.
-#[inline(always)]
-pub(crate) fn on_message<
-    H: PgWireServerHandlers,
-    St: PortalStore<
-        Statement = <H::Extended as ExtendedQueryHandler>::Statement,
-        Rows = <H::Extended as ExtendedQueryHandler>::Rows,
-    >,
-    D: CancelDesk,
->(
-    alloc: Global,
-    handlers: &H,
-    client: &mut Client<St>,
-    desk: &mut D,
-    turns: &mut Turns,
-    message: PgWireFrontendMessage,
-) -> Result<Option<EndKind>, SessionError>
-    requires given { IsGivenIn (state_of St.maps client.old) message }
-    requires good { IsGoodState (H.told handlers.now).extended.parser
-        (state_of St.maps client.old) }
-    ensures ok { IfOk result (λ end. IsRow
-        (λ answers. message_row
-        (H.told handlers.now)
-        answers (state_of St.maps client.old) message)
-        client.old.outbox client.new.outbox (D.told desk.old).calls (D.told desk.new).calls
-        (outcome_of end (state_of St.maps client.new))) }
-    ensures refused { IfErr result (IsRefusedRow
-        (λ answers. message_row
-        (H.told handlers.now)
-        answers (state_of St.maps client.old) message)
-        client.old.outbox client.new.outbox (D.told desk.old).calls (D.told desk.new).calls
-        (state_of St.maps client.new)) }
-    ensures answerable { IfErr result IsAnswerableError }
-    ensures ends { IfOk result (λ end. end ≢ Some InputEnd) }
-    ensures good { IsGoodState (H.told handlers.now).extended.parser (state_of St.maps client.new) }
-    ensures turns { HasSpent turns.old turns.new
-        (questions_since (D.told desk.old).calls (D.told desk.new).calls) result }
-    ensures bounded { turns.old.spent ≤ turns.old.limit → turns.new.spent ≤ turns.new.limit }
-    ensures registration { GoesOn (D.told desk.old) (D.told desk.new) }
-{
-    match client.info.state {
-        PgWireConnectionState::ReadyForQuery => {
-            on_ready(alloc, handlers, client, desk, turns, message)
-        }
-        _ => on_unready(alloc, handlers, client, desk, message),
-    }
-}
-
 /// A message of a session that isn't ready. It spends no turns.
 #[inline(never)]
-fn on_unready<
+pub(crate) fn on_unready<
     H: PgWireServerHandlers,
     St: PortalStore<
         Statement = <H::Extended as ExtendedQueryHandler>::Statement,
@@ -145,7 +97,7 @@ fn on_unready<
 
 /// A message of a session that is ready.
 #[inline(always)]
-fn on_ready<
+pub(crate) fn on_ready<
     H: PgWireServerHandlers,
     St: PortalStore<
         Statement = <H::Extended as ExtendedQueryHandler>::Statement,

@@ -15,11 +15,13 @@ ghost use Rattle.pg_handlers.specs.Good.{IsGiven};
 ghost use Rattle.pg_handlers.specs.Questions.{HasSpent, questions_since};
 ghost use Rattle.pg_handlers.specs.State.{first_info, first_state};
 ghost use Rattle.pg_handlers.specs.Table.{whole_table, scope_in, IsPlain};
+ghost use Rattle.pg_messages.specs.declared.frontend.PgWireFrontendMessage.{PgWireFrontendMessage};
 ghost use Rattle.pg_handlers.specs.declared.ends.EndKind.TheVariants.{InputEnd};
-ghost use Rattle.pg_handlers.specs.declared.ends.SessionError.TheVariants as session;
+ghost use Rattle.pg_handlers.specs.Sending.{IsAnswerableError};
+ghost use Rattle.pg_handlers.specs.declared.ends.Turns.{Turns};
 ghost use Rattle.pg_session.specs.Messages.{IsGivenIn, scope_for, next_of};
-ghost use Rattle.pg_session.specs.Session.{goes_on, HasFed};
-ghost use Rattle.pg_session.specs.Steps.{IsAnswered, IsCutAnswer, IsSilentlyAnswered, IsStoppedAnswer};
+ghost use Rattle.pg_session.specs.Session.{goes_on, stays_open, HasFed};
+ghost use Rattle.pg_session.specs.Steps.{FailedSo, IsAnswered, IsCutAnswer, IsSilentlyAnswered, IsStoppedAnswer};
 ghost use Rattle.pg_session.specs.declared.ends.ServeError.TheVariants as serve;
 
 use crate::ends::ServeError;
@@ -118,20 +120,44 @@ impl<
           is_open = true;
         }) }
     {
-        let outbox = Outbox::new(alloc)?;
+        match Outbox::new(alloc) {
+            Ok(outbox) => Ok(Session::with_outbox(alloc, handlers, store, pid, key, outbox)),
+            Err(error) => Err(error),
+        }
+    }
+
+    /// A session whose replies wait in this outbox, which is empty.
+    fn with_outbox(
+        alloc: Global,
+        handlers: Arc<H>,
+        store: St,
+        pid: i32,
+        key: SecretKey,
+        outbox: Outbox,
+    ) -> Session<H, St>
+        requires empty { St.maps store ≡ no_maps }
+        requires unsent { outbox ≡ [] }
+        ensures { result ≡ record {
+          handlers = arc_value handlers;
+          state = first_state pid key;
+          rest = [];
+          unsent = [];
+          is_open = true;
+        } }
+    {
         let info = first_info(alloc, pid, key);
         let client = Client {
             info,
             store,
             outbox,
         };
-        Ok(Session {
+        Session {
             handlers,
             client,
             codec: PgWireMessageServerCodec::new(),
             rest: BytesMut::new(alloc),
             opened: true,
-        })
+        }
     }
 
     /// How many bytes the session holds of a frame that isn't whole.
@@ -161,17 +187,25 @@ mod feed;
 mod server;
 
 pub use server::{process_error, process_message};
+use server::{process_ready, process_unready};
 
-/// Whether an error of a message waits for Sync: in an extended message, and in a COPY of one.
+/// Whether an error of a message waits for Sync where the session is ready: it does in an extended
+/// message.
 #[inline(always)]
-fn waits_for_sync(state: PgWireConnectionState, message: &PgWireFrontendMessage) -> bool
-    ensures { scope_for result ≡ scope_in state message.now }
+fn waits_when_ready(message: &PgWireFrontendMessage) -> bool
+    ensures { scope_for result ≡ scope_in phase.ReadyForQuery message.now }
+{
+    !matches!(message, PgWireFrontendMessage::Query(_))
+}
+
+/// Whether an error of any message waits for Sync where the session isn't ready: it doesn't in a
+/// COPY of a simple query.
+fn waits_when_unready(state: PgWireConnectionState) -> bool
+    requires { state ≢ phase.ReadyForQuery }
+    ensures { (message : PgWireFrontendMessage) → scope_for result ≡ scope_in state message }
 {
     match state {
         PgWireConnectionState::CopyInProgress(is_extended) => is_extended,
-        PgWireConnectionState::ReadyForQuery => {
-            !matches!(message, PgWireFrontendMessage::Query(_))
-        }
         _ => true,
     }
 }
@@ -222,7 +256,7 @@ impl<
             PgWireConnectionState::ReadyForQuery => {
                 self.respond_ready(alloc, desk, turns, message)
             }
-            _ => self.respond_any(alloc, desk, turns, message),
+            _ => self.respond_unready(alloc, desk, message),
         }
     }
 
@@ -266,7 +300,9 @@ impl<
         match message {
             PgWireFrontendMessage::Query(_)
             | PgWireFrontendMessage::Execute(_)
-            | PgWireFrontendMessage::Terminate(_) => self.respond_any(alloc, desk, turns, message),
+            | PgWireFrontendMessage::Terminate(_) => {
+                self.respond_with_calls(alloc, desk, turns, message)
+            }
             other => self.respond_silently(alloc, other),
         }
     }
@@ -301,9 +337,47 @@ impl<
         }
     }
 
-    /// Answers any message.
+    /// Answers a message of a session that isn't ready. It spends no turns.
     #[inline(never)]
-    fn respond_any<D: CancelDesk>(
+    fn respond_unready<D: CancelDesk>(
+        &mut self,
+        alloc: Global,
+        desk: &mut D,
+        message: PgWireFrontendMessage,
+    ) -> Result<Option<EndKind>, ServeError>
+        requires open { self.old.is_open ≡ true }
+        requires unready { self.old.state.info.state ≢ phase.ReadyForQuery }
+        requires given { IsGivenIn self.old.state message }
+        ensures answer { IfOk result (λ end. IsAnswered
+            (whole_table
+            (H.told self.old.handlers))
+            self.old.state message self.old.unsent self.new.unsent (D.told desk.old).calls
+            (D.told desk.new).calls
+            (next_of end self.new.state)) }
+        ensures err { OnErr result (IsCutAnswer
+            (whole_table
+            (H.told self.old.handlers))
+            self.old.state message (D.told desk.old).calls (D.told desk.new).calls) }
+        ensures only { IfErr result (λ e. e ≡ serve.NoMemory) }
+        ensures ends { IfOk result (λ end. end ≢ Some InputEnd) }
+        ensures open { self.new.is_open ≡ goes_on result }
+        ensures handlers { self.new.handlers ≡ self.old.handlers }
+        ensures rest { self.new.rest ≡ self.old.rest }
+        ensures turns { (turns : Turns) → HasFed turns turns
+            (questions_since (D.told desk.old).calls (D.told desk.new).calls) result }
+        ensures registration { GoesOn (D.told desk.old) (D.told desk.new) }
+    {
+        let wait_for_sync = waits_when_unready(self.state());
+        match process_unready(alloc, self, desk, message) {
+            Ok(end) => Ok(end),
+            Err(error) => self.fail(alloc, error, wait_for_sync),
+        }
+    }
+
+    /// Answers a message of a session that is ready, which may call the registry or end the
+    /// conversation.
+    #[inline(never)]
+    fn respond_with_calls<D: CancelDesk>(
         &mut self,
         alloc: Global,
         desk: &mut D,
@@ -311,6 +385,7 @@ impl<
         message: PgWireFrontendMessage,
     ) -> Result<Option<EndKind>, ServeError>
         requires open { self.old.is_open ≡ true }
+        requires ready { self.old.state.info.state ≡ phase.ReadyForQuery }
         requires given { IsGivenIn self.old.state message }
         ensures answer { IfOk result (λ end. IsAnswered
             (whole_table
@@ -336,11 +411,34 @@ impl<
         ensures bounded { turns.old.spent ≤ turns.old.limit → turns.new.spent ≤ turns.new.limit }
         ensures registration { GoesOn (D.told desk.old) (D.told desk.new) }
     {
-        let wait_for_sync = waits_for_sync(self.client.info.state, &message);
-        match process_message(alloc, self, desk, turns, message) {
+        let wait_for_sync = waits_when_ready(&message);
+        match process_ready(alloc, self, desk, turns, message) {
             Ok(end) => Ok(end),
-            Err(SessionError::TurnLimit) => Err(ServeError::TurnLimit),
-            Err(SessionError::Wire(error)) => self.tell(alloc, error, wait_for_sync),
+            Err(error) => self.fail(alloc, error, wait_for_sync),
+        }
+    }
+
+    /// Ends the session for want of a turn, or does what follows an error of a message.
+    #[cold]
+    #[inline(never)]
+    fn fail(
+        &mut self,
+        alloc: Global,
+        error: SessionError,
+        wait_for_sync: bool,
+    ) -> Result<Option<EndKind>, ServeError>
+        requires open { self.old.is_open ≡ stays_open (Err error) }
+        requires answerable { IsAnswerableError error }
+        ensures failed { FailedSo error (scope_for wait_for_sync) self.old.state self.new.state
+            self.old.unsent self.new.unsent result }
+        ensures ends { IfOk result (λ end. end ≢ Some InputEnd) }
+        ensures open { self.new.is_open ≡ goes_on result }
+        ensures handlers { self.new.handlers ≡ self.old.handlers }
+        ensures rest { self.new.rest ≡ self.old.rest }
+    {
+        match error {
+            SessionError::TurnLimit => Err(ServeError::TurnLimit),
+            SessionError::Wire(error) => self.tell(alloc, error, wait_for_sync),
         }
     }
 

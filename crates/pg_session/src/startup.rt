@@ -198,6 +198,7 @@ fn tells_less(protocol: ProtocolVersion, key: &SecretKey) -> bool
 }
 
 /// The startup parameters under their names in lower case; the last of a repeated name wins.
+#[inline(never)]
 fn metadata_of(alloc: Global, message: Startup) -> Result<Metadata, AllocError>
     ensures { IfOk result (λ metadata. metadata ≡ with_parameters fin.empty message.parameters) }
 {
@@ -219,6 +220,8 @@ fn lowered(alloc: Global, name: PgStr) -> Result<PgStr, AllocError>
 }
 
 /// The error of a startup packet of a version other than 3.0 and 3.2.
+#[cold]
+#[inline(never)]
 fn unsupported(alloc: Global, code: u32) -> Result<PgWireError, AllocError>
     ensures error { IfOk result (λ error. error ≡ wire.UserError (unsupported_version code)) }
     ensures tellable { IfOk result IsTellable }
@@ -298,6 +301,7 @@ fn push_key(alloc: Global, outbox: &mut Outbox, pid: i32, key: &SecretKey) -> Re
 }
 
 /// Appends the replies to a startup packet.
+#[inline(never)]
 fn push_startup(
     alloc: Global,
     outbox: &mut Outbox,

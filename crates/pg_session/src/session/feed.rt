@@ -1,15 +1,17 @@
 //! What the session makes of the client's bytes.
 
-ghost use Rattle.std.specs.Prelude.{◌≡◌, ◌≤◌, ◌<◌, ◌++◌, [], true, Option, Some, None, length, IfOk, IfNone, OnOk, OnErr, Ok, IsErrOf};
+ghost use Rattle.std.specs.Prelude.{◌≡◌, ◌≤◌, ◌<◌, ◌++◌, [], ℕ, List, true, Option, Some, None, length, IfOk, IfErr, IfNone, IfSome, OnOk, OnErr, Ok, IsErrOf};
 ghost use Rattle.std.specs.Option.{option_map};
+ghost use Rattle.pg_messages.specs.Frames.{IsFrame};
 ghost use Rattle.pg_handlers.specs.Desk.{GoesOn};
 ghost use Rattle.pg_handlers.specs.Answer.{Next};
 ghost use Rattle.pg_handlers.specs.Questions.{questions_since};
 ghost use Rattle.pg_handlers.specs.State.{State};
 ghost use Rattle.pg_handlers.specs.Table.{awaits, is_startup_phase};
-ghost use Rattle.pg_session.specs.Session.{whole_rules, HasFed, is_going, is_more, most_held};
-ghost use Rattle.pg_session.specs.Steps.{IsServed, IsCutOff, IsStopped, Flows, Stands, StandsAfterStep, WasFed};
-ghost use Rattle.pg_session.specs.Streams.{GrowsBy, GrowsByFront, HasSinkCause, HasFlushed};
+ghost use Rattle.pg_session.specs.Messages.{IsGivenIn};
+ghost use Rattle.pg_session.specs.Session.{told_or_more, unread, IsUnread, whole_rules, HasFed, is_going, is_more, most_held};
+ghost use Rattle.pg_session.specs.Steps.{IsServed, IsCutOff, IsStopped, Flows, RoundSo, SentBehind, StandsAfterStep, WasFed};
+ghost use Rattle.pg_session.specs.Streams.{HasSentCause, GrowsBy, GrowsByFront, HasSinkCause, HasFlushed};
 ghost use Rattle.pg_session.specs.declared.ends.Progress.TheVariants.{More};
 ghost use Rattle.pg_session.specs.declared.ends.ServeError.TheVariants as serve;
 
@@ -19,7 +21,7 @@ use crate::streams::Sink;
 use pg_handlers::{
     CHUNK, CancelDesk, EndKind, ExtendedQueryHandler, Outbox, PgWireServerHandlers, Turns,
 };
-use pg_messages::FrameError;
+use pg_messages::{FrameError, PgWireFrontendMessage};
 use pg_portal::{PgWireConnectionState, PortalStore};
 use std::alloc::Global;
 
@@ -51,23 +53,6 @@ fn flush_all<K: Sink>(outbox: &mut Outbox, sink: &mut K) -> Result<(), ServeErro
     flushed
 }
 
-/// Sends what waits in the outbox, and tells then how the conversation goes on.
-fn told_when_sent<K: Sink>(
-    outbox: &mut Outbox,
-    sink: &mut K,
-    told: Progress,
-) -> Result<Progress, ServeError>
-    ensures told { IfOk result (λ t. t ≡ told) }
-    ensures empty { OnOk result (outbox.new ≡ []) }
-    ensures ok { OnOk result (GrowsBy (K.written sink.old) (K.written sink.new) outbox.old) }
-    ensures err { OnErr result (GrowsByFront (K.written sink.old) (K.written sink.new) outbox.old) }
-    ensures cause { HasFlushed (K.faults sink.old) (K.faults sink.new) result }
-    ensures sink { K.origin sink.new ≡ K.origin sink.old }
-{
-    flush_all(outbox, sink)?;
-    Ok(told)
-}
-
 /// Sends what waits in the outbox where it is a chunk or more.
 #[inline(always)]
 fn flush_if_full<K: Sink>(outbox: &mut Outbox, sink: &mut K) -> Result<(), ServeError>
@@ -89,6 +74,16 @@ fn awaits_startup(state: PgWireConnectionState) -> bool
     ensures { result ≡ is_startup_phase state }
 {
     matches!(state, PgWireConnectionState::AwaitingStartup)
+}
+
+/// What a step tells where no message could be read.
+fn unread(error: FrameError) -> Result<Option<Progress>, ServeError>
+    ensures { result ≡ unread error }
+{
+    match error {
+        FrameError::Bad => Ok(Some(Progress::Ended(EndKind::BadFrame))),
+        FrameError::NoMemory => Err(ServeError::NoMemory),
+    }
 }
 
 /// The progress that an end tells, if there is one.
@@ -153,16 +148,136 @@ impl<
         ensures registration { GoesOn (D.told desk.old) (D.told desk.new) }
         ensures sink { K.origin sink.new ≡ K.origin sink.old }
     {
+        match self.next_message(alloc) {
+            Ok(message) => self.answer(alloc, desk, sink, turns, message),
+            Err(told) => told,
+        }
+    }
+
+    /// Takes the next message off the bytes. Err has what a step tells where they begin with no good
+    /// frame: more of them are awaited, or the conversation ends, or memory was wanting.
+    #[inline(always)]
+    fn next_message(
+        &mut self,
+        alloc: Global,
+    ) -> Result<PgWireFrontendMessage, Result<Option<Progress>, ServeError>>
+        ensures found { IfOk result (λ message. (frame : List ℕ)
+            × (self.old.rest ≡ frame ++ self.new.rest)
+            × IsFrame (awaits self.old.state) frame message) }
+        ensures unread { IfErr result (λ told. IsUnread (awaits self.old.state) self.old.rest told) }
+        ensures kept { OnErr result (self.new.rest ≡ self.old.rest) }
+        ensures state { self.new.state ≡ self.old.state }
+        ensures handlers { self.new.handlers ≡ self.old.handlers }
+        ensures unsent { self.new.unsent ≡ self.old.unsent }
+        ensures open { self.new.is_open ≡ self.old.is_open }
+    {
         self.codec.context.awaiting_startup = awaits_startup(self.client.info.state);
-        let message = match self.codec.decode(alloc, &mut self.rest) {
-            Ok(Some(message)) => message,
-            Ok(None) => return Ok(Some(Progress::More)),
-            Err(FrameError::Bad) => return Ok(Some(Progress::Ended(EndKind::BadFrame))),
-            Err(FrameError::NoMemory) => return Err(ServeError::NoMemory),
-        };
-        let end = self.respond(alloc, desk, turns, message)?;
-        flush_if_full(&mut self.client.outbox, sink)?;
-        Ok(ended_by(end))
+        match self.codec.decode(alloc, &mut self.rest) {
+            Ok(Some(message)) => Ok(message),
+            Ok(None) => Err(Ok(Some(Progress::More))),
+            Err(error) => Err(unread(error)),
+        }
+    }
+
+    /// Answers a message that was taken off the bytes, and sends what waits where it is a chunk or
+    /// more. None says that the conversation goes on with the next one.
+    #[inline(always)]
+    fn answer<D: CancelDesk, K: Sink>(
+        &mut self,
+        alloc: Global,
+        desk: &mut D,
+        sink: &mut K,
+        turns: &mut Turns,
+        message: PgWireFrontendMessage,
+    ) -> Result<Option<Progress>, ServeError>
+        requires open { self.old.is_open ≡ true }
+        requires given { IsGivenIn self.old.state message }
+        ensures served { (frame : List ℕ) → IsFrame (awaits self.old.state) frame message
+            → IfOk result (λ step. (next : Next (State H.Extended.Statement)) × IsServed
+            (whole_rules
+            (H.told self.old.handlers))
+            self.old.state (frame ++ self.old.rest) self.new.rest next (K.written sink.old)
+            (K.written sink.new)
+            self.old.unsent self.new.unsent (D.told desk.old).calls (D.told desk.new).calls
+            × StandsAfterStep awaits next self.new.state self.new.rest step) }
+        ensures cut_off { (frame : List ℕ) → IsFrame (awaits self.old.state) frame message
+            → OnErr result (IsCutOff
+            (whole_rules
+            (H.told self.old.handlers))
+            self.old.state (frame ++ self.old.rest) (K.written sink.old) (K.written sink.new)
+            self.old.unsent
+            (D.told desk.old).calls (D.told desk.new).calls) }
+        ensures stopped { (frame : List ℕ) → IsFrame (awaits self.old.state) frame message
+            → IsErrOf result serve.TurnLimit → IsStopped
+            (whole_rules
+            (H.told self.old.handlers))
+            self.old.state (frame ++ self.old.rest) (K.written sink.old) (K.written sink.new)
+            self.old.unsent
+            (D.told desk.old).calls (D.told desk.new).calls }
+        ensures open { IfOk result (λ step. is_going step ≡ true → self.new.is_open ≡ true) }
+        ensures handlers { self.new.handlers ≡ self.old.handlers }
+        ensures rest { self.new.rest ≡ self.old.rest }
+        ensures cause { HasSinkCause (K.faults sink.old) (K.faults sink.new) result }
+        ensures turns { HasFed turns.old turns.new
+            (questions_since (D.told desk.old).calls (D.told desk.new).calls) result }
+        ensures bounded { turns.old.spent ≤ turns.old.limit → turns.new.spent ≤ turns.new.limit }
+        ensures registration { GoesOn (D.told desk.old) (D.told desk.new) }
+        ensures sink { K.origin sink.new ≡ K.origin sink.old }
+    {
+        match self.respond(alloc, desk, turns, message) {
+            Ok(end) => self.told_if_full(sink, end),
+            Err(error) => Err(error),
+        }
+    }
+
+    /// Sends what waits where it is a chunk or more, and tells then what an end comes to.
+    #[inline(always)]
+    fn told_if_full<K: Sink>(
+        &mut self,
+        sink: &mut K,
+        end: Option<EndKind>,
+    ) -> Result<Option<Progress>, ServeError>
+        ensures told { IfOk result (λ told. told ≡ option_map (λ kind. Progress.Ended kind) end) }
+        ensures ok { OnOk result (Flows (K.written sink.old) (K.written sink.new) self.old.unsent
+            self.new.unsent []) }
+        ensures err { OnErr result (GrowsByFront (K.written sink.old) (K.written sink.new)
+            self.old.unsent) }
+        ensures cause { HasFlushed (K.faults sink.old) (K.faults sink.new) result }
+        ensures state { self.new.state ≡ self.old.state }
+        ensures handlers { self.new.handlers ≡ self.old.handlers }
+        ensures rest { self.new.rest ≡ self.old.rest }
+        ensures open { self.new.is_open ≡ self.old.is_open }
+        ensures sink { K.origin sink.new ≡ K.origin sink.old }
+    {
+        match flush_if_full(&mut self.client.outbox, sink) {
+            Ok(()) => Ok(ended_by(end)),
+            Err(error) => Err(error),
+        }
+    }
+
+    /// Sends all that waits, and tells then how the conversation goes on.
+    fn told_when_sent<K: Sink>(
+        &mut self,
+        sink: &mut K,
+        told: Progress,
+    ) -> Result<Progress, ServeError>
+        ensures told { IfOk result (λ t. t ≡ told) }
+        ensures empty { OnOk result (self.new.unsent ≡ []) }
+        ensures ok { OnOk result (GrowsBy (K.written sink.old) (K.written sink.new)
+            self.old.unsent) }
+        ensures err { OnErr result (GrowsByFront (K.written sink.old) (K.written sink.new)
+            self.old.unsent) }
+        ensures cause { HasFlushed (K.faults sink.old) (K.faults sink.new) result }
+        ensures state { self.new.state ≡ self.old.state }
+        ensures handlers { self.new.handlers ≡ self.old.handlers }
+        ensures rest { self.new.rest ≡ self.old.rest }
+        ensures open { self.new.is_open ≡ self.old.is_open }
+        ensures sink { K.origin sink.new ≡ K.origin sink.old }
+    {
+        match flush_all(&mut self.client.outbox, sink) {
+            Ok(()) => Ok(told),
+            Err(error) => Err(error),
+        }
     }
 
     /// Answers the whole frames of the bytes, and sends all that is answered.
@@ -174,23 +289,12 @@ impl<
         turns: &mut Turns,
     ) -> Result<Progress, ServeError>
         requires { self.old.is_open ≡ true }
-        ensures served { IfOk result (λ told. (next : Next (State H.Extended.Statement)) × IsServed
+        ensures fed { WasFed
             (whole_rules
             (H.told self.old.handlers))
-            self.old.state self.old.rest self.new.rest next (K.written sink.old)
-            (K.written sink.new)
-            self.old.unsent [] (D.told desk.old).calls (D.told desk.new).calls
-            × Stands awaits next self.new.state self.new.rest told) }
-        ensures cut_off { OnErr result (IsCutOff
-            (whole_rules
-            (H.told self.old.handlers))
-            self.old.state self.old.rest (K.written sink.old) (K.written sink.new) self.old.unsent
-            (D.told desk.old).calls (D.told desk.new).calls) }
-        ensures stopped { IsErrOf result serve.TurnLimit → IsStopped
-            (whole_rules
-            (H.told self.old.handlers))
-            self.old.state self.old.rest (K.written sink.old) (K.written sink.new) self.old.unsent
-            (D.told desk.old).calls (D.told desk.new).calls }
+            self.old.state self.old.rest self.new.state self.new.rest (K.written sink.old)
+            (K.written sink.new) self.old.unsent
+            (D.told desk.old).calls (D.told desk.new).calls result }
         ensures sent { OnOk result (self.new.unsent ≡ []) }
         ensures open { result ≡ Ok More → self.new.is_open ≡ true }
         ensures handlers { self.new.handlers ≡ self.old.handlers }
@@ -202,10 +306,70 @@ impl<
         ensures sink { K.origin sink.new ≡ K.origin sink.old }
     {
         'messages: loop {
-            match self.step(alloc, desk, sink, turns)? {
+            match self.advance(alloc, desk, sink, turns) {
                 None => {}
-                Some(told) => return told_when_sent(&mut self.client.outbox, sink, told),
+                Some(told) => return told,
             }
+        }
+    }
+
+    /// Takes a step. None says that the next one follows; where none does, all that is answered is
+    /// sent.
+    #[inline(always)]
+    fn advance<D: CancelDesk, K: Sink>(
+        &mut self,
+        alloc: Global,
+        desk: &mut D,
+        sink: &mut K,
+        turns: &mut Turns,
+    ) -> Option<Result<Progress, ServeError>>
+        requires { self.old.is_open ≡ true }
+        ensures round { RoundSo
+            (whole_rules
+            (H.told self.old.handlers))
+            self.old.state self.old.rest self.new.state self.new.rest (K.written sink.old)
+            (K.written sink.new) self.old.unsent self.new.unsent
+            (D.told desk.old).calls (D.told desk.new).calls result }
+        ensures sent { IfSome result (λ told. OnOk told (self.new.unsent ≡ [])) }
+        ensures open { told_or_more result ≡ Ok More → self.new.is_open ≡ true }
+        ensures handlers { self.new.handlers ≡ self.old.handlers }
+        ensures shorter { IfNone result (length self.new.rest < length self.old.rest) }
+        ensures cause { HasSinkCause (K.faults sink.old) (K.faults sink.new)
+            (told_or_more result) }
+        ensures turns { HasFed turns.old turns.new
+            (questions_since (D.told desk.old).calls (D.told desk.new).calls)
+            (told_or_more result) }
+        ensures bounded { turns.old.spent ≤ turns.old.limit → turns.new.spent ≤ turns.new.limit }
+        ensures registration { GoesOn (D.told desk.old) (D.told desk.new) }
+        ensures sink { K.origin sink.new ≡ K.origin sink.old }
+    {
+        let step = self.step(alloc, desk, sink, turns);
+        self.told_behind(sink, step)
+    }
+
+    /// Sends all that waits where a step tells something, and tells it then. A step that tells
+    /// nothing tells so here.
+    #[inline(always)]
+    fn told_behind<K: Sink>(
+        &mut self,
+        sink: &mut K,
+        step: Result<Option<Progress>, ServeError>,
+    ) -> Option<Result<Progress, ServeError>>
+        ensures sent { SentBehind (K.written sink.old) (K.written sink.new) self.old.unsent
+            self.new.unsent step result }
+        ensures cause { HasSentCause (K.faults sink.old) (K.faults sink.new) step result }
+        ensures state { self.new.state ≡ self.old.state }
+        ensures handlers { self.new.handlers ≡ self.old.handlers }
+        ensures rest { self.new.rest ≡ self.old.rest }
+        ensures open { self.new.is_open ≡ self.old.is_open }
+        ensures sink { K.origin sink.new ≡ K.origin sink.old }
+    {
+        match step {
+            Ok(told) => match told {
+                Some(told) => Some(self.told_when_sent(sink, told)),
+                None => None,
+            },
+            Err(error) => Some(Err(error)),
         }
     }
 
@@ -219,25 +383,12 @@ impl<
         turns: &mut Turns,
     ) -> Result<Progress, ServeError>
         requires { self.old.is_open ≡ true }
-        ensures served { IfOk result (λ told. (next : Next (State H.Extended.Statement)) × IsServed
+        ensures fed { WasFed
             (whole_rules
             (H.told self.old.handlers))
-            self.old.state (self.old.rest ++ piece.now) self.new.rest next (K.written sink.old)
-            (K.written sink.new)
-            self.old.unsent [] (D.told desk.old).calls (D.told desk.new).calls
-            × Stands awaits next self.new.state self.new.rest told) }
-        ensures cut_off { OnErr result (IsCutOff
-            (whole_rules
-            (H.told self.old.handlers))
-            self.old.state (self.old.rest ++ piece.now) (K.written sink.old) (K.written sink.new)
-            self.old.unsent
-            (D.told desk.old).calls (D.told desk.new).calls) }
-        ensures stopped { IsErrOf result serve.TurnLimit → IsStopped
-            (whole_rules
-            (H.told self.old.handlers))
-            self.old.state (self.old.rest ++ piece.now) (K.written sink.old) (K.written sink.new)
-            self.old.unsent
-            (D.told desk.old).calls (D.told desk.new).calls }
+            self.old.state (self.old.rest ++ piece.now) self.new.state self.new.rest
+            (K.written sink.old) (K.written sink.new) self.old.unsent
+            (D.told desk.old).calls (D.told desk.new).calls result }
         ensures sent { OnOk result (self.new.unsent ≡ []) }
         ensures open { result ≡ Ok More → self.new.is_open ≡ true }
         ensures handlers { self.new.handlers ≡ self.old.handlers }

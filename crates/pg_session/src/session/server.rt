@@ -12,10 +12,12 @@ ghost use Rattle.pg_handlers.specs.Sending.{IsAnswerableError};
 ghost use Rattle.pg_handlers.specs.State.{state_of};
 ghost use Rattle.pg_handlers.specs.Table.{message_row};
 ghost use Rattle.pg_handlers.specs.declared.ends.EndKind.TheVariants.{InputEnd, Fatal};
+ghost use Rattle.pg_handlers.specs.declared.ends.Turns.{Turns};
+ghost use Rattle.pg_portal.specs.declared.client.PgWireConnectionState.TheVariants as phase;
 ghost use Rattle.pg_session.specs.Messages.{IsGivenIn, outcome_of, scope_for, next_of};
 ghost use Rattle.pg_session.specs.Session.{stays_open, goes_on};
 
-use crate::messages::on_message;
+use crate::messages::{on_ready, on_unready};
 use crate::session::Session;
 use pg_handlers::{
     CancelDesk, Client, EndKind, ExtendedQueryHandler, Outbox, PgWireServerHandlers, SessionError,
@@ -82,8 +84,103 @@ pub fn process_message<
     ensures bounded { turns.old.spent ≤ turns.old.limit → turns.new.spent ≤ turns.new.limit }
     ensures registration { GoesOn (D.told desk.old) (D.told desk.new) }
 {
+    match session.state() {
+        PgWireConnectionState::ReadyForQuery => {
+            process_ready(alloc, session, desk, turns, message)
+        }
+        _ => process_unready(alloc, session, desk, message),
+    }
+}
+
+/// Answers a message of a session that is ready, as [`process_message`] does.
+#[inline(always)]
+pub(crate) fn process_ready<
+    H: PgWireServerHandlers,
+    St: PortalStore<
+        Statement = <H::Extended as ExtendedQueryHandler>::Statement,
+        Rows = <H::Extended as ExtendedQueryHandler>::Rows,
+    >,
+    D: CancelDesk,
+>(
+    alloc: Global,
+    session: &mut Session<H, St>,
+    desk: &mut D,
+    turns: &mut Turns,
+    message: PgWireFrontendMessage,
+) -> Result<Option<EndKind>, SessionError>
+    requires open { session.old.is_open ≡ true }
+    requires ready { session.old.state.info.state ≡ phase.ReadyForQuery }
+    requires given { IsGivenIn session.old.state message }
+    ensures ok { IfOk result (λ end. IsRow
+        (λ answers. message_row
+        (H.told session.old.handlers)
+        answers session.old.state message)
+        session.old.unsent session.new.unsent (D.told desk.old).calls (D.told desk.new).calls
+        (outcome_of end session.new.state)) }
+    ensures refused { IfErr result (IsRefusedRow
+        (λ answers. message_row
+        (H.told session.old.handlers)
+        answers session.old.state message)
+        session.old.unsent session.new.unsent (D.told desk.old).calls (D.told desk.new).calls
+        session.new.state) }
+    ensures answerable { IfErr result IsAnswerableError }
+    ensures ends { IfOk result (λ end. end ≢ Some InputEnd) }
+    ensures open { session.new.is_open ≡ stays_open result }
+    ensures handlers { session.new.handlers ≡ session.old.handlers }
+    ensures rest { session.new.rest ≡ session.old.rest }
+    ensures turns { HasSpent turns.old turns.new
+        (questions_since (D.told desk.old).calls (D.told desk.new).calls) result }
+    ensures bounded { turns.old.spent ≤ turns.old.limit → turns.new.spent ≤ turns.new.limit }
+    ensures registration { GoesOn (D.told desk.old) (D.told desk.new) }
+{
     let handlers = &*session.handlers;
-    let outcome = on_message(alloc, handlers, &mut session.client, desk, turns, message);
+    let outcome = on_ready(alloc, handlers, &mut session.client, desk, turns, message);
+    session.opened = stays_open(&outcome);
+    outcome
+}
+
+/// Answers a message of a session that isn't ready, as [`process_message`] does. It spends no
+/// turns.
+#[inline(always)]
+pub(crate) fn process_unready<
+    H: PgWireServerHandlers,
+    St: PortalStore<
+        Statement = <H::Extended as ExtendedQueryHandler>::Statement,
+        Rows = <H::Extended as ExtendedQueryHandler>::Rows,
+    >,
+    D: CancelDesk,
+>(
+    alloc: Global,
+    session: &mut Session<H, St>,
+    desk: &mut D,
+    message: PgWireFrontendMessage,
+) -> Result<Option<EndKind>, SessionError>
+    requires open { session.old.is_open ≡ true }
+    requires unready { session.old.state.info.state ≢ phase.ReadyForQuery }
+    requires given { IsGivenIn session.old.state message }
+    ensures ok { IfOk result (λ end. IsRow
+        (λ answers. message_row
+        (H.told session.old.handlers)
+        answers session.old.state message)
+        session.old.unsent session.new.unsent (D.told desk.old).calls (D.told desk.new).calls
+        (outcome_of end session.new.state)) }
+    ensures refused { IfErr result (IsRefusedRow
+        (λ answers. message_row
+        (H.told session.old.handlers)
+        answers session.old.state message)
+        session.old.unsent session.new.unsent (D.told desk.old).calls (D.told desk.new).calls
+        session.new.state) }
+    ensures answerable { IfErr result IsAnswerableError }
+    ensures ends { IfOk result (λ end. end ≢ Some InputEnd) }
+    ensures open { session.new.is_open ≡ stays_open result }
+    ensures handlers { session.new.handlers ≡ session.old.handlers }
+    ensures rest { session.new.rest ≡ session.old.rest }
+    ensures turns { (turns : Turns) → HasSpent turns turns
+        (questions_since (D.told desk.old).calls (D.told desk.new).calls) result }
+    ensures registration { GoesOn (D.told desk.old) (D.told desk.new) }
+{
+    let handlers = &*session.handlers;
+    let outcome = on_unready(alloc, handlers, &mut session.client, desk, message);
     session.opened = stays_open(&outcome);
     outcome
 }

@@ -1,7 +1,7 @@
 use Rattle.std.proofs.Common.{ap}
 use Rattle.std.specs.Arc.{arc_value}
 use Rattle.pg_session.proofs.GoodStates.{good_new}
-use Rattle.pg_session.proofs.session.Session.new.Goals as goal
+use Rattle.pg_session.proofs.session.Session.with_outbox.Goals as goal
 
 pub invariant_of-result : goal.invariant_of-result
 invariant_of-result g c = λ _. good_new (g.H.PgWireServerHandlers.told (arc_value c.args.handlers)).extended.parser

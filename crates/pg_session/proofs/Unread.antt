@@ -1,0 +1,53 @@
+-- What a step tells of bytes that begin with no good frame.
+use Rattle.std.proofs.Common.{◌≡◌, ℕ, Bool, List, Option, Some, None, Result, Ok, Err, IfOk, OnErr, ◌++◌, refl, sym, subst, ◌∙◌}
+use Rattle.pg_messages.specs.Frames.{IsUnfinished, IsBad}
+use Rattle.pg_messages.specs.declared.codec.FrameError.{FrameError}
+use Rattle.pg_messages.specs.declared.codec.FrameError.TheVariants as frame
+use Rattle.pg_handlers.specs.declared.desk.DeskCall.{DeskCall}
+use Rattle.pg_handlers.specs.Answer.{Next, Goes}
+use Rattle.pg_handlers.specs.Handlers.{Handlers}
+use Rattle.pg_handlers.specs.State.{State}
+use Rattle.pg_handlers.specs.Table.{awaits}
+use Rattle.pg_session.specs.declared.ends.Progress.{Progress}
+use Rattle.pg_session.specs.declared.ends.Progress.TheVariants as progress
+use Rattle.pg_session.specs.declared.ends.ServeError.{ServeError}
+use Rattle.pg_session.specs.Session.{whole_rules, unread, IsUnread}
+use Rattle.pg_session.specs.Run.{EndsWith}
+use Rattle.pg_session.specs.Steps.{IsServed, IsCutOff, StandsAfterStep}
+use Rattle.pg_session.proofs.BadFrames.{bad_more}
+use Rattle.pg_session.proofs.Stepping.{serves_none, cut_none, bad_is_no_end_of_input}
+
+-- a frame that can't be read is bad, or memory was wanting
+pub unread_as : (awaiting : Bool) (text : List ℕ) (error : FrameError) → (error ≡ frame.Bad → IsBad awaiting text)
+    → IsUnread awaiting text (unread error)
+unread_as awaiting text frame.Bad bad = (refl, bad refl)
+unread_as awaiting text frame.NoMemory bad = refl
+
+module _ {S : Type 0} (h : Handlers S) (s : State S) (text rest : List ℕ) (w : Option (List ℕ)) (out : List ℕ) (calls : List DeskCall)
+    (kept : rest ≡ text) where
+  -- more bytes are awaited, or the conversation ends
+  pub unread_served : (told : Result (Option Progress) ServeError) → IsUnread (awaits s) text told
+      → IfOk told (λ step. (next : Next (State S)) × IsServed (whole_rules h) s text rest next w w out out calls calls
+      × StandsAfterStep awaits next s rest step)
+  unread_served (Ok None) x = absurd x
+  unread_served (Ok (Some progress.More)) x = (
+    Goes s,
+    serves_none (whole_rules h) s text rest w out calls kept,
+    (refl, subst (IsUnfinished (awaits s)) (sym kept) x),
+  )
+  unread_served (Ok (Some (progress.Ended kind))) x = (
+    Goes s,
+    serves_none (whole_rules h) s text rest w out calls kept,
+    (
+      λ e. bad_is_no_end_of_input (sym x.0 ∙ e),
+      λ more. subst (λ k. EndsWith awaits (Goes s) (rest ++ more) k) (sym x.0)
+          (bad_more (awaits s) rest more (subst (IsBad (awaits s)) (sym kept) x.1)),
+    ),
+  )
+  unread_served (Err error) x = tt
+
+  -- memory was wanting
+  pub unread_cut : (told : Result (Option Progress) ServeError)
+      → OnErr told (IsCutOff (whole_rules h) s text w w out calls calls)
+  unread_cut (Ok step) = tt
+  unread_cut (Err error) = cut_none (whole_rules h) s text w out calls

@@ -1,0 +1,13 @@
+use Rattle.std.proofs.Common.{refl}
+use Rattle.pg_session.specs.Messages.{scope_for}
+use Rattle.pg_session.proofs.Failing.{failed_by_told}
+use Rattle.pg_session.proofs.session.Session.fail.Goals as goal
+
+pub returns-in-TurnLimit-clause-failed : goal.returns-in-TurnLimit-clause-failed
+returns-in-TurnLimit-clause-failed g c = rw c.in-TurnLimit.is refl
+
+pub returns-in-Wire-clause-failed : goal.returns-in-Wire-clause-failed
+returns-in-Wire-clause-failed g c =
+    rw c.in-Wire.is (failed_by_told c.in-Wire.error (scope_for c.args.wait_for_sync) c.args.self.now.state c.tell.new.self.state
+    c.args.self.now.unsent c.tell.new.self.unsent c.tell.result c.tell.ensures.known c.tell.ensures.replied c.tell.ensures.next
+    c.tell.ensures.only)

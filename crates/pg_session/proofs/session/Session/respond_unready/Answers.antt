@@ -1,0 +1,37 @@
+use Rattle.std.proofs.Common.{ap, ◌∙◌}
+use Rattle.pg_handlers.specs.Table.{scope_in}
+use Rattle.pg_session.specs.Messages.{scope_for}
+use Rattle.pg_session.proofs.Failing.{failed_answer, failed_cut, failed_turns, failed_memory, never_limited}
+use Rattle.pg_session.proofs.session.Session.respond_unready.Goals as goal
+
+pub returns-in-Err-clause-answer : goal.returns-in-Err-clause-answer
+returns-in-Err-clause-answer g c =
+    let session = c.args.self.now in
+    let h = g.H.PgWireServerHandlers.told session.handlers in
+    let mid = c.process_unready.new.session in
+    failed_answer h session.state c.args.message (g.D.CancelDesk.told c.args.desk.now).calls
+    (g.D.CancelDesk.told c.process_unready.new.desk).calls session.unsent mid.unsent c.fail.new.self.unsent mid.state
+    c.fail.new.self.state (scope_for c.waits_when_unready-wait_for_sync.result)
+    (c.waits_when_unready-wait_for_sync.ensures c.args.message ∙ ap (λ v. scope_in v c.args.message) c.state.ensures)
+    c.in-Err.error c.fail.result c.in-Err.ensures.refused c.fail.ensures.failed
+
+pub returns-in-Err-clause-err : goal.returns-in-Err-clause-err
+returns-in-Err-clause-err g c =
+    let session = c.args.self.now in
+    let h = g.H.PgWireServerHandlers.told session.handlers in
+    let mid = c.process_unready.new.session in
+    failed_cut h session.state c.args.message (g.D.CancelDesk.told c.args.desk.now).calls
+    (g.D.CancelDesk.told c.process_unready.new.desk).calls session.unsent mid.unsent c.fail.new.self.unsent mid.state
+    c.fail.new.self.state (scope_for c.waits_when_unready-wait_for_sync.result)
+    (c.waits_when_unready-wait_for_sync.ensures c.args.message ∙ ap (λ v. scope_in v c.args.message) c.state.ensures)
+    c.in-Err.error c.fail.result c.in-Err.ensures.refused
+
+pub returns-in-Err-clause-turns : goal.returns-in-Err-clause-turns
+returns-in-Err-clause-turns g c = λ turns. failed_turns c.in-Err.error (scope_for c.waits_when_unready-wait_for_sync.result)
+    c.process_unready.new.session.state c.fail.new.self.state c.process_unready.new.session.unsent c.fail.new.self.unsent c.fail.result
+    turns turns _ c.fail.ensures.failed (c.in-Err.ensures.turns turns)
+
+pub returns-in-Err-clause-only : goal.returns-in-Err-clause-only
+returns-in-Err-clause-only g c = failed_memory c.in-Err.error (scope_for c.waits_when_unready-wait_for_sync.result)
+    c.process_unready.new.session.state c.fail.new.self.state c.process_unready.new.session.unsent c.fail.new.self.unsent c.fail.result
+    c.fail.ensures.failed (never_limited c.in-Err.error _ c.in-Err.ensures.turns)

@@ -1,0 +1,48 @@
+use Rattle.std.proofs.Common.{ap, sym, ◌∙◌}
+use Rattle.pg_handlers.specs.Table.{scope_in}
+use Rattle.pg_session.specs.Messages.{scope_for}
+use Rattle.pg_session.proofs.Failing.{failed_answer, failed_cut, failed_stopped, failed_only, failed_turns}
+use Rattle.pg_session.proofs.session.Session.respond_with_calls.Goals as goal
+
+pub returns-in-Err-clause-answer : goal.returns-in-Err-clause-answer
+returns-in-Err-clause-answer g c =
+    let session = c.args.self.now in
+    let h = g.H.PgWireServerHandlers.told session.handlers in
+    let mid = c.process_ready.new.session in
+    failed_answer h session.state c.args.message (g.D.CancelDesk.told c.args.desk.now).calls
+    (g.D.CancelDesk.told c.process_ready.new.desk).calls session.unsent mid.unsent c.fail.new.self.unsent mid.state
+    c.fail.new.self.state (scope_for c.waits_when_ready-wait_for_sync.result)
+    (c.waits_when_ready-wait_for_sync.ensures ∙ ap (λ p. scope_in p c.args.message) (sym c.requires.ready))
+    c.in-Err.error c.fail.result c.in-Err.ensures.refused c.fail.ensures.failed
+
+pub returns-in-Err-clause-err : goal.returns-in-Err-clause-err
+returns-in-Err-clause-err g c =
+    let session = c.args.self.now in
+    let h = g.H.PgWireServerHandlers.told session.handlers in
+    let mid = c.process_ready.new.session in
+    failed_cut h session.state c.args.message (g.D.CancelDesk.told c.args.desk.now).calls
+    (g.D.CancelDesk.told c.process_ready.new.desk).calls session.unsent mid.unsent c.fail.new.self.unsent mid.state
+    c.fail.new.self.state (scope_for c.waits_when_ready-wait_for_sync.result)
+    (c.waits_when_ready-wait_for_sync.ensures ∙ ap (λ p. scope_in p c.args.message) (sym c.requires.ready))
+    c.in-Err.error c.fail.result c.in-Err.ensures.refused
+
+pub returns-in-Err-clause-stopped : goal.returns-in-Err-clause-stopped
+returns-in-Err-clause-stopped g c =
+    let session = c.args.self.now in
+    let h = g.H.PgWireServerHandlers.told session.handlers in
+    let mid = c.process_ready.new.session in
+    failed_stopped h session.state c.args.message (g.D.CancelDesk.told c.args.desk.now).calls
+    (g.D.CancelDesk.told c.process_ready.new.desk).calls session.unsent mid.unsent c.fail.new.self.unsent mid.state
+    c.fail.new.self.state (scope_for c.waits_when_ready-wait_for_sync.result)
+    (c.waits_when_ready-wait_for_sync.ensures ∙ ap (λ p. scope_in p c.args.message) (sym c.requires.ready))
+    c.in-Err.error c.fail.result c.in-Err.ensures.refused c.fail.ensures.failed
+
+pub returns-in-Err-clause-only : goal.returns-in-Err-clause-only
+returns-in-Err-clause-only g c = failed_only c.in-Err.error (scope_for c.waits_when_ready-wait_for_sync.result)
+    c.process_ready.new.session.state c.fail.new.self.state c.process_ready.new.session.unsent c.fail.new.self.unsent c.fail.result
+    c.fail.ensures.failed
+
+pub returns-in-Err-clause-turns : goal.returns-in-Err-clause-turns
+returns-in-Err-clause-turns g c = failed_turns c.in-Err.error (scope_for c.waits_when_ready-wait_for_sync.result)
+    c.process_ready.new.session.state c.fail.new.self.state c.process_ready.new.session.unsent c.fail.new.self.unsent c.fail.result
+    c.args.turns.now c.process_ready.new.turns _ c.fail.ensures.failed c.in-Err.ensures.turns

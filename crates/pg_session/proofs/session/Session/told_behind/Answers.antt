@@ -1,0 +1,15 @@
+use Rattle.std.proofs.Common.{Some, Ok, sym, subst}
+use Rattle.pg_session.specs.Steps.{SentBehind}
+use Rattle.pg_session.proofs.Behind.{sent_behind}
+use Rattle.pg_session.proofs.session.Session.told_behind.Goals as goal
+
+pub returns-in-Some-clause-sent : goal.returns-in-Some-clause-sent
+returns-in-Some-clause-sent g c =
+    let w = g.K.Sink.written c.args.sink.now in
+    let v = g.K.Sink.written c.told_when_sent.new.sink in
+    subst (λ step. SentBehind w v c.args.self.now.unsent c.told_when_sent.new.self.unsent step (Some c.told_when_sent.result))
+    (sym c.in-Ok.is)
+    (subst (λ told. SentBehind w v c.args.self.now.unsent c.told_when_sent.new.self.unsent (Ok told) (Some c.told_when_sent.result))
+    (sym c.in-Some.is)
+    (sent_behind w v c.args.self.now.unsent c.told_when_sent.new.self.unsent c.in-Some.told c.told_when_sent.result
+    c.told_when_sent.ensures.told c.told_when_sent.ensures.empty c.told_when_sent.ensures.ok c.told_when_sent.ensures.err))

@@ -1,0 +1,53 @@
+use Rattle.std.proofs.Common.{IfOk, IfErr, subst, ap, ◌∙◌}
+use Rattle.pg_handlers.specs.Effect.{IsRow, IsRefusedRow}
+use Rattle.pg_handlers.specs.State.{state_of}
+use Rattle.pg_handlers.specs.Table.{ready_row}
+use Rattle.pg_session.specs.Messages.{outcome_of}
+use Rattle.pg_session.proofs.Narrowed.{ready_goes_on}
+use Rattle.pg_session.proofs.Rows.{row_as, refused_as}
+use Rattle.pg_session.proofs.ToldRows.{ready_ok, ready_refused}
+use Rattle.pg_session.proofs.session.server.process_ready.Goals as goal
+
+pub invariant_of-session : goal.invariant_of-session
+invariant_of-session g c = λ _. rw c.deref-handlers.ensures at c.on_ready-outcome.ensures.good
+
+pub returns-clause-ok : goal.returns-clause-ok
+returns-clause-ok g c =
+    let answered = c.on_ready-outcome in
+    let old = c.session.inside.client in
+    let s = state_of g.St.PortalStore.maps old in
+    let new = state_of g.St.PortalStore.maps answered.new.client in
+    let calls = (g.D.CancelDesk.told c.args.desk.now).calls in
+    let new_calls = (g.D.CancelDesk.told answered.new.desk).calls in
+    row_as g.H.PgWireServerHandlers.told _ c.args.session.now c.args.message answered.new.client.outbox calls new_calls new
+    answered.result c.session.view_is
+    (ready_ok (g.H.PgWireServerHandlers.told _) s c.args.message old.outbox answered.new.client.outbox calls new_calls new answered.result
+    (ap (λ v. v.state.info.state) c.session.view_is ∙ c.requires.ready)
+    (subst (λ (x : g.row.H.Denot). IfOk answered.result (λ end. IsRow
+    (λ answers. ready_row (g.H.PgWireServerHandlers.told x) answers s c.args.message) old.outbox answered.new.client.outbox
+    calls new_calls (outcome_of end new))) c.deref-handlers.ensures answered.ensures.ok))
+
+pub returns-clause-refused : goal.returns-clause-refused
+returns-clause-refused g c =
+    let answered = c.on_ready-outcome in
+    let old = c.session.inside.client in
+    let s = state_of g.St.PortalStore.maps old in
+    let new = state_of g.St.PortalStore.maps answered.new.client in
+    let calls = (g.D.CancelDesk.told c.args.desk.now).calls in
+    let new_calls = (g.D.CancelDesk.told answered.new.desk).calls in
+    refused_as g.H.PgWireServerHandlers.told _ c.args.session.now c.args.message answered.new.client.outbox calls new_calls new
+    answered.result c.session.view_is
+    (ready_refused (g.H.PgWireServerHandlers.told _) s c.args.message old.outbox answered.new.client.outbox calls new_calls new
+    answered.result (ap (λ v. v.state.info.state) c.session.view_is ∙ c.requires.ready)
+    (subst (λ (x : g.row.H.Denot). IfErr answered.result (IsRefusedRow
+    (λ answers. ready_row (g.H.PgWireServerHandlers.told x) answers s c.args.message) old.outbox answered.new.client.outbox
+    calls new_calls new)) c.deref-handlers.ensures answered.ensures.refused))
+
+pub returns-clause-registration : goal.returns-clause-registration
+returns-clause-registration g c =
+    let answered = c.on_ready-outcome in
+    let old = c.session.inside.client in
+    ready_goes_on (g.H.PgWireServerHandlers.told c.deref-handlers.result.now) (state_of g.St.PortalStore.maps old) c.args.message
+    (g.D.CancelDesk.told c.args.desk.now) (g.D.CancelDesk.told answered.new.desk) answered.ensures.keeps old.outbox
+    answered.new.client.outbox (state_of g.St.PortalStore.maps answered.new.client) answered.result answered.ensures.ok
+    answered.ensures.refused
