@@ -1,6 +1,6 @@
 -- A frame is its header, its kind and its body.
-use Rattle.std.proofs.Common.{◌≡◌, ℕ, zero, suc, ◌+◌, ◌^◌, ◌<◌, ◌≤◌, Bool, true, false, List, [], ◌∷◌, ◌++◌, length, get_or, take, drop, Some, sym, ap, subst, ◌∙◌, append_assoc, arith, inr}
-use Rattle.std.specs.Prelude.{IsErrOf, Err}
+use Rattle.std.proofs.Common.{◌≡◌, ℕ, zero, suc, ◌+◌, ◌^◌, ◌<◌, ◌≤◌, Bool, true, false, List, [], ◌∷◌, ◌++◌, length, get_or, take, drop, Option, Some, sym, ap, subst, ◌∙◌, append_assoc, arith, inr}
+use Rattle.std.specs.Prelude.{IsErrOf, IfOk, Result, Ok, Err}
 use Rattle.std.specs.Int.{w32, from_be_bytes}
 use Rattle.std.specs.List.{AllByRecursion}
 use Rattle.std.proofs.lemmas.List.{take-append-drop, take-take, drop-drop, length-drop, length-take-le}
@@ -12,7 +12,8 @@ use Rattle.pg_messages.proofs.Laws.{IsBytes, IsBytes-behind}
 use Rattle.pg_messages.proofs.FieldLaws.{IsBytes-take, wide32}
 use Rattle.pg_messages.specs.declared.codec.FrameError.{FrameError}
 use Rattle.pg_messages.specs.declared.codec.FrameError.TheVariants as errors
-use Rattle.pg_messages.specs.Reading.{Gives, message_at}
+use Rattle.pg_messages.specs.Reading.{Gives, message_at, told_as}
+use Rattle.pg_messages.specs.Reading as reading
 use Rattle.pg_messages.proofs.KindLaws.{code_fits, read_is_carried, nothing_carried}
 
 -- the kind and the body as they stand in a frame
@@ -185,3 +186,34 @@ message_bad awaiting bytes len kind body errors.Bad h given err =
 -- the same error in a result of another type
 pub same_error : {T U : Type 0} (a b : FrameError) → IsErrOf {T = T} (Err a) b → IsErrOf {T = U} (Err a) b
 same_error a b e = let same : a ≡ b = cc in ap Err same
+
+-- ---- a message that is read as its own type
+
+kind_in_front : (bytes : List ℕ) (len kind : ℕ) → take 1 bytes ≡ kind ∷ [] → 1 ≤ len → kind ≡ get_or (take len bytes) 0 0
+kind_in_front [] len kind e long = absurd cc
+kind_in_front (b ∷ bytes) zero kind e long = absurd (omega (arith, long))
+kind_in_front (b ∷ bytes) (suc len) kind e long = ap (λ (x : List ℕ). get_or x 0 0) (sym e)
+
+-- the frame in front, whose kind is told by the first byte
+pub typed_in_front : (bytes : List ℕ) (len kind : ℕ) (frame body : List ℕ) → take 1 bytes ≡ kind ∷ [] → HasWhole false bytes len
+    → frame ≡ take len bytes → body ≡ drop 5 frame → StandsIn false bytes len kind body
+typed_in_front bytes len kind frame body e h front back = record {
+  whole = h;
+  kind_is = kind_in_front bytes len kind e (omega (arith, h.told, h.good.1));
+  body_is = back ∙ ap (drop 5) front;
+}
+
+module _ {X : Type 0} (message : X → PgWireFrontendMessage) (bytes : List ℕ) (len kind : ℕ) (body : List ℕ)
+    (read : Option (X × List ℕ)) (is_read : message_at false kind body ≡ told_as message (reading.whole read))
+    (h : StandsIn false bytes len kind body) where
+  pub typed_found : (r : Result X FrameError) → IsBytes bytes → Gives (λ x. x) r (reading.whole read)
+      → IfOk r (λ m. IsFrame false (take len bytes) (message m))
+  typed_found (Ok m) fits given = message_found false bytes len kind body (message m) h fits (is_read ∙ ap (told_as message) given)
+  typed_found (Err e) fits given = tt
+
+  pub typed_bad : (r : Result X FrameError) → Gives (λ x. x) r (reading.whole read) → IsErrOf r errors.Bad → IsBad false bytes
+  typed_bad (Ok m) given err = absurd cc
+  typed_bad (Err errors.NoMemory) given err = absurd cc
+  typed_bad (Err errors.Bad) given err =
+      frame_bad false bytes len h.whole (nothing_carried false (kind_of false (take len bytes)) (body_of false (take len bytes))
+      (sym (read_there h) ∙ is_read ∙ ap (told_as message) given))

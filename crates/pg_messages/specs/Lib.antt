@@ -3,3 +3,4 @@ pub mod Frames
 pub mod Reading
 pub mod Replies
 pub mod Status
+pub mod TypedReading

@@ -14,6 +14,7 @@ use Rattle.pg_messages.specs.declared.extendedquery.Bind.{Bind}
 use Rattle.pg_messages.specs.declared.extendedquery.Describe.{Describe}
 use Rattle.pg_messages.specs.declared.extendedquery.Execute.{Execute}
 use Rattle.pg_messages.specs.declared.extendedquery.Close.{Close}
+use Rattle.pg_messages.specs.declared.extendedquery.PgSync.{PgSync}
 use Rattle.pg_messages.specs.declared.copy.CopyFail.{CopyFail}
 use Rattle.pg_messages.specs.declared.startup.SslNegotiationKind.TheVariants.{PostgresSsl, PostgresGss}
 use Rattle.pg_messages.specs.declared.frontend.PgWireFrontendMessage.{PgWireFrontendMessage}
@@ -140,6 +141,10 @@ describe_at = as_at (λ x. record { target_type = x.0; name = x.1 }) (both_at by
 
 unfoldable pub execute_at : List ℕ → Option (Execute × List ℕ)
 execute_at = as_at (λ x. record { name = x.0; max_rows = x.1 }) (both_at string_at (signed_at w32))
+
+-- Sync has no body
+abbrev pub sync_at : List ℕ → Option (PgSync × List ℕ)
+sync_at bytes = Some (record {}, bytes)
 
 unfoldable pub close_at : List ℕ → Option (Close × List ℕ)
 close_at = as_at (λ x. record { target_type = x.0; name = x.1 }) (both_at byte_at string_at)

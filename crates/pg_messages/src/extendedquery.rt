@@ -163,6 +163,17 @@ impl Field for Execute {
     }
 }
 
+// It has no body, so no bytes are read.
+impl Field for PgSync {
+    ghost use Rattle.pg_messages.specs.Reading.{sync_at};
+
+    ghost field_at = { sync_at };
+
+    fn read(_alloc: Global, bytes: &[u8]) -> Result<(PgSync, &[u8]), FrameError> {
+        Ok((PgSync {}, bytes))
+    }
+}
+
 impl Field for Close {
     ghost use Rattle.pg_messages.specs.Reading.{close_at};
 

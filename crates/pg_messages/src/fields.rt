@@ -19,6 +19,7 @@ pub trait Field: Sized {
 }
 
 /// A value that is all of the bytes.
+#[inline(always)]
 pub fn whole<T: Field + Drop>(alloc: Global, bytes: &[u8]) -> Result<T, FrameError>
     ensures { Gives (λ x. x) result (whole (T.field_at bytes.now)) }
 {
@@ -161,6 +162,7 @@ impl Field for Option<PgBytes> {
     }
 }
 
+#[inline(always)]
 #[tactic(auto, unfolding(crate::specs::Reading::count_at))]
 fn count(bytes: &[u8]) -> Result<(u16, &[u8]), FrameError>
     ensures { Gives (λ x. (x.0, x.1.now)) result (count_at bytes.now) }
@@ -194,6 +196,7 @@ fn items<T: Field + Drop>(
 }
 
 /// A count, and as many values.
+#[inline(always)]
 pub fn list<T: Field + Drop>(alloc: Global, bytes: &[u8]) -> Result<(PgList<T>, &[u8]), FrameError>
     ensures { Gives (λ x. (x.0, x.1.now)) result (list_at T.field_at bytes.now) }
 {

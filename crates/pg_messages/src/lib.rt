@@ -17,6 +17,7 @@ mod response;
 mod secret_key;
 mod simplequery;
 mod startup;
+mod typed;
 mod values;
 
 pub use backend::PgWireBackendMessage;
@@ -48,4 +49,5 @@ pub use startup::{
     AuthenticationOk, BackendKeyData, CancelRequest, PROTOCOL_3_0, PROTOCOL_3_2, ParameterStatus,
     SslNegotiationKind, Startup, Terminate,
 };
+pub use typed::{TypedMessage, decode_typed};
 pub use values::{PgBytes, PgList, PgStr};
