@@ -7,7 +7,7 @@ use pg_cancel::ConnectionManager;
 use pg_serve::{MaybeTls, SpawnFailed, Spawner};
 use relation_handlers::RelationTable;
 use std::alloc::{AllocError, Global};
-use std::sync::{Arc, Condvar, Mutex, Wait};
+use std::sync::{Arc, Condvar, CondvarTimeouts, Mutex, Wait};
 use std::thread::{Builder, Promise, Threads};
 use std::time::{Clock, Duration};
 
@@ -23,11 +23,18 @@ const PAUSE: u64 = 100;
 /// is waited out, and a failure that stays is told.
 const TRIES: u64 = 5;
 
-/// How many jobs run, and how many have ended, wrapping.
-#[derive(Clone, Copy)]
+/// How many milliseconds a thread whose job has ended waits for the next one, before it ends. It has
+/// ended before a thread that couldn't be made is tried again.
+const IDLE: u64 = 50;
+
+/// How many jobs run, and how many have ended, wrapping; and the stack of the thread that waits for
+/// a job, if one does, and the job that it is given.
+#[derive(Drop)]
 struct Count {
     running: u64,
     ended: u64,
+    idle: Option<usize>,
+    next: Option<ConnectionJob<MaybeTls, MaybeTls>>,
 }
 
 /// The count of jobs, and who waits until it changes.
@@ -35,6 +42,7 @@ struct Count {
 struct Running {
     jobs: Mutex<Count>,
     changed: Condvar,
+    given: Condvar,
 }
 
 impl Running {
@@ -45,12 +53,46 @@ impl Running {
         jobs.ended
     }
 
-    /// A job has ended.
-    fn leave<R: Wait>(&self, rt: &R) {
+    /// Gives a job to the thread that waits for one, if one does that has so large a stack.
+    fn give<R: Wait>(
+        &self,
+        rt: &R,
+        stack: usize,
+        job: ConnectionJob<MaybeTls, MaybeTls>,
+    ) -> Option<ConnectionJob<MaybeTls, MaybeTls>> {
+        let mut jobs = self.jobs.lock(rt);
+        if jobs.idle != Some(stack) {
+            return Some(job);
+        }
+        jobs.idle = None;
+        jobs.next = Some(job);
+        jobs.running = jobs.running.saturating_add(1);
+        self.given.notify_all();
+        None
+    }
+
+    /// A job has ended. It answers the next one of its thread, which waits a while for it where no
+    /// other thread does.
+    fn leave<R: Wait + Clock>(
+        &self,
+        rt: &R,
+        stack: usize,
+    ) -> Option<ConnectionJob<MaybeTls, MaybeTls>> {
         let mut jobs = self.jobs.lock(rt);
         jobs.running = jobs.running.saturating_sub(1);
         jobs.ended = jobs.ended.wrapping_add(1);
         self.changed.notify_all();
+        if jobs.idle.is_some() || jobs.next.is_some() {
+            return None;
+        }
+        jobs.idle = Some(stack);
+        let (mut jobs, _timed_out) = self
+            .given
+            .wait_timeout_while(rt, jobs, Duration::from_millis(IDLE), |jobs| {
+                jobs.next.is_none()
+            });
+        jobs.idle = None;
+        jobs.next.take()
     }
 
     /// A job didn't come to run.
@@ -100,10 +142,20 @@ impl JobThreads {
         let count = Count {
             running: 0,
             ended: 0,
+            idle: None,
+            next: None,
         };
         let jobs = Mutex::new(count);
         let changed = Condvar::new();
-        let running = Arc::new(alloc, Running { jobs, changed })?;
+        let given = Condvar::new();
+        let running = Arc::new(
+            alloc,
+            Running {
+                jobs,
+                changed,
+                given,
+            },
+        )?;
         Ok(JobThreads {
             alloc,
             stack: STACK,
@@ -132,15 +184,25 @@ impl JobThreads {
     /// fails. The answer tells how many tries failed, and whether the job was dropped.
     ///
     /// A job that has ended leaves nothing behind: its sockets, its buffers and what its service
-    /// came to are dropped on its thread, which then ends. Nobody joins it.
+    /// came to are dropped on its thread. That waits 50 milliseconds for another job with the same
+    /// stack, where no other thread waits so, and then ends. Nobody joins it.
     pub fn start<R: Threads + Wait + Clock + Copy + Send + 'static>(
         &self,
         rt: R,
         job: ConnectionJob<MaybeTls, MaybeTls>,
     ) -> Tries {
+        let Some(job) = self.running.give(&rt, self.stack, job) else {
+            return Tries {
+                is_started: true,
+                failed: 0,
+            };
+        };
         let alloc = self.alloc;
+        let stack = self.stack;
         match Arc::try_clone(&self.running) {
-            Ok(running) => self.start_thread(&rt, move || run_to_end(&rt, alloc, &running, job)),
+            Ok(running) => {
+                self.start_thread(&rt, move || run_jobs(&rt, alloc, &running, stack, job))
+            }
             Err(AllocError) => Tries {
                 is_started: false,
                 failed: 1,
@@ -207,15 +269,22 @@ impl Promise<()> for Apart {
     ghost kept_by = { λ _ _. ⊤ };
 }
 
-/// Runs a job to its end, and tells that it has ended.
-fn run_to_end<R: Wait>(
+/// Runs a job to its end, and tells that it has ended; then the next one that its thread is given.
+fn run_jobs<R: Wait + Clock>(
     rt: &R,
     alloc: Global,
     running: &Running,
+    stack: usize,
     job: ConnectionJob<MaybeTls, MaybeTls>,
 ) {
-    drop(job.run(rt, alloc));
-    running.leave(rt);
+    let mut job = job;
+    for _ in rt.forever() {
+        drop(job.run(rt, alloc));
+        let Some(next) = running.leave(rt, stack) else {
+            return;
+        };
+        job = next;
+    }
 }
 
 /// How a job is started.
