@@ -5,7 +5,7 @@ ghost use Rattle.rota_moments.specs.declared.moment.Moment.{Moment};
 ghost use Rattle.rota_moments.specs.Calendar.{CivilDate, civil_date};
 ghost use Rattle.rota_moments.specs.Moments.{IsMoment};
 ghost use Rattle.rota_moments.specs.Texts.{Clock, HasForm, IsReading};
-ghost use Rattle.rota_moments.specs.Fields.{fields_of, pair_of, date_in, clock_in, IsDayOf, IsMomentOf};
+ghost use Rattle.rota_moments.specs.Fields.{fields, fields_of, pair_of, date_in, clock_in, IsDayOf, IsMomentOf};
 
 use crate::calendar::day_of;
 use crate::moment::Moment;
@@ -80,20 +80,38 @@ fn read_fields(text: &[u8]) -> Option<Fields>
     else {
         return None;
     };
-    let century = read_pair(*c1, *c2)?;
-    let year = read_pair(*y1, *y2)?;
-    let month = read_pair(*m1, *m2)?;
-    let day = read_pair(*d1, *d2)?;
-    let hour = read_pair(*h1, *h2)?;
-    let minute = read_pair(*i1, *i2)?;
-    let second = read_pair(*s1, *s2)?;
+    fields_from(
+        read_pair(*c1, *c2),
+        read_pair(*y1, *y2),
+        read_pair(*m1, *m2),
+        read_pair(*d1, *d2),
+        read_pair(*h1, *h2),
+        read_pair(*i1, *i2),
+        read_pair(*s1, *s2),
+    )
+}
+
+/// The six numbers of all pairs of digits, the first two of which make the year.
+fn fields_from(
+    century: Option<u32>,
+    year: Option<u32>,
+    month: Option<u32>,
+    day: Option<u32>,
+    hour: Option<u32>,
+    minute: Option<u32>,
+    second: Option<u32>,
+) -> Option<Fields>
+    requires century { IfSome century (λ n. n < 100) }
+    requires year { IfSome year (λ n. n < 100) }
+    ensures { result ≡ fields century year month day hour minute second }
+{
     Some(Fields {
-        year: 100 * century + year,
-        month,
-        day,
-        hour,
-        minute,
-        second,
+        year: 100 * century? + year?,
+        month: month?,
+        day: day?,
+        hour: hour?,
+        minute: minute?,
+        second: second?,
     })
 }
 
