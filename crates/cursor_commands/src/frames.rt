@@ -18,24 +18,29 @@ pub fn command_frames(alloc: Global, command: &CursorCommand) -> Result<BytesMut
     ensures { IfOk result (λ frames. DividesInto false frames.items (messages_of command.now) []) }
 {
     let mut frames = BytesMut::new(alloc);
+    put_messages(command, &mut frames)?;
+    Ok(frames)
+}
+
+/// Puts the frames of a command's messages where nothing is yet.
+fn put_messages(command: &CursorCommand, frames: &mut BytesMut) -> Result<(), AllocError>
+    requires sent { AllByRecursion CanBeSent (messages_of command.now) }
+    requires empty { frames.old.items ≡ [] }
+    ensures { OnOk result (DividesInto false frames.new.items (messages_of command.now) []) }
+{
     match command {
         CursorCommand::Declare(name, relation) => {
-            put_parse(relation.as_str(), &mut frames)?;
-            put_bind(name.as_str(), &mut frames)?;
-            put_close(TARGET_TYPE_BYTE_STATEMENT, "", &mut frames)?;
+            put_parse(relation.as_str(), frames)?;
+            put_bind(name.as_str(), frames)?;
+            put_close(TARGET_TYPE_BYTE_STATEMENT, "", frames)?;
         }
         CursorCommand::Fetch(limit, name) => {
-            put_describe(TARGET_TYPE_BYTE_PORTAL, name.as_str(), &mut frames)?;
-            put_execute(name.as_str(), *limit, &mut frames)?;
+            put_describe(TARGET_TYPE_BYTE_PORTAL, name.as_str(), frames)?;
+            put_execute(name.as_str(), *limit, frames)?;
         }
-        CursorCommand::Close(name) => put_close(
-            TARGET_TYPE_BYTE_PORTAL,
-            name.as_str(),
-            &mut frames,
-        )?,
+        CursorCommand::Close(name) => put_close(TARGET_TYPE_BYTE_PORTAL, name.as_str(), frames)?,
     }
-    frames.extend_from_slice(&[b'S', 0, 0, 0, 4])?;
-    Ok(frames)
+    frames.extend_from_slice(&[b'S', 0, 0, 0, 4])
 }
 
 /// Parse of the unnamed statement, without oids.
