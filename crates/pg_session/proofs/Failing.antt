@@ -82,11 +82,11 @@ failed_memory (session.Wire e) scope s new_s out new_out (Err k) x unlimited = x
 failed_memory session.TurnLimit scope s new_s out new_out result x unlimited = absurd (unlimited refl)
 
 -- the turns that were spent
-pub failed_turns : {S : Type 0} (error : SessionError) (scope : Scope) (s new_s : State S) (out new_out : List ℕ)
+pub failed_turns : {S : Type 0} (A : Type 0) (error : SessionError) (scope : Scope) (s new_s : State S) (out new_out : List ℕ)
     (result : Result (Option EndKind) ServeError) (old new : Turns) (asked : ℕ) → FailedSo error scope s new_s out new_out result
-    → HasSpent {A = Option EndKind} old new asked (Err error) → HasFed old new asked result
-failed_turns (session.Wire e) scope s new_s out new_out (Ok end) old new asked x spent =
+    → HasSpent {A = A} old new asked (Err error) → HasFed old new asked result
+failed_turns A (session.Wire e) scope s new_s out new_out (Ok end) old new asked x spent =
     ⊎_elim (λ same. same) (λ more. absurd (x.known more.0)) spent
-failed_turns (session.Wire e) scope s new_s out new_out (Err k) old new asked x spent =
+failed_turns A (session.Wire e) scope s new_s out new_out (Err k) old new asked x spent =
     rw x (⊎_elim (λ same. inl same) (λ more. inr more.1) spent)
-failed_turns session.TurnLimit scope s new_s out new_out result old new asked x spent = rw x spent
+failed_turns A session.TurnLimit scope s new_s out new_out result old new asked x spent = rw x spent

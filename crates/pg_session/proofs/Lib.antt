@@ -1,6 +1,7 @@
 pub mod Answering
 pub mod BadFrames
 pub mod Behind
+pub mod Calling
 pub mod Failing
 pub mod Feeding
 pub mod Flowing

@@ -12,7 +12,7 @@ use Rattle.pg_messages.specs.declared.frontend.PgWireFrontendMessage.{PgWireFron
 use Rattle.pg_messages.specs.declared.frontend.PgWireFrontendMessage.TheVariants as client
 use Rattle.pg_handlers.specs.declared.ends.EndKind.TheVariants as end
 use Rattle.pg_handlers.specs.Answer.{answers_of}
-use Rattle.pg_handlers.specs.Handlers.{Handlers}
+use Rattle.pg_handlers.specs.Handlers.{ExtendedTold, Handlers}
 use Rattle.pg_handlers.specs.Table.{message_row, ready_row, statement_row}
 use Rattle.pg_handlers.specs.State.{State}
 use Rattle.pg_handlers.specs.Effect.{Effect, Outcome, Row, IsEffect, IsRefusedEffect, IsRow, IsCutRow, IsStoppedRow, IsRefusedRow, Over, Stopped, silent, over}
@@ -77,6 +77,11 @@ pub plain_row : {S : Type 0} (h : Handlers S) (answers : List Bool) (s : State S
 plain_row h answers s (client.Query m) p q = absurd (p m refl)
 plain_row h answers s (client.Execute m) p q = absurd (q m refl)
 plain_row h answers s _ p q = refl
+
+pub ended_effect : {S : Type 0} (h : ExtendedTold S) (s : State S) (m : PgWireFrontendMessage) (t : Terminate) (out : List ℕ)
+    → m ≡ client.Terminate t → IsEffect (statement_row h s m) out out (Over end.Terminate)
+ended_effect h s m t out is = subst (λ n. IsEffect (statement_row h s n) out out (Over end.Terminate)) (sym is)
+    (record { replied = sym (append-nil out); came = refl })
 
 pub ended_row : {S : Type 0} (h : Handlers S) (s : State S) (m : PgWireFrontendMessage) (t : Terminate) (out : List ℕ)
     (calls : List DeskCall) → m ≡ client.Terminate t

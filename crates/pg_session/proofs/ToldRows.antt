@@ -14,7 +14,7 @@ use Rattle.pg_handlers.specs.declared.ends.SessionError.TheVariants as session
 use Rattle.pg_handlers.specs.Effect.{Effect, Row, IsEffect, IsRefusedEffect, IsRow, IsRefusedRow, silent}
 use Rattle.pg_handlers.specs.StartupRows.{startup_row}
 use Rattle.pg_handlers.specs.State.{State}
-use Rattle.pg_session.specs.Messages.{outcome_of, with_session_error}
+use Rattle.pg_session.specs.Messages.{going, outcome_of, with_session_error}
 use Rattle.pg_session.proofs.Rows.{silent_row, silent_refused, same_row, same_refused}
 
 pub with_session_error_ok : {S : Type 0} (row : Row S) (e : Effect S) (out new_out : List ℕ) (calls : List DeskCall) (s : State S)
@@ -33,6 +33,11 @@ pub with_session_error_refused : {S : Type 0} (row : Row S) (e : Effect S) (out 
 with_session_error_refused row e out new_out calls s (Ok end) same x = tt
 with_session_error_refused row e out new_out calls s (Err error) same x =
     same_refused row (λ answers. silent e) out new_out calls calls s (session.Wire error) same (silent_refused e calls x)
+
+-- an error of a message that doesn't end the conversation
+pub going_refused : {A : Type 0} (P : SessionError → Type 0) (answer : Result A SessionError) → IfErr answer P → IfErr (going answer) P
+going_refused P (Ok done) x = tt
+going_refused P (Err error) x = x
 
 -- ---- the row of a phase
 

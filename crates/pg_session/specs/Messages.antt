@@ -40,3 +40,8 @@ next_of (Some kind) s = Ends kind
 abbrev pub with_session_error : Result (Option EndKind) PgWireError → Result (Option EndKind) SessionError
 with_session_error (Ok end) = Ok end
 with_session_error (Err error) = Err (session.Wire error)
+
+-- the same answer, of a message that doesn't end the conversation
+abbrev pub going : {A : Type 0} → Result A SessionError → Result (Option EndKind) SessionError
+going (Ok done) = Ok None
+going (Err error) = Err error

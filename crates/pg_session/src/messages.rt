@@ -2,9 +2,11 @@
 
 ghost use Rattle.std.specs.Prelude.{◌≡◌, ◌≢◌, ◌≤◌, Some, IfOk, IfErr, OnOk};
 ghost use Rattle.pg_messages.specs.declared.extendedquery.Bind.{Bind};
+ghost use Rattle.pg_messages.specs.declared.extendedquery.Execute.{Execute};
 ghost use Rattle.pg_messages.specs.declared.extendedquery.Parse.{Parse};
 ghost use Rattle.pg_messages.specs.declared.extendedquery.PgSync.{PgSync};
 ghost use Rattle.pg_messages.specs.declared.frontend.PgWireFrontendMessage.TheVariants as frontend;
+ghost use Rattle.pg_messages.specs.declared.simplequery.Query.{Query};
 ghost use Rattle.pg_messages.specs.declared.startup.Terminate.{Terminate};
 ghost use Rattle.pg_portal.specs.Rows.{IsAnswerable};
 ghost use Rattle.pg_portal.specs.declared.error.PgWireError.{PgWireError};
@@ -19,7 +21,7 @@ ghost use Rattle.pg_handlers.specs.State.{state_of};
 ghost use Rattle.pg_handlers.specs.Table.{message_row, ready_row, statement_row, IsPlain, awaiting_sync_row};
 ghost use Rattle.pg_handlers.specs.declared.ends.EndKind.TheVariants.{InputEnd};
 ghost use Rattle.pg_handlers.specs.declared.ends.Turns.{Turns};
-ghost use Rattle.pg_session.specs.Messages.{IsGivenIn, outcome_of, with_session_error};
+ghost use Rattle.pg_session.specs.Messages.{going, IsGivenIn, outcome_of, with_session_error};
 
 use crate::startup::{let_go, on_startup_phase};
 use pg_handlers::{
@@ -40,6 +42,17 @@ fn with_session_error(
     match answer {
         Ok(end) => Ok(end),
         Err(error) => Err(SessionError::Wire(error)),
+    }
+}
+
+/// The same answer, of a message that doesn't end the conversation.
+#[inline(always)]
+fn going(answer: Result<(), SessionError>) -> Result<Option<EndKind>, SessionError>
+    ensures { result ≡ going answer }
+{
+    match answer {
+        Ok(()) => Ok(None),
+        Err(error) => Err(error),
     }
 }
 
@@ -137,19 +150,58 @@ pub(crate) fn on_ready<
     ensures keeps { KeepsDesk (D.told desk.old) (D.told desk.new) }
 {
     match message {
-        PgWireFrontendMessage::Query(m) => on_query(alloc, handlers, client, desk, turns, m),
-        PgWireFrontendMessage::Execute(m) => on_execute(alloc, handlers, client, desk, turns, m),
+        PgWireFrontendMessage::Query(m) => going(on_query(alloc, handlers, client, desk, turns, m)),
+        PgWireFrontendMessage::Execute(m) => {
+            going(on_execute(alloc, handlers, client, desk, turns, m))
+        }
+        other => match on_ready_silently(alloc, handlers, client, other) {
+            Ok(end) => Ok(end),
+            Err(error) => Err(SessionError::Wire(error)),
+        },
+    }
+}
+
+/// A message of a session that is ready, which calls nothing.
+#[inline(always)]
+fn on_ready_silently<
+    H: PgWireServerHandlers,
+    St: PortalStore<
+        Statement = <H::Extended as ExtendedQueryHandler>::Statement,
+        Rows = <H::Extended as ExtendedQueryHandler>::Rows,
+    >,
+>(
+    alloc: Global,
+    handlers: &H,
+    client: &mut Client<St>,
+    message: PgWireFrontendMessage,
+) -> Result<Option<EndKind>, PgWireError>
+    requires given { IsGiven message }
+    requires no_query { (m : Query) → message ≢ frontend.Query m }
+    requires no_execute { (m : Execute) → message ≢ frontend.Execute m }
+    requires good { IsGoodState (H.told handlers.now).extended.parser
+        (state_of St.maps client.old) }
+    ensures ok { IfOk result (λ end. IsEffect
+        (statement_row (H.told handlers.now).extended (state_of St.maps client.old) message)
+        client.old.outbox client.new.outbox (outcome_of end (state_of St.maps client.new))) }
+    ensures refused { IfErr result (IsRefusedEffect
+        (statement_row (H.told handlers.now).extended (state_of St.maps client.old) message)
+        client.old.outbox client.new.outbox (state_of St.maps client.new)) }
+    ensures answerable { IfErr result IsAnswerable }
+    ensures ends { IfOk result (λ end. end ≢ Some InputEnd) }
+    ensures good { IsGoodState (H.told handlers.now).extended.parser (state_of St.maps client.new) }
+{
+    match message {
         PgWireFrontendMessage::Terminate(_) => Ok(Some(EndKind::Terminate)),
         other => match on_statement(alloc, handlers, client, other) {
             Ok(()) => Ok(None),
-            Err(error) => Err(SessionError::Wire(error)),
+            Err(error) => Err(error),
         },
     }
 }
 
 /// A Query of a session that is ready.
 #[inline(always)]
-fn on_query<
+pub(crate) fn on_query<
     H: PgWireServerHandlers,
     St: PortalStore<
         Statement = <H::Extended as ExtendedQueryHandler>::Statement,
@@ -163,17 +215,17 @@ fn on_query<
     desk: &mut D,
     turns: &mut Turns,
     message: Query,
-) -> Result<Option<EndKind>, SessionError>
+) -> Result<(), SessionError>
     requires given { IsGiven (frontend.Query message) }
     requires ready { client.old.info.state ≡ phase.ReadyForQuery }
     requires good { IsGoodState (H.told handlers.now).extended.parser
         (state_of St.maps client.old) }
-    ensures ok { IfOk result (λ end. IsRow
+    ensures ok { OnOk result (IsRow
         (λ answers. ready_row
         (H.told handlers.now)
         answers (state_of St.maps client.old) (frontend.Query message))
         client.old.outbox client.new.outbox (D.told desk.old).calls (D.told desk.new).calls
-        (outcome_of end (state_of St.maps client.new))) }
+        (Done (state_of St.maps client.new))) }
     ensures refused { IfErr result (IsRefusedRow
         (λ answers. ready_row
         (H.told handlers.now)
@@ -181,7 +233,6 @@ fn on_query<
         client.old.outbox client.new.outbox (D.told desk.old).calls (D.told desk.new).calls
         (state_of St.maps client.new)) }
     ensures answerable { IfErr result IsAnswerableError }
-    ensures ends { IfOk result (λ end. end ≢ Some InputEnd) }
     ensures good { IsGoodState (H.told handlers.now).extended.parser (state_of St.maps client.new) }
     ensures turns { HasSpent turns.old turns.new
         (questions_since (D.told desk.old).calls (D.told desk.new).calls) result }
@@ -190,13 +241,12 @@ fn on_query<
 {
     handlers
         .simple_query_handler()
-        .on_query(alloc, client, desk, turns, message)?;
-    Ok(None)
+        .on_query(alloc, client, desk, turns, message)
 }
 
 /// An Execute of a session that is ready.
 #[inline(always)]
-fn on_execute<
+pub(crate) fn on_execute<
     H: PgWireServerHandlers,
     St: PortalStore<
         Statement = <H::Extended as ExtendedQueryHandler>::Statement,
@@ -210,17 +260,17 @@ fn on_execute<
     desk: &mut D,
     turns: &mut Turns,
     message: Execute,
-) -> Result<Option<EndKind>, SessionError>
+) -> Result<(), SessionError>
     requires given { IsGiven (frontend.Execute message) }
     requires ready { client.old.info.state ≡ phase.ReadyForQuery }
     requires good { IsGoodState (H.told handlers.now).extended.parser
         (state_of St.maps client.old) }
-    ensures ok { IfOk result (λ end. IsRow
+    ensures ok { OnOk result (IsRow
         (λ answers. ready_row
         (H.told handlers.now)
         answers (state_of St.maps client.old) (frontend.Execute message))
         client.old.outbox client.new.outbox (D.told desk.old).calls (D.told desk.new).calls
-        (outcome_of end (state_of St.maps client.new))) }
+        (Done (state_of St.maps client.new))) }
     ensures refused { IfErr result (IsRefusedRow
         (λ answers. ready_row
         (H.told handlers.now)
@@ -228,7 +278,6 @@ fn on_execute<
         client.old.outbox client.new.outbox (D.told desk.old).calls (D.told desk.new).calls
         (state_of St.maps client.new)) }
     ensures answerable { IfErr result IsAnswerableError }
-    ensures ends { IfOk result (λ end. end ≢ Some InputEnd) }
     ensures good { IsGoodState (H.told handlers.now).extended.parser (state_of St.maps client.new) }
     ensures turns { HasSpent turns.old turns.new
         (questions_since (D.told desk.old).calls (D.told desk.new).calls) result }
@@ -237,8 +286,7 @@ fn on_execute<
 {
     handlers
         .extended_query_handler()
-        .on_execute(alloc, client, desk, turns, message)?;
-    Ok(None)
+        .on_execute(alloc, client, desk, turns, message)
 }
 
 /// A message of a session that is ready, which calls nothing and doesn't end the conversation.

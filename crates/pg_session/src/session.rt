@@ -183,6 +183,7 @@ impl<
     }
 }
 
+mod common;
 mod feed;
 mod server;
 
@@ -427,7 +428,7 @@ impl<
         error: SessionError,
         wait_for_sync: bool,
     ) -> Result<Option<EndKind>, ServeError>
-        requires open { self.old.is_open ≡ stays_open (Err error) }
+        requires open { stays_open (Err error) ≡ true → self.old.is_open ≡ true }
         requires answerable { IsAnswerableError error }
         ensures failed { FailedSo error (scope_for wait_for_sync) self.old.state self.new.state
             self.old.unsent self.new.unsent result }
@@ -437,7 +438,10 @@ impl<
         ensures rest { self.new.rest ≡ self.old.rest }
     {
         match error {
-            SessionError::TurnLimit => Err(ServeError::TurnLimit),
+            SessionError::TurnLimit => {
+                self.opened = false;
+                Err(ServeError::TurnLimit)
+            }
             SessionError::Wire(error) => self.tell(alloc, error, wait_for_sync),
         }
     }

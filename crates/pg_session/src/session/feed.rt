@@ -1,8 +1,9 @@
 //! What the session makes of the client's bytes.
 
-ghost use Rattle.std.specs.Prelude.{◌≡◌, ◌≤◌, ◌<◌, ◌++◌, [], ℕ, List, true, Option, Some, None, length, IfOk, IfErr, IfNone, IfSome, OnOk, OnErr, Ok, IsErrOf};
+ghost use Rattle.std.specs.Prelude.{◌≡◌, ◌≤◌, ◌<◌, ◌++◌, ◌∷◌, [], take, ℕ, List, true, Option, Some, None, length, IfOk, IfErr, IfNone, IfSome, OnOk, OnErr, Ok, IsErrOf};
 ghost use Rattle.std.specs.Option.{option_map};
-ghost use Rattle.pg_messages.specs.Frames.{IsFrame};
+ghost use Rattle.pg_messages.specs.Frames.{IsFrame, IsUnfinished, IsBad};
+ghost use Rattle.pg_portal.specs.declared.client.PgWireConnectionState.TheVariants as phase;
 ghost use Rattle.pg_handlers.specs.Desk.{GoesOn};
 ghost use Rattle.pg_handlers.specs.Answer.{Next};
 ghost use Rattle.pg_handlers.specs.Questions.{questions_since};
@@ -17,11 +18,14 @@ ghost use Rattle.pg_session.specs.declared.ends.ServeError.TheVariants as serve;
 
 use crate::ends::{Progress, ServeError};
 use crate::session::Session;
+use crate::session::common::CommonMessage;
 use crate::streams::Sink;
 use pg_handlers::{
     CHUNK, CancelDesk, EndKind, ExtendedQueryHandler, Outbox, PgWireServerHandlers, Turns,
 };
-use pg_messages::{FrameError, PgWireFrontendMessage};
+use pg_messages::{
+    Bind, Describe, Execute, FrameError, Parse, PgSync, PgWireFrontendMessage, Query, decode_typed,
+};
 use pg_portal::{PgWireConnectionState, PortalStore};
 use std::alloc::Global;
 
@@ -148,6 +152,136 @@ impl<
         ensures registration { GoesOn (D.told desk.old) (D.told desk.new) }
         ensures sink { K.origin sink.new ≡ K.origin sink.old }
     {
+        match self.type_byte_when_ready() {
+            Some(b'P') => self.step_common::<Parse, D, K>(alloc, desk, sink, turns),
+            Some(b'B') => self.step_common::<Bind, D, K>(alloc, desk, sink, turns),
+            Some(b'D') => self.step_common::<Describe, D, K>(alloc, desk, sink, turns),
+            Some(b'E') => self.step_common::<Execute, D, K>(alloc, desk, sink, turns),
+            Some(b'S') => self.step_common::<PgSync, D, K>(alloc, desk, sink, turns),
+            Some(b'Q') => self.step_common::<Query, D, K>(alloc, desk, sink, turns),
+            _ => self.step_any(alloc, desk, sink, turns),
+        }
+    }
+
+    /// The type byte that the bytes begin with, where the session is ready.
+    #[inline(always)]
+    fn type_byte_when_ready(&self) -> Option<u8>
+        ensures { IfSome result (λ kind. (self.now.state.info.state ≡ phase.ReadyForQuery)
+            × (take 1 self.now.rest ≡ kind ∷ [])) }
+    {
+        match self.client.info.state {
+            PgWireConnectionState::ReadyForQuery => self.rest.as_slice().first().copied(),
+            _ => None,
+        }
+    }
+
+    /// A step by a message that its type byte tells, and that is read and answered as its own type.
+    #[inline(always)]
+    fn step_common<M: CommonMessage, D: CancelDesk, K: Sink>(
+        &mut self,
+        alloc: Global,
+        desk: &mut D,
+        sink: &mut K,
+        turns: &mut Turns,
+    ) -> Result<Option<Progress>, ServeError>
+        requires open { self.old.is_open ≡ true }
+        requires ready { self.old.state.info.state ≡ phase.ReadyForQuery }
+        requires kind { take 1 self.old.rest ≡ M.TypedMessage.kind ∷ [] }
+        ensures served { IfOk result (λ step. (next : Next (State H.Extended.Statement)) × IsServed
+            (whole_rules
+            (H.told self.old.handlers))
+            self.old.state self.old.rest self.new.rest next (K.written sink.old)
+            (K.written sink.new)
+            self.old.unsent self.new.unsent (D.told desk.old).calls (D.told desk.new).calls
+            × StandsAfterStep awaits next self.new.state self.new.rest step) }
+        ensures cut_off { OnErr result (IsCutOff
+            (whole_rules
+            (H.told self.old.handlers))
+            self.old.state self.old.rest (K.written sink.old) (K.written sink.new) self.old.unsent
+            (D.told desk.old).calls (D.told desk.new).calls) }
+        ensures stopped { IsErrOf result serve.TurnLimit → IsStopped
+            (whole_rules
+            (H.told self.old.handlers))
+            self.old.state self.old.rest (K.written sink.old) (K.written sink.new) self.old.unsent
+            (D.told desk.old).calls (D.told desk.new).calls }
+        ensures open { IfOk result (λ step. is_going step ≡ true → self.new.is_open ≡ true) }
+        ensures handlers { self.new.handlers ≡ self.old.handlers }
+        ensures shorter { IfOk result (λ step. IfNone step (length self.new.rest
+            < length self.old.rest)) }
+        ensures cause { HasSinkCause (K.faults sink.old) (K.faults sink.new) result }
+        ensures turns { HasFed turns.old turns.new
+            (questions_since (D.told desk.old).calls (D.told desk.new).calls) result }
+        ensures bounded { turns.old.spent ≤ turns.old.limit → turns.new.spent ≤ turns.new.limit }
+        ensures registration { GoesOn (D.told desk.old) (D.told desk.new) }
+        ensures sink { K.origin sink.new ≡ K.origin sink.old }
+    {
+        match self.next_common::<M>(alloc) {
+            Ok(Some(message)) => self.answer_common(alloc, desk, sink, turns, message),
+            Ok(None) => Ok(Some(Progress::More)),
+            Err(error) => unread(error),
+        }
+    }
+
+    /// Takes the next message off the bytes, which its type byte begins. After None and after an error
+    /// nothing has changed.
+    #[inline(always)]
+    fn next_common<M: CommonMessage>(&mut self, alloc: Global) -> Result<Option<M>, FrameError>
+        requires ready { self.old.state.info.state ≡ phase.ReadyForQuery }
+        requires kind { take 1 self.old.rest ≡ M.TypedMessage.kind ∷ [] }
+        ensures found { IfOk result (λ answer. IfSome answer (λ message. (frame : List ℕ)
+            × (self.old.rest ≡ frame ++ self.new.rest)
+            × IsFrame (awaits self.old.state) frame (M.TypedMessage.message message))) }
+        ensures none { IfOk result (λ answer. IfNone answer
+            (IsUnfinished (awaits self.old.state) self.old.rest)) }
+        ensures bad { IsErrOf result FrameError.Bad → IsBad (awaits self.old.state) self.old.rest }
+        ensures kept { IfOk result (λ answer. IfNone answer (self.new.rest ≡ self.old.rest)) }
+        ensures err { OnErr result (self.new.rest ≡ self.old.rest) }
+        ensures state { self.new.state ≡ self.old.state }
+        ensures handlers { self.new.handlers ≡ self.old.handlers }
+        ensures unsent { self.new.unsent ≡ self.old.unsent }
+        ensures open { self.new.is_open ≡ self.old.is_open }
+    {
+        decode_typed::<M>(alloc, &mut self.rest)
+    }
+
+    /// A step by a message of any type, in any phase.
+    #[inline(always)]
+    fn step_any<D: CancelDesk, K: Sink>(
+        &mut self,
+        alloc: Global,
+        desk: &mut D,
+        sink: &mut K,
+        turns: &mut Turns,
+    ) -> Result<Option<Progress>, ServeError>
+        requires { self.old.is_open ≡ true }
+        ensures served { IfOk result (λ step. (next : Next (State H.Extended.Statement)) × IsServed
+            (whole_rules
+            (H.told self.old.handlers))
+            self.old.state self.old.rest self.new.rest next (K.written sink.old)
+            (K.written sink.new)
+            self.old.unsent self.new.unsent (D.told desk.old).calls (D.told desk.new).calls
+            × StandsAfterStep awaits next self.new.state self.new.rest step) }
+        ensures cut_off { OnErr result (IsCutOff
+            (whole_rules
+            (H.told self.old.handlers))
+            self.old.state self.old.rest (K.written sink.old) (K.written sink.new) self.old.unsent
+            (D.told desk.old).calls (D.told desk.new).calls) }
+        ensures stopped { IsErrOf result serve.TurnLimit → IsStopped
+            (whole_rules
+            (H.told self.old.handlers))
+            self.old.state self.old.rest (K.written sink.old) (K.written sink.new) self.old.unsent
+            (D.told desk.old).calls (D.told desk.new).calls }
+        ensures open { IfOk result (λ step. is_going step ≡ true → self.new.is_open ≡ true) }
+        ensures handlers { self.new.handlers ≡ self.old.handlers }
+        ensures shorter { IfOk result (λ step. IfNone step (length self.new.rest
+            < length self.old.rest)) }
+        ensures cause { HasSinkCause (K.faults sink.old) (K.faults sink.new) result }
+        ensures turns { HasFed turns.old turns.new
+            (questions_since (D.told desk.old).calls (D.told desk.new).calls) result }
+        ensures bounded { turns.old.spent ≤ turns.old.limit → turns.new.spent ≤ turns.new.limit }
+        ensures registration { GoesOn (D.told desk.old) (D.told desk.new) }
+        ensures sink { K.origin sink.new ≡ K.origin sink.old }
+    {
         match self.next_message(alloc) {
             Ok(message) => self.answer(alloc, desk, sink, turns, message),
             Err(told) => told,
@@ -225,6 +359,58 @@ impl<
         ensures sink { K.origin sink.new ≡ K.origin sink.old }
     {
         match self.respond(alloc, desk, turns, message) {
+            Ok(end) => self.told_if_full(sink, end),
+            Err(error) => Err(error),
+        }
+    }
+
+    /// Answers a message that was taken off the bytes as its own type, and sends what waits where it is a chunk or
+    /// more. None says that the conversation goes on with the next one.
+    #[inline(always)]
+    fn answer_common<M: CommonMessage, D: CancelDesk, K: Sink>(
+        &mut self,
+        alloc: Global,
+        desk: &mut D,
+        sink: &mut K,
+        turns: &mut Turns,
+        message: M,
+    ) -> Result<Option<Progress>, ServeError>
+        requires open { self.old.is_open ≡ true }
+        requires ready { self.old.state.info.state ≡ phase.ReadyForQuery }
+        requires given { IsGivenIn self.old.state (M.TypedMessage.message message) }
+        ensures served { (frame : List ℕ) → IsFrame (awaits self.old.state) frame (M.TypedMessage.message message)
+            → IfOk result (λ step. (next : Next (State H.Extended.Statement)) × IsServed
+            (whole_rules
+            (H.told self.old.handlers))
+            self.old.state (frame ++ self.old.rest) self.new.rest next (K.written sink.old)
+            (K.written sink.new)
+            self.old.unsent self.new.unsent (D.told desk.old).calls (D.told desk.new).calls
+            × StandsAfterStep awaits next self.new.state self.new.rest step) }
+        ensures cut_off { (frame : List ℕ) → IsFrame (awaits self.old.state) frame (M.TypedMessage.message message)
+            → OnErr result (IsCutOff
+            (whole_rules
+            (H.told self.old.handlers))
+            self.old.state (frame ++ self.old.rest) (K.written sink.old) (K.written sink.new)
+            self.old.unsent
+            (D.told desk.old).calls (D.told desk.new).calls) }
+        ensures stopped { (frame : List ℕ) → IsFrame (awaits self.old.state) frame (M.TypedMessage.message message)
+            → IsErrOf result serve.TurnLimit → IsStopped
+            (whole_rules
+            (H.told self.old.handlers))
+            self.old.state (frame ++ self.old.rest) (K.written sink.old) (K.written sink.new)
+            self.old.unsent
+            (D.told desk.old).calls (D.told desk.new).calls }
+        ensures open { IfOk result (λ step. is_going step ≡ true → self.new.is_open ≡ true) }
+        ensures handlers { self.new.handlers ≡ self.old.handlers }
+        ensures rest { self.new.rest ≡ self.old.rest }
+        ensures cause { HasSinkCause (K.faults sink.old) (K.faults sink.new) result }
+        ensures turns { HasFed turns.old turns.new
+            (questions_since (D.told desk.old).calls (D.told desk.new).calls) result }
+        ensures bounded { turns.old.spent ≤ turns.old.limit → turns.new.spent ≤ turns.new.limit }
+        ensures registration { GoesOn (D.told desk.old) (D.told desk.new) }
+        ensures sink { K.origin sink.new ≡ K.origin sink.old }
+    {
+        match M::respond(alloc, self, desk, turns, message) {
             Ok(end) => self.told_if_full(sink, end),
             Err(error) => Err(error),
         }

@@ -1,5 +1,6 @@
-use Rattle.std.proofs.Common.{ap, ◌∙◌}
+use Rattle.std.proofs.Common.{Option, ap, ◌∙◌}
 use Rattle.pg_handlers.specs.Table.{scope_in}
+use Rattle.pg_handlers.specs.declared.ends.EndKind.{EndKind}
 use Rattle.pg_session.specs.Messages.{scope_for}
 use Rattle.pg_session.proofs.Failing.{failed_answer, failed_cut, failed_turns, failed_memory, never_limited}
 use Rattle.pg_session.proofs.session.Session.respond_unready.Goals as goal
@@ -27,7 +28,7 @@ returns-in-Err-clause-err g c =
     c.in-Err.error c.fail.result c.in-Err.ensures.refused
 
 pub returns-in-Err-clause-turns : goal.returns-in-Err-clause-turns
-returns-in-Err-clause-turns g c = λ turns. failed_turns c.in-Err.error (scope_for c.waits_when_unready-wait_for_sync.result)
+returns-in-Err-clause-turns g c = λ turns. failed_turns (Option EndKind) c.in-Err.error (scope_for c.waits_when_unready-wait_for_sync.result)
     c.process_unready.new.session.state c.fail.new.self.state c.process_unready.new.session.unsent c.fail.new.self.unsent c.fail.result
     turns turns _ c.fail.ensures.failed (c.in-Err.ensures.turns turns)
 

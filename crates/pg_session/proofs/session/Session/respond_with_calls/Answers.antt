@@ -1,3 +1,5 @@
+use Rattle.std.proofs.Common.{Option}
+use Rattle.pg_handlers.specs.declared.ends.EndKind.{EndKind}
 use Rattle.std.proofs.Common.{ap, sym, ◌∙◌}
 use Rattle.pg_handlers.specs.Table.{scope_in}
 use Rattle.pg_session.specs.Messages.{scope_for}
@@ -43,6 +45,6 @@ returns-in-Err-clause-only g c = failed_only c.in-Err.error (scope_for c.waits_w
     c.fail.ensures.failed
 
 pub returns-in-Err-clause-turns : goal.returns-in-Err-clause-turns
-returns-in-Err-clause-turns g c = failed_turns c.in-Err.error (scope_for c.waits_when_ready-wait_for_sync.result)
+returns-in-Err-clause-turns g c = failed_turns (Option EndKind) c.in-Err.error (scope_for c.waits_when_ready-wait_for_sync.result)
     c.process_ready.new.session.state c.fail.new.self.state c.process_ready.new.session.unsent c.fail.new.self.unsent c.fail.result
     c.args.turns.now c.process_ready.new.turns _ c.fail.ensures.failed c.in-Err.ensures.turns

@@ -4,7 +4,7 @@ use Rattle.pg_handlers.specs.Table.{awaits}
 use Rattle.pg_session.specs.Session.{whole_rules}
 use Rattle.pg_session.specs.Steps.{IsServed, StandsAfterStep}
 use Rattle.pg_session.proofs.Unread.{unread_served, unread_cut}
-use Rattle.pg_session.proofs.session.Session.step.Goals as goal
+use Rattle.pg_session.proofs.session.Session.step_any.Goals as goal
 
 pub returns-in-Err-clause-served : goal.returns-in-Err-clause-served
 returns-in-Err-clause-served g c =
