@@ -3,17 +3,16 @@ ghost use Rattle.std.specs.Prelude.{◌≡◌, ◌+◌, ◌/◌, ◌%◌, ◌<�
 ghost use Rattle.pg_interval.specs.Printed.{last_digits, two_digits_of, six_digits};
 
 use super::LONGEST;
-use super::back::put_byte;
+use super::back::{put_byte, put_word};
 
 /// Both digits of each number below 100.
 static PAIRS: [u8; 200] =
     *b"00010203040506070809101112131415161718192021222324252627282930313233343536373839404142434445464748495051525354555657585960616263646566676869707172737475767778798081828384858687888990919293949596979899";
 
-/// Writes the number in decimal digits. It needs three bytes more than they are: four are written
-/// where one is left.
+/// Writes the number in decimal digits.
 #[inline(always)]
 pub fn put_digits(number: u64, text: &mut [u8; LONGEST], end: usize) -> usize
-    requires { (length (decimal number) + 3 ≤ end) × (end ≤ 96) }
+    requires { (length (decimal number) ≤ end) × (end ≤ 96) }
     ensures place { result + length (decimal number) ≡ end }
     ensures written { drop result text.new ≡ decimal number ++ drop end text.old }
 {
@@ -26,27 +25,34 @@ pub fn put_digits(number: u64, text: &mut [u8; LONGEST], end: usize) -> usize
     put_up_to_four(left, text, place)
 }
 
-/// Writes a number below 10,000 in decimal digits: all four are written, and the zeros in front not
-/// counted.
+/// Writes a number below 10,000 in decimal digits.
 #[inline(always)]
-#[tactic(auto, using(crate::proofs::PutDigits::behind_zeros))]
+#[tactic(auto, using(crate::proofs::PutDigits::pair_less))]
 fn put_up_to_four(number: u64, text: &mut [u8; LONGEST], end: usize) -> usize
-    requires { (number < 10000) × (4 ≤ end) × (end ≤ 96) }
+    requires { (number < 10000) × (length (decimal number) ≤ end) × (end ≤ 96) }
     ensures place { result + length (decimal number) ≡ end }
     ensures written { drop result text.new ≡ decimal number ++ drop end text.old }
 {
-    let four = put_four(number, text, end);
-    four + zeros_in_front(number)
+    if number < 100 {
+        return put_up_to_two(number, text, end);
+    }
+    let two = put_pair(number % 100, text, end);
+    put_up_to_two(number / 100, text, two)
 }
 
-/// The zeros in front of a number's four digits, of which the last always counts.
+/// Writes a number below 100 in decimal digits.
 #[inline(always)]
-#[tactic(auto, using(crate::proofs::PutDigits::lengths_to_four))]
-fn zeros_in_front(number: u64) -> usize
-    requires { number < 10000 }
-    ensures { result + length (decimal number) ≡ 4 }
+#[tactic(auto, using(crate::proofs::PutDigits::up_to_two))]
+fn put_up_to_two(number: u64, text: &mut [u8; LONGEST], end: usize) -> usize
+    requires { (number < 100) × (length (decimal number) ≤ end) × (end ≤ 96) }
+    ensures place { result + length (decimal number) ≡ end }
+    ensures written { drop result text.new ≡ decimal number ++ drop end text.old }
 {
-    usize::from(number < 10) + usize::from(number < 100) + usize::from(number < 1000)
+    if number < 10 {
+        put_last_digit(number, text, end)
+    } else {
+        put_pair(number, text, end)
+    }
 }
 
 /// Writes the four digits of a number below 10,000.
@@ -70,8 +76,7 @@ fn put_pair(number: u64, text: &mut [u8; LONGEST], end: usize) -> usize
         ≡ (48 + number / 10) ∷ (48 + number % 10) ∷ drop end text.old }
 {
     let from = number as usize * 2;
-    let ones = put_byte(PAIRS[from + 1], text, end);
-    put_byte(PAIRS[from], text, ones)
+    put_word(&PAIRS[from..from + 2], text, end)
 }
 
 /// Writes a number below 100 in two digits.
@@ -93,9 +98,10 @@ pub fn put_six_digits(number: u64, text: &mut [u8; LONGEST], end: usize) -> usiz
     ensures place { result + 6 ≡ end }
     ensures written { drop result text.new ≡ six_digits number ++ drop end text.old }
 {
+    let front = number / 100;
     let four = put_pair(number % 100, text, end);
-    let two = put_pair(number / 100 % 100, text, four);
-    put_pair(number / 10_000, text, two)
+    let two = put_pair(front % 100, text, four);
+    put_pair(front / 100, text, two)
 }
 
 /// Writes the last digit of the number.

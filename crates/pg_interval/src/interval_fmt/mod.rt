@@ -30,6 +30,7 @@ const LONGEST: usize = 96;
 impl Interval {
     /// The text in the style `postgres`, as `1 year 2 mons 3 days 04:05:06.700000`. It takes no
     /// memory.
+    #[inline(never)]
     pub fn postgres_text(&self) -> IntervalText
         ensures printed { result ≡ printed Postgres self.now }
         // the text stands for this interval and for no other, and no other prints as it does
@@ -43,6 +44,7 @@ impl Interval {
 
     /// The text in the style `postgres_verbose`, as `@ 1 year 2 mons 3 days 4 hours 5 mins 6.7
     /// secs`. It takes no memory.
+    #[inline(never)]
     pub fn postgres_verbose_text(&self) -> IntervalText
         ensures printed { result ≡ printed PostgresVerbose self.now }
         // the text stands for this interval and for no other, and no other prints as it does
@@ -55,6 +57,7 @@ impl Interval {
     }
 
     /// The text in the style `iso_8601`, as `P1Y2M3DT4H5M6.700000S`. It takes no memory.
+    #[inline(never)]
     pub fn iso_8601_text(&self) -> IntervalText
         ensures printed { result ≡ printed Iso8601 self.now }
         // the text stands for this interval and for no other, and no other prints as it does
@@ -67,6 +70,7 @@ impl Interval {
     }
 
     /// The text in the style `sql_standard`, as `+1-2 +3 +4:05:06.700000`. It takes no memory.
+    #[inline(never)]
     pub fn sql_text(&self) -> IntervalText
         ensures printed { result ≡ printed SqlStandard self.now }
         // the text stands for this interval and for no other, and no other prints as it does

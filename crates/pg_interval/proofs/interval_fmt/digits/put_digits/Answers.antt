@@ -1,5 +1,4 @@
 use Rattle.std.proofs.Common.{arith, append_assoc}
-use Rattle.std.proofs.lemmas.Fmt.{decimal_nonempty}
 use Rattle.pg_interval.proofs.PutDigits.{decimal_four, length_by_four}
 use Rattle.pg_interval.proofs.interval_fmt.digits.put_digits.Goals as goal
 
@@ -23,4 +22,4 @@ loop-left-preserved c =
     }
 
 pub put_up_to_four-requires : goal.put_up_to_four-requires
-put_up_to_four-requires c = (omega arith, omega (arith, decimal_nonempty c.loop-left.left c.loop-left.auto.left-fits.fits), omega arith)
+put_up_to_four-requires c = (omega arith, omega arith, omega arith)
