@@ -17,6 +17,7 @@ pub mod PrintedLemmas
 pub mod PutDigits
 mod SqlLengths
 pub mod SqlReads
+pub mod SpacedParts
 pub mod Stands
 mod TextsPrinted
 mod TextsRead

@@ -1,7 +1,7 @@
 // Bytes in an array, written from its end to its front: a call writes in front of what stands from
 // `end` on, and tells where its own bytes begin.
-ghost use Rattle.std.specs.Prelude.{◌≡◌, ◌+◌, ◌^◌, ◌<◌, ◌≤◌, ◌++◌, ◌∷◌, [], length, drop, unsigned_abs, if◌then◌else◌};
-ghost use Rattle.pg_interval.specs.Printed.{minus_if, fraction_of, after_hours};
+ghost use Rattle.std.specs.Prelude.{◌≡◌, ◌+◌, ◌^◌, ◌<◌, ◌≤◌, ◌==◌, ◌++◌, ◌∷◌, [], length, drop, unsigned_abs, if◌then◌else◌};
+ghost use Rattle.pg_interval.specs.Printed.{minus_if, fraction_of, six_digits, after_hours};
 ghost use Rattle.pg_interval.specs.Widths.{HasWidths};
 
 use super::LONGEST;
@@ -63,11 +63,21 @@ pub fn put_fraction(microseconds: i64, text: &mut [u8; LONGEST], end: usize) -> 
     ensures place { (result ≤ end) × (end ≤ result + 7) }
     ensures written { drop result text.new ≡ fraction_of microseconds ++ drop end text.old }
 {
-    let microseconds = microseconds.unsigned_abs();
-    if microseconds == 0 {
+    put_point_and_digits(microseconds.unsigned_abs(), text, end)
+}
+
+/// Writes a point and the six digits of this many microseconds, unless there are none.
+#[inline(always)]
+pub fn put_point_and_digits(number: u64, text: &mut [u8; LONGEST], end: usize) -> usize
+    requires { (number < 1000000) × (7 ≤ end) × (end ≤ 96) }
+    ensures place { (result ≤ end) × (end ≤ result + 7) }
+    ensures written { drop result text.new
+        ≡ (if number == 0 then [] else 46 ∷ six_digits number) ++ drop end text.old }
+{
+    if number == 0 {
         return end;
     }
-    let digits = put_six_digits(microseconds, text, end);
+    let digits = put_six_digits(number, text, end);
     put_byte(b'.', text, digits)
 }
 

@@ -39,7 +39,9 @@ impl Interval {
         ensures short { length result ≤ 96 }
         ensures utf8 { IsUtf8 result }
     {
-        self.in_normal_form().postgres_text()
+        let mut bytes = [0; LONGEST];
+        let start = put_postgres(*self, &mut bytes);
+        IntervalText::new(bytes, start)
     }
 
     /// The text in the style `postgres_verbose`, as `@ 1 year 2 mons 3 days 4 hours 5 mins 6.7
@@ -90,7 +92,7 @@ impl Interval {
         ensures distinct { IfOk result (λ text. IsPrintedOnlyFor Postgres (string_bytes text)
             self.now) }
     {
-        self.in_normal_form().into_postgres(alloc)
+        self.postgres_text().to_string(alloc)
     }
 
     /// The text in the style `postgres_verbose`, as `@ 1 year 2 mons 3 days 4 hours 5 mins 6.7
@@ -149,7 +151,7 @@ impl IntervalNorm {
         requires { IsNormal self }
         ensures printed { IfOk result (λ text. string_bytes text ≡ postgres_text self) }
     {
-        let text = self.postgres_text();
+        let text = self.to_interval().postgres_text();
         text.to_string(alloc)
     }
 
@@ -186,17 +188,15 @@ impl IntervalNorm {
         text.to_string(alloc)
     }
 
-    /// The text in the style `postgres`, on the stack.
-    #[inline(always)]
-    fn postgres_text(&self) -> IntervalText
-        requires { IsNormal self.now }
-        ensures printed { result ≡ postgres_text self.now }
-        ensures short { length result ≤ 96 }
-        ensures utf8 { IsUtf8 result }
+    /// The interval whose normal form this is.
+    fn to_interval(self) -> Interval
+        requires { IsNormal self }
+        ensures { normal_form result ≡ self }
     {
-        let mut bytes = [0; LONGEST];
-        let start = put_postgres(self, &mut bytes);
-        IntervalText::new(bytes, start)
+        match self.try_into_interval() {
+            Ok(interval) => interval,
+            Err(_) => unreachable!(),
+        }
     }
 
     /// The text in the style `postgres_verbose`, on the stack.

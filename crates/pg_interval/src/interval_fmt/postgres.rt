@@ -1,55 +1,113 @@
-ghost use Rattle.std.specs.Prelude.{◌≡◌, ◌+◌, ◌++◌, ◌∷◌, [], ◌<◌, ◌≤◌, drop, length, map, decimal};
-ghost use Rattle.pg_interval.specs.Printed.{postgres_text, part_of, own_text, time_texts, digits_of, two_digits_of, joined_before, space_before};
-ghost use Rattle.pg_interval.specs.Widths.{HasWidths};
+ghost use Rattle.std.specs.Prelude.{◌≡◌, ◌+◌, ◌/◌, ◌%◌, ◌++◌, ◌∷◌, ◌≤◌, false, drop, length, flat_map, decimal};
+ghost use Rattle.pg_interval.specs.Cell.{IsInterval};
+ghost use Rattle.pg_interval.specs.NormalForm.{normal_form};
+ghost use Rattle.pg_interval.specs.Printed.{postgres_text, date_parts, verbose_part_text, time_texts, two_digits_of};
 
 use super::LONGEST;
-use super::back::{put_after_hours, put_byte, put_minus_if, put_word};
+use super::back::{put_byte, put_minus_if, put_point_and_digits, put_word};
 use super::digits::{put_digits, put_two_digits};
 use super::parts::put_part;
-use crate::interval_norm::IntervalNorm;
+use crate::pg_interval::Interval;
 
 /// Writes the text in the style `postgres`: the years, months and days that aren't zero, each with
-/// its own minus, and the time, unless it is zero. Zero prints `00:00:00`.
+/// its own minus, and the time, unless it is zero. Zero prints `00:00:00`. Each part is written
+/// behind a space, and the first space isn't counted.
 #[inline(always)]
-#[tactic(auto, unfolding(crate::specs::Printed::postgres_text, crate::specs::Printed::date_parts))]
-pub fn put_postgres(fields: &IntervalNorm, text: &mut [u8; LONGEST]) -> usize
-    requires { HasWidths fields.now }
+pub fn put_postgres(interval: Interval, text: &mut [u8; LONGEST]) -> usize
     ensures place { result ≤ 96 }
-    ensures written { drop result text.new ≡ postgres_text fields.now ++ drop 96 text.old }
+    ensures written { drop result text.new
+        ≡ postgres_text (normal_form interval) ++ drop 96 text.old }
+    ensures within { IsInterval interval }
 {
-    if fields.prints_zero() {
-        return put_word(b"00:00:00", text, LONGEST);
+    let time = put_time(&interval, text, LONGEST);
+    let parts = put_date_parts(&interval, text, time);
+    if parts == LONGEST {
+        put_word(b"00:00:00", text, LONGEST)
+    } else {
+        parts + 1
     }
-    let time = put_time(fields, text, LONGEST);
-    let days = put_own_part(fields.days, b"day", text, time);
-    let months = put_own_part(fields.months, b"mon", text, days);
-    put_own_part(fields.years, b"year", text, months)
 }
 
-/// Writes the time, unless it is zero.
+/// Writes the years, months and days that aren't zero, each behind a space.
 #[inline(always)]
-#[tactic(auto, using(crate::proofs::PrintedLemmas::signed_passed), unfolding(crate::specs::Printed::time_texts))]
-fn put_time(fields: &IntervalNorm, text: &mut [u8; LONGEST], end: usize) -> usize
-    requires widths { HasWidths fields.now }
-    requires room { (27 ≤ end) × (end ≤ 96) }
+fn put_date_parts(interval: &Interval, text: &mut [u8; LONGEST], end: usize) -> usize
+    requires { (60 ≤ end) × (end ≤ 96) }
+    ensures place { result ≤ end }
+    ensures written { drop result text.new
+        ≡ flat_map (verbose_part_text false) (date_parts (normal_form interval.now))
+        ++ drop end text.old }
+{
+    let days = u64::from(interval.days.unsigned_abs());
+    let months = interval.months.unsigned_abs();
+    let negative = interval.months.is_negative();
+    let day = put_part(
+        interval.days.is_negative(),
+        days,
+        b"day",
+        b" days",
+        text,
+        end,
+    );
+    let mon = put_part(
+        negative,
+        u64::from(months % 12),
+        b"mon",
+        b" mons",
+        text,
+        day,
+    );
+    put_part(
+        negative,
+        u64::from(months / 12),
+        b"year",
+        b" years",
+        text,
+        mon,
+    )
+}
+
+/// Writes a space and the time, unless it is zero.
+#[inline(always)]
+fn put_time(interval: &Interval, text: &mut [u8; LONGEST], end: usize) -> usize
+    requires { (26 ≤ end) × (end ≤ 96) }
     ensures place { (result ≤ end) × (end ≤ result + 25) }
     ensures written { drop result text.new
-        ≡ joined_before (time_texts fields.now) (drop end text.old) }
+        ≡ flat_map (λ t. 32 ∷ t) (time_texts (normal_form interval.now)) ++ drop end text.old }
 {
-    if !fields.prints_time() {
+    let microseconds = interval.microseconds.unsigned_abs();
+    if microseconds == 0 {
         return end;
     }
-    let space = put_space(text, end);
-    let after_hours = put_after_hours(fields, text, space);
-    let hours = put_hours(fields.hours.unsigned_abs(), text, after_hours);
-    put_minus_if(fields.is_time_negative(), text, hours)
+    let point = put_point_and_digits(microseconds % 1_000_000, text, end);
+    let clock = put_clock(microseconds / 1_000_000, text, point);
+    let minus = put_minus_if(interval.microseconds.is_negative(), text, clock);
+    put_byte(b' ', text, minus)
+}
+
+/// Writes this many seconds as hours, minutes and seconds.
+#[inline(always)]
+#[tactic(auto, using(crate::proofs::PrintedLemmas::signed_passed))]
+fn put_clock(seconds: u64, text: &mut [u8; LONGEST], end: usize) -> usize
+    requires hours { length (decimal (seconds / 60 / 60)) ≤ 10 }
+    requires room { (16 ≤ end) × (end ≤ 96) }
+    ensures place { (result ≤ end) × (end ≤ result + 16) }
+    ensures written { drop result text.new
+        ≡ two_digits_of (seconds / 60 / 60) ++ 58 ∷ two_digits_of (seconds / 60 % 60)
+        ++ 58 ∷ two_digits_of (seconds % 60) ++ drop end text.old }
+{
+    let minutes = seconds / 60;
+    let before_seconds = put_two_digits(seconds % 60, text, end);
+    let colon = put_byte(b':', text, before_seconds);
+    let before_minutes = put_two_digits(minutes % 60, text, colon);
+    let first_colon = put_byte(b':', text, before_minutes);
+    put_hours(minutes / 60, text, first_colon)
 }
 
 /// Writes the number in decimal digits, two of them at least.
 #[inline(always)]
 #[tactic(auto, unfolding(crate::specs::Printed::two_digits_of))]
 fn put_hours(number: u64, text: &mut [u8; LONGEST], end: usize) -> usize
-    requires { (length (decimal number) ≤ 10) × (13 ≤ end) × (end ≤ 96) }
+    requires { (length (decimal number) ≤ 10) × (10 ≤ end) × (end ≤ 96) }
     ensures place { (result ≤ end) × (end ≤ result + 10) }
     ensures written { drop result text.new ≡ two_digits_of number ++ drop end text.old }
 {
@@ -57,38 +115,5 @@ fn put_hours(number: u64, text: &mut [u8; LONGEST], end: usize) -> usize
         put_two_digits(number, text, end)
     } else {
         put_digits(number, text, end)
-    }
-}
-
-/// Writes a part with its own minus, and a space between it and what stands behind it.
-#[inline(always)]
-#[tactic(auto, using(crate::proofs::PrintedLemmas::signed_passed), unfolding(crate::specs::Printed::part_of, crate::specs::Printed::is_zero))]
-fn put_own_part(number: i32, word: &[u8], text: &mut [u8; LONGEST], end: usize) -> usize
-    requires word { length word.now ≤ 4 }
-    requires room { (length (digits_of number) + 10 ≤ end) × (end ≤ 96) }
-    ensures place { (result ≤ end) × (end ≤ result + length (digits_of number) + 8) }
-    ensures written { drop result text.new
-        ≡ joined_before (map own_text (part_of number word.now)) (drop end text.old) }
-{
-    let digits = number.unsigned_abs();
-    if digits == 0 {
-        return end;
-    }
-    let space = put_space(text, end);
-    put_part(number.is_negative(), u64::from(digits), word, text, space)
-}
-
-/// Writes a space, unless nothing stands behind it.
-#[inline(always)]
-#[tactic(auto, using(crate::proofs::PrintedLemmas::space_put))]
-fn put_space(text: &mut [u8; LONGEST], end: usize) -> usize
-    requires { (1 ≤ end) × (end ≤ 96) }
-    ensures place { (result ≤ end) × (end ≤ result + 1) }
-    ensures written { drop result text.new ≡ space_before (drop end text.old) }
-{
-    if end == LONGEST {
-        end
-    } else {
-        put_byte(b' ', text, end)
     }
 }

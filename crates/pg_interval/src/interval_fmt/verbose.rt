@@ -85,8 +85,8 @@ fn put_time_parts(ago: bool, fields: &IntervalNorm, text: &mut [u8; LONGEST], en
         ≡ flat_map (verbose_part_text ago) (verbose_time_parts fields.now) ++ drop end text.old }
 {
     let seconds = put_seconds(ago, fields, text, end);
-    let minutes = put_verbose_part(ago, fields.minutes, b"min", text, seconds);
-    put_verbose_part(ago, fields.hours, b"hour", text, minutes)
+    let minutes = put_verbose_part(ago, fields.minutes, b"min", b" mins", text, seconds);
+    put_verbose_part(ago, fields.hours, b"hour", b" hours", text, minutes)
 }
 
 /// Writes the years, months and days.
@@ -99,9 +99,16 @@ fn put_date_parts(ago: bool, fields: &IntervalNorm, text: &mut [u8; LONGEST], en
     ensures written { drop result text.new
         ≡ flat_map (verbose_part_text ago) (date_parts fields.now) ++ drop end text.old }
 {
-    let days = put_verbose_part(ago, i64::from(fields.days), b"day", text, end);
-    let months = put_verbose_part(ago, i64::from(fields.months), b"mon", text, days);
-    put_verbose_part(ago, i64::from(fields.years), b"year", text, months)
+    let days = put_verbose_part(ago, i64::from(fields.days), b"day", b" days", text, end);
+    let months = put_verbose_part(ago, i64::from(fields.months), b"mon", b" mons", text, days);
+    put_verbose_part(
+        ago,
+        i64::from(fields.years),
+        b"year",
+        b" years",
+        text,
+        months,
+    )
 }
 
 /// Writes a space and a part, its number negated where the text ends with `ago`.
@@ -111,21 +118,19 @@ fn put_verbose_part(
     ago: bool,
     number: i64,
     word: &[u8],
+    words: &[u8],
     text: &mut [u8; LONGEST],
     end: usize,
 ) -> usize
     requires word { length word.now ≤ 4 }
+    requires words { words.now ≡ 32 ∷ word.now ++ 115 ∷ [] }
     requires room { (length (digits_of number) + 10 ≤ end) × (end ≤ 96) }
     ensures place { (result ≤ end) × (end ≤ result + length (digits_of number) + 8) }
     ensures written { drop result text.new
         ≡ flat_map (verbose_part_text ago) (part_of number word.now) ++ drop end text.old }
 {
-    let digits = number.unsigned_abs();
-    if digits == 0 {
-        return end;
-    }
-    let part = put_part(number.is_negative() != ago, digits, word, text, end);
-    put_byte(b' ', text, part)
+    let negative = number.is_negative() != ago;
+    put_part(negative, number.unsigned_abs(), word, words, text, end)
 }
 
 /// Writes a space and the seconds with their decimals, negated where the text ends with `ago`.
