@@ -1,10 +1,10 @@
 -- What an event tells the caller.
-use Rattle.std.proofs.Common.{◌≡◌, ℕ, ℤ, Bool, true, false, List, [], ◌∷◌, ◌++◌, length, take, Option, Some, inl, inr, ◌↔◌, Result, Ok, Err, IfOk, sym, refl, ap, ◌∙◌, subst}
+use Rattle.std.proofs.Common.{◌≡◌, ℕ, ℤ, Bool, true, false, List, [], ◌∷◌, ◌++◌, length, get_or, take, Option, Some, inl, inr, ◌↔◌, Result, Ok, Err, IfOk, sym, refl, ap, ◌∙◌, subst}
 use Rattle.std.proofs.lemmas.List.{append-nil, append_cancel_left}
 use Rattle.std.proofs.lemmas.List.Elements.{filter-append}
 use Rattle.std.specs.Prelude.{◌==◌}
 use Rattle.std.specs.declared.alloc.AllocError.{AllocError}
-use Rattle.atomic_table.specs.Table.{Me}
+use Rattle.atomic_table.specs.Table.{Me, rest}
 use Rattle.pg_cancel.specs.declared.entries.Entry.{Entry}
 use Rattle.pg_cancel.specs.declared.entries.RegistryCall.{RegistryCall}
 use Rattle.pg_cancel.specs.declared.entries.RegistryCall.TheVariants.{Register, Start, Ask, Cancel, Narrow, Unregister}
@@ -15,7 +15,7 @@ use Rattle.pg_cancel.specs.declared.seat.View.{View}
 use Rattle.pg_cancel.specs.declared.manager.RegisterError.{RegisterError}
 use Rattle.pg_cancel.specs.declared.manager.RegisterError.TheVariants.{PidTaken, NoMemory}
 use Rattle.pg_cancel.specs.LegalHistory.{IsLegal, is_narrow, IsLive, IsLiveAs, HasPid, IsCanceled, IsAnswer, MayCall, entry_of}
-use Rattle.pg_cancel.specs.Index.{IsCaller}
+use Rattle.pg_cancel.specs.Index.{IsCaller, IsRosterOf}
 use Rattle.pg_cancel.specs.Connections.{calls_of, is_register, registers_of, entry, before_last, yes_if, Made, Registers, Begins, IsNamed}
 use Rattle.pg_cancel.specs.RosterTable.{Fits, holding, called, entered, refused, grown, HasOut, HasHappened, IsHolding, IsCalled, IsHandle, IsDoor, IsOpening, IsLeft, IsToldTo, MayMake}
 use Rattle.pg_cancel.proofs.Keys.{key_stays, key_narrowed}
@@ -133,15 +133,21 @@ left m m' h n Unregister a quiet was is x =
     ((ap (λ (z : Sat). z.1) is, ap (λ (u : View). u.turn) view), ap (λ (u : View). u.is_door) view ∙ was.3)
 
 -- who has the turn may make an event
-pub is_holding : (m : Sat) (v : View) (roster : Roster) → HasOut m v roster → IsHolding m roster
-is_holding m v roster x = record {
+pub is_holding : (m : Sat) (v : View) (place : ℕ) → HasOut m v place → IsHolding m
+is_holding m v place x = record {
   log = x.log;
-  left = x.left;
+  roster = x.roster;
   turn = ap (λ (z : Sat). z.0.turn) x.is;
   slot = ap (λ (z : Sat). z.1) x.is;
   right = x.right;
   legal = x.legal;
 }
+
+-- the roster that a seat lends is the one that it has
+pub lent_roster : (m : Sat) (h : List Entry) (roster lent : Roster) → m.1 ≡ (0, roster) ∷ [] → m.1 ≡ (0, lent) ∷ rest m.1 → IsRosterOf h roster
+    → IsRosterOf h lent
+lent_roster m h roster lent slot value right =
+    subst (IsRosterOf h) (ap (λ (l : List (ℕ × Roster)). (get_or l 0 (0, roster)).1) (sym slot ∙ value)) right
 
 -- the history in which a seat has the turn
 pub one_log : (m : Sat) (h k : List Entry) → m.0.turn ≡ Some h → m.0.turn ≡ Some k → h ≡ k
@@ -156,9 +162,9 @@ caller h n pid (Cancel p key) has = has
 caller h n pid Narrow has = has
 caller h n pid Unregister has = has
 
-pub calls_of_handle : (m out : Sat) (roster : Roster) (n : ℕ) (pid : ℤ) (key : List ℕ) (c : RegistryCall) → IsHandle m n
-    → Begins m.0.mine n pid key → HasOut out m.0 roster → IsCalled out n pid c
-calls_of_handle m out roster n pid key c handle begins x log has =
+pub calls_of_handle : (m out : Sat) (place n : ℕ) (pid : ℤ) (key : List ℕ) (c : RegistryCall) → IsHandle m n
+    → Begins m.0.mine n pid key → HasOut out m.0 place → IsCalled out n pid c
+calls_of_handle m out place n pid key c handle begins x log has =
     let same : x.log ≡ log = one_log out x.log log (ap (λ (z : Sat). z.0.turn) x.is) has in
     let own = x.fits.own n handle.1 in
     let live = own.live handle.2 in
@@ -237,10 +243,10 @@ pub made_as : (n : ℕ) (c : RegistryCall) (seen mine seen' mine' : List Entry) 
 made_as n c seen mine seen' mine' a b same made = subst (λ x. Made n c seen mine seen' mine' x) same made
 
 -- what a call of a handle's seat ensures
-pub call_ensures : (m out m' : Sat) (roster : Roster) (n : ℕ) (c : RegistryCall) (r : Result RegistryAnswer AllocError)
-    → is_register c ≡ false → IsHandle m n → HasOut out m.0 roster → IfOk r (HasHappened out n c m')
+pub call_ensures : (m out m' : Sat) (place n : ℕ) (c : RegistryCall) (r : Result RegistryAnswer AllocError)
+    → is_register c ≡ false → IsHandle m n → HasOut out m.0 place → IfOk r (HasHappened out n c m')
     → IfOk r (λ a. IsLeft m' n c × Made n c m.0.seen m.0.mine m'.0.seen m'.0.mine a)
-call_ensures m out m' roster n c (Ok a) quiet handle turn happened =
+call_ensures m out m' place n c (Ok a) quiet handle turn happened =
     let h = turn.log in
     let has : out.0.turn ≡ Some h = ap (λ (z : Sat). z.0.turn) turn.is in
     let x = happened h has in
@@ -248,14 +254,14 @@ call_ensures m out m' roster n c (Ok a) quiet handle turn happened =
     let now : m' ≡ (grown (holding m.0 h) h (entry_of h n c a), []) =
     x.is ∙ ap (λ (z : Sat). (grown z.0 h (entry_of h n c a), [])) turn.is in
     let made = call_made m.0 m'.0 h n c a a_call (ap (λ (z : Sat). z.0) now) in (left m m' h n c a quiet handle now made, made)
-call_ensures m out m' roster n c (Err e) quiet handle turn happened = tt
+call_ensures m out m' place n c (Err e) quiet handle turn happened = tt
 
-pub told_ensures : (m out m' : Sat) (roster : Roster) (n : ℕ) (c : RegistryCall) (r : Result RegistryAnswer AllocError)
-    → HasOut out m.0 roster → IfOk r (HasHappened out n c m') → IfOk r (IsToldTo c)
-told_ensures m out m' roster n c (Ok a) turn happened =
+pub told_ensures : (m out m' : Sat) (place n : ℕ) (c : RegistryCall) (r : Result RegistryAnswer AllocError)
+    → HasOut out m.0 place → IfOk r (HasHappened out n c m') → IfOk r (IsToldTo c)
+told_ensures m out m' place n c (Ok a) turn happened =
     let has : out.0.turn ≡ Some turn.log = ap (λ (z : Sat). z.0.turn) turn.is in
     told_to turn.log n c a (happened turn.log has).told
-told_ensures m out m' roster n c (Err e) turn happened = tt
+told_ensures m out m' place n c (Err e) turn happened = tt
 
 -- right answers are those of the history before the last entry
 pub exactly_made : (n : ℕ) (c : RegistryCall) (seen mine seen' mine' : List Entry) (a b : RegistryAnswer) → Made n c seen mine seen' mine' a

@@ -185,21 +185,22 @@ releases st m r n = (roster : Roster) → m.1 ≡ (0, roster) ∷ [] → n ≡ (
 
 -- ---- seats between two steps
 
--- a seat with this view took the turn, and this is the roster of the history, which is out. What lies in its place does not matter
-pub record HasOut (m : Sat) (v : View) (roster : Roster) : Type 0 where
+-- a seat with this view took the turn, and has the roster of the history. The next entry's place is this one
+pub record HasOut (m : Sat) (v : View) (place : ℕ) : Type 0 where
   pub log : List Entry
-  pub left : Roster
-  pub is : m ≡ (holding v log, (0, left) ∷ [])
+  pub roster : Roster
+  pub is : m ≡ (holding v log, (0, roster) ∷ [])
+  pub next : place ≡ length log
   pub right : IsRosterOf log roster
   pub legal : IsLegal log
   pub fits : Fits log v
 
--- the seat has the turn, and this is the roster of the history, which is out
-pub record IsHolding (m : Sat) (roster : Roster) : Type 0 where
+-- the seat has the turn, and the roster of the history
+pub record IsHolding (m : Sat) : Type 0 where
   pub log : List Entry
-  pub left : Roster
+  pub roster : Roster
   pub turn : m.0.turn ≡ Some log
-  pub slot : m.1 ≡ (0, left) ∷ []
+  pub slot : m.1 ≡ (0, roster) ∷ []
   pub right : IsRosterOf log roster
   pub legal : IsLegal log
 

@@ -272,8 +272,8 @@ impl ConnectionManager {
         ensures told { IfOk result (IsToldTo call) }
         ensures err { OnErr result (seat.new.me ≡ seat.old.me) }
     {
-        let roster = self.take_turn(rt, seat);
-        self.make_event(seat, roster, number, pid, call)
+        self.take_turn(rt, seat);
+        self.make_event(seat, number, pid, call)
     }
 }
 

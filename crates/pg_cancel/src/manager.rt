@@ -1,4 +1,4 @@
-ghost use Rattle.std.specs.Prelude.{◌≡◌, ◌≢◌, ◌↔◌, ℕ, List, [], ◌∷◌, IfOk, Err, Some, true};
+ghost use Rattle.std.specs.Prelude.{◌≡◌, ◌≢◌, ◌↔◌, ℕ, List, [], ◌∷◌, length, IfOk, Err, Some, true};
 ghost use Rattle.pg_cancel.specs.LegalHistory.{HasPid};
 ghost use Rattle.pg_cancel.specs.declared.entries.Entry.{Entry};
 ghost use Rattle.pg_cancel.specs.declared.entries.RegistryCall.{RegistryCall};
@@ -21,7 +21,6 @@ use std::sync::Wait;
 #[derive(Drop)]
 pub struct ConnectionManager {
     pub(crate) table: Board,
-    pub(crate) alloc: Global,
 }
 
 impl Model for ConnectionManager {
@@ -71,7 +70,7 @@ impl ConnectionManager {
         let mut slots = Vec::with_capacity(alloc, 1)?;
         slots.push_reserved(Roster::new(alloc));
         match Table::new(alloc, &[0], slots, &()) {
-            Ok((table, seat)) => Ok((ConnectionManager { table, alloc }, Door { seat })),
+            Ok((table, seat)) => Ok((ConnectionManager { table }, Door { seat })),
             Err(Refused { slots: _ }) => Err(AllocError),
         }
     }
@@ -147,20 +146,21 @@ impl ConnectionManager {
             seat.old.me.0.seen seat.new.me.0.seen (RegistryAnswer.Taken m)) }
         ensures no_memory { result ≡ Err RegisterError.NoMemory → seat.new.me ≡ seat.old.me }
     {
-        let roster = self.take_turn(rt, seat);
-        self.admit(seat, roster, pid, call)
+        let place = self.take_turn(rt, seat);
+        self.admit(seat, place, pid, call)
     }
 
-    /// Makes a Register, and tells its place or who has the pid.
+    /// Makes a Register at the place of the next entry, and tells that place or who has the pid.
     fn admit(
         &self,
         seat: &mut Place,
-        roster: Roster,
+        place: u64,
         pid: i32,
         call: RegistryCall,
     ) -> Result<u64, RegisterError>
         requires issued { seat.old.table_id ≡ self.now }
-        requires turn { IsHolding seat.old.me roster }
+        requires turn { IsHolding seat.old.me }
+        requires place { (log : List Entry) → seat.old.me.0.turn ≡ Some log → place ≡ length log }
         requires door { seat.old.me.0.is_door ≡ true }
         requires call { is_register call ≡ true }
         requires fits { (log : List Entry) → seat.old.me.0.turn ≡ Some log
@@ -175,8 +175,7 @@ impl ConnectionManager {
         ensures no_memory { result ≡ Err RegisterError.NoMemory →
             seat.new.me ≡ (idle seat.old.me.0, []) }
     {
-        let place = roster.count;
-        match self.make_event(seat, roster, place, pid, call) {
+        match self.make_event(seat, place, pid, call) {
             Ok(answer) => match answer {
                 RegistryAnswer::Registered => Ok(place),
                 RegistryAnswer::Taken(holder) => Err(RegisterError::PidTaken(holder)),

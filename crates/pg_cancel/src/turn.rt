@@ -1,19 +1,18 @@
-//! The turn: who has it holds the roster. The store that gives it back makes one event, or none.
-ghost use Rattle.std.specs.Prelude.{◌≡◌, ◌*◌, ◌<◌, ◌≤◌, ◌^◌, [], ◌∷◌, IfOk, OnErr};
-ghost use Rattle.pg_cancel.specs.declared.roster.Roster.{Roster};
+//! The turn: who has it has the roster. The store that gives it back makes one event, or none.
+ghost use Rattle.std.specs.Prelude.{◌≡◌, [], IfOk, OnErr};
 ghost use Rattle.pg_cancel.specs.RosterTable.{HasOut, HasHappened, IsCalled, IsFree, IsHolding, MayMake, idle};
 
 use crate::entries::{RegistryAnswer, RegistryCall};
 use crate::manager::ConnectionManager;
-use crate::roster::Roster;
 use crate::seat::{Look, Place, Publish, Release, Take};
 use std::alloc::AllocError;
 use std::sync::Wait;
 use std::thread;
 
 impl ConnectionManager {
-    /// Waits for the turn, and takes the roster out.
-    pub(crate) fn take_turn<R: Wait>(&self, rt: &R, seat: &mut Place) -> Roster
+    /// Waits for the turn, and returns the place that the next entry will have. The roster of the
+    /// history is the seat's then, in its slot.
+    pub(crate) fn take_turn<R: Wait>(&self, rt: &R, seat: &mut Place) -> u64
         requires issued { seat.old.table_id ≡ self.now }
         requires free { IsFree seat.old.me }
         ensures same { (seat.new.table_id ≡ seat.old.table_id) × (seat.new.id ≡ seat.old.id) }
@@ -25,7 +24,7 @@ impl ConnectionManager {
             if word % 2 == 0 {
                 let found = shared.compare_exchange::<Take>(seat, 0, word, word + 1);
                 if found == word {
-                    return shared.exchange(seat, 0, Roster::new(self.alloc));
+                    return word / 2;
                 }
             }
             thread::yield_now();
@@ -33,42 +32,27 @@ impl ConnectionManager {
         unreachable!()
     }
 
-    /// Puts the roster back, and tells how many entries it counts. The seat still has the turn.
-    fn put_back(&self, seat: &mut Place, roster: Roster) -> u64
-        requires issued { seat.old.table_id ≡ self.now }
-        requires out { (left : Roster) × (seat.old.me.1 ≡ (0, left) ∷ []) }
-        requires few { roster.count ≤ 2 ^ 58 }
-        ensures same { (seat.new.table_id ≡ seat.old.table_id) × (seat.new.id ≡ seat.old.id) }
-        ensures back { seat.new.me ≡ (seat.old.me.0, (0, roster) ∷ []) }
-        ensures count { result ≡ roster.count }
-        ensures fits { result * 2 < 18446744073709551616 }
-    {
-        let count = roster.count;
-        drop(self.table.shared.exchange(seat, 0, roster));
-        count
-    }
-
     /// Makes one event, a call of the registration with this number and pid or a Register, and
-    /// gives the turn back. After want of memory, or of room for an entry more, the turn was given
-    /// back with nothing done.
+    /// gives the turn back. The roster is changed where it stands. After want of memory, or of room
+    /// for an entry more, the turn was given back with nothing done.
     pub(crate) fn make_event(
         &self,
         seat: &mut Place,
-        mut roster: Roster,
         number: u64,
         pid: i32,
         call: RegistryCall,
     ) -> Result<RegistryAnswer, AllocError>
         requires issued { seat.old.table_id ≡ self.now }
-        requires turn { IsHolding seat.old.me roster }
+        requires turn { IsHolding seat.old.me }
         requires called { IsCalled seat.old.me number pid call }
         requires own { MayMake seat.old.me.0 number call }
         ensures same { (seat.new.table_id ≡ seat.old.table_id) × (seat.new.id ≡ seat.old.id) }
         ensures ok { IfOk result (HasHappened seat.old.me number call seat.new.me) }
         ensures err { OnErr result (seat.new.me ≡ (idle seat.old.me.0, [])) }
     {
+        let roster = seat.slot_mut(&self.table.shared, 0);
         let answer = roster.apply(number, pid, call);
-        let count = self.put_back(seat, roster);
+        let count = roster.count;
         match answer {
             Ok(answer) => {
                 self.table.shared.store::<Publish>(seat, 0, count * 2);

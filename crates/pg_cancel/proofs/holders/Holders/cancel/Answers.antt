@@ -1,9 +1,8 @@
-use Rattle.std.proofs.Common.{◌≡◌, Some, None, IsSomeAnd, w32, rules, ap, subst, sym, ◌∙◌}
+use Rattle.std.proofs.Common.{◌≡◌, Some, None, w32, rules, ap, subst, sym, ◌∙◌}
 use mir.Val.{to_z, of_z}
 use Rattle.std.proofs.lemmas.Bool.{false≢true}
 use Rattle.std.specs.Ordering.{int_cmp}
 use Rattle.std.specs.BTreeMap.{get}
-use Rattle.pg_cancel.specs.declared.entries.RegistryCall.TheVariants.{Cancel}
 use Rattle.pg_cancel.specs.declared.holders.Holder.{Holder}
 use Rattle.pg_cancel.specs.declared.holders.Query.{Query}
 use Rattle.pg_cancel.specs.Index.{IsHeldBy, canceled}

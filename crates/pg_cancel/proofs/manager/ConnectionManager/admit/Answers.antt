@@ -10,14 +10,14 @@ make_event-requires c =
     let m = c.args.seat.now.me in record {
       issued = search rules;
       turn = c.requires.turn;
-      called = calls_of_door m c.args.roster.count _ c.args.call c.requires.call;
-      own = may_open m.0 c.args.roster.count c.args.call c.requires.call c.requires.door;
+      called = calls_of_door m c.args.place _ c.args.call c.requires.call;
+      own = may_open m.0 c.args.place c.args.call c.requires.call c.requires.door;
     }
 
 pub unreachable-requires : goal.unreachable-requires
 unreachable-requires c =
     let t = c.requires.turn in
-    only_registered t.log c.args.roster.count c.args.call c.in-Ok.answer c.requires.call (c.in-Ok.ensures.ok t.log t.turn).told
+    only_registered t.log c.args.place c.args.call c.in-Ok.answer c.requires.call (c.in-Ok.ensures.ok t.log t.turn).told
     c.in_default.not-Registered c.in_default.not-Taken
 
 pub returns-in-Registered-clause-ok : goal.returns-in-Registered-clause-ok
@@ -28,7 +28,7 @@ returns-in-Registered-clause-ok c =
     let h = t.log in
     let ok = c.in-Ok.ensures.ok h t.turn in
     let fits = c.requires.fits h t.turn in
-    let place : c.args.roster.count ≡ length h = t.right.count in
+    let place : c.args.place ≡ length h = c.requires.place h t.turn in
     let x = opened v h _ c.args.call _ Registered
     c.requires.call c.requires.door fits t.legal place ok.legal ok.told c.in-Registered.is in
     let is = entered_is v m h _ c.args.call _ c.requires.call c.in-Registered.is ok.is in
@@ -44,7 +44,7 @@ returns-in-Taken-clause-taken c =
     let ok = c.in-Ok.ensures.ok h t.turn in
     let fits = c.requires.fits h t.turn in
     let holder = c.in-Taken.holder in
-    let place : c.args.roster.count ≡ length h = t.right.count in
+    let place : c.args.place ≡ length h = c.requires.place h t.turn in
     let x = opened v h _ c.args.call _
     (Taken holder) c.requires.call c.requires.door fits t.legal place ok.legal ok.told c.in-Taken.is in
     let is = refused_is v m h _ c.args.call _ holder c.requires.call c.in-Taken.is ok.is in
