@@ -8,8 +8,8 @@ ghost use Rattle.relation_tables.specs.Relations.{column, relation_at};
 ghost use Rattle.relation_tables.specs.RelationHandler.{column_format, column_formats, fields_of, is_statement_of};
 ghost use Rattle.relation_handlers.specs.Shared.{shared_of, told_columns};
 
+use crate::named_relations::NamedRelations;
 use crate::shared::{Columns, SharedColumns};
-use crate::table::RelationTable;
 use pg_messages::{PgList, PgStr};
 use pg_portal::{FieldInfo, Format};
 use pg_text::{FieldFormat, PgType};
@@ -20,7 +20,7 @@ use std::alloc::{AllocError, Global};
 /// COMMIT have none.
 pub(crate) fn fields_of(
     alloc: Global,
-    relations: &RelationTable,
+    relations: &NamedRelations,
     means: RelationStatement,
     formats: &Format,
 ) -> Result<PgList<FieldInfo>, AllocError>
@@ -41,7 +41,7 @@ pub(crate) fn fields_of(
 /// The columns of the relation at a place in these formats, which can be sent as a reply.
 pub(crate) fn columns_at(
     alloc: Global,
-    relations: &RelationTable,
+    relations: &NamedRelations,
     place: u32,
     formats: &Format,
 ) -> Result<Columns, AllocError>

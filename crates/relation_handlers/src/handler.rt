@@ -66,7 +66,12 @@ impl<B: ServedRelations> ExtendedQueryHandler for RelationHandlerOver<B> {
     ) -> Result<DescribeStatementResponse, PgWireError> {
         let parameters = given_types(alloc, target.parameter_types.as_slice())?;
         let formats = Format::UnifiedText;
-        let fields = fields_of(alloc, self.relations.table(), target.statement, &formats)?;
+        let fields = fields_of(
+            alloc,
+            self.relations.table().named(),
+            target.statement,
+            &formats,
+        )?;
         Ok(DescribeStatementResponse::new(parameters, fields))
     }
 
@@ -79,7 +84,7 @@ impl<B: ServedRelations> ExtendedQueryHandler for RelationHandlerOver<B> {
         let means = target.statement.statement;
         let fields = fields_of(
             alloc,
-            self.relations.table(),
+            self.relations.table().named(),
             means,
             &target.result_column_format,
         )?;
@@ -96,7 +101,10 @@ impl<B: ServedRelations> ExtendedQueryHandler for RelationHandlerOver<B> {
         let means = portal.statement.statement;
         let formats = &portal.result_column_format;
         let response = response_of(alloc, &self.relations, client, formats, means)?;
-        Ok(PolledQuery::new(polls_of(self.relations.table(), means), Ok(response)))
+        Ok(PolledQuery::new(
+            polls_of(self.relations.table().named(), means),
+            Ok(response),
+        ))
     }
 }
 
@@ -118,7 +126,7 @@ impl<B: ServedRelations> SimpleQueryHandler for RelationHandlerOver<B> {
         client: &ClientInfo,
         query: &str,
     ) -> Result<SimpleQuery<B>, AllocError> {
-        match find_statement(self.relations.table(), query) {
+        match find_statement(self.relations.table().named(), query) {
             Some(means) => statement_query(alloc, &self.relations, client, means),
             None => other_query(alloc, &self.relations, client, trimmed(query)),
         }

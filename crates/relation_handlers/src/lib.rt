@@ -8,8 +8,8 @@ mod copy_line;
 mod data_row;
 mod errors;
 mod handler;
+mod named_relations;
 mod options;
-mod parser;
 mod query;
 mod row_source;
 mod served;
@@ -24,7 +24,7 @@ mod words;
 
 pub use copy::RelationCopy;
 pub use handler::{RelationHandler, RelationHandlerOver};
-pub use parser::RelationParser;
+pub use named_relations::NamedRelations;
 pub use row_source::RelationRows;
 pub use served::ServedRelations;
 pub use style::SessionStyle;

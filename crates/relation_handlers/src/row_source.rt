@@ -86,7 +86,7 @@ impl<'r> RelationRows<'r> {
         ensures formats { result.formats ≡ formats }
         ensures options { result.options ≡ arc_value options }
     {
-        let rows = &relations.at(relation).rows;
+        let rows = &relations.named().at(relation).rows;
         RelationRows {
             relations,
             relation,

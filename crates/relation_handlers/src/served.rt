@@ -14,8 +14,8 @@ ghost use Rattle.relation_handlers.specs.Made.{GivesFormats, IsSettled, line_ite
 
 use crate::columns::columns_at;
 use crate::copy::RelationCopy;
+use crate::named_relations::NamedRelations;
 use crate::options::Settings;
-use crate::parser::RelationParser;
 use crate::row_source::RelationRows;
 use crate::table::RelationTable;
 use pg_messages::PgList;
@@ -82,7 +82,7 @@ pub trait ServedRelations: Drop {
 }
 
 impl<'r> ServedRelations for &'r RelationTable {
-    type Parser = RelationParser<'r>;
+    type Parser = NamedRelations;
 
     type Rows = OnDemand<RelationRows<'r>>;
 
@@ -94,9 +94,9 @@ impl<'r> ServedRelations for &'r RelationTable {
         *self
     }
 
-    fn parser(&self, alloc: Global) -> Result<Arc<RelationParser<'r>>, AllocError> {
-        let relations = *self;
-        Ok(Arc::new(alloc, RelationParser { relations })?)
+    /// The relations under their names, which parse their queries. It takes no memory.
+    fn parser(&self, _alloc: Global) -> Result<Arc<NamedRelations>, AllocError> {
+        (*self).share_named()
     }
 
     fn rows(
@@ -137,7 +137,7 @@ fn rows_response<'r>(
     ensures sendable { IfOk result (λ rows. IsSendableResponse
         (rows_response client.now formats.now (relation_at relations.now place))) }
 {
-    let columns = columns_at(alloc, relations, place, formats)?;
+    let columns = columns_at(alloc, relations.named(), place, formats)?;
     let (fields, each_format) = columns.into_parts();
     let settings = query_settings(alloc, relations, client, formats)?;
     let formats = formats.copy_of(alloc)?;
@@ -158,11 +158,16 @@ fn copy_response<'r>(
         ≡ copy_response client.now (relation_at relations.now place)) }
 {
     let formats = Format::UnifiedText;
-    let (_fields, each_format) = columns_at(alloc, relations, place, &formats)?.into_parts();
+    let (_fields, each_format) = columns_at(
+        alloc,
+        relations.named(),
+        place,
+        &formats,
+    )?.into_parts();
     let settings = relations.settings_of(alloc, client)?;
     let lines = rows_from_first(alloc, relations, place, formats, each_format, settings);
     let lines = RelationCopy::new(alloc, lines);
-    Ok(CopyResponse::new(0, relations.at(place).columns.len(), lines))
+    Ok(CopyResponse::new(0, relations.named().at(place).columns.len(), lines))
 }
 
 /// The settings of a query in these formats. Where all results are binary the client's style counts

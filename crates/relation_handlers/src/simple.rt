@@ -40,7 +40,7 @@ pub(crate) fn statement_query<B: ServedRelations>(
 {
     let response = response_of(alloc, served, client, &Format::UnifiedText, means)?;
     let responses = alone(alloc, response)?;
-    Ok(PolledQuery::new(polls_of(served.table(), means), Ok(responses)))
+    Ok(PolledQuery::new(polls_of(served.table().named(), means), Ok(responses)))
 }
 
 /// A list of one item.
@@ -93,7 +93,7 @@ fn copy_query<B: ServedRelations>(
         AreSendable (copy_of (B.told served.now) client.now name.now
         (place_of (B.told served.now) name.now)).outcome) }
 {
-    let relations = served.table();
+    let relations = served.table().named();
     match relations.find(name) {
         Some(place) => {
             let responses = copy_responses(alloc, served, place, client)?;

@@ -9,15 +9,15 @@ ghost use Rattle.relation_tables.specs.RelationHandler.{is_statement_of, query_o
 ghost use Rattle.relation_handlers.specs.Made.{GivesFormats};
 ghost use Rattle.relation_handlers.specs.Queries.{polls_of};
 
+use crate::named_relations::NamedRelations;
 use crate::query::RelationResponse;
 use crate::served::ServedRelations;
-use crate::table::RelationTable;
 use pg_portal::{ClientInfo, Format, Response, Tag};
 use relation_tables::RelationStatement;
 use std::alloc::{AllocError, Global};
 
 /// The polls that find a statement's query unready. BEGIN and COMMIT owe none.
-pub(crate) fn polls_of(relations: &RelationTable, means: RelationStatement) -> u32
+pub(crate) fn polls_of(relations: &NamedRelations, means: RelationStatement) -> u32
     requires { IsTrue (is_statement_of relations.now means) }
     ensures { result ≡ polls_of relations.now means }
 {

@@ -1,24 +1,25 @@
 //! A table of relations: its rules, and the look-up of a name.
 
 ghost use Rattle.std.specs.Prelude.{◌≡◌, ℕ, List, [], ◌^◌, ◌<◌, ◌++◌, ◌||◌, ◌==◌, not, Option, Some, None, length, IfOk, IfErr, OnOk};
+ghost use Rattle.std.specs.Arc.{arc_value};
 ghost use Rattle.std.specs.FinMap as map;
 ghost use Rattle.std.specs.List.{list_all};
 ghost use Rattle.pg_text.specs.Options.{default_options};
 ghost use Rattle.pg_portal.specs.Clients.{HasShortMetadata};
-ghost use Rattle.relation_tables.specs.Relations.{are_even, place_of, relation_at};
+ghost use Rattle.relation_tables.specs.Relations.{are_even, place_of};
 ghost use Rattle.relation_handlers.specs.Made.{session_options};
-ghost use Rattle.relation_handlers.specs.Shared.{shared_columns};
-ghost use Rattle.relation_handlers.specs.Tables.{is_transaction_word, is_foreign_to_names, is_name, is_column_name, are_columns, refusal_at, refusal, HoldIntervals, IsSound, IsValid, IsCause};
+ghost use Rattle.relation_handlers.specs.Tables.{is_transaction_word, is_foreign_to_names, is_name, is_column_name, are_columns, refusal_at, refusal, HoldIntervals, IsValid, IsCause};
 
+use crate::named_relations::NamedRelations;
 use crate::options::{Settings, SharedOptions};
-use crate::shared::{SharedColumns, shared_columns};
-use crate::within::visit_relations;
+use crate::shared::shared_columns;
 use pg_interval::Interval;
 use pg_messages::{PgList, PgStr};
 use pg_portal::{ClientInfo, Named};
 use relation_tables::Relation;
 use std::alloc::{AllocError, Global};
 use std::marker::Model;
+use std::sync::Arc;
 
 /// Why relations are no table, with the place of the first that breaks a rule.
 #[derive(Clone, Copy, Debug, PartialEq, Eq)]
@@ -48,10 +49,8 @@ impl From<AllocError> for TableError {
 /// Relations that keep the rules, found by their names.
 #[derive(Drop)]
 pub struct RelationTable {
-    relations: PgList<Relation>,
-    places: Named<u32>,
-    // the columns of each relation
-    columns: PgList<SharedColumns>,
+    // the relations under their names, which the parsers of queries share
+    named: Arc<NamedRelations>,
     // the name of the startup parameter `intervalstyle`
     style_name: PgStr,
     // the options of clients, by the style that they name
@@ -59,26 +58,18 @@ pub struct RelationTable {
 }
 
 impl Model for RelationTable {
-    ghost use Rattle.std.specs.Prelude.{List, ℕ, ◌≡◌, codes};
-    ghost use Rattle.std.specs.Prelude as list;
-    ghost use Rattle.std.specs.FinMap as map;
+    ghost use Rattle.std.specs.Prelude.{List, ◌≡◌, codes};
+    ghost use Rattle.std.specs.Arc.{arc_value};
     ghost use Rattle.relation_tables.specs.declared.Relation.{Relation};
 
     ghost Value = { List Relation };
 
     ghost use Rattle.pg_text.specs.declared.format.interval_style.IntervalStyle.TheVariants as interval_style;
-    ghost use Rattle.relation_tables.specs.Relations.{place_of};
-    ghost use Rattle.relation_handlers.specs.Shared.{shared_columns};
-    ghost use Rattle.relation_handlers.specs.Tables.{HoldIntervals, IsValid};
 
-    ghost view = { λ t. t.relations };
+    ghost view = { λ t. arc_value t.named };
 
-    ghost invariant = { λ t. IsValid t.relations
-        × ((name : List ℕ) → map.get t.places name ≡ place_of t.relations name)
-        × (t.columns ≡ list.map shared_columns t.relations)
-        × (t.style_name ≡ codes "intervalstyle")
-        × (t.options.postgres ≡ interval_style.Postgres)
-        × HoldIntervals t.relations };
+    ghost invariant = { λ t. (t.style_name ≡ codes "intervalstyle")
+        × (t.options.postgres ≡ interval_style.Postgres) };
 }
 
 impl RelationTable {
@@ -94,11 +85,9 @@ impl RelationTable {
         let columns = shared_columns(alloc, relations.as_slice())?;
         let style_name = PgStr::copy_of(alloc, "intervalstyle")?;
         let options = SharedOptions::new(alloc)?;
-        visit_relations(relations.as_slice());
+        let named = NamedRelations::shared(alloc, relations, places, columns)?;
         Ok(RelationTable {
-            relations,
-            places,
-            columns,
+            named,
             style_name,
             options,
         })
@@ -108,24 +97,23 @@ impl RelationTable {
     pub fn find(&self, name: &str) -> Option<u32>
         ensures { result ≡ place_of self.now name.now }
     {
-        self.places.get(name).copied()
+        self.named.find(name)
     }
 
-    /// The relation at a place.
-    pub(crate) fn at(&self, place: u32) -> &Relation
-        requires { place < length self.now }
-        ensures relation { result.now ≡ relation_at self.now place }
-        ensures sound { IsSound result.now }
+    /// The relations under their names.
+    #[inline(always)]
+    pub(crate) fn named(&self) -> &NamedRelations
+        ensures { result.now ≡ self.now }
     {
-        &self.relations.as_slice()[place as usize]
+        &self.named
     }
 
-    /// The columns of the relation at a place.
-    pub(crate) fn columns_at(&self, place: u32) -> &SharedColumns
-        requires { place < length self.now }
-        ensures { result.now ≡ shared_columns (relation_at self.now place) }
+    /// The same relations under their names. It takes no memory.
+    #[inline(always)]
+    pub(crate) fn share_named(&self) -> Result<Arc<NamedRelations>, AllocError>
+        ensures { IfOk result (λ named. arc_value named ≡ self.now) }
     {
-        &self.columns.as_slice()[place as usize]
+        Ok(self.named.clone()?)
     }
 
     /// The settings of a client, whose interval style is looked up once. Where that is one of the
@@ -158,7 +146,7 @@ impl RelationTable {
         ensures valid { IsValid self.now }
         ensures within { HoldIntervals self.now }
     {
-        self.relations.as_slice()
+        self.named.relations()
     }
 }
 

@@ -6,9 +6,9 @@ use Rattle.relation_handlers.proofs.simple.copy_query.Goals as goal
 pub copy_responses-requires-clause-place : goal.copy_responses-requires-clause-place
 copy_responses-requires-clause-place g c =
     place_inside (g.B.ServedRelations.told c.args.served.now) c.args.name.now c.in-Some.place
-    (subst (λ relations. place_of relations c.args.name.now ≡ Some c.in-Some.place) c.table-relations.ensures
+    (subst (λ relations. place_of relations c.args.name.now ≡ Some c.in-Some.place) (c.named-relations.ensures ∙ c.table.ensures)
     (sym c.find.ensures ∙ c.in-Some.is))
 
 pub at-requires : goal.at-requires
 at-requires g c =
-    place_inside c.table-relations.result.now c.args.name.now c.in-Some.place (sym c.find.ensures ∙ c.in-Some.is)
+    place_inside c.named-relations.result.now c.args.name.now c.in-Some.place (sym c.find.ensures ∙ c.in-Some.is)

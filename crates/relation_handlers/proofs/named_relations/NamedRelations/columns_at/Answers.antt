@@ -2,7 +2,7 @@ use Rattle.std.proofs.Common.{◌∙◌, ap, length, arith}
 use Rattle.relation_tables.specs.Relations.{relation_at}
 use Rattle.relation_handlers.specs.Shared.{shared_columns}
 use Rattle.relation_handlers.proofs.SharedLemmas.{columns_read}
-use Rattle.relation_handlers.proofs.table.RelationTable.columns_at.Goals as goal
+use Rattle.relation_handlers.proofs.named_relations.NamedRelations.columns_at.Goals as goal
 
 pub returns : goal.returns
 returns c =

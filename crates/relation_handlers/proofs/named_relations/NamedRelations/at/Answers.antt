@@ -1,6 +1,6 @@
 use Rattle.std.proofs.Common.{ap, length, arith}
 use Rattle.relation_handlers.proofs.TableLemmas.{IsSound-read}
-use Rattle.relation_handlers.proofs.table.RelationTable.at.Goals as goal
+use Rattle.relation_handlers.proofs.named_relations.NamedRelations.at.Goals as goal
 
 pub returns-clause-sound : goal.returns-clause-sound
 returns-clause-sound c =
