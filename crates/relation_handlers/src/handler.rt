@@ -9,7 +9,7 @@ use crate::columns::fields_of;
 use crate::query::{RelationResponse, SimpleQuery};
 use crate::served::ServedRelations;
 use crate::simple::{other_query, statement_query};
-use crate::statement_lookup::find_statement;
+use crate::statement_lookup::find_trimmed_statement;
 use crate::statement_response::{polls_of, response_of};
 use crate::table::RelationTable;
 use pg_handlers::{ExtendedQueryHandler, NoopHandler, PgWireServerHandlers, SimpleQueryHandler};
@@ -126,9 +126,10 @@ impl<B: ServedRelations> SimpleQueryHandler for RelationHandlerOver<B> {
         client: &ClientInfo,
         query: &str,
     ) -> Result<SimpleQuery<B>, AllocError> {
-        match find_statement(self.relations.table().named(), query) {
+        let text = trimmed(query);
+        match find_trimmed_statement(self.relations.table().named(), text) {
             Some(means) => statement_query(alloc, &self.relations, client, means),
-            None => other_query(alloc, &self.relations, client, trimmed(query)),
+            None => other_query(alloc, &self.relations, client, text),
         }
     }
 }

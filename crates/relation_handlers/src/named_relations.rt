@@ -14,7 +14,7 @@ ghost use Rattle.relation_handlers.specs.Tables.{HoldIntervals, IsSound, IsValid
 use crate::columns::fields_of;
 use crate::errors::unknown_relation;
 use crate::shared::SharedColumns;
-use crate::statement_lookup::find_statement;
+use crate::statement_lookup::find_trimmed_statement;
 use crate::within::visit_relations;
 use pg_messages::PgList;
 use pg_portal::{ClientInfo, FieldInfo, Format, Named, PgWireError, QueryParser};
@@ -125,9 +125,10 @@ impl QueryParser for NamedRelations {
         sql: &str,
         _types: &[Option<PgType>],
     ) -> Result<Option<RelationStatement>, PgWireError> {
-        match find_statement(self, sql) {
+        let text = trimmed(sql);
+        match find_trimmed_statement(self, text) {
             Some(means) => Ok(Some(means)),
-            None => Err(PgWireError::UserError(unknown_relation(alloc, trimmed(sql))?)),
+            None => Err(PgWireError::UserError(unknown_relation(alloc, text)?)),
         }
     }
 

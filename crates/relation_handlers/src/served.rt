@@ -157,17 +157,13 @@ fn copy_response<'r>(
     ensures { IfOk result (λ lines. response.CopyOut (told_copy (λ items. items) lines)
         ≡ copy_response client.now (relation_at relations.now place)) }
 {
-    let formats = Format::UnifiedText;
-    let (_fields, each_format) = columns_at(
-        alloc,
-        relations.named(),
-        place,
-        &formats,
-    )?.into_parts();
+    let named = relations.named();
+    let each_format = named.columns_at(place).text.share_formats()?;
     let settings = relations.settings_of(alloc, client)?;
+    let formats = Format::UnifiedText;
     let lines = rows_from_first(alloc, relations, place, formats, each_format, settings);
     let lines = RelationCopy::new(alloc, lines);
-    Ok(CopyResponse::new(0, relations.named().at(place).columns.len(), lines))
+    Ok(CopyResponse::new(0, named.at(place).columns.len(), lines))
 }
 
 /// The settings of a query in these formats. Where all results are binary the client's style counts

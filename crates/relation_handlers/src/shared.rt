@@ -56,6 +56,13 @@ impl Columns {
         })
     }
 
+    /// The formats of the columns, shared. It takes no memory.
+    pub(crate) fn share_formats(&self) -> Result<Arc<PgList<FieldFormat>>, AllocError>
+        ensures { IfOk result (λ same. arc_value same ≡ self.now.formats) }
+    {
+        Ok(self.formats.clone()?)
+    }
+
     /// The columns.
     pub(crate) fn fields(&self) -> &[FieldInfo]
         ensures { result.now ≡ self.now.fields }

@@ -47,9 +47,9 @@ pub(crate) fn statement_query<B: ServedRelations>(
 fn alone<T: Drop>(alloc: Global, item: T) -> Result<PgList<T>, AllocError>
     ensures { IfOk result (λ items. items ≡ item ∷ []) }
 {
-    let mut items = PgList::new(alloc);
+    let mut items = Vec::with_capacity(alloc, 1)?;
     items.push(item)?;
-    Ok(items)
+    Ok(PgList::from_vec(items))
 }
 
 /// The query of a trimmed text that is no statement: a COPY of a relation, or the error 42P01 with

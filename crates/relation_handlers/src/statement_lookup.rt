@@ -2,22 +2,16 @@
 
 ghost use Rattle.std.specs.Prelude.{◌≡◌, IsTrue, IfSome};
 ghost use Rattle.relation_tables.specs.RelationHandler.{is_statement_of};
-ghost use Rattle.relation_tables.specs.Relations.{meaning, meaning_of};
+ghost use Rattle.relation_tables.specs.Relations.{meaning_of};
 
 use crate::named_relations::NamedRelations;
-use query_texts::trimmed;
 use relation_tables::RelationStatement;
 
-/// What a query means, whose whitespace and semicolons at both ends count for nothing.
-pub(crate) fn find_statement(relations: &NamedRelations, query: &str) -> Option<RelationStatement>
-    ensures meaning { result ≡ meaning relations.now query.now }
-    ensures given { IfSome result (λ s. IsTrue (is_statement_of relations.now s)) }
-{
-    find_trimmed_statement(relations, trimmed(query))
-}
-
 /// What a trimmed text means: BEGIN and COMMIT in any ASCII case, or a relation by its very name.
-fn find_trimmed_statement(relations: &NamedRelations, text: &str) -> Option<RelationStatement>
+pub(crate) fn find_trimmed_statement(
+    relations: &NamedRelations,
+    text: &str,
+) -> Option<RelationStatement>
     ensures meaning { result ≡ meaning_of relations.now text.now }
     ensures given { IfSome result (λ s. IsTrue (is_statement_of relations.now s)) }
 {

@@ -1,6 +1,6 @@
 //! The words of a COPY.
 
-ghost use Rattle.std.specs.Prelude.{◌≡◌, ◌&&◌, codes};
+ghost use Rattle.std.specs.Prelude.{◌≡◌, ◌&&◌, Some, IfSome, codes};
 ghost use Rattle.std.specs.Option.{option_copied};
 ghost use Rattle.relation_tables.specs.Queries.{words, is_word, copied_name};
 
@@ -9,6 +9,32 @@ use query_texts::first_word;
 /// The name in `COPY name TO STDOUT`, four words of which the others are in any ASCII case. None is
 /// any other text.
 pub(crate) fn copied_name(text: &str) -> Option<&str>
+    ensures { option_copied result ≡ copied_name (words text.now) }
+{
+    match plainly_copied_name(text) {
+        Some(name) => Some(name),
+        None => name_among_words(text),
+    }
+}
+
+/// The name, where the other words are in capitals and a space stands between words, as in most
+/// texts: such a text is read once, and its words aren't counted.
+fn plainly_copied_name(text: &str) -> Option<&str>
+    ensures { IfSome result (λ name. copied_name (words text.now) ≡ Some name.now) }
+{
+    let rest = text.strip_prefix("COPY ")?;
+    let (name, behind) = first_word(rest)?;
+    if behind == " TO STDOUT" {
+        Some(name)
+    } else {
+        None
+    }
+}
+
+/// The name, where the other words are in any ASCII case and any whitespace stands between words.
+#[cold]
+#[inline(never)]
+fn name_among_words(text: &str) -> Option<&str>
     ensures { option_copied result ≡ copied_name (words text.now) }
 {
     let (copy, rest) = first_word(text)?;
