@@ -1,5 +1,5 @@
 -- Reading fields from left to right, as functions on lists: the value and the bytes after it, or None where
--- no value stands there. They tie the private readers to the layouts; no public promise cites them.
+-- no value stands there. They tie the private readers to the layouts; of what is public the law of TypedMessage alone cites them.
 use Rattle.std.specs.Prelude.{◌≡◌, Bool, true, false, ℕ, ℤ, zero, suc, ◌+◌, ◌^◌, List, [], ◌∷◌, length, take, drop, Option, Some, None, option_and_then, Result, Ok, Err, nat_lt, ◌==◌, if◌then◌else◌}
 use Rattle.std.specs.List.{position}
 use Rattle.std.specs.Int.{Width, w16, w32, byte_len, from_be_bytes, cast_signed}
