@@ -17,6 +17,7 @@ returns-clause-told c =
     let formats = c.args.formats.now in
     let r = relation_at c.args.relations.now c.args.place in
     let settings = c.in_ok-settings.settings in
+    let columns_are = rw c.named.ensures at c.in_ok-columns.ensures.columns in
     let rows_are : rows_left c.rows_from_first-rows.result
     ≡ map (row_item (session_style client) (column_formats formats r.columns)) r.rows =
     c.rows_from_first-rows.ensures.rows
@@ -25,7 +26,7 @@ returns-clause-told c =
     told_query rows_left c.new.result client formats r c.new.ensures.tag
     (IfOk-weaker c.new.result (λ m. m.row_schema ≡ c.into_parts-fields.result.0) (λ m. arc_value m.row_schema ≡ columns_in formats r.columns)
     (λ m e. ap arc_value e ∙ c.into_parts-fields.ensures.fields
-    ∙ ap (λ (columns : ToldColumns). columns.fields) c.in_ok-columns.ensures.columns) c.new.ensures.columns)
+    ∙ ap (λ (columns : ToldColumns). columns.fields) columns_are) c.new.ensures.columns)
     (IfOk-weaker c.new.result (λ m. m.data_rows ≡ c.rows_from_first-rows.result)
     (λ m. rows_left m.data_rows ≡ map (row_item (session_style client) (column_formats formats r.columns)) r.rows)
     (λ m e. ap rows_left e ∙ rows_are) c.new.ensures.rows)
@@ -33,8 +34,9 @@ returns-clause-told c =
 pub returns-clause-sendable : goal.returns-clause-sendable
 returns-clause-sendable c =
     let r = relation_at c.args.relations.now c.args.place in
+    let columns_are = rw c.named.ensures at c.in_ok-columns.ensures.columns in
     IfOk-weaker c.new.result (λ response. response.command_tag ≡ codes "SELECT")
     (λ response. IsSendableResponse (rows_response c.args.client.now c.args.formats.now r))
-    (λ response e. sendable_rows c.args.client.now c.args.formats.now r c.in_ok-columns.columns c.in_ok-columns.ensures.columns
+    (λ response e. sendable_rows c.args.client.now c.args.formats.now r c.in_ok-columns.columns columns_are
     c.in_ok-columns.ensures.encodable)
     c.new.ensures.tag
