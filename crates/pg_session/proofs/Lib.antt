@@ -16,6 +16,7 @@ pub mod Silently
 pub mod Spending
 pub mod Starting
 pub mod StartupTurns
+pub mod Stepped
 pub mod Stepping
 pub mod ToldErrors
 pub mod ToldRows

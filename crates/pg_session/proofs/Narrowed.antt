@@ -1,5 +1,5 @@
 -- What becomes of the registration: it is narrowed to what a client is told, and to nothing else.
-use Rattle.std.proofs.Common.{◌≡◌, ℕ, true, false, if◌then◌else◌, List, [], ◌∷◌, ◌++◌, take, Option, Result, Ok, Err, IfOk, IfErr, refl, sym, ap, subst, ◌∙◌, ⊎_elim}
+use Rattle.std.proofs.Common.{◌≡◌, ℕ, true, false, if◌then◌else◌, List, [], ◌∷◌, ◌++◌, take, Option, Result, Ok, Err, IfOk, IfErr, OnOk, refl, sym, ap, subst, ◌∙◌, ⊎_elim}
 use Rattle.std.proofs.lemmas.Bool.{ltb-false}
 use Rattle.std.proofs.lemmas.List.{take_all}
 use Rattle.pg_messages.specs.declared.codec.ProtocolVersion.{ProtocolVersion}
@@ -12,7 +12,7 @@ use Rattle.pg_handlers.specs.declared.ends.SessionError.{SessionError}
 use Rattle.pg_handlers.specs.declared.ends.SessionError.TheVariants as session
 use Rattle.pg_handlers.specs.Answer.{answers_of}
 use Rattle.pg_handlers.specs.Desk.{DeskTold, KeepsDesk, GoesOn, after_calls}
-use Rattle.pg_handlers.specs.Effect.{IsRow, IsCutRow, IsRefusedRow}
+use Rattle.pg_handlers.specs.Effect.{Outcome, IsRow, IsCutRow, IsRefusedRow}
 use Rattle.pg_handlers.specs.Handlers.{Handlers}
 use Rattle.pg_handlers.specs.StartupRows.{told_key, tells_less, narrowing}
 use Rattle.pg_handlers.specs.State.{State}
@@ -59,4 +59,14 @@ module _ {S : Type 0} (h : Handlers S) (s : State S) (m : PgWireFrontendMessage)
   ready_goes_on out new_out next (Ok end) row refused = own_goes_on row.made row.own row.called
   ready_goes_on out new_out next (Err session.TurnLimit) row refused = own_goes_on refused.made refused.own refused.called
   ready_goes_on out new_out next (Err (session.Wire e)) row refused =
+      ⊎_elim (λ none. cut_goes_on none.1) (λ told. own_goes_on told.made told.own told.called) refused
+
+  -- the same of a message that doesn't end the conversation
+  pub called_goes_on : {A : Type 0} (out new_out : List ℕ) (outcome : Outcome S) (next : State S) (result : Result A SessionError)
+      → OnOk result (IsRow (λ answers. ready_row h answers s m) out new_out old.calls new.calls outcome)
+      → IfErr result (IsRefusedRow (λ answers. ready_row h answers s m) out new_out old.calls new.calls next)
+      → GoesOn old new
+  called_goes_on out new_out outcome next (Ok x) row refused = own_goes_on row.made row.own row.called
+  called_goes_on out new_out outcome next (Err session.TurnLimit) row refused = own_goes_on refused.made refused.own refused.called
+  called_goes_on out new_out outcome next (Err (session.Wire e)) row refused =
       ⊎_elim (λ none. cut_goes_on none.1) (λ told. own_goes_on told.made told.own told.called) refused

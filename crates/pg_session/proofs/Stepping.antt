@@ -1,5 +1,5 @@
 -- One step of a session, and what is served step by step.
-use Rattle.std.proofs.Common.{◌≡◌, ◌≢◌, ℕ, Bool, true, false, List, [], ◌∷◌, ◌++◌, Option, Some, None, Result, Ok, Err, IfOk, OnOk, OnErr, refl, sym, ap, subst, ◌∙◌, append-nil, append_assoc}
+use Rattle.std.proofs.Common.{◌≡◌, ◌≢◌, ℕ, Bool, true, false, List, [], ◌∷◌, ◌++◌, Option, Some, None, Result, Ok, Err, OnErr, refl, sym, ap, subst, ◌∙◌, append-nil, append_assoc}
 use Rattle.pg_messages.specs.declared.frontend.PgWireFrontendMessage.{PgWireFrontendMessage}
 use Rattle.pg_messages.specs.Frames.{IsFrame, DividesInto}
 use Rattle.pg_messages.specs.Replies.{replies_bytes}
@@ -25,15 +25,6 @@ use Rattle.pg_session.proofs.Flowing.{Flows-none, Flows-wait, Flows-then, cut_at
 pub on_err_always : {T E P : Type 0} (r : Result T E) → P → OnErr r P
 on_err_always (Ok x) p = tt
 on_err_always (Err e) p = p
-
-pub on_err_then : {T E P Q : Type 0} (r : Result T E) → OnErr r P → (P → Q) → OnErr r Q
-on_err_then (Ok x) p f = tt
-on_err_then (Err e) p f = f p
-
--- what holds of a value, where an Ok has that value
-pub if_ok_as : {T E R : Type 0} (Q : T → Type 0) (r : Result T E) (t : T) → IfOk r (λ u. u ≡ t) → OnOk r R → (R → Q t) → IfOk r Q
-if_ok_as Q (Ok u) t is ok f = subst Q (sym is) (f ok)
-if_ok_as Q (Err e) t is ok f = tt
 
 -- the error that a caller tells is that of the call
 pub err_told : {T E : Type 0} (r : Result T E) (e k : E) → IsErrAnd r (λ x. x ≡ e) → r ≡ Err k → e ≡ k

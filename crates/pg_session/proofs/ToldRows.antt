@@ -1,5 +1,5 @@
 -- Rows of a phase that calls nothing, told with an error of a session.
-use Rattle.std.proofs.Common.{◌≡◌, ℕ, List, Bool, Option, Result, Ok, Err, IfOk, IfErr, refl, subst, sym}
+use Rattle.std.proofs.Common.{◌≡◌, ◌≢◌, ℕ, List, Bool, Option, Some, Result, Ok, Err, IfOk, IfErr, refl, subst, sym, inl}
 use Rattle.pg_messages.specs.declared.frontend.PgWireFrontendMessage.{PgWireFrontendMessage}
 use Rattle.pg_portal.specs.declared.client.PgWireConnectionState.{PgWireConnectionState}
 use Rattle.pg_portal.specs.declared.client.PgWireConnectionState.TheVariants as phase
@@ -9,6 +9,12 @@ use Rattle.pg_handlers.specs.Table.{message_row, row, ready_row, awaiting_sync_r
 use Rattle.pg_portal.specs.declared.error.PgWireError.{PgWireError}
 use Rattle.pg_handlers.specs.declared.desk.DeskCall.{DeskCall}
 use Rattle.pg_handlers.specs.declared.ends.EndKind.{EndKind}
+use Rattle.pg_handlers.specs.declared.ends.EndKind.TheVariants as end
+use Rattle.pg_handlers.specs.declared.ends.Turns.{Turns}
+use Rattle.pg_portal.specs.Rows.{IsAnswerable}
+use Rattle.pg_handlers.specs.Questions.{HasSpent, questions_since}
+use Rattle.pg_handlers.specs.Sending.{IsAnswerableError}
+use Rattle.pg_handlers.proofs.Rows.{no_turn}
 use Rattle.pg_handlers.specs.declared.ends.SessionError.{SessionError}
 use Rattle.pg_handlers.specs.declared.ends.SessionError.TheVariants as session
 use Rattle.pg_handlers.specs.Effect.{Effect, Row, IsEffect, IsRefusedEffect, IsRow, IsRefusedRow, silent}
@@ -33,6 +39,22 @@ pub with_session_error_refused : {S : Type 0} (row : Row S) (e : Effect S) (out 
 with_session_error_refused row e out new_out calls s (Ok end) same x = tt
 with_session_error_refused row e out new_out calls s (Err error) same x =
     same_refused row (λ answers. silent e) out new_out calls calls s (session.Wire error) same (silent_refused e calls x)
+
+pub with_session_error_answerable : (answer : Result (Option EndKind) PgWireError) → IfErr answer IsAnswerable
+    → IfErr (with_session_error answer) IsAnswerableError
+with_session_error_answerable (Ok end) x = tt
+with_session_error_answerable (Err error) x = x
+
+pub with_session_error_ends : (answer : Result (Option EndKind) PgWireError) → IfOk answer (λ kind. kind ≢ Some end.InputEnd)
+    → IfOk (with_session_error answer) (λ kind. kind ≢ Some end.InputEnd)
+with_session_error_ends (Ok kind) x = x
+with_session_error_ends (Err error) x = tt
+
+-- no turn is spent where nothing is asked
+pub with_session_error_turns : (turns : Turns) (calls : List DeskCall) (answer : Result (Option EndKind) PgWireError)
+    → HasSpent turns turns (questions_since calls calls) (with_session_error answer)
+with_session_error_turns turns calls (Ok kind) = no_turn turns calls
+with_session_error_turns turns calls (Err error) = inl (no_turn turns calls)
 
 -- an error of a message that doesn't end the conversation
 pub going_refused : {A : Type 0} (P : SessionError → Type 0) (answer : Result A SessionError) → IfErr answer P → IfErr (going answer) P

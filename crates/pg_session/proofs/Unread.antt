@@ -1,5 +1,5 @@
 -- What a step tells of bytes that begin with no good frame.
-use Rattle.std.proofs.Common.{◌≡◌, ℕ, Bool, List, Option, Some, None, Result, Ok, Err, IfOk, OnErr, ◌++◌, refl, sym, subst, ◌∙◌}
+use Rattle.std.proofs.Common.{◌≡◌, ℕ, Bool, List, Option, Some, None, Result, Ok, Err, IfOk, IfErr, OnErr, ◌++◌, refl, sym, subst, ◌∙◌}
 use Rattle.pg_messages.specs.Frames.{IsUnfinished, IsBad}
 use Rattle.pg_messages.specs.declared.codec.FrameError.{FrameError}
 use Rattle.pg_messages.specs.declared.codec.FrameError.TheVariants as frame
@@ -11,6 +11,7 @@ use Rattle.pg_handlers.specs.Table.{awaits}
 use Rattle.pg_session.specs.declared.ends.Progress.{Progress}
 use Rattle.pg_session.specs.declared.ends.Progress.TheVariants as progress
 use Rattle.pg_session.specs.declared.ends.ServeError.{ServeError}
+use Rattle.pg_session.specs.declared.ends.ServeError.TheVariants as serve
 use Rattle.pg_session.specs.Session.{whole_rules, unread, IsUnread}
 use Rattle.pg_session.specs.Run.{EndsWith}
 use Rattle.pg_session.specs.Steps.{IsServed, IsCutOff, StandsAfterStep}
@@ -23,31 +24,31 @@ pub unread_as : (awaiting : Bool) (text : List ℕ) (error : FrameError) → (er
 unread_as awaiting text frame.Bad bad = (refl, bad refl)
 unread_as awaiting text frame.NoMemory bad = refl
 
-module _ {S : Type 0} (h : Handlers S) (s : State S) (text rest : List ℕ) (w : Option (List ℕ)) (out : List ℕ) (calls : List DeskCall)
-    (kept : rest ≡ text) where
+-- memory alone is wanting
+pub unread_only : (awaiting : Bool) (text : List ℕ) (told : Result (Option Progress) ServeError) → IsUnread awaiting text told
+    → IfErr told (λ e. e ≡ serve.NoMemory)
+unread_only awaiting text (Ok step) x = tt
+unread_only awaiting text (Err error) x = x
+
+module _ {S : Type 0} (h : Handlers S) (s : State S) (text : List ℕ) (out : List ℕ) (calls : List DeskCall) where
   -- more bytes are awaited, or the conversation ends
   pub unread_served : (told : Result (Option Progress) ServeError) → IsUnread (awaits s) text told
-      → IfOk told (λ step. (next : Next (State S)) × IsServed (whole_rules h) s text rest next w w out out calls calls
-      × StandsAfterStep awaits next s rest step)
+      → IfOk told (λ step. (next : Next (State S)) × ((w : Option (List ℕ)) → IsServed (whole_rules h) s text text next w w out out calls calls)
+      × StandsAfterStep awaits next s text step)
   unread_served (Ok None) x = absurd x
-  unread_served (Ok (Some progress.More)) x = (
-    Goes s,
-    serves_none (whole_rules h) s text rest w out calls kept,
-    (refl, subst (IsUnfinished (awaits s)) (sym kept) x),
-  )
+  unread_served (Ok (Some progress.More)) x = (Goes s, λ w. serves_none (whole_rules h) s text text w out calls refl, (refl, x))
   unread_served (Ok (Some (progress.Ended kind))) x = (
     Goes s,
-    serves_none (whole_rules h) s text rest w out calls kept,
+    λ w. serves_none (whole_rules h) s text text w out calls refl,
     (
       λ e. bad_is_no_end_of_input (sym x.0 ∙ e),
-      λ more. subst (λ k. EndsWith awaits (Goes s) (rest ++ more) k) (sym x.0)
-          (bad_more (awaits s) rest more (subst (IsBad (awaits s)) (sym kept) x.1)),
+      λ more. subst (λ k. EndsWith awaits (Goes s) (text ++ more) k) (sym x.0) (bad_more (awaits s) text more x.1),
     ),
   )
   unread_served (Err error) x = tt
 
   -- memory was wanting
   pub unread_cut : (told : Result (Option Progress) ServeError)
-      → OnErr told (IsCutOff (whole_rules h) s text w w out calls calls)
+      → OnErr told ((w : Option (List ℕ)) → IsCutOff (whole_rules h) s text w w out calls calls)
   unread_cut (Ok step) = tt
-  unread_cut (Err error) = cut_none (whole_rules h) s text w out calls
+  unread_cut (Err error) = λ w. cut_none (whole_rules h) s text w out calls

@@ -1,5 +1,6 @@
 -- A session as contracts see it, and what it answers by.
 use Rattle.std.specs.Prelude.{ℕ, Bool, true, false, List, Option, Some, None, Result, Ok, Err, ◌≡◌, ◌+◌, ◌≤◌, ◌⊎◌}
+use Rattle.std.specs.Option.{option_map}
 use Rattle.pg_portal.specs.declared.error.PgWireError.TheVariants as wire
 use Rattle.pg_messages.specs.Frames.{IsUnfinished, IsBad}
 use Rattle.pg_messages.specs.declared.codec.FrameError.{FrameError}
@@ -56,6 +57,11 @@ abbrev pub goes_on : {E : Type 0} → Result (Option EndKind) E → Bool
 goes_on (Ok None) = true
 goes_on (Ok (Some kind)) = false
 goes_on (Err e) = false
+
+-- what a step tells of the answer to a message: its end, if it has one, or its error
+abbrev pub told_end : Result (Option EndKind) ServeError → Result (Option Progress) ServeError
+told_end (Ok end) = Ok (option_map (λ kind. progress.Ended kind) end)
+told_end (Err error) = Err error
 
 -- what a step tells where no message could be read
 abbrev pub unread : FrameError → Result (Option Progress) ServeError

@@ -1,5 +1,5 @@
 -- What messages do to a session: the outbox and the registry's calls grow by their answer, and the state is the next one.
-use Rattle.std.specs.Prelude.{ℕ, Bool, List, [], ◌++◌, ◌≡◌, ◌≢◌, Option, Some, None, Result, Ok, Err, IfOk, OnErr}
+use Rattle.std.specs.Prelude.{ℕ, Bool, true, List, [], ◌++◌, ◌≡◌, ◌≢◌, ◌≤◌, ◌<◌, ◌⊎◌, Option, Some, None, Result, Ok, Err, IfOk, IfErr, IfNone, IsErrOf, OnErr, length}
 use Rattle.pg_messages.specs.declared.frontend.PgWireFrontendMessage.{PgWireFrontendMessage}
 use Rattle.pg_messages.specs.declared.backend.PgWireBackendMessage.{PgWireBackendMessage}
 use Rattle.pg_messages.specs.Frames.{IsUnfinished, DividesInto}
@@ -9,8 +9,13 @@ use Rattle.pg_handlers.specs.declared.ends.EndKind.{EndKind}
 use Rattle.pg_handlers.specs.declared.ends.EndKind.TheVariants as end
 use Rattle.pg_handlers.specs.declared.ends.SessionError.{SessionError}
 use Rattle.pg_handlers.specs.declared.ends.SessionError.TheVariants as session
+use Rattle.pg_handlers.specs.declared.ends.Turns.{Turns}
+use Rattle.pg_handlers.specs.Desk.{DeskTold, GoesOn}
 use Rattle.pg_handlers.specs.Effect.{Scope, failed}
+use Rattle.pg_handlers.specs.Handlers.{Handlers}
+use Rattle.pg_handlers.specs.Questions.{questions_since}
 use Rattle.pg_handlers.specs.State.{State}
+use Rattle.pg_handlers.specs.Table.{whole_table, awaits}
 use Rattle.pg_portal.specs.Errors.{info_of}
 use Rattle.pg_portal.specs.declared.error.PgWireError.{PgWireError}
 use Rattle.pg_portal.specs.declared.error.PgWireError.TheVariants as wire
@@ -23,6 +28,7 @@ use Rattle.pg_handlers.specs.Answer.{Answer, Table, Next, Goes, Stops, answers_o
 use Rattle.pg_handlers.specs.Answer.{BeginsWith, AsksNext}
 use Rattle.pg_session.specs.Streams.{GrowsBy, GrowsByFront}
 use Rattle.pg_session.specs.Run.{Rules, IsFed, EndsWith}
+use Rattle.pg_session.specs.Session.{SessionValue, HasFed, goes_on, is_going, whole_rules}
 
 -- ---- one message
 
@@ -153,11 +159,57 @@ RoundSo rules s text new_s rest written new_written out new_out calls new_calls 
 RoundSo rules s text new_s rest written new_written out new_out calls new_calls (Some told) =
     WasFed rules s text new_s rest written new_written out calls new_calls told
 
--- Behind a step that tells something all that waits was sent, and then it was told, or the sink failed; behind any other nothing was sent.
+-- Behind a step that tells something all that waits was sent, and then it was told, or the sink failed; behind one that tells nothing some
+-- of what waits may be sent, and the sink may fail; behind an error nothing was sent.
 abbrev pub SentBehind : Option (List ℕ) → Option (List ℕ) → List ℕ → List ℕ → Result (Option Progress) ServeError
     → Option (Result Progress ServeError) → Type 0
 SentBehind written new_written out new_out (Ok (Some told)) (Some (Ok t)) = (t ≡ told) × (new_out ≡ []) × GrowsBy written new_written out
 SentBehind written new_written out new_out (Ok (Some told)) (Some (Err e)) = GrowsByFront written new_written out
-SentBehind written new_written out new_out (Ok None) None = (new_written ≡ written) × (new_out ≡ out)
+SentBehind written new_written out new_out (Ok None) None = Flows written new_written out new_out []
+SentBehind written new_written out new_out (Ok None) (Some (Err e)) = GrowsByFront written new_written out
 SentBehind written new_written out new_out (Err error) (Some (Err e)) = (e ≡ error) × (new_written ≡ written)
 SentBehind written new_written out new_out _ _ = ⊥
+
+-- ---- a session
+
+-- What a message did to a session: it was answered as the whole table says, or its answer was cut off, which for want of a turn is a stop
+-- at a question. The session is open where the conversation goes on, and the bytes behind the message are left as they were.
+pub record IsResponse {H S : Type 0} (told : H → Handlers S) (m : PgWireFrontendMessage) (old new : SessionValue H S)
+    (desk new_desk : DeskTold) (before after : Turns) (result : Result (Option EndKind) ServeError) : Type 0 where
+  pub answer : IfOk result (λ end. IsAnswered (whole_table (told old.handlers)) old.state m old.unsent new.unsent desk.calls new_desk.calls
+      (next_of end new.state))
+  pub err : OnErr result (IsCutAnswer (whole_table (told old.handlers)) old.state m desk.calls new_desk.calls)
+  pub stopped : IsErrOf result serve.TurnLimit → IsStoppedAnswer (whole_table (told old.handlers)) old.state m desk.calls new_desk.calls
+  pub only : IfErr result (λ e. (e ≡ serve.NoMemory) ⊎ (e ≡ serve.TurnLimit))
+  pub ends : IfOk result (λ kind. kind ≢ Some end.InputEnd)
+  pub opened : new.is_open ≡ goes_on result
+  pub handlers : new.handlers ≡ old.handlers
+  pub rest : new.rest ≡ old.rest
+  pub turns : HasFed before after (questions_since desk.calls new_desk.calls) result
+  pub bounded : before.spent ≤ before.limit → after.spent ≤ after.limit
+  pub registration : GoesOn desk new_desk
+
+-- What a step made of a text and of the session that holds it, whatever was written before, since a step sends nothing: the text was served
+-- as far as it goes, and the conversation stands so; or its serving was cut off, which for want of a turn is a stop at a question. A step
+-- that tells nothing took bytes off the text, and the session is open where the conversation goes on.
+pub record IsStep {H S : Type 0} (told : H → Handlers S) (text : List ℕ) (old new : SessionValue H S) (desk new_desk : DeskTold)
+    (before after : Turns) (step : Result (Option Progress) ServeError) : Type 0 where
+  pub served : IfOk step (λ p. (next : Next (State S)) × ((written : Option (List ℕ)) → IsServed (whole_rules (told old.handlers))
+      old.state text new.rest next written written old.unsent new.unsent desk.calls new_desk.calls)
+      × StandsAfterStep awaits next new.state new.rest p)
+  pub cut_off : OnErr step ((written : Option (List ℕ)) → IsCutOff (whole_rules (told old.handlers)) old.state text written written old.unsent
+      desk.calls new_desk.calls)
+  pub stopped : IsErrOf step serve.TurnLimit → (written : Option (List ℕ)) → IsStopped (whole_rules (told old.handlers)) old.state text
+      written written old.unsent desk.calls new_desk.calls
+  pub only : IfErr step (λ e. (e ≡ serve.NoMemory) ⊎ (e ≡ serve.TurnLimit))
+  pub opened : IfOk step (λ p. is_going p ≡ true → new.is_open ≡ true)
+  pub handlers : new.handlers ≡ old.handlers
+  pub shorter : IfOk step (λ p. IfNone p (length new.rest < length text))
+  pub turns : HasFed before after (questions_since desk.calls new_desk.calls) step
+  pub bounded : before.spent ≤ before.limit → after.spent ≤ after.limit
+  pub registration : GoesOn desk new_desk
+
+-- What a step did that calls nothing: it is the same whatever the desk has told, and whatever turns were spent.
+pub record IsSilentStep {H S : Type 0} (told : H → Handlers S) (text : List ℕ) (old new : SessionValue H S)
+    (step : Result (Option Progress) ServeError) : Type 0 where
+  pub whatever : (desk : DeskTold) (turns : Turns) → IsStep told text old new desk desk turns turns step

@@ -57,7 +57,7 @@ pub record HasSinkCause {T : Type 0} (old new : ℕ) (result : Result T ServeErr
   pub never_falls : old ≤ new
   pub calm : OnOk result (new ≡ old)
 
--- The cause of what is told behind a step: that of a flush where the step tells something, and of nothing else.
+-- The cause of what is told behind a step: that of a flush where the step tells no error, and of nothing else.
 abbrev pub HasSentCause : ℕ → ℕ → Result (Option Progress) ServeError → Option (Result Progress ServeError) → Type 0
-HasSentCause old new (Ok (Some told)) (Some result) = HasFlushed old new result
+HasSentCause old new (Ok step) (Some result) = HasFlushed old new result
 HasSentCause old new step result = new ≡ old

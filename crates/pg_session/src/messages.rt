@@ -154,10 +154,7 @@ pub(crate) fn on_ready<
         PgWireFrontendMessage::Execute(m) => {
             going(on_execute(alloc, handlers, client, desk, turns, m))
         }
-        other => match on_ready_silently(alloc, handlers, client, other) {
-            Ok(end) => Ok(end),
-            Err(error) => Err(SessionError::Wire(error)),
-        },
+        other => with_session_error(on_ready_silently(alloc, handlers, client, other)),
     }
 }
 

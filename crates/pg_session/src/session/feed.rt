@@ -1,30 +1,26 @@
 //! What the session makes of the client's bytes.
 
 ghost use Rattle.std.specs.Prelude.{◌≡◌, ◌≤◌, ◌<◌, ◌++◌, ◌∷◌, [], take, ℕ, List, true, Option, Some, None, length, IfOk, IfErr, IfNone, IfSome, OnOk, OnErr, Ok, IsErrOf};
-ghost use Rattle.std.specs.Option.{option_map};
 ghost use Rattle.pg_messages.specs.Frames.{IsFrame, IsUnfinished, IsBad};
 ghost use Rattle.pg_portal.specs.declared.client.PgWireConnectionState.TheVariants as phase;
 ghost use Rattle.pg_handlers.specs.Desk.{GoesOn};
-ghost use Rattle.pg_handlers.specs.Answer.{Next};
 ghost use Rattle.pg_handlers.specs.Questions.{questions_since};
-ghost use Rattle.pg_handlers.specs.State.{State};
 ghost use Rattle.pg_handlers.specs.Table.{awaits, is_startup_phase};
-ghost use Rattle.pg_session.specs.Messages.{IsGivenIn};
-ghost use Rattle.pg_session.specs.Session.{told_or_more, unread, IsUnread, whole_rules, HasFed, is_going, is_more, most_held};
-ghost use Rattle.pg_session.specs.Steps.{IsServed, IsCutOff, IsStopped, Flows, RoundSo, SentBehind, StandsAfterStep, WasFed};
+ghost use Rattle.pg_session.specs.Session.{told_end, told_or_more, unread, IsUnread, whole_rules, HasFed, is_more, most_held};
+ghost use Rattle.pg_session.specs.Steps.{Flows, IsSilentStep, IsStep, RoundSo, SentBehind, WasFed};
 ghost use Rattle.pg_session.specs.Streams.{HasSentCause, GrowsBy, GrowsByFront, HasSinkCause, HasFlushed};
 ghost use Rattle.pg_session.specs.declared.ends.Progress.TheVariants.{More};
-ghost use Rattle.pg_session.specs.declared.ends.ServeError.TheVariants as serve;
 
 use crate::ends::{Progress, ServeError};
 use crate::session::Session;
-use crate::session::common::CommonMessage;
+use crate::session::common::{CallingMessage, SilentMessage};
 use crate::streams::Sink;
 use pg_handlers::{
     CHUNK, CancelDesk, EndKind, ExtendedQueryHandler, Outbox, PgWireServerHandlers, Turns,
 };
 use pg_messages::{
-    Bind, Describe, Execute, FrameError, Parse, PgSync, PgWireFrontendMessage, Query, decode_typed,
+    Bind, Describe, Execute, FrameError, Parse, PgSync, PgWireFrontendMessage, Query, TypedMessage,
+    decode_typed,
 };
 use pg_portal::{PgWireConnectionState, PortalStore};
 use std::alloc::Global;
@@ -90,12 +86,15 @@ fn unread(error: FrameError) -> Result<Option<Progress>, ServeError>
     }
 }
 
-/// The progress that an end tells, if there is one.
+/// What a step tells of the answer to a message: its end, if it has one, or its error.
 #[inline(always)]
-fn ended_by(end: Option<EndKind>) -> Option<Progress>
-    ensures { result ≡ option_map (λ kind. Progress.Ended kind) end }
+fn told_end(answer: Result<Option<EndKind>, ServeError>) -> Result<Option<Progress>, ServeError>
+    ensures { result ≡ told_end answer }
 {
-    end.map(Progress::Ended)
+    match answer {
+        Ok(end) => Ok(end.map(Progress::Ended)),
+        Err(error) => Err(error),
+    }
 }
 
 /// Whether the session goes on.
@@ -114,52 +113,77 @@ impl<
     >,
 > Session<H, St> {
     /// Takes the next message off the bytes and answers it. None says that the conversation goes on
-    /// with the next one.
+    /// with the next one. What is answered waits to be sent.
     #[inline(always)]
-    fn step<D: CancelDesk, K: Sink>(
+    fn step<D: CancelDesk>(
         &mut self,
         alloc: Global,
         desk: &mut D,
-        sink: &mut K,
         turns: &mut Turns,
     ) -> Result<Option<Progress>, ServeError>
         requires { self.old.is_open ≡ true }
-        ensures served { IfOk result (λ step. (next : Next (State H.Extended.Statement)) × IsServed
-            (whole_rules
-            (H.told self.old.handlers))
-            self.old.state self.old.rest self.new.rest next (K.written sink.old)
-            (K.written sink.new)
-            self.old.unsent self.new.unsent (D.told desk.old).calls (D.told desk.new).calls
-            × StandsAfterStep awaits next self.new.state self.new.rest step) }
-        ensures cut_off { OnErr result (IsCutOff
-            (whole_rules
-            (H.told self.old.handlers))
-            self.old.state self.old.rest (K.written sink.old) (K.written sink.new) self.old.unsent
-            (D.told desk.old).calls (D.told desk.new).calls) }
-        ensures stopped { IsErrOf result serve.TurnLimit → IsStopped
-            (whole_rules
-            (H.told self.old.handlers))
-            self.old.state self.old.rest (K.written sink.old) (K.written sink.new) self.old.unsent
-            (D.told desk.old).calls (D.told desk.new).calls }
-        ensures open { IfOk result (λ step. is_going step ≡ true → self.new.is_open ≡ true) }
-        ensures handlers { self.new.handlers ≡ self.old.handlers }
-        ensures shorter { IfOk result (λ step. IfNone step (length self.new.rest
-            < length self.old.rest)) }
-        ensures cause { HasSinkCause (K.faults sink.old) (K.faults sink.new) result }
-        ensures turns { HasFed turns.old turns.new
-            (questions_since (D.told desk.old).calls (D.told desk.new).calls) result }
-        ensures bounded { turns.old.spent ≤ turns.old.limit → turns.new.spent ≤ turns.new.limit }
-        ensures registration { GoesOn (D.told desk.old) (D.told desk.new) }
-        ensures sink { K.origin sink.new ≡ K.origin sink.old }
+        ensures { IsStep H.told self.old.rest self.old self.new (D.told desk.old)
+            (D.told desk.new) turns.old turns.new result }
+    {
+        match self.step_silently(alloc) {
+            Some(step) => step,
+            None => self.step_by_query(alloc, desk, turns),
+        }
+    }
+
+    /// A step by a Parse, a Bind, a Describe or a Sync of a session that is ready: it is the same
+    /// whatever the desk has told and whatever turns were spent. None says that none of them is in
+    /// front, and that nothing has changed.
+    #[inline(always)]
+    fn step_silently(&mut self, alloc: Global) -> Option<Result<Option<Progress>, ServeError>>
+        requires { self.old.is_open ≡ true }
+        ensures step { IfSome result (λ step. IsSilentStep
+            H.told
+            self.old.rest self.old self.new step) }
+        ensures kept { IfNone result (self.new ≡ self.old) }
     {
         match self.type_byte_when_ready() {
-            Some(b'P') => self.step_common::<Parse, D, K>(alloc, desk, sink, turns),
-            Some(b'B') => self.step_common::<Bind, D, K>(alloc, desk, sink, turns),
-            Some(b'D') => self.step_common::<Describe, D, K>(alloc, desk, sink, turns),
-            Some(b'E') => self.step_common::<Execute, D, K>(alloc, desk, sink, turns),
-            Some(b'S') => self.step_common::<PgSync, D, K>(alloc, desk, sink, turns),
-            Some(b'Q') => self.step_common::<Query, D, K>(alloc, desk, sink, turns),
-            _ => self.step_any(alloc, desk, sink, turns),
+            Some(b'P') => Some(self.step_silent::<Parse>(alloc)),
+            Some(b'B') => Some(self.step_silent::<Bind>(alloc)),
+            Some(b'D') => Some(self.step_silent::<Describe>(alloc)),
+            Some(b'S') => Some(self.step_silent::<PgSync>(alloc)),
+            _ => None,
+        }
+    }
+
+    /// A step by a Query of a session that is ready, or by what else is in front.
+    #[inline(always)]
+    fn step_by_query<D: CancelDesk>(
+        &mut self,
+        alloc: Global,
+        desk: &mut D,
+        turns: &mut Turns,
+    ) -> Result<Option<Progress>, ServeError>
+        requires { self.old.is_open ≡ true }
+        ensures { IsStep H.told self.old.rest self.old self.new (D.told desk.old)
+            (D.told desk.new) turns.old turns.new result }
+    {
+        match self.type_byte_when_ready() {
+            Some(b'Q') => self.step_calling::<Query, D>(alloc, desk, turns),
+            _ => self.step_by_execute(alloc, desk, turns),
+        }
+    }
+
+    /// A step by an Execute of a session that is ready, or by what else is in front.
+    #[inline(always)]
+    fn step_by_execute<D: CancelDesk>(
+        &mut self,
+        alloc: Global,
+        desk: &mut D,
+        turns: &mut Turns,
+    ) -> Result<Option<Progress>, ServeError>
+        requires { self.old.is_open ≡ true }
+        ensures { IsStep H.told self.old.rest self.old self.new (D.told desk.old)
+            (D.told desk.new) turns.old turns.new result }
+    {
+        match self.type_byte_when_ready() {
+            Some(b'E') => self.step_calling::<Execute, D>(alloc, desk, turns),
+            _ => self.step_any(alloc, desk, turns),
         }
     }
 
@@ -175,62 +199,81 @@ impl<
         }
     }
 
-    /// A step by a message that its type byte tells, and that is read and answered as its own type.
+    /// A step by a message that its type byte tells, that is read and answered as its own type, and
+    /// that calls nothing: it is the same whatever the desk has told and whatever turns were spent.
     #[inline(always)]
-    fn step_common<M: CommonMessage, D: CancelDesk, K: Sink>(
+    fn step_silent<M: SilentMessage>(
+        &mut self,
+        alloc: Global,
+    ) -> Result<Option<Progress>, ServeError>
+        requires open { self.old.is_open ≡ true }
+        requires ready { self.old.state.info.state ≡ phase.ReadyForQuery }
+        requires kind { take 1 self.old.rest ≡ M.TypedMessage.kind ∷ [] }
+        ensures { IsSilentStep H.told self.old.rest self.old self.new result }
+    {
+        match self.next_typed::<M>(alloc) {
+            Ok(Some(message)) => told_end(M::respond(alloc, self, message)),
+            Ok(None) => Ok(Some(Progress::More)),
+            Err(error) => unread(error),
+        }
+    }
+
+    /// A step by a message that its type byte tells, that is read and answered as its own type, and
+    /// that may call the registry.
+    #[inline(always)]
+    fn step_calling<M: CallingMessage, D: CancelDesk>(
         &mut self,
         alloc: Global,
         desk: &mut D,
-        sink: &mut K,
         turns: &mut Turns,
     ) -> Result<Option<Progress>, ServeError>
         requires open { self.old.is_open ≡ true }
         requires ready { self.old.state.info.state ≡ phase.ReadyForQuery }
         requires kind { take 1 self.old.rest ≡ M.TypedMessage.kind ∷ [] }
-        ensures served { IfOk result (λ step. (next : Next (State H.Extended.Statement)) × IsServed
-            (whole_rules
-            (H.told self.old.handlers))
-            self.old.state self.old.rest self.new.rest next (K.written sink.old)
-            (K.written sink.new)
-            self.old.unsent self.new.unsent (D.told desk.old).calls (D.told desk.new).calls
-            × StandsAfterStep awaits next self.new.state self.new.rest step) }
-        ensures cut_off { OnErr result (IsCutOff
-            (whole_rules
-            (H.told self.old.handlers))
-            self.old.state self.old.rest (K.written sink.old) (K.written sink.new) self.old.unsent
-            (D.told desk.old).calls (D.told desk.new).calls) }
-        ensures stopped { IsErrOf result serve.TurnLimit → IsStopped
-            (whole_rules
-            (H.told self.old.handlers))
-            self.old.state self.old.rest (K.written sink.old) (K.written sink.new) self.old.unsent
-            (D.told desk.old).calls (D.told desk.new).calls }
-        ensures open { IfOk result (λ step. is_going step ≡ true → self.new.is_open ≡ true) }
-        ensures handlers { self.new.handlers ≡ self.old.handlers }
-        ensures shorter { IfOk result (λ step. IfNone step (length self.new.rest
-            < length self.old.rest)) }
-        ensures cause { HasSinkCause (K.faults sink.old) (K.faults sink.new) result }
-        ensures turns { HasFed turns.old turns.new
-            (questions_since (D.told desk.old).calls (D.told desk.new).calls) result }
-        ensures bounded { turns.old.spent ≤ turns.old.limit → turns.new.spent ≤ turns.new.limit }
-        ensures registration { GoesOn (D.told desk.old) (D.told desk.new) }
-        ensures sink { K.origin sink.new ≡ K.origin sink.old }
+        ensures { IsStep H.told self.old.rest self.old self.new (D.told desk.old)
+            (D.told desk.new) turns.old turns.new result }
     {
-        match self.next_common::<M>(alloc) {
-            Ok(Some(message)) => self.answer_common(alloc, desk, sink, turns, message),
-            Ok(None) => Ok(Some(Progress::More)),
-            Err(error) => unread(error),
+        match self.next_calling::<M>(alloc) {
+            Ok(message) => told_end(self.respond_calling(alloc, desk, turns, message)),
+            Err(told) => told,
+        }
+    }
+
+    /// Takes the next message off the bytes, which its type byte begins. Err has what a step tells
+    /// where they begin with no good frame.
+    #[inline(always)]
+    fn next_calling<M: CallingMessage>(
+        &mut self,
+        alloc: Global,
+    ) -> Result<M, Result<Option<Progress>, ServeError>>
+        requires ready { self.old.state.info.state ≡ phase.ReadyForQuery }
+        requires kind { take 1 self.old.rest ≡ M.TypedMessage.kind ∷ [] }
+        ensures found { IfOk result (λ message. (frame : List ℕ)
+            × (self.old.rest ≡ frame ++ self.new.rest)
+            × IsFrame (awaits self.old.state) frame (M.TypedMessage.message message)) }
+        ensures unread { IfErr result (λ told. IsUnread (awaits self.old.state) self.old.rest told) }
+        ensures kept { OnErr result (self.new.rest ≡ self.old.rest) }
+        ensures state { self.new.state ≡ self.old.state }
+        ensures handlers { self.new.handlers ≡ self.old.handlers }
+        ensures unsent { self.new.unsent ≡ self.old.unsent }
+        ensures open { self.new.is_open ≡ self.old.is_open }
+    {
+        match self.next_typed::<M>(alloc) {
+            Ok(Some(message)) => Ok(message),
+            Ok(None) => Err(Ok(Some(Progress::More))),
+            Err(error) => Err(unread(error)),
         }
     }
 
     /// Takes the next message off the bytes, which its type byte begins. After None and after an error
     /// nothing has changed.
     #[inline(always)]
-    fn next_common<M: CommonMessage>(&mut self, alloc: Global) -> Result<Option<M>, FrameError>
+    fn next_typed<M: TypedMessage>(&mut self, alloc: Global) -> Result<Option<M>, FrameError>
         requires ready { self.old.state.info.state ≡ phase.ReadyForQuery }
-        requires kind { take 1 self.old.rest ≡ M.TypedMessage.kind ∷ [] }
+        requires kind { take 1 self.old.rest ≡ M.kind ∷ [] }
         ensures found { IfOk result (λ answer. IfSome answer (λ message. (frame : List ℕ)
             × (self.old.rest ≡ frame ++ self.new.rest)
-            × IsFrame (awaits self.old.state) frame (M.TypedMessage.message message))) }
+            × IsFrame (awaits self.old.state) frame (M.message message))) }
         ensures none { IfOk result (λ answer. IfNone answer
             (IsUnfinished (awaits self.old.state) self.old.rest)) }
         ensures bad { IsErrOf result FrameError.Bad → IsBad (awaits self.old.state) self.old.rest }
@@ -246,44 +289,18 @@ impl<
 
     /// A step by a message of any type, in any phase.
     #[inline(always)]
-    fn step_any<D: CancelDesk, K: Sink>(
+    fn step_any<D: CancelDesk>(
         &mut self,
         alloc: Global,
         desk: &mut D,
-        sink: &mut K,
         turns: &mut Turns,
     ) -> Result<Option<Progress>, ServeError>
         requires { self.old.is_open ≡ true }
-        ensures served { IfOk result (λ step. (next : Next (State H.Extended.Statement)) × IsServed
-            (whole_rules
-            (H.told self.old.handlers))
-            self.old.state self.old.rest self.new.rest next (K.written sink.old)
-            (K.written sink.new)
-            self.old.unsent self.new.unsent (D.told desk.old).calls (D.told desk.new).calls
-            × StandsAfterStep awaits next self.new.state self.new.rest step) }
-        ensures cut_off { OnErr result (IsCutOff
-            (whole_rules
-            (H.told self.old.handlers))
-            self.old.state self.old.rest (K.written sink.old) (K.written sink.new) self.old.unsent
-            (D.told desk.old).calls (D.told desk.new).calls) }
-        ensures stopped { IsErrOf result serve.TurnLimit → IsStopped
-            (whole_rules
-            (H.told self.old.handlers))
-            self.old.state self.old.rest (K.written sink.old) (K.written sink.new) self.old.unsent
-            (D.told desk.old).calls (D.told desk.new).calls }
-        ensures open { IfOk result (λ step. is_going step ≡ true → self.new.is_open ≡ true) }
-        ensures handlers { self.new.handlers ≡ self.old.handlers }
-        ensures shorter { IfOk result (λ step. IfNone step (length self.new.rest
-            < length self.old.rest)) }
-        ensures cause { HasSinkCause (K.faults sink.old) (K.faults sink.new) result }
-        ensures turns { HasFed turns.old turns.new
-            (questions_since (D.told desk.old).calls (D.told desk.new).calls) result }
-        ensures bounded { turns.old.spent ≤ turns.old.limit → turns.new.spent ≤ turns.new.limit }
-        ensures registration { GoesOn (D.told desk.old) (D.told desk.new) }
-        ensures sink { K.origin sink.new ≡ K.origin sink.old }
+        ensures { IsStep H.told self.old.rest self.old self.new (D.told desk.old)
+            (D.told desk.new) turns.old turns.new result }
     {
         match self.next_message(alloc) {
-            Ok(message) => self.answer(alloc, desk, sink, turns, message),
+            Ok(message) => told_end(self.respond(alloc, desk, turns, message)),
             Err(told) => told,
         }
     }
@@ -313,122 +330,12 @@ impl<
         }
     }
 
-    /// Answers a message that was taken off the bytes, and sends what waits where it is a chunk or
-    /// more. None says that the conversation goes on with the next one.
+    /// Sends what waits where it is a chunk or more. Some tells that this failed.
     #[inline(always)]
-    fn answer<D: CancelDesk, K: Sink>(
-        &mut self,
-        alloc: Global,
-        desk: &mut D,
-        sink: &mut K,
-        turns: &mut Turns,
-        message: PgWireFrontendMessage,
-    ) -> Result<Option<Progress>, ServeError>
-        requires open { self.old.is_open ≡ true }
-        requires given { IsGivenIn self.old.state message }
-        ensures served { (frame : List ℕ) → IsFrame (awaits self.old.state) frame message
-            → IfOk result (λ step. (next : Next (State H.Extended.Statement)) × IsServed
-            (whole_rules
-            (H.told self.old.handlers))
-            self.old.state (frame ++ self.old.rest) self.new.rest next (K.written sink.old)
-            (K.written sink.new)
-            self.old.unsent self.new.unsent (D.told desk.old).calls (D.told desk.new).calls
-            × StandsAfterStep awaits next self.new.state self.new.rest step) }
-        ensures cut_off { (frame : List ℕ) → IsFrame (awaits self.old.state) frame message
-            → OnErr result (IsCutOff
-            (whole_rules
-            (H.told self.old.handlers))
-            self.old.state (frame ++ self.old.rest) (K.written sink.old) (K.written sink.new)
-            self.old.unsent
-            (D.told desk.old).calls (D.told desk.new).calls) }
-        ensures stopped { (frame : List ℕ) → IsFrame (awaits self.old.state) frame message
-            → IsErrOf result serve.TurnLimit → IsStopped
-            (whole_rules
-            (H.told self.old.handlers))
-            self.old.state (frame ++ self.old.rest) (K.written sink.old) (K.written sink.new)
-            self.old.unsent
-            (D.told desk.old).calls (D.told desk.new).calls }
-        ensures open { IfOk result (λ step. is_going step ≡ true → self.new.is_open ≡ true) }
-        ensures handlers { self.new.handlers ≡ self.old.handlers }
-        ensures rest { self.new.rest ≡ self.old.rest }
-        ensures cause { HasSinkCause (K.faults sink.old) (K.faults sink.new) result }
-        ensures turns { HasFed turns.old turns.new
-            (questions_since (D.told desk.old).calls (D.told desk.new).calls) result }
-        ensures bounded { turns.old.spent ≤ turns.old.limit → turns.new.spent ≤ turns.new.limit }
-        ensures registration { GoesOn (D.told desk.old) (D.told desk.new) }
-        ensures sink { K.origin sink.new ≡ K.origin sink.old }
-    {
-        match self.respond(alloc, desk, turns, message) {
-            Ok(end) => self.told_if_full(sink, end),
-            Err(error) => Err(error),
-        }
-    }
-
-    /// Answers a message that was taken off the bytes as its own type, and sends what waits where it is a chunk or
-    /// more. None says that the conversation goes on with the next one.
-    #[inline(always)]
-    fn answer_common<M: CommonMessage, D: CancelDesk, K: Sink>(
-        &mut self,
-        alloc: Global,
-        desk: &mut D,
-        sink: &mut K,
-        turns: &mut Turns,
-        message: M,
-    ) -> Result<Option<Progress>, ServeError>
-        requires open { self.old.is_open ≡ true }
-        requires ready { self.old.state.info.state ≡ phase.ReadyForQuery }
-        requires given { IsGivenIn self.old.state (M.TypedMessage.message message) }
-        ensures served { (frame : List ℕ) → IsFrame (awaits self.old.state) frame (M.TypedMessage.message message)
-            → IfOk result (λ step. (next : Next (State H.Extended.Statement)) × IsServed
-            (whole_rules
-            (H.told self.old.handlers))
-            self.old.state (frame ++ self.old.rest) self.new.rest next (K.written sink.old)
-            (K.written sink.new)
-            self.old.unsent self.new.unsent (D.told desk.old).calls (D.told desk.new).calls
-            × StandsAfterStep awaits next self.new.state self.new.rest step) }
-        ensures cut_off { (frame : List ℕ) → IsFrame (awaits self.old.state) frame (M.TypedMessage.message message)
-            → OnErr result (IsCutOff
-            (whole_rules
-            (H.told self.old.handlers))
-            self.old.state (frame ++ self.old.rest) (K.written sink.old) (K.written sink.new)
-            self.old.unsent
-            (D.told desk.old).calls (D.told desk.new).calls) }
-        ensures stopped { (frame : List ℕ) → IsFrame (awaits self.old.state) frame (M.TypedMessage.message message)
-            → IsErrOf result serve.TurnLimit → IsStopped
-            (whole_rules
-            (H.told self.old.handlers))
-            self.old.state (frame ++ self.old.rest) (K.written sink.old) (K.written sink.new)
-            self.old.unsent
-            (D.told desk.old).calls (D.told desk.new).calls }
-        ensures open { IfOk result (λ step. is_going step ≡ true → self.new.is_open ≡ true) }
-        ensures handlers { self.new.handlers ≡ self.old.handlers }
-        ensures rest { self.new.rest ≡ self.old.rest }
-        ensures cause { HasSinkCause (K.faults sink.old) (K.faults sink.new) result }
-        ensures turns { HasFed turns.old turns.new
-            (questions_since (D.told desk.old).calls (D.told desk.new).calls) result }
-        ensures bounded { turns.old.spent ≤ turns.old.limit → turns.new.spent ≤ turns.new.limit }
-        ensures registration { GoesOn (D.told desk.old) (D.told desk.new) }
-        ensures sink { K.origin sink.new ≡ K.origin sink.old }
-    {
-        match M::respond(alloc, self, desk, turns, message) {
-            Ok(end) => self.told_if_full(sink, end),
-            Err(error) => Err(error),
-        }
-    }
-
-    /// Sends what waits where it is a chunk or more, and tells then what an end comes to.
-    #[inline(always)]
-    fn told_if_full<K: Sink>(
-        &mut self,
-        sink: &mut K,
-        end: Option<EndKind>,
-    ) -> Result<Option<Progress>, ServeError>
-        ensures told { IfOk result (λ told. told ≡ option_map (λ kind. Progress.Ended kind) end) }
-        ensures ok { OnOk result (Flows (K.written sink.old) (K.written sink.new) self.old.unsent
-            self.new.unsent []) }
-        ensures err { OnErr result (GrowsByFront (K.written sink.old) (K.written sink.new)
-            self.old.unsent) }
-        ensures cause { HasFlushed (K.faults sink.old) (K.faults sink.new) result }
+    fn sent_if_full<K: Sink>(&mut self, sink: &mut K) -> Option<Result<Progress, ServeError>>
+        ensures sent { SentBehind (K.written sink.old) (K.written sink.new) self.old.unsent
+            self.new.unsent (Ok None) result }
+        ensures cause { HasSentCause (K.faults sink.old) (K.faults sink.new) (Ok None) result }
         ensures state { self.new.state ≡ self.old.state }
         ensures handlers { self.new.handlers ≡ self.old.handlers }
         ensures rest { self.new.rest ≡ self.old.rest }
@@ -436,8 +343,8 @@ impl<
         ensures sink { K.origin sink.new ≡ K.origin sink.old }
     {
         match flush_if_full(&mut self.client.outbox, sink) {
-            Ok(()) => Ok(ended_by(end)),
-            Err(error) => Err(error),
+            Ok(()) => None,
+            Err(error) => Some(Err(error)),
         }
     }
 
@@ -529,12 +436,12 @@ impl<
         ensures registration { GoesOn (D.told desk.old) (D.told desk.new) }
         ensures sink { K.origin sink.new ≡ K.origin sink.old }
     {
-        let step = self.step(alloc, desk, sink, turns);
+        let step = self.step(alloc, desk, turns);
         self.told_behind(sink, step)
     }
 
-    /// Sends all that waits where a step tells something, and tells it then. A step that tells
-    /// nothing tells so here.
+    /// Sends all that waits where a step tells something, and tells it then; where it tells nothing,
+    /// what waits if it is a chunk or more. An error is told at once.
     #[inline(always)]
     fn told_behind<K: Sink>(
         &mut self,
@@ -553,7 +460,7 @@ impl<
         match step {
             Ok(told) => match told {
                 Some(told) => Some(self.told_when_sent(sink, told)),
-                None => None,
+                None => self.sent_if_full(sink),
             },
             Err(error) => Some(Err(error)),
         }

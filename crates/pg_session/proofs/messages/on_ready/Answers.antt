@@ -1,44 +1,30 @@
-use Rattle.std.proofs.Common.{inl}
 use Rattle.pg_handlers.proofs.Desks.{keeps_none}
 use Rattle.pg_handlers.specs.State.{state_of}
 use Rattle.pg_handlers.specs.Table.{statement_row}
-use Rattle.pg_handlers.specs.declared.ends.SessionError.TheVariants as session
-use Rattle.pg_handlers.proofs.Rows.{no_turn}
-use Rattle.pg_session.proofs.Rows.{silent_row, silent_refused, same_row, same_refused, plain_row}
-use Rattle.pg_session.proofs.ToldRows.{going_refused}
+use Rattle.pg_session.proofs.Rows.{plain_row}
+use Rattle.pg_session.proofs.ToldRows.{going_refused, with_session_error_ok, with_session_error_refused, with_session_error_answerable, with_session_error_ends, with_session_error_turns}
 use Rattle.pg_session.proofs.messages.on_ready.Goals as goal
 
-pub returns-in-Ok : goal.returns-in-Ok
-returns-in-Ok g c =
+pub returns-in_default : goal.returns-in_default
+returns-in_default g c =
     let h = g.H.PgWireServerHandlers.told c.args.handlers.now in
-    let s = (state_of g.St.PortalStore.maps c.args.client.now) in
+    let s = state_of g.St.PortalStore.maps c.args.client.now in
+    let m = c.args.message in
+    let answered = c.on_ready_silently in
+    let out = c.args.client.now.outbox in
+    let new_out = answered.new.client.outbox in
+    let calls = (g.D.CancelDesk.told c.args.desk.now).calls in
+    let t = state_of g.St.PortalStore.maps answered.new.client in
     record {
-      ok = same_row (λ answers. plain_row h answers s c.args.message c.in_default.not-Query c.in_default.not-Execute)
-          (silent_row (statement_row h.extended s c.args.message) (g.D.CancelDesk.told c.args.desk.now).calls c.in-Ok.ensures.ok);
-      refused = tt;
-      answerable = tt;
-      ends = c.in-Ok.ensures.ends;
-      good = c.in-Ok.ensures.good;
-      turns = no_turn c.args.turns.now (g.D.CancelDesk.told c.args.desk.now).calls;
-      bounded = λ p. p;
-      keeps = keeps_none _;
-    }
-
-pub returns-in-Err : goal.returns-in-Err
-returns-in-Err g c =
-    let h = g.H.PgWireServerHandlers.told c.args.handlers.now in
-    let s = (state_of g.St.PortalStore.maps c.args.client.now) in
-    record {
-      ok = tt;
-      refused = same_refused _ _ c.args.client.now.outbox c.on_ready_silently.new.client.outbox (g.D.CancelDesk.told c.args.desk.now).calls
-          (g.D.CancelDesk.told c.args.desk.now).calls (state_of g.St.PortalStore.maps c.on_ready_silently.new.client)
-          (session.Wire c.in-Err.error) (λ answers. plain_row h answers s c.args.message c.in_default.not-Query c.in_default.not-Execute)
-          (silent_refused (statement_row h.extended s c.args.message) (g.D.CancelDesk.told c.args.desk.now).calls c.in-Err.ensures.refused);
-      answerable = c.in-Err.ensures.answerable;
-      ends = tt;
-      good = c.in-Err.ensures.good;
-      turns = inl (no_turn c.args.turns.now (g.D.CancelDesk.told c.args.desk.now).calls);
-      bounded = λ p. p;
+      ok = rw c.with_session_error.ensures (with_session_error_ok _ (statement_row h.extended s m) out new_out calls t answered.result
+          (λ answers. plain_row h answers s m c.in_default.not-Query c.in_default.not-Execute) answered.ensures.ok);
+      refused = rw c.with_session_error.ensures (with_session_error_refused _ (statement_row h.extended s m) out new_out calls t
+          answered.result (λ answers. plain_row h answers s m c.in_default.not-Query c.in_default.not-Execute) answered.ensures.refused);
+      answerable = rw c.with_session_error.ensures (with_session_error_answerable answered.result answered.ensures.answerable);
+      ends = rw c.with_session_error.ensures (with_session_error_ends answered.result answered.ensures.ends);
+      good = answered.ensures.good;
+      turns = rw c.with_session_error.ensures (with_session_error_turns c.args.turns.now calls answered.result);
+      bounded = λ within. within;
       keeps = keeps_none _;
     }
 

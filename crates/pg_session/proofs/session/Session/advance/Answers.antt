@@ -1,7 +1,7 @@
-use Rattle.std.proofs.Common.{sym, subst, ◌∙◌}
+use Rattle.std.proofs.Common.{◌<◌, length, IfNone, sym, subst, ◌∙◌}
 use Rattle.pg_session.specs.Session.{whole_rules}
 use Rattle.pg_session.specs.Steps.{RoundSo}
-use Rattle.pg_session.proofs.Behind.{round_behind, nothing_waits, open_behind, caused_behind, spent_behind}
+use Rattle.pg_session.proofs.Behind.{round_behind, nothing_waits, shorter_behind, open_behind, caused_behind, spent_behind}
 use Rattle.pg_session.proofs.session.Session.advance.Goals as goal
 
 pub returns-clause-round : goal.returns-clause-round
@@ -16,22 +16,36 @@ returns-clause-round g c =
     let l = (g.D.CancelDesk.told c.step-step.new.desk).calls in
     subst (λ t. RoundSo rules s.state s.rest t last.rest w u s.unsent last.unsent k l c.told_behind.result) (sym c.told_behind.ensures.state)
     (subst (λ r. RoundSo rules s.state s.rest n.state r w u s.unsent last.unsent k l c.told_behind.result) (sym c.told_behind.ensures.rest)
-    (round_behind rules s.state n.state s.rest n.rest w (g.K.Sink.written c.step-step.new.sink) u s.unsent n.unsent last.unsent k l
-    c.step-step.result c.told_behind.result (g.K.Sink.faults c.step-step.new.sink) (g.K.Sink.faults c.told_behind.new.sink)
+    (round_behind rules s.state n.state s.rest n.rest w u s.unsent n.unsent last.unsent k l
+    c.step-step.result c.told_behind.result (g.K.Sink.faults c.args.sink.now) (g.K.Sink.faults c.told_behind.new.sink)
     c.step-step.ensures.served c.step-step.ensures.cut_off c.step-step.ensures.stopped c.told_behind.ensures.sent
     c.told_behind.ensures.cause))
 
 pub returns-clause-sent : goal.returns-clause-sent
 returns-clause-sent g c = nothing_waits _ _ _ _ c.step-step.result c.told_behind.result c.told_behind.ensures.sent
 
+pub returns-clause-shorter : goal.returns-clause-shorter
+returns-clause-shorter g c =
+    subst (λ r. IfNone c.told_behind.result (length r < length c.args.self.now.rest)) (sym c.told_behind.ensures.rest)
+    (shorter_behind _ _ _ _ _ c.step-step.result c.told_behind.result c.told_behind.ensures.sent c.step-step.ensures.shorter)
+
+pub returns-clause-handlers : goal.returns-clause-handlers
+returns-clause-handlers g c = c.told_behind.ensures.handlers ∙ c.step-step.ensures.handlers
+
 pub returns-clause-cause : goal.returns-clause-cause
-returns-clause-cause g c = caused_behind _ _ _ _ c.step-step.result c.told_behind.result _ _ _ c.told_behind.ensures.sent
-    c.step-step.ensures.cause c.told_behind.ensures.cause
+returns-clause-cause g c = caused_behind _ _ _ _ c.step-step.result c.told_behind.result _ _ c.told_behind.ensures.sent
+    c.step-step.ensures.only c.told_behind.ensures.cause
 
 pub returns-clause-turns : goal.returns-clause-turns
 returns-clause-turns g c = spent_behind _ _ _ _ c.step-step.result c.told_behind.result _ _ c.args.turns.now c.step-step.new.turns _
     c.told_behind.ensures.sent c.told_behind.ensures.cause c.step-step.ensures.turns
 
+pub returns-clause-bounded : goal.returns-clause-bounded
+returns-clause-bounded g c = c.step-step.ensures.bounded
+
+pub returns-clause-registration : goal.returns-clause-registration
+returns-clause-registration g c = c.step-step.ensures.registration
+
 pub returns-clause-open : goal.returns-clause-open
 returns-clause-open g c = λ more. c.told_behind.ensures.«open»
-    ∙ open_behind _ _ _ _ c.step-step.result c.told_behind.result c.told_behind.ensures.sent c.step-step.ensures.«open» more
+    ∙ open_behind _ _ _ _ c.step-step.result c.told_behind.result c.told_behind.ensures.sent c.step-step.ensures.opened more

@@ -1,26 +1,39 @@
-use Rattle.std.proofs.Common.{IfOk, sym, subst}
-use Rattle.pg_handlers.specs.Answer.{Next}
-use Rattle.pg_handlers.specs.Table.{awaits}
-use Rattle.pg_session.specs.Session.{whole_rules}
-use Rattle.pg_session.specs.Steps.{IsServed, StandsAfterStep}
-use Rattle.pg_session.proofs.Unread.{unread_served, unread_cut}
+use Rattle.std.proofs.Common.{sym, subst}
+use Rattle.pg_session.specs.Steps.{IsResponse, IsStep}
+use Rattle.pg_session.proofs.Stepped.{step_answered, step_unread}
 use Rattle.pg_session.proofs.session.Session.step_any.Goals as goal
 
-pub returns-in-Err-clause-served : goal.returns-in-Err-clause-served
-returns-in-Err-clause-served g c =
+pub returns-in-Ok : goal.returns-in-Ok
+returns-in-Ok g c =
+    let told = g.H.PgWireServerHandlers.told in
     let s = c.args.self.now in
     let n = c.next_message.new.self in
-    let h = g.H.PgWireServerHandlers.told s.handlers in
-    let written = g.K.Sink.written c.args.sink.now in
-    let calls = (g.D.CancelDesk.told c.args.desk.now).calls in
-    subst (λ t. IfOk c.in-Err.told (λ step. (next : Next _) × IsServed (whole_rules h) s.state s.rest n.rest next written written s.unsent
-    n.unsent calls calls × StandsAfterStep awaits next t n.rest step)) (sym c.in-Err.ensures.state)
-    (subst (λ o. IfOk c.in-Err.told (λ step. (next : Next _) × IsServed (whole_rules h) s.state s.rest n.rest next written written s.unsent
-    o calls calls × StandsAfterStep awaits next s.state n.rest step)) (sym c.in-Err.ensures.unsent)
-    (unread_served h s.state s.rest n.rest written s.unsent calls c.in-Err.ensures.kept c.in-Err.told c.in-Err.ensures.unread))
+    let last = c.respond.new.self in
+    let desk = g.D.CancelDesk.told c.args.desk.now in
+    let new_desk = g.D.CancelDesk.told c.respond.new.desk in
+    let before = c.args.turns.now in
+    let after = c.respond.new.turns in
+    let kept = c.in-Ok.ensures in
+    let r = c.respond.ensures in
+    let response : IsResponse told c.in-Ok.message n last desk new_desk before after c.respond.result = record {
+      answer = r.answer;
+      err = r.err;
+      stopped = r.stopped;
+      only = r.only;
+      ends = r.ends;
+      opened = r.«open»;
+      handlers = r.handlers;
+      rest = r.rest;
+      turns = r.turns;
+      bounded = r.bounded;
+      registration = r.registration;
+    } in
+    subst (λ step. IsStep told s.rest s last desk new_desk before after step) (sym c.told_end.ensures)
+    (step_answered told s n last kept.found.0 c.in-Ok.message desk new_desk before after c.respond.result kept.handlers kept.state
+    kept.unsent kept.found.1 kept.found.2 response)
 
-pub returns-in-Err-clause-cut_off : goal.returns-in-Err-clause-cut_off
-returns-in-Err-clause-cut_off g c =
-    let s = c.args.self.now in
-    unread_cut (g.H.PgWireServerHandlers.told s.handlers) s.state s.rest c.next_message.new.self.rest
-    (g.K.Sink.written c.args.sink.now) s.unsent (g.D.CancelDesk.told c.args.desk.now).calls c.in-Err.ensures.kept c.in-Err.told
+pub returns-in-Err : goal.returns-in-Err
+returns-in-Err g c =
+    let kept = c.in-Err.ensures in
+    step_unread g.H.PgWireServerHandlers.told c.args.self.now c.next_message.new.self (g.D.CancelDesk.told c.args.desk.now)
+    c.args.turns.now c.in-Err.told kept.handlers kept.state kept.kept kept.unsent kept.«open» c.requires kept.unread

@@ -1,0 +1,62 @@
+use Rattle.std.proofs.Common.{None, ap, refl, sym, ◌∙◌}
+use Rattle.pg_handlers.specs.Table.{scope_in}
+use Rattle.pg_session.specs.Messages.{scope_for}
+use Rattle.pg_session.proofs.Answering.{answered_by_row}
+use Rattle.pg_session.proofs.Failing.{failed_answer, failed_cut, failed_stopped, failed_only, failed_turns}
+use Rattle.pg_session.proofs.session.Session.respond_calling.Goals as goal
+
+pub returns-in-Ok : goal.returns-in-Ok
+returns-in-Ok g c =
+    let session = c.args.self.now in
+    let done = c.process.new.session in
+    let told = c.in-Ok.ensures in
+    record {
+      answer = answered_by_row (g.H.PgWireServerHandlers.told session.handlers) session.state (g.M.TypedMessage.message c.args.message)
+          (g.D.CancelDesk.told c.args.desk.now).calls (g.D.CancelDesk.told c.process.new.desk).calls session.unsent done.unsent None
+          done.state told.ok;
+      err = tt;
+      stopped = λ limit. cc;
+      only = tt;
+      ends = λ is. cc;
+      opened = told.«open» ∙ c.requires.«open»;
+      handlers = told.handlers;
+      rest = told.rest;
+      turns = told.turns;
+      bounded = told.bounded;
+      registration = told.registration;
+    }
+
+pub returns-in-Err : goal.returns-in-Err
+returns-in-Err g c =
+    let session = c.args.self.now in
+    let h = g.H.PgWireServerHandlers.told session.handlers in
+    let m = g.M.TypedMessage.message c.args.message in
+    let mid = c.process.new.session in
+    let last = c.fail.new.self in
+    let calls = (g.D.CancelDesk.told c.args.desk.now).calls in
+    let new_calls = (g.D.CancelDesk.told c.process.new.desk).calls in
+    let scope = scope_for c.waits_for_sync.result in
+    let same = c.waits_for_sync.ensures c.args.message ∙ ap (λ p. scope_in p m) (sym c.requires.ready) in
+    let error = c.in-Err.error in
+    let told = c.in-Err.ensures in
+    let failed = c.fail.ensures.failed in
+    record {
+      answer = failed_answer h session.state m calls new_calls session.unsent mid.unsent last.unsent mid.state last.state scope same error
+          c.fail.result told.refused failed;
+      err = failed_cut h session.state m calls new_calls session.unsent mid.unsent last.unsent mid.state last.state scope same error
+          c.fail.result told.refused;
+      stopped = failed_stopped h session.state m calls new_calls session.unsent mid.unsent last.unsent mid.state last.state scope same
+          error c.fail.result told.refused failed;
+      only = failed_only error scope mid.state last.state mid.unsent last.unsent c.fail.result failed;
+      ends = c.fail.ensures.ends;
+      opened = c.fail.ensures.«open»;
+      handlers = c.fail.ensures.handlers ∙ told.handlers;
+      rest = c.fail.ensures.rest ∙ told.rest;
+      turns = failed_turns (Unit {0}) error scope mid.state last.state mid.unsent last.unsent c.fail.result c.args.turns.now
+          c.process.new.turns _ failed told.turns;
+      bounded = told.bounded;
+      registration = told.registration;
+    }
+
+pub fail-requires-clause-open : goal.fail-requires-clause-open
+fail-requires-clause-open g c = λ stays. c.in-Err.ensures.«open» ∙ c.requires.«open»

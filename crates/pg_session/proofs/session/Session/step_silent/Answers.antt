@@ -1,0 +1,53 @@
+use Rattle.std.proofs.Common.{Ok, Err, Some, ap, sym, subst}
+use Rattle.pg_messages.specs.Frames.{IsFrame}
+use Rattle.pg_handlers.specs.Table.{awaits, is_startup_phase}
+use Rattle.pg_session.specs.Session.{IsUnread}
+use Rattle.pg_session.specs.Steps.{IsStep}
+use Rattle.pg_session.specs.declared.ends.Progress.TheVariants as progress
+use Rattle.pg_session.proofs.Stepped.{silent_response, step_answered, step_unread}
+use Rattle.pg_session.proofs.Unread.{unread_as}
+use Rattle.pg_session.proofs.session.Session.step_silent.Goals as goal
+
+pub respond-requires-clause-given : goal.respond-requires-clause-given
+respond-requires-clause-given g c =
+    let found = rw c.in-Ok-Some.field-0-is at c.in-Ok-Some.ensures.found in (
+      found.0,
+      subst (λ p. IsFrame (is_startup_phase p) found.0 (g.M.TypedMessage.message c.in-Ok-Some.message)) c.requires.ready found.2,
+    )
+
+pub returns-in-Ok-Some : goal.returns-in-Ok-Some
+returns-in-Ok-Some g c =
+    let told = g.H.PgWireServerHandlers.told in
+    let s = c.args.self.now in
+    let n = c.next_typed.new.self in
+    let last = c.respond.new.session in
+    let m = g.M.TypedMessage.message c.in-Ok-Some.message in
+    let r = c.respond.ensures in
+    let kept = c.next_typed.ensures in
+    let found = rw c.in-Ok-Some.field-0-is at c.in-Ok-Some.ensures.found in
+    record {
+      whatever = λ desk turns. subst (λ step. IsStep told s.rest s last desk desk turns turns step) (sym c.told_end.ensures)
+          (step_answered told s n last found.0 m desk desk turns turns c.respond.result kept.handlers kept.state kept.unsent found.1 found.2
+          (silent_response told m n last desk turns c.respond.result r.answer r.only r.ends r.«open» r.handlers r.rest));
+    }
+
+pub returns-in-Ok-None : goal.returns-in-Ok-None
+returns-in-Ok-None g c =
+    let kept = c.next_typed.ensures in
+    let rest = rw c.in-Ok-None.field-0-is at c.in-Ok-None.ensures.kept in
+    let unfinished = rw c.in-Ok-None.field-0-is at c.in-Ok-None.ensures.none in
+    record {
+      whatever = λ desk turns. step_unread g.H.PgWireServerHandlers.told c.args.self.now c.next_typed.new.self desk turns
+          (Ok (Some progress.More)) kept.handlers kept.state rest kept.unsent kept.«open» c.requires.«open» unfinished;
+    }
+
+pub returns-in-Err : goal.returns-in-Err
+returns-in-Err g c =
+    let s = c.args.self.now in
+    let kept = c.next_typed.ensures in
+    let is_unread = subst (λ t. IsUnread (awaits s.state) s.rest t) (sym c.unread.ensures)
+    (unread_as (awaits s.state) s.rest c.in-Err.error (λ e. c.in-Err.ensures.bad (ap Err e))) in
+    record {
+      whatever = λ desk turns. step_unread g.H.PgWireServerHandlers.told s c.next_typed.new.self desk turns
+          c.unread.result kept.handlers kept.state c.in-Err.ensures.err kept.unsent kept.«open» c.requires.«open» is_unread;
+    }
