@@ -1,6 +1,6 @@
 -- What was sent behind a step, and what a round comes to by it.
 use Rattle.std.proofs.Common.{◌≡◌, ◌⊎◌, inl, inr, ℕ, List, [], true, Option, Some, None, Result, Ok, Err, IfOk, IfErr, IfSome, IfNone, OnOk, OnErr, IsErrOf, refl, sym, ap, subst, ◌∙◌, arith}
-use Rattle.pg_handlers.specs.Answer.{Next, Goes}
+use Rattle.pg_handlers.specs.Answer.{Next}
 use Rattle.pg_handlers.specs.declared.desk.DeskCall.{DeskCall}
 use Rattle.pg_handlers.specs.declared.ends.Turns.{Turns}
 use Rattle.pg_session.specs.declared.ends.Progress.{Progress}

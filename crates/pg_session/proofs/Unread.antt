@@ -1,6 +1,6 @@
 -- What a step tells of bytes that begin with no good frame.
 use Rattle.std.proofs.Common.{◌≡◌, ℕ, Bool, List, Option, Some, None, Result, Ok, Err, IfOk, IfErr, OnErr, ◌++◌, refl, sym, subst, ◌∙◌}
-use Rattle.pg_messages.specs.Frames.{IsUnfinished, IsBad}
+use Rattle.pg_messages.specs.Frames.{IsBad}
 use Rattle.pg_messages.specs.declared.codec.FrameError.{FrameError}
 use Rattle.pg_messages.specs.declared.codec.FrameError.TheVariants as frame
 use Rattle.pg_handlers.specs.declared.desk.DeskCall.{DeskCall}

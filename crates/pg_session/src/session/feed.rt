@@ -131,9 +131,9 @@ impl<
         }
     }
 
-    /// A step by a Parse, a Bind, a Describe or a Sync of a session that is ready: it is the same
-    /// whatever the desk has told and whatever turns were spent. None says that none of them is in
-    /// front, and that nothing has changed.
+    /// A step by a message that calls nothing and is read as its own type, of a session that is ready:
+    /// it is the same whatever the desk has told and whatever turns were spent. None says that no
+    /// such message is in front, and that nothing has changed.
     #[inline(always)]
     fn step_silently(&mut self, alloc: Global) -> Option<Result<Option<Progress>, ServeError>>
         requires { self.old.is_open ≡ true }
@@ -145,6 +145,24 @@ impl<
         match self.type_byte_when_ready() {
             Some(b'P') => Some(self.step_silent::<Parse>(alloc)),
             Some(b'B') => Some(self.step_silent::<Bind>(alloc)),
+            _ => self.step_by_describe_or_sync(alloc),
+        }
+    }
+
+    /// A step by a Describe or a Sync of a session that is ready. None says that neither is in front,
+    /// and that nothing has changed.
+    #[inline(always)]
+    fn step_by_describe_or_sync(
+        &mut self,
+        alloc: Global,
+    ) -> Option<Result<Option<Progress>, ServeError>>
+        requires { self.old.is_open ≡ true }
+        ensures step { IfSome result (λ step. IsSilentStep
+            H.told
+            self.old.rest self.old self.new step) }
+        ensures kept { IfNone result (self.new ≡ self.old) }
+    {
+        match self.type_byte_when_ready() {
             Some(b'D') => Some(self.step_silent::<Describe>(alloc)),
             Some(b'S') => Some(self.step_silent::<PgSync>(alloc)),
             _ => None,

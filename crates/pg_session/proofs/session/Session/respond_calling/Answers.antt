@@ -1,4 +1,4 @@
-use Rattle.std.proofs.Common.{None, ap, refl, sym, ◌∙◌}
+use Rattle.std.proofs.Common.{None, ap, sym, ◌∙◌}
 use Rattle.pg_handlers.specs.Table.{scope_in}
 use Rattle.pg_session.specs.Messages.{scope_for}
 use Rattle.pg_session.proofs.Answering.{answered_by_row}
