@@ -1,15 +1,16 @@
 -- A map of names whose entry under the empty name has a place of its own: what it answers, and what a change of either part makes of it.
-use Rattle.std.proofs.Common.{◌≡◌, ℕ, Bool, true, false, cond, List, [], ◌∷◌, Option, Some, None, IsSome, OnSome, String, length, ◌==◌, arith, refl, sym, ap, subst, ◌∙◌}
+use Rattle.std.proofs.Common.{◌≡◌, ℕ, Bool, true, false, cond, List, [], ◌∷◌, Option, Some, None, IsSome, OnSome, String, length, ◌==◌, ◌≤◌, ◌<◌, slice_get, slice_set, arith, refl, sym, ap, subst, ◌∙◌}
 use Rattle.std.specs.Borrow.{MutBor}
+use Rattle.std.specs.List.{IsItemAtMut}
 use Rattle.std.specs.Option.{option_copied_mut}
 use Rattle.std.specs.Cmp.Lexicographic.{slice_cmp, nat_list_cmp_total}
 use Rattle.std.specs.Ordering.{nat_cmp, is_eq}
 use Rattle.std.specs.String.{string_bytes, string_cmp}
 use Rattle.std.specs.BTreeMap as tree
 use Rattle.std.specs.FinMap as fin
-use Rattle.pg_portal.specs.Names.{NameMap, name_map}
+use Rattle.pg_portal.specs.Names.{NameMap, name_map, map_values}
 use Rattle.pg_portal.specs.Unnamed.{with_unnamed}
-use Rattle.pg_portal.proofs.NameMaps.{get-name_map, name_map-insert, name_map-remove}
+use Rattle.pg_portal.proofs.NameMaps.{get-name_map, map_values-insert, name_map-insert, name_map-remove}
 
 alike : {X : Type 0} {m n : NameMap X} → ((q : List ℕ) → fin.get m q ≡ fin.get n q) → m ≡ n
 alike h = fin.same_map nat_list_cmp_total (fin.slice_cmp-IsAntisymmetric fin.nat_cmp-IsAntisymmetric) _ _ h
@@ -81,9 +82,39 @@ with_unnamed-nothing {A} {X} es e = alike (λ q. fin.get-remove nat_list_cmp_tot
     at [] e (k ∷ ks) = get-name_map {A = A} {X = X} [] (k ∷ ks)
     at (x ∷ xs) e q = cc
 
+pub none-left : {A X : Type 0} (xs : List X) (es : List (String A × X)) → xs ≡ [] → es ≡ []
+    → ◌≡◌ {A = NameMap X} (with_unnamed (slice_get xs 0) (name_map es)) fin.empty
+none-left [] es e f = with_unnamed-nothing es f
+none-left (x ∷ xs) es e f = cc
+
+pub no_item : {X : Type 0} (xs : List X) (n : ℕ) → length xs ≡ n → (n == 0) ≡ true → xs ≡ []
+no_item [] n e t = refl
+no_item (x ∷ xs) n e t = let f : (length (x ∷ xs) == 0) ≡ false = grind arith in cc
+
+pub an_item : {X : Type 0} (xs : List X) (n : ℕ) → length xs ≡ n → (n == 0) ≡ false → IsSome (slice_get xs 0)
+an_item [] n e t = cc
+an_item (x ∷ xs) n e t = refl
+
+pub has_room : {X : Type 0} (xs : List X) (n room : ℕ) → length xs ≡ n → n ≤ room → IsSome (slice_get xs 0) → 0 < room
+has_room [] n room e h i = cc
+has_room (x ∷ xs) n room e h i = grind arith
+
+-- the first item, lent
+pub lent-first : {X : Type 0} (xs : List X) (r : Option (MutBor X)) → IsItemAtMut xs 0 r → option_copied_mut r ≡ slice_get xs 0
+lent-first [] None h = refl
+lent-first [] (Some r) h = cc
+lent-first (x ∷ xs) None h = let e : length (x ∷ xs) ≤ 0 = h.3 in let n : ⊥ = grind arith in absurd n
+lent-first (x ∷ xs) (Some r) h = ap Some h.1
+
 no_name : (name : List ℕ) (b : Bool) → b ≡ (length name == 0) → b ≡ true → name ≡ []
 no_name [] b e t = refl
 no_name (k ∷ ks) b e t = let f : (length (k ∷ ks) == 0) ≡ false = grind arith in cc
+
+-- what a function makes of each entry, where one was put under the empty name
+pub unnamed-insert : {X Y : Type 0} (f : X → Y) (m : NameMap X) (name : List ℕ) (x : X) → (length name == 0) ≡ true
+    → map_values f (fin.insert m [] x) ≡ fin.insert (map_values f m) name (f x)
+unnamed-insert f m name x t = map_values-insert f m [] x
+    ∙ ap (λ k. fin.insert (map_values f m) k (f x)) (sym (no_name name (length name == 0) refl t))
 
 named : (name : List ℕ) (b : Bool) → b ≡ (length name == 0) → b ≡ false → name ≡ [] → ⊥
 named [] b e t n = cc
@@ -119,6 +150,12 @@ module _ {A X : Type 0} (o : Option X) (m : tree.BTreeMap (String A) X) (seen : 
           → with_unnamed o (fin.insert (name_map m.entries) k x) ≡ fin.insert (with_unnamed o (name_map m.entries)) k x
       at [] n = absurd (n refl)
       at (k ∷ ks) n = with_named-insert o (name_map m.entries) k ks x
+
+  pub written-then : b ≡ true → (xs : List X) (w : X) (r : Option (MutBor X)) → IsItemAtMut xs 0 r
+      → OnSome r (with_unnamed (slice_get (slice_set xs 0 w) 0) (name_map m.entries) ≡ fin.insert seen name w)
+  written-then t xs w None h = tt
+  written-then t [] w (Some r) h = cc
+  written-then t (x ∷ xs) w (Some r) h = insert-then t w
 
   pub remove-then : b ≡ true → with_unnamed None (name_map m.entries) ≡ fin.remove seen name
   remove-then t = with_unnamed-remove o (name_map m.entries) ∙ ap (λ s. fin.remove s []) view_is

@@ -1,6 +1,6 @@
 //! A store in memory.
 
-ghost use Rattle.std.specs.Prelude.{◌≡◌, OnOk, OnErr};
+ghost use Rattle.std.specs.Prelude.{◌≡◌, ◌==◌, false, length, OnOk, OnErr};
 ghost use Rattle.std.specs.Arc.{arc_value};
 ghost use Rattle.pg_portal.specs.Maps.{no_maps, maps_with_statement, maps_with_portal};
 ghost use Rattle.pg_portal.specs.Told.{portal_of};
@@ -34,6 +34,42 @@ impl<S: Drop, R: RowSource> MemPortalStore<S, R> {
     }
 }
 
+impl<S: Drop, R: RowSource> MemPortalStore<S, R> {
+    // Puts a statement whose name isn't empty, apart from what most calls do.
+    #[cold]
+    #[inline(never)]
+    fn put_named_statement(
+        &mut self,
+        alloc: Global,
+        statement: Arc<StoredStatement<S>>,
+    ) -> Result<(), AllocError>
+        requires { (length (arc_value statement).id == 0) ≡ false }
+        ensures ok { OnOk result (⟦<MemPortalStore<S, R> as PortalStore>⟧.maps self.new
+            ≡ maps_with_statement (⟦<MemPortalStore<S, R> as PortalStore>⟧.maps self.old)
+            (arc_value statement).id (entry.Value (arc_value statement))) }
+        ensures err { OnErr result (⟦<MemPortalStore<S, R> as PortalStore>⟧.maps self.new
+            ≡ ⟦<MemPortalStore<S, R> as PortalStore>⟧.maps self.old) }
+    {
+        let name = PgStr::copy_of(alloc, statement.id.as_str())?;
+        self.statements.put_named(name, Entry::Value(statement))
+    }
+
+    // Puts a portal whose name isn't empty, apart from what most calls do.
+    #[cold]
+    #[inline(never)]
+    fn put_named_portal(&mut self, alloc: Global, portal: Portal<S, R>) -> Result<(), AllocError>
+        requires { (length portal.name == 0) ≡ false }
+        ensures ok { OnOk result (⟦<MemPortalStore<S, R> as PortalStore>⟧.maps self.new
+            ≡ maps_with_portal (⟦<MemPortalStore<S, R> as PortalStore>⟧.maps self.old)
+            portal.name (entry.Value (portal_of R.items portal))) }
+        ensures err { OnErr result (⟦<MemPortalStore<S, R> as PortalStore>⟧.maps self.new
+            ≡ ⟦<MemPortalStore<S, R> as PortalStore>⟧.maps self.old) }
+    {
+        let name = PgStr::copy_of(alloc, portal.name.as_str())?;
+        self.portals.put_named(name, Entry::Value(portal))
+    }
+}
+
 impl<S: Drop, R: RowSource> PortalStore for MemPortalStore<S, R> {
     ghost use Rattle.std.specs.Arc.{arc_value};
     ghost use Rattle.pg_portal.specs.Names.{map_values};
@@ -60,8 +96,10 @@ impl<S: Drop, R: RowSource> PortalStore for MemPortalStore<S, R> {
         ensures err { OnErr result (⟦<MemPortalStore<S, R> as PortalStore>⟧.maps self.new
             ≡ ⟦<MemPortalStore<S, R> as PortalStore>⟧.maps self.old) }
     {
-        let name = PgStr::copy_of(alloc, statement.id.as_str())?;
-        self.statements.put(name, Entry::Value(statement))
+        if statement.id.as_str().is_empty() {
+            return self.statements.put_unnamed(Entry::Value(statement));
+        }
+        self.put_named_statement(alloc, statement)
     }
 
     fn put_empty_statement(&mut self, alloc: Global, name: &str) -> Result<(), AllocError> {
@@ -89,8 +127,10 @@ impl<S: Drop, R: RowSource> PortalStore for MemPortalStore<S, R> {
         ensures err { OnErr result (⟦<MemPortalStore<S, R> as PortalStore>⟧.maps self.new
             ≡ ⟦<MemPortalStore<S, R> as PortalStore>⟧.maps self.old) }
     {
-        let name = PgStr::copy_of(alloc, portal.name.as_str())?;
-        self.portals.put(name, Entry::Value(portal))
+        if portal.name.as_str().is_empty() {
+            return self.portals.put_unnamed(Entry::Value(portal));
+        }
+        self.put_named_portal(alloc, portal)
     }
 
     fn put_empty_portal(&mut self, alloc: Global, name: &str) -> Result<(), AllocError> {

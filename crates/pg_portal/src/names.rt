@@ -1,6 +1,6 @@
 //! Entries under names.
 
-ghost use Rattle.std.specs.Prelude.{◌≡◌, ◌==◌, false, length, OnOk, OnErr, OnSome};
+ghost use Rattle.std.specs.Prelude.{◌≡◌, ◌==◌, [], false, length, IsSome, OnOk, OnErr, OnSome};
 ghost use Rattle.std.specs.Option.{option_copied, option_copied_mut};
 ghost use Rattle.std.specs.Borrow.{LendsSo, sem};
 ghost use Rattle.pg_portal.specs.contracts.names.Named.{the_row};
@@ -12,16 +12,18 @@ use std::collections::BTreeMap;
 use std::marker::Model;
 
 /// Entries under names, which are compared by their bytes. The empty name has a place of its own,
-/// which takes no look-up and no memory.
+/// which takes no look-up, and whose memory is kept for the next entry.
 #[derive(Drop)]
 pub struct Named<T> {
-    unnamed: Option<T>,
+    // the entry under the empty name, where there is one
+    unnamed: Vec<T>,
     others: BTreeMap<String, T>,
 }
 
 impl<T> Model for Named<T> {
     ghost use Rattle.std.specs.FinMap as fin;
     ghost use Rattle.std.specs.Coded.{coded_list, coded_ℕ};
+    ghost use Rattle.std.specs.Prelude.{slice_get};
     ghost use Rattle.pg_portal.specs.Names.{NameMap, name_map};
     ghost use Rattle.pg_portal.specs.Unnamed.{with_unnamed};
 
@@ -29,7 +31,7 @@ impl<T> Model for Named<T> {
 
     ghost coded = { fin.code (coded_list coded_ℕ) T.code };
 
-    ghost view = { λ n. with_unnamed n.unnamed (name_map n.others.entries) };
+    ghost view = { λ n. with_unnamed (slice_get n.unnamed.items 0) (name_map n.others.entries) };
 }
 
 impl<T> Named<T> {
@@ -38,7 +40,7 @@ impl<T> Named<T> {
         ensures { result ≡ map.empty }
     {
         Named {
-            unnamed: None,
+            unnamed: Vec::new(alloc),
             others: BTreeMap::new(alloc),
         }
     }
@@ -48,7 +50,7 @@ impl<T> Named<T> {
         ensures { option_copied result ≡ map.get self.now name.now }
     {
         if name.is_empty() {
-            self.unnamed.as_ref()
+            self.unnamed.first()
         } else {
             self.others.get(name)
         }
@@ -64,17 +66,47 @@ impl<T> Named<T> {
         ensures err { OnErr result (self.new ≡ self.old) }
     {
         if name.as_str().is_empty() {
-            self.unnamed = Some(entry);
-            Ok(())
+            self.put_unnamed(entry)
         } else {
             self.put_named(name, entry)
         }
     }
 
-    // Puts an entry under a name that isn't empty, apart from what most calls do.
+    /// Puts an entry under the empty name, in the place of one that is there. After an error nothing
+    /// has changed.
+    #[inline(always)]
+    pub(crate) fn put_unnamed(&mut self, entry: T) -> Result<(), AllocError>
+    where
+        T: Drop,
+        ensures ok { OnOk result (self.new ≡ map.insert self.old [] entry) }
+        ensures err { OnErr result (self.new ≡ self.old) }
+    {
+        if self.unnamed.is_empty() {
+            self.unnamed.reserve_exact(1)?;
+            self.unnamed.push_reserved(entry);
+        } else {
+            self.replace_unnamed(entry);
+        }
+        Ok(())
+    }
+
+    // Puts an entry in the place of the one under the empty name.
+    #[inline(never)]
+    fn replace_unnamed(&mut self, entry: T)
+    where
+        T: Drop,
+        requires { IsSome (map.get self.old []) }
+        ensures { self.new ≡ map.insert self.old [] entry }
+    {
+        self.unnamed.clear();
+        self.unnamed.push_reserved(entry);
+    }
+
+    /// Puts an entry under a name that isn't empty, apart from what most calls do. After an error
+    /// nothing has changed.
     #[cold]
     #[inline(never)]
-    fn put_named(&mut self, name: PgStr, entry: T) -> Result<(), AllocError>
+    pub(crate) fn put_named(&mut self, name: PgStr, entry: T) -> Result<(), AllocError>
     where
         T: Drop,
         requires { (length name == 0) ≡ false }
@@ -93,7 +125,7 @@ impl<T> Named<T> {
         ensures { self.new ≡ map.remove self.old name.now }
     {
         if name.is_empty() {
-            self.unnamed = None;
+            self.unnamed.clear();
         } else {
             self.remove_named(name);
         }
@@ -117,7 +149,7 @@ impl<T> Named<T> {
         T: Drop,
         ensures { self.new ≡ map.empty }
     {
-        self.unnamed = None;
+        self.unnamed.clear();
         self.others.clear();
     }
 
@@ -129,7 +161,7 @@ impl<T> Named<T> {
         ensures value { option_copied_mut result ≡ map.get self.old name.now }
     {
         if name.is_empty() {
-            self.unnamed.as_mut()
+            self.unnamed.first_mut()
         } else {
             self.others.get_mut(name)
         }

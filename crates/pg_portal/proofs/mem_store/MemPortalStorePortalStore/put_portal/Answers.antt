@@ -1,6 +1,19 @@
-use Rattle.std.proofs.Common.{rules}
-use Rattle.pg_portal.proofs.NameMaps.{map_values-insert}
+use Rattle.std.proofs.Common.{rules, ◌≡◌, ◌==◌, ◌∙◌, true, length, ap}
+use Rattle.std.proofs.lemmas.Result.{on_ok_weaker}
+use Rattle.std.specs.Arc.{arc_value}
+use Rattle.pg_portal.specs.Names.{map_values}
+use Rattle.pg_portal.specs.declared.store.Entry.TheVariants.{Value}
+use Rattle.pg_portal.specs.Told.{entry_map, portal_of}
+use Rattle.pg_portal.proofs.StoreMaps.{maps_of}
+use Rattle.pg_portal.proofs.UnnamedEntries.{unnamed-insert}
 use Rattle.pg_portal.proofs.mem_store.MemPortalStorePortalStore.put_portal.Goals as goal
 
-pub returns-clause-ok : goal.returns-clause-ok
-returns-clause-ok g c = search (rules, map_values-insert)
+pub returns-then-is_empty-clause-ok : goal.returns-then-is_empty-clause-ok
+returns-then-is_empty-clause-ok g c =
+    let told = portal_of g.R.RowSource.items in
+    let statements = map_values (entry_map arc_value) c.args.self.now.statements in
+    let unnamed : (length c.args.portal.name == 0) ≡ true = search rules in
+    on_ok_weaker c.put_unnamed.result (λ e. ap (λ portals. maps_of statements portals)
+    (ap (map_values (entry_map told)) e
+    ∙ unnamed-insert (entry_map told) c.args.self.now.portals c.args.portal.name (Value c.args.portal) unnamed))
+    c.put_unnamed.ensures.ok
