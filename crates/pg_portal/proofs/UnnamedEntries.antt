@@ -95,9 +95,13 @@ pub an_item : {X : Type 0} (xs : List X) (n : ℕ) → length xs ≡ n → (n ==
 an_item [] n e t = cc
 an_item (x ∷ xs) n e t = refl
 
-pub has_room : {X : Type 0} (xs : List X) (n room : ℕ) → length xs ≡ n → n ≤ room → IsSome (slice_get xs 0) → 0 < room
-has_room [] n room e h i = cc
-has_room (x ∷ xs) n room e h i = grind arith
+pub replaced : {X : Type 0} (xs : List X) → IsSome (slice_get xs 0) → (y : X) → slice_get (slice_set xs 0 y) 0 ≡ Some y
+replaced [] h y = cc
+replaced (x ∷ xs) h y = refl
+
+pub has_item : {X : Type 0} (xs : List X) → IsSome (slice_get xs 0) → 0 < length xs
+has_item [] h = cc
+has_item (x ∷ xs) h = grind arith
 
 -- the first item, lent
 pub lent-first : {X : Type 0} (xs : List X) (r : Option (MutBor X)) → IsItemAtMut xs 0 r → option_copied_mut r ≡ slice_get xs 0

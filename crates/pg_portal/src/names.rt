@@ -98,8 +98,10 @@ impl<T> Named<T> {
         requires { IsSome (map.get self.old []) }
         ensures { self.new ≡ map.insert self.old [] entry }
     {
-        self.unnamed.clear();
-        self.unnamed.push_reserved(entry);
+        let Some(place) = self.unnamed.first_mut() else {
+            unreachable!()
+        };
+        *place = entry;
     }
 
     /// Puts an entry under a name that isn't empty, apart from what most calls do. After an error
