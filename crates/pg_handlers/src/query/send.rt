@@ -30,7 +30,7 @@ ghost use Rattle.pg_handlers.specs.Telling.{IsToldSo};
 use itoa::Buffer;
 use pg_messages::{
     CopyBothResponse, CopyData, CopyDone, CopyInResponse, CopyOutResponse, DataRow, NoData,
-    ParameterDescription, PgBytes, PgList, PgWireBackendMessage, PortalSuspended, ReadyForQuery,
+    ParameterDescription, PgBytes, PgList, PgWireBackendMessage, PortalSuspended,
     TransactionStatus,
 };
 use pg_outbox::Outbox;
@@ -60,12 +60,18 @@ pub fn send_ready_for_query(
         (outbox.new ≡ outbox.old ++ replies_bytes (ready transaction_status ∷ [])) }
     ensures err { OnErr result (outbox.new ≡ outbox.old) }
 {
-    push_reply(
-        outbox,
-        PgWireBackendMessage::ReadyForQuery(ReadyForQuery {
-            status: transaction_status,
-        }),
-    )
+    outbox.push_bytes(&ready_for_query(transaction_status))
+}
+
+/// The bytes of ReadyForQuery: its type byte, its length and the status.
+fn ready_for_query(transaction_status: TransactionStatus) -> [u8; 6]
+    ensures { result ≡ replies_bytes (ready transaction_status ∷ []) }
+{
+    match transaction_status {
+        TransactionStatus::Idle => [b'Z', 0, 0, 0, 5, b'I'],
+        TransactionStatus::Transaction => [b'Z', 0, 0, 0, 5, b'T'],
+        TransactionStatus::Error => [b'Z', 0, 0, 0, 5, b'E'],
+    }
 }
 
 /// Appends CommandComplete with the tag's text. After an error the outbox is as it was.
