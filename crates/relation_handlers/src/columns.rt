@@ -5,7 +5,7 @@ ghost use Rattle.pg_messages.specs.declared.backend.PgWireBackendMessage.TheVari
 ghost use Rattle.pg_messages.specs.Replies.{IsEncodable};
 ghost use Rattle.pg_handlers.specs.Replies.{row_description};
 ghost use Rattle.relation_tables.specs.Relations.{column, relation_at};
-ghost use Rattle.relation_tables.specs.RelationHandler.{column_format, column_formats, fields_of, is_statement_of};
+ghost use Rattle.relation_tables.specs.RelationHandler.{column_format, column_formats, columns_in, fields_of, is_statement_of};
 ghost use Rattle.relation_handlers.specs.Shared.{shared_of, told_columns};
 
 use crate::named_relations::NamedRelations;
@@ -31,9 +31,44 @@ pub(crate) fn fields_of(
     match means {
         RelationStatement::Begin => Ok(PgList::new(alloc)),
         RelationStatement::Commit => Ok(PgList::new(alloc)),
-        RelationStatement::Relation(place) => {
-            let columns = columns_at(alloc, relations, place, formats)?;
-            copy_of_fields(alloc, columns.fields())
+        RelationStatement::Relation(place) => fields_at(alloc, relations, place, formats),
+    }
+}
+
+/// The columns of the relation at a place in these formats, each made anew, which can be sent as a
+/// reply.
+fn fields_at(
+    alloc: Global,
+    relations: &NamedRelations,
+    place: u32,
+    formats: &Format,
+) -> Result<PgList<FieldInfo>, AllocError>
+    requires { place < length relations.now }
+    ensures fields { IfOk result (λ fields.
+        fields ≡ columns_in formats.now (relation_at relations.now place).columns) }
+    ensures encodable { IfOk result (λ fields. IsEncodable (row_description fields)) }
+{
+    let names = relations.at(place).columns.as_slice();
+    fields_in(alloc, relations.columns_at(place), formats, names)
+}
+
+/// The columns of these names in these formats, each made anew. Where all have one format they are
+/// copied from those that are shared.
+fn fields_in(
+    alloc: Global,
+    shared: &SharedColumns,
+    formats: &Format,
+    names: &[PgStr],
+) -> Result<PgList<FieldInfo>, AllocError>
+    requires { shared.now ≡ shared_of names.now }
+    ensures { IfOk result (λ fields. fields ≡ columns_in formats.now names.now) }
+{
+    match formats {
+        Format::UnifiedText => copy_of_fields(alloc, shared.text.fields()),
+        Format::UnifiedBinary => copy_of_fields(alloc, shared.binary.fields()),
+        Format::Individual(_) => {
+            let formats = column_formats(alloc, formats, names)?;
+            columns(alloc, formats.as_slice(), names)
         }
     }
 }
