@@ -1,8 +1,7 @@
 -- Words of a command line.
-use Rattle.std.proofs.Common.{◌≡◌, inl, inr, ℕ, ◌≤◌, ◌<◌, List, [], ◌∷◌, length, get_or, true, bytes_eq, Option, Some, None, Ok, Err, refl, sym, ap, arith}
+use Rattle.std.proofs.Common.{◌≡◌, inl, inr, ℕ, ◌≤◌, ◌<◌, List, [], ◌∷◌, length, get_or, Option, Some, None, Ok, Err, refl, ap, arith}
 use Rattle.pg_text.specs.Cells.{IsRead}
 use Rattle.std.specs.Prelude.{codes}
-use Rattle.std.proofs.lemmas.Slice.Eq.{bytes_eq-Decides}
 use Rattle.pg_text.specs.Words.{or_invalid, interval_style_of}
 use Rattle.pg_text.specs.declared.format.interval_style.IntervalStyle.{IntervalStyle}
 use Rattle.rota_moments.specs.Texts.{IsReading}
@@ -38,18 +37,14 @@ eight [] a b c d e f g i h k = absurd (omega arith)
 eight (o ∷ []) a b c d e f g i h k = absurd (omega arith)
 eight (o ∷ p ∷ ws) a b c d e f g i h k = ap (λ l. o ∷ p ∷ l) (six ws c d e f g i (omega arith) (omega arith))
 
-same_text : (a b : List ℕ) → true ≡ bytes_eq a b → a ≡ b
-same_text a b h = (bytes_eq-Decides a b).0 (sym h)
-
 -- Six words order the lines of a rota, and eight the clashes of two.
 pub order_lines : (ws : List (List ℕ)) (n : Named) (s : IntervalStyle) (command relation column start style : List ℕ)
     (d0 d2 d3 d4 d5 : List ℕ)
-    → 6 ≤ length ws → length ws < 7 → true ≡ bytes_eq command (codes "lines") → command ≡ get_or ws 0 d0 → relation ≡ get_or ws 2 d2
+    → 6 ≤ length ws → length ws < 7 → command ≡ codes "lines" → command ≡ get_or ws 0 d0 → relation ≡ get_or ws 2 d2
     → column ≡ get_or ws 3 d3
     → start ≡ get_or ws 4 d4 → style ≡ get_or ws 5 d5 → n.relation ≡ relation → n.column ≡ column → IsReading start (Ok n.start)
     → interval_style_of style ≡ Some s → OrderLines ws n s
 order_lines ws n s command relation column start style d0 d2 d3 d4 d5 least below is w0 w2 w3 w4 w5 r c m t =
-    let same = same_text command (codes "lines") is in
     let words = six ws d0 [] d2 d3 d4 d5 least below in
     record {
       file = get_or ws 1 [];
@@ -61,13 +56,12 @@ order_lines ws n s command relation column start style d0 d2 d3 d4 d5 least belo
     }
 
 pub order_clashes : (ws : List (List ℕ)) (n m : Named) (command relation column start other its_column its_start : List ℕ)
-    (d0 d2 d3 d4 d5 d6 d7 : List ℕ) → 8 ≤ length ws → length ws < 9 → true ≡ bytes_eq command (codes "clashes") → command ≡ get_or ws 0 d0
+    (d0 d2 d3 d4 d5 d6 d7 : List ℕ) → 8 ≤ length ws → length ws < 9 → command ≡ codes "clashes" → command ≡ get_or ws 0 d0
     → relation ≡ get_or ws 2 d2 → column ≡ get_or ws 3 d3 → start ≡ get_or ws 4 d4 → other ≡ get_or ws 5 d5 → its_column ≡ get_or ws 6 d6
     → its_start ≡ get_or ws 7 d7 → n.relation ≡ relation → n.column ≡ column → IsReading start (Ok n.start) → m.relation ≡ other
     → m.column ≡ its_column → IsReading its_start (Ok m.start) → OrderClashes ws n m
 order_clashes ws n m command relation column start other its_column its_start d0 d2 d3 d4 d5 d6 d7 least below is w0 w2 w3 w4 w5 w6 w7 r c t
     q k u =
-    let same = same_text command (codes "clashes") is in
     let words = eight ws d0 [] d2 d3 d4 d5 d6 d7 least below in
     record {
       file = get_or ws 1 [];

@@ -1,6 +1,6 @@
 //! The orders that words give.
 
-ghost use Rattle.std.specs.Prelude.{◌≡◌, ◌↔◌, Ok, Some, IfSome, IfNone, IsSome, slice_get};
+ghost use Rattle.std.specs.Prelude.{◌≡◌, ◌↔◌, Ok, Some, IfSome, IfNone, IsSome, IsTrue, slice_get};
 ghost use Rattle.pg_text.specs.Words.{interval_style_of};
 ghost use Rattle.rota_moments.specs.Texts.{IsReading};
 ghost use Rattle.rota_moments.specs.declared.moment.Moment.{Moment};
@@ -21,9 +21,9 @@ pub fn read_order<'w>(alloc: Global, words: &'w [PgStr]) -> Option<Order<'w>>
     ensures none { IfNone result ((o : Ordered) → ¬ Orders words.now o) }
 {
     match words {
-        [command, _, relation, column, start, style] if command.as_str() == "lines" => {
-            let rota = read_rota(relation.as_str(), column.as_str(), start.as_str())?;
-            let style = read_style(alloc, style.as_str())?;
+        [command, _, relation, column, start, style] if is_word(command, "lines") => {
+            let rota = read_rota(relation, column, start)?;
+            let style = read_style(alloc, style)?;
             Some(Order::Lines(rota, style))
         }
         [
@@ -35,9 +35,9 @@ pub fn read_order<'w>(alloc: Global, words: &'w [PgStr]) -> Option<Order<'w>>
             other,
             its_column,
             its_start,
-        ] if command.as_str() == "clashes" => {
-            let rota = read_rota(relation.as_str(), column.as_str(), start.as_str())?;
-            let other = read_rota(other.as_str(), its_column.as_str(), its_start.as_str())?;
+        ] if is_word(command, "clashes") => {
+            let rota = read_rota(relation, column, start)?;
+            let other = read_rota(other, its_column, its_start)?;
             Some(Order::Clashes(rota, other))
         }
         _ => None,
@@ -53,17 +53,24 @@ pub fn file_word<'w>(alloc: Global, words: &'w [PgStr]) -> Option<&'w str>
     Some(words.get(1)?.as_str())
 }
 
+/// Whether a word is this text.
+fn is_word(word: &PgStr, text: &str) -> bool
+    ensures { IsTrue result ↔ (word.now ≡ text.now) }
+{
+    word.as_str() == text
+}
+
 /// The rota that three words name.
-fn read_rota<'w>(relation: &'w str, column: &'w str, start: &str) -> Option<RotaWords<'w>>
+fn read_rota<'w>(relation: &'w PgStr, column: &'w PgStr, start: &PgStr) -> Option<RotaWords<'w>>
     ensures relation { IfSome result (λ w. w.relation.now ≡ relation.now) }
     ensures column { IfSome result (λ w. w.column.now ≡ column.now) }
     ensures start { IfSome result (λ w. IsReading start.now (Ok w.start)) }
     ensures none { IfNone result ((m : Moment) → ¬ IsReading start.now (Ok m)) }
 {
-    match Moment::read(start) {
+    match Moment::read(start.as_str()) {
         Ok(start) => Some(RotaWords {
-            relation,
-            column,
+            relation: relation.as_str(),
+            column: column.as_str(),
             start,
         }),
         Err(_) => None,
@@ -71,10 +78,10 @@ fn read_rota<'w>(relation: &'w str, column: &'w str, start: &str) -> Option<Rota
 }
 
 /// The style that a word names.
-fn read_style(alloc: Global, word: &str) -> Option<IntervalStyle>
+fn read_style(alloc: Global, word: &PgStr) -> Option<IntervalStyle>
     ensures { result ≡ interval_style_of word.now }
 {
-    match IntervalStyle::try_from_text(alloc, word) {
+    match IntervalStyle::try_from_text(alloc, word.as_str()) {
         Ok(style) => Some(style),
         Err(_) => None,
     }
