@@ -70,7 +70,17 @@ fn parameter(
     pg_type: PgType,
 ) -> Result<&'static str, AllocError> {
     let portal = portal(alloc, codes, bytes)?;
-    Ok(told(&portal.parameter(alloc, idx, pg_type), idx))
+    Ok(told_by(&portal, alloc, idx, pg_type))
+}
+
+/// What the portal's parameter at an index tells, in a word.
+fn told_by(
+    portal: &Portal<PgStr, ListRows>,
+    alloc: Global,
+    idx: usize,
+    pg_type: PgType,
+) -> &'static str {
+    told(&portal.parameter(alloc, idx, pg_type), idx)
 }
 
 #[test]

@@ -107,12 +107,16 @@ fn stands_still(portal: &mut Portal<PgStr, ListRows>, alloc: Global) -> Result<b
     Ok(is_next(portal, alloc, 2, &[10, 11], true, ("FETCH", u64::MAX)))
 }
 
+/// Whether a portal has the pages of both its starts.
+fn has_pages(portal: &mut Portal<PgStr, ListRows>, alloc: Global) -> Result<bool, AllocError> {
+    Ok(drops_a_page(portal, alloc)? && stands_still(portal, alloc)?)
+}
+
 /// One portal, which is started twice.
 #[test]
 fn pages_of_a_portal(rt: HostRuntime) -> Result<(), Fail> {
     let mut portal = cursor(rt.alloc())?;
     assert!(rt; is_unstarted(&mut portal, rt.alloc()));
-    assert!(rt; drops_a_page(&mut portal, rt.alloc()) == Ok(true));
-    assert!(rt; stands_still(&mut portal, rt.alloc()) == Ok(true));
+    assert!(rt; has_pages(&mut portal, rt.alloc()) == Ok(true));
     Ok(())
 }
