@@ -1,13 +1,15 @@
 //! Sample rows.
 
-ghost use Rattle.std.specs.Prelude.{◌≡◌, ◌≤◌, pos, IfOk, length};
+ghost use Rattle.std.specs.Prelude.{◌≡◌, ◌≤◌, [], pos, IfOk, OnOk, length};
+ghost use Rattle.std.specs.List.{AllByRecursion};
 ghost use Rattle.pg_messages.specs.Replies.{IsEncodable};
 ghost use Rattle.pg_messages.specs.declared.backend.PgWireBackendMessage.TheVariants as server;
+ghost use Rattle.pg_portal.specs.Rows.{IsSendable};
 ghost use Rattle.sample_handlers.specs.Told.{first_row, pair_items, broken_items, long_items};
 
 use crate::errors::division_by_zero;
 use pg_messages::{DataRow, PgBytes, PgList};
-use pg_portal::ListRows;
+use pg_portal::{ListRows, PgWireError};
 use pg_text::FieldFormat;
 use std::alloc::{AllocError, Global};
 
@@ -60,11 +62,24 @@ pub(crate) fn broken_rows(alloc: Global, format: FieldFormat) -> Result<ListRows
     ensures { IfOk result (λ rows. rows ≡ broken_items format) }
 {
     let mut items = PgList::new(alloc);
+    push_broken(alloc, format, &mut items)?;
+    Ok(ListRows::new(items))
+}
+
+/// Puts these items where nothing is yet.
+fn push_broken(
+    alloc: Global,
+    format: FieldFormat,
+    items: &mut PgList<Result<DataRow, PgWireError>>,
+) -> Result<(), AllocError>
+    requires empty { items.old ≡ [] }
+    ensures items { OnOk result (items.new ≡ broken_items format) }
+    ensures sendable { OnOk result (AllByRecursion IsSendable items.new) }
+{
     items.push(Ok(first_row(alloc, format)?))?;
     items.push(Err(division_by_zero(alloc)?))?;
     items.push(Ok(row(alloc, &NULL_ROW)?))?;
-    items.push(Ok(row(alloc, &NULL_ROW)?))?;
-    Ok(ListRows::new(items))
+    items.push(Ok(row(alloc, &NULL_ROW)?))
 }
 
 /// So many first rows, an error, and the second row.
