@@ -1,7 +1,7 @@
 //! What the texts of queries mean.
 
 ghost use Rattle.std.specs.Prelude.{◌≡◌};
-ghost use Rattle.sample_handlers.specs.Meanings.{meaning, meaning_of};
+ghost use Rattle.sample_handlers.specs.Meanings.{meaning, meaning_of, other_meaning_of};
 
 use query_texts::trimmed;
 
@@ -51,7 +51,16 @@ pub(crate) fn meaning_of(text: &str) -> Option<SampleStatement>
         Some(SampleStatement::CopyOut)
     } else if text == "both" {
         Some(SampleStatement::CopyBoth)
-    } else if text == "failed" {
+    } else {
+        other_meaning_of(text)
+    }
+}
+
+/// What a trimmed text means that asks neither for rows at once nor for a COPY.
+fn other_meaning_of(text: &str) -> Option<SampleStatement>
+    ensures { result ≡ other_meaning_of text.now }
+{
+    if text == "failed" {
         Some(SampleStatement::Failed)
     } else if text == "done" {
         Some(SampleStatement::Done)
