@@ -63,7 +63,19 @@ fn put_rota<'t>(alloc: Global, answer: &mut String, given: &'t str) -> Result<()
     let (start, steps) = next_part(given)?;
     let start = moment(start)?;
     let steps = intervals(alloc, steps)?;
-    match rota(alloc, start, steps.as_slice()) {
+    put_rota_of(alloc, answer, start, steps.as_slice())
+}
+
+/// Puts the moments of a rota, or the first step that is refused.
+fn put_rota_of<'t>(
+    alloc: Global,
+    answer: &mut String,
+    start: Moment,
+    steps: &[Interval],
+) -> Result<(), Fault<'t>>
+    requires { IsMoment start }
+{
+    match rota(alloc, start, steps) {
         Ok(moments) => Ok(put_moments(answer, moments.as_slice())?),
         Err(RotaError::OutOfRange(place, reason)) => {
             let word = reason_text(reason);
@@ -104,15 +116,20 @@ fn put_total<'t>(alloc: Global, answer: &mut String, given: &'t str) -> Result<(
 
 /// `START|STYLE|STEPS`: the lines of the rota, with `\t` and `\n` for tabs and line ends.
 fn put_lines<'t>(alloc: Global, answer: &mut String, given: &'t str) -> Result<(), Fault<'t>> {
+    match lines_of(alloc, given)? {
+        None => Err(Fault::Line(given)),
+        Some(lines) => Ok(put_shown(answer, lines.as_str())?),
+    }
+}
+
+/// `START|STYLE|STEPS`: the lines of the rota, and its end's; None where it is refused.
+fn lines_of<'t>(alloc: Global, given: &'t str) -> Result<Option<String>, Fault<'t>> {
     let (start, rest) = next_part(given)?;
     let (style, steps) = next_part(rest)?;
     let start = moment(start)?;
     let style = style_of(alloc, style)?;
     let steps = intervals(alloc, steps)?;
-    match rota_lines(alloc, start, steps.as_slice(), style)? {
-        None => Err(Fault::Line(given)),
-        Some(lines) => Ok(put_shown(answer, lines.as_str())?),
-    }
+    Ok(rota_lines(alloc, start, steps.as_slice(), style)?)
 }
 
 /// The lines of a rota, and its end's; None where it is refused.
@@ -187,10 +204,24 @@ fn put_clashes<'t>(alloc: Global, answer: &mut String, given: &'t str) -> Result
     let first = moments_from(alloc, start, steps)?;
     let (start, steps) = next_part(rest)?;
     let second = moments_from(alloc, start, steps)?;
+    put_clashes_of(alloc, answer, first.as_slice(), second.as_slice(), given)
+}
+
+/// Puts the lines of the clashes of two rotas, unless one that was given has too many moments.
+fn put_clashes_of<'t>(
+    alloc: Global,
+    answer: &mut String,
+    first: &[Moment],
+    second: &[Moment],
+    given: &'t str,
+) -> Result<(), Fault<'t>>
+    requires first_valid { All IsMoment first.now }
+    requires second_valid { All IsMoment second.now }
+{
     if first.len() > 4_294_967_295 || second.len() > 4_294_967_295 {
         return Err(Fault::Line(given));
     }
-    let lines = clash_lines(alloc, first.as_slice(), second.as_slice())?;
+    let lines = clash_lines(alloc, first, second)?;
     Ok(put_shown(answer, lines.as_str())?)
 }
 
