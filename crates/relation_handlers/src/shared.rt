@@ -47,6 +47,7 @@ impl Columns {
     }
 
     /// The same columns. It takes no memory.
+    #[inline(always)]
     pub(crate) fn share(&self) -> Result<Columns, AllocError>
         ensures { IfOk result (λ same. same ≡ self.now) }
     {

@@ -118,6 +118,7 @@ impl RelationTable {
 
     /// The settings of a client, whose interval style is looked up once. Where that is one of the
     /// four by its very name, as it is without one, they are shared, which takes no memory.
+    #[inline(always)]
     pub(crate) fn settings_of(
         &self,
         alloc: Global,
