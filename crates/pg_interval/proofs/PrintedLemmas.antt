@@ -1,12 +1,10 @@
 -- What the words of a printed text are in each case.
-use Rattle.std.proofs.Common.{◌≡◌, ◌≢◌, ℕ, zero, suc, ℤ, pos, negsuc, ◌<◌, ◌≤◌, ◌+◌, ◌^◌, Bool, true, false, not, cond, ◌&&◌, ◌||◌, ◌↔◌, List, [], ◌∷◌, ◌++◌, length, drop, length-drop, ap, ◌∙◌, sym, refl, arith, lit<, map, subst, inl, inr, ◌⊎◌, ◌<ℤ◌, get_or, FitsSigned, w32, w64, to_z, of_z}
+use Rattle.std.proofs.Common.{◌≡◌, ◌≢◌, ℕ, zero, suc, ℤ, pos, ◌<◌, ◌+◌, ◌^◌, Bool, true, false, not, ◌&&◌, ◌||◌, ◌↔◌, List, [], ◌∷◌, ◌++◌, ap, ◌∙◌, sym, refl, arith, lit<, subst, inl, inr, ◌⊎◌, ◌<ℤ◌, get_or, FitsSigned, w32, w64, to_z, of_z}
 use Rattle.std.specs.Int.Signed.{mag}
-use mathlib.Core.List.{append_assoc, append-nil, map-append}
+use mathlib.Core.List.{append_assoc, append-nil}
 use Rattle.std.proofs.lemmas.Grind.{flat_map-append}
 use Rattle.std.specs.Prelude.{unsigned_abs, decimal, codes, bytes_eq, IsTrue, All, Any, nat_eq, if◌then◌else◌}
-use Rattle.std.specs.List.{join_with_byte}
 use Rattle.std.proofs.lemmas.Int.{to_z-of_z, ints}
-use Rattle.std.proofs.lemmas.List.{drop_all}
 use Rattle.std.proofs.lemmas.List.Elements.{All-cons, All-nil}
 use Rattle.std.specs.Int.{is_positive, is_negative}
 use Rattle.std.proofs.lemmas.Fmt.{decimal_injective}
@@ -14,7 +12,7 @@ use Rattle.std.proofs.lemmas.Slice.Eq.{bytes_eq-Decides}
 use Rattle.std.proofs.Math.Bool.{and-false}
 use Rattle.std.specs.Fmt.{digits}
 use Rattle.pg_interval.specs.NormalForm.{all_fields, time_fields}
-use Rattle.pg_interval.specs.Printed.{is_zero, is_all_zero, is_time_zero, is_year_month_zero, minus_if, digits_of, joined_before, space_before, word_end, part_of, part_text, own_text, Part, time_texts, after_hours, two_digits, date_parts, postgres_text, verbose_time_parts, second_parts, is_second_zero, is_second_negative, is_ago, is_time_positive, is_time_negative}
+use Rattle.pg_interval.specs.Printed.{is_zero, is_all_zero, is_time_zero, is_year_month_zero, minus_if, word_end, part_of, verbose_time_parts, second_parts, is_second_zero, is_second_negative, is_ago, is_time_positive}
 use Rattle.pg_interval.specs.declared.interval_norm.IntervalNorm.{IntervalNorm}
 
 pub ruleset signed_passed = (to_z-of_z, append_assoc, append-nil)
@@ -218,119 +216,6 @@ word_end_point false (x ∷ []) ys = ap (λ b. if b then [] else codes "s") (and
 word_end_point false (x ∷ y ∷ xs) ys = ap (λ b. if b then [] else codes "s") (and-false (nat_eq x 49))
 
 pub ruleset word_ends = (word_end_minus, word_end_one, word_end_many, append-nil)
-
--- ---- parts in a row
-
-space_some : (text : List ℕ) → 0 < length text → space_before text ≡ 32 ∷ text
-space_some [] h = absurd (omega arith)
-space_some (c ∷ cs) h = refl
-
--- a space is put where something stands behind it
-pub space_put_some : (text : List ℕ) (end : ℕ) → end < length text → space_before (drop end text) ≡ 32 ∷ drop end text
-space_put_some text end h = space_some (drop end text) (omega (arith, length-drop end text))
-
-pub space_put_none : (text : List ℕ) (end : ℕ) → length text ≤ end → space_before (drop end text) ≡ drop end text
-space_put_none text end h = rw (drop_all end text h) refl
-
-pub ruleset space_put = (space_put_some, space_put_none)
-
-pub joined_before-append : (ps qs : List (List ℕ)) (text : List ℕ)
-    → joined_before (ps ++ qs) text ≡ joined_before ps (joined_before qs text)
-joined_before-append [] qs text = refl
-joined_before-append (p ∷ ps) qs text = ap (λ t. p ++ space_before t) (joined_before-append ps qs text)
-
-IsFilled : List ℕ → Type 0
-IsFilled [] = ⊥
-IsFilled (c ∷ cs) = Unit {0}
-
--- no part is empty
-AreFilled : List (List ℕ) → Type 0
-AreFilled [] = Unit {0}
-AreFilled (p ∷ ps) = IsFilled p × AreFilled ps
-
-filled_left : (a b : List ℕ) → IsFilled a → IsFilled (a ++ b)
-unfolding IsFilled
-filled_left [] b h = elim h [ ]
-filled_left (c ∷ cs) b h = tt
-
-filled_right : (a b : List ℕ) → IsFilled b → IsFilled (a ++ b)
-unfolding IsFilled
-filled_right [] b h = h
-filled_right (c ∷ cs) b h = tt
-
-are_filled : (ps qs : List (List ℕ)) → AreFilled ps → AreFilled qs → AreFilled (ps ++ qs)
-unfolding AreFilled
-are_filled [] qs h k = k
-are_filled (p ∷ ps) qs h k = (h.0, are_filled ps qs h.1 k)
-
-space_filled : (text : List ℕ) → IsFilled text → space_before text ≡ 32 ∷ text
-unfolding IsFilled
-space_filled [] h = elim h [ ]
-space_filled (c ∷ cs) h = refl
-
-join_filled : (p : List ℕ) (ps : List (List ℕ)) → IsFilled p → IsFilled (join_with_byte 32 (p ∷ ps))
-join_filled p [] h = h
-join_filled p (q ∷ ps) h = filled_left p (32 ∷ join_with_byte 32 (q ∷ ps)) h
-
-joined_filled : (ps : List (List ℕ)) → AreFilled ps → joined_before ps [] ≡ join_with_byte 32 ps
-unfolding AreFilled
-joined_filled [] h = refl
-joined_filled (p ∷ []) h = append-nil p
-joined_filled (p ∷ q ∷ ps) h = ap (λ t. p ++ space_before t) (joined_filled (q ∷ ps) h.1)
-    ∙ ap (λ t. p ++ t) (space_filled (join_with_byte 32 (q ∷ ps)) (join_filled q ps h.1.0))
-
-part_filled : (z : ℤ) (name : List ℕ) → AreFilled (map own_text (part_of z name))
-unfolding AreFilled part_of part_text
-part_filled z name = elim (is_zero z) as (λ b. AreFilled (map own_text (if b then [] else record {
-  negative = is_negative z;
-  digits = digits_of z;
-  word = name;
-} ∷ []))) [
-  | true ↦ tt
-  | false ↦ (filled_left _ (word_end _) (filled_right (minus_if (is_negative z) ++ digits_of z) (32 ∷ name) (unfold IsFilled in tt)), tt)
-]
-
-time_filled : (n : IntervalNorm) → AreFilled (time_texts n)
-unfolding AreFilled time_texts after_hours
-time_filled n = elim (is_time_zero n) as (λ b. AreFilled (if b then []
-    else (minus_if (is_time_negative n) ++ two_digits n.hours ++ after_hours n) ∷ [])) [
-      | true ↦ tt
-      | false ↦ (filled_right (minus_if (is_time_negative n) ++ two_digits n.hours) (after_hours n) (unfold IsFilled in tt), tt)
-    ]
-
-map_three : (ps qs rs : List Part) → map own_text (ps ++ qs ++ rs) ≡ map own_text ps ++ map own_text qs ++ map own_text rs
-map_three ps qs rs = simp map-append
-
--- the parts of a text, one behind another
-parts_joined : (n : IntervalNorm) → joined_before (map own_text (part_of n.years (codes "year")))
-    (joined_before (map own_text (part_of n.months (codes "mon")))
-    (joined_before (map own_text (part_of n.days (codes "day"))) (joined_before (time_texts n) [])))
-    ≡ join_with_byte 32 (map own_text (date_parts n) ++ time_texts n)
-unfolding date_parts
-parts_joined n =
-    let y : List (List ℕ) = map own_text (part_of n.years (codes "year")) in
-    let m : List (List ℕ) = map own_text (part_of n.months (codes "mon")) in
-    let d : List (List ℕ) = map own_text (part_of n.days (codes "day")) in
-    let t : List (List ℕ) = time_texts n in
-    let filled : AreFilled (((y ++ m) ++ d) ++ t) =
-    are_filled ((y ++ m) ++ d) t (are_filled (y ++ m) d
-    (are_filled y m (part_filled n.years (codes "year")) (part_filled n.months (codes "mon"))) (part_filled n.days (codes "day")))
-    (time_filled n) in
-    sym (joined_before-append ((y ++ m) ++ d) t [] ∙ joined_before-append (y ++ m) d (joined_before t [])
-    ∙ joined_before-append y m (joined_before d (joined_before t [])))
-    ∙ joined_filled (((y ++ m) ++ d) ++ t) filled
-    ∙ ap (λ ps. join_with_byte 32 (ps ++ t)) (sym (map_three (part_of n.years (codes "year")) (part_of n.months (codes "mon"))
-    (part_of n.days (codes "day"))))
-
--- what one part in front of another leaves
-pub postgres_printed : (n : IntervalNorm) (rest t0 t1 t2 t3 : List ℕ) (y m d : ℤ) → y ≡ n.years → m ≡ n.months → d ≡ n.days
-    → is_all_zero n ≡ false → rest ≡ [] → t0 ≡ joined_before (time_texts n) rest
-    → t1 ≡ joined_before (map own_text (part_of d (codes "day"))) t0 → t2 ≡ joined_before (map own_text (part_of m (codes "mon"))) t1
-    → t3 ≡ joined_before (map own_text (part_of y (codes "year"))) t2 → t3 ≡ postgres_text n ++ rest
-unfolding postgres_text
-postgres_printed n rest t0 t1 t2 t3 y m d ey em ed some none e0 e1 e2 e3 =
-    rw (e3, e2, e1, e0, ey, em, ed, some, none) (parts_joined n
-    ∙ sym (append-nil (join_with_byte 32 (map own_text (date_parts n) ++ time_texts n))))
 
 not_negative : (z : ℤ) → is_zero z ≡ true → is_negative z ≡ false
 not_negative z h = ap is_negative (zero_is_zero z h)

@@ -99,16 +99,6 @@ date_parts n = part_of n.years (codes "year") ++ part_of n.months (codes "mon") 
 unfoldable pub time_texts : IntervalNorm → List (List ℕ)
 time_texts n = if is_time_zero n then [] else (minus_if (is_time_negative n) ++ two_digits n.hours ++ after_hours n) ∷ []
 
--- a space where something stands behind it
-abbrev pub space_before : List ℕ → List ℕ
-space_before [] = []
-space_before (c ∷ cs) = 32 ∷ c ∷ cs
-
--- the parts one behind another in front of a text, with a space between each two
-abbrev pub joined_before : List (List ℕ) → List ℕ → List ℕ
-joined_before [] text = text
-joined_before (p ∷ ps) text = p ++ space_before (joined_before ps text)
-
 -- the parts and the time, a space between each two
 unfoldable pub postgres_text : IntervalNorm → List ℕ
 postgres_text n = if is_all_zero n then codes "00:00:00" else join_with_byte 32 (map own_text (date_parts n) ++ time_texts n)

@@ -53,12 +53,11 @@ fn put_item(number: i64, letter: u8, text: &mut [u8; LONGEST], end: usize) -> us
     ensures place { (result ≤ end) × (end ≤ result + length (digits_of number) + 2) }
     ensures written { drop result text.new ≡ item_text number letter ++ drop end text.old }
 {
-    let digits = number.unsigned_abs();
-    if digits == 0 {
+    if number == 0 {
         return end;
     }
     let before_letter = put_byte(letter, text, end);
-    let before_digits = put_digits(digits, text, before_letter);
+    let before_digits = put_digits(number.unsigned_abs(), text, before_letter);
     put_minus_if(number.is_negative(), text, before_digits)
 }
 

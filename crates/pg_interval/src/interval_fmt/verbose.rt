@@ -129,6 +129,9 @@ fn put_verbose_part(
     ensures written { drop result text.new
         ≡ flat_map (verbose_part_text ago) (part_of number word.now) ++ drop end text.old }
 {
+    if number == 0 {
+        return end;
+    }
     let negative = number.is_negative() != ago;
     put_part(negative, number.unsigned_abs(), word, words, text, end)
 }
