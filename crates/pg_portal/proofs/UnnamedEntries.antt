@@ -182,3 +182,11 @@ module _ {A X : Type 0} (o : Option X) (m : tree.BTreeMap (String A) X) (seen : 
       → OnSome r (with_unnamed o (name_map n.entries) ≡ fin.insert seen name w)
   written-else t n w None e h = tt
   written-else t n w (Some x) e h = insert-else t n w (h.3 (subst IsSome e refl))
+
+-- where no entry stands under the empty name, there is none to remove
+pub remove-nothing : {A X : Type 0} (xs : List X) (m : tree.BTreeMap (String A) X) (seen : NameMap X)
+    → with_unnamed (slice_get xs 0) (name_map m.entries) ≡ seen → xs ≡ []
+    → (name : List ℕ) (b : Bool) → b ≡ (length name == 0) → b ≡ true → seen ≡ fin.remove seen name
+remove-nothing xs m seen view_is nothing name b tested t =
+    sym view_is ∙ ap (λ l. with_unnamed (slice_get l 0) (name_map m.entries)) nothing
+    ∙ remove-then (slice_get xs 0) m seen view_is name b tested t

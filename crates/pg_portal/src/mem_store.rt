@@ -32,9 +32,7 @@ impl<S: Drop, R: RowSource> MemPortalStore<S, R> {
             portals: Named::new(alloc),
         }
     }
-}
 
-impl<S: Drop, R: RowSource> MemPortalStore<S, R> {
     // Puts a statement whose name isn't empty, apart from what most calls do.
     #[cold]
     #[inline(never)]

@@ -126,11 +126,22 @@ impl<T> Named<T> {
         T: Drop,
         ensures { self.new ≡ map.remove self.old name.now }
     {
-        if name.is_empty() {
-            self.unnamed.clear();
-        } else {
+        if !name.is_empty() {
             self.remove_named(name);
+        } else if !self.unnamed.is_empty() {
+            self.remove_unnamed();
         }
+    }
+
+    // Removes the entry under the empty name, apart from where none stands there: whoever has this
+    // written inline zeroes room for the entry that is let go, whether there is one or not.
+    #[inline(never)]
+    fn remove_unnamed(&mut self)
+    where
+        T: Drop,
+        ensures { self.new ≡ map.remove self.old [] }
+    {
+        self.unnamed.clear();
     }
 
     // Removes the entry under a name that isn't empty, apart from what most calls do.
