@@ -1,10 +1,12 @@
 //! Clients are served, one behind another.
 
-ghost use Rattle.std.specs.Prelude.{◌≡◌, ◌++◌, List, OnOk, IfOk};
+ghost use Rattle.std.specs.Prelude.{◌≡◌, ◌++◌, ◌+◌, ◌<◌, List, OnOk, OnErr, IfOk};
 ghost use Rattle.std.specs.Arc.{arc_value};
+ghost use Rattle.pg_handlers.specs.Desk.{GoesOn};
 ghost use Rattle.pg_handlers.specs.State.{first_state};
 ghost use Rattle.pg_handlers.specs.declared.desk.DeskCall.{DeskCall};
 ghost use Rattle.pg_session.specs.Session.{whole_rules};
+ghost use Rattle.pg_session.specs.Streams.{greatest_count};
 ghost use Rattle.pg_serve.specs.Desk.{ConnectionGoesOn, desk_calls};
 ghost use Rattle.pg_serve.specs.Serving.{WentSo, IsServedRun};
 
@@ -13,14 +15,34 @@ use pg_cancel::{ConnectionHandle, ConnectionManager, Door};
 use pg_messages::SecretKey;
 use pg_portal::MemPortalStore;
 use pg_serve::{Acceptor, HandleDesk, KeySource, serve_connection};
-use pg_session::{EndKind, PgWireServerHandlers, ServeError, Sink, Source};
+use pg_session::{CancelDesk, EndKind, PgWireServerHandlers, ServeError, Sink, Source};
 use std::alloc::Global;
 use std::io;
 use std::sync::{Arc, Wait};
 
 /// Serves so many clients, one behind another, under the process ids from 1 on. Each is registered
-/// while it is served. How the conversation with one ended is nothing to the next.
+/// while it is served, in a registry of these clients alone. How the conversation with one ended is
+/// nothing to the next. The error is that there was no memory for the registry, no key for a client
+/// or no connection.
 pub fn serve_clients<R: Wait, H: PgWireServerHandlers, A: Acceptor, G: KeySource>(
+    rt: &R,
+    alloc: Global,
+    handlers: &Arc<H>,
+    acceptor: &mut A,
+    keys: &mut G,
+    count: u16,
+) -> io::Result<()>
+    requires accepted { A.accepted acceptor.old ≡ 0 }
+    ensures served { OnOk result (A.accepted acceptor.new ≡ count) }
+{
+    let (manager, mut door) = ConnectionManager::new(alloc)?;
+    serve_each(
+        rt, alloc, handlers, acceptor, keys, &manager, &mut door, count,
+    )
+}
+
+/// Serves so many clients, as [`serve_clients`] does, who are registered by this door.
+fn serve_each<R: Wait, H: PgWireServerHandlers, A: Acceptor, G: KeySource>(
     rt: &R,
     alloc: Global,
     handlers: &Arc<H>,
@@ -32,27 +54,68 @@ pub fn serve_clients<R: Wait, H: PgWireServerHandlers, A: Acceptor, G: KeySource
 ) -> io::Result<()>
     requires accepted { A.accepted acceptor.old ≡ 0 }
     requires issued { door.old.issuer ≡ manager.now }
-    ensures issued { door.new.issuer ≡ door.old.issuer }
     ensures served { OnOk result (A.accepted acceptor.new ≡ count) }
 {
     'clients: for before in 0..count {
-        let Ok((mut source, mut sink)) = acceptor.accept() else {
-            return Err(io::Error::from(io::ErrorKind::Other));
-        };
         let pid = i32::from(before) + 1;
-        let key = keys.next_key()?;
-        let _end = serve_connected(
-            rt,
-            alloc,
-            handlers,
-            manager,
-            door,
-            pid,
-            key,
-            &mut source,
-            &mut sink,
-        );
+        serve_next(rt, alloc, handlers, acceptor, keys, manager, door, pid)?;
     }
+    Ok(())
+}
+
+/// Serves the next client under a process id and a key that is drawn for it. How the conversation
+/// ended is not told. The error is that there was no key, or that no connection came.
+fn serve_next<R: Wait, H: PgWireServerHandlers, A: Acceptor, G: KeySource>(
+    rt: &R,
+    alloc: Global,
+    handlers: &Arc<H>,
+    acceptor: &mut A,
+    keys: &mut G,
+    manager: &ConnectionManager,
+    door: &mut Door,
+    pid: i32,
+) -> io::Result<()>
+    requires room { A.accepted acceptor.old < greatest_count }
+    requires issued { door.old.issuer ≡ manager.now }
+    ensures issued { door.new.issuer ≡ door.old.issuer }
+    ensures accepted { OnOk result (A.accepted acceptor.new ≡ A.accepted acceptor.old + 1) }
+    ensures none { OnErr result (A.accepted acceptor.new ≡ A.accepted acceptor.old) }
+{
+    let key = keys.next_key()?;
+    serve_under(rt, alloc, handlers, acceptor, manager, door, pid, key)
+}
+
+/// Waits for the next connection, and serves its client under a process id and a key.
+fn serve_under<R: Wait, H: PgWireServerHandlers, A: Acceptor>(
+    rt: &R,
+    alloc: Global,
+    handlers: &Arc<H>,
+    acceptor: &mut A,
+    manager: &ConnectionManager,
+    door: &mut Door,
+    pid: i32,
+    key: SecretKey,
+) -> io::Result<()>
+    requires room { A.accepted acceptor.old < greatest_count }
+    requires issued { door.old.issuer ≡ manager.now }
+    ensures issued { door.new.issuer ≡ door.old.issuer }
+    ensures accepted { OnOk result (A.accepted acceptor.new ≡ A.accepted acceptor.old + 1) }
+    ensures none { OnErr result (A.accepted acceptor.new ≡ A.accepted acceptor.old) }
+{
+    let Ok((mut source, mut sink)) = acceptor.accept() else {
+        return Err(io::Error::from(io::ErrorKind::Other));
+    };
+    let _end = serve_connected(
+        rt,
+        alloc,
+        handlers,
+        manager,
+        door,
+        pid,
+        key,
+        &mut source,
+        &mut sink,
+    );
     Ok(())
 }
 
@@ -74,7 +137,6 @@ fn serve_connected<R: Wait, H: PgWireServerHandlers, S: Source, K: Sink>(
         × IsServedRun (whole_rules (H.told (arc_value handlers.now))) (first_state pid key)
         (S.left source.old) (K.written sink.old) (K.written sink.new) calls kind) }
 {
-    let handlers = handlers.clone()?;
     let Ok(mut handle) = manager.register(rt, door, pid, key) else {
         return Err(ServeError::NoMemory);
     };
@@ -87,7 +149,7 @@ fn serve_connected<R: Wait, H: PgWireServerHandlers, S: Source, K: Sink>(
 fn serve_registered<R: Wait, H: PgWireServerHandlers, S: Source, K: Sink>(
     rt: &R,
     alloc: Global,
-    handlers: Arc<H>,
+    handlers: &Arc<H>,
     manager: &ConnectionManager,
     handle: &mut ConnectionHandle,
     source: &mut S,
@@ -96,7 +158,7 @@ fn serve_registered<R: Wait, H: PgWireServerHandlers, S: Source, K: Sink>(
     requires issued { handle.old.issuer ≡ manager.now }
     ensures went { (calls : List DeskCall)
         × (desk_calls handle.new.mine ≡ desk_calls handle.old.mine ++ calls)
-        × WentSo (whole_rules (H.told (arc_value handlers)))
+        × WentSo (whole_rules (H.told (arc_value handlers.now)))
         (first_state handle.old.pid handle.old.key) result
         (S.left source.old) (S.left source.new) (K.written sink.old) (K.written sink.new) calls }
     ensures same { ConnectionGoesOn handle.old handle.new }
@@ -106,12 +168,33 @@ fn serve_registered<R: Wait, H: PgWireServerHandlers, S: Source, K: Sink>(
         manager,
         handle,
     };
-    let store = MemPortalStore::new(alloc);
-    let end = serve_connection(alloc, handlers, store, &mut desk, source, sink, TURNS);
+    let end = serve_on(alloc, handlers, &mut desk, source, sink);
     let HandleDesk {
         runtime: _,
         manager: _,
         handle: _handle,
     } = desk;
     end
+}
+
+/// Serves the client whom this desk knows by handlers that others share, with a store in memory.
+fn serve_on<H: PgWireServerHandlers, D: CancelDesk, S: Source, K: Sink>(
+    alloc: Global,
+    handlers: &Arc<H>,
+    desk: &mut D,
+    source: &mut S,
+    sink: &mut K,
+) -> Result<EndKind, ServeError>
+    ensures went { (calls : List DeskCall)
+        × ((D.told desk.new).calls ≡ (D.told desk.old).calls ++ calls)
+        × WentSo (whole_rules (H.told (arc_value handlers.now)))
+        (first_state (D.told desk.old).registration.0 (D.told desk.old).registration.1) result
+        (S.left source.old) (S.left source.new) (K.written sink.old) (K.written sink.new) calls }
+    ensures registration { GoesOn (D.told desk.old) (D.told desk.new) }
+{
+    let Ok(handlers) = handlers.clone() else {
+        return Err(ServeError::NoMemory);
+    };
+    let store = MemPortalStore::new(alloc);
+    serve_connection(alloc, handlers, store, desk, source, sink, TURNS)
 }

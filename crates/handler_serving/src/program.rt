@@ -3,9 +3,8 @@
 use crate::clients::serve_clients;
 use crate::one_client::serve_client;
 use crate::orders::{Order, order_of};
-use pg_cancel::ConnectionManager;
 use pg_messages::SecretKey;
-use pg_serve::{Listening, RandomKeys, ReaderSource, SocketAcceptor, WriterSink};
+use pg_serve::{Listener, Listening, RandomKeys, ReaderSource, SocketAcceptor, WriterSink};
 use pg_session::PgWireServerHandlers;
 use std::alloc::Global;
 use std::env::Env;
@@ -33,17 +32,39 @@ pub fn run_program<
     H: PgWireServerHandlers,
     W: Write + Drop,
 >(rt: R, name: &str, handlers: Arc<H>, writer: W) -> io::Result<ExitCode> {
-    let words = env::args(&rt)?.collect::<Vec<String>>(rt.alloc())?;
-    match order_of(rt.alloc(), words.as_slice())? {
-        Some(Order::Listen(port, count)) => {
-            listen(rt, rt.alloc(), &handlers, port, count)?;
-            Ok(ExitCode::SUCCESS)
-        }
-        Some(Order::Serve(pid, key)) => Ok(serve_standard(&rt, handlers, pid, key, writer)),
-        None => {
-            eprintln!(rt; "usage: {name} listen PORT COUNT, serve PID KEY")?;
-            Ok(ExitCode::from(2))
-        }
+    match read_order(&rt)? {
+        Some(order) => carry_out(rt, order, handlers, writer),
+        None => tell_usage(&rt, name),
+    }
+}
+
+/// What the words of the command line order.
+fn read_order<R: Env + AllocGlobal>(rt: &R) -> io::Result<Option<Order>> {
+    let words = env::args(rt)?.collect::<Vec<String>>(rt.alloc())?;
+    Ok(order_of(rt.alloc(), words.as_slice())?)
+}
+
+/// Tells standard error how the words are used.
+fn tell_usage(rt: &impl Eprint, name: &str) -> io::Result<ExitCode> {
+    eprintln!(rt; "usage: {name} listen PORT COUNT, serve PID KEY")?;
+    Ok(ExitCode::from(2))
+}
+
+/// Does what this order says with these handlers.
+fn carry_out<
+    R: Wait
+        + Net<Stream = TcpStream, Listener = TcpListener>
+        + Clock
+        + RandomSource
+        + AllocGlobal
+        + Input
+        + Copy,
+    H: PgWireServerHandlers,
+    W: Write + Drop,
+>(rt: R, order: Order, handlers: Arc<H>, writer: W) -> io::Result<ExitCode> {
+    match order {
+        Order::Listen(port, count) => listen(rt, rt.alloc(), &handlers, port, count),
+        Order::Serve(pid, key) => Ok(serve_standard(&rt, handlers, pid, key, writer)),
     }
 }
 
@@ -51,21 +72,23 @@ pub fn run_program<
 fn listen<
     R: Wait + Net<Stream = TcpStream, Listener = TcpListener> + Clock + RandomSource + Copy,
     H: PgWireServerHandlers,
->(rt: R, alloc: Global, handlers: &Arc<H>, port: u16, count: u16) -> io::Result<()> {
+>(rt: R, alloc: Global, handlers: &Arc<H>, port: u16, count: u16) -> io::Result<ExitCode> {
     let listener = TcpListener::bind(&rt, ("127.0.0.1", port))?;
-    let mut acceptor = SocketAcceptor::new(Listening::Tcp(listener), rt);
+    serve_from(rt, alloc, handlers, Listening::Tcp(listener), count)?;
+    Ok(ExitCode::SUCCESS)
+}
+
+/// Serves so many clients, whose connections this listener takes, under random keys.
+fn serve_from<R: Wait + Clock + RandomSource + Copy, H: PgWireServerHandlers, L: Listener + Drop>(
+    rt: R,
+    alloc: Global,
+    handlers: &Arc<H>,
+    listener: L,
+    count: u16,
+) -> io::Result<()> {
+    let mut acceptor = SocketAcceptor::new(listener, rt);
     let mut keys = RandomKeys::new(alloc, rt);
-    let (manager, mut door) = ConnectionManager::new(alloc)?;
-    serve_clients(
-        &rt,
-        alloc,
-        handlers,
-        &mut acceptor,
-        &mut keys,
-        &manager,
-        &mut door,
-        count,
-    )
+    serve_clients(&rt, alloc, handlers, &mut acceptor, &mut keys, count)
 }
 
 /// Serves the client on standard input, whose replies go to the writer.

@@ -1,6 +1,5 @@
 use Rattle.std.proofs.Common.{◌≡◌, ◌<◌, ◌⊎◌, ℕ, List, Ok, length, subst, ap, ◌∙◌}
 use Rattle.hex.specs.Hex.{decode_of}
-use Rattle.handler_serving.specs.Orders.{HasKey}
 use Rattle.handler_serving.proofs.orders.read_key.Goals as goal
 
 -- digits of so many bytes are no key

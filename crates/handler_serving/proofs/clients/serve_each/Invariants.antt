@@ -1,5 +1,5 @@
 use Rattle.std.proofs.Common.{◌≡◌}
-use Rattle.handler_serving.proofs.clients.serve_clients.Given as goal
+use Rattle.handler_serving.proofs.clients.serve_each.Given as goal
 
 -- one connection was taken for each client so far
 abbrev pub invariant-clients : goal.invariant-clients
