@@ -15,8 +15,18 @@ pub fn answer_of<'t>(alloc: Global, given: &'t str) -> Result<String, Fault<'t>>
     let (file, given) = next_part(given)?;
     let (file_fails, out_fails) = next_part(given)?;
     let mut file = file_of(alloc, file, file_fails)?;
+    answer_over(alloc, words, &mut file, out_fails)
+}
+
+/// What the program tells of these words and this file.
+fn answer_over<'t>(
+    alloc: Global,
+    words: &str,
+    file: &mut MemorySource,
+    out_fails: &'t str,
+) -> Result<String, Fault<'t>> {
     let mut out = sink_of(alloc, out_fails)?;
-    Ok(answer_to(alloc, words, &mut file, &mut out)?)
+    Ok(answer_to(alloc, words, file, &mut out)?)
 }
 
 /// What the program tells of these words.
