@@ -178,7 +178,7 @@ fn record_client<S: Source, K: Sink>(
     let _calls = desk.calls();
     // The replies stand in the recording too, and its text is about to be made.
     drop(sink);
-    write_recorded(alloc, answer, recorded, out)
+    write_recorded(alloc, answer, &recorded, out)
 }
 
 /// Writes the recording of a session that came to its end, where there is one. A session in memory
@@ -186,13 +186,13 @@ fn record_client<S: Source, K: Sink>(
 fn write_recorded<K: Sink>(
     alloc: Global,
     answer: Result<EndKind, ServeError>,
-    recorded: Result<Recording, RecordError>,
+    recorded: &Result<Recording, RecordError>,
     out: &mut K,
 ) -> Outcome
     requires in_memory { ¬ IsErrOf answer ServeError.WriteFault }
-    requires ended { OnOk answer (¬ IsErrOf recorded RecordError.Unended) }
-    ensures told { IsRecordOutcome answer recorded result (K.written out.old) (K.written out.new)
-        (K.faults out.old) (K.faults out.new) }
+    requires ended { OnOk answer (¬ IsErrOf recorded.now RecordError.Unended) }
+    ensures told { IsRecordOutcome answer recorded.now result (K.written out.old)
+        (K.written out.new) (K.faults out.old) (K.faults out.new) }
     ensures never_falls { K.faults out.old ≤ K.faults out.new }
 {
     match answer {
@@ -201,7 +201,7 @@ fn write_recorded<K: Sink>(
         Err(ServeError::NoMemory) => Outcome::NoMemory,
         Err(ServeError::WriteFault) => unreachable!(),
         Ok(_) => match recorded {
-            Ok(recording) => write_to(alloc, &recording, out),
+            Ok(recording) => write_to(alloc, recording, out),
             Err(RecordError::TooLong(_)) => Outcome::TooLong,
             Err(RecordError::NoMemory) => Outcome::NoMemory,
             Err(RecordError::Unended) => unreachable!(),
