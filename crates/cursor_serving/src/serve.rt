@@ -1,7 +1,8 @@
 //! A client of relations is served, with cursors in simple queries.
 
-ghost use Rattle.std.specs.Prelude.{◌≡◌, ◌++◌, List, IfOk, OnOk};
+ghost use Rattle.std.specs.Prelude.{◌≡◌, ◌++◌, [], true, List, IfOk, OnOk};
 ghost use Rattle.std.specs.Arc.{arc_value};
+ghost use Rattle.pg_portal.specs.Maps.{no_maps};
 ghost use Rattle.pg_handlers.specs.Desk.{GoesOn};
 ghost use Rattle.pg_handlers.specs.Questions.{questions_since};
 ghost use Rattle.pg_handlers.specs.State.{first_state};
@@ -14,11 +15,13 @@ ghost use Rattle.cursor_serving.specs.Serving.{WentByCursors};
 
 use cursor_session::CursorSession;
 use pg_handlers::NoopHandler;
-use pg_portal::MemPortalStore;
-use pg_serve::serve;
-use pg_session::{CancelDesk, EndKind, PgWireServerHandlers, ServeError, Sink, Source};
+use pg_portal::{MemPortalStore, PortalStore};
+use pg_serve::{Conversation, serve};
+use pg_session::{
+    CancelDesk, EndKind, ExtendedQueryHandler, PgWireServerHandlers, ServeError, Sink, Source,
+};
 use relation_handlers::{RelationHandler, RelationTable};
-use std::alloc::Global;
+use std::alloc::{AllocError, Global};
 use std::sync::Arc;
 
 /// Serves a client over relations, as `serve_relations_on` of relation_serving does, with cursors:
@@ -123,8 +126,80 @@ fn serve_by<H: PgWireServerHandlers, D: CancelDesk, S: Source, K: Sink>(
     ensures sink { K.origin sink.new ≡ K.origin sink.old }
 {
     let store = MemPortalStore::new(alloc);
+    let Ok(front) = front_at(alloc, handlers, store, desk) else {
+        return Err(ServeError::NoMemory);
+    };
+    serve_whole(alloc, front, desk, source, sink, turn_limit)
+}
+
+/// A front of a session that awaits the startup packet of the client whom this desk knows. The only
+/// error is want of memory.
+fn front_at<
+    H: PgWireServerHandlers,
+    St: PortalStore<
+        Statement = <H::Extended as ExtendedQueryHandler>::Statement,
+        Rows = <H::Extended as ExtendedQueryHandler>::Rows,
+    >,
+    D: CancelDesk,
+>(alloc: Global, handlers: Arc<H>, store: St, desk: &D) -> Result<CursorSession<H, St>, AllocError>
+    requires empty { St.maps store ≡ no_maps }
+    ensures { IfOk result (λ session. session ≡ record {
+      front = record {
+        inner = record {
+          handlers = arc_value handlers;
+          state = first_state (D.told desk.now).registration.0 (D.told desk.now).registration.1;
+          rest = [];
+          unsent = [];
+          is_open = true;
+        };
+        held = [];
+        owed = 0;
+      };
+      is_open = true;
+    }) }
+{
     let (pid, key) = desk.identity();
     let key = key.copy_of()?;
-    let mut front = CursorSession::new(alloc, handlers, store, pid, key)?;
-    serve(alloc, &mut front, desk, source, sink, turn_limit)
+    CursorSession::new(alloc, handlers, store, pid, key)
+}
+
+/// Serves a client by a conversation of its own, as [`serve`] does, and lets the conversation go.
+fn serve_whole<C: Conversation + Drop, D: CancelDesk, S: Source, K: Sink>(
+    alloc: Global,
+    mut conversation: C,
+    desk: &mut D,
+    source: &mut S,
+    sink: &mut K,
+    turn_limit: u64,
+) -> Result<EndKind, ServeError>
+    requires open { (C.told conversation).is_open ≡ true }
+    requires rest { (C.told conversation).rest ≡ [] }
+    requires unsent { (C.told conversation).unsent ≡ [] }
+    ensures went { (calls : List DeskCall)
+        × ((D.told desk.new).calls ≡ (D.told desk.old).calls ++ calls)
+        × WentSo (C.told conversation).rules (C.told conversation).state
+        result (S.left source.old) (S.left source.new) (K.written sink.old) (K.written sink.new)
+        calls }
+    ensures cause { HasCause result turn_limit
+        (questions_since (D.told desk.old).calls (D.told desk.new).calls)
+        (counts_of S.reads S.faults K.faults source.old sink.old)
+        (counts_of S.reads S.faults K.faults source.new sink.new) }
+    ensures last { IfOk result (EndsAtLast (C.told conversation).rules
+        (C.told conversation).state
+        (S.left source.old) (S.left source.new)) }
+    ensures taken { IfOk result (IsRunOverTaken (C.told conversation).rules
+        (C.told conversation).state
+        (S.left source.old) (S.left source.new) (K.written sink.old) (K.written sink.new)
+        (D.told desk.old).calls (D.told desk.new).calls) }
+    ensures calm { OnOk result (IsCalm (counts_of S.reads S.faults K.faults source.old sink.old)
+        (counts_of S.reads S.faults K.faults source.new sink.new)) }
+    ensures never_falls { FaultsNeverFall (counts_of S.reads S.faults K.faults source.old sink.old)
+        (counts_of S.reads S.faults K.faults source.new sink.new) }
+    ensures reads { ReadsGaveBytes (S.left source.old) (S.left source.new) (S.reads source.old)
+        (S.reads source.new) }
+    ensures registration { GoesOn (D.told desk.old) (D.told desk.new) }
+    ensures source { S.origin source.new ≡ S.origin source.old }
+    ensures sink { K.origin sink.new ≡ K.origin sink.old }
+{
+    serve(alloc, &mut conversation, desk, source, sink, turn_limit)
 }
