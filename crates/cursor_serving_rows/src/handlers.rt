@@ -1,15 +1,21 @@
 //! A client with cursors is served by the handlers of sample queries.
 
+ghost use Rattle.std.specs.Prelude.{◌≡◌, [], true, IfOk};
+ghost use Rattle.cursor_session.specs.Fronts.{rest_of};
+
 use crate::serving::Ending;
 use cursor_session::CursorSession;
 use pg_handlers::ScriptDesk;
-use pg_portal::MemPortalStore;
-use pg_serve::{MemorySink, MemorySource, serve};
+use pg_portal::{ListRows, MemPortalStore};
+use pg_serve::{Conversation, MemorySink, MemorySource, serve};
 use pg_session::CancelDesk;
 use row_files::Fault;
-use sample_handlers::SampleHandler;
-use std::alloc::Global;
+use sample_handlers::{SampleHandler, SampleStatement};
+use std::alloc::{AllocError, Global};
 use std::sync::Arc;
+
+/// A session with cursors, over a store in memory.
+type SampleSession = CursorSession<SampleHandler, MemPortalStore<SampleStatement, ListRows>>;
 
 /// Serves a client with cursors by the handlers of sample queries, and with a store in memory.
 pub fn serve_sample<'t>(
@@ -19,10 +25,34 @@ pub fn serve_sample<'t>(
     sink: &mut MemorySink,
     turns: u64,
 ) -> Result<Ending, Fault<'t>> {
+    let front = front_at(alloc, desk)?;
+    Ok(serve_whole(alloc, front, desk, source, sink, turns))
+}
+
+/// Serves a client by a conversation of its own, and lets the conversation go.
+fn serve_whole<C: Conversation + Drop>(
+    alloc: Global,
+    mut conversation: C,
+    desk: &mut ScriptDesk,
+    source: &mut MemorySource,
+    sink: &mut MemorySink,
+    turns: u64,
+) -> Ending
+    requires open { (C.told conversation).is_open ≡ true }
+    requires rest { (C.told conversation).rest ≡ [] }
+    requires unsent { (C.told conversation).unsent ≡ [] }
+{
+    serve(alloc, &mut conversation, desk, source, sink, turns)
+}
+
+/// The front of a session that awaits the client whom this desk knows.
+fn front_at(alloc: Global, desk: &ScriptDesk) -> Result<SampleSession, AllocError>
+    ensures open { IfOk result (λ session. session.is_open ≡ true) }
+    ensures rest { IfOk result (λ session. rest_of session.front ≡ []) }
+{
     let (pid, key) = desk.identity();
     let key = key.copy_of()?;
     let handlers = Arc::new(alloc, SampleHandler)?;
     let store = MemPortalStore::new(alloc);
-    let mut front = CursorSession::new(alloc, handlers, store, pid, key)?;
-    Ok(serve(alloc, &mut front, desk, source, sink, turns))
+    CursorSession::new(alloc, handlers, store, pid, key)
 }
