@@ -86,6 +86,7 @@ fn send_error(outbox: &mut Outbox, info: ErrorInfo) -> Result<(), PgWireError>
 
 /// Appends what a response sends where the transaction status is this, and answers what it left. An
 /// error in the place of a row or of data is answered; what stands before it stays in the outbox.
+#[inline(always)]
 pub(crate) fn send_response<R: RowSource, C: CopySource>(
     alloc: Global,
     outbox: &mut Outbox,

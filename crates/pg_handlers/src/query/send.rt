@@ -137,6 +137,7 @@ fn done_head(body: usize) -> [u8; 5]
 }
 
 /// Appends RowDescription.
+#[inline(always)]
 fn send_row_description(
     alloc: Global,
     outbox: &mut Outbox,
