@@ -1,7 +1,8 @@
--- A RowDescription that is appended piece by piece.
+-- A RowDescription, and a CommandComplete of few rows, that are appended piece by piece.
 use Rattle.std.proofs.Common.{◌≡◌, ℕ, ℤ, pos, ◌+◌, ◌<◌, ◌≤◌, List, [], ◌∷◌, ◌++◌, length, get_or, Result, Ok, Err, OnErr, FitsSigned, w16, w32, to_z, of_z, map, take, drop, sym, ap, ◌∙◌, append_assoc, arith}
 use Rattle.std.specs.Prelude.{unwrap_or}
 use Rattle.std.specs.List.{flat_map}
+use Rattle.std.proofs.lemmas.Fmt.{decimal_digit}
 use Rattle.std.proofs.lemmas.Int.{ints, to_z-of_z}
 use Rattle.std.proofs.lemmas.List.{append-nil, length-append, length-map, map-append, take-append-drop, take_all, take_more}
 use Rattle.std.proofs.lemmas.Grind.{flat_map-append}
@@ -10,7 +11,9 @@ use Rattle.pg_messages.specs.Replies.{IsEncodable, reply_body, replies_bytes, fi
 use Rattle.pg_text.specs.Types.{oid_of}
 use Rattle.pg_text.specs.Formats.{format_code}
 use Rattle.pg_portal.specs.Fields.{Field, description_of}
-use Rattle.pg_handlers.specs.Replies.{row_description}
+use Rattle.pg_portal.specs.Tags.{spaced}
+use Rattle.pg_handlers.specs.Good.{IsTag}
+use Rattle.pg_handlers.specs.Replies.{done_with, row_description}
 use Rattle.pg_handlers.proofs.Sent.{kept_behind, one_reply}
 
 -- a piece behind what was appended
@@ -121,3 +124,34 @@ column_whole field table column size modifier format id bytes ft fc fs fm ff et 
 pub on_err : {A E P : Type 0} (r : Result A E) → P → OnErr r P
 on_err (Ok a) p = tt
 on_err (Err e) p = p
+
+-- a number of one digit behind its space
+spaced_digit : (n : ℕ) → n < 10 → spaced n ≡ 32 ∷ (48 + n) ∷ []
+spaced_digit n lt = ap (λ (l : List ℕ). 32 ∷ l) (decimal_digit n lt)
+
+-- the body of a CommandComplete of few rows: the command, a space, a digit and a zero byte
+few_body : (command : List ℕ) (n : ℕ) → n < 10 → reply_body (done_with command n) ≡ command ++ (32 ∷ (48 + n) ∷ 0 ∷ [])
+few_body command n lt =
+    append_assoc command (spaced n) (0 ∷ []) ∙ ap (λ (l : List ℕ). command ++ (l ++ 0 ∷ [])) (spaced_digit n lt)
+
+few_length : (command : List ℕ) (n : ℕ) → n < 10 → length (reply_body (done_with command n)) ≡ length command + 3
+few_length command n lt = ap length (few_body command n lt) ∙ length-append command (32 ∷ (48 + n) ∷ 0 ∷ [])
+
+pub few_fit : (command : List ℕ) (n : ℕ) → n < 10 → IsTag command → length command + 3 ≤ 1073741823
+few_fit command n lt tag =
+    let good = tag n (omega (arith, lt)) in
+    let body = good.body in
+    omega (arith, body, few_length command n lt)
+
+-- the head, the command and what stands behind it
+pub few_appended : (command : List ℕ) (n : ℕ) (out head begun named new : List ℕ) → n < 10
+    → head ≡ 67 ∷ count32 (4 + (length command + 3)) → begun ≡ out ++ head → named ≡ begun ++ command
+    → new ≡ named ++ (32 ∷ (48 + n) ∷ 0 ∷ []) → new ≡ out ++ replies_bytes (done_with command n ∷ [])
+few_appended command n out head begun named new lt h p q e =
+    behind out begun new head (command ++ (32 ∷ (48 + n) ∷ 0 ∷ [])) p (behind begun named new command (32 ∷ (48 + n) ∷ 0 ∷ []) q e)
+    ∙ ap (λ (l : List ℕ). out ++ l) (
+    ap (λ (l : List ℕ). l ++ (command ++ (32 ∷ (48 + n) ∷ 0 ∷ []))) h
+    ∙ ap (λ (m : ℕ). (67 ∷ count32 (4 + m)) ++ (command ++ (32 ∷ (48 + n) ∷ 0 ∷ []))) (sym (few_length command n lt))
+    ∙ ap (λ (l : List ℕ). (67 ∷ count32 (4 + length (reply_body (done_with command n)))) ++ l) (sym (few_body command n lt))
+    ∙ one_reply (done_with command n)
+    )

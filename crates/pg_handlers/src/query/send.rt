@@ -109,9 +109,39 @@ pub(crate) fn send_done(
     Ok(())
 }
 
+/// Appends the bytes of CommandComplete of a command with so many rows. After an error some of them.
+fn push_done(outbox: &mut Outbox, command: &str, rows: u64) -> Result<(), AllocError>
+    requires { IsTag command.now }
+    ensures ok { OnOk result
+        (outbox.new ≡ outbox.old ++ replies_bytes (done_with command.now rows ∷ [])) }
+    ensures err { OnErr result (take (length outbox.old) outbox.new ≡ outbox.old) }
+{
+    if rows < 10 {
+        return push_few_done(outbox, command, rows);
+    }
+    push_many_done(outbox, command, rows)
+}
+
+/// Appends the bytes of CommandComplete of a command with less than ten rows, as most have: the
+/// digit needs no buffer. After an error some of them.
+#[inline(always)]
+fn push_few_done(outbox: &mut Outbox, command: &str, rows: u64) -> Result<(), AllocError>
+    requires tag { IsTag command.now }
+    requires few { rows < 10 }
+    ensures ok { OnOk result
+        (outbox.new ≡ outbox.old ++ replies_bytes (done_with command.now rows ∷ [])) }
+    ensures err { OnErr result (take (length outbox.old) outbox.new ≡ outbox.old) }
+{
+    outbox.push_bytes(&done_head(command.len() + 3))?;
+    outbox.push_bytes(command.as_bytes())?;
+    outbox.push_bytes(&[b' ', b'0' + rows as u8, 0])?;
+    Ok(())
+}
+
 /// Appends the bytes of CommandComplete of a command with so many rows, piece by piece, with no
 /// text of the tag. After an error some of them.
-fn push_done(outbox: &mut Outbox, command: &str, rows: u64) -> Result<(), AllocError>
+#[inline(never)]
+fn push_many_done(outbox: &mut Outbox, command: &str, rows: u64) -> Result<(), AllocError>
     requires { IsTag command.now }
     ensures ok { OnOk result
         (outbox.new ≡ outbox.old ++ replies_bytes (done_with command.now rows ∷ [])) }
