@@ -87,18 +87,39 @@ fn printed(
         days.parse::<i32>().unwrap_or(0),
         microseconds.parse::<i64>().unwrap_or(0),
     );
-    let postgres = interval.to_postgres(alloc)?;
-    let verbose = interval.to_postgres_verbose(alloc)?;
-    let iso = interval.to_iso_8601(alloc)?;
-    let sql = interval.to_sql(alloc)?;
-    let same = is_read(interval, Interval::from_postgres(postgres.as_str()))
-        && is_read(interval, Interval::from_postgres_verbose(verbose.as_str()))
-        && is_read(interval, Interval::from_iso(iso.as_str()))
-        && is_read(interval, Interval::from_sql(sql.as_str()));
-    let back = if same { "read back" } else { "lost" };
-    let (postgres, verbose) = (postgres.as_str(), verbose.as_str());
-    let (iso, sql) = (iso.as_str(), sql.as_str());
-    format!(in alloc; "{postgres}|{verbose}|{iso}|{sql}|{back}")
+    let mut told = String::new(alloc);
+    let mut same = true;
+    for style in ["postgres", "verbose", "iso", "sql"] {
+        same &= put_printed(alloc, interval, style, &mut told)?;
+    }
+    told.push_str(if same { "read back" } else { "lost" })?;
+    Ok(told)
+}
+
+/// Appends the interval's text in the style and a bar, and tells whether the text is read back.
+fn put_printed(
+    alloc: Global,
+    interval: Interval,
+    style: &str,
+    told: &mut String,
+) -> Result<bool, AllocError> {
+    let text = text_in(alloc, style, interval)?;
+    told.push_str(text.as_str())?;
+    told.push('|')?;
+    Ok(is_read(interval, read_in(style, text.as_str())))
+}
+
+/// The interval's text in the style.
+fn text_in(alloc: Global, style: &str, interval: Interval) -> Result<String, AllocError> {
+    if style == "postgres" {
+        interval.to_postgres(alloc)
+    } else if style == "verbose" {
+        interval.to_postgres_verbose(alloc)
+    } else if style == "iso" {
+        interval.to_iso_8601(alloc)
+    } else {
+        interval.to_sql(alloc)
+    }
 }
 
 /// Was this interval read?
