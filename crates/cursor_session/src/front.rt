@@ -29,7 +29,7 @@ pub struct CursorSession<
     H: PgWireServerHandlers,
     St: PortalStore<Statement = <H::Extended as ExtendedQueryHandler>::Statement>,
 > {
-    front: Front<H, St>,
+    front: Front<Session<H, St>>,
     opened: bool,
 }
 
@@ -41,14 +41,19 @@ impl<
     ghost use Rattle.std.specs.Coded.{codes};
     ghost use Rattle.std.specs.FinMap as fin;
     ghost use Rattle.cursor_session.specs.Fronts.{CursorValue, IsStanding};
+    ghost use Rattle.cursor_session.specs.Seen.{front_seen};
 
     ghost Value = { CursorValue H H.Extended.Statement };
 
     ghost coded = { Prim.hlevel (codes, fin.code) };
 
-    ghost view = { λ s. record { front = s.front; is_open = s.opened } };
+    ghost view = { λ s. record {
+      front = front_seen (λ session. session) s.front;
+      is_open = s.opened;
+    } };
 
-    ghost invariant = { λ s. s.opened ≡ true → IsStanding s.front };
+    ghost invariant = { λ s. s.opened ≡ true
+        → IsStanding (front_seen (λ session. session) s.front) };
 }
 
 impl<

@@ -2,6 +2,7 @@
 //! answered as the messages are that it asks of the session.
 #![tactic(auto)]
 
+mod behind;
 mod frames;
 mod front;
 mod kept;

@@ -9,58 +9,32 @@ ghost use Rattle.pg_session.specs.declared.ends.Progress.TheVariants.{More};
 ghost use Rattle.pg_session.specs.Streams.{HasFlushed};
 ghost use Rattle.cursor_commands.specs.Asking.{CanBeSent};
 ghost use Rattle.cursor_commands.specs.Cursors.{messages_of};
-ghost use Rattle.cursor_table.specs.CursorTable.{asked_command, cursor_rules, is_ready_phase};
-ghost use Rattle.cursor_session.specs.Fronts.{Takes, SendsReplies, SendsFront, around, rest_of, IsStanding, IsQuiet, IsPart, IsBegun, FitsFrame};
+ghost use Rattle.cursor_table.specs.CursorTable.{asked_command, is_ready_phase};
+ghost use Rattle.cursor_session.specs.Fronts.{SendsReplies, SendsFront, around, rest_of, IsStanding, IsQuiet, IsPart, IsBegun, FitsFrame};
+ghost use Rattle.cursor_session.specs.Seen.{FrontTakes, front_seen};
 
+use crate::behind::FrontedSession;
 use crate::frames::{awaits_startup, behind_len, command_asked, front_len, is_short, owed_by};
 use crate::kept::Kept;
 use bytes::BytesMut;
 use cursor_commands::{CursorCommand, command_frames, put_replies};
-use pg_portal::PortalStore;
-use pg_session::{
-    CancelDesk, ExtendedQueryHandler, PgWireServerHandlers, Progress, ServeError, Session, Sink,
-    Turns,
-};
+use pg_session::{CancelDesk, Progress, ServeError, Sink, Turns};
 use std::alloc::Global;
-use std::marker::Model;
 use std::mem;
 
-/// A session, with the bytes that are held in front of it.
+/// A session, with the bytes that are held in front of it, and how many bytes of the frame that it
+/// has begun are to come.
 #[derive(Drop)]
-pub(crate) struct Front<
-    H: PgWireServerHandlers,
-    St: PortalStore<Statement = <H::Extended as ExtendedQueryHandler>::Statement>,
-> {
-    inner: Session<H, St>,
+pub(crate) struct Front<C> {
+    inner: C,
     held: BytesMut,
     owed: usize,
 }
 
-impl<
-    H: PgWireServerHandlers,
-    St: PortalStore<Statement = <H::Extended as ExtendedQueryHandler>::Statement>,
-> Model for Front<H, St> {
-    ghost use Rattle.std.specs.Coded.{codes};
-    ghost use Rattle.std.specs.FinMap as fin;
-    ghost use Rattle.cursor_session.specs.Fronts.{FrontValue};
-
-    ghost Value = { FrontValue H H.Extended.Statement };
-
-    ghost coded = { Prim.hlevel (codes, fin.code) };
-
-    ghost view = { λ s. record { inner = s.inner; held = s.held.items; owed = s.owed } };
-}
-
-impl<
-    H: PgWireServerHandlers,
-    St: PortalStore<
-        Statement = <H::Extended as ExtendedQueryHandler>::Statement,
-        Rows = <H::Extended as ExtendedQueryHandler>::Rows,
-    >,
-> Front<H, St> {
+impl<C: FrontedSession> Front<C> {
     /// A front of a session, which holds nothing.
-    pub(crate) fn new(alloc: Global, inner: Session<H, St>) -> Front<H, St>
-        ensures { result ≡ record { inner = inner; held = []; owed = 0 } }
+    pub(crate) fn new(alloc: Global, inner: C) -> Front<C>
+        ensures { front_seen C.seen result ≡ record { inner = C.seen inner; held = []; owed = 0 } }
     {
         Front {
             inner,
@@ -78,13 +52,13 @@ impl<
         sink: &mut K,
         turns: &mut Turns,
     ) -> Result<Progress, ServeError>
-        requires { IsStanding self.old }
-        ensures took { Takes (cursor_rules (H.told self.old.inner.handlers)) self.old.inner.state
-            (rest_of self.old ++ piece.now) self.new.inner.state (rest_of self.new)
+        requires { IsStanding (front_seen C.seen self.old) }
+        ensures took { FrontTakes C.told (front_seen C.seen self.old)
+            (rest_of (front_seen C.seen self.old) ++ piece.now) (front_seen C.seen self.new)
             (around K.written K.faults K.origin D.told sink.old desk.old turns.old)
             (around K.written K.faults K.origin D.told sink.new desk.new turns.new) result }
-        ensures stands { result ≡ Ok More → IsStanding self.new }
-        ensures handlers { self.new.inner.handlers ≡ self.old.inner.handlers }
+        ensures stands { result ≡ Ok More → IsStanding (front_seen C.seen self.new) }
+        ensures handlers { (C.seen self.new.inner).handlers ≡ (C.seen self.old.inner).handlers }
     {
         let mut rest = piece;
         'parts: while !rest.is_empty() {
@@ -101,10 +75,10 @@ impl<
 
     /// How many of the bytes belong to the frame at hand.
     fn part_len(&self, bytes: &[u8]) -> usize
-        requires stands { IsStanding self.now }
+        requires stands { IsStanding (front_seen C.seen self.now) }
         requires some { 0 < length bytes.now }
         ensures within { result ≤ length bytes.now }
-        ensures part { IsPart self.now (take result bytes.now) }
+        ensures part { IsPart (front_seen C.seen self.now) (take result bytes.now) }
     {
         if self.owed > 0 {
             return bytes.len().min(self.owed);
@@ -125,14 +99,14 @@ impl<
         sink: &mut K,
         turns: &mut Turns,
     ) -> Result<Progress, ServeError>
-        requires stands { IsStanding self.old }
-        requires part { IsPart self.old part.now }
-        ensures took { Takes (cursor_rules (H.told self.old.inner.handlers)) self.old.inner.state
-            (rest_of self.old ++ part.now) self.new.inner.state (rest_of self.new)
+        requires stands { IsStanding (front_seen C.seen self.old) }
+        requires part { IsPart (front_seen C.seen self.old) part.now }
+        ensures took { FrontTakes C.told (front_seen C.seen self.old)
+            (rest_of (front_seen C.seen self.old) ++ part.now) (front_seen C.seen self.new)
             (around K.written K.faults K.origin D.told sink.old desk.old turns.old)
             (around K.written K.faults K.origin D.told sink.new desk.new turns.new) result }
-        ensures stands { result ≡ Ok More → IsStanding self.new }
-        ensures handlers { self.new.inner.handlers ≡ self.old.inner.handlers }
+        ensures stands { result ≡ Ok More → IsStanding (front_seen C.seen self.new) }
+        ensures handlers { (C.seen self.new.inner).handlers ≡ (C.seen self.old.inner).handlers }
     {
         if self.owed > 0 {
             let owed = self.owed - part.len();
@@ -153,17 +127,17 @@ impl<
         sink: &mut K,
         turns: &mut Turns,
     ) -> Result<Progress, ServeError>
-        requires quiet { IsQuiet self.old.inner }
-        requires none { self.old.inner.rest ≡ [] }
+        requires quiet { IsQuiet (C.seen self.old.inner) }
+        requires none { (C.seen self.old.inner).rest ≡ [] }
         requires owed { self.old.owed ≡ 0 }
-        requires fits { FitsFrame (is_startup_phase self.old.inner.state.info.state)
-            (self.old.held ++ part.now) }
-        ensures took { Takes (cursor_rules (H.told self.old.inner.handlers)) self.old.inner.state
-            (self.old.held ++ part.now) self.new.inner.state (rest_of self.new)
+        requires fits { FitsFrame (is_startup_phase (C.seen self.old.inner).state.info.state)
+            (self.old.held.items ++ part.now) }
+        ensures took { FrontTakes C.told (front_seen C.seen self.old)
+            (self.old.held.items ++ part.now) (front_seen C.seen self.new)
             (around K.written K.faults K.origin D.told sink.old desk.old turns.old)
             (around K.written K.faults K.origin D.told sink.new desk.new turns.new) result }
-        ensures stands { result ≡ Ok More → IsStanding self.new }
-        ensures handlers { self.new.inner.handlers ≡ self.old.inner.handlers }
+        ensures stands { result ≡ Ok More → IsStanding (front_seen C.seen self.new) }
+        ensures handlers { (C.seen self.new.inner).handlers ≡ (C.seen self.old.inner).handlers }
     {
         self.held.extend_from_slice(part)?;
         if is_short(self.inner.state(), self.held.as_slice()) {
@@ -182,22 +156,23 @@ impl<
         sink: &mut K,
         turns: &mut Turns,
     ) -> Result<Progress, ServeError>
-        requires quiet { IsQuiet self.old.inner }
-        requires none { self.old.inner.rest ≡ [] }
+        requires quiet { IsQuiet (C.seen self.old.inner) }
+        requires none { (C.seen self.old.inner).rest ≡ [] }
         requires owed { self.old.owed ≡ 0 }
-        requires held { self.old.held ≡ [] }
-        requires fits { FitsFrame (is_startup_phase self.old.inner.state.info.state) bytes.now }
-        requires header { header_len (is_startup_phase self.old.inner.state.info.state)
+        requires held { self.old.held.items ≡ [] }
+        requires fits { FitsFrame (is_startup_phase (C.seen self.old.inner).state.info.state)
+            bytes.now }
+        requires header { header_len (is_startup_phase (C.seen self.old.inner).state.info.state)
             ≤ length bytes.now }
-        requires query { is_ready_phase self.old.inner.state.info.state ≡ true
+        requires query { is_ready_phase (C.seen self.old.inner).state.info.state ≡ true
             → slice_index bytes.now 0 ≡ 81 → IsGoodHeader false bytes.now
             → told_len false bytes.now ≤ length bytes.now }
-        ensures took { Takes (cursor_rules (H.told self.old.inner.handlers)) self.old.inner.state
-            bytes.now self.new.inner.state (rest_of self.new)
+        ensures took { FrontTakes C.told (front_seen C.seen self.old) bytes.now
+            (front_seen C.seen self.new)
             (around K.written K.faults K.origin D.told sink.old desk.old turns.old)
             (around K.written K.faults K.origin D.told sink.new desk.new turns.new) result }
-        ensures stands { result ≡ Ok More → IsStanding self.new }
-        ensures handlers { self.new.inner.handlers ≡ self.old.inner.handlers }
+        ensures stands { result ≡ Ok More → IsStanding (front_seen C.seen self.new) }
+        ensures handlers { (C.seen self.new.inner).handlers ≡ (C.seen self.old.inner).handlers }
     {
         let state = self.inner.state();
         match command_asked(alloc, state, bytes)? {
@@ -219,16 +194,16 @@ impl<
         sink: &mut K,
         turns: &mut Turns,
     ) -> Result<Progress, ServeError>
-        requires quiet { IsQuiet self.old.inner }
-        requires held { self.old.held ≡ [] }
-        requires begun { IsBegun self.old.inner.state.info.state (self.old.inner.rest ++ bytes.now)
-            owed }
-        ensures took { Takes (cursor_rules (H.told self.old.inner.handlers)) self.old.inner.state
-            (self.old.inner.rest ++ bytes.now) self.new.inner.state (rest_of self.new)
+        requires quiet { IsQuiet (C.seen self.old.inner) }
+        requires held { self.old.held.items ≡ [] }
+        requires begun { IsBegun (C.seen self.old.inner).state.info.state
+            ((C.seen self.old.inner).rest ++ bytes.now) owed }
+        ensures took { FrontTakes C.told (front_seen C.seen self.old)
+            ((C.seen self.old.inner).rest ++ bytes.now) (front_seen C.seen self.new)
             (around K.written K.faults K.origin D.told sink.old desk.old turns.old)
             (around K.written K.faults K.origin D.told sink.new desk.new turns.new) result }
-        ensures stands { result ≡ Ok More → IsStanding self.new }
-        ensures handlers { self.new.inner.handlers ≡ self.old.inner.handlers }
+        ensures stands { result ≡ Ok More → IsStanding (front_seen C.seen self.new) }
+        ensures handlers { (C.seen self.new.inner).handlers ≡ (C.seen self.old.inner).handlers }
     {
         self.owed = owed;
         self.inner.feed(alloc, desk, bytes, sink, turns)
@@ -243,20 +218,19 @@ impl<
         sink: &mut K,
         turns: &mut Turns,
     ) -> Result<Progress, ServeError>
-        requires quiet { IsQuiet self.old.inner }
-        requires none { self.old.inner.rest ≡ [] }
+        requires quiet { IsQuiet (C.seen self.old.inner) }
+        requires none { (C.seen self.old.inner).rest ≡ [] }
         requires owed { self.old.owed ≡ 0 }
-        requires held { self.old.held ≡ [] }
-        requires ready { is_ready_phase self.old.inner.state.info.state ≡ true }
+        requires held { self.old.held.items ≡ [] }
+        requires ready { is_ready_phase (C.seen self.old.inner).state.info.state ≡ true }
         requires sent { AllByRecursion CanBeSent (messages_of command.now) }
         ensures took { (frame : List ℕ) (m : PgWireFrontendMessage) → IsFrame false frame m
             → asked_command m ≡ Some command.now
-            → Takes (cursor_rules (H.told self.old.inner.handlers)) self.old.inner.state
-            frame self.new.inner.state (rest_of self.new)
+            → FrontTakes C.told (front_seen C.seen self.old) frame (front_seen C.seen self.new)
             (around K.written K.faults K.origin D.told sink.old desk.old turns.old)
             (around K.written K.faults K.origin D.told sink.new desk.new turns.new) result }
-        ensures stands { result ≡ Ok More → IsStanding self.new }
-        ensures handlers { self.new.inner.handlers ≡ self.old.inner.handlers }
+        ensures stands { result ≡ Ok More → IsStanding (front_seen C.seen self.new) }
+        ensures handlers { (C.seen self.new.inner).handlers ≡ (C.seen self.old.inner).handlers }
     {
         let frames = command_frames(alloc, command)?;
         self.exchange(alloc, desk, command, frames.as_slice(), sink, turns)
@@ -272,20 +246,19 @@ impl<
         sink: &mut K,
         turns: &mut Turns,
     ) -> Result<Progress, ServeError>
-        requires quiet { IsQuiet self.old.inner }
-        requires none { self.old.inner.rest ≡ [] }
+        requires quiet { IsQuiet (C.seen self.old.inner) }
+        requires none { (C.seen self.old.inner).rest ≡ [] }
         requires owed { self.old.owed ≡ 0 }
-        requires held { self.old.held ≡ [] }
-        requires ready { is_ready_phase self.old.inner.state.info.state ≡ true }
+        requires held { self.old.held.items ≡ [] }
+        requires ready { is_ready_phase (C.seen self.old.inner).state.info.state ≡ true }
         requires asks { DividesInto false frames.now (messages_of command.now) [] }
         ensures took { (frame : List ℕ) (m : PgWireFrontendMessage) → IsFrame false frame m
             → asked_command m ≡ Some command.now
-            → Takes (cursor_rules (H.told self.old.inner.handlers)) self.old.inner.state
-            frame self.new.inner.state (rest_of self.new)
+            → FrontTakes C.told (front_seen C.seen self.old) frame (front_seen C.seen self.new)
             (around K.written K.faults K.origin D.told sink.old desk.old turns.old)
             (around K.written K.faults K.origin D.told sink.new desk.new turns.new) result }
-        ensures stands { result ≡ Ok More → IsStanding self.new }
-        ensures handlers { self.new.inner.handlers ≡ self.old.inner.handlers }
+        ensures stands { result ≡ Ok More → IsStanding (front_seen C.seen self.new) }
+        ensures handlers { (C.seen self.new.inner).handlers ≡ (C.seen self.old.inner).handlers }
     {
         let mut kept = Kept::new(alloc);
         match self.inner.feed(alloc, desk, frames, &mut kept, turns) {

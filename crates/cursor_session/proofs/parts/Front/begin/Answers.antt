@@ -18,10 +18,9 @@ answer-requires-clause-sent g c =
 
 pub pass-requires-clause-begun : goal.pass-requires-clause-begun
 pass-requires-clause-begun g c =
-    let now = c.args.self.now.inner.state.info.state in
+    let now = (g.C.FrontedSession.seen c.args.self.now.inner).state.info.state in
     let bytes = c.args.bytes.now in
-    let st : c.state-state.result ≡ now =
-    (let e = c.state-state.ensures in let f = ap (λ v. v.inner.state.info.state) c.self.view_is in cc) in
+    let st : c.state-state.result ≡ now = c.state-state.ensures in
     let owed : c.owed_by-owed.result ≡ told_len (is_startup_phase now) bytes - length bytes =
     c.owed_by-owed.ensures ∙ ap (λ b. told_len b bytes - length bytes) (c.awaits_startup.ensures ∙ ap is_startup_phase st) in
     let plain = subst (λ p. BeginsNoCommand p bytes) st

@@ -5,13 +5,14 @@ use Rattle.pg_session.specs.declared.ends.ServeError.{ServeError}
 use Rattle.cursor_table.specs.CursorTable.{cursor_rules}
 use Rattle.cursor_table.proofs.CursorLaws.{rules_lawful}
 use Rattle.cursor_session.specs.Fronts.{Takes, around, rest_of}
+use Rattle.cursor_session.specs.Seen.{front_seen}
 use Rattle.cursor_session.proofs.Taking.{takes_none, takes_next, takes_last, split_again}
 use Rattle.cursor_session.proofs.parts.Front.take.Goals as goal
 
 pub parts-init : goal.parts-init
 parts-init g c =
-    let old = c.args.self.now in
-    let rules = cursor_rules (g.H.PgWireServerHandlers.told old.inner.handlers) in
+    let old = front_seen g.C.FrontedSession.seen c.args.self.now in
+    let rules = cursor_rules (g.C.FrontedSession.told old.inner.handlers) in
     let a = around g.K.Sink.written g.K.Sink.faults g.K.Sink.origin g.D.CancelDesk.told c.args.sink.now c.args.desk.now c.args.turns.now in
     record {
       taken = [];
@@ -25,8 +26,9 @@ parts-init g c =
 pub returns-in-Ok-Ended-clause-took : goal.returns-in-Ok-Ended-clause-took
 returns-in-Ok-Ended-clause-took g c =
     let i = c.parts.invariant in
-    let old = c.args.self.now in let now = c.parts.self in let new = c.step.new.self in
-    let h = g.H.PgWireServerHandlers.told old.inner.handlers in
+    let old = front_seen g.C.FrontedSession.seen c.args.self.now in let now = front_seen g.C.FrontedSession.seen c.parts.self in
+    let new = front_seen g.C.FrontedSession.seen c.step.new.self in
+    let h = g.C.FrontedSession.told old.inner.handlers in
     let a = around g.K.Sink.written g.K.Sink.faults g.K.Sink.origin g.D.CancelDesk.told c.args.sink.now c.args.desk.now c.args.turns.now in
     let b = around g.K.Sink.written g.K.Sink.faults g.K.Sink.origin g.D.CancelDesk.told c.parts.sink c.parts.desk c.parts.turns in
     let d = around g.K.Sink.written g.K.Sink.faults g.K.Sink.origin g.D.CancelDesk.told c.step.new.sink c.step.new.desk c.step.new.turns in
@@ -37,16 +39,17 @@ returns-in-Ok-Ended-clause-took g c =
     λ e. absurd (let k = e in cc) in
     takes_last (cursor_rules h) (rules_lawful h) old.inner.state now.inner.state new.inner.state (rest_of old) i.taken part behind
     c.args.piece.now (rest_of now) (rest_of new) a b d (Ok (progress.Ended c.in-Ok-Ended.kind)) split ended i.took
-    (subst (λ v. Takes (cursor_rules (g.H.PgWireServerHandlers.told v)) now.inner.state (rest_of now ++ part) new.inner.state
+    (subst (λ v. Takes (cursor_rules (g.C.FrontedSession.told v)) now.inner.state (rest_of now ++ part) new.inner.state
     (rest_of new) b d (Ok (progress.Ended c.in-Ok-Ended.kind))) i.handlers
-    (subst (λ p. Takes (cursor_rules (g.H.PgWireServerHandlers.told now.inner.handlers)) now.inner.state (rest_of now ++ part)
+    (subst (λ p. Takes (cursor_rules (g.C.FrontedSession.told now.inner.handlers)) now.inner.state (rest_of now ++ part)
     new.inner.state (rest_of new) b d (Ok p)) c.in-Ok-Ended.field-0-is c.in-Ok-Ended.ensures.took))
 
 pub returns-in-Err-clause-took : goal.returns-in-Err-clause-took
 returns-in-Err-clause-took g c =
     let i = c.parts.invariant in
-    let old = c.args.self.now in let now = c.parts.self in let new = c.step.new.self in
-    let h = g.H.PgWireServerHandlers.told old.inner.handlers in
+    let old = front_seen g.C.FrontedSession.seen c.args.self.now in let now = front_seen g.C.FrontedSession.seen c.parts.self in
+    let new = front_seen g.C.FrontedSession.seen c.step.new.self in
+    let h = g.C.FrontedSession.told old.inner.handlers in
     let a = around g.K.Sink.written g.K.Sink.faults g.K.Sink.origin g.D.CancelDesk.told c.args.sink.now c.args.desk.now c.args.turns.now in
     let b = around g.K.Sink.written g.K.Sink.faults g.K.Sink.origin g.D.CancelDesk.told c.parts.sink c.parts.desk c.parts.turns in
     let d = around g.K.Sink.written g.K.Sink.faults g.K.Sink.origin g.D.CancelDesk.told c.step.new.sink c.step.new.desk c.step.new.turns in
@@ -56,14 +59,15 @@ returns-in-Err-clause-took g c =
     let ended : ◌≢◌ {A = Result Progress ServeError} (Err c.in-Err.error) (Ok progress.More) = λ e. absurd (let k = e in cc) in
     takes_last (cursor_rules h) (rules_lawful h) old.inner.state now.inner.state new.inner.state (rest_of old) i.taken part behind
     c.args.piece.now (rest_of now) (rest_of new) a b d (Err c.in-Err.error) split ended i.took
-    (subst (λ v. Takes (cursor_rules (g.H.PgWireServerHandlers.told v)) now.inner.state (rest_of now ++ part) new.inner.state
+    (subst (λ v. Takes (cursor_rules (g.C.FrontedSession.told v)) now.inner.state (rest_of now ++ part) new.inner.state
     (rest_of new) b d (Err c.in-Err.error)) i.handlers c.in-Err.ensures.took)
 
 pub parts-preserved : goal.parts-preserved
 parts-preserved g c =
     let i = c.parts.invariant in
-    let old = c.args.self.now in let now = c.parts.self in let new = c.step.new.self in
-    let h = g.H.PgWireServerHandlers.told old.inner.handlers in
+    let old = front_seen g.C.FrontedSession.seen c.args.self.now in let now = front_seen g.C.FrontedSession.seen c.parts.self in
+    let new = front_seen g.C.FrontedSession.seen c.step.new.self in
+    let h = g.C.FrontedSession.told old.inner.handlers in
     let a = around g.K.Sink.written g.K.Sink.faults g.K.Sink.origin g.D.CancelDesk.told c.args.sink.now c.args.desk.now c.args.turns.now in
     let b = around g.K.Sink.written g.K.Sink.faults g.K.Sink.origin g.D.CancelDesk.told c.parts.sink c.parts.desk c.parts.turns in
     let d = around g.K.Sink.written g.K.Sink.faults g.K.Sink.origin g.D.CancelDesk.told c.step.new.sink c.step.new.desk c.step.new.turns in
@@ -75,9 +79,9 @@ parts-preserved g c =
           ∙ sym (append_assoc i.taken part behind);
       took = takes_next (cursor_rules h) (rules_lawful h) old.inner.state now.inner.state new.inner.state (rest_of old) i.taken part
           (rest_of now) (rest_of new) a b d (Ok progress.More) i.took
-          (subst (λ v. Takes (cursor_rules (g.H.PgWireServerHandlers.told v)) now.inner.state (rest_of now ++ part) new.inner.state
+          (subst (λ v. Takes (cursor_rules (g.C.FrontedSession.told v)) now.inner.state (rest_of now ++ part) new.inner.state
           (rest_of new) b d (Ok progress.More)) i.handlers
-          (subst (λ p. Takes (cursor_rules (g.H.PgWireServerHandlers.told now.inner.handlers)) now.inner.state (rest_of now ++ part)
+          (subst (λ p. Takes (cursor_rules (g.C.FrontedSession.told now.inner.handlers)) now.inner.state (rest_of now ++ part)
           new.inner.state (rest_of new) b d (Ok p)) c.in-Ok-More.field-0-is c.in-Ok-More.ensures.took));
       stands = c.in-Ok-More.ensures.stands (ap Ok c.in-Ok-More.field-0-is);
       handlers = c.in-Ok-More.ensures.handlers ∙ i.handlers;

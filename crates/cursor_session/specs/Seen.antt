@@ -1,0 +1,19 @@
+-- A front as contracts see it, whatever session it stands before.
+use Rattle.std.specs.Prelude.{List, ℕ, Result}
+use Rattle.pg_handlers.specs.Handlers.{Handlers}
+use Rattle.pg_session.specs.declared.ends.Progress.{Progress}
+use Rattle.pg_session.specs.declared.ends.ServeError.{ServeError}
+use Rattle.pg_session.specs.Session.{SessionValue}
+use Rattle.cursor_table.specs.CursorTable.{cursor_rules}
+use Rattle.cursor_session.specs.declared.parts.Front.{Front}
+use Rattle.cursor_session.specs.Fronts.{FrontValue, Around, Takes, rest_of}
+
+-- a front, by how contracts see the session behind it
+abbrev pub front_seen : {C H S : Type 0} → (C → SessionValue H S) → Front C → FrontValue H S
+front_seen seen v = record { inner = seen v.inner; held = v.held.items; owed = v.owed }
+
+-- A front took a text by the cursor table, from where it stood before to where it stands behind it. The first argument is what handlers tell.
+abbrev pub FrontTakes : {H S : Type 0} → (H → Handlers S) → FrontValue H S → List ℕ → FrontValue H S → Around → Around
+    → Result Progress ServeError → Type 0
+FrontTakes told v text w before after result =
+    Takes (cursor_rules (told v.inner.handlers)) v.inner.state text w.inner.state (rest_of w) before after result

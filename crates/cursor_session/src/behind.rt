@@ -1,0 +1,90 @@
+//! The session behind a front.
+
+ghost use Rattle.std.specs.Prelude.{◌≡◌, ◌≤◌, ◌++◌, [], true, OnOk};
+ghost use Rattle.pg_handlers.specs.Desk.{GoesOn};
+ghost use Rattle.pg_handlers.specs.Handlers.{Handlers};
+ghost use Rattle.pg_handlers.specs.Questions.{questions_since};
+ghost use Rattle.pg_session.specs.Session.{SessionValue, whole_rules, HasFed, is_more};
+ghost use Rattle.pg_session.specs.Steps.{WasFed};
+ghost use Rattle.pg_session.specs.Streams.{HasSinkCause};
+
+use pg_portal::{PgWireConnectionState, PortalStore};
+use pg_session::{
+    CancelDesk, ExtendedQueryHandler, PgWireServerHandlers, Progress, ServeError, Session, Sink,
+    Turns,
+};
+use std::alloc::Global;
+
+/// A session as its front knows it: by its phase, and by what becomes of bytes. A front knows
+/// nothing else of it, nor of its handlers and its store, so that the front's proofs stay short.
+pub(crate) trait FrontedSession: Drop {
+    // what statements mean
+    ghost Statement: { Type 0 };
+    // the handlers, as a type
+    ghost Server: { Type 0 };
+    // what the handlers tell
+    ghost told: { Server → Handlers Statement };
+    // the session as contracts see it
+    ghost seen: { Self → SessionValue Server Statement };
+
+    /// The phase of the conversation.
+    fn state(&self) -> PgWireConnectionState
+        ensures { result ≡ (seen self.now).state.info.state };
+
+    /// Takes a piece of the client's bytes, as [`Session::feed`] does.
+    fn feed<D: CancelDesk, K: Sink>(
+        &mut self,
+        alloc: Global,
+        desk: &mut D,
+        piece: &[u8],
+        sink: &mut K,
+        turns: &mut Turns,
+    ) -> Result<Progress, ServeError>
+        requires { (seen self.old).is_open ≡ true }
+        ensures fed { WasFed (whole_rules (told (seen self.old).handlers)) (seen self.old).state
+            ((seen self.old).rest ++ piece.now) (seen self.new).state (seen self.new).rest
+            (K.written sink.old) (K.written sink.new) (seen self.old).unsent
+            (D.told desk.old).calls (D.told desk.new).calls result }
+        ensures sent { OnOk result ((seen self.new).unsent ≡ []) }
+        ensures open { (seen self.new).is_open ≡ is_more result }
+        ensures handlers { (seen self.new).handlers ≡ (seen self.old).handlers }
+
+        // The cause of each error.
+        ensures cause { HasSinkCause (K.faults sink.old) (K.faults sink.new) result }
+        ensures turns { HasFed turns.old turns.new
+            (questions_since (D.told desk.old).calls (D.told desk.new).calls) result }
+        ensures bounded { turns.old.spent ≤ turns.old.limit → turns.new.spent ≤ turns.new.limit }
+        ensures registration { GoesOn (D.told desk.old) (D.told desk.new) }
+        ensures sink { K.origin sink.new ≡ K.origin sink.old };
+}
+
+impl<
+    H: PgWireServerHandlers,
+    St: PortalStore<
+        Statement = <H::Extended as ExtendedQueryHandler>::Statement,
+        Rows = <H::Extended as ExtendedQueryHandler>::Rows,
+    >,
+> FrontedSession for Session<H, St> {
+    ghost Statement = { H.Extended.Statement };
+
+    ghost Server = { H };
+
+    ghost told = { H.told };
+
+    ghost seen = { λ s. s };
+
+    fn state(&self) -> PgWireConnectionState {
+        Session::state(self)
+    }
+
+    fn feed<D: CancelDesk, K: Sink>(
+        &mut self,
+        alloc: Global,
+        desk: &mut D,
+        piece: &[u8],
+        sink: &mut K,
+        turns: &mut Turns,
+    ) -> Result<Progress, ServeError> {
+        Session::feed(self, alloc, desk, piece, sink, turns)
+    }
+}
