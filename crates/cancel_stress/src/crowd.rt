@@ -2,10 +2,12 @@
 ghost use Rattle.std.specs.Prelude.{◌≡◌};
 ghost use Rattle.std.specs.Thread.{IsSync};
 
+use crate::notes::{Counts, Mix};
 use crate::plain::is_legal;
-use crate::worker::{Counts, Worker, are_in_order, are_within_cancels, end_all, workers};
+use crate::worker::{
+    Worker, are_in_order, are_within_cancels, counts_of, end_all, registered, workers,
+};
 use pg_cancel::{ConnectionManager, Door, Registry};
-use pg_messages::SecretKey;
 use std::alloc::{AllocError, Global};
 use std::sync::Wait;
 use std::thread::Threads;
@@ -34,7 +36,7 @@ pub struct Heard {
 /// after all of them is how many entries there were. None where there was no memory.
 pub fn stressed<R: Threads + Wait + Sync>(rt: &R, alloc: Global, calls: u64) -> Option<Told> {
     let (heard, entries) = at_once(rt, alloc, calls)?;
-    let legal = in_turn(rt, alloc, calls)?;
+    let legal = in_turn(rt, alloc, calls).ok()?;
     Some(Told {
         heard,
         entries,
@@ -46,8 +48,22 @@ pub fn stressed<R: Threads + Wait + Sync>(rt: &R, alloc: Global, calls: u64) -> 
 /// memory.
 fn at_once<R: Threads + Wait + Sync>(rt: &R, alloc: Global, calls: u64) -> Option<(Heard, u64)> {
     let (manager, mut door) = ConnectionManager::new(alloc).ok()?;
-    let heard = called(rt, alloc, &manager, &mut door, calls)?;
-    let entries = entries_so_far(rt, alloc, &manager, &mut door)?;
+    heard_at(rt, alloc, &manager, &mut door, calls)
+}
+
+/// What the threads are answered at this registry, and how many entries there are after it. None
+/// where there was no memory.
+fn heard_at<R: Threads + Wait + Sync>(
+    rt: &R,
+    alloc: Global,
+    manager: &ConnectionManager,
+    door: &mut Door,
+    calls: u64,
+) -> Option<(Heard, u64)>
+    requires { door.old.issuer ≡ manager.now }
+{
+    let heard = called(rt, alloc, manager, door, calls)?;
+    let entries = entries_so_far(rt, alloc, manager, door)?;
     Some((heard, entries))
 }
 
@@ -61,16 +77,33 @@ fn entries_so_far<R: Wait>(
 ) -> Option<u64>
     requires { door.old.issuer ≡ manager.now }
 {
-    let last = SecretKey::try_new(alloc, &[0; 4]).ok()?;
-    Some(manager.register(rt, door, 0, last).ok()?.number())
+    match registered(rt, alloc, manager, door, 0) {
+        Ok(last) => Some(last.number()),
+        Err(_) => None,
+    }
 }
 
 /// Whether connections that make so many calls each, in turn, are answered as a `Registry` beside
-/// them is, and whether its history is legal. None where there was no memory.
-fn in_turn<R: Wait>(rt: &R, alloc: Global, calls: u64) -> Option<bool> {
-    let (manager, mut door) = ConnectionManager::new(alloc).ok()?;
-    let mut all = workers(rt, alloc, &manager, &mut door, THREADS)?;
-    are_legal_too(rt, alloc, all.as_mut_slice(), calls)
+/// them is, and whether its history is legal.
+fn in_turn<R: Wait>(rt: &R, alloc: Global, calls: u64) -> Result<bool, AllocError> {
+    let (manager, mut door) = ConnectionManager::new(alloc)?;
+    in_turn_at(rt, alloc, &manager, &mut door, calls)
+}
+
+/// Whether connections of this registry are answered so, and the history is legal.
+fn in_turn_at<R: Wait>(
+    rt: &R,
+    alloc: Global,
+    manager: &ConnectionManager,
+    door: &mut Door,
+    calls: u64,
+) -> Result<bool, AllocError>
+    requires { door.old.issuer ≡ manager.now }
+{
+    match workers(rt, alloc, manager, door, THREADS) {
+        Some(mut all) => are_legal_too(rt, alloc, all.as_mut_slice(), calls),
+        None => Err(AllocError),
+    }
 }
 
 /// Whether these connections are answered so, and the history of the registry is legal.
@@ -79,10 +112,9 @@ fn are_legal_too<R: Wait>(
     alloc: Global,
     all: &mut [Worker<'_>],
     calls: u64,
-) -> Option<bool> {
+) -> Result<bool, AllocError> {
     let mut beside = Registry::new(alloc);
-    let same = are_alike(rt, all, &mut beside, calls).ok()?;
-    Some(same && is_legal(alloc, beside.history()).ok()?)
+    Ok(are_alike(rt, all, &mut beside, calls)? && is_legal(alloc, beside.history())?)
 }
 
 /// Whether connections that register, and then make so many calls each, in turn, are answered as
@@ -136,11 +168,33 @@ fn called<R: Threads + Wait + Sync>(
     ensures { door.new.issuer ≡ door.old.issuer }
 {
     let all = workers(rt, alloc, manager, door, THREADS)?;
-    let all = thread::map_vec(rt, all, &|worker: Worker| worker.after_calls(rt, calls)).ok()?;
+    match after_all(rt, all, Mix::All, calls) {
+        Some(all) => heard_by(rt, all),
+        None => None,
+    }
+}
+
+/// These connections after so many calls of each, on threads of their own. None where there was no
+/// memory.
+fn after_all<'a, R: Threads + Wait + Sync>(
+    rt: &R,
+    all: Vec<Worker<'a>>,
+    mix: Mix,
+    calls: u64,
+) -> Option<Vec<Worker<'a>>> {
+    thread::map_vec(rt, all, &|worker: Worker| worker.after(rt, mix, calls)).ok()
+}
+
+/// What these connections were answered, whose registrations end. None where there was no memory.
+fn heard_by<R: Wait>(rt: &R, all: Vec<Worker<'_>>) -> Option<Heard> {
     let in_order = are_in_order(&all);
     let within = are_within_cancels(&all);
+    let counts = counts_of(&all);
+    if !end_all(rt, all) {
+        return None;
+    }
     Some(Heard {
-        counts: end_all(rt, all)?,
+        counts: counts?,
         in_order,
         within,
     })
@@ -158,11 +212,11 @@ pub fn timed<R: Threads + Wait + Clock + Sync>(
     let Ok((manager, mut door)) = ConnectionManager::new(alloc) else {
         return Ok(0);
     };
-    let Some(all) = longer(rt, alloc, &manager, &mut door, threads, entries) else {
-        return Ok(0);
+    let nanoseconds = match longer(rt, alloc, &manager, &mut door, threads, entries) {
+        Some(all) => timed_queries(rt, all, calls),
+        None => Ok(0),
     };
-    let nanoseconds = timed_queries(rt, all, calls)?;
-    Ok(nanoseconds / (u128::from(threads.max(1)) * u128::from(calls.max(1))))
+    Ok(nanoseconds? / (u128::from(threads.max(1)) * u128::from(calls.max(1))))
 }
 
 /// Nanoseconds of so many starts and questions of each connection, on threads of their own. 0 where
@@ -173,12 +227,14 @@ fn timed_queries<R: Threads + Wait + Clock + Sync>(
     calls: u64,
 ) -> io::Result<u128> {
     let start = Instant::now(rt)?;
-    let Ok(all) = thread::map_vec(rt, all, &|worker: Worker| worker.after_queries(rt, calls)) else {
-        return Ok(0);
-    };
+    let all = after_all(rt, all, Mix::Queries, calls);
     let nanoseconds = start.elapsed(rt)?.as_nanos();
-    drop(all);
-    Ok(nanoseconds)
+    Ok(if are_there(all) { nanoseconds } else { 0 })
+}
+
+/// Whether there was memory.
+fn are_there(all: Option<Vec<Worker<'_>>>) -> bool {
+    all.is_some()
 }
 
 /// The connections of so many threads, the first of which has made so many calls.
@@ -195,7 +251,7 @@ fn longer<'a, R: Wait>(
 {
     let mut all = workers(rt, alloc, manager, door, threads)?;
     if let Some(first) = all.first_mut() {
-        first.query(rt, entries);
+        first.run(rt, Mix::Queries, entries);
     }
     Some(all)
 }

@@ -5,16 +5,18 @@
 #![tactic(auto)]
 
 mod crowd;
+mod notes;
 mod plain;
 mod worker;
 
 use crowd::{Told, stressed, timed};
+use notes::Counts;
 use std::alloc::Global;
+use std::fmt::Display;
 use std::sync::Wait;
 use std::thread::Threads;
 use std::time::Clock;
 use std::{env, io};
-use worker::Counts;
 
 fn main(rt: HostRuntime) -> io::Result<()> {
     let [calls, entries, each] = numbers_of(env::args(&rt)?);
@@ -54,12 +56,16 @@ fn numbers_of(words: env::Args<Global>) -> [u64; 3] {
 }
 
 fn tell(rt: &impl Print, calls: u64, told: Told) -> io::Result<()> {
-    println!(rt; "calls of each thread {calls}")?;
+    tell_line(rt, "calls of each thread", calls)?;
     tell_counts(rt, told.heard.counts)?;
-    println!(rt; "answers in order {}", told.heard.in_order)?;
-    println!(rt; "canceled within the cancels {}", told.heard.within)?;
-    println!(rt; "entries {}", told.entries)?;
-    println!(rt; "legal {}", told.legal)
+    tell_line(rt, "answers in order", told.heard.in_order)?;
+    tell_line(rt, "canceled within the cancels", told.heard.within)?;
+    tell_line(rt, "entries", told.entries)?;
+    tell_line(rt, "legal", told.legal)
+}
+
+fn tell_line<T: Display + Copy>(rt: &impl Print, name: &str, value: T) -> io::Result<()> {
+    println!(rt; "{name} {value}")
 }
 
 fn tell_counts(rt: &impl Print, counts: Counts) -> io::Result<()> {

@@ -15,6 +15,25 @@ struct Live {
     canceled: bool,
 }
 
+impl Live {
+    /// What a start, a question or a narrow of the registration must be answered.
+    fn answer(&mut self, call: &RegistryCall) -> RegistryAnswer {
+        match call {
+            RegistryCall::Narrow => {
+                self.key.narrow();
+                RegistryAnswer::Done
+            }
+            RegistryCall::Start => {
+                self.started = true;
+                self.canceled = false;
+                RegistryAnswer::Done
+            }
+            _ if self.canceled => RegistryAnswer::Yes,
+            _ => RegistryAnswer::No,
+        }
+    }
+}
+
 /// The registrations that were not ended so far, a few.
 #[derive(Drop)]
 struct Walk {
@@ -70,30 +89,20 @@ impl Walk {
     fn answer(&mut self, own: usize, call: &RegistryCall) -> RegistryAnswer {
         match call {
             RegistryCall::Cancel(pid, key) => self.cancel(*pid, key),
-            RegistryCall::Narrow => {
-                if let Some(one) = self.live.get_mut(own) {
-                    one.key.narrow();
-                }
-                RegistryAnswer::Done
-            }
-            RegistryCall::Unregister => {
-                if own < self.live.len() {
-                    let _ = self.live.swap_remove(own);
-                }
-                RegistryAnswer::Done
-            }
-            RegistryCall::Start => {
-                if let Some(one) = self.live.get_mut(own) {
-                    one.started = true;
-                    one.canceled = false;
-                }
-                RegistryAnswer::Done
-            }
-            _ => match self.live.get(own) {
-                Some(one) if one.canceled => RegistryAnswer::Yes,
-                _ => RegistryAnswer::No,
+            RegistryCall::Unregister => self.end(own),
+            _ => match self.live.get_mut(own) {
+                Some(one) => one.answer(call),
+                None => RegistryAnswer::No,
             },
         }
+    }
+
+    /// Ends the registration at the place `own`.
+    fn end(&mut self, own: usize) -> RegistryAnswer {
+        if own < self.live.len() {
+            let _ = self.live.swap_remove(own);
+        }
+        RegistryAnswer::Done
     }
 
     fn cancel(&mut self, pid: i32, key: &SecretKey) -> RegistryAnswer {
