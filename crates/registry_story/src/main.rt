@@ -7,164 +7,140 @@ mod calls;
 
 ghost use Rattle.std.specs.Prelude.{◌≡◌};
 
-use crate::calls::{
-    Key, Stop, asked, canceled, key_of_bytes, narrowed, refused, registered, started, unregistered,
-};
-use pg_cancel::{ConnectionHandle, ConnectionManager, Door};
+use crate::calls::{Call, Connection, Key, Stop, key_of_bytes, refused, registered};
+use pg_cancel::{ConnectionManager, Door};
 use std::alloc::Global;
 use std::process::ExitCode;
 use std::sync::Wait;
 
-/// The key of the first connection.
-const FIRST: Key = Key {
-    bytes: &[1, 2, 3, 4],
-    digits: "01020304",
-};
-
-/// Another one for its pid.
-const OTHER: Key = Key {
-    bytes: &[5, 6, 7, 8],
-    digits: "05060708",
-};
-
-/// The key of the second connection.
-const SECOND: Key = Key {
-    bytes: &[10, 11, 12, 13],
-    digits: "0a0b0c0d",
-};
-
-/// One that nobody has.
-const ZERO: Key = Key {
-    bytes: &[0, 0, 0, 0],
-    digits: "00000000",
-};
-
-/// One that begins as the first.
-const LONG: Key = Key {
-    bytes: &[1, 2, 3, 4, 5, 6, 7, 8],
-    digits: "0102030405060708",
-};
-
-/// All calls of the story.
-fn tell<R: Wait + Print>(
-    rt: &R,
-    alloc: Global,
-    manager: &ConnectionManager,
-    door: &mut Door,
-) -> Result<(), Stop>
-    requires issued { door.old.issuer ≡ manager.now }
-{
-    let mut first = registered(rt, alloc, manager, door, 7, FIRST)?;
-    refused(rt, alloc, manager, door, 7, OTHER)?;
-    let mut second = registered(rt, alloc, manager, door, 8, SECOND)?;
-    queries(rt, alloc, manager, &mut first, &mut second)?;
-    tell_end(rt, alloc, manager, door, first, second)
+/// What happens at the registry.
+#[derive(Clone, Copy)]
+enum Step {
+    /// A registration of a pid under a key succeeds.
+    Registers(i32, Key),
+    /// A registration is refused, since its pid is taken.
+    Refuses(i32, Key),
+    /// The connection with this pid makes a call.
+    Calls(i32, Call),
+    /// The connection with this pid ends.
+    Ends(i32),
 }
 
-/// The first connection ends: then its key reaches nobody, and its pid is free again.
-fn tell_end<R: Wait + Print>(
+/// The first connection makes two queries, of which the second connection cancels one, and ends:
+/// then its key reaches nobody, and its pid is free again.
+const STORY: &[Step] = &[
+    Step::Registers(7, Key::First),
+    Step::Refuses(7, Key::Other),
+    Step::Registers(8, Key::Second),
+    Step::Calls(7, Call::Start),
+    Step::Calls(7, Call::Ask),
+    Step::Calls(8, Call::Cancel(7, Key::First)),
+    Step::Calls(7, Call::Ask),
+    Step::Calls(7, Call::Start),
+    Step::Calls(7, Call::Ask),
+    Step::Calls(8, Call::Cancel(7, Key::Zero)),
+    Step::Ends(7),
+    Step::Calls(8, Call::Cancel(7, Key::First)),
+    Step::Registers(7, Key::First),
+];
+
+/// The first query of the first connection is canceled by the long key, which is narrowed then.
+/// The long key doesn't cancel the second query, and the short one does.
+const LONG_STORY: &[Step] = &[
+    Step::Registers(7, Key::Long),
+    Step::Registers(8, Key::Second),
+    Step::Calls(7, Call::Start),
+    Step::Calls(8, Call::Cancel(7, Key::First)),
+    Step::Calls(8, Call::Cancel(7, Key::Long)),
+    Step::Calls(7, Call::Ask),
+    Step::Calls(7, Call::Narrow),
+    Step::Calls(7, Call::Start),
+    Step::Calls(8, Call::Cancel(7, Key::Long)),
+    Step::Calls(8, Call::Cancel(7, Key::First)),
+    Step::Calls(7, Call::Ask),
+];
+
+/// All steps of a story, at a new registry.
+fn tell_story<R: Wait + Print>(rt: &R, alloc: Global, steps: &[Step]) -> Result<(), Stop> {
+    let (manager, mut door) = ConnectionManager::new(alloc)?;
+    tell_steps(rt, alloc, &manager, &mut door, steps)
+}
+
+/// All steps of a story.
+fn tell_steps<R: Wait + Print>(
     rt: &R,
     alloc: Global,
     manager: &ConnectionManager,
     door: &mut Door,
-    first: ConnectionHandle,
-    mut second: ConnectionHandle,
+    steps: &[Step],
 ) -> Result<(), Stop>
     requires issued { door.old.issuer ≡ manager.now }
-    requires first { first.issuer ≡ manager.now }
-    requires second { second.issuer ≡ manager.now }
 {
-    unregistered(rt, manager, first)?;
-    canceled(rt, alloc, manager, &mut second, 7, FIRST)?;
-    let _third = registered(rt, alloc, manager, door, 7, FIRST)?;
+    let mut live = Vec::new(alloc);
+    for step in steps {
+        tell_step(rt, alloc, manager, door, &mut live, *step)?;
+    }
     Ok(())
 }
 
-/// Two queries of the first connection, of which the second connection cancels one.
-fn queries<R: Wait + Print>(
+/// A step of a story, before which these connections are registered.
+fn tell_step<'a, R: Wait + Print>(
     rt: &R,
     alloc: Global,
-    manager: &ConnectionManager,
-    first: &mut ConnectionHandle,
-    second: &mut ConnectionHandle,
-) -> Result<(), Stop>
-    requires first { first.old.issuer ≡ manager.now }
-    requires second { second.old.issuer ≡ manager.now }
-    ensures first { first.new.issuer ≡ manager.now }
-    ensures second { second.new.issuer ≡ manager.now }
-{
-    started(rt, manager, first)?;
-    asked(rt, manager, first)?;
-    canceled(rt, alloc, manager, second, 7, FIRST)?;
-    asked(rt, manager, first)?;
-    started(rt, manager, first)?;
-    asked(rt, manager, first)?;
-    canceled(rt, alloc, manager, second, 7, ZERO)
-}
-
-/// All calls of the story with long keys, of a registry of its own.
-fn tell_long<R: Wait + Print>(
-    rt: &R,
-    alloc: Global,
-    manager: &ConnectionManager,
+    manager: &'a ConnectionManager,
     door: &mut Door,
+    live: &mut Vec<Connection<'a>>,
+    step: Step,
 ) -> Result<(), Stop>
     requires issued { door.old.issuer ≡ manager.now }
+    ensures issued { door.new.issuer ≡ manager.now }
 {
-    let mut first = registered(rt, alloc, manager, door, 7, LONG)?;
-    let mut second = registered(rt, alloc, manager, door, 8, SECOND)?;
-    long_queries(rt, alloc, manager, &mut first, &mut second)
+    match step {
+        Step::Registers(pid, key) => {
+            let connection = registered(rt, alloc, manager, door, pid, key)?;
+            Ok(live.push(connection)?)
+        }
+        Step::Refuses(pid, key) => refused(rt, alloc, manager, door, pid, key),
+        Step::Calls(pid, call) => tell_call(rt, alloc, live, pid, call),
+        Step::Ends(pid) => tell_end(rt, live, pid),
+    }
 }
 
-/// Two queries of the first connection. The first is canceled by the long key, which is narrowed
-/// then, and the second by the short one.
-fn long_queries<R: Wait + Print>(
+/// A call of the connection with this pid.
+fn tell_call<R: Wait + Print>(
     rt: &R,
     alloc: Global,
-    manager: &ConnectionManager,
-    first: &mut ConnectionHandle,
-    second: &mut ConnectionHandle,
-) -> Result<(), Stop>
-    requires first { first.old.issuer ≡ manager.now }
-    requires second { second.old.issuer ≡ manager.now }
-{
-    started(rt, manager, first)?;
-    canceled(rt, alloc, manager, second, 7, FIRST)?;
-    canceled(rt, alloc, manager, second, 7, LONG)?;
-    asked(rt, manager, first)?;
-    narrowed(rt, manager, first)?;
-    short_key_query(rt, alloc, manager, first, second)
+    live: &mut Vec<Connection<'_>>,
+    pid: i32,
+    call: Call,
+) -> Result<(), Stop> {
+    let place = place_of(live, pid);
+    match live.get_mut(place) {
+        Some(connection) => connection.tell(rt, alloc, call),
+        None => Err(Stop::OtherAnswer),
+    }
 }
 
-/// A query of the first connection, whose key is narrowed: the long key doesn't cancel it, and the
-/// short one does.
-fn short_key_query<R: Wait + Print>(
-    rt: &R,
-    alloc: Global,
-    manager: &ConnectionManager,
-    first: &mut ConnectionHandle,
-    second: &mut ConnectionHandle,
-) -> Result<(), Stop>
-    requires first { first.old.issuer ≡ manager.now }
-    requires second { second.old.issuer ≡ manager.now }
-{
-    started(rt, manager, first)?;
-    canceled(rt, alloc, manager, second, 7, LONG)?;
-    canceled(rt, alloc, manager, second, 7, FIRST)?;
-    asked(rt, manager, first)
+/// The end of the connection with this pid.
+fn tell_end<R: Wait + Print>(rt: &R, live: &mut Vec<Connection<'_>>, pid: i32) -> Result<(), Stop> {
+    let place = place_of(live, pid);
+    if place < live.len() {
+        live.swap_remove(place).end(rt)
+    } else {
+        Err(Stop::OtherAnswer)
+    }
 }
 
-/// The story, at a new registry.
-fn tell_story<R: Wait + Print>(rt: &R, alloc: Global) -> Result<(), Stop> {
-    let (manager, mut door) = ConnectionManager::new(alloc)?;
-    tell(rt, alloc, &manager, &mut door)
-}
-
-/// The story with long keys, at a new registry.
-fn tell_long_story<R: Wait + Print>(rt: &R, alloc: Global) -> Result<(), Stop> {
-    println!(rt; "registry story with long keys")?;
-    let (manager, mut door) = ConnectionManager::new(alloc)?;
-    tell_long(rt, alloc, &manager, &mut door)
+/// The place of the connection with this pid; how many there are, where none has it.
+fn place_of(live: &[Connection<'_>], pid: i32) -> usize {
+    let mut place = 0usize;
+    for connection in live {
+        if connection.pid() == pid {
+            return place;
+        }
+        place = place.saturating_add(1);
+    }
+    place
 }
 
 /// Which lengths a key may have.
@@ -178,8 +154,9 @@ fn tell_lengths<R: Print>(rt: &R, alloc: Global) -> Result<(), Stop> {
 
 /// Both stories, and the lengths.
 fn tell_all<R: Wait + Print>(rt: &R, alloc: Global) -> Result<(), Stop> {
-    tell_story(rt, alloc)?;
-    tell_long_story(rt, alloc)?;
+    tell_story(rt, alloc, STORY)?;
+    println!(rt; "registry story with long keys")?;
+    tell_story(rt, alloc, LONG_STORY)?;
     tell_lengths(rt, alloc)
 }
 
