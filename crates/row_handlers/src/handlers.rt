@@ -11,7 +11,7 @@ ghost use Rattle.pg_handlers.specs.Handlers.{told_all};
 
 use crate::answers::RowAnswers;
 use crate::parser::RowParser;
-use crate::response::{begun, response};
+use crate::response::{begun, response, simple_answer};
 use pg_handlers::{
     ExtendedQueryHandler, NoRows, NoopHandler, PgWireServerHandlers, SimpleQueryHandler,
 };
@@ -67,11 +67,8 @@ impl<A: RowAnswers> RowHandlers<A> {
             (told_responses A.Rows.items (λ none. []) all)) }
         ensures answerable { IfErr result IsAnswerableItem }
     {
-        let answers = &self.parser.answers;
-        let statement = answers.parse(alloc, query, None)?;
-        let text = Format::UnifiedText;
         let mut all = PgList::new(alloc);
-        all.push(response(alloc, answers, &statement, &[], &text, &text)?)?;
+        all.push(simple_answer(alloc, &self.parser.answers, query)?)?;
         Ok(all)
     }
 }

@@ -6,9 +6,10 @@ ghost use Rattle.pg_handlers.specs.Handlers.{told_one};
 ghost use Rattle.pg_portal.specs.Responses as response;
 ghost use Rattle.pg_portal.specs.Responses.{told_response};
 ghost use Rattle.pg_portal.specs.Rows.{IsAnswerableItem};
+ghost use Rattle.pg_portal.specs.Texts.{IsShortText};
 ghost use Rattle.pg_portal.specs.Told.{IsOutcome, told_rows};
 ghost use Rattle.pg_portal.specs.declared.error.PgWireError.TheVariants as wire;
-ghost use Rattle.row_handlers.specs.Told.{answer_of, rows_under};
+ghost use Rattle.row_handlers.specs.Told.{answer_of, rows_under, simple_answer};
 
 use crate::answers::RowAnswers;
 use pg_handlers::NoRows;
@@ -37,6 +38,24 @@ pub(crate) fn response<A: RowAnswers>(
     let rows = answers.rows(alloc, statement, parameters, parameter_format, formats)?;
     let fields = answers.columns(alloc, statement, formats)?;
     Ok(Response::Query(rows_under(alloc, fields, rows)?))
+}
+
+/// What a simple query is answered, which has no parameters, and whose rows are text.
+pub(crate) fn simple_answer<A: RowAnswers>(
+    alloc: Global,
+    answers: &A,
+    query: &str,
+) -> Result<Response<A::Rows, NoRows>, PgWireError>
+    requires { IsShortText query.now }
+    ensures outcome { IsOutcome (simple_answer (A.told answers.now)
+        ((A.told answers.now).parse query.now None)) (told_one A.Rows.items (λ none. []) result) }
+    ensures sendable { IfOk result (λ answer.
+        IsSendableResponse (told_response A.Rows.items (λ none. []) answer)) }
+    ensures answerable { IfErr result IsAnswerableItem }
+{
+    let statement = answers.parse(alloc, query, None)?;
+    let text = Format::UnifiedText;
+    response(alloc, answers, &statement, &[], &text, &text)
 }
 
 /// Rows under their columns and the tag SELECT.
