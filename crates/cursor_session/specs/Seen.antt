@@ -12,7 +12,7 @@ use Rattle.cursor_session.specs.Fronts.{FrontValue, Around, Takes, rest_of}
 abbrev pub front_seen : {C H S : Type 0} → (C → SessionValue H S) → Front C → FrontValue H S
 front_seen seen v = record { inner = seen v.inner; held = v.held.items; owed = v.owed }
 
--- A front took a text by the cursor table, from where it stood before to where it stands behind it. The first argument is what handlers tell.
+-- A front took a text by the cursor table, from where it stood to where it stands. The first argument is what handlers tell.
 abbrev pub FrontTakes : {H S : Type 0} → (H → Handlers S) → FrontValue H S → List ℕ → FrontValue H S → Around → Around
     → Result Progress ServeError → Type 0
 FrontTakes told v text w before after result =
