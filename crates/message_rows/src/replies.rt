@@ -11,6 +11,7 @@ use pg_messages::{
 };
 use row_files::times_and_rest;
 use std::alloc::{AllocError, Global};
+use std::str::FromStr;
 
 /// A reply, where there is one of that name with such fields.
 type Made = Result<Option<PgWireBackendMessage>, AllocError>;
@@ -36,21 +37,22 @@ pub fn let_go(_reply: PgWireBackendMessage) {}
 
 /// The reply of this name that owns nothing.
 fn bare(kind: &str, parts: &str) -> Option<PgWireBackendMessage> {
-    let reply = match kind {
-        "ReadyForQuery" => PgWireBackendMessage::ReadyForQuery(ready(parts)),
-        "SslResponse" => PgWireBackendMessage::SslResponse(SslResponse {}),
-        "GssEncResponse" => PgWireBackendMessage::GssEncResponse(GssEncResponse {}),
-        "AuthenticationOk" => PgWireBackendMessage::AuthenticationOk(AuthenticationOk {}),
-        "ParseComplete" => PgWireBackendMessage::ParseComplete(ParseComplete {}),
-        "BindComplete" => PgWireBackendMessage::BindComplete(BindComplete {}),
-        "CloseComplete" => PgWireBackendMessage::CloseComplete(CloseComplete {}),
-        "PortalSuspended" => PgWireBackendMessage::PortalSuspended(PortalSuspended {}),
-        "NoData" => PgWireBackendMessage::NoData(NoData {}),
-        "EmptyQueryResponse" => PgWireBackendMessage::EmptyQueryResponse(EmptyQueryResponse {}),
-        "CopyDone" => PgWireBackendMessage::CopyDone(CopyDone {}),
-        _ => return None,
-    };
-    Some(reply)
+    match kind {
+        "ReadyForQuery" => Some(PgWireBackendMessage::ReadyForQuery(ready(parts))),
+        "SslResponse" => Some(PgWireBackendMessage::SslResponse(SslResponse {})),
+        "GssEncResponse" => Some(PgWireBackendMessage::GssEncResponse(GssEncResponse {})),
+        "AuthenticationOk" => Some(PgWireBackendMessage::AuthenticationOk(AuthenticationOk {})),
+        "ParseComplete" => Some(PgWireBackendMessage::ParseComplete(ParseComplete {})),
+        "BindComplete" => Some(PgWireBackendMessage::BindComplete(BindComplete {})),
+        "CloseComplete" => Some(PgWireBackendMessage::CloseComplete(CloseComplete {})),
+        "PortalSuspended" => Some(PgWireBackendMessage::PortalSuspended(PortalSuspended {})),
+        "NoData" => Some(PgWireBackendMessage::NoData(NoData {})),
+        "EmptyQueryResponse" => {
+            Some(PgWireBackendMessage::EmptyQueryResponse(EmptyQueryResponse {}))
+        }
+        "CopyDone" => Some(PgWireBackendMessage::CopyDone(CopyDone {})),
+        _ => None,
+    }
 }
 
 fn ready(letter: &str) -> ReadyForQuery {
@@ -83,10 +85,15 @@ fn key_data_with(pid: i32, key: Result<SecretKey, KeyError>) -> Made {
 }
 
 fn setting(alloc: Global, parts: &str) -> Made {
-    let (name, value) = first_of(parts);
-    let name = text_of(alloc, name)?;
-    let value = text_of(alloc, value)?;
+    let (name, value) = two_texts(alloc, parts)?;
     Ok(Some(PgWireBackendMessage::ParameterStatus(ParameterStatus { name, value })))
+}
+
+/// The text of the first word, and that of those behind it.
+fn two_texts(alloc: Global, words: &str) -> Result<(PgStr, PgStr), AllocError> {
+    let (one, other) = first_of(words);
+    let one = text_of(alloc, one)?;
+    Ok((one, text_of(alloc, other)?))
 }
 
 fn done(alloc: Global, parts: &str) -> Made {
@@ -96,10 +103,8 @@ fn done(alloc: Global, parts: &str) -> Made {
 
 fn error(alloc: Global, parts: &str) -> Made {
     let (severity, rest) = first_of(parts);
-    let (code, message) = first_of(rest);
-    let severity = text_of(alloc, severity)?;
-    let code = text_of(alloc, code)?;
-    let info = ErrorInfo::new(severity, code, text_of(alloc, message)?);
+    let (code, message) = two_texts(alloc, rest)?;
+    let info = ErrorInfo::new(text_of(alloc, severity)?, code, message);
     Ok(Some(PgWireBackendMessage::ErrorResponse(ErrorResponse { info })))
 }
 
@@ -142,16 +147,23 @@ fn field_of(alloc: Global, part: &str) -> Result<FieldDescription, AllocError> {
 }
 
 fn field_with(name: PgStr, numbers: &str) -> FieldDescription {
-    let mut numbers = numbers.split(",");
     FieldDescription {
         name,
-        table_id: number::<i32>(numbers.next().unwrap_or("")),
-        column_id: number::<i16>(numbers.next().unwrap_or("")),
-        type_id: number::<u32>(numbers.next().unwrap_or("")),
-        type_size: number::<i16>(numbers.next().unwrap_or("")),
-        type_modifier: number::<i32>(numbers.next().unwrap_or("")),
-        format_code: number::<i16>(numbers.next().unwrap_or("")),
+        table_id: number_at::<i32>(numbers, 0),
+        column_id: number_at::<i16>(numbers, 1),
+        type_id: number_at::<u32>(numbers, 2),
+        type_size: number_at::<i16>(numbers, 3),
+        type_modifier: number_at::<i32>(numbers, 4),
+        format_code: number_at::<i16>(numbers, 5),
     }
+}
+
+/// The number at this place, from 0.
+fn number_at<T: FromStr + Default + Drop>(numbers: &str, place: usize) -> T
+where
+    <T as FromStr>::Err: Drop,
+{
+    number::<T>(numbers.split(",").nth(place).unwrap_or(""))
 }
 
 fn row(alloc: Global, parts: &str) -> Made {

@@ -105,17 +105,17 @@ fn show_text(rt: &HostRuntime, text: &PgStr) -> io::Result<()> {
 
 /// Prints at most 40 bytes, and of more how many there are, the first three and the last three.
 pub fn show_bytes(rt: &HostRuntime, bytes: &[u8]) -> io::Result<()> {
-    match bytes {
-        [a, b, c, .., x, y, z] if bytes.len() > 40 => print!(rt;
-            " {} bytes {a:02x}{b:02x}{c:02x}..{x:02x}{y:02x}{z:02x}",
-            bytes.len()
-        ),
-        _ => show_hex(rt, bytes),
+    if bytes.len() <= 40 {
+        rt.print(" ")?;
+        return show_hex(rt, bytes);
     }
+    print!(rt; " {} bytes ", bytes.len())?;
+    show_hex(rt, &bytes[..3])?;
+    rt.print("..")?;
+    show_hex(rt, &bytes[bytes.len() - 3..])
 }
 
 fn show_hex(rt: &HostRuntime, bytes: &[u8]) -> io::Result<()> {
-    rt.print(" ")?;
     for byte in bytes {
         print!(rt; "{byte:02x}")?;
     }

@@ -1,7 +1,7 @@
 //! The rows of standard input are judged.
 
 use crate::fault::Fault;
-use crate::lines::name_of;
+use crate::lines::{is_silent, name_of};
 use crate::parts::row_name;
 use crate::tally::Tally;
 use std::alloc::Global;
@@ -18,18 +18,38 @@ pub trait Judge {
     ) -> Result<Option<String>, Fault<'t>>;
 }
 
+/// How rows stand in a file.
+#[derive(Clone, Copy)]
+enum Layout {
+    /// Each is a line; empty ones and comments are none. Its name stands before its first bar.
+    Lines,
+    /// Each is a block between empty lines that begins with `row` and its name.
+    Blocks,
+}
+
+impl Layout {
+    /// What stands between rows.
+    fn separator(self) -> &'static str {
+        match self {
+            Layout::Lines => "\n",
+            Layout::Blocks => "\n\n",
+        }
+    }
+
+    /// The name of a row, or None where this is no row.
+    fn name_in<'t>(self, piece: &'t str) -> Option<&'t str> {
+        match self {
+            Layout::Lines if is_silent(piece) => None,
+            Layout::Lines => Some(row_name(piece)),
+            Layout::Blocks => name_of(piece, "row"),
+        }
+    }
+}
+
 /// Judges each line of standard input but empty ones and comments, and prints a line for each and
 /// their number. A row's name stands before its first bar.
 pub fn judge_lines<R: Print + Input, J: Judge>(rt: &R, alloc: Global, judge: &J) -> io::Result<()> {
-    let text = io::read_to_string(alloc, rt.reader())?;
-    let text = text.as_str();
-    let mut tally = Tally::new();
-    for row in text.lines() {
-        if !row.is_empty() && !row.starts_with("#") {
-            tally.tell(rt, row_name(row), judge.difference(alloc, text, row))?;
-        }
-    }
-    tally.tell_count(rt)
+    judge_input(rt, alloc, judge, Layout::Lines)
 }
 
 /// Judges each block of standard input, between empty lines, that begins with `row` and a name, and
@@ -39,12 +59,32 @@ pub fn judge_blocks<R: Print + Input, J: Judge>(
     alloc: Global,
     judge: &J,
 ) -> io::Result<()> {
+    judge_input(rt, alloc, judge, Layout::Blocks)
+}
+
+/// Judges the rows of standard input, which stand so.
+fn judge_input<R: Print + Input, J: Judge>(
+    rt: &R,
+    alloc: Global,
+    judge: &J,
+    layout: Layout,
+) -> io::Result<()> {
     let text = io::read_to_string(alloc, rt.reader())?;
-    let text = text.as_str();
+    judge_text(rt, alloc, judge, layout, text.as_str())
+}
+
+/// Judges the rows of a text, which stand so, and prints a line for each and their number.
+fn judge_text<R: Print, J: Judge>(
+    rt: &R,
+    alloc: Global,
+    judge: &J,
+    layout: Layout,
+    text: &str,
+) -> io::Result<()> {
     let mut tally = Tally::new();
-    for block in text.split("\n\n") {
-        if let Some(name) = name_of(block, "row") {
-            tally.tell(rt, name, judge.difference(alloc, text, block))?;
+    for piece in text.split(layout.separator()) {
+        if let Some(name) = layout.name_in(piece) {
+            tally.tell(rt, name, judge.difference(alloc, text, piece))?;
         }
     }
     tally.tell_count(rt)

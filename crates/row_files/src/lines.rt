@@ -15,7 +15,7 @@ pub fn told_by<'t>(line: &'t str, word: &str) -> Option<&'t str> {
 }
 
 /// Whether a line says nothing: it is empty, or a comment.
-fn is_silent(line: &str) -> bool {
+pub(crate) fn is_silent(line: &str) -> bool {
     line.is_empty() || line.starts_with("#")
 }
 
@@ -39,12 +39,22 @@ pub fn lines_of<'t>(
 ) -> Result<Vec<&'t str>, Fault<'t>> {
     let mut lines = Vec::new(alloc);
     for line in block.lines() {
-        match told_by(line, "use") {
-            None => push_line(&mut lines, line, words)?,
-            Some(name) => push_lines(&mut lines, defined(text, name)?, words)?,
-        }
+        push_used(&mut lines, text, line, words)?;
     }
     Ok(lines)
+}
+
+/// Appends a line, or the lines of the block that it names.
+fn push_used<'t>(
+    lines: &mut Vec<&'t str>,
+    text: &'t str,
+    line: &'t str,
+    words: &[&str],
+) -> Result<(), Fault<'t>> {
+    match told_by(line, "use") {
+        None => push_line(lines, line, words),
+        Some(name) => push_lines(lines, defined(text, name)?, words),
+    }
 }
 
 /// The block that defines this name.

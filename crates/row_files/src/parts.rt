@@ -48,14 +48,22 @@ where
 
 /// Three numbers that spaces split: months, days and microseconds.
 pub fn three_numbers<'t>(text: &'t str) -> Result<(i32, i32, i64), Fault<'t>> {
-    let mut words = text.split_whitespace();
-    let months = parsed(words.next().unwrap_or(""))?;
-    let days = parsed(words.next().unwrap_or(""))?;
-    let microseconds = parsed(words.next().unwrap_or(""))?;
-    match words.next() {
-        None => Ok((months, days, microseconds)),
-        Some(_) => Err(Fault::Line(text)),
+    if text.split_whitespace().count() > 3 {
+        return Err(Fault::Line(text));
     }
+    Ok((
+        number_at(text, 0)?,
+        number_at(text, 1)?,
+        number_at(text, 2)?,
+    ))
+}
+
+/// The number that the word with this place writes, from 0.
+fn number_at<'t, T: FromStr>(text: &'t str, place: usize) -> Result<T, Fault<'t>>
+where
+    <T as FromStr>::Err: Drop,
+{
+    parsed(text.split_whitespace().nth(place).unwrap_or(""))
 }
 
 /// How many times a word says what stands behind its `*`, and that; once where it has no number and
