@@ -1,9 +1,10 @@
 //! The columns of sample rows.
 
-ghost use Rattle.std.specs.Prelude.{◌≡◌, IfOk};
+ghost use Rattle.std.specs.Prelude.{◌≡◌, None, IfOk};
+ghost use Rattle.pg_portal.specs.Fields.{plain_field};
 ghost use Rattle.pg_messages.specs.Replies.{IsEncodable};
 ghost use Rattle.pg_handlers.specs.Replies.{row_description};
-ghost use Rattle.sample_handlers.specs.Told.{column_format, name_column, span_column, columns, columns_of};
+ghost use Rattle.sample_handlers.specs.Told.{column_format, columns, columns_of};
 
 use crate::meaning::SampleStatement;
 use pg_messages::{PgList, PgStr};
@@ -44,23 +45,29 @@ pub(crate) fn columns(alloc: Global, formats: &Format) -> Result<PgList<FieldInf
     ensures encodable { IfOk result (λ fields. IsEncodable (row_description fields)) }
 {
     let mut fields = PgList::new(alloc);
-    fields.push(name_column(alloc, column_format(formats, 0))?)?;
-    fields.push(span_column(alloc, column_format(formats, 1))?)?;
+    fields.push(column(alloc, "name", PgType::Text, -1, column_format(formats, 0))?)?;
+    fields.push(column(
+        alloc,
+        "span",
+        PgType::Interval,
+        16,
+        column_format(formats, 1),
+    )?)?;
     Ok(fields)
 }
 
-fn name_column(alloc: Global, format: FieldFormat) -> Result<FieldInfo, AllocError>
-    ensures { IfOk result (λ field. field ≡ name_column format) }
+/// A column of a type with a size, which belongs to no table.
+fn column(
+    alloc: Global,
+    name: &str,
+    ty: PgType,
+    size: i16,
+    format: FieldFormat,
+) -> Result<FieldInfo, AllocError>
+    ensures { IfOk result (λ field. field
+        ≡ record (plain_field name.now None None ty format) { type_size = size }) }
 {
-    let name = PgStr::copy_of(alloc, "name")?;
-    let field = FieldInfo::new(alloc, name, None, None, PgType::Text, format)?;
-    Ok(field.with_type_size(-1))
-}
-
-fn span_column(alloc: Global, format: FieldFormat) -> Result<FieldInfo, AllocError>
-    ensures { IfOk result (λ field. field ≡ span_column format) }
-{
-    let name = PgStr::copy_of(alloc, "span")?;
-    let field = FieldInfo::new(alloc, name, None, None, PgType::Interval, format)?;
-    Ok(field.with_type_size(16))
+    let name = PgStr::copy_of(alloc, name)?;
+    let field = FieldInfo::new(alloc, name, None, None, ty, format)?;
+    Ok(field.with_type_size(size))
 }

@@ -6,7 +6,7 @@ ghost use Rattle.sample_handlers.specs.Meanings.{meaning, meaning_of, other_mean
 use query_texts::trimmed;
 
 /// What a query means.
-#[derive(Clone, Copy, Debug, PartialEq, Eq)]
+#[derive(Clone, Copy)]
 pub enum SampleStatement {
     /// `pair`: two rows.
     Pair,

@@ -1,11 +1,9 @@
 //! Sample rows.
 
-ghost use Rattle.std.specs.Prelude.{◌≡◌, ◌≤◌, [], pos, IfOk, OnOk, length};
+ghost use Rattle.std.specs.Prelude.{◌≡◌, ◌≤◌, ◌∷◌, ◌++◌, [], pos, Ok, Err, IfOk, OnOk, length};
 ghost use Rattle.std.specs.List.{AllByRecursion};
-ghost use Rattle.pg_messages.specs.Replies.{IsEncodable};
-ghost use Rattle.pg_messages.specs.declared.backend.PgWireBackendMessage.TheVariants as server;
 ghost use Rattle.pg_portal.specs.Rows.{IsSendable};
-ghost use Rattle.sample_handlers.specs.Told.{first_row, pair_items, broken_items, long_items};
+ghost use Rattle.sample_handlers.specs.Told.{division_by_zero, first_row, pair_items, broken_items, long_items};
 
 use crate::errors::division_by_zero;
 use pg_messages::{DataRow, PgBytes, PgList};
@@ -24,27 +22,56 @@ const BINARY_ROW: [u8; 25] = [
 /// `b` and a null.
 const NULL_ROW: [u8; 9] = [0, 0, 0, 1, b'b', 255, 255, 255, 255];
 
-/// The row of `a` and one day.
-fn first_row(alloc: Global, format: FieldFormat) -> Result<DataRow, AllocError>
-    ensures row { IfOk result (λ row. row ≡ first_row format) }
-    ensures encodable { IfOk result (λ row. IsEncodable (server.DataRow row)) }
+/// Rows, and errors in place of rows.
+type Items = PgList<Result<DataRow, PgWireError>>;
+
+/// Appends an item that can be sent.
+#[tactic(auto, using(crate::proofs::LongRows::each_append))]
+fn push_item(items: &mut Items, item: Result<DataRow, PgWireError>) -> Result<(), AllocError>
+    requires { IsSendable item }
+    ensures ok { OnOk result (items.new ≡ items.old ++ item ∷ []) }
+    ensures sendable { OnOk result
+        (AllByRecursion IsSendable items.old → AllByRecursion IsSendable items.new) }
+{
+    Ok(items.push(item)?)
+}
+
+/// Appends the row of `a` and one day.
+fn push_first(alloc: Global, format: FieldFormat, items: &mut Items) -> Result<(), AllocError>
+    ensures ok { OnOk result (items.new ≡ items.old ++ Ok (first_row format) ∷ []) }
+    ensures sendable { OnOk result
+        (AllByRecursion IsSendable items.old → AllByRecursion IsSendable items.new) }
 {
     match format {
-        FieldFormat::Text => row(alloc, &TEXT_ROW),
-        FieldFormat::Binary => row(alloc, &BINARY_ROW),
+        FieldFormat::Text => push_row(alloc, &TEXT_ROW, items),
+        FieldFormat::Binary => push_row(alloc, &BINARY_ROW, items),
     }
 }
 
-/// A row of two cells.
-fn row(alloc: Global, payload: &[u8]) -> Result<DataRow, AllocError>
+/// Appends a row of two cells.
+fn push_row(alloc: Global, payload: &[u8], items: &mut Items) -> Result<(), AllocError>
     requires { length payload.now ≤ 100 }
-    ensures row { IfOk result (λ row. row ≡ record { payload = payload.now; field_count = pos 2 }) }
-    ensures encodable { IfOk result (λ row. IsEncodable (server.DataRow row)) }
+    ensures ok { OnOk result (items.new
+        ≡ items.old ++ Ok (record { payload = payload.now; field_count = pos 2 }) ∷ []) }
+    ensures sendable { OnOk result
+        (AllByRecursion IsSendable items.old → AllByRecursion IsSendable items.new) }
 {
-    Ok(DataRow {
-        payload: PgBytes::copy_of(alloc, payload)?,
+    let payload = PgBytes::copy_of(alloc, payload)?;
+    let row = DataRow {
+        payload,
         field_count: 2,
-    })
+    };
+    push_item(items, Ok(row))
+}
+
+/// Appends an error in place of a row.
+fn push_error(alloc: Global, items: &mut Items) -> Result<(), AllocError>
+    ensures ok { OnOk result (items.new ≡ items.old ++ Err division_by_zero ∷ []) }
+    ensures sendable { OnOk result
+        (AllByRecursion IsSendable items.old → AllByRecursion IsSendable items.new) }
+{
+    let error = division_by_zero(alloc)?;
+    push_item(items, Err(error))
 }
 
 /// Both rows, the interval in this format.
@@ -52,8 +79,8 @@ pub(crate) fn pair_rows(alloc: Global, format: FieldFormat) -> Result<ListRows, 
     ensures { IfOk result (λ rows. rows ≡ pair_items format) }
 {
     let mut items = PgList::new(alloc);
-    items.push(Ok(first_row(alloc, format)?))?;
-    items.push(Ok(row(alloc, &NULL_ROW)?))?;
+    push_first(alloc, format, &mut items)?;
+    push_row(alloc, &NULL_ROW, &mut items)?;
     Ok(ListRows::new(items))
 }
 
@@ -62,24 +89,11 @@ pub(crate) fn broken_rows(alloc: Global, format: FieldFormat) -> Result<ListRows
     ensures { IfOk result (λ rows. rows ≡ broken_items format) }
 {
     let mut items = PgList::new(alloc);
-    push_broken(alloc, format, &mut items)?;
+    push_first(alloc, format, &mut items)?;
+    push_error(alloc, &mut items)?;
+    push_row(alloc, &NULL_ROW, &mut items)?;
+    push_row(alloc, &NULL_ROW, &mut items)?;
     Ok(ListRows::new(items))
-}
-
-/// Puts these items where nothing is yet.
-fn push_broken(
-    alloc: Global,
-    format: FieldFormat,
-    items: &mut PgList<Result<DataRow, PgWireError>>,
-) -> Result<(), AllocError>
-    requires empty { items.old ≡ [] }
-    ensures items { OnOk result (items.new ≡ broken_items format) }
-    ensures sendable { OnOk result (AllByRecursion IsSendable items.new) }
-{
-    items.push(Ok(first_row(alloc, format)?))?;
-    items.push(Err(division_by_zero(alloc)?))?;
-    items.push(Ok(row(alloc, &NULL_ROW)?))?;
-    items.push(Ok(row(alloc, &NULL_ROW)?))
 }
 
 /// So many first rows, an error, and the second row.
@@ -92,9 +106,9 @@ pub(crate) fn long_rows(
 {
     let mut items = PgList::new(alloc);
     for _ in 0..count {
-        items.push(Ok(first_row(alloc, format)?))?;
+        push_first(alloc, format, &mut items)?;
     }
-    items.push(Err(division_by_zero(alloc)?))?;
-    items.push(Ok(row(alloc, &NULL_ROW)?))?;
+    push_error(alloc, &mut items)?;
+    push_row(alloc, &NULL_ROW, &mut items)?;
     Ok(ListRows::new(items))
 }
