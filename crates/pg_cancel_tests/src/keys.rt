@@ -1,16 +1,37 @@
 //! The keys of the tests.
 
-/// The key of the first connection.
-pub const A: [u8; 4] = [1, 2, 3, 4];
+use pg_messages::SecretKey;
+use std::alloc::Global;
 
-/// Another one for its pid.
-pub const B: [u8; 4] = [5, 6, 7, 8];
+/// A key.
+#[derive(Clone, Copy)]
+pub enum Key {
+    /// That of the first connection.
+    A,
+    /// Another one for its pid.
+    B,
+    /// That of the second connection.
+    C,
+    /// One that nobody has.
+    Zero,
+    /// One that begins as the first.
+    Long,
+}
 
-/// The key of the second connection.
-pub const C: [u8; 4] = [10, 11, 12, 13];
+impl Key {
+    /// Its bytes.
+    fn bytes(self) -> &'static [u8] {
+        match self {
+            Key::A => &[1, 2, 3, 4],
+            Key::B => &[5, 6, 7, 8],
+            Key::C => &[10, 11, 12, 13],
+            Key::Zero => &[0, 0, 0, 0],
+            Key::Long => &[1, 2, 3, 4, 5, 6, 7, 8],
+        }
+    }
 
-/// One that nobody has.
-pub const ZERO: [u8; 4] = [0, 0, 0, 0];
-
-/// One that begins as the first.
-pub const LONG: [u8; 8] = [1, 2, 3, 4, 5, 6, 7, 8];
+    /// The key, in memory of its own.
+    pub fn secret(self, alloc: Global) -> Option<SecretKey> {
+        SecretKey::try_new(alloc, self.bytes()).ok()
+    }
+}

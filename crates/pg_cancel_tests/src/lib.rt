@@ -4,8 +4,6 @@
 #[cfg(test)]
 mod keys;
 #[cfg(test)]
-mod manager_tests;
-#[cfg(test)]
 mod registry_tests;
 #[cfg(test)]
 mod step_gate;

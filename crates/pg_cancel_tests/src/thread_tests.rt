@@ -1,36 +1,181 @@
 //! The stories of the registry on two threads: one asks, the other one cancels.
 
-ghost use Rattle.std.specs.Prelude.{◌≡◌, IfSome};
+ghost use Rattle.std.specs.Prelude.{◌≡◌, IfOk};
 ghost use Rattle.std.specs.Thread.{IsSync};
 
-use crate::keys::{A, B, C, LONG, ZERO};
-use crate::manager_tests::{cancel, register, register_two};
+use crate::keys::Key;
 use crate::step_gate::StepGate;
+use Act::*;
 use pg_cancel::{ConnectionHandle, ConnectionManager, Door, RegisterError};
-use std::alloc::{AllocError, Global};
+use std::alloc::Global;
 use std::sync::Wait;
-use std::test::Fail;
 use std::thread::{Threads, join};
 
-/// Three Registers, of which the second is refused.
-fn opening<R: Wait>(
+/// What one of two threads does: a call of its connection, with what it has to be answered; or it
+/// tells the other one that a step has come, or waits for one.
+#[derive(Clone, Copy)]
+enum Act {
+    Start,
+    Ask(bool),
+    Cancel(Key, bool),
+    Narrow,
+    Open(u32),
+    Await(u32),
+}
+
+/// A connection with the manager that issued its handle.
+#[derive(Drop)]
+struct Player<'m> {
+    manager: &'m ConnectionManager,
+    handle: ConnectionHandle,
+    ghost issued: { handle.issuer ≡ manager.now },
+}
+
+impl<'m> Player<'m> {
+    /// Whether a cancel of the pid 7 by a key is answered so.
+    fn is_cancel<R: Wait>(&mut self, rt: &R, alloc: Global, key: Key, answer: bool) -> bool {
+        match key.secret(alloc) {
+            Some(key) => self.manager.cancel(rt, &mut self.handle, 7, &key) == Ok(answer),
+            None => false,
+        }
+    }
+
+    /// Does so, and tells whether a call was answered as it has to be.
+    fn is_right<R: Wait>(&mut self, rt: &R, alloc: Global, gate: &StepGate, act: Act) -> bool {
+        match act {
+            Act::Start => self.manager.start_query(rt, &mut self.handle).is_ok(),
+            Act::Ask(answer) => self.manager.ask(rt, &mut self.handle) == Ok(answer),
+            Act::Cancel(key, answer) => self.is_cancel(rt, alloc, key, answer),
+            Act::Narrow => self.manager.narrow(rt, &mut self.handle).is_ok(),
+            Act::Open(step) => {
+                gate.open(rt, step);
+                true
+            }
+            Act::Await(step) => {
+                gate.wait(rt, step);
+                true
+            }
+        }
+    }
+
+    /// Does all of these, and tells whether each call was answered so.
+    fn are_right<R: Wait>(&mut self, rt: &R, alloc: Global, gate: &StepGate, acts: &[Act]) -> bool {
+        let mut are_so = true;
+        for act in acts {
+            let is_so = self.is_right(rt, alloc, gate, *act);
+            are_so = are_so && is_so;
+        }
+        are_so
+    }
+
+    /// The player behind all of these, where each call was answered so.
+    fn behind<R: Wait>(
+        mut self,
+        rt: &R,
+        alloc: Global,
+        gate: &StepGate,
+        acts: &[Act],
+    ) -> Option<Player<'m>> {
+        if self.are_right(rt, alloc, gate, acts) {
+            Some(self)
+        } else {
+            None
+        }
+    }
+
+    /// Whether its registration ends.
+    fn is_ended<R: Wait>(self, rt: &R) -> bool {
+        self.manager.unregister(rt, self.handle).is_ok()
+    }
+}
+
+/// Registers a pid under a key.
+fn register<R: Wait>(
     rt: &R,
     alloc: Global,
     manager: &ConnectionManager,
     door: &mut Door,
-) -> Option<(ConnectionHandle, ConnectionHandle)>
+    pid: i32,
+    key: Key,
+) -> Result<ConnectionHandle, RegisterError>
     requires { door.old.issuer ≡ manager.now }
     ensures door { door.new.issuer ≡ door.old.issuer }
-    ensures handles { IfSome result (λ r. (r.0.issuer ≡ manager.now) × (r.1.issuer ≡ manager.now)) }
+    ensures handle { IfOk result (λ handle. handle.issuer ≡ manager.now) }
 {
-    let first = register(rt, alloc, manager, door, 7, &A).ok()?;
-    let refused = is_taken(rt, alloc, manager, door);
-    let second = register(rt, alloc, manager, door, 8, &C).ok()?;
-    if refused && first.number() == 0 && second.number() == 2 {
-        Some((first, second))
+    match key.secret(alloc) {
+        Some(key) => manager.register(rt, door, pid, key),
+        None => Err(RegisterError::NoMemory),
+    }
+}
+
+/// The player of a new registration, which is the entry of this number.
+fn player_at<'m, R: Wait>(
+    rt: &R,
+    alloc: Global,
+    manager: &'m ConnectionManager,
+    door: &mut Door,
+    number: u64,
+    pid: i32,
+    key: Key,
+) -> Option<Player<'m>>
+    requires { door.old.issuer ≡ manager.now }
+    ensures { door.new.issuer ≡ door.old.issuer }
+{
+    let handle = register(rt, alloc, manager, door, pid, key).ok()?;
+    if handle.number() == number {
+        Some(Player { manager, handle })
     } else {
         None
     }
+}
+
+/// A story: the key of the first connection, what the two do, and how many entries there are behind
+/// the end of the first.
+#[derive(Clone, Copy)]
+struct Story {
+    key: Key,
+    first: &'static [Act],
+    second: &'static [Act],
+    entries: u64,
+}
+
+/// Both players behind what they do on threads of their own, each where its calls were answered so.
+fn both<'m, R: Threads + Wait + Sync>(
+    rt: &R,
+    alloc: Global,
+    first: Player<'m>,
+    second: Player<'m>,
+    story: Story,
+) -> (Option<Player<'m>>, Option<Player<'m>>) {
+    let gate = StepGate::new();
+    join(
+        rt,
+        || -> Option<Player>
+            requires { IsSync R.row }
+        { first.behind(rt, alloc, &gate, story.first) },
+        || -> Option<Player>
+            requires { IsSync R.row }
+        { second.behind(rt, alloc, &gate, story.second) },
+    )
+}
+
+/// Three Registers, of which the second is refused, since the registration at 0 has its pid.
+fn opening<'m, R: Wait>(
+    rt: &R,
+    alloc: Global,
+    manager: &'m ConnectionManager,
+    door: &mut Door,
+    key: Key,
+) -> Option<(Player<'m>, Player<'m>)>
+    requires { door.old.issuer ≡ manager.now }
+    ensures { door.new.issuer ≡ door.old.issuer }
+{
+    let first = player_at(rt, alloc, manager, door, 0, 7, key)?;
+    if !is_taken(rt, alloc, manager, door) {
+        return None;
+    }
+    let second = player_at(rt, alloc, manager, door, 2, 8, Key::C)?;
+    Some((first, second))
 }
 
 /// Whether the pid 7 is refused under another key, since the registration at 0 has it.
@@ -39,261 +184,120 @@ fn is_taken<R: Wait>(rt: &R, alloc: Global, manager: &ConnectionManager, door: &
     ensures { door.new.issuer ≡ door.old.issuer }
 {
     matches!(
-        register(rt, alloc, manager, door, 7, &B),
+        register(rt, alloc, manager, door, 7, Key::B),
         Err(RegisterError::PidTaken(0))
     )
 }
 
-/// The first ends, which the second finds, and its pid is free again. Twelve calls were made before
-/// its third registration.
-fn ending<R: Wait>(
+/// Whether both are behind their story, and the first ends, which the second finds.
+fn is_ending<R: Wait>(
+    rt: &R,
+    alloc: Global,
+    first: Option<Player<'_>>,
+    second: Option<Player<'_>>,
+) -> Option<bool> {
+    let first = first?;
+    let mut second = second?;
+    Some(first.is_ended(rt) && second.is_cancel(rt, alloc, Key::A, false))
+}
+
+/// Whether the story of two connections goes as it has to, up to the end of the first.
+fn is_told_by<R: Threads + Wait + Sync>(
     rt: &R,
     alloc: Global,
     manager: &ConnectionManager,
     door: &mut Door,
-    first: ConnectionHandle,
-    mut second: ConnectionHandle,
-) -> bool
-    requires handles { (first.issuer ≡ manager.now) × (second.issuer ≡ manager.now) }
-    requires door { door.old.issuer ≡ manager.now }
+    story: Story,
+) -> Option<bool>
+    requires { door.old.issuer ≡ manager.now }
+    ensures { door.new.issuer ≡ door.old.issuer }
 {
-    let ended = manager.unregister(rt, first).is_ok();
-    let missed = cancel(rt, alloc, manager, &mut second, &A).is_ok_and(|hit| !hit);
-    let third = register(rt, alloc, manager, door, 7, &A);
-    ended && missed && third.is_ok_and(|third| third.number() == 12)
+    let (first, second) = opening(rt, alloc, manager, door, story.key)?;
+    let (first, second) = both(rt, alloc, first, second, story);
+    is_ending(rt, alloc, first, second)
 }
 
-/// The first starts a query, is canceled, and starts another one, which isn't canceled.
-fn ask_by_steps<R: Wait>(
-    rt: &R,
-    manager: &ConnectionManager,
-    handle: &mut ConnectionHandle,
-    gate: &StepGate,
-) -> Result<bool, AllocError>
-    requires { handle.old.issuer ≡ manager.now }
-    ensures { handle.new.issuer ≡ handle.old.issuer }
-{
-    manager.start_query(rt, handle)?;
-    let early = manager.ask(rt, handle)?;
-    gate.open(rt, 1);
-    gate.wait(rt, 2);
-    let asked = manager.ask(rt, handle)?;
-    manager.start_query(rt, handle)?;
-    let again = manager.ask(rt, handle)?;
-    gate.open(rt, 3);
-    Ok(!early && asked && !again)
-}
-
-/// The second cancels by the right key and by a wrong one.
-fn cancel_by_steps<R: Wait>(
-    rt: &R,
-    alloc: Global,
-    manager: &ConnectionManager,
-    handle: &mut ConnectionHandle,
-    gate: &StepGate,
-) -> Result<bool, AllocError>
-    requires { handle.old.issuer ≡ manager.now }
-    ensures { handle.new.issuer ≡ handle.old.issuer }
-{
-    gate.wait(rt, 1);
-    let hit = cancel(rt, alloc, manager, handle, &A)?;
-    gate.open(rt, 2);
-    gate.wait(rt, 3);
-    let other = cancel(rt, alloc, manager, handle, &ZERO)?;
-    Ok(hit && !other)
-}
-
-/// The first with what it was told.
-fn asks<R: Wait>(
-    rt: &R,
-    manager: &ConnectionManager,
-    mut handle: ConnectionHandle,
-    gate: &StepGate,
-) -> (ConnectionHandle, bool)
-    requires { handle.issuer ≡ manager.now }
-    ensures { result.0.issuer ≡ manager.now }
-{
-    let asked = ask_by_steps(rt, manager, &mut handle, gate);
-    (handle, asked.is_ok_and(|right| right))
-}
-
-/// The second with what it was told.
-fn cancels<R: Wait>(
-    rt: &R,
-    alloc: Global,
-    manager: &ConnectionManager,
-    mut handle: ConnectionHandle,
-    gate: &StepGate,
-) -> (ConnectionHandle, bool)
-    requires { handle.issuer ≡ manager.now }
-    ensures { result.0.issuer ≡ manager.now }
-{
-    let hit = cancel_by_steps(rt, alloc, manager, &mut handle, gate);
-    (handle, hit.is_ok_and(|right| right))
-}
-
-/// Both on threads of their own, where both are told what they have to be.
-fn both<R: Threads + Wait + Sync>(
-    rt: &R,
-    alloc: Global,
-    manager: &ConnectionManager,
-    first: ConnectionHandle,
-    second: ConnectionHandle,
-) -> Option<(ConnectionHandle, ConnectionHandle)>
-    requires { (first.issuer ≡ manager.now) × (second.issuer ≡ manager.now) }
-    ensures { IfSome result (λ r. (r.0.issuer ≡ manager.now) × (r.1.issuer ≡ manager.now)) }
-{
-    let gate = StepGate::new();
-    let ((first, asked), (second, hit)) = join(
-        rt,
-        || -> (ConnectionHandle, bool)
-            requires { IsSync R.row × (first.issuer ≡ manager.now) }
-            ensures { result.0.issuer ≡ manager.entry.now }
-        { asks(rt, manager, first, &gate) },
-        || -> (ConnectionHandle, bool)
-            requires { IsSync R.row × (second.issuer ≡ manager.now) }
-            ensures { result.0.issuer ≡ manager.entry.now }
-        { cancels(rt, alloc, manager, second, &gate) },
-    );
-    if asked && hit {
-        Some((first, second))
-    } else {
-        None
-    }
-}
-
-/// Whether the story goes as it has to.
+/// Whether it does so, and the pid of the first is free again then, as the entry of its number.
 fn is_told<R: Threads + Wait + Sync>(
     rt: &R,
     alloc: Global,
     manager: &ConnectionManager,
     door: &mut Door,
+    story: Story,
 ) -> bool
     requires { door.old.issuer ≡ manager.now }
 {
-    let Some((first, second)) = opening(rt, alloc, manager, door) else {
-        return false;
-    };
-    match both(rt, alloc, manager, first, second) {
-        Some((first, second)) => ending(rt, alloc, manager, door, first, second),
-        None => false,
+    is_told_by(rt, alloc, manager, door, story) == Some(true)
+        && player_at(rt, alloc, manager, door, story.entries, 7, Key::A).is_some()
+}
+
+/// Whether the story goes so at a new registry.
+fn is_told_at_new<R: Threads + Wait + Sync>(rt: &R, alloc: Global, story: Story) -> bool {
+    match ConnectionManager::new(alloc) {
+        Ok((manager, mut door)) => is_told(rt, alloc, &manager, &mut door, story),
+        Err(_) => false,
     }
 }
 
+/// The first starts a query, is canceled, and starts another one, which isn't canceled. The second
+/// cancels by the right key and by a wrong one.
+const STORY: Story = Story {
+    key: Key::A,
+    first: &[
+        Start,
+        Ask(false),
+        Open(1),
+        Await(2),
+        Ask(true),
+        Start,
+        Ask(false),
+        Open(3),
+    ],
+    second: &[
+        Await(1),
+        Cancel(Key::A, true),
+        Open(2),
+        Await(3),
+        Cancel(Key::Zero, false),
+    ],
+    entries: 12,
+};
+
 #[test]
-fn story_on_two_threads(rt: HostRuntime) -> Result<(), Fail> {
-    let (manager, mut door) = ConnectionManager::new(rt.alloc())?;
-    assert!(rt; is_told(&rt, rt.alloc(), &manager, &mut door));
-    Ok(())
+fn story_on_two_threads(rt: HostRuntime) {
+    assert!(rt; is_told_at_new(&rt, rt.alloc(), STORY));
 }
 
 /// The first starts a query, is canceled by its long key, narrows it, and starts another query,
-/// which is canceled by the short key.
-fn narrow_by_steps<R: Wait>(
-    rt: &R,
-    manager: &ConnectionManager,
-    handle: &mut ConnectionHandle,
-    gate: &StepGate,
-) -> Result<bool, AllocError>
-    requires { handle.old.issuer ≡ manager.now }
-{
-    manager.start_query(rt, handle)?;
-    gate.open(rt, 1);
-    gate.wait(rt, 2);
-    let by_long = manager.ask(rt, handle)?;
-    manager.narrow(rt, handle)?;
-    manager.start_query(rt, handle)?;
-    gate.open(rt, 3);
-    gate.wait(rt, 4);
-    let by_short = manager.ask(rt, handle)?;
-    Ok(by_long && by_short)
-}
-
-/// The second cancels by the short key and by the long one, before the narrow and behind it.
-fn cancel_by_both<R: Wait>(
-    rt: &R,
-    alloc: Global,
-    manager: &ConnectionManager,
-    handle: &mut ConnectionHandle,
-    gate: &StepGate,
-) -> Result<bool, AllocError>
-    requires { handle.old.issuer ≡ manager.now }
-{
-    gate.wait(rt, 1);
-    let early = cancel(rt, alloc, manager, handle, &A)?;
-    let long = cancel(rt, alloc, manager, handle, &LONG)?;
-    gate.open(rt, 2);
-    gate.wait(rt, 3);
-    let late = cancel(rt, alloc, manager, handle, &LONG)?;
-    let short = cancel(rt, alloc, manager, handle, &A)?;
-    gate.open(rt, 4);
-    Ok(!early && long && !late && short)
-}
-
-/// Whether the first is told what it has to be.
-fn narrows<R: Wait>(
-    rt: &R,
-    manager: &ConnectionManager,
-    mut handle: ConnectionHandle,
-    gate: &StepGate,
-) -> bool
-    requires { handle.issuer ≡ manager.now }
-{
-    narrow_by_steps(rt, manager, &mut handle, gate).is_ok_and(|right| right)
-}
-
-/// Whether the second is told what it has to be.
-fn cancels_by_both<R: Wait>(
-    rt: &R,
-    alloc: Global,
-    manager: &ConnectionManager,
-    mut handle: ConnectionHandle,
-    gate: &StepGate,
-) -> bool
-    requires { handle.issuer ≡ manager.now }
-{
-    cancel_by_both(rt, alloc, manager, &mut handle, gate).is_ok_and(|right| right)
-}
-
-/// Whether both, on threads of their own, are told what they have to be.
-fn is_narrowed<R: Threads + Wait + Sync>(
-    rt: &R,
-    alloc: Global,
-    manager: &ConnectionManager,
-    first: ConnectionHandle,
-    second: ConnectionHandle,
-) -> bool
-    requires { (first.issuer ≡ manager.now) × (second.issuer ≡ manager.now) }
-{
-    let gate = StepGate::new();
-    let (asked, hit) = join(
-        rt,
-        || -> bool
-            requires { IsSync R.row × (first.issuer ≡ manager.now) }
-        { narrows(rt, manager, first, &gate) },
-        || -> bool
-            requires { IsSync R.row × (second.issuer ≡ manager.now) }
-        { cancels_by_both(rt, alloc, manager, second, &gate) },
-    );
-    asked && hit
-}
-
-/// Whether that is so of two new connections, the first of a long key.
-fn are_narrowed<R: Threads + Wait + Sync>(
-    rt: &R,
-    alloc: Global,
-    manager: &ConnectionManager,
-    door: &mut Door,
-) -> Result<bool, RegisterError>
-    requires { door.old.issuer ≡ manager.now }
-{
-    let (first, second) = register_two(rt, alloc, manager, door, &LONG)?;
-    Ok(is_narrowed(rt, alloc, manager, first, second))
-}
+/// which is canceled by the short key. The second cancels by the short key and by the long one,
+/// before the narrow and behind it.
+const NARROW: Story = Story {
+    key: Key::Long,
+    first: &[
+        Start,
+        Open(1),
+        Await(2),
+        Ask(true),
+        Narrow,
+        Start,
+        Open(3),
+        Await(4),
+        Ask(true),
+    ],
+    second: &[
+        Await(1),
+        Cancel(Key::A, false),
+        Cancel(Key::Long, true),
+        Open(2),
+        Await(3),
+        Cancel(Key::Long, false),
+        Cancel(Key::A, true),
+        Open(4),
+    ],
+    entries: 14,
+};
 
 #[test]
-fn narrow_on_two_threads(rt: HostRuntime) -> Result<(), Fail> {
-    let (manager, mut door) = ConnectionManager::new(rt.alloc())?;
-    assert!(rt; are_narrowed(&rt, rt.alloc(), &manager, &mut door)?);
-    Ok(())
+fn narrow_on_two_threads(rt: HostRuntime) {
+    assert!(rt; is_told_at_new(&rt, rt.alloc(), NARROW));
 }
