@@ -5,6 +5,7 @@ ghost use Rattle.std.specs.Arc.{arc_value};
 
 use pg_cancel::{ConnectionHandle, ConnectionManager, Door};
 use pg_messages::SecretKey;
+use relation_server::RelationTable;
 use std::alloc::Global;
 use std::io::{Read, Write};
 use std::sync::{Arc, Wait};
@@ -56,11 +57,6 @@ pub(crate) fn is_at_its_end<S: Read>(stream: &mut S) -> bool {
     matches!(stream.read(&mut [0u8; 1]), Ok(0))
 }
 
-/// The key of each registration.
-pub(crate) fn key(alloc: Global) -> Option<SecretKey> {
-    SecretKey::try_new(alloc, &[1, 2, 3, 4]).ok()
-}
-
 /// A registry that is shared, and its door.
 #[derive(Drop)]
 pub(crate) struct Registry {
@@ -90,8 +86,20 @@ impl Registry {
         ensures manager { self.new.manager ≡ self.old.manager }
         ensures issued { IfSome result (λ handle. handle.issuer ≡ arc_value self.old.manager) }
     {
-        let key = key(self.alloc)?;
+        let key = SecretKey::try_new(self.alloc, &[1, 2, 3, 4]).ok()?;
         self.manager.register(rt, &mut self.door, pid, key).ok()
+    }
+
+    /// What jobs share: the registry, and these relations.
+    pub(crate) fn shared(
+        &self,
+        table: RelationTable,
+    ) -> Option<(Arc<ConnectionManager>, Arc<RelationTable>)>
+        ensures { IfSome result (λ both. arc_value both.0 ≡ arc_value self.now.manager) }
+    {
+        let relations = Arc::new(self.alloc, table).ok()?;
+        let manager = Arc::try_clone(&self.manager).ok()?;
+        Some((manager, relations))
     }
 
     /// Whether nobody has a pid, who is registered under it now.

@@ -7,8 +7,6 @@ mod examples;
 pub use examples::first_path_is_core;
 
 #[cfg(test)]
-mod cancel_tests;
-#[cfg(test)]
 mod clients;
 #[cfg(test)]
 mod job_tests;

@@ -1,20 +1,16 @@
 //! Clients that are served side by side over TCP, and cancels of their queries.
 
-ghost use Rattle.std.specs.Prelude.{◌≡◌, IfSome};
-ghost use Rattle.std.specs.Arc.{arc_value};
+ghost use Rattle.std.specs.Prelude.{◌≡◌};
 
 use crate::clients::{Registry, STARTUP, STARTUP_3_2, is_at_its_end, reads, sends};
 use crate::relations::table_of;
-use pg_cancel::ConnectionManager;
 use pg_serve::{Listening, RandomKeys, SocketAcceptor};
-use relation_server::{
-    JobThreads, RelationTable, StartJob, ThreadSpawner, jobs_cross_threads, listen,
-};
+use relation_server::{JobThreads, StartJob, ThreadSpawner, jobs_cross_threads, listen};
 use std::alloc::{AllocError, Global};
 use std::io::Read;
 use std::net::{Net, SocketAddr, TcpListener, TcpStream};
 use std::random::RandomSource;
-use std::sync::{Arc, Wait};
+use std::sync::Wait;
 use std::test::Fail;
 use std::thread;
 use std::thread::Threads;
@@ -79,12 +75,18 @@ fn is_silent(stream: &mut TcpStream) -> bool {
     is_set && is_silent && stream.set_nonblocking(false).is_ok()
 }
 
-/// Whether a client is told that its query was canceled. It terminates then.
+/// What a client is told whose query was canceled: ErrorResponse, ReadyForQuery.
+const CANCELED: &[u8] =
+    b"E\0\0\0\x43SERROR\0VERROR\0C57014\0Mcanceling statement due to user request\0\0\
+Z\0\0\0\x05I";
+
+/// Whether a client is told that, and nothing else up to its end behind its Terminate.
 fn is_told(stream: &mut TcpStream) -> bool {
-    let mut reply = [0u8; 31];
+    let mut reply = [0u8; CANCELED.len()];
     reads(stream, &mut reply)
-        && reply[5..].starts_with(b"SERROR\0VERROR\0C57014\0")
+        && reply.as_slice() == CANCELED
         && sends(stream, b"X\0\0\0\x04")
+        && is_at_its_end(stream)
 }
 
 /// Whether a query of a client of 3.0 is canceled by the key that it is told. The pid and the key
@@ -116,30 +118,32 @@ fn is_canceled_by_a_long_key<R: Net<Stream = TcpStream> + Clock>(
         && is_told(stream)
 }
 
-/// Whether both are so, one after another.
-fn are_canceled<R: Net<Stream = TcpStream> + Clock>(rt: &R, server: SocketAddr) -> bool {
-    let is_canceled = match TcpStream::connect(rt, server) {
-        Ok(mut stream) => is_canceled(rt, server, &mut stream),
-        Err(_) => false,
-    };
+/// Whether one of both is so of a new client: the second, if that is meant.
+fn is_one_canceled<R: Net<Stream = TcpStream> + Clock>(
+    rt: &R,
+    server: SocketAddr,
+    is_long: bool,
+) -> bool {
     match TcpStream::connect(rt, server) {
-        Ok(mut stream) => is_canceled_by_a_long_key(rt, server, &mut stream) && is_canceled,
+        Ok(mut stream) => {
+            if is_long {
+                is_canceled_by_a_long_key(rt, server, &mut stream)
+            } else {
+                is_canceled(rt, server, &mut stream)
+            }
+        }
         Err(_) => false,
     }
 }
 
-/// What connections share: the registry, and a relation whose query finds as many polls unready as
-/// there can be.
-fn shared(registry: &Registry) -> Option<(Arc<ConnectionManager>, Arc<RelationTable>)>
-    ensures { IfSome result (λ both. arc_value both.0 ≡ arc_value registry.now.manager) }
-{
-    let table = table_of(registry.alloc, "endless", "span", false, u32::MAX).ok()?;
-    let relations = Arc::new(registry.alloc, table).ok()?;
-    let manager = Arc::try_clone(&registry.manager).ok()?;
-    Some((manager, relations))
+/// Whether both are so, one after another.
+fn are_canceled<R: Net<Stream = TcpStream> + Clock>(rt: &R, server: SocketAddr) -> bool {
+    let is_canceled = is_one_canceled(rt, server, false);
+    is_one_canceled(rt, server, true) && is_canceled
 }
 
-/// Whether all connections are taken in.
+/// Whether all connections are taken in, over a relation whose query finds as many polls unready as
+/// there can be.
 fn are_taken_in<R: Wait + Clock + RandomSource + Copy + Drop>(
     rt: R,
     registry: &mut Registry,
@@ -149,13 +153,13 @@ fn are_taken_in<R: Wait + Clock + RandomSource + Copy + Drop>(
     requires accepted { acceptor.old.accepted ≡ 0 }
     requires started { spawner.old.started ≡ 0 }
 {
-    let (manager, relations) = shared(registry)?;
-    let mut keys = RandomKeys::new(registry.alloc, rt);
+    let table = table_of(registry.alloc, "endless", "span", false, u32::MAX).ok()?;
+    let (manager, relations) = registry.shared(table)?;
     let answer = listen(
         &rt,
         acceptor,
         spawner,
-        &mut keys,
+        &mut RandomKeys::new(registry.alloc, rt),
         manager,
         &mut registry.door,
         relations,
@@ -174,18 +178,8 @@ fn are_free<R: Wait>(rt: &R, registry: &mut Registry) -> bool {
     are_so
 }
 
-/// A listener at a free port, and its address.
-fn bound<R: Net<Stream = TcpStream, Listener = TcpListener>>(
-    rt: &R,
-) -> Result<(TcpListener, SocketAddr), Fail> {
-    let listener = TcpListener::bind(rt, "127.0.0.1:0")?;
-    let server = listener.local_addr()?;
-    Ok((listener, server))
-}
-
-/// Whether all connections are taken in, and their jobs run to their ends and have given their
-/// registrations back then.
-fn are_served<R: Wait + Clock + RandomSource + Copy + Drop>(
+/// Whether all connections to a listener are taken in.
+fn are_taken_in_at<R: Wait + Clock + RandomSource + Copy + Drop>(
     rt: R,
     registry: &mut Registry,
     listener: TcpListener,
@@ -194,13 +188,39 @@ fn are_served<R: Wait + Clock + RandomSource + Copy + Drop>(
     requires started { spawner.old.started ≡ 0 }
 {
     let mut acceptor = SocketAcceptor::new(Listening::Tcp(listener), rt);
-    let taken = are_taken_in(rt, registry, &mut acceptor, spawner);
-    drop(acceptor);
-    spawner.threads.finish(&rt);
-    taken == Some(true) && are_free(&rt, registry)
+    are_taken_in(rt, registry, &mut acceptor, spawner) == Some(true)
 }
 
-/// Whether that is so while another thread cancels the queries of two clients.
+/// Whether so it is at a new registry, and the jobs run to their ends and have given their
+/// registrations back then.
+fn are_served<R: Wait + Clock + RandomSource + Copy + Drop>(
+    rt: R,
+    alloc: Global,
+    listener: TcpListener,
+    spawner: &mut ThreadSpawner<JobThreads>,
+) -> bool
+    requires started { spawner.old.started ≡ 0 }
+{
+    match Registry::new(alloc) {
+        Some(mut registry) => {
+            let are_taken_in = are_taken_in_at(rt, &mut registry, listener, spawner);
+            spawner.threads.finish(&rt);
+            are_taken_in && are_free(&rt, &mut registry)
+        }
+        None => false,
+    }
+}
+
+/// A listener at a free port, and its address.
+fn bound<R: Net<Stream = TcpStream, Listener = TcpListener>>(
+    rt: &R,
+) -> Option<(TcpListener, SocketAddr)> {
+    let listener = TcpListener::bind(rt, "127.0.0.1:0").ok()?;
+    let server = listener.local_addr().ok()?;
+    Some((listener, server))
+}
+
+/// Whether all connections are served while another thread cancels the queries of two clients.
 fn are_served_beside<
     R: Threads
         + Wait
@@ -211,16 +231,16 @@ fn are_served_beside<
         + Drop
         + Send
         + 'static,
->(rt: R, registry: &mut Registry, spawner: &mut ThreadSpawner<JobThreads>) -> Result<bool, Fail>
+>(rt: R, alloc: Global, spawner: &mut ThreadSpawner<JobThreads>) -> Option<bool>
     requires started { spawner.old.started ≡ 0 }
 {
     let (listener, server) = bound(&rt)?;
-    let client = thread::spawn(&rt, move || are_canceled(&rt, server))?;
-    let are_served = are_served(rt, registry, listener, spawner);
-    Ok(client.join(&rt) && are_served)
+    let client = thread::spawn(&rt, move || are_canceled(&rt, server)).ok()?;
+    let are_served = are_served(rt, alloc, listener, spawner);
+    Some(client.join(&rt) && are_served)
 }
 
-/// Whether so it is at a new registry, where jobs are started so.
+/// Whether so it is where jobs are started so.
 fn are_served_on<
     R: Threads
         + Wait
@@ -231,14 +251,11 @@ fn are_served_on<
         + Drop
         + Send
         + 'static,
->(rt: R, alloc: Global, threads: JobThreads, start: StartJob) -> Result<bool, Fail>
+>(rt: R, alloc: Global, threads: JobThreads, start: StartJob) -> Option<bool>
     requires ready { IsAlwaysCallable start }
 {
     let mut spawner = ThreadSpawner::new(threads, start);
-    match Registry::new(alloc) {
-        Some(mut registry) => are_served_beside(rt, &mut registry, &mut spawner),
-        None => Ok(false),
-    }
+    are_served_beside(rt, alloc, &mut spawner)
 }
 
 /// Threads for jobs, for two owners.
@@ -255,7 +272,6 @@ fn a_query_is_canceled_over_tcp(rt: HostRuntime) -> Result<(), Fail> {
     jobs_cross_threads();
     let (threads, theirs) = threads_of(rt.alloc())?;
     let start: StartJob = Box::new(rt.alloc(), move |job| theirs.start(rt, job))?;
-    let are_served = are_served_on(rt, rt.alloc(), threads, start)?;
-    assert!(rt; are_served);
+    assert!(rt; are_served_on(rt, rt.alloc(), threads, start) == Some(true));
     Ok(())
 }

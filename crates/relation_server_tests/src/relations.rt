@@ -4,6 +4,13 @@ use pg_messages::{PgList, PgStr};
 use relation_server::{Relation, RelationTable, TableError};
 use std::alloc::{AllocError, Global};
 
+/// One column.
+fn column_of(alloc: Global, name: &str) -> Result<PgList<PgStr>, AllocError> {
+    let mut columns = PgList::new(alloc);
+    columns.push(PgStr::copy_of(alloc, name)?)?;
+    Ok(columns)
+}
+
 /// A relation of a name and one column of a name, whose query finds so many polls unready. It has no
 /// row, or one that is too short.
 fn relation_of(
@@ -13,18 +20,16 @@ fn relation_of(
     is_ragged: bool,
     unready: u32,
 ) -> Result<Relation, AllocError> {
-    let mut columns = PgList::new(alloc);
-    columns.push(PgStr::copy_of(alloc, column)?)?;
-    let mut rows = PgList::new(alloc);
-    if is_ragged {
-        rows.push(PgList::new(alloc))?;
-    }
-    Ok(Relation {
+    let mut relation = Relation {
         name: PgStr::copy_of(alloc, name)?,
         unready,
-        columns,
-        rows,
-    })
+        columns: column_of(alloc, column)?,
+        rows: PgList::new(alloc),
+    };
+    if is_ragged {
+        relation.rows.push(PgList::new(alloc))?;
+    }
+    Ok(relation)
 }
 
 /// A table of one such relation.

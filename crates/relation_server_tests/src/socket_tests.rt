@@ -9,7 +9,7 @@ use pg_serve::{
     Acceptor, Listening, MaybeTls, SocketAcceptor, process_socket, process_socket_unix,
 };
 use pg_session::{EndKind, NoopHandler, PgWireServerHandlers, ServeError};
-use relation_server::{RelationHandler, RelationTable, built_in_table};
+use relation_server::{RelationHandler, built_in_table};
 use std::alloc::Global;
 use std::io::{Read, Write};
 use std::net::{TcpListener, TcpStream};
@@ -28,15 +28,6 @@ fn is_answered<S: Read + Write>(stream: &mut S) -> bool {
         && reads(stream, &mut replies)
         && replies.as_slice() == FIRST_REPLIES
         && is_at_its_end(stream)
-}
-
-/// A thread that reads the replies to the first path.
-fn client_at<R: Threads, S: Read + Write + Drop + Send + 'static>(
-    rt: &R,
-    stream: S,
-) -> Option<thread::JoinHandle<bool>> {
-    let mut stream = stream;
-    thread::spawn(rt, move || is_answered(&mut stream)).ok()
 }
 
 /// Serves a client at a socket, by any handlers.
@@ -62,25 +53,6 @@ fn serve<R: Wait, H: PgWireServerHandlers + Drop>(
     }
 }
 
-/// Serves a client of relations at a socket.
-fn serve_relations_at<R: Wait>(
-    rt: &R,
-    alloc: Global,
-    relations: &RelationTable,
-    manager: &ConnectionManager,
-    handle: &mut ConnectionHandle,
-    reader: &mut MaybeTls,
-    writer: &mut MaybeTls,
-) -> Result<EndKind, ServeError>
-    requires issued { handle.old.issuer ≡ manager.now }
-{
-    let copying = NoopHandler;
-    match Arc::new(alloc, RelationHandler { relations, copying }) {
-        Ok(handlers) => serve(rt, alloc, handlers, manager, handle, reader, writer),
-        Err(_) => Err(ServeError::NoMemory),
-    }
-}
-
 /// Whether a client is served over the built-in relations, up to its Terminate.
 fn is_served_by<R: Wait>(
     rt: &R,
@@ -92,8 +64,13 @@ fn is_served_by<R: Wait>(
 ) -> Option<bool>
     requires issued { handle.old.issuer ≡ manager.now }
 {
-    let relations = built_in_table(alloc).ok()?;
-    let end = serve_relations_at(rt, alloc, &relations, manager, handle, reader, writer);
+    let table = built_in_table(alloc).ok()?;
+    let handler = RelationHandler {
+        relations: &table,
+        copying: NoopHandler,
+    };
+    let handlers = Arc::new(alloc, handler).ok()?;
+    let end = serve(rt, alloc, handlers, manager, handle, reader, writer);
     Some(end == Ok(EndKind::Terminate))
 }
 
@@ -127,17 +104,23 @@ fn is_answered_at<R: Threads + Wait + Clock + Copy + Drop, S: Read + Write + Dro
     listening: Listening,
     stream: S,
 ) -> Option<bool> {
-    let client = client_at(&rt, stream)?;
+    let mut stream = stream;
+    let client = thread::spawn(&rt, move || is_answered(&mut stream)).ok()?;
     let served = is_next_served(rt, alloc, listening);
     Some(client.join(&rt) && served == Some(true))
 }
 
+/// A TCP socket that is listened at and a client of it.
+fn at_tcp(rt: &HostRuntime) -> Result<(TcpListener, TcpStream), Fail> {
+    let listener = TcpListener::bind(rt, "127.0.0.1:0")?;
+    let stream = TcpStream::connect(rt, listener.local_addr()?)?;
+    Ok((listener, stream))
+}
+
 #[test]
 fn first_path_over_tcp(rt: HostRuntime) -> Result<(), Fail> {
-    let listener = TcpListener::bind(&rt, "127.0.0.1:0")?;
-    let stream = TcpStream::connect(&rt, listener.local_addr()?)?;
-    let told = is_answered_at(rt, rt.alloc(), Listening::Tcp(listener), stream);
-    assert!(rt; told == Some(true));
+    let (listener, stream) = at_tcp(&rt)?;
+    assert!(rt; is_answered_at(rt, rt.alloc(), Listening::Tcp(listener), stream) == Some(true));
     Ok(())
 }
 
