@@ -1,4 +1,4 @@
-//! A cancel from another thread, while a query is being made or polled. The client waits for its
+//! A cancel by another connection, while a query is being made or polled. The client waits for its
 //! replies before it asks.
 
 ghost use Rattle.std.specs.Prelude.{◌≡◌, IfSome};
@@ -6,22 +6,24 @@ ghost use Rattle.std.specs.Arc.{arc_value};
 
 use pg_cancel::{ConnectionHandle, ConnectionManager, Door};
 use pg_handlers::{NoRows, NoopHandler, QueryState, SimpleQueryHandler, Turn};
-use pg_messages::{PgBytes, PgList, SecretKey};
+use pg_messages::{PgList, SecretKey};
 use pg_portal::{ClientInfo, MemPortalStore, PgWireError, Response};
-use pg_serve::{HandleDesk, MemorySink, MemorySource, serve_connection};
+use pg_serve::{HandleDesk, MemorySink, serve_connection};
 use pg_session::{
     EndKind, PgWireServerHandlers, ServeError, Sink, SinkError, Source, SourceFailed,
 };
 use polled_queries::PolledQuery;
 use std::alloc::{AllocError, Global};
 use std::cell::Cell;
-use std::sync::atomic::{AtomicBool, AtomicU64, Ordering};
 use std::sync::{Arc, Wait};
-use std::thread;
-use std::thread::{JoinHandle, Threads};
 
-/// A startup packet of version 3.0 with `user` `demo`, of 19 bytes; a Query; Terminate.
-const CLIENT: &[u8] = b"\0\0\0\x13\0\x03\0\0user\0demo\0\0Q\0\0\0\x06x\0X\0\0\0\x04";
+/// What a client sends, read by read: a startup packet of version 3.0 with `user` `demo`; a Query;
+/// Terminate.
+const PIECES: [&[u8]; 3] = [
+    b"\0\0\0\x13\0\x03\0\0user\0demo\0\0",
+    b"Q\0\0\0\x06x\0",
+    b"X\0\0\0\x04",
+];
 
 /// The last of the replies to a startup packet.
 const READY: &[u8] = b"Z\0\0\0\x05I";
@@ -31,10 +33,7 @@ const CANCELED: &[u8] =
     b"E\0\0\0\x43SERROR\0VERROR\0C57014\0Mcanceling statement due to user request\0\0\
 Z\0\0\0\x05I";
 
-/// How often is looked whether the cancel was made.
-const LOOKS: u32 = 100_000_000;
-
-/// When the cancel is waited for.
+/// When the cancel is made.
 #[derive(Clone, Copy, PartialEq, Eq)]
 enum Moment {
     /// While the handler makes the query.
@@ -43,52 +42,66 @@ enum Moment {
     Poll,
 }
 
-/// What two threads tell each other.
+/// A connection that cancels another one's query, by its key.
 #[derive(Drop)]
-struct Flags {
-    moment: Moment,
-    queries: AtomicU64,
-    waits: AtomicBool,
-    canceled: AtomicBool,
+struct Canceler {
+    manager: Arc<ConnectionManager>,
+    handle: ConnectionHandle,
+    key: SecretKey,
+    ghost issued: { handle.issuer ≡ arc_value manager },
 }
 
-impl Flags {
-    /// At the given moment it tells so, and gives the cancel time.
-    fn hold(&self, moment: Moment) {
-        if moment != self.moment {
-            return;
-        }
-        self.waits.store(true, Ordering::SeqCst);
-        for _ in 0..LOOKS {
-            if self.canceled.load(Ordering::SeqCst) {
-                return;
+impl Canceler {
+    /// Cancels by the pid 7, and tells whether somebody has it.
+    fn is_met<R: Wait>(self, rt: &R) -> bool {
+        let Canceler {
+            manager,
+            mut handle,
+            key,
+        } = self;
+        manager.cancel(rt, &mut handle, 7, &key) == Ok(true)
+    }
+}
+
+/// What the handler and its queries share: when the cancel is made, by whom, if it wasn't made yet,
+/// and how many queries were made and cancels met.
+#[derive(Drop)]
+struct Stage<R> {
+    rt: R,
+    moment: Moment,
+    canceler: Cell<Option<Canceler>>,
+    queries: Cell<u64>,
+    met: Cell<u64>,
+}
+
+impl<R: Wait> Stage<R> {
+    /// Cancels at the moment, once.
+    fn reach(&self, moment: Moment) {
+        if moment == self.moment {
+            if let Some(canceler) = self.canceler.replace(None) {
+                let met = u64::from(canceler.is_met(&self.rt));
+                self.met.set(self.met.get().saturating_add(met));
             }
-            thread::yield_now();
         }
     }
 
-    /// Waits until the moment has come.
-    fn wait_for_moment<R: Wait>(&self, rt: &R) {
-        for _ in rt.forever() {
-            if self.waits.load(Ordering::SeqCst) {
-                return;
-            }
-            thread::yield_now();
-        }
+    /// Whether one query was made, and a cancel met it.
+    fn is_over(&self) -> bool {
+        self.queries.get() == 1 && self.met.get() == 1
     }
 }
 
 /// No response.
 type Answers = PgList<Response<NoRows, NoRows>>;
 
-/// A query whose polls wait for the cancel.
+/// A query that is canceled at its first poll, if that is the moment.
 #[derive(Drop)]
-struct HeldQuery {
-    flags: Arc<Flags>,
+struct HeldQuery<'s, R> {
+    stage: &'s Stage<R>,
     query: PolledQuery<Answers>,
 }
 
-impl QueryState for HeldQuery {
+impl<'s, R: Wait> QueryState for HeldQuery<'s, R> {
     ghost use Rattle.polled_queries.specs.Queries.{query_told};
 
     type Out = Result<Answers, PgWireError>;
@@ -96,26 +109,26 @@ impl QueryState for HeldQuery {
     ghost told = { λ q. query_told q.query.unready q.query.outcome };
 
     fn poll(&mut self) -> Result<Turn<Result<Answers, PgWireError>>, AllocError> {
-        self.flags.hold(Moment::Poll);
+        self.stage.reach(Moment::Poll);
         self.query.poll()
     }
 }
 
 /// Each query owes one poll, and is answered nothing.
 #[derive(Drop)]
-struct Held {
-    flags: Arc<Flags>,
+struct Held<'s, R> {
+    stage: &'s Stage<R>,
     noop: NoopHandler,
 }
 
-impl SimpleQueryHandler for Held {
+impl<'s, R: Wait> SimpleQueryHandler for Held<'s, R> {
     ghost use Rattle.std.specs.Prelude.{Ok, []};
 
     type Rows = NoRows;
 
     type CopyRows = NoRows;
 
-    type Query = HeldQuery;
+    type Query = HeldQuery<'s, R>;
 
     ghost told = { λ _ client query. record { owes = 1; outcome = Ok [] } };
 
@@ -124,21 +137,20 @@ impl SimpleQueryHandler for Held {
         alloc: Global,
         _client: &ClientInfo,
         _query: &str,
-    ) -> Result<HeldQuery, AllocError> {
-        self.flags.queries.fetch_add(1, Ordering::SeqCst);
-        self.flags.hold(Moment::Query);
-        Ok(HeldQuery {
-            flags: Arc::try_clone(&self.flags)?,
-            query: PolledQuery::new(1, Ok(PgList::new(alloc))),
-        })
+    ) -> Result<HeldQuery<'s, R>, AllocError> {
+        let stage = self.stage;
+        stage.queries.set(stage.queries.get().saturating_add(1));
+        stage.reach(Moment::Query);
+        let query = PolledQuery::new(1, Ok(PgList::new(alloc)));
+        Ok(HeldQuery { stage, query })
     }
 }
 
-impl PgWireServerHandlers for Held {
+impl<'s, R: Wait> PgWireServerHandlers for Held<'s, R> {
     ghost use Rattle.std.specs.Prelude.{Ok, []};
     ghost use Rattle.pg_handlers.specs.Noop.{noop_extended, noop_copy};
 
-    type Simple = Held;
+    type Simple = Held<'s, R>;
 
     type Extended = NoopHandler;
 
@@ -150,7 +162,7 @@ impl PgWireServerHandlers for Held {
       copying = noop_copy;
     } };
 
-    fn simple_query_handler(&self) -> &Held {
+    fn simple_query_handler(&self) -> &Held<'s, R> {
         self
     }
 
@@ -167,9 +179,18 @@ impl PgWireServerHandlers for Held {
 /// then; else it ends.
 #[derive(Drop)]
 struct PatientSource<'f> {
-    source: MemorySource,
+    reads: u64,
     ready: &'f Cell<bool>,
-    began: bool,
+}
+
+/// What it sends at the read of this number.
+fn piece(number: u64) -> &'static [u8] {
+    match number {
+        0 => PIECES[0],
+        1 => PIECES[1],
+        2 => PIECES[2],
+        _ => b"",
+    }
 }
 
 impl<'f> Source for PatientSource<'f> {
@@ -177,16 +198,21 @@ impl<'f> Source for PatientSource<'f> {
 
     ghost left = { λ _. None };
 
-    ghost reads = { λ s. s.source.reads };
+    ghost reads = { λ s. s.reads };
 
-    ghost faults = { λ s. s.source.faults };
+    ghost faults = { λ _. 0 };
 
     fn receive(&mut self, into: &mut [u8]) -> Result<usize, SourceFailed> {
-        if self.began && !self.ready.get() {
+        if self.reads > 0 && !self.ready.get() {
             return Ok(0);
         }
-        self.began = true;
-        self.source.receive(into)
+        let piece = piece(self.reads);
+        let n = piece.len().min(into.len());
+        into[..n].copy_from_slice(&piece[..n]);
+        if n > 0 {
+            self.reads = self.reads.saturating_add(1);
+        }
+        Ok(n)
     }
 }
 
@@ -239,63 +265,31 @@ impl Registry {
         let key = key(alloc)?;
         self.manager.register(rt, &mut self.door, pid, key).ok()
     }
-}
 
-/// A connection that cancels another one's query.
-#[derive(Drop)]
-struct Canceler {
-    manager: Arc<ConnectionManager>,
-    handle: ConnectionHandle,
-    ghost issued: { handle.issuer ≡ arc_value manager },
-}
-
-impl Canceler {
-    /// Once the moment has come, it cancels by the pid 7, and tells whether somebody has it.
-    fn run<R: Wait>(self, rt: &R, key: &SecretKey, flags: &Flags) -> bool {
-        let Canceler {
+    /// The connection of pid 8, which cancels.
+    fn canceler<R: Wait>(&mut self, rt: &R, alloc: Global) -> Option<Canceler>
+        ensures manager { self.new.manager ≡ self.old.manager }
+    {
+        let handle = self.register(rt, alloc, 8)?;
+        let key = key(alloc)?;
+        let manager = Arc::try_clone(&self.manager).ok()?;
+        Some(Canceler {
             manager,
-            mut handle,
-        } = self;
-        flags.wait_for_moment(rt);
-        let made = manager.cancel(rt, &mut handle, 7, key);
-        flags.canceled.store(true, Ordering::SeqCst);
-        made.is_ok_and(|is_met| is_met)
+            handle,
+            key,
+        })
     }
 }
 
-/// The connection of pid 8, which cancels.
-fn canceler_at<R: Wait>(rt: &R, alloc: Global, registry: &mut Registry) -> Option<Canceler>
-    ensures manager { registry.new.manager ≡ registry.old.manager }
-{
-    let handle = registry.register(rt, alloc, 8)?;
-    let manager = Arc::try_clone(&registry.manager).ok()?;
-    Some(Canceler { manager, handle })
-}
-
-/// A thread that cancels at the moment.
-fn start<R: Wait + Threads + Copy + Send + 'static>(
-    rt: R,
-    alloc: Global,
-    registry: &mut Registry,
-    flags: &Arc<Flags>,
-) -> Option<JoinHandle<bool>>
-    ensures manager { registry.new.manager ≡ registry.old.manager }
-{
-    let theirs = Arc::try_clone(flags).ok()?;
-    let key = key(alloc)?;
-    let canceler = canceler_at(&rt, alloc, registry)?;
-    thread::spawn(&rt, move || canceler.run(&rt, &key, &theirs)).ok()
-}
-
 /// Serves a client through its connection, by any handlers.
-fn serve<R: Wait, H: PgWireServerHandlers>(
+fn serve<R: Wait, H: PgWireServerHandlers, S: Source, K: Sink>(
     rt: &R,
     alloc: Global,
     manager: &ConnectionManager,
     handle: &mut ConnectionHandle,
     handlers: Arc<H>,
-    source: &mut PatientSource<'_>,
-    sink: &mut NotingSink<'_>,
+    source: &mut S,
+    sink: &mut K,
 ) -> Result<EndKind, ServeError>
     requires issued { handle.old.issuer ≡ manager.now }
 {
@@ -314,77 +308,67 @@ fn serve<R: Wait, H: PgWireServerHandlers>(
     answer
 }
 
-/// The client's bytes, of which the first read gives the startup packet alone.
-fn source(alloc: Global) -> Option<MemorySource> {
-    let bytes = PgBytes::copy_of(alloc, CLIENT).ok()?;
-    let mut pieces = PgList::new(alloc);
-    pieces.push(19).ok()?;
-    Some(MemorySource::new(bytes, pieces, PgList::new(alloc)))
-}
-
-/// Handlers that tell the moment.
-fn handlers(alloc: Global, flags: &Arc<Flags>) -> Option<Arc<Held>> {
-    let flags = Arc::try_clone(flags).ok()?;
-    let noop = NoopHandler;
-    Arc::new(alloc, Held { flags, noop }).ok()
-}
-
-/// Whether a client of such handlers is told that its query was canceled. It asks only once the
+/// Whether a client of these handlers is told that its query was canceled. It asks only once the
 /// server was ready.
 fn is_told<R: Wait>(
     rt: &R,
     alloc: Global,
     manager: &ConnectionManager,
     handle: &mut ConnectionHandle,
-    flags: &Arc<Flags>,
-) -> Option<bool>
+    handlers: Arc<Held<'_, R>>,
+) -> bool
     requires issued { handle.old.issuer ≡ manager.now }
 {
     let ready = &Cell::new(false);
-    let source = source(alloc)?;
-    let handlers = handlers(alloc, flags)?;
-    let began = false;
-    let mut source = PatientSource {
-        source,
-        ready,
-        began,
-    };
+    let mut source = PatientSource { reads: 0, ready };
     let sink = MemorySink::new(alloc, PgList::new(alloc));
     let mut sink = NotingSink { sink, ready };
     let answer = serve(rt, alloc, manager, handle, handlers, &mut source, &mut sink);
-    Some(answer == Ok(EndKind::Terminate) && sink.sink.bytes().ends_with(CANCELED))
+    answer == Ok(EndKind::Terminate) && sink.sink.bytes().ends_with(CANCELED)
 }
 
-/// Whether a cancel is made at the moment, and heard by the query of the client of pid 7.
-fn is_heard<R: Wait + Threads + Copy + Send + 'static>(
-    rt: R,
+/// Whether it is so of a client on this stage.
+fn is_told_on<R: Wait>(
+    rt: &R,
     alloc: Global,
-    flags: &Arc<Flags>,
-) -> Option<bool> {
-    let mut registry = Registry::new(alloc)?;
-    let mut handle = registry.register(&rt, alloc, 7)?;
-    let canceler = start(rt, alloc, &mut registry, flags)?;
-    let told = is_told(&rt, alloc, &registry.manager, &mut handle, flags);
-    Some(canceler.join(&rt) && told == Some(true))
-}
-
-/// Whether so it is at this moment, and the handler was asked once.
-fn is_canceled<R: Wait + Threads + Copy + Send + 'static>(
-    rt: R,
-    alloc: Global,
-    moment: Moment,
-) -> bool {
-    let flags = Flags {
-        moment,
-        queries: AtomicU64::new(0),
-        waits: AtomicBool::new(false),
-        canceled: AtomicBool::new(false),
-    };
-    match Arc::new(alloc, flags) {
-        Ok(flags) => {
-            is_heard(rt, alloc, &flags) == Some(true) && flags.queries.load(Ordering::SeqCst) == 1
-        }
+    manager: &ConnectionManager,
+    handle: &mut ConnectionHandle,
+    stage: &Stage<R>,
+) -> bool
+    requires issued { handle.old.issuer ≡ manager.now }
+{
+    let noop = NoopHandler;
+    match Arc::new(alloc, Held { stage, noop }) {
+        Ok(handlers) => is_told(rt, alloc, manager, handle, handlers),
         Err(_) => false,
+    }
+}
+
+/// Whether a cancel is made at the moment, and heard by the query of the client of pid 7, whose
+/// handler was asked once.
+fn is_heard<R: Wait + Copy>(
+    rt: R,
+    alloc: Global,
+    registry: &mut Registry,
+    moment: Moment,
+) -> Option<bool> {
+    let mut handle = registry.register(&rt, alloc, 7)?;
+    let canceler = registry.canceler(&rt, alloc)?;
+    let stage = Stage {
+        rt,
+        moment,
+        canceler: Cell::new(Some(canceler)),
+        queries: Cell::new(0),
+        met: Cell::new(0),
+    };
+    Some(is_told_on(&rt, alloc, &registry.manager, &mut handle, &stage) && stage.is_over())
+}
+
+/// Whether it is so at a new registry.
+fn is_canceled<R: Wait + Copy>(rt: R, alloc: Global, moment: Moment) -> bool {
+    match Registry::new(alloc) {
+        Some(mut registry) => is_heard(rt, alloc, &mut registry, moment) == Some(true),
+        None => false,
     }
 }
 

@@ -1,11 +1,9 @@
 //! Where keys come from.
 
-use pg_messages::SecretKey;
 use pg_serve::{KeySource, RandomKeys};
 use std::cell::Cell;
 use std::io;
 use std::random::RandomSource;
-use std::test::Fail;
 
 /// Bytes that count up, until none is left.
 #[derive(Drop)]
@@ -46,16 +44,16 @@ fn keys_differ(rt: HostRuntime) {
     assert!(rt; told == [Some((32, 0, 31)), Some((32, 32, 63)), None]);
 }
 
-/// Whether the next key is another one than this.
-fn is_another(keys: &mut RandomKeys<HostRuntime>, first: &SecretKey) -> bool {
-    keys.next_key().is_ok_and(|second| second != *first)
+/// Whether the next two keys differ.
+fn are_two(keys: &mut RandomKeys<HostRuntime>) -> Option<bool> {
+    let first = keys.next_key().ok()?;
+    let second = keys.next_key().ok()?;
+    Some(first != second)
 }
 
 /// Two keys of the system's differ.
 #[test]
-fn random_keys_differ(rt: HostRuntime) -> Result<(), Fail> {
+fn random_keys_differ(rt: HostRuntime) {
     let mut keys = RandomKeys::new(rt.alloc(), rt);
-    let first = keys.next_key()?;
-    assert!(rt; is_another(&mut keys, &first));
-    Ok(())
+    assert!(rt; are_two(&mut keys) == Some(true));
 }

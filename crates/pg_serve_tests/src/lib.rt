@@ -1,7 +1,11 @@
 //! Tests of the engine's edges: what no row of a table program can say. Who accepts connections and
-//! where keys come from, adapters over readers and writers that fail, a cancel from another thread,
+//! where keys come from, adapters over readers and writers that fail, a cancel by another connection,
 //! and calls that a session doesn't make so.
 #![tactic(auto)]
+
+mod examples;
+
+pub use examples::nothing_is_executed_before_sync;
 
 #[cfg(test)]
 mod acceptor_tests;
@@ -13,5 +17,3 @@ mod held_tests;
 mod key_tests;
 #[cfg(test)]
 mod send_tests;
-#[cfg(test)]
-mod session_tests;
