@@ -1,6 +1,6 @@
 //! Columns and rows, made in short.
 
-ghost use Rattle.std.specs.Prelude.{◌≡◌, [], ◌∷◌, Ok, IfOk};
+ghost use Rattle.std.specs.Prelude.{◌≡◌, ◌++◌, [], ◌∷◌, Ok, IfOk, OnOk, OnErr, length};
 ghost use Rattle.pg_messages.specs.declared.backend.PgWireBackendMessage.TheVariants as server;
 ghost use Rattle.pg_messages.specs.Replies.{IsEncodable};
 ghost use Rattle.row_handlers.specs.Answers.{column_of, format_at};
@@ -27,6 +27,24 @@ pub fn column(
     let name = PgStr::copy_of(alloc, name)?;
     let field = FieldInfo::new(alloc, name, None, None, datatype, format)?;
     Ok(field.with_type_size(size))
+}
+
+/// Appends the column of this name, at the place behind those that are there. It is as `column`
+/// makes it.
+pub fn put_column(
+    alloc: Global,
+    fields: &mut PgList<FieldInfo>,
+    formats: &Format,
+    name: &str,
+    datatype: PgType,
+    size: i16,
+) -> Result<(), AllocError>
+    ensures ok { OnOk result (fields.new ≡ fields.old
+        ++ column_of (format_at formats.now (length fields.old)) name.now datatype size ∷ []) }
+    ensures err { OnErr result (fields.new ≡ fields.old) }
+{
+    let place = fields.len();
+    fields.push(column(alloc, formats, place, name, datatype, size)?)
 }
 
 /// This row alone.

@@ -10,7 +10,7 @@ mod parser;
 mod response;
 
 pub use answers::RowAnswers;
-pub use columns::{column, one_row};
+pub use columns::{column, one_row, put_column};
 pub use errors::user_error;
 pub use handlers::RowHandlers;
 pub use parser::RowParser;

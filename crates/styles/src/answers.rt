@@ -1,9 +1,5 @@
 //! What queries mean, and what they are answered.
 
-ghost use Rattle.std.specs.Prelude.{◌≡◌, ◌++◌, ◌∷◌, [], negsuc, OnOk};
-ghost use Rattle.pg_text.specs.declared.pg_type.PgType.TheVariants as kind;
-ghost use Rattle.row_handlers.specs.Answers.{column_of, format_at};
-
 use crate::reading::{read_interval, read_parameter};
 use crate::rows::row_of;
 use pg_interval::Interval;
@@ -11,7 +7,7 @@ use pg_messages::{PgBytes, PgList};
 use pg_portal::{FieldInfo, Format, ListRows, PgWireError};
 use pg_text::PgType;
 use query_texts::trimmed;
-use row_handlers::{RowAnswers, column, one_row};
+use row_handlers::{RowAnswers, one_row, put_column};
 use std::alloc::{AllocError, Global};
 
 /// What a query means.
@@ -77,10 +73,24 @@ impl RowAnswers for Styles {
         formats: &Format,
     ) -> Result<PgList<FieldInfo>, AllocError> {
         let mut fields = PgList::new(alloc);
-        put_column(alloc, &mut fields, formats, 0, "postgres")?;
-        put_column(alloc, &mut fields, formats, 1, "postgres_verbose")?;
-        put_column(alloc, &mut fields, formats, 2, "iso_8601")?;
-        put_column(alloc, &mut fields, formats, 3, "sql_standard")?;
+        put_column(alloc, &mut fields, formats, "postgres", PgType::Text, -1)?;
+        put_column(
+            alloc,
+            &mut fields,
+            formats,
+            "postgres_verbose",
+            PgType::Text,
+            -1,
+        )?;
+        put_column(alloc, &mut fields, formats, "iso_8601", PgType::Text, -1)?;
+        put_column(
+            alloc,
+            &mut fields,
+            formats,
+            "sql_standard",
+            PgType::Text,
+            -1,
+        )?;
         Ok(fields)
     }
 
@@ -100,18 +110,4 @@ impl RowAnswers for Styles {
         };
         Ok(one_row(alloc, row_of(alloc, &interval)?)?)
     }
-}
-
-/// Appends a column of type text, of this name and at this place.
-fn put_column(
-    alloc: Global,
-    fields: &mut PgList<FieldInfo>,
-    formats: &Format,
-    index: usize,
-    name: &str,
-) -> Result<(), AllocError>
-    ensures { OnOk result (fields.new ≡ fields.old
-        ++ column_of (format_at formats.now index) name.now kind.Text (negsuc 0) ∷ []) }
-{
-    fields.push(column(alloc, formats, index, name, PgType::Text, -1)?)
 }
