@@ -10,12 +10,6 @@ use std::alloc::Global;
 use std::io::{Read, Write};
 use std::sync::{Arc, Wait};
 
-/// A startup packet of version 3.0 with `user` `demo`.
-pub(crate) const STARTUP: &[u8] = b"\0\0\0\x13\0\x03\0\0user\0demo\0\0";
-
-/// The same of version 3.2.
-pub(crate) const STARTUP_3_2: &[u8] = b"\0\0\0\x13\0\x03\0\x02user\0demo\0\0";
-
 /// A startup packet of 3.0; a statement, a portal and all rows of `shifts`, as binary; Sync; Terminate.
 pub(crate) const FIRST_PATH: &[u8] = b"\0\0\0\x13\0\x03\0\0user\0demo\0\0\
 P\0\0\0\x0e\0shifts\0\0\0\
@@ -100,10 +94,5 @@ impl Registry {
         let relations = Arc::new(self.alloc, table).ok()?;
         let manager = Arc::try_clone(&self.manager).ok()?;
         Some((manager, relations))
-    }
-
-    /// Whether nobody has a pid, who is registered under it now.
-    pub(crate) fn is_free<R: Wait>(&mut self, rt: &R, pid: i32) -> bool {
-        self.register(rt, pid).is_some()
     }
 }

@@ -11,8 +11,6 @@ mod clients;
 #[cfg(test)]
 mod job_tests;
 #[cfg(test)]
-mod listen_tests;
-#[cfg(test)]
 mod relations;
 #[cfg(test)]
 mod socket_tests;

@@ -11,18 +11,16 @@ fn column_of(alloc: Global, name: &str) -> Result<PgList<PgStr>, AllocError> {
     Ok(columns)
 }
 
-/// A relation of a name and one column of a name, whose query finds so many polls unready. It has no
-/// row, or one that is too short.
+/// A relation of a name and one column of a name. It has no row, or one that is too short.
 fn relation_of(
     alloc: Global,
     name: &str,
     column: &str,
     is_ragged: bool,
-    unready: u32,
 ) -> Result<Relation, AllocError> {
     let mut relation = Relation {
         name: PgStr::copy_of(alloc, name)?,
-        unready,
+        unready: 0,
         columns: column_of(alloc, column)?,
         rows: PgList::new(alloc),
     };
@@ -33,23 +31,22 @@ fn relation_of(
 }
 
 /// A table of one such relation.
-pub(crate) fn table_of(
+fn table_of(
     alloc: Global,
     name: &str,
     column: &str,
     is_ragged: bool,
-    unready: u32,
 ) -> Result<RelationTable, TableError> {
     let mut relations = PgList::new(alloc);
-    relations.push(relation_of(alloc, name, column, is_ragged, unready)?)?;
+    relations.push(relation_of(alloc, name, column, is_ragged)?)?;
     RelationTable::try_new(alloc, relations)
 }
 
 /// A table of two relations of one name.
 fn table_of_two(alloc: Global) -> Result<RelationTable, TableError> {
     let mut relations = PgList::new(alloc);
-    relations.push(relation_of(alloc, "a", "span", false, 0)?)?;
-    relations.push(relation_of(alloc, "a", "span", false, 0)?)?;
+    relations.push(relation_of(alloc, "a", "span", false)?)?;
+    relations.push(relation_of(alloc, "a", "span", false)?)?;
     RelationTable::try_new(alloc, relations)
 }
 
@@ -62,10 +59,10 @@ fn tables_are_judged(rt: HostRuntime) {
     let alloc = rt.alloc();
     let told = [
         table_of_two(alloc).err(),
-        table_of(alloc, "a", "span", true, 0).err(),
-        table_of(alloc, "a", LONG, true, 0).err(),
-        table_of(alloc, LONG, LONG, true, 0).err(),
-        table_of(alloc, "a", "", false, 0).err(),
+        table_of(alloc, "a", "span", true).err(),
+        table_of(alloc, "a", LONG, true).err(),
+        table_of(alloc, LONG, LONG, true).err(),
+        table_of(alloc, "a", "", false).err(),
     ];
     assert!(rt;
         told == [

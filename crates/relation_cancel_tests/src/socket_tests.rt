@@ -2,8 +2,8 @@
 
 ghost use Rattle.std.specs.Prelude.{◌≡◌};
 
-use crate::clients::{Registry, STARTUP, STARTUP_3_2, is_at_its_end, reads, sends};
-use crate::relations::table_of;
+use crate::clients::{CANCELED, Registry, STARTUP, STARTUP_3_2, is_at_its_end, reads, sends};
+use crate::relations::endless_table;
 use pg_serve::{Listening, RandomKeys, SocketAcceptor};
 use relation_server::{JobThreads, StartJob, ThreadSpawner, jobs_cross_threads, listen};
 use std::alloc::{AllocError, Global};
@@ -75,12 +75,7 @@ fn is_silent(stream: &mut TcpStream) -> bool {
     is_set && is_silent && stream.set_nonblocking(false).is_ok()
 }
 
-/// What a client is told whose query was canceled: ErrorResponse, ReadyForQuery.
-const CANCELED: &[u8] =
-    b"E\0\0\0\x43SERROR\0VERROR\0C57014\0Mcanceling statement due to user request\0\0\
-Z\0\0\0\x05I";
-
-/// Whether a client is told that, and nothing else up to its end behind its Terminate.
+/// Whether a client is told that its query was canceled, and nothing else up to its end behind its Terminate.
 fn is_told(stream: &mut TcpStream) -> bool {
     let mut reply = [0u8; CANCELED.len()];
     reads(stream, &mut reply)
@@ -153,7 +148,7 @@ fn are_taken_in<R: Wait + Clock + RandomSource + Copy + Drop>(
     requires accepted { acceptor.old.accepted ≡ 0 }
     requires started { spawner.old.started ≡ 0 }
 {
-    let table = table_of(registry.alloc, "endless", "span", false, u32::MAX).ok()?;
+    let table = endless_table(registry.alloc).ok()?;
     let (manager, relations) = registry.shared(table)?;
     let answer = listen(
         &rt,
