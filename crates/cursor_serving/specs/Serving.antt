@@ -4,7 +4,7 @@ use Rattle.pg_handlers.specs.declared.desk.DeskCall.{DeskCall}
 use Rattle.pg_handlers.specs.declared.ends.EndKind.{EndKind}
 use Rattle.pg_handlers.specs.State.{first_state}
 use Rattle.pg_session.specs.declared.ends.ServeError.{ServeError}
-use Rattle.pg_serve.specs.Serving.{WentSo}
+use Rattle.pg_engine.specs.Serving.{WentSo}
 use Rattle.cursor_table.specs.CursorTable.{cursor_rules}
 use Rattle.relation_tables.specs.declared.Relation.{Relation}
 use Rattle.relation_tables.specs.RelationHandler.{relation_handlers}

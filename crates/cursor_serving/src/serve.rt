@@ -7,16 +7,16 @@ ghost use Rattle.pg_handlers.specs.Desk.{GoesOn};
 ghost use Rattle.pg_handlers.specs.Questions.{questions_since};
 ghost use Rattle.pg_handlers.specs.State.{first_state};
 ghost use Rattle.pg_handlers.specs.declared.desk.DeskCall.{DeskCall};
-ghost use Rattle.pg_serve.specs.Serving.{WentSo, HasCause, EndsAtLast, FaultsNeverFall, IsCalm, IsRunOverTaken, ReadsGaveBytes, counts_of};
+ghost use Rattle.pg_engine.specs.Serving.{WentSo, HasCause, EndsAtLast, FaultsNeverFall, IsCalm, IsRunOverTaken, ReadsGaveBytes, counts_of};
 ghost use Rattle.relation_serving.specs.Completeness.{IsComplete};
 ghost use Rattle.cursor_table.specs.CursorTable.{cursor_rules};
 ghost use Rattle.relation_tables.specs.RelationHandler.{relation_handlers};
 ghost use Rattle.cursor_serving.specs.Serving.{WentByCursors};
 
 use cursor_session::CursorSession;
+use pg_engine::{Conversation, serve};
 use pg_handlers::NoopHandler;
 use pg_portal::{MemPortalStore, PortalStore};
-use pg_serve::{Conversation, serve};
 use pg_session::{
     CancelDesk, EndKind, ExtendedQueryHandler, PgWireServerHandlers, ServeError, Sink, Source,
 };

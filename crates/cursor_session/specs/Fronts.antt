@@ -18,7 +18,7 @@ use Rattle.pg_session.specs.Run.{Rules}
 use Rattle.pg_session.specs.Session.{SessionValue, HasFed}
 use Rattle.pg_session.specs.Steps.{WasFed}
 use Rattle.pg_session.specs.Streams.{GrowsBy, GrowsByFront, HasSinkCause}
-use Rattle.pg_serve.specs.Conversing.{Talk}
+use Rattle.pg_engine.specs.Conversing.{Talk}
 use Rattle.cursor_commands.specs.declared.command.CursorCommand.{CursorCommand}
 use Rattle.cursor_commands.specs.Cursors.{Replies, replies_of}
 use Rattle.cursor_commands.specs.Rewriting.{FitsLen}

@@ -7,9 +7,9 @@ ghost use Rattle.pg_handlers.specs.State.{first_state};
 ghost use Rattle.pg_session.specs.Session.{is_more};
 
 use crate::parts::Front;
+use pg_engine::Conversation;
 use pg_messages::SecretKey;
 use pg_portal::PortalStore;
-use pg_serve::Conversation;
 use pg_session::{
     CancelDesk, ExtendedQueryHandler, PgWireServerHandlers, Progress, ServeError, Session, Sink,
     Turns,

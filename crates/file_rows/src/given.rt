@@ -1,7 +1,7 @@
 //! What rows give: a file, how much of it each read gives, and which reads fail.
 
 use pg_messages::{PgBytes, PgList};
-use pg_serve::MemorySource;
+use pg_streams::MemorySource;
 use row_files::{Fault, part, push_repeated, push_unescaped, times_and_rest};
 use std::alloc::{AllocError, Global};
 use std::str::FromStr;

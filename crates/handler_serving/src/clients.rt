@@ -8,7 +8,7 @@ ghost use Rattle.pg_handlers.specs.declared.desk.DeskCall.{DeskCall};
 ghost use Rattle.pg_session.specs.Session.{whole_rules};
 ghost use Rattle.pg_session.specs.Streams.{greatest_count};
 ghost use Rattle.pg_serve.specs.Desk.{ConnectionGoesOn, desk_calls};
-ghost use Rattle.pg_serve.specs.Serving.{WentSo, IsServedRun};
+ghost use Rattle.pg_engine.specs.Serving.{WentSo, IsServedRun};
 
 use crate::one_client::TURNS;
 use pg_cancel::{ConnectionHandle, ConnectionManager, Door};

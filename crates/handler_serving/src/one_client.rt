@@ -5,7 +5,7 @@ ghost use Rattle.std.specs.Arc.{arc_value};
 ghost use Rattle.pg_handlers.specs.State.{first_state};
 ghost use Rattle.pg_handlers.specs.declared.desk.DeskCall.{DeskCall};
 ghost use Rattle.pg_session.specs.Session.{whole_rules};
-ghost use Rattle.pg_serve.specs.Serving.{IsCalm, WentSo, counts_of};
+ghost use Rattle.pg_engine.specs.Serving.{IsCalm, WentSo, counts_of};
 
 use pg_messages::{PgList, SecretKey};
 use pg_portal::MemPortalStore;

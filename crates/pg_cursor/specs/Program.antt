@@ -10,7 +10,7 @@ use Rattle.pg_handlers.specs.Questions.{questions}
 use Rattle.pg_session.specs.declared.ends.ServeError.{ServeError}
 use Rattle.pg_session.specs.declared.ends.ServeError.TheVariants.{NoMemory}
 use Rattle.pg_session.specs.Streams.{HasRisen}
-use Rattle.pg_serve.specs.Serving.{Counts, HasCause, IsCalm, ReadsGaveBytes, counts_of}
+use Rattle.pg_engine.specs.Serving.{Counts, HasCause, IsCalm, ReadsGaveBytes, counts_of}
 use Rattle.relation_files.specs.Files.{IsToldBy, IsFileCause, file_limit}
 use Rattle.relation_files.specs.Lines.{lines_of}
 use Rattle.relation_files.specs.Refusal.{first_bad_line}

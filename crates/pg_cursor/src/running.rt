@@ -1,7 +1,7 @@
 //! The program over a relation file and one client.
 
 ghost use Rattle.std.specs.Prelude.{◌≤◌};
-ghost use Rattle.pg_serve.specs.Serving.{FaultsNeverFall, counts_of};
+ghost use Rattle.pg_engine.specs.Serving.{FaultsNeverFall, counts_of};
 ghost use Rattle.pg_cursor.specs.Program.{HasRun, HasServedFile, WasServed, IsRunComplete, surroundings};
 ghost use Rattle.pg_cursor.specs.Statuses.{status_of, line_of};
 ghost use Rattle.pg_cursor.specs.declared.outcome.Outcome.{Outcome};

@@ -2,7 +2,7 @@
 use Rattle.std.proofs.Common.{ℕ, List, [], Option, Some, None, Result, Ok, Err, inl, inr, refl, sym, ap}
 use Rattle.std.proofs.lemmas.List.{append-nil}
 use Rattle.pg_session.specs.Streams.{GrowsByFront}
-use Rattle.pg_serve.specs.Serving.{Counts}
+use Rattle.pg_engine.specs.Serving.{Counts}
 use Rattle.recording_text.specs.declared.recording.ReadError.{ReadError}
 use Rattle.recording_text.specs.declared.recording.Recording.{Recording}
 use Rattle.recording_text.specs.declared.recording.Recording.{Recording}

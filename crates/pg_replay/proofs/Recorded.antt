@@ -9,7 +9,7 @@ use Rattle.pg_handlers.specs.Script.{IsScripted, origin_of, scripted}
 use Rattle.pg_session.specs.declared.ends.ServeError.{ServeError}
 use Rattle.pg_session.specs.declared.ends.ServeError.TheVariants as fault
 use Rattle.pg_session.specs.Streams.{HasRisen}
-use Rattle.pg_serve.specs.Serving.{Counts, HasCause}
+use Rattle.pg_engine.specs.Serving.{Counts, HasCause}
 use Rattle.recording_text.specs.declared.recording.Recording.{Recording}
 use Rattle.relation_serving.specs.Completeness.{HasFault, IsComplete}
 use Rattle.relation_serving.specs.Serving.{WentByTables}

@@ -8,7 +8,7 @@ use Rattle.pg_handlers.specs.Questions.{questions}
 use Rattle.pg_session.specs.declared.ends.ServeError.{ServeError}
 use Rattle.pg_session.specs.declared.ends.ServeError.TheVariants as serve
 use Rattle.pg_session.specs.Streams.{GrowsBy, GrowsByFront, HasRisen}
-use Rattle.pg_serve.specs.Serving.{Counts, HasCause, counts_of}
+use Rattle.pg_engine.specs.Serving.{Counts, HasCause, counts_of}
 use Rattle.recording_text.specs.declared.recording.Recording.{Recording}
 use Rattle.recording_text.specs.declared.recording.ReadError.{ReadError}
 use Rattle.recording_text.specs.Judging.{judged}

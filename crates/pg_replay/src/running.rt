@@ -6,7 +6,7 @@ ghost use Rattle.pg_replay.specs.Statuses.{status_of, line_of, verdict_line, ver
 ghost use Rattle.pg_replay.specs.Words.{order_of};
 ghost use Rattle.pg_replay.specs.declared.outcome.Outcome.{Outcome};
 ghost use Rattle.recording_text.specs.Text.{recording_text};
-ghost use Rattle.pg_serve.specs.Serving.{FaultsNeverFall, counts_of};
+ghost use Rattle.pg_engine.specs.Serving.{FaultsNeverFall, counts_of};
 ghost use Rattle.status_lines.specs.StatusLines.{IsReported};
 
 use crate::input::read_input;

@@ -13,7 +13,7 @@ use Rattle.pg_handlers.specs.declared.desk.DeskCall.TheVariants as desk
 use Rattle.pg_handlers.specs.declared.ends.EndKind.{EndKind}
 use Rattle.pg_session.specs.declared.ends.ServeError.{ServeError}
 use Rattle.pg_session.specs.Run.{Rules}
-use Rattle.pg_serve.specs.Serving.{WentSo}
+use Rattle.pg_engine.specs.Serving.{WentSo}
 
 -- a call of the registry as one of a desk; a session neither registers nor ends a registration
 abbrev pub desk_call : RegistryCall → RegistryAnswer → List DeskCall

@@ -12,15 +12,15 @@ ghost use Rattle.pg_handlers.specs.Questions.{questions_since};
 ghost use Rattle.pg_handlers.specs.State.{first_state};
 ghost use Rattle.pg_session.specs.Session.{whole_rules};
 ghost use Rattle.pg_serve.specs.Desk.{ConnectionGoesOn, WentByCalls, desk_calls};
-ghost use Rattle.pg_serve.specs.Serving.{HasCause, FaultsNeverFall, IsCalm, WentSo, counts_of};
-ghost use Rattle.pg_serve.specs.Sockets.{reads_of, faults_of};
+ghost use Rattle.pg_engine.specs.Serving.{HasCause, FaultsNeverFall, IsCalm, WentSo, counts_of};
+ghost use Rattle.pg_streams.specs.Sockets.{reads_of, faults_of};
 
 use crate::desk::HandleDesk;
-use crate::engine::serve_connection;
-use crate::socket::MaybeTls;
 use pg_cancel::{ConnectionHandle, ConnectionManager};
+use pg_engine::serve_connection;
 use pg_portal::PortalStore;
 use pg_session::{EndKind, ExtendedQueryHandler, PgWireServerHandlers, ServeError, Sink, Source};
+use pg_streams::MaybeTls;
 use std::alloc::Global;
 use std::sync::{Arc, Wait};
 

@@ -3,7 +3,7 @@
 ghost use Rattle.std.specs.Prelude.{◌≡◌, IfSome};
 ghost use Rattle.std.specs.Arc.{arc_value};
 ghost use Rattle.relation_server.specs.Jobs.{IsFresh};
-ghost use Rattle.pg_serve.specs.Sockets.{reads_of};
+ghost use Rattle.pg_streams.specs.Sockets.{reads_of};
 
 use crate::clients::Registry;
 use pg_cancel::ConnectionManager;

@@ -11,7 +11,7 @@ use Rattle.pg_messages.specs.declared.backend.PgWireBackendMessage.{PgWireBacken
 use Rattle.pg_messages.specs.Replies.{replies_bytes}
 use Rattle.pg_session.specs.declared.ends.ServeError.{ServeError}
 use Rattle.pg_session.specs.declared.ends.ServeError.TheVariants as fault
-use Rattle.pg_serve.specs.Serving.{Counts}
+use Rattle.pg_engine.specs.Serving.{Counts}
 use Rattle.relation_demo.specs.Client.{demo_client}
 use Rattle.relation_demo.specs.Counting.{row_count}
 use Rattle.relation_demo.specs.Load.{demo_relations}

@@ -10,7 +10,7 @@ use Rattle.pg_handlers.specs.declared.ends.EndKind.{EndKind}
 use Rattle.pg_handlers.specs.Questions.{questions}
 use Rattle.pg_session.specs.declared.ends.ServeError.{ServeError}
 use Rattle.pg_serve.specs.Desk.{desk_calls}
-use Rattle.pg_serve.specs.Serving.{Counts, HasCause, FaultsNeverFall, IsCalm, ReadsGaveBytes}
+use Rattle.pg_engine.specs.Serving.{Counts, HasCause, FaultsNeverFall, IsCalm, ReadsGaveBytes}
 use Rattle.relation_tables.specs.declared.Relation.{Relation}
 use Rattle.relation_serving.specs.Completeness.{IsComplete}
 use Rattle.relation_serving.specs.Serving.{WentByTables}

@@ -13,7 +13,7 @@ use Rattle.pg_session.specs.Run.{IsRun}
 use Rattle.pg_session.specs.Session.{whole_rules}
 use Rattle.pg_session.specs.Streams.{GrowsBy, GrowsByFront, HasRisen}
 use Rattle.pg_serve.specs.Desk.{desk_calls}
-use Rattle.pg_serve.specs.Serving.{Counts, counts_of}
+use Rattle.pg_engine.specs.Serving.{Counts, counts_of}
 use Rattle.relation_demo.specs.Client.{demo_client}
 use Rattle.relation_demo.specs.Counting.{row_count}
 use Rattle.relation_demo.specs.Load.{demo_relations}

@@ -8,7 +8,7 @@ ghost use Rattle.pg_cancel.specs.LegalHistory.{IsLegal};
 ghost use Rattle.pg_cancel.specs.declared.entries.Entry.{Entry};
 ghost use Rattle.pg_handlers.specs.Questions.{questions_since};
 ghost use Rattle.pg_serve.specs.Desk.{ConnectionGoesOn, desk_calls};
-ghost use Rattle.pg_serve.specs.Serving.{HasCause, FaultsNeverFall, IsCalm, ReadsGaveBytes, counts_of};
+ghost use Rattle.pg_engine.specs.Serving.{HasCause, FaultsNeverFall, IsCalm, ReadsGaveBytes, counts_of};
 ghost use Rattle.relation_tables.specs.RelationHandler.{relation_handlers};
 ghost use Rattle.relation_serving.specs.Completeness.{IsComplete};
 ghost use Rattle.relation_serving.specs.Serving.{WentByTables};

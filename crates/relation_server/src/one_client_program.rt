@@ -1,7 +1,7 @@
 //! The program over one client: its commands `serve` and `demo`.
 
 ghost use Rattle.std.specs.Prelude.{◌≡◌, ◌≤◌, List, ℕ, Option};
-ghost use Rattle.pg_serve.specs.Serving.{FaultsNeverFall, counts_of};
+ghost use Rattle.pg_engine.specs.Serving.{FaultsNeverFall, counts_of};
 ghost use Rattle.relation_server.specs.Outcomes.{status_of, line_of};
 ghost use Rattle.status_lines.specs.StatusLines.{IsReported};
 ghost use Rattle.relation_server.specs.Program.{HasRun, HasServed, HasServedFile, IsRunComplete, surroundings, surroundings_of};

@@ -15,7 +15,7 @@ use Rattle.pg_session.specs.declared.ends.ServeError.{ServeError}
 use Rattle.pg_session.specs.declared.ends.ServeError.TheVariants as fault
 use Rattle.pg_session.specs.Run.{Rules}
 use Rattle.pg_session.proofs.Spending.{since_grown}
-use Rattle.pg_serve.specs.Serving.{Counts, HasCause, ReadsGaveBytes, WentSo, IsRunOfTaken, IsStoppedRunOfTaken}
+use Rattle.pg_engine.specs.Serving.{Counts, HasCause, ReadsGaveBytes, WentSo, IsRunOfTaken, IsStoppedRunOfTaken}
 use Rattle.relation_tables.specs.declared.Relation.{Relation}
 use Rattle.relation_tables.specs.declared.RelationStatement.{RelationStatement}
 use Rattle.relation_serving.specs.Completeness.{is_run_message, runs, most_unready, IsComplete}

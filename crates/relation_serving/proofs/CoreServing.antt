@@ -14,7 +14,7 @@ use Rattle.pg_session.specs.declared.ends.ServeError.{ServeError}
 use Rattle.pg_session.specs.declared.ends.ServeError.TheVariants as fault
 use Rattle.pg_session.specs.Run.{Rules, IsRun, IsCutRun, EndsWith}
 use Rattle.pg_session.specs.Session.{whole_rules}
-use Rattle.pg_serve.specs.Serving.{IsStoppedRun}
+use Rattle.pg_engine.specs.Serving.{IsStoppedRun}
 use Rattle.relation_tables.specs.declared.Relation.{Relation}
 use Rattle.relation_tables.specs.declared.RelationStatement.{RelationStatement}
 use Rattle.relation_tables.specs.CoreTable.{CoreState, core_awaits, first_core_state}

@@ -7,7 +7,7 @@ use Rattle.pg_handlers.specs.declared.ends.EndKind.{EndKind}
 use Rattle.pg_session.specs.declared.ends.ServeError.{ServeError}
 use Rattle.pg_session.specs.declared.ends.ServeError.TheVariants.{NoMemory}
 use Rattle.pg_session.specs.Streams.{HasRisen}
-use Rattle.pg_serve.specs.Serving.{Counts}
+use Rattle.pg_engine.specs.Serving.{Counts}
 use Rattle.relation_tables.specs.declared.Relation.{Relation}
 
 -- a message that runs a query: Query, or Execute

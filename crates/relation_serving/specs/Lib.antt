@@ -1,3 +1,2 @@
-pub mod BuiltIn
 pub mod Completeness
 pub mod Serving

@@ -8,7 +8,7 @@ use Rattle.pg_handlers.specs.State.{first_state}
 use Rattle.pg_session.specs.declared.ends.ServeError.{ServeError}
 use Rattle.pg_session.specs.Run.{Rules}
 use Rattle.pg_session.specs.Session.{whole_rules}
-use Rattle.pg_serve.specs.Serving.{WentSo}
+use Rattle.pg_engine.specs.Serving.{WentSo}
 use Rattle.relation_tables.specs.declared.Relation.{Relation}
 use Rattle.relation_tables.specs.CoreTable.{Setting, CoreState, core_table, core_awaits, first_core_state}
 use Rattle.relation_tables.specs.Premises.{IsCoreConversation}

@@ -2,11 +2,10 @@
 //! built-in relations.
 #![tactic(auto)]
 
-mod built_in;
 mod laws;
 mod serve;
 
-pub use built_in::built_in_table;
+pub use built_in_relations::built_in_table;
 pub use laws::whole_frames_decide;
 pub use relation_handlers::{RelationHandler, RelationRows, RelationTable, TableError};
 pub use relation_tables::Relation;

@@ -6,15 +6,15 @@ ghost use Rattle.pg_handlers.specs.Desk.{GoesOn};
 ghost use Rattle.pg_handlers.specs.Questions.{questions_since};
 ghost use Rattle.pg_handlers.specs.State.{first_state};
 ghost use Rattle.pg_handlers.specs.declared.desk.DeskCall.{DeskCall};
-ghost use Rattle.pg_serve.specs.Serving.{WentSo, HasCause, EndsAtLast, FaultsNeverFall, IsCalm, IsRunOverTaken, ReadsGaveBytes, counts_of};
+ghost use Rattle.pg_engine.specs.Serving.{WentSo, HasCause, EndsAtLast, FaultsNeverFall, IsCalm, IsRunOverTaken, ReadsGaveBytes, counts_of};
 ghost use Rattle.pg_session.specs.Session.{whole_rules};
 ghost use Rattle.relation_serving.specs.Completeness.{IsComplete};
 ghost use Rattle.relation_tables.specs.RelationHandler.{relation_handlers};
 ghost use Rattle.relation_serving.specs.Serving.{WentByTables};
 
+use pg_engine::serve_connection;
 use pg_handlers::NoopHandler;
 use pg_portal::MemPortalStore;
-use pg_serve::serve_connection;
 use pg_session::{CancelDesk, EndKind, PgWireServerHandlers, ServeError, Sink, Source};
 use relation_handlers::{RelationHandler, RelationTable};
 use std::alloc::Global;

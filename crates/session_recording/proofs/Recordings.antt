@@ -10,7 +10,7 @@ use Rattle.pg_session.specs.declared.ends.ServeError.TheVariants.{ReadFault, Wri
 use Rattle.pg_session.specs.Run.{IsRun}
 use Rattle.pg_session.specs.Session.{whole_rules}
 use Rattle.pg_session.specs.Streams.{GrowsBy}
-use Rattle.pg_serve.specs.Serving.{TakesFrom, IsRunOverTaken}
+use Rattle.pg_engine.specs.Serving.{TakesFrom, IsRunOverTaken}
 use Rattle.recorders.specs.Kept.{IsTakenOf, IsSentTo, behind, bytes_of, counted, gone}
 use Rattle.recording_text.specs.declared.recording.Recording.{Recording}
 use Rattle.relation_tables.specs.RelationHandler.{relation_handlers}

@@ -5,7 +5,7 @@ use Rattle.pg_handlers.specs.declared.ends.EndKind.{EndKind}
 use Rattle.pg_session.specs.declared.ends.ServeError.{ServeError}
 use Rattle.pg_session.specs.declared.ends.ServeError.TheVariants.{WriteFault, NoMemory}
 use Rattle.pg_session.specs.Streams.{GrowsBy}
-use Rattle.pg_serve.specs.Serving.{TakesFrom}
+use Rattle.pg_engine.specs.Serving.{TakesFrom}
 use Rattle.recording_text.specs.declared.recording.Recording.{Recording}
 use Rattle.relation_tables.specs.declared.Relation.{Relation}
 use Rattle.replay_streams.specs.RecordedRuns.{IsRecordedRun}

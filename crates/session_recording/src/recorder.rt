@@ -5,7 +5,7 @@ ghost use Rattle.pg_handlers.specs.Desk.{GoesOn};
 ghost use Rattle.pg_handlers.specs.Questions.{questions_since};
 ghost use Rattle.pg_handlers.specs.State.{first_state};
 ghost use Rattle.pg_handlers.specs.declared.desk.DeskCall.{DeskCall};
-ghost use Rattle.pg_serve.specs.Serving.{HasCause, EndsAtLast, FaultsNeverFall, IsCalm, IsRunOverTaken, ReadsGaveBytes, counts_of};
+ghost use Rattle.pg_engine.specs.Serving.{HasCause, EndsAtLast, FaultsNeverFall, IsCalm, IsRunOverTaken, ReadsGaveBytes, counts_of};
 ghost use Rattle.pg_session.specs.Session.{whole_rules};
 ghost use Rattle.relation_serving.specs.Completeness.{IsComplete};
 ghost use Rattle.relation_serving.specs.Serving.{WentByTables};

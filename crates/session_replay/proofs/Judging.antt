@@ -14,7 +14,7 @@ use Rattle.pg_session.specs.Run.{IsRun}
 use Rattle.pg_session.specs.Session.{whole_rules}
 use Rattle.pg_session.proofs.Answering.{whole_lawful}
 use Rattle.pg_session.proofs.Spending.{questions-append}
-use Rattle.pg_serve.specs.Serving.{Counts, HasCause, ReadsGaveBytes}
+use Rattle.pg_engine.specs.Serving.{Counts, HasCause, ReadsGaveBytes}
 use Rattle.relation_serving.specs.Serving.{WentByWhole}
 use Rattle.recording_text.specs.declared.recording.Recording.{Recording}
 use Rattle.relation_tables.specs.RelationHandler.{relation_handlers}

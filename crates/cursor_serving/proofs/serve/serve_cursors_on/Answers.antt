@@ -3,8 +3,8 @@ use Rattle.std.specs.Prelude.{IfOk}
 use Rattle.pg_handlers.specs.State.{first_state}
 use Rattle.pg_session.specs.declared.ends.ServeError.TheVariants as fault
 use Rattle.relation_tables.specs.RelationHandler.{relation_handlers}
-use Rattle.pg_serve.specs.Serving.{WentSo, IsRunOverTaken, EndsAtLast, counts_of}
-use Rattle.pg_serve.proofs.Serving.{none_went}
+use Rattle.pg_engine.specs.Serving.{WentSo, IsRunOverTaken, EndsAtLast, counts_of}
+use Rattle.pg_engine.proofs.Serving.{none_went}
 use Rattle.cursor_table.specs.CursorTable.{cursor_rules}
 use Rattle.relation_serving.proofs.Complete.{complete_serving, complete_at_want, cause_of_calls, none_gave}
 use Rattle.cursor_serving.proofs.Questions.{few_cursor_questions}

@@ -2,7 +2,7 @@ use Rattle.std.proofs.Common.{[], refl, sym, append-nil}
 use Rattle.std.specs.Arc.{arc_value}
 use Rattle.pg_handlers.specs.State.{first_state}
 use Rattle.pg_session.specs.Session.{whole_rules}
-use Rattle.pg_serve.proofs.Serving.{none_went}
+use Rattle.pg_engine.proofs.Serving.{none_went}
 use Rattle.handler_serving.proofs.clients.serve_on.Goals as goal
 
 pub returns-in_default-clause-went : goal.returns-in_default-clause-went

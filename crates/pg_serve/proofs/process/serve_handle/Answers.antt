@@ -4,7 +4,7 @@ use Rattle.pg_cancel.specs.Connections.{calls_of}
 use Rattle.pg_handlers.specs.State.{first_state}
 use Rattle.pg_session.specs.Session.{whole_rules}
 use Rattle.pg_serve.specs.Desk.{ConnectionGoesOn, WentByCalls, desk_calls}
-use Rattle.pg_serve.specs.Serving.{WentSo}
+use Rattle.pg_engine.specs.Serving.{WentSo}
 use Rattle.pg_serve.proofs.Calls.{calls_made, goes_on_as}
 use Rattle.pg_serve.proofs.process.serve_handle.Goals as goal
 

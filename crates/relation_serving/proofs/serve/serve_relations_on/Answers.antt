@@ -5,8 +5,8 @@ use Rattle.pg_session.specs.Session.{whole_rules}
 use Rattle.pg_session.specs.declared.ends.ServeError.TheVariants as fault
 use Rattle.relation_tables.specs.RelationHandler.{relation_handlers}
 use Rattle.relation_handlers.proofs.EvenRows.{even}
-use Rattle.pg_serve.specs.Serving.{WentSo, IsRunOverTaken, EndsAtLast, counts_of}
-use Rattle.pg_serve.proofs.Serving.{none_went}
+use Rattle.pg_engine.specs.Serving.{WentSo, IsRunOverTaken, EndsAtLast, counts_of}
+use Rattle.pg_engine.proofs.Serving.{none_went}
 use Rattle.relation_serving.proofs.CoreServing.{went_by_tables}
 use Rattle.relation_serving.proofs.Complete.{complete_serving, complete_at_want, cause_of_calls, none_gave}
 use Rattle.relation_serving.proofs.Questions.{few_questions}

@@ -1,7 +1,7 @@
 use Rattle.std.proofs.Common.{◌≡◌, ◌∙◌, IfOk, ap, subst, sym}
 use Rattle.pg_handlers.specs.Desk.{DeskTold}
 use Rattle.pg_handlers.specs.State.{first_state}
-use Rattle.pg_serve.specs.Serving.{EndsAtLast, IsRunOverTaken}
+use Rattle.pg_engine.specs.Serving.{EndsAtLast, IsRunOverTaken}
 use Rattle.pg_session.specs.Session.{whole_rules}
 use Rattle.relation_serving.specs.Serving.{WentByTables}
 use Rattle.relation_tables.specs.RelationHandler.{relation_handlers}

@@ -4,7 +4,7 @@ use Rattle.std.proofs.lemmas.Result.{IfOk-weaker}
 use Rattle.pg_handlers.specs.Answer.{answers_of}
 use Rattle.pg_handlers.specs.Questions.{questions}
 use Rattle.pg_handlers.specs.Script.{origin_of}
-use Rattle.pg_serve.specs.Serving.{Counts}
+use Rattle.pg_engine.specs.Serving.{Counts}
 use Rattle.relation_serving.proofs.Complete.{cause_of_calls}
 use Rattle.session_replay.specs.Verdicts.{IsVerdictOn}
 use Rattle.session_replay.proofs.Judging.{one_script, scripted_calls, went_by, asked_more, judged}

@@ -1,0 +1,93 @@
+//! What the engine serves: a conversation that takes a client's bytes piece by piece.
+
+ghost use Rattle.std.specs.Prelude.{◌≡◌, ◌≤◌, [], true, OnOk};
+ghost use Rattle.pg_handlers.specs.Desk.{GoesOn};
+ghost use Rattle.pg_handlers.specs.Lawful.{IsLawful};
+ghost use Rattle.pg_handlers.specs.Questions.{questions_since};
+ghost use Rattle.pg_session.specs.Session.{HasFed, is_more};
+ghost use Rattle.pg_session.specs.Streams.{HasSinkCause};
+ghost use Rattle.pg_engine.specs.Conversing.{Talk, TakesPiece};
+
+use pg_portal::PortalStore;
+use pg_session::{
+    CancelDesk, ExtendedQueryHandler, PgWireServerHandlers, Progress, ServeError, Session, Sink,
+    Turns,
+};
+use std::alloc::Global;
+
+/// A conversation with one client, which answers the frames of the client's bytes by a table. A
+/// session is one, and so is what stands in front of a session and answers some messages in another
+/// way.
+pub trait Conversation {
+    // the states of its table
+    ghost At: { Type 0 };
+    // the rules that it goes by, and where it stands
+    ghost told: { Self → Talk At };
+
+    /// Takes a piece of the client's bytes, sends what waits, and writes the whole answer to the
+    /// messages that the piece completes. Ok(More) says that no whole frame is left,
+    /// Ok(Ended(kind)) that the conversation has ended. After that, and after an error, it is
+    /// closed: WriteFault comes where the sink failed, TurnLimit where a query wanted a turn and
+    /// none was left, NoMemory where memory ran out. ReadFault never comes.
+    fn feed<D: CancelDesk, K: Sink>(
+        &mut self,
+        alloc: Global,
+        desk: &mut D,
+        piece: &[u8],
+        sink: &mut K,
+        turns: &mut Turns,
+    ) -> Result<Progress, ServeError>
+        requires open { (told self.old).is_open ≡ true }
+        ensures fed { TakesPiece (told self.old) (told self.new) piece.now
+            (K.written sink.old) (K.written sink.new) (D.told desk.old).calls
+            (D.told desk.new).calls result }
+        ensures rules { (told self.new).rules ≡ (told self.old).rules }
+        ensures sent { OnOk result ((told self.new).unsent ≡ []) }
+        ensures open { (told self.new).is_open ≡ is_more result }
+
+        // The cause of each error.
+        ensures cause { HasSinkCause (K.faults sink.old) (K.faults sink.new) result }
+        ensures turns { HasFed turns.old turns.new
+            (questions_since (D.told desk.old).calls (D.told desk.new).calls) result }
+        ensures bounded { turns.old.spent ≤ turns.old.limit → turns.new.spent ≤ turns.new.limit }
+        ensures registration { GoesOn (D.told desk.old) (D.told desk.new) }
+        ensures sink { K.origin sink.new ≡ K.origin sink.old };
+
+    // its rules are those of a conversation: more answers change nothing where none was wanting
+    ghost lawful: { (c : Self) → IsLawful (told c).rules.table (told c).rules.awaits };
+}
+
+impl<
+    H: PgWireServerHandlers,
+    St: PortalStore<
+        Statement = <H::Extended as ExtendedQueryHandler>::Statement,
+        Rows = <H::Extended as ExtendedQueryHandler>::Rows,
+    >,
+> Conversation for Session<H, St> {
+    ghost use Rattle.pg_handlers.specs.State.{State};
+    ghost use Rattle.pg_session.specs.Session.{whole_rules};
+    ghost use Rattle.pg_session.proofs.Answering.{whole_lawful};
+
+    ghost At = { State H.Extended.Statement };
+
+    ghost told = { λ s. record {
+      rules = whole_rules (H.told s.handlers);
+      state = s.state;
+      rest = s.rest;
+      unsent = s.unsent;
+      is_open = s.is_open;
+    } };
+
+    ghost lawful = { λ s. whole_lawful (H.told s.handlers) };
+
+    fn feed<D: CancelDesk, K: Sink>(
+        &mut self,
+        alloc: Global,
+        desk: &mut D,
+        piece: &[u8],
+        sink: &mut K,
+        turns: &mut Turns,
+    ) -> Result<Progress, ServeError> {
+        Session::feed(self, alloc, desk, piece, sink, turns)
+    }
+}

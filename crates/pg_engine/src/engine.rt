@@ -1,0 +1,273 @@
+//! The engine: it reads the client's bytes, feeds a conversation with them, and counts turns.
+
+ghost use Rattle.std.specs.Prelude.{◌≡◌, ◌++◌, ◌≤◌, ◌<◌, List, [], length, take, true, IfOk, OnOk};
+ghost use Rattle.std.specs.Arc.{arc_value};
+ghost use Rattle.pg_portal.specs.Maps.{no_maps};
+ghost use Rattle.pg_handlers.specs.Desk.{GoesOn};
+ghost use Rattle.pg_handlers.specs.declared.desk.DeskCall.{DeskCall};
+ghost use Rattle.pg_handlers.specs.Questions.{questions_since};
+ghost use Rattle.pg_handlers.specs.State.{first_state};
+ghost use Rattle.pg_session.specs.Session.{whole_rules};
+ghost use Rattle.pg_engine.specs.Serving.{WentSo, HasCause, EndsAtLast, FaultsNeverFall, IsCalm, IsRunOverTaken, ReadsGaveBytes, counts_of};
+
+use crate::conversation::Conversation;
+use pg_portal::PortalStore;
+use pg_session::{
+    CancelDesk, EndKind, ExtendedQueryHandler, PgWireServerHandlers, Progress, ServeError, Session,
+    Sink, Source, Turns,
+};
+use std::alloc::{AllocError, Global};
+use std::sync::Arc;
+
+/// How many bytes a read asks for.
+const READ_LEN: usize = 8192;
+
+/// Serves a client: takes its bytes from the source, and writes the answer to the sink, until the
+/// conversation ends. A read that gives at least one byte or the end costs one turn, and so does
+/// each poll that finds a query unready.
+///
+/// The store is empty. Ok tells how the conversation ended, with all of its replies written.
+/// ReadFault comes where a read failed, and the whole answer to the frames taken before is written;
+/// WriteFault where a write failed, TurnLimit where all turns were spent and one more was needed,
+/// NoMemory where memory ran out: then a front of the answer is written.
+pub fn serve_connection<
+    H: PgWireServerHandlers,
+    St: PortalStore<
+        Statement = <H::Extended as ExtendedQueryHandler>::Statement,
+        Rows = <H::Extended as ExtendedQueryHandler>::Rows,
+    >,
+    D: CancelDesk,
+    S: Source,
+    K: Sink,
+>(
+    alloc: Global,
+    handlers: Arc<H>,
+    store: St,
+    desk: &mut D,
+    source: &mut S,
+    sink: &mut K,
+    turn_limit: u64,
+) -> Result<EndKind, ServeError>
+    requires empty { St.maps store ≡ no_maps }
+
+    // The bytes written and the new calls are the conversation table's answer to the client's
+    // bytes, however cut.
+    ensures went { (calls : List DeskCall)
+        × ((D.told desk.new).calls ≡ (D.told desk.old).calls ++ calls)
+        × WentSo (whole_rules (H.told (arc_value handlers)))
+        (first_state (D.told desk.old).registration.0 (D.told desk.old).registration.1)
+        result (S.left source.old) (S.left source.new) (K.written sink.old) (K.written sink.new)
+        calls }
+    ensures cause { HasCause result turn_limit
+        (questions_since (D.told desk.old).calls (D.told desk.new).calls)
+        (counts_of S.reads S.faults K.faults source.old sink.old)
+        (counts_of S.reads S.faults K.faults source.new sink.new) }
+    ensures last { IfOk result (EndsAtLast (whole_rules (H.told (arc_value handlers)))
+        (first_state (D.told desk.old).registration.0 (D.told desk.old).registration.1)
+        (S.left source.old) (S.left source.new)) }
+    ensures taken { IfOk result (IsRunOverTaken (whole_rules (H.told (arc_value handlers)))
+        (first_state (D.told desk.old).registration.0 (D.told desk.old).registration.1)
+        (S.left source.old) (S.left source.new) (K.written sink.old) (K.written sink.new)
+        (D.told desk.old).calls (D.told desk.new).calls) }
+    ensures calm { OnOk result (IsCalm (counts_of S.reads S.faults K.faults source.old sink.old)
+        (counts_of S.reads S.faults K.faults source.new sink.new)) }
+    ensures never_falls { FaultsNeverFall (counts_of S.reads S.faults K.faults source.old sink.old)
+        (counts_of S.reads S.faults K.faults source.new sink.new) }
+    ensures reads { ReadsGaveBytes (S.left source.old) (S.left source.new) (S.reads source.old)
+        (S.reads source.new) }
+    ensures registration { GoesOn (D.told desk.old) (D.told desk.new) }
+    ensures source { S.origin source.new ≡ S.origin source.old }
+    ensures sink { K.origin sink.new ≡ K.origin sink.old }
+{
+    let Ok(session) = session_at(alloc, handlers, store, desk) else {
+        return Err(ServeError::NoMemory);
+    };
+    serve_whole(alloc, session, desk, source, sink, turn_limit)
+}
+
+/// A session that awaits the startup packet of the client whom this desk knows. The only error is
+/// want of memory.
+fn session_at<
+    H: PgWireServerHandlers,
+    St: PortalStore<
+        Statement = <H::Extended as ExtendedQueryHandler>::Statement,
+        Rows = <H::Extended as ExtendedQueryHandler>::Rows,
+    >,
+    D: CancelDesk,
+>(alloc: Global, handlers: Arc<H>, store: St, desk: &D) -> Result<Session<H, St>, AllocError>
+    requires empty { St.maps store ≡ no_maps }
+    ensures { IfOk result (λ session. session ≡ record {
+      handlers = arc_value handlers;
+      state = first_state (D.told desk.now).registration.0 (D.told desk.now).registration.1;
+      rest = [];
+      unsent = [];
+      is_open = true;
+    }) }
+{
+    let (pid, key) = desk.identity();
+    let key = key.copy_of()?;
+    Session::new(alloc, handlers, store, pid, key)
+}
+
+/// Serves a client by a conversation of its own, as [`serve`] does, and lets the conversation go.
+fn serve_whole<C: Conversation + Drop, D: CancelDesk, S: Source, K: Sink>(
+    alloc: Global,
+    mut conversation: C,
+    desk: &mut D,
+    source: &mut S,
+    sink: &mut K,
+    turn_limit: u64,
+) -> Result<EndKind, ServeError>
+    requires open { (C.told conversation).is_open ≡ true }
+    requires rest { (C.told conversation).rest ≡ [] }
+    requires unsent { (C.told conversation).unsent ≡ [] }
+    ensures went { (calls : List DeskCall)
+        × ((D.told desk.new).calls ≡ (D.told desk.old).calls ++ calls)
+        × WentSo (C.told conversation).rules (C.told conversation).state
+        result (S.left source.old) (S.left source.new) (K.written sink.old) (K.written sink.new)
+        calls }
+    ensures cause { HasCause result turn_limit
+        (questions_since (D.told desk.old).calls (D.told desk.new).calls)
+        (counts_of S.reads S.faults K.faults source.old sink.old)
+        (counts_of S.reads S.faults K.faults source.new sink.new) }
+    ensures last { IfOk result (EndsAtLast (C.told conversation).rules
+        (C.told conversation).state
+        (S.left source.old) (S.left source.new)) }
+    ensures taken { IfOk result (IsRunOverTaken (C.told conversation).rules
+        (C.told conversation).state
+        (S.left source.old) (S.left source.new) (K.written sink.old) (K.written sink.new)
+        (D.told desk.old).calls (D.told desk.new).calls) }
+    ensures calm { OnOk result (IsCalm (counts_of S.reads S.faults K.faults source.old sink.old)
+        (counts_of S.reads S.faults K.faults source.new sink.new)) }
+    ensures never_falls { FaultsNeverFall (counts_of S.reads S.faults K.faults source.old sink.old)
+        (counts_of S.reads S.faults K.faults source.new sink.new) }
+    ensures reads { ReadsGaveBytes (S.left source.old) (S.left source.new) (S.reads source.old)
+        (S.reads source.new) }
+    ensures registration { GoesOn (D.told desk.old) (D.told desk.new) }
+    ensures source { S.origin source.new ≡ S.origin source.old }
+    ensures sink { K.origin sink.new ≡ K.origin sink.old }
+{
+    serve(alloc, &mut conversation, desk, source, sink, turn_limit)
+}
+
+/// Serves a client by any conversation that has taken nothing yet, as [`serve_connection`] does by
+/// a session.
+pub fn serve<C: Conversation, D: CancelDesk, S: Source, K: Sink>(
+    alloc: Global,
+    conversation: &mut C,
+    desk: &mut D,
+    source: &mut S,
+    sink: &mut K,
+    turn_limit: u64,
+) -> Result<EndKind, ServeError>
+    requires open { (C.told conversation.old).is_open ≡ true }
+    requires rest { (C.told conversation.old).rest ≡ [] }
+    requires unsent { (C.told conversation.old).unsent ≡ [] }
+    ensures went { (calls : List DeskCall)
+        × ((D.told desk.new).calls ≡ (D.told desk.old).calls ++ calls)
+        × WentSo (C.told conversation.old).rules (C.told conversation.old).state
+        result (S.left source.old) (S.left source.new) (K.written sink.old) (K.written sink.new)
+        calls }
+    ensures cause { HasCause result turn_limit
+        (questions_since (D.told desk.old).calls (D.told desk.new).calls)
+        (counts_of S.reads S.faults K.faults source.old sink.old)
+        (counts_of S.reads S.faults K.faults source.new sink.new) }
+    ensures last { IfOk result (EndsAtLast (C.told conversation.old).rules
+        (C.told conversation.old).state
+        (S.left source.old) (S.left source.new)) }
+    ensures taken { IfOk result (IsRunOverTaken (C.told conversation.old).rules
+        (C.told conversation.old).state
+        (S.left source.old) (S.left source.new) (K.written sink.old) (K.written sink.new)
+        (D.told desk.old).calls (D.told desk.new).calls) }
+    ensures calm { OnOk result (IsCalm (counts_of S.reads S.faults K.faults source.old sink.old)
+        (counts_of S.reads S.faults K.faults source.new sink.new)) }
+    ensures never_falls { FaultsNeverFall (counts_of S.reads S.faults K.faults source.old sink.old)
+        (counts_of S.reads S.faults K.faults source.new sink.new) }
+    ensures reads { ReadsGaveBytes (S.left source.old) (S.left source.new) (S.reads source.old)
+        (S.reads source.new) }
+    ensures registration { GoesOn (D.told desk.old) (D.told desk.new) }
+    ensures source { S.origin source.new ≡ S.origin source.old }
+    ensures sink { K.origin sink.new ≡ K.origin sink.old }
+{
+    let mut turns = Turns {
+        spent: 0,
+        limit: turn_limit,
+    };
+    let mut buffer = [0u8; READ_LEN];
+    serve_pieces(
+        alloc,
+        conversation,
+        desk,
+        source,
+        sink,
+        &mut turns,
+        &mut buffer,
+    )
+}
+
+/// Feeds a conversation with what the source gives, until it ends.
+fn serve_pieces<C: Conversation, D: CancelDesk, S: Source, K: Sink>(
+    alloc: Global,
+    conversation: &mut C,
+    desk: &mut D,
+    source: &mut S,
+    sink: &mut K,
+    turns: &mut Turns,
+    buffer: &mut [u8],
+) -> Result<EndKind, ServeError>
+    requires open { (C.told conversation.old).is_open ≡ true }
+    requires rest { (C.told conversation.old).rest ≡ [] }
+    requires unsent { (C.told conversation.old).unsent ≡ [] }
+    requires fresh { turns.old.spent ≡ 0 }
+    requires room { 0 < length buffer.old }
+    ensures went { (calls : List DeskCall)
+        × ((D.told desk.new).calls ≡ (D.told desk.old).calls ++ calls)
+        × WentSo (C.told conversation.old).rules (C.told conversation.old).state
+        result (S.left source.old) (S.left source.new) (K.written sink.old) (K.written sink.new)
+        calls }
+    ensures cause { HasCause result turns.old.limit
+        (questions_since (D.told desk.old).calls (D.told desk.new).calls)
+        (counts_of S.reads S.faults K.faults source.old sink.old)
+        (counts_of S.reads S.faults K.faults source.new sink.new) }
+    ensures last { IfOk result (EndsAtLast (C.told conversation.old).rules
+        (C.told conversation.old).state
+        (S.left source.old) (S.left source.new)) }
+    ensures taken { IfOk result (IsRunOverTaken (C.told conversation.old).rules
+        (C.told conversation.old).state
+        (S.left source.old) (S.left source.new) (K.written sink.old) (K.written sink.new)
+        (D.told desk.old).calls (D.told desk.new).calls) }
+    ensures calm { OnOk result (IsCalm (counts_of S.reads S.faults K.faults source.old sink.old)
+        (counts_of S.reads S.faults K.faults source.new sink.new)) }
+    ensures never_falls { FaultsNeverFall (counts_of S.reads S.faults K.faults source.old sink.old)
+        (counts_of S.reads S.faults K.faults source.new sink.new) }
+    ensures reads { ReadsGaveBytes (S.left source.old) (S.left source.new) (S.reads source.old)
+        (S.reads source.new) }
+    ensures registration { GoesOn (D.told desk.old) (D.told desk.new) }
+    ensures source { S.origin source.new ≡ S.origin source.old }
+    ensures sink { K.origin sink.new ≡ K.origin sink.old }
+{
+    'turns: loop {
+        if !turns.spend() {
+            return Err(ServeError::TurnLimit);
+        }
+        let Ok(n) = source.receive(buffer) else {
+            return Err(ServeError::ReadFault);
+        };
+        if n == 0 {
+            return Ok(EndKind::InputEnd);
+        }
+        match conversation.feed(alloc, desk, front_of(buffer, n), sink, turns) {
+            Ok(Progress::More) => {}
+            Ok(Progress::Ended(kind)) => return Ok(kind),
+            Err(error) => return Err(error),
+        }
+    }
+}
+
+/// The first bytes of a buffer.
+fn front_of(buffer: &[u8], n: usize) -> &[u8]
+    requires { n ≤ length buffer.now }
+    ensures { result.now ≡ take n buffer.now }
+{
+    &buffer[..n]
+}

@@ -1,0 +1,225 @@
+//! A source and a sink in memory, which give, take and fail as they are told.
+
+ghost use Rattle.std.specs.Prelude.{◌≡◌, ℕ, List, [], Some, ◌≤◌, ◌<◌, ◌++◌, ◌==◌, min, take, length, find, IfOk, IfSome, IfErr, OnErr, OnOk, IsErrOf, if◌then◌else◌};
+ghost use Rattle.std.specs.Result.{is_err};
+ghost use Rattle.pg_session.specs.Streams.{GivesFront, GrowsBy, GrowsByFront, HasRisen, reads_after};
+ghost use Rattle.pg_streams.specs.Memory.{received, is_told_to_fail, most_of, IsNextCall, told_to_fail, TakesAsTold, raised, counted, is_fault};
+
+use pg_messages::{PgBytes, PgList};
+use pg_session::{Sink, SinkError, Source, SourceFailed};
+use std::alloc::Global;
+use std::marker::Model;
+
+/// A source of bytes in memory, which gives them in pieces and fails as it is told.
+#[derive(Drop)]
+pub struct MemorySource {
+    bytes: PgBytes,
+    position: usize,
+    pieces: PgList<usize>,
+    fails: PgList<u64>,
+    calls: u64,
+    reads: u64,
+    faults: u64,
+}
+
+impl Model for MemorySource {
+    ghost use Rattle.std.specs.Prelude.{◌≤◌, drop, length};
+    ghost use Rattle.pg_streams.specs.Memory.{Tape};
+
+    ghost Value = { Tape };
+
+    ghost view = { λ s. record {
+      left = drop s.position s.bytes;
+      pieces = s.pieces;
+      fails = s.fails;
+      calls =
+          s.calls;
+      reads = s.reads;
+      faults = s.faults;
+    } };
+
+    ghost invariant = { λ s. s.position ≤ length s.bytes };
+}
+
+impl MemorySource {
+    /// A source of these bytes. Its call of number i, from 0, gives at most `pieces[i]` bytes,
+    /// where 0 counts as 1; past the list, as many as fit. The calls whose numbers are in `fails`
+    /// fail and take nothing.
+    pub fn new(bytes: PgBytes, pieces: PgList<usize>, fails: PgList<u64>) -> MemorySource
+        ensures left { result.left ≡ bytes }
+        ensures pieces { result.pieces ≡ pieces }
+        ensures fails { result.fails ≡ fails }
+        ensures calls { result.calls ≡ 0 }
+        ensures reads { result.reads ≡ 0 }
+        ensures faults { result.faults ≡ 0 }
+    {
+        MemorySource {
+            bytes,
+            position: 0,
+            pieces,
+            fails,
+            calls: 0,
+            reads: 0,
+            faults: 0,
+        }
+    }
+}
+
+/// The most that a call gives into so much room.
+fn most_given(piece: Option<usize>, room: usize) -> usize
+    ensures { result ≡ most_of piece room }
+{
+    match piece {
+        None => room,
+        Some(piece) => piece.max(1).min(room),
+    }
+}
+
+/// Copies as many bytes as are there, are asked for and fit, and answers their number.
+fn copy_front(from: &[u8], most: usize, into: &mut [u8]) -> usize
+    requires { most ≤ length into.old }
+    ensures count { result ≡ min most (length from.now) }
+    ensures front { take result into.new ≡ take result from.now }
+{
+    let n = most.min(from.len());
+    into[..n].copy_from_slice(&from[..n]);
+    n
+}
+
+impl Source for MemorySource {
+    ghost left = { λ s. Some s.left };
+
+    ghost reads = { λ s. s.reads };
+
+    ghost faults = { λ s. s.faults };
+
+    fn receive(&mut self, into: &mut [u8]) -> Result<usize, SourceFailed>
+        requires { 0 < length into.old }
+        ensures answer { result ≡ received self.old (length into.old) }
+        ensures next { IsNextCall (is_err result) self.old self.new }
+        ensures fits { IfOk result (λ n. n ≤ length into.old) }
+        ensures bytes { IfOk result (λ n. GivesFront n into.new self.old.left
+            (Some self.new.left)) }
+        ensures counts { self.new.reads ≡ reads_after result self.old.reads }
+        ensures failed { OnErr result (HasRisen self.old.faults self.new.faults) }
+        ensures untouched { OnErr result (self.new.left ≡ self.old.left) }
+        ensures calm { OnOk result (self.new.faults ≡ self.old.faults) }
+        ensures never_falls { self.old.faults ≤ self.new.faults }
+    {
+        let call = self.calls;
+        self.calls = call.saturating_add(1);
+        if self.fails.as_slice().contains(&call) {
+            self.faults = self.faults.saturating_add(1);
+            return Err(SourceFailed {});
+        }
+        let piece = self.pieces.as_slice().get(call as usize).copied();
+        let most = most_given(piece, into.len());
+        let n = copy_front(&self.bytes.as_slice()[self.position..], most, into);
+        self.position += n;
+        if n > 0 {
+            self.reads = self.reads.saturating_add(1);
+        }
+        Ok(n)
+    }
+}
+
+/// A sink that keeps what is written in memory, and fails as it is told.
+#[derive(Drop)]
+pub struct MemorySink {
+    bytes: Vec<u8>,
+    fails: PgList<(u64, usize)>,
+    calls: u64,
+    faults: u64,
+}
+
+impl Model for MemorySink {
+    ghost use Rattle.pg_streams.specs.Memory.{Drain};
+
+    ghost Value = { Drain };
+
+    ghost view = { λ s. record {
+      bytes = s.bytes.items;
+      fails = s.fails;
+      calls = s.calls;
+      faults = s.faults;
+    } };
+}
+
+impl MemorySink {
+    /// A sink to which nothing was written. Its calls, numbered from 0, whose numbers are in
+    /// `fails` fail after they took the number of bytes that stands beside, at most the piece.
+    pub fn new(alloc: Global, fails: PgList<(u64, usize)>) -> MemorySink
+        ensures bytes { result.bytes ≡ [] }
+        ensures fails { result.fails ≡ fails }
+        ensures calls { result.calls ≡ 0 }
+        ensures faults { result.faults ≡ 0 }
+    {
+        MemorySink {
+            bytes: Vec::new(alloc),
+            fails,
+            calls: 0,
+            faults: 0,
+        }
+    }
+
+    /// All that was written.
+    pub fn bytes(&self) -> &[u8]
+        ensures { result.now ≡ self.now.bytes }
+    {
+        self.bytes.as_slice()
+    }
+}
+
+/// The entry of this call among those that fail, if there is one.
+fn told_failure(fails: &[(u64, usize)], call: u64) -> Option<(u64, usize)>
+    ensures { result ≡ find (λ f. f.0 == call) fails.now }
+{
+    fails.iter().copied().find(|f| f.0 == call)
+}
+
+impl Sink for MemorySink {
+    ghost written = { λ s. Some s.bytes };
+
+    ghost faults = { λ s. s.faults };
+
+    fn send(&mut self, bytes: &[u8]) -> Result<(), SinkError>
+        ensures taken { TakesAsTold (told_to_fail self.old) result self.old.bytes self.new.bytes
+            bytes.now }
+        ensures fails { self.new.fails ≡ self.old.fails }
+        ensures calls { self.new.calls ≡ raised self.old.calls }
+        ensures faults { self.new.faults ≡ counted (is_fault result) self.old.faults }
+        ensures ok { OnOk result (GrowsBy (Some self.old.bytes) (Some self.new.bytes) bytes.now) }
+        ensures err { OnErr result (GrowsByFront (Some self.old.bytes) (Some self.new.bytes)
+            bytes.now) }
+        ensures failed { IsErrOf result SinkError.Failed
+            → HasRisen self.old.faults self.new.faults }
+        ensures no_memory { IsErrOf result SinkError.NoMemory → self.new.faults ≡ self.old.faults }
+        ensures calm { OnOk result (self.new.faults ≡ self.old.faults) }
+        ensures never_falls { self.old.faults ≤ self.new.faults }
+    {
+        let call = self.calls;
+        self.calls = call.saturating_add(1);
+        match told_failure(self.fails.as_slice(), call) {
+            None => self.append(bytes),
+            Some((_, n)) => {
+                self.append(&bytes[..n.min(bytes.len())])?;
+                self.faults = self.faults.saturating_add(1);
+                Err(SinkError::Failed)
+            }
+        }
+    }
+}
+
+impl MemorySink {
+    /// Appends bytes, and without memory none of them.
+    fn append(&mut self, bytes: &[u8]) -> Result<(), SinkError>
+        ensures ok { OnOk result (self.new
+            ≡ record self.old { bytes = self.old.bytes ++ bytes.now }) }
+        ensures err { IfErr result (λ e. (e ≡ SinkError.NoMemory) × (self.new ≡ self.old)) }
+    {
+        match self.bytes.extend_from_slice(bytes) {
+            Ok(()) => Ok(()),
+            Err(_) => Err(SinkError::NoMemory),
+        }
+    }
+}

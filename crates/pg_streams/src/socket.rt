@@ -1,0 +1,145 @@
+//! Sockets: the sources and sinks over them. What goes over a socket no clause tells.
+
+ghost use Rattle.std.specs.Prelude.{◌≡◌, None, ◌≤◌, ◌<◌, length, IfOk, OnOk, OnErr, IsErrOf};
+ghost use Rattle.std.specs.Io.KnownBytes.{ReadConsumes, Appends};
+ghost use Rattle.std.specs.Result.{is_err};
+ghost use Rattle.pg_session.specs.Streams.{HasRisen, reads_after};
+ghost use Rattle.pg_streams.specs.Memory.{counted};
+ghost use Rattle.pg_streams.specs.Sockets.{reads_of, faults_of};
+
+use crate::adapters::write_whole;
+use pg_session::{Sink, SinkError, Source, SourceFailed};
+use std::io::{Read, Write};
+use std::net::TcpStream;
+use std::os::unix::net::UnixStream;
+
+/// A stream, and counts of what was done with it. A count stands still at the greatest `u64`.
+#[derive(Drop)]
+pub struct Counted<T> {
+    /// The stream.
+    pub stream: T,
+    /// How many reads gave at least one byte.
+    pub reads: u64,
+    /// How many calls failed.
+    pub faults: u64,
+}
+
+impl<T> Counted<T> {
+    /// A stream with which nothing was done yet.
+    pub fn new(stream: T) -> Counted<T>
+        ensures reads { result.reads ≡ 0 }
+        ensures faults { result.faults ≡ 0 }
+        ensures stream { result.stream ≡ stream }
+    {
+        Counted {
+            stream,
+            reads: 0,
+            faults: 0,
+        }
+    }
+}
+
+/// A connection, whose bytes go as they are: the negotiation of TLS is refused.
+#[derive(Drop)]
+pub enum MaybeTls {
+    /// Over TCP.
+    Plain(Counted<TcpStream>),
+    /// Over a Unix socket.
+    Unix(Counted<UnixStream>),
+}
+
+impl<T: Read> Counted<T> {
+    /// Reads once, and counts.
+    fn receive(&mut self, into: &mut [u8]) -> Result<usize, SourceFailed>
+        requires { 0 < length into.old }
+        // what is known of the stream's bytes goes on
+        ensures reader { ReadConsumes (T.remaining self.old.stream)
+            (T.remaining self.new.stream) result into.new }
+        ensures fits { IfOk result (λ n. n ≤ length into.old) }
+        ensures counts { self.new.reads ≡ reads_after result self.old.reads }
+        ensures faults { self.new.faults ≡ counted (is_err result) self.old.faults }
+        ensures failed { OnErr result (HasRisen self.old.faults self.new.faults) }
+        ensures calm { OnOk result (self.new.faults ≡ self.old.faults) }
+        ensures never_falls { self.old.faults ≤ self.new.faults }
+    {
+        match self.stream.read(into) {
+            Ok(n) => {
+                if n > 0 {
+                    self.reads = self.reads.saturating_add(1);
+                }
+                Ok(n)
+            }
+            Err(_) => {
+                self.faults = self.faults.saturating_add(1);
+                Err(SourceFailed {})
+            }
+        }
+    }
+}
+
+impl<T: Write> Counted<T> {
+    /// Writes all bytes and flushes, and counts.
+    fn send(&mut self, bytes: &[u8]) -> Result<(), SinkError>
+        // what is known of the stream's bytes grows by all of them
+        ensures writer { OnOk result (Appends (T.contents self.old.stream)
+            (T.contents self.new.stream) bytes.now) }
+        ensures reads { self.new.reads ≡ self.old.reads }
+        ensures faults { self.new.faults ≡ counted (is_err result) self.old.faults }
+        ensures failed { OnErr result (HasRisen self.old.faults self.new.faults) }
+        ensures no_memory { IsErrOf result SinkError.NoMemory → ⊥ }
+        ensures calm { OnOk result (self.new.faults ≡ self.old.faults) }
+        ensures never_falls { self.old.faults ≤ self.new.faults }
+    {
+        if write_whole(&mut self.stream, bytes) {
+            Ok(())
+        } else {
+            self.faults = self.faults.saturating_add(1);
+            Err(SinkError::Failed)
+        }
+    }
+}
+
+impl Source for MaybeTls {
+    ghost use Rattle.pg_streams.specs.Sockets.{reads_of, faults_of};
+
+    ghost left = { λ _. None };
+
+    ghost reads = { reads_of };
+
+    ghost faults = { faults_of };
+
+    fn receive(&mut self, into: &mut [u8]) -> Result<usize, SourceFailed>
+        requires { 0 < length into.old }
+        ensures fits { IfOk result (λ n. n ≤ length into.old) }
+        ensures counts { reads_of self.new ≡ reads_after result (reads_of self.old) }
+        ensures faults { faults_of self.new ≡ counted (is_err result) (faults_of self.old) }
+        ensures failed { OnErr result (HasRisen (faults_of self.old) (faults_of self.new)) }
+        ensures never_falls { faults_of self.old ≤ faults_of self.new }
+    {
+        match self {
+            MaybeTls::Plain(socket) => socket.receive(into),
+            MaybeTls::Unix(socket) => socket.receive(into),
+        }
+    }
+}
+
+impl Sink for MaybeTls {
+    ghost use Rattle.pg_streams.specs.Sockets.{faults_of};
+
+    ghost written = { λ _. None };
+
+    ghost faults = { faults_of };
+
+    fn send(&mut self, bytes: &[u8]) -> Result<(), SinkError>
+        ensures reads { reads_of self.new ≡ reads_of self.old }
+        ensures faults { faults_of self.new ≡ counted (is_err result) (faults_of self.old) }
+        ensures failed { OnErr result (HasRisen (faults_of self.old) (faults_of self.new)) }
+        ensures no_memory { IsErrOf result SinkError.NoMemory → ⊥ }
+        ensures never_falls { faults_of self.old ≤ faults_of self.new }
+    {
+        match self {
+            MaybeTls::Plain(socket) => socket.send(bytes),
+            MaybeTls::Unix(socket) => socket.send(bytes),
+        }
+    }
+}
