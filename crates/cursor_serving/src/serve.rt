@@ -14,7 +14,7 @@ ghost use Rattle.relation_tables.specs.RelationHandler.{relation_handlers};
 ghost use Rattle.cursor_serving.specs.Serving.{WentByCursors};
 
 use cursor_session::CursorSession;
-use pg_engine::{Conversation, serve};
+use pg_engine::serve_whole;
 use pg_handlers::NoopHandler;
 use pg_portal::{MemPortalStore, PortalStore};
 use pg_session::{
@@ -161,45 +161,4 @@ fn front_at<
     let (pid, key) = desk.identity();
     let key = key.copy_of()?;
     CursorSession::new(alloc, handlers, store, pid, key)
-}
-
-/// Serves a client by a conversation of its own, as [`serve`] does, and lets the conversation go.
-fn serve_whole<C: Conversation + Drop, D: CancelDesk, S: Source, K: Sink>(
-    alloc: Global,
-    mut conversation: C,
-    desk: &mut D,
-    source: &mut S,
-    sink: &mut K,
-    turn_limit: u64,
-) -> Result<EndKind, ServeError>
-    requires open { (C.told conversation).is_open ≡ true }
-    requires rest { (C.told conversation).rest ≡ [] }
-    requires unsent { (C.told conversation).unsent ≡ [] }
-    ensures went { (calls : List DeskCall)
-        × ((D.told desk.new).calls ≡ (D.told desk.old).calls ++ calls)
-        × WentSo (C.told conversation).rules (C.told conversation).state
-        result (S.left source.old) (S.left source.new) (K.written sink.old) (K.written sink.new)
-        calls }
-    ensures cause { HasCause result turn_limit
-        (questions_since (D.told desk.old).calls (D.told desk.new).calls)
-        (counts_of S.reads S.faults K.faults source.old sink.old)
-        (counts_of S.reads S.faults K.faults source.new sink.new) }
-    ensures last { IfOk result (EndsAtLast (C.told conversation).rules
-        (C.told conversation).state
-        (S.left source.old) (S.left source.new)) }
-    ensures taken { IfOk result (IsRunOverTaken (C.told conversation).rules
-        (C.told conversation).state
-        (S.left source.old) (S.left source.new) (K.written sink.old) (K.written sink.new)
-        (D.told desk.old).calls (D.told desk.new).calls) }
-    ensures calm { OnOk result (IsCalm (counts_of S.reads S.faults K.faults source.old sink.old)
-        (counts_of S.reads S.faults K.faults source.new sink.new)) }
-    ensures never_falls { FaultsNeverFall (counts_of S.reads S.faults K.faults source.old sink.old)
-        (counts_of S.reads S.faults K.faults source.new sink.new) }
-    ensures reads { ReadsGaveBytes (S.left source.old) (S.left source.new) (S.reads source.old)
-        (S.reads source.new) }
-    ensures registration { GoesOn (D.told desk.old) (D.told desk.new) }
-    ensures source { S.origin source.new ≡ S.origin source.old }
-    ensures sink { K.origin sink.new ≡ K.origin sink.old }
-{
-    serve(alloc, &mut conversation, desk, source, sink, turn_limit)
 }

@@ -110,7 +110,7 @@ fn session_at<
 }
 
 /// Serves a client by a conversation of its own, as [`serve`] does, and lets the conversation go.
-fn serve_whole<C: Conversation + Drop, D: CancelDesk, S: Source, K: Sink>(
+pub fn serve_whole<C: Conversation + Drop, D: CancelDesk, S: Source, K: Sink>(
     alloc: Global,
     mut conversation: C,
     desk: &mut D,

@@ -6,4 +6,4 @@ mod conversation;
 mod engine;
 
 pub use conversation::Conversation;
-pub use engine::{serve, serve_connection};
+pub use engine::{serve, serve_connection, serve_whole};

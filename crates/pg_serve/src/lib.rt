@@ -9,7 +9,7 @@ mod process;
 
 pub use desk::HandleDesk;
 pub use flaky::FlakyDesk;
-pub use pg_engine::{Conversation, serve, serve_connection};
+pub use pg_engine::{Conversation, serve, serve_connection, serve_whole};
 pub use pg_streams::{
     AcceptFailed, Acceptor, Counted, Job, KeySource, Listener, Listening, MaybeTls, MemorySink,
     MemorySource, RandomKeys, ReaderSource, SocketAcceptor, SpawnFailed, Spawner, WriterSink,
