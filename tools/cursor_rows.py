@@ -1,21 +1,10 @@
-#!/usr/bin/env python3
-"""Writes the rows of cursor commands, crates/cursor_rows/stdin: queries with the commands that they are, and replies with
-what commands make of them.
-
-    python3 tools/cursor_rows.py > crates/cursor_rows/stdin
+"""The rows of cursor commands, for tools/word_rows.py: queries with the commands that they are, and replies with what commands
+make of them.
 
 Both rules stand here once more, over a query's words and over replies as pairs of a type and a body.
 """
 import re
 import struct
-
-HEAD = """\
-# A row: its name | what is asked | a query | bytes | the answer. Made by tools/cursor_rows.py.
-# In a query `\\s`, `\\t`, `\\n`, `\\v`, `\\f` and `\\r` are whitespace, the bytes 20 and 09 to 0D. Bytes are
-# hexadecimal digits in words; a word `N*DIGITS` stands for its bytes N times.
-# read: the command that the query is, `declare NAME RELATION`, `fetch LIMIT NAME`, `close NAME`, or `none`. replies: what
-# the command makes of the bytes, which are the replies to its messages.
-"""
 
 
 def command_of(query):
@@ -79,7 +68,7 @@ def replies_of(command, frames):
 def read(name, query):
     command = command_of(query)
     answer = " ".join(command) if command else "none"
-    print(f"{name} | read | {shown(query)} | | {answer}")
+    print(f"{name} | command | {shown(query)} | {answer}")
 
 
 def replies(name, query, frames):
@@ -99,9 +88,8 @@ def row(text):
 YEAR, HALF, MONTH = row("1 year 1 mon 1 day 01:10:15"), row("-00:00:00.500000"), row("-1 mons 2 days 00:00:03")
 
 
-def main():
-    print(HEAD)
-    print("# ---- cursor life and cursor refusals")
+def print_rows():
+    print("\n# ---- cursor life and cursor refusals")
     for query in ["DECLARE c CURSOR FOR shifts", "fetch 2 from c;", "FETCH ALL FROM c", "CLOSE c", "FETCH 1 FROM nosuch",
                   "FETCH 0 FROM c", "DECLARE c CURSOR FOR nosuch", "FETCH 1 FROM c"]:
         read(query, query)
@@ -169,7 +157,3 @@ def main():
     print("\n# ---- replies to CLOSE")
     replies("closed", "CLOSE c", [CLOSED, IDLE])
     replies("closed in a transaction", "CLOSE c", [CLOSED, TRANSACTION])
-
-
-if __name__ == "__main__":
-    main()

@@ -1,20 +1,10 @@
-#!/usr/bin/env python3
-"""Writes the rows of recordings, crates/replay_rows/stdin: recordings made by the layout of their text, and damaged ones.
-
-    python3 tools/replay_rows.py > crates/replay_rows/stdin
+"""The rows of recordings, for tools/word_rows.py: recordings made by the layout of their text, and damaged ones.
 
 The layout stands here once more, field by field, so that each field can be cut and each of its values turned. The
 sessions' bytes are those of the rows of crates/conversation_rows/stdin that are written in hexadecimal.
 """
 import os
 import struct
-
-HEAD = """\
-# A row: its name | what is asked | bytes | the answer. Made by tools/replay_rows.py.
-# Bytes are hexadecimal digits in words; a word `N*DIGITS` stands for its bytes N times.
-# read: `ok` where the bytes are read as a recording and written as these bytes again, or the refusal: `truncated`,
-# `bad field PLACE`, `trailing PLACE`. fronts: the same of every front of the bytes but the whole, which is told once.
-"""
 
 
 def int32(n):
@@ -111,7 +101,7 @@ def cuts(title, made):
     at = 0
     for place, (name, field) in enumerate(made):
         for kept in range(len(field)) if len(field) <= 8 else (0, 1, len(field) - 1):
-            row(f"{title}: field {place}, {name}, with {kept} of {len(field)} bytes", "read",
+            row(f"{title}: field {place}, {name}, with {kept} of {len(field)} bytes", "recording",
                 text(made[:place]) + field[:kept], "truncated")
         at += len(field)
 
@@ -125,37 +115,36 @@ def turned(title, made):
         if name == "tag":
             for i in range(4):
                 other = bytes(b ^ 1 if i == j else b for j, b in enumerate(field))
-                row(f"{here}, byte {i} turned", "read", changed(made, place, other), "bad field 0")
+                row(f"{here}, byte {i} turned", "recording", changed(made, place, other), "bad field 0")
         elif name.endswith("key length"):
             for length in (0, 3, 257, 260, 32767, 32768, 65535):
-                row(f"{here} {length}", "read", changed(made, place, uint(length, 2)), f"bad field {at}")
+                row(f"{here} {length}", "recording", changed(made, place, uint(length, 2)), f"bad field {at}")
         elif name in ("client count", "reply count"):
             for count in (behind + 1, 2**31, 2**32 - 1, 2**32, 2**63 - 1, 2**63, 2**64 - 1):
-                row(f"{here} {count}", "read", changed(made, place, uint(count, 8)), "truncated")
+                row(f"{here} {count}", "recording", changed(made, place, uint(count, 8)), "truncated")
         elif name == "call":
             for byte in (6, 7, 127, 128, 255):
-                row(f"{here} byte {byte}", "read", changed(made, place, uint(byte, 1)), f"bad field {at}")
+                row(f"{here} byte {byte}", "recording", changed(made, place, uint(byte, 1)), f"bad field {at}")
         elif name == "end":
             for byte in (5, 6, 127, 128, 255):
-                row(f"{here} byte {byte}", "read", changed(made, place, uint(byte, 1)), f"bad field {at}")
+                row(f"{here} byte {byte}", "recording", changed(made, place, uint(byte, 1)), f"bad field {at}")
         at += len(field)
 
 
-def main():
-    print(HEAD)
-    print("# ---- good recordings")
-    row("empty recording", "read", text(EMPTY), "ok")
-    row("recording of the first path", "read", text(FIRST), "ok")
-    row("recording with each call", "read", text(CALLS), "ok")
-    row("recording with keys of 256 bytes", "read", text(LONG), "ok")
+def print_rows():
+    print("\n# ---- good recordings")
+    row("empty recording", "recording", text(EMPTY), "ok")
+    row("recording of the first path", "recording", text(FIRST), "ok")
+    row("recording with each call", "recording", text(CALLS), "ok")
+    row("recording with keys of 256 bytes", "recording", text(LONG), "ok")
     for length in (5, 8, 255, 256):
-        row(f"empty recording under a key of {length} bytes", "read",
+        row(f"empty recording under a key of {length} bytes", "recording",
             text(fields(7, LONG_KEY[:length], b"", [], b"", "InputEnd")), "ok")
     for call in ("start", ("ask", False), ("ask", True), "narrow", ("cancel", 7, KEY, False), ("cancel", 7, KEY, True)):
         title = call if isinstance(call, str) else f"{call[0]} {'yes' if call[-1] else 'no'}"
-        row(f"recording with one {title}", "read", text(fields(7, KEY, b"", [call], b"", "InputEnd")), "ok")
+        row(f"recording with one {title}", "recording", text(fields(7, KEY, b"", [call], b"", "InputEnd")), "ok")
     for end in ENDS:
-        row(f"empty recording that ends {end}", "read", text(fields(7, KEY, b"", [], b"", end)), "ok")
+        row(f"empty recording that ends {end}", "recording", text(fields(7, KEY, b"", [], b"", end)), "ok")
     print("\n# ---- every front of good recordings")
     row("empty recording", "fronts", text(EMPTY), "truncated")
     row("recording of the first path", "fronts", text(FIRST), "truncated")
@@ -163,8 +152,8 @@ def main():
     row("recording with keys of 256 bytes", "fronts", text(LONG), "truncated")
     print("\n# ---- bytes behind the end")
     for title, made in (("empty", EMPTY), ("first path", FIRST), ("each call", CALLS), ("long keys", LONG)):
-        row(f"{title}: a byte more", "read", text(made) + b"\0", f"trailing {len(text(made))}")
-        row(f"{title}: twice", "read", text(made) * 2, f"trailing {len(text(made))}")
+        row(f"{title}: a byte more", "recording", text(made) + b"\0", f"trailing {len(text(made))}")
+        row(f"{title}: twice", "recording", text(made) * 2, f"trailing {len(text(made))}")
     print("\n# ---- fields cut at each byte")
     cuts("empty", EMPTY)
     cuts("each call", CALLS)
@@ -176,17 +165,13 @@ def main():
     front = text(EMPTY[:place])
     for count in (9, 10, 2**31 - 1, 2**31, 2**32 - 1):
         # the eight bytes of the reply count, which are zero, are read as starts, and the end as a question
-        row(f"empty: call count {count}", "read", changed(EMPTY, place, uint(count, 4)), "truncated")
-    row("more calls than bytes left, and then an unknown byte", "read", front + uint(2**32 - 1, 4) + b"\0\0\7",
+        row(f"empty: call count {count}", "recording", changed(EMPTY, place, uint(count, 4)), "truncated")
+    row("more calls than bytes left, and then an unknown byte", "recording", front + uint(2**32 - 1, 4) + b"\0\0\7",
         f"bad field {len(front) + 6}")
-    row("fewer calls than there are", "read", changed(CALLS, [n for n, _ in CALLS].index("call count"), uint(5, 4)),
+    row("fewer calls than there are", "recording", changed(CALLS, [n for n, _ in CALLS].index("call count"), uint(5, 4)),
         "truncated")
     print("\n# ---- what comes first from the left")
-    row("two bytes that begin no recording", "read", b"XX", "truncated")
-    row("a bad tag with nothing behind it", "read", b"PGR2", "bad field 0")
-    row("a bad key length with nothing behind it", "read", text(EMPTY[:2]) + b"\0\3", "bad field 8")
-    row("a bad end with a byte behind it", "read", text(EMPTY)[:-1] + b"\5\0", "bad field 34")
-
-
-if __name__ == "__main__":
-    main()
+    row("two bytes that begin no recording", "recording", b"XX", "truncated")
+    row("a bad tag with nothing behind it", "recording", b"PGR2", "bad field 0")
+    row("a bad key length with nothing behind it", "recording", text(EMPTY[:2]) + b"\0\3", "bad field 8")
+    row("a bad end with a byte behind it", "recording", text(EMPTY)[:-1] + b"\5\0", "bad field 34")

@@ -1,17 +1,28 @@
 #!/usr/bin/env python3
-"""Writes the rows of words of the command line, crates/word_rows/stdin: words, and what they order.
+"""Writes the rows of words of the command line, of recordings and of commands of cursors, crates/word_rows/stdin.
 
-    python3 tools/word_rows.py > crates/word_rows/stdin
+    python3 -B tools/word_rows.py > crates/word_rows/stdin
 
-The rules for words stand here once more, over Python's integers and texts.
+The rules for words stand here once more, over Python's integers and texts; those of recordings stand in tools/replay_rows.py,
+and those of commands of cursors in tools/cursor_rows.py.
 """
 import re
 
+import cursor_rows
+import replay_rows
+
 HEAD = """\
-# A row: its name|words|what they order. Made by tools/word_rows.py. Words stand apart by single spaces, so an empty one stands
-# between two spaces, or behind the last; `-` is no word.
-# serve FILE PID KEY TURNS, KEY in small digits; demo FILE SEED N; tcp PORT FILE COUNT; unix PATH FILE COUNT; or usage FILE
-# COUNT. FILE is what the words tell as their file, COUNT as their bound, both as Rust's `Debug` shows them.
+# A row: its name | what is asked | what is given | the answer. Made by tools/word_rows.py. What is asked is one of these:
+# order|WORDS: what words of the server's command line order. They stand apart by single spaces, so an empty one stands between
+# two spaces, or behind the last; `-` is no word. The answer is serve FILE PID KEY TURNS, KEY in small digits; demo FILE SEED N;
+# tcp PORT FILE COUNT; unix PATH FILE COUNT; or usage FILE COUNT. FILE is what the words tell as their file, COUNT as their
+# bound, both as Rust's `Debug` shows them.
+# recording | BYTES: `ok` where the bytes are read as a recording and written as these bytes again, or the refusal:
+# `truncated`, `bad field PLACE`, `trailing PLACE`. fronts | BYTES: the same of every front of the bytes but the whole, which is
+# told once. Bytes are hexadecimal digits in words; a word `N*DIGITS` stands for its bytes N times.
+# command | QUERY: the command that the query is, `declare NAME RELATION`, `fetch LIMIT NAME`, `close NAME`, or `none`. In a
+# query `\\s`, `\\t`, `\\n`, `\\v`, `\\f` and `\\r` are whitespace, the bytes 20 and 09 to 0D. replies | QUERY | BYTES: what the
+# command makes of the bytes, which are the replies to its messages.
 """
 TURNS = 10**9
 
@@ -88,11 +99,10 @@ LENGTHS = [0, 1, 2, 6, 7, 8, 9, 10, 11, 16, 255, 256, 510, 511, 512, 513, 514, 5
 
 def row(name, text):
     words = [] if text == "-" else text.split(" ")
-    print(f"{name}|{text}|{order(words)}")
+    print(f"{name}|order|{text}|{order(words)}")
 
 
-def main():
-    print(HEAD)
+def print_rows():
     for title, texts in [("serve", SERVE), ("demo", DEMO), ("listen", LISTEN), ("no command", ["-", "", " "])]:
         print(f"# ---- {title}")
         for text in texts:
@@ -107,4 +117,12 @@ def main():
             row(f"a key of {length} digits, of which one at {wrong} is none", f"serve f 7 {digits[:wrong]}g{digits[wrong + 1:]}")
 
 
-main()
+def main():
+    print(HEAD)
+    print_rows()
+    replay_rows.print_rows()
+    cursor_rows.print_rows()
+
+
+if __name__ == "__main__":
+    main()

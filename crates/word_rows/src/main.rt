@@ -1,16 +1,21 @@
-//! Rows of words of the server's command line, as data on standard input: each is judged, and a
-//! line tells whether the words order what the row expects. The head of `stdin` has the format.
+//! Rows of what the programs read beside the messages of a conversation: the words of the server's
+//! command line, recordings, and commands of cursors. They are data on standard input; each is
+//! judged, and a line tells whether the answer is the one that the row expects. The head of `stdin`
+//! has the format.
 #![tactic(auto)]
 
+mod cursors;
 mod orders;
+mod recordings;
 
-use crate::orders::order_of;
-use pg_messages::{PgList, PgStr};
-use row_files::{Fault, Judge, judge_lines, next_part, unexpected};
-use std::alloc::{AllocError, Global};
+use crate::cursors::{command_answer, replies_answer};
+use crate::orders::order_answer;
+use crate::recordings::{fronts_answer, recording_answer};
+use row_files::{Fault, Judge, judge_lines, last_part, next_part, unexpected};
+use std::alloc::Global;
 use std::io;
 
-/// Judges rows of words.
+/// Judges rows of words, recordings and commands.
 struct WordRows;
 
 impl Judge for WordRows {
@@ -20,28 +25,24 @@ impl Judge for WordRows {
         _text: &'t str,
         row: &'t str,
     ) -> Result<Option<String>, Fault<'t>> {
-        let (_name, rest) = next_part(row)?;
-        let (words, expected) = next_part(rest)?;
-        let order = order_told(alloc, words)?;
-        Ok(unexpected(order, expected.as_bytes()))
+        let (parts, expected) = last_part(row)?;
+        let (_name, parts) = next_part(parts)?;
+        let (asked, given) = next_part(parts)?;
+        let answer = answer_of(alloc, asked.trim(), given)?;
+        Ok(unexpected(answer, expected.trim().as_bytes()))
     }
 }
 
-/// What the words of a text order.
-fn order_told(alloc: Global, words: &str) -> Result<String, AllocError> {
-    let words = words_of(alloc, words)?;
-    order_of(alloc, words.as_slice())
-}
-
-/// The words, which stand apart by single spaces; `-` is no word.
-fn words_of(alloc: Global, text: &str) -> Result<PgList<PgStr>, AllocError> {
-    let mut words = PgList::new(alloc);
-    if text != "-" {
-        for word in text.split(" ") {
-            words.push(PgStr::copy_of(alloc, word)?)?;
-        }
+/// The answer to what a row asks of what it gives.
+fn answer_of<'t>(alloc: Global, asked: &'t str, given: &'t str) -> Result<String, Fault<'t>> {
+    match asked {
+        "order" => Ok(order_answer(alloc, given)?),
+        "recording" => recording_answer(alloc, given),
+        "fronts" => fronts_answer(alloc, given),
+        "command" => command_answer(alloc, given),
+        "replies" => replies_answer(alloc, given),
+        _ => Err(Fault::Line(asked)),
     }
-    Ok(words)
 }
 
 fn main(rt: HostRuntime) -> io::Result<()> {

@@ -1,14 +1,31 @@
-//! What words order, as a line.
+//! What words of the command line order, as a line.
 
-use pg_messages::PgStr;
+use pg_messages::{PgList, PgStr};
 use relation_words::{
     Command, ListenPlace, Load, Service, file_word, listen_count, listen_place, read_command,
 };
 use row_files::push_digits;
 use std::alloc::{AllocError, Global};
 
+/// What the words of a text order.
+pub fn order_answer(alloc: Global, text: &str) -> Result<String, AllocError> {
+    let words = words_of(alloc, text)?;
+    order_of(alloc, words.as_slice())
+}
+
+/// The words, which stand apart by single spaces; `-` is no word.
+fn words_of(alloc: Global, text: &str) -> Result<PgList<PgStr>, AllocError> {
+    let mut words = PgList::new(alloc);
+    if text != "-" {
+        for word in text.split(" ") {
+            words.push(PgStr::copy_of(alloc, word)?)?;
+        }
+    }
+    Ok(words)
+}
+
 /// What the words order.
-pub fn order_of(alloc: Global, words: &[PgStr]) -> Result<String, AllocError> {
+fn order_of(alloc: Global, words: &[PgStr]) -> Result<String, AllocError> {
     let file = file_word(words);
     match read_command(alloc, words)? {
         Some(Command::Serve(service)) => service_line(alloc, file, &service),

@@ -2,25 +2,37 @@
 
 use bytes::BytesMut;
 use cursor_commands::{CursorCommand, put_replies, read_cursor};
-use row_files::{Fault, hex_words, part, push_digits, unescaped};
+use row_files::{Fault, hex_words, next_part, push_digits, unescaped};
 use std::alloc::{AllocError, Global};
 
-/// The answer to what a row asks of its query.
-pub fn answer_of<'t>(alloc: Global, row: &'t str) -> Result<String, Fault<'t>> {
-    let query = unescaped(alloc, part(row, 2)?)?;
-    let Ok(query) = str::from_utf8(query.as_slice()) else {
-        return Err(Fault::Line(row));
-    };
-    match part(row, 1)? {
-        "read" => Ok(command_answer(alloc, query)?),
-        "replies" => replies_answer(alloc, query, row),
-        other => Err(Fault::Line(other)),
+/// The command that a query is: `declare NAME RELATION`, `fetch LIMIT NAME`, `close NAME`; `none`
+/// where it is none.
+pub fn command_answer<'t>(alloc: Global, given: &'t str) -> Result<String, Fault<'t>> {
+    let query = query_of(alloc, given)?;
+    Ok(command_told(alloc, query.as_str())?)
+}
+
+/// What a query's command makes of the replies to its messages, in hexadecimal digits.
+pub fn replies_answer<'t>(alloc: Global, given: &'t str) -> Result<String, Fault<'t>> {
+    let (query, words) = next_part(given)?;
+    let replies = hex_words(alloc, words)?;
+    match query_replied(alloc, query, replies.as_slice())? {
+        None => Err(Fault::Line(query)),
+        Some(digits) => Ok(digits),
     }
 }
 
-/// The command that the query is: `declare NAME RELATION`, `fetch LIMIT NAME`, `close NAME`; `none`
-/// where it is none.
-fn command_answer(alloc: Global, query: &str) -> Result<String, AllocError> {
+/// The query of a row, without the whitespace round it.
+fn query_of<'t>(alloc: Global, given: &'t str) -> Result<String, Fault<'t>> {
+    let bytes = unescaped(alloc, given.trim())?;
+    match str::from_utf8(bytes.as_slice()) {
+        Ok(query) => Ok(String::from_str(alloc, query)?),
+        Err(_) => Err(Fault::Line(given)),
+    }
+}
+
+/// The command that a query is, as a line.
+fn command_told(alloc: Global, query: &str) -> Result<String, AllocError> {
     match read_cursor(alloc, query)? {
         None => String::from_str(alloc, "none"),
         Some(command) => command_text(alloc, &command),
@@ -45,13 +57,14 @@ fn command_text(alloc: Global, command: &CursorCommand) -> Result<String, AllocE
     }
 }
 
-/// What the command makes of the row's replies to its messages, in hexadecimal digits.
-fn replies_answer<'t>(alloc: Global, query: &str, row: &'t str) -> Result<String, Fault<'t>> {
-    let replies = hex_words(alloc, part(row, 3)?)?;
-    match replied(alloc, query, replies.as_slice())? {
-        None => Err(Fault::Line(row)),
-        Some(digits) => Ok(digits),
-    }
+/// What the command of a row's query makes of replies; None where the query is none.
+fn query_replied<'t>(
+    alloc: Global,
+    given: &'t str,
+    replies: &[u8],
+) -> Result<Option<String>, Fault<'t>> {
+    let query = query_of(alloc, given)?;
+    Ok(replied(alloc, query.as_str(), replies)?)
 }
 
 /// What a query's command makes of replies; None where it is none.

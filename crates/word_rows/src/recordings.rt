@@ -1,17 +1,19 @@
 //! Recordings read and written again.
 
 use recording_text::{ReadError, Recording, read_recording, write_recording};
-use row_files::{Fault, hex_words, part};
+use row_files::{Fault, hex_words};
 use std::alloc::{AllocError, Global};
 
-/// The answer to what a row asks of its bytes.
-pub fn answer_of<'t>(alloc: Global, row: &'t str) -> Result<String, Fault<'t>> {
-    let bytes = hex_words(alloc, part(row, 2)?)?;
-    match part(row, 1)? {
-        "read" => Ok(read_answer(alloc, bytes.as_slice())?),
-        "fronts" => Ok(fronts_answer(alloc, bytes.as_slice())?),
-        other => Err(Fault::Line(other)),
-    }
+/// What the reader answers to the bytes of these words.
+pub fn recording_answer<'t>(alloc: Global, words: &'t str) -> Result<String, Fault<'t>> {
+    let bytes = hex_words(alloc, words)?;
+    Ok(read_answer(alloc, bytes.as_slice())?)
+}
+
+/// What the reader answers to every front of the bytes of these words.
+pub fn fronts_answer<'t>(alloc: Global, words: &'t str) -> Result<String, Fault<'t>> {
+    let bytes = hex_words(alloc, words)?;
+    Ok(answer_to_fronts(alloc, bytes.as_slice())?)
 }
 
 /// What the reader answers to the bytes: `ok` where it reads a recording whose text they are, or
@@ -45,7 +47,7 @@ fn written_again(
 
 /// What the reader answers to every front of the bytes but the whole, where that is the same; else
 /// the first that isn't `truncated`.
-fn fronts_answer(alloc: Global, bytes: &[u8]) -> Result<String, AllocError> {
+fn answer_to_fronts(alloc: Global, bytes: &[u8]) -> Result<String, AllocError> {
     for len in 0..bytes.len() {
         let answer = read_answer(alloc, &bytes[..len])?;
         if answer.as_str() != "truncated" {
