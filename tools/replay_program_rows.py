@@ -1,7 +1,4 @@
-#!/usr/bin/env python3
-"""Writes the rows of the program that records and verifies sessions, crates/replay_program_rows/stdin.
-
-    python3 -B tools/replay_program_rows.py > crates/replay_program_rows/stdin
+"""The rows of the program that records and verifies sessions, for tools/command_rows.py.
 
 A session stands here as the client's frames with the replies and the registry's calls that the conversation's rules give, and
 its recording is made by the layout of tools/replay_rows.py. Each answer is written down by the rules: the status, what goes to
@@ -14,15 +11,6 @@ from cursor_serving_rows import CANCELED, DAY, GREETING, START, TERMINATE, bind,
 from replay_rows import ENDS, KEY, LONG_KEY, fields
 from replay_rows import session as session_in_bytes
 from replay_rows import text as text_of
-
-HEAD = """\
-# A row: its name | the words | the relation file | the read of it that fails | the bytes of the input | the read of them that
-# fails | after how many bytes the first write fails | the answer. Made by tools/replay_program_rows.py. Words are split by
-# spaces, and "-" is no word. In the file \\t, \\n and \\r are these bytes, and \\x is the byte 255; "*N TEXT" is a text N times.
-# The input is hexadecimal digits; a word "N*DIGITS" stands for its bytes N times. "-" is no failure. The answer is the status,
-# then "out" and what was written, in hexadecimal digits where a zero byte is in it, then "err" and the line of errors, where
-# there are any.
-"""
 
 TABLE = ("shifts\\t0\\tspan\\n1 year 1 mon 1 day 01:10:15\\n-00:00:00.500000\\n-1 mons 2 days 00:00:03\\n\\nslow\\t2\\tspan\\n1 day\\n\\n"
          "wide\\t0\\ta\\tb\\tc\\n1 day\\t2 days\\t3 days\\n\\nnone\\t0\\tspan\\n")
@@ -103,7 +91,7 @@ UNKNOWN = of_steps([START, query("nosuch", [error("42P01", 'relation "nosuch" do
 
 
 def row(name, words, given, answer, file=TABLE, file_fails="-", fails="-", write_fails="-"):
-    print("|".join((name, words, file, file_fails, digits(given).strip(), fails, write_fails, answer)))
+    print("|".join((name, "replay", words, file, file_fails, digits(given).strip(), fails, write_fails, answer)))
 
 
 def written_out(data):
@@ -223,16 +211,11 @@ def bad_words():
     row("an empty relation file", RECORD, b"", "0" + written_out(EMPTY.recording()), file="")
 
 
-def main():
+def print_rows():
     assert len(FIRST.recording()) == 347
-    print(HEAD, end="")
     for name, s in GOOD:
         record(name, s)
     verdicts()
     unread()
     faults()
     bad_words()
-
-
-if __name__ == "__main__":
-    main()

@@ -1,19 +1,9 @@
-#!/usr/bin/env python3
-"""Writes the rows of the program that tells rotas, crates/rota_program_rows/stdin.
-
-    python3 -B tools/rota_program_rows.py > crates/rota_program_rows/stdin
+"""The rows of the program that tells rotas, for tools/command_rows.py.
 
 Each answer is written down here by the rules: the status, what goes to the output, and the line of errors. The texts of
 rotas and clashes are those of the restatement in tools/rota_rows.py.
 """
 from rota_rows import DAY, clashes, lines, read_moment, rota
-
-HEAD = """\
-# A row: its name | the words | the relation file | the read of it that fails | after how many bytes the first write fails |
-# the answer. Made by tools/rota_program_rows.py. Words are split by spaces, "~" is a space within one, and "-" is no word.
-# \\t, \\n and \\r are these bytes, and \\x is the byte 255; "*N TEXT" is a text N times; "-" is no failure. The answer is the
-# status, then "out" and what was written, then "err" and the line of errors, where there are any.
-"""
 
 SHIFTS = [(13, 1, 4215000000), (0, 0, -500000), (-1, 2, 3000000)]
 TABLE = ("shifts\\t0\\tspan\\n1 year 1 mon 1 day 01:10:15\\n-00:00:00.500000\\n-1 mons 2 days 00:00:03\\n\\nslow\\t2\\tspan\\n1 day\\n\\n"
@@ -47,6 +37,8 @@ def compared(start, steps, other, others):
 
 
 def rows():
+    """Of each row its name, the words, the relation file, the read of it that fails, after how many bytes the first write fails,
+    and the answer."""
     order = "lines f shifts span %s " % START
     for name, style in (("rota of shifts", "postgres"), ("rota of shifts, verbose", "postgres_verbose"), ("rota of shifts, ISO", "iso_8601"),
                         ("rota of shifts, SQL", "sql_standard")):
@@ -119,11 +111,7 @@ def rows():
     yield "clashes with an empty relation", "clashes f shifts span %s none span %s" % (START, START), TABLE, "-", "-", "0"
 
 
-def main():
+def print_rows():
     assert DAY == 86_400_000_000
-    print(HEAD, end="")
-    for row in rows():
-        print("|".join(row))
-
-
-main()
+    for name, words, file, file_fails, write_fails, answer in rows():
+        print("|".join((name, "rota", words, file, file_fails, "", "-", write_fails, answer)))

@@ -5,16 +5,25 @@ use pg_serve::{MemorySink, MemorySource};
 use row_files::{Fault, hex_words, parsed, push_repeated};
 use std::alloc::{AllocError, Global};
 
-/// The words, split by spaces: `-` is no word.
+/// The words, split by spaces: `~` is a space within one, and `-` is no word.
 pub fn words_of(alloc: Global, text: &str) -> Result<PgList<PgStr>, AllocError> {
     let mut words = PgList::new(alloc);
     if text == "-" {
         return Ok(words);
     }
     for word in text.split(" ") {
-        words.push(PgStr::copy_of(alloc, word)?)?;
+        words.push(word_of(alloc, word)?)?;
     }
     Ok(words)
+}
+
+/// A word, in which `~` is a space.
+fn word_of(alloc: Global, text: &str) -> Result<PgStr, AllocError> {
+    let mut word = String::new(alloc);
+    for c in text.chars() {
+        word.push(if c == '~' { ' ' } else { c })?;
+    }
+    PgStr::copy_of(alloc, word.as_str())
 }
 
 /// A file of this text, of which the read of a number fails, if one is told. `*N TEXT` is a text N

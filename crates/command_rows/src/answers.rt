@@ -1,8 +1,8 @@
 //! The answers of rows.
 
 use crate::given::{file_of, input_of, sink_of, words_of};
+use crate::running::{Program, program_of};
 use pg_messages::{PgList, PgStr};
-use pg_replay::run_replay;
 use pg_serve::{MemorySink, MemorySource};
 use row_files::{Fault, next_part, push_digits, push_shown};
 use std::alloc::{AllocError, Global};
@@ -11,6 +11,7 @@ use std::fmt::Write;
 /// What a row gives, as it tells it.
 #[derive(Clone, Copy)]
 struct Given<'t> {
+    program: Program,
     words: &'t str,
     file: &'t str,
     file_fails: &'t str,
@@ -21,12 +22,15 @@ struct Given<'t> {
 
 /// What the parts of a row give.
 fn given_of<'t>(parts: &'t str) -> Result<Given<'t>, Fault<'t>> {
+    let (program, parts) = next_part(parts)?;
+    let program = program_of(program)?;
     let (words, parts) = next_part(parts)?;
     let (file, parts) = next_part(parts)?;
     let (file_fails, parts) = next_part(parts)?;
     let (input, parts) = next_part(parts)?;
     let (input_fails, out_fails) = next_part(parts)?;
     Ok(Given {
+        program,
         words,
         file,
         file_fails,
@@ -52,31 +56,32 @@ fn answer_over<'t>(
 ) -> Result<String, Fault<'t>> {
     let mut input = input_of(alloc, given.input, given.input_fails)?;
     let mut out = sink_of(alloc, given.out_fails)?;
-    Ok(answer_to(alloc, given.words, file, &mut input, &mut out)?)
+    Ok(answer_to(alloc, given, file, &mut input, &mut out)?)
 }
 
-/// What the program tells of these words.
-fn answer_to(
+/// What the program tells of a row's words over this file and this input.
+fn answer_to<'t>(
     alloc: Global,
-    words: &str,
+    given: Given<'t>,
     file: &mut MemorySource,
     input: &mut MemorySource,
     out: &mut MemorySink,
 ) -> Result<String, AllocError> {
-    let words = words_of(alloc, words)?;
-    told(alloc, words.as_slice(), file, input, out)
+    let words = words_of(alloc, given.words)?;
+    told(alloc, given.program, words.as_slice(), file, input, out)
 }
 
 /// What the program tells.
 fn told(
     alloc: Global,
+    program: Program,
     words: &[PgStr],
     file: &mut MemorySource,
     input: &mut MemorySource,
     out: &mut MemorySink,
 ) -> Result<String, AllocError> {
     let mut err = MemorySink::new(alloc, PgList::new(alloc));
-    let status = run_replay(alloc, words, file, input, out, &mut err);
+    let status = program.run(alloc, words, file, input, out, &mut err);
     let mut answer = String::new(alloc);
     write!(answer, "{status}")?;
     put_written(&mut answer, " out ", out.bytes())?;

@@ -1,20 +1,21 @@
-//! Rows of the program that records and verifies sessions, as data on standard input: each runs the
-//! program over memory, and a line tells whether it ends as the row expects. The head of `stdin` has
-//! the format.
+//! Rows of the programs that tell rotas, and that record and verify sessions, as data on standard
+//! input: each runs its program over memory, and a line tells whether it ends as the row expects.
+//! The head of `stdin` has the format.
 #![tactic(auto)]
 
 mod answers;
 mod given;
+mod running;
 
 use crate::answers::answer_of;
 use row_files::{Fault, Judge, judge_lines, last_part, next_part, unexpected};
 use std::alloc::Global;
 use std::io;
 
-/// Judges rows of the program that records and verifies sessions.
-struct ProgramRows;
+/// Judges rows of both programs.
+struct CommandRows;
 
-impl Judge for ProgramRows {
+impl Judge for CommandRows {
     fn difference<'t>(
         &self,
         alloc: Global,
@@ -29,5 +30,5 @@ impl Judge for ProgramRows {
 }
 
 fn main(rt: HostRuntime) -> io::Result<()> {
-    judge_lines(&rt, rt.alloc(), &ProgramRows)
+    judge_lines(&rt, rt.alloc(), &CommandRows)
 }
