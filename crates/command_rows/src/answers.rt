@@ -3,7 +3,7 @@
 use crate::given::{file_of, input_of, sink_of, words_of};
 use crate::running::{Program, program_of};
 use pg_messages::{PgList, PgStr};
-use pg_serve::{MemorySink, MemorySource};
+use pg_streams::{MemorySink, MemorySource};
 use row_files::{Fault, next_part, push_digits, push_shown};
 use std::alloc::{AllocError, Global};
 use std::fmt::Write;

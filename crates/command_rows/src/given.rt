@@ -1,7 +1,7 @@
 //! What rows give: words, a relation file, an input, and where the output goes.
 
 use pg_messages::{PgBytes, PgList, PgStr};
-use pg_serve::{MemorySink, MemorySource};
+use pg_streams::{MemorySink, MemorySource};
 use row_files::{Fault, hex_words, parsed, push_repeated};
 use std::alloc::{AllocError, Global};
 

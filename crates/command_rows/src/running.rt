@@ -2,7 +2,7 @@
 
 use pg_messages::PgStr;
 use pg_replay::run_replay;
-use pg_serve::{MemorySink, MemorySource};
+use pg_streams::{MemorySink, MemorySource};
 use rota_report::run_rota;
 use row_files::Fault;
 use std::alloc::Global;
