@@ -4,9 +4,10 @@ ghost use Rattle.std.specs.Prelude.{◌≡◌};
 
 use crate::given::message_bytes;
 use crate::place::{Place, fault_of};
+use crate::sink::RowSink;
 use pg_cancel::{ConnectionHandle, ConnectionManager};
 use pg_messages::{PgBytes, PgList};
-use pg_serve::{MemorySink, MemorySource};
+use pg_serve::MemorySource;
 use pg_session::{EndKind, ServeError};
 use relation_server::{RelationTable, TableError, built_in_table, serve_relations};
 use row_files::{Fault, singles, told, up_to_one};
@@ -66,7 +67,7 @@ fn table_of<'t>(alloc: Global) -> Result<RelationTable, Fault<'t>> {
 #[derive(Drop)]
 pub struct Client {
     source: MemorySource,
-    sink: MemorySink,
+    sink: RowSink,
     turns: u64,
 }
 
@@ -128,12 +129,13 @@ fn source_of(
 }
 
 /// A sink, whose first write fails behind so many bytes, if a number is told.
-fn sink_of(alloc: Global, write_fails: Option<usize>) -> Result<MemorySink, AllocError> {
+fn sink_of(alloc: Global, write_fails: Option<usize>) -> Result<RowSink, AllocError> {
     let fails = match write_fails {
         None => None,
         Some(taken) => Some((0, taken)),
     };
-    Ok(MemorySink::new(alloc, PgList::from_vec(up_to_one(alloc, fails)?)))
+    let fails = PgList::from_vec(up_to_one(alloc, fails)?);
+    Ok(RowSink::new(alloc, fails, None))
 }
 
 /// The client whose session fails in this case.

@@ -11,9 +11,26 @@ use std::alloc::Global;
 /// A sink in memory, of which a call may fail, and a call may find no memory.
 #[derive(Drop)]
 pub struct RowSink {
-    pub sink: MemorySink,
+    sink: MemorySink,
     calls: u64,
     short_at: Option<u64>,
+}
+
+impl RowSink {
+    /// A sink of which each failure tells the number of a call and how many bytes it takes, and
+    /// whose call of the other number finds no memory.
+    pub fn new(alloc: Global, failures: PgList<(u64, usize)>, short_at: Option<u64>) -> RowSink {
+        RowSink {
+            sink: MemorySink::new(alloc, failures),
+            calls: 0,
+            short_at,
+        }
+    }
+
+    /// What was written.
+    pub fn bytes(&self) -> &[u8] {
+        self.sink.bytes()
+    }
 }
 
 impl Sink for RowSink {
@@ -57,11 +74,7 @@ fn sink_of<'t>(
     let failure = failure_of(told(lines, fails))?;
     let short_at = number_told(lines, short)?;
     let failures = PgList::from_vec(up_to_one(alloc, failure)?);
-    Ok(RowSink {
-        sink: MemorySink::new(alloc, failures),
-        calls: 0,
-        short_at,
-    })
+    Ok(RowSink::new(alloc, failures, short_at))
 }
 
 /// The number of a call, and how many bytes it takes.

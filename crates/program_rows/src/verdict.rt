@@ -129,7 +129,7 @@ fn judge_err<'t>(
     found: &mut String,
 ) -> Result<(), Fault<'t>> {
     let expected = unescaped(alloc, told(lines, "err").unwrap_or(""))?;
-    Ok(tell_err(words, err.sink.bytes(), expected.as_slice(), found)?)
+    Ok(tell_err(words, err.bytes(), expected.as_slice(), found)?)
 }
 
 fn tell_err(
@@ -155,7 +155,7 @@ fn judge_out<'t>(
     found: &mut String,
 ) -> Result<(), Fault<'t>> {
     let expected = output_told(alloc, text, lines)?;
-    Ok(tell_out(words, out.sink.bytes(), expected.as_slice(), found)?)
+    Ok(tell_out(words, out.bytes(), expected.as_slice(), found)?)
 }
 
 fn tell_out(
