@@ -2,14 +2,13 @@
 
 use crate::relations::table_of;
 use crate::serving::{Ending, Place};
-use crate::versions::VersionHandlers;
 use pg_handlers::NoopHandler;
 use pg_portal::MemPortalStore;
 use pg_serve::serve_connection;
 use pg_session::PgWireServerHandlers;
 use relation_serving::serve_relations_on;
 use row_files::{Fault, told};
-use sample_handlers::SampleHandler;
+use sample_handlers::{SampleCopying, SampleHandlers};
 use std::alloc::Global;
 use std::sync::Arc;
 
@@ -23,9 +22,8 @@ pub fn serve_told<'t>(
     match told(lines, "handlers") {
         None => serve_relations(alloc, lines, place, turns),
         Some("noop") => serve_noop(alloc, place, turns),
-        Some("sample") => serve_sample(alloc, place, turns),
-        Some("versions") => serve_versions(alloc, place, turns),
-        Some("refused_copy") => serve_refused_copy(alloc, place, turns),
+        Some("sample") => serve_sample(alloc, SampleCopying::Taken, place, turns),
+        Some("refused_copy") => serve_sample(alloc, SampleCopying::Noop, place, turns),
         Some(other) => Err(Fault::Line(other)),
     }
 }
@@ -66,33 +64,20 @@ macro_rules! serve_by {
     }};
 }
 
-/// Serves a client by the handler of sample queries.
-fn serve_sample<'t>(alloc: Global, place: &mut Place, turns: u64) -> Result<Ending, Fault<'t>> {
-    serve_by!(alloc, SampleHandler, place, turns)
-}
-
-/// Serves a client by the handler that tells which version its client speaks.
-fn serve_versions<'t>(alloc: Global, place: &mut Place, turns: u64) -> Result<Ending, Fault<'t>> {
-    serve_by!(alloc, VersionHandlers::new(), place, turns)
+/// Serves a client by the handlers of sample queries, which do this with a COPY from the client.
+fn serve_sample<'t>(
+    alloc: Global,
+    copying: SampleCopying,
+    place: &mut Place,
+    turns: u64,
+) -> Result<Ending, Fault<'t>> {
+    serve_by!(alloc, SampleHandlers::new(copying), place, turns)
 }
 
 /// Serves a client by the handler that implements nothing.
 fn serve_noop<'t>(alloc: Global, place: &mut Place, turns: u64) -> Result<Ending, Fault<'t>> {
     let handlers = NoopHandlers {
         handler: NoopHandler,
-    };
-    serve_by!(alloc, handlers, place, turns)
-}
-
-/// Serves a client by the handler of sample queries, with no COPY from the client.
-fn serve_refused_copy<'t>(
-    alloc: Global,
-    place: &mut Place,
-    turns: u64,
-) -> Result<Ending, Fault<'t>> {
-    let handlers = RefusedCopyHandlers {
-        queries: SampleHandler,
-        copying: NoopHandler,
     };
     serve_by!(alloc, handlers, place, turns)
 }
@@ -128,42 +113,5 @@ impl PgWireServerHandlers for NoopHandlers {
 
     fn copy_handler(&self) -> &NoopHandler {
         &self.handler
-    }
-}
-
-/// The handler of sample queries, whose COPY from the client is left to the handler that implements
-/// nothing.
-#[derive(Drop)]
-struct RefusedCopyHandlers {
-    queries: SampleHandler,
-    copying: NoopHandler,
-}
-
-impl PgWireServerHandlers for RefusedCopyHandlers {
-    ghost use Rattle.pg_handlers.specs.Noop.{noop_copy};
-    ghost use Rattle.sample_handlers.specs.Told.{told_extended, told_simple};
-
-    type Simple = SampleHandler;
-
-    type Extended = SampleHandler;
-
-    type Copying = NoopHandler;
-
-    ghost told = { λ _. record {
-      extended = told_extended;
-      simple = told_simple;
-      copying = noop_copy;
-    } };
-
-    fn simple_query_handler(&self) -> &SampleHandler {
-        &self.queries
-    }
-
-    fn extended_query_handler(&self) -> &SampleHandler {
-        &self.queries
-    }
-
-    fn copy_handler(&self) -> &NoopHandler {
-        &self.copying
     }
 }

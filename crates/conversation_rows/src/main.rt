@@ -16,7 +16,6 @@ mod serving;
 mod sweeps;
 mod told;
 mod verdict;
-mod versions;
 
 use crate::finding::told_finding;
 use crate::sweeps::judge;

@@ -10,12 +10,12 @@ use pg_portal::{ListRows, MemPortalStore};
 use pg_serve::{Conversation, MemorySink, MemorySource, serve};
 use pg_session::CancelDesk;
 use row_files::Fault;
-use sample_handlers::{SampleHandler, SampleStatement};
+use sample_handlers::{SampleCopying, SampleHandlers, SampleStatement};
 use std::alloc::{AllocError, Global};
 use std::sync::Arc;
 
 /// A session with cursors, over a store in memory.
-type SampleSession = CursorSession<SampleHandler, MemPortalStore<SampleStatement, ListRows>>;
+type SampleSession = CursorSession<SampleHandlers, MemPortalStore<SampleStatement, ListRows>>;
 
 /// Serves a client with cursors by the handlers of sample queries, and with a store in memory.
 pub fn serve_sample<'t>(
@@ -52,7 +52,7 @@ fn front_at(alloc: Global, desk: &ScriptDesk) -> Result<SampleSession, AllocErro
 {
     let (pid, key) = desk.identity();
     let key = key.copy_of()?;
-    let handlers = Arc::new(alloc, SampleHandler)?;
+    let handlers = Arc::new(alloc, SampleHandlers::new(SampleCopying::Taken))?;
     let store = MemPortalStore::new(alloc);
     CursorSession::new(alloc, handlers, store, pid, key)
 }

@@ -1,10 +1,13 @@
 -- What the sample handlers tell: a few statements, and the response to each.
 use Rattle.std.specs.Prelude.{ℕ, zero, suc, ℤ, pos, negsuc, true, List, [], ◌∷◌, ◌++◌, Option, Some, None, Result, Ok, Err, if◌then◌else◌, map, length, codes, bytes_eq, replicate, unwrap_or}
 use Rattle.std.specs.List.{flat_map}
+use Rattle.pg_messages.specs.declared.codec.ProtocolVersion.{ProtocolVersion}
+use Rattle.pg_messages.specs.declared.codec.ProtocolVersion.TheVariants as protocol
 use Rattle.pg_messages.specs.declared.data.DataRow.{DataRow}
 use Rattle.pg_text.specs.declared.field_format.FieldFormat.{FieldFormat}
 use Rattle.pg_text.specs.declared.field_format.FieldFormat.TheVariants as field
 use Rattle.pg_text.specs.declared.pg_type.PgType.TheVariants as type
+use Rattle.pg_portal.specs.declared.client.ClientInfo.{ClientInfo}
 use Rattle.pg_portal.specs.declared.error.PgWireError.{PgWireError}
 use Rattle.pg_portal.specs.declared.error.PgWireError.TheVariants as wire
 use Rattle.pg_portal.specs.declared.portal.Format.{Format}
@@ -22,6 +25,9 @@ use Rattle.pg_portal.specs.Tags.{tag_of, tag_with_oid, tag_with_rows}
 use Rattle.pg_portal.specs.Told.{ParserTold, ToldRows}
 use Rattle.pg_handlers.specs.Errors.{copy_given_up}
 use Rattle.pg_handlers.specs.Handlers.{CopyStep, CopyTold, ExtendedTold, Handlers, SimpleTold, ToldQuery, handlers_of}
+use Rattle.pg_handlers.specs.Noop.{noop_copy}
+use Rattle.sample_handlers.specs.declared.copying.SampleCopying.{SampleCopying}
+use Rattle.sample_handlers.specs.declared.copying.SampleCopying.TheVariants as copying
 use Rattle.sample_handlers.specs.declared.meaning.SampleStatement.{SampleStatement}
 use Rattle.sample_handlers.specs.declared.meaning.SampleStatement.TheVariants as statement
 use Rattle.sample_handlers.specs.Meanings.{meaning, meaning_of, trimmed}
@@ -150,28 +156,37 @@ abbrev pub alone_or_not_known : Option SampleStatement → ToldQuery (List ToldR
 alone_or_not_known None = record { owes = 0; outcome = Err not_known }
 alone_or_not_known (Some s) = listed (polls_of s) (s ∷ [])
 
--- a statement, or one of two lists of statements
-abbrev pub simple_of : List ℕ → ToldQuery (List ToldResponse)
-simple_of text =
+-- what `version` stands for: a command where the client speaks version 3.0, and two rows where it speaks 3.2
+abbrev pub version_statement : ProtocolVersion → SampleStatement
+version_statement protocol.PROTOCOL3_0 = statement.Done
+version_statement protocol.PROTOCOL3_2 = statement.Pair
+
+-- a statement, one of two lists of statements, or what `version` stands for
+abbrev pub simple_of : ClientInfo → List ℕ → ToldQuery (List ToldResponse)
+simple_of client text =
     if bytes_eq text (codes "pair; done") then listed 0 (statement.Pair ∷ statement.Done ∷ [])
     else if bytes_eq text (codes "done; broken; pair") then listed 0 (statement.Done ∷ statement.Broken ∷ statement.Pair ∷ [])
+    else if bytes_eq text (codes "version") then listed 0 (version_statement client.protocol ∷ [])
     else alone_or_not_known (meaning_of text)
 
 abbrev pub told_simple : SimpleTold
-told_simple client query = simple_of (trimmed query)
+told_simple client query = simple_of client (trimmed query)
 
--- ---- COPY from the client: all data are taken
+-- ---- COPY from the client
 
+-- without a reply and without a refusal
 abbrev pub taken : CopyStep
 taken = record { replies = []; refusal = None }
 
-abbrev pub told_copying : CopyTold
-told_copying = record {
+-- all data are taken, or the handler that implements nothing answers
+abbrev pub told_copying : SampleCopying → CopyTold
+told_copying copying.Noop = noop_copy
+told_copying copying.Taken = record {
   on_data = λ client bytes. taken;
   on_done = λ client. taken;
   on_fail = λ client message. wire.UserError (copy_given_up message);
 }
 
--- all that the sample handlers tell
-abbrev pub sample_handlers : Handlers SampleStatement
-sample_handlers = handlers_of told_extended told_simple told_copying
+-- all that the sample handlers tell that do this with a COPY from the client
+abbrev pub sample_handlers : SampleCopying → Handlers SampleStatement
+sample_handlers copying = handlers_of told_extended told_simple (told_copying copying)

@@ -1,10 +1,10 @@
-//! The handlers of sample queries.
+//! The handler of sample queries.
 
 ghost use Rattle.std.specs.Prelude.{◌≡◌, false, None, IfOk};
 ghost use Rattle.pg_handlers.specs.Good.{AreSendable};
 ghost use Rattle.pg_handlers.specs.Handlers.{told_all, told_query};
 ghost use Rattle.polled_queries.specs.Queries.{is_given, query_told};
-ghost use Rattle.sample_handlers.specs.Told.{alone_or_not_known, data_left, listed};
+ghost use Rattle.sample_handlers.specs.Told.{alone_or_not_known, data_left, listed, version_statement};
 
 use crate::answer::{Answer, polls_of, response, responses};
 use crate::columns::columns_of;
@@ -12,21 +12,18 @@ use crate::copy::SampleCopy;
 use crate::errors::not_known;
 use crate::meaning::{SampleStatement, meaning_of};
 use crate::parser::SampleParser;
-use pg_handlers::{
-    Client, CopyHandler, ExtendedQueryHandler, PgWireServerHandlers, SimpleQueryHandler,
-    copy_given_up,
-};
-use pg_messages::{CopyData, CopyDone, CopyFail, PgList};
+use pg_handlers::{ExtendedQueryHandler, SimpleQueryHandler};
+use pg_messages::{PgList, ProtocolVersion};
 use pg_portal::{
     ClientInfo, DescribePortalResponse, DescribeStatementResponse, Format, ListRows, PgWireError,
-    Portal, PortalStore, StoredStatement,
+    Portal, StoredStatement,
 };
 use polled_queries::PolledQuery;
 use query_texts::trimmed;
 use std::alloc::{AllocError, Global};
 use std::sync::Arc;
 
-/// It answers sample queries, simple and extended, and takes all data of a COPY.
+/// It answers sample queries, simple and extended.
 #[derive(Drop)]
 pub struct SampleHandler;
 
@@ -96,11 +93,11 @@ impl SimpleQueryHandler for SampleHandler {
 
     ghost told = { λ _. told_simple };
 
-    /// A statement, or one of two lists of statements.
+    /// A statement, one of two lists of statements, or `version`.
     fn do_query(
         &self,
         alloc: Global,
-        _client: &ClientInfo,
+        client: &ClientInfo,
         query: &str,
     ) -> Result<PolledQuery<PgList<Answer>>, AllocError> {
         let text = trimmed(query);
@@ -114,12 +111,24 @@ impl SimpleQueryHandler for SampleHandler {
                 SampleStatement::Pair,
             ];
             listed(alloc, 0, &statements)
+        } else if text == "version" {
+            listed(alloc, 0, &[version_statement(client.protocol)])
         } else {
             match meaning_of(text) {
                 Some(statement) => listed(alloc, polls_of(statement), &[statement]),
                 None => refused(alloc),
             }
         }
+    }
+}
+
+/// The statement that `version` stands for, which depends on the client's protocol version.
+fn version_statement(protocol: ProtocolVersion) -> SampleStatement
+    ensures { result ≡ version_statement protocol }
+{
+    match protocol {
+        ProtocolVersion::PROTOCOL3_0 => SampleStatement::Done,
+        ProtocolVersion::PROTOCOL3_2 => SampleStatement::Pair,
     }
 }
 
@@ -151,61 +160,4 @@ fn refused(alloc: Global) -> Result<PolledQuery<PgList<Answer>>, AllocError>
     ensures sendable { IfOk result (λ query. AreSendable (alone_or_not_known None).outcome) }
 {
     Ok(PolledQuery::new(0, Err(not_known(alloc)?)))
-}
-
-impl CopyHandler for SampleHandler {
-    ghost use Rattle.sample_handlers.specs.Told.{told_copying};
-
-    ghost told = { λ _. told_copying };
-
-    fn on_copy_data<St: PortalStore>(
-        &self,
-        _alloc: Global,
-        _client: &mut Client<St>,
-        _copy_data: CopyData,
-    ) -> Result<(), PgWireError> {
-        Ok(())
-    }
-
-    fn on_copy_done<St: PortalStore>(
-        &self,
-        _alloc: Global,
-        _client: &mut Client<St>,
-        _done: CopyDone,
-    ) -> Result<(), PgWireError> {
-        Ok(())
-    }
-
-    fn on_copy_fail<St: PortalStore>(
-        &self,
-        alloc: Global,
-        _client: &mut Client<St>,
-        fail: CopyFail,
-    ) -> PgWireError {
-        copy_given_up(alloc, fail)
-    }
-}
-
-impl PgWireServerHandlers for SampleHandler {
-    ghost use Rattle.sample_handlers.specs.Told.{sample_handlers};
-
-    type Simple = SampleHandler;
-
-    type Extended = SampleHandler;
-
-    type Copying = SampleHandler;
-
-    ghost told = { λ _. sample_handlers };
-
-    fn simple_query_handler(&self) -> &SampleHandler {
-        self
-    }
-
-    fn extended_query_handler(&self) -> &SampleHandler {
-        self
-    }
-
-    fn copy_handler(&self) -> &SampleHandler {
-        self
-    }
 }
