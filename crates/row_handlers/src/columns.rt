@@ -30,7 +30,7 @@ pub fn column(
 }
 
 /// Appends the column of this name, at the place behind those that are there. It is as `column`
-/// makes it.
+/// makes it. The only error is want of memory, and then the columns are as they were.
 pub fn put_column(
     alloc: Global,
     fields: &mut PgList<FieldInfo>,
