@@ -5,10 +5,11 @@ ghost use Rattle.cursor_session.specs.Fronts.{rest_of};
 
 use crate::serving::Ending;
 use cursor_session::CursorSession;
+use pg_engine::serve_whole;
 use pg_handlers::ScriptDesk;
 use pg_portal::{ListRows, MemPortalStore};
-use pg_serve::{Conversation, MemorySink, MemorySource, serve};
 use pg_session::CancelDesk;
+use pg_streams::{MemorySink, MemorySource};
 use row_files::Fault;
 use sample_handlers::{SampleCopying, SampleHandlers, SampleStatement};
 use std::alloc::{AllocError, Global};
@@ -27,22 +28,6 @@ pub fn serve_sample<'t>(
 ) -> Result<Ending, Fault<'t>> {
     let front = front_at(alloc, desk)?;
     Ok(serve_whole(alloc, front, desk, source, sink, turns))
-}
-
-/// Serves a client by a conversation of its own, and lets the conversation go.
-fn serve_whole<C: Conversation + Drop>(
-    alloc: Global,
-    mut conversation: C,
-    desk: &mut ScriptDesk,
-    source: &mut MemorySource,
-    sink: &mut MemorySink,
-    turns: u64,
-) -> Ending
-    requires open { (C.told conversation).is_open ≡ true }
-    requires rest { (C.told conversation).rest ≡ [] }
-    requires unsent { (C.told conversation).unsent ≡ [] }
-{
-    serve(alloc, &mut conversation, desk, source, sink, turns)
 }
 
 /// The front of a session that awaits the client whom this desk knows.
