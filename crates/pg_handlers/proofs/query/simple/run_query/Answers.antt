@@ -1,0 +1,179 @@
+use Rattle.std.proofs.Common.{◌≡◌, ℕ, ◌+◌, inl, inr, List, Result, Ok, Err, refl, ap, sym, subst, ◌∙◌}
+use Rattle.std.specs.Prelude.{IfErr, OnErr, OnOk}
+use Rattle.std.proofs.lemmas.List.{append-nil}
+use Rattle.std.proofs.lemmas.Result.{err_from_is_err_and}
+use Rattle.pg_portal.specs.declared.client.ClientInfo.{ClientInfo}
+use Rattle.pg_portal.specs.declared.error.PgWireError.{PgWireError}
+use Rattle.pg_portal.specs.declared.error.PgWireError.TheVariants as wire
+use Rattle.pg_portal.specs.Responses.{ToldResponse, told_responses}
+use Rattle.pg_portal.specs.Rows.{IsAnswerableItem}
+use Rattle.pg_handlers.specs.declared.desk.DeskCall.{DeskCall}
+use Rattle.pg_handlers.specs.declared.ends.SessionError.{SessionError}
+use Rattle.pg_handlers.specs.declared.ends.SessionError.TheVariants as session
+use Rattle.pg_handlers.specs.declared.ends.Turns.{Turns}
+use Rattle.pg_handlers.specs.Effect.{Done, Effect, Failed, IsEffect, IsRefusedEffect}
+use Rattle.pg_handlers.specs.Good.{AreSendable}
+use Rattle.pg_handlers.specs.Handlers.{told_all}
+use Rattle.pg_handlers.specs.Outcomes.{IsRunEnd, session_outcome}
+use Rattle.pg_handlers.specs.Questions.{HasSpent, IsCausedSo, IsVerdict, Passed, Verdict}
+use Rattle.pg_handlers.specs.Sending.{AtTurnLimit, IsAnswerableError}
+use Rattle.pg_handlers.specs.SimpleRows.{answered_all, query_polled}
+use Rattle.pg_handlers.specs.State.{State, state_of}
+use Rattle.pg_handlers.proofs.Causes.{item_answerable, item_caused}
+use Rattle.pg_handlers.proofs.Sent.{kept_as}
+use Rattle.pg_handlers.proofs.Waits.{wait_answerable}
+use Rattle.pg_handlers.proofs.query.simple.run_query.Goals as goal
+
+-- A query ended: its effect, and what is known of the error.
+record IsEnded {S : Type 0} (effect : Effect S) (verdict : Verdict) (s' : State S) (info new_info : ClientInfo) (out new_out : List ℕ)
+    (calls new_calls : List DeskCall) (turns new_turns : Turns) (asked : ℕ) (P : Type 0) (result : Result (Unit {0}) SessionError)
+    : Type 0 where
+  pub ran : IsRunEnd effect verdict out new_out s' result
+  pub answerable : IfErr result IsAnswerableError
+  pub caused : IfErr result (IsCausedSo calls new_calls)
+  pub limit : IfErr result (λ e. AtTurnLimit e P)
+  pub same : OnErr result (new_info ≡ info)
+  pub spent : HasSpent turns new_turns asked result
+
+at_limit : (e : SessionError) (P : Type 0) → P → AtTurnLimit e P
+at_limit (session.Wire e) P p = tt
+at_limit session.TurnLimit P p = p
+
+spent_as : (A B : Type 0) (turns new_turns : Turns) (asked : ℕ) (e : SessionError) → HasSpent {A = A} turns new_turns asked (Err e)
+    → HasSpent {A = B} turns new_turns asked (Err e)
+spent_as A B turns new_turns asked (session.Wire e) x = x
+spent_as A B turns new_turns asked session.TurnLimit x = x
+
+module _ {S : Type 0} (s : State S) (info : ClientInfo) (out : List ℕ) (calls new_calls : List DeskCall) (turns new_turns : Turns)
+    (asked : ℕ) (P : Type 0) (verdict : Verdict) (told : Result (List ToldResponse) PgWireError) where
+  -- an error in the place of the outcome
+  wait_ran : {A : Type 0} (outcome : A) (e : SessionError) → IsVerdict outcome verdict (Err e)
+      → IsRunEnd {A = Unit {0}} (query_polled s verdict told) verdict out out s (Err e)
+  wait_ran outcome session.TurnLimit v = (v, rw v (record { replied = sym (append-nil out); came = refl }))
+  wait_ran outcome (session.Wire e) (inl v) =
+      inr (rw (v.1, v.0) (record { replied = sym (append-nil out); came = refl }))
+  wait_ran outcome (session.Wire e) (inr v) = inl v
+
+  wait_ended : {A : Type 0} (outcome : A) (e : SessionError) → IsVerdict outcome verdict (Err e) → IsCausedSo calls new_calls e
+      → HasSpent {A = A} turns new_turns asked (Err e) → P → (result : Result (Unit {0}) SessionError) → result ≡ Err e
+      → IsEnded (query_polled s verdict told) verdict s info info out out calls new_calls turns new_turns asked P result
+  wait_ended {A = A} outcome e v cause spent p result is = rw is (record {
+    ran = wait_ran outcome e v;
+    answerable = wait_answerable outcome verdict e v;
+    caused = cause;
+    limit = at_limit e P p;
+    same = refl;
+    spent = spent_as A (Unit {0}) turns new_turns asked e spent;
+  })
+
+  -- an error as the outcome
+  refused_ended : (e : PgWireError) → verdict ≡ Passed → told ≡ Err e → AreSendable told
+      → new_turns ≡ record { spent = turns.spent + asked; limit = turns.limit }
+      → (result : Result (Unit {0}) SessionError) → result ≡ Err (session.Wire e)
+      → IsEnded (query_polled s verdict told) verdict s info info out out calls new_calls turns new_turns asked P result
+  refused_ended e v t sendable spent result is =
+      let item : IsAnswerableItem e = inr (subst AreSendable t sendable) in
+      rw (is, v, t) (record {
+        ran = inr (record { replied = sym (append-nil out); came = refl });
+        answerable = item_answerable e item;
+        caused = item_caused calls new_calls e item;
+        limit = tt;
+        same = refl;
+        spent = inl spent;
+      })
+
+  -- responses as the outcome
+  answer_ended : (responses : List ToldResponse) (s' : State S) (new_info : ClientInfo) (new_out : List ℕ)
+      → verdict ≡ Passed → told ≡ Ok responses → new_turns ≡ record { spent = turns.spent + asked; limit = turns.limit }
+      → (r : Result (Unit {0}) PgWireError) → OnOk r (IsEffect (answered_all s responses) out new_out (Done s'))
+      → IfErr r (IsRefusedEffect (answered_all s responses) out new_out s') → IfErr r IsAnswerableItem
+      → OnErr r (new_info ≡ info)
+      → IsEnded (query_polled s verdict told) verdict s' info new_info out new_out calls new_calls turns new_turns asked P (session_outcome r)
+  answer_ended responses s' new_info new_out v t spent (Ok x) ok refused answerable same = rw (v, t) (record {
+    ran = ok;
+    answerable = tt;
+    caused = tt;
+    limit = tt;
+    same = tt;
+    spent = spent;
+  })
+  answer_ended responses s' new_info new_out v t spent (Err e) ok refused answerable same = rw (v, t) (record {
+    ran = refused;
+    answerable = item_answerable e answerable;
+    caused = item_caused calls new_calls e answerable;
+    limit = tt;
+    same = same;
+    spent = inl spent;
+  })
+
+pub returns-in_err-wait_for : goal.returns-in_err-wait_for
+returns-in_err-wait_for g c =
+    let u = err_from_is_err_and c.from_residual.result c.from_residual.ensures.1 in
+    let told = g.D.CancelDesk.told in let out = c.args.client.now.outbox in let e = c.in_err-wait_for.ensures in
+    let x = wait_ended (state_of g.St.PortalStore.maps c.args.client.now) c.args.client.now.info out (told c.args.desk.now).calls
+    (told c.wait_for.new.desk).calls c.args.turns.now c.wait_for.new.turns _ _ e.asked.0
+    (told_all g.R.RowSource.items g.C.CopySource.items (g.Q.QueryState.told c.args.query).outcome)
+    (g.Q.QueryState.told c.args.query).outcome _ e.asked.2 e.caused e.turns (refl, refl) c.from_residual.result (u.1 ∙ ap Err u.2) in
+    record {
+      ran = (e.asked.0, e.asked.1, x.ran);
+      answerable = x.answerable;
+      store = refl;
+      caused = x.caused;
+      limit = x.limit;
+      info = x.same;
+      kept = kept_as out out refl;
+      metadata = refl;
+      turns = x.spent;
+      bounded = e.bounded;
+      keeps = e.keeps;
+    }
+
+pub returns-in_err-responses : goal.returns-in_err-responses
+returns-in_err-responses g c =
+    let u = err_from_is_err_and c.from_residual-in_err-responses.result c.from_residual-in_err-responses.ensures.1 in
+    let told = g.D.CancelDesk.told in let out = c.args.client.now.outbox in let e = c.in_ok-wait_for.ensures in
+    let all = told_all g.R.RowSource.items g.C.CopySource.items in
+    let x = refused_ended (state_of g.St.PortalStore.maps c.args.client.now) c.args.client.now.info out (told c.args.desk.now).calls
+    (told c.wait_for.new.desk).calls c.args.turns.now c.wait_for.new.turns _ _ e.asked.0
+    (all (g.Q.QueryState.told c.args.query).outcome) c.in_err-responses.field-0.0 e.asked.2.0
+    (ap all (sym e.asked.2.1 ∙ c.in_err-responses.was)) c.requires.sendable e.turns c.from_residual-in_err-responses.result
+    (u.1 ∙ ap Err u.2) in
+    record {
+      ran = (e.asked.0, e.asked.1, x.ran);
+      answerable = x.answerable;
+      store = refl;
+      caused = x.caused;
+      limit = x.limit;
+      info = x.same;
+      kept = kept_as out out refl;
+      metadata = refl;
+      turns = x.spent;
+      bounded = e.bounded;
+      keeps = e.keeps;
+    }
+
+pub returns : goal.returns
+returns g c =
+    let maps = g.St.PortalStore.maps in
+    let told = g.D.CancelDesk.told in let out = c.args.client.now.outbox in let e = c.in_ok-wait_for.ensures in
+    let all = told_all g.R.RowSource.items g.C.CopySource.items in let a = c.answer_query.ensures in
+    let x = answer_ended (state_of maps c.args.client.now) c.args.client.now.info out (told c.args.desk.now).calls
+    (told c.wait_for.new.desk).calls c.args.turns.now c.wait_for.new.turns _ _ e.asked.0
+    (all (g.Q.QueryState.told c.args.query).outcome)
+    (told_responses g.R.RowSource.items g.C.CopySource.items c.in_ok-responses.responses) (state_of maps c.answer_query.new.client)
+    c.answer_query.new.client.info c.answer_query.new.client.outbox e.asked.2.0
+    (ap all (sym e.asked.2.1 ∙ c.in_ok-responses.was)) e.turns c.answer_query.result a.ok a.refused a.answerable a.info in
+    let is = c.session_outcome.ensures in
+    record {
+      ran = (e.asked.0, e.asked.1, rw is x.ran);
+      answerable = rw is x.answerable;
+      store = a.store;
+      caused = rw is x.caused;
+      limit = rw is x.limit;
+      info = rw is x.same;
+      kept = a.kept;
+      metadata = a.metadata;
+      turns = rw is x.spent;
+      bounded = e.bounded;
+      keeps = e.keeps;
+    }
