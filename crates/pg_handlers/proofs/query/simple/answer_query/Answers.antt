@@ -6,7 +6,7 @@ use Rattle.pg_portal.specs.declared.error.PgWireError.{PgWireError}
 use Rattle.pg_portal.specs.declared.error.PgWireError.TheVariants as wire
 use Rattle.pg_portal.specs.Responses.{told_responses}
 use Rattle.pg_handlers.specs.declared.query.respond.Behind.{Behind}
-use Rattle.pg_handlers.specs.Effect.{Done, Failed, IsEffect, IsRefusedEffect}
+use Rattle.pg_handlers.specs.Effect.{Done, IsEffect, IsRefusedEffect}
 use Rattle.pg_handlers.specs.Replies.{ready}
 use Rattle.pg_handlers.specs.ResponseRows.{Sent}
 use Rattle.pg_handlers.specs.Sending.{behind}

@@ -4,14 +4,13 @@ use Rattle.std.proofs.lemmas.List.{append-nil}
 use Rattle.std.proofs.lemmas.Result.{err_from_is_err_and}
 use Rattle.pg_portal.specs.declared.client.ClientInfo.{ClientInfo}
 use Rattle.pg_portal.specs.declared.error.PgWireError.{PgWireError}
-use Rattle.pg_portal.specs.declared.error.PgWireError.TheVariants as wire
 use Rattle.pg_portal.specs.Responses.{ToldResponse, told_responses}
 use Rattle.pg_portal.specs.Rows.{IsAnswerableItem}
 use Rattle.pg_handlers.specs.declared.desk.DeskCall.{DeskCall}
 use Rattle.pg_handlers.specs.declared.ends.SessionError.{SessionError}
 use Rattle.pg_handlers.specs.declared.ends.SessionError.TheVariants as session
 use Rattle.pg_handlers.specs.declared.ends.Turns.{Turns}
-use Rattle.pg_handlers.specs.Effect.{Done, Effect, Failed, IsEffect, IsRefusedEffect}
+use Rattle.pg_handlers.specs.Effect.{Done, Effect, IsEffect, IsRefusedEffect}
 use Rattle.pg_handlers.specs.Good.{AreSendable}
 use Rattle.pg_handlers.specs.Handlers.{told_all}
 use Rattle.pg_handlers.specs.Outcomes.{IsRunEnd, session_outcome}
@@ -21,7 +20,7 @@ use Rattle.pg_handlers.specs.SimpleRows.{answered_all, query_polled}
 use Rattle.pg_handlers.specs.State.{State, state_of}
 use Rattle.pg_handlers.proofs.Causes.{item_answerable, item_caused}
 use Rattle.pg_handlers.proofs.Sent.{kept_as}
-use Rattle.pg_handlers.proofs.Waits.{wait_answerable}
+use Rattle.pg_handlers.proofs.Waits.{at_limit, spent_as, wait_answerable, wait_ran}
 use Rattle.pg_handlers.proofs.query.simple.run_query.Goals as goal
 
 -- A query ended: its effect, and what is known of the error.
@@ -35,35 +34,19 @@ record IsEnded {S : Type 0} (effect : Effect S) (verdict : Verdict) (s' : State 
   pub same : OnErr result (new_info ≡ info)
   pub spent : HasSpent turns new_turns asked result
 
-at_limit : (e : SessionError) (P : Type 0) → P → AtTurnLimit e P
-at_limit (session.Wire e) P p = tt
-at_limit session.TurnLimit P p = p
-
-spent_as : (A B : Type 0) (turns new_turns : Turns) (asked : ℕ) (e : SessionError) → HasSpent {A = A} turns new_turns asked (Err e)
-    → HasSpent {A = B} turns new_turns asked (Err e)
-spent_as A B turns new_turns asked (session.Wire e) x = x
-spent_as A B turns new_turns asked session.TurnLimit x = x
-
 module _ {S : Type 0} (s : State S) (info : ClientInfo) (out : List ℕ) (calls new_calls : List DeskCall) (turns new_turns : Turns)
     (asked : ℕ) (P : Type 0) (verdict : Verdict) (told : Result (List ToldResponse) PgWireError) where
   -- an error in the place of the outcome
-  wait_ran : {A : Type 0} (outcome : A) (e : SessionError) → IsVerdict outcome verdict (Err e)
-      → IsRunEnd {A = Unit {0}} (query_polled s verdict told) verdict out out s (Err e)
-  wait_ran outcome session.TurnLimit v = (v, rw v (record { replied = sym (append-nil out); came = refl }))
-  wait_ran outcome (session.Wire e) (inl v) =
-      inr (rw (v.1, v.0) (record { replied = sym (append-nil out); came = refl }))
-  wait_ran outcome (session.Wire e) (inr v) = inl v
-
   wait_ended : {A : Type 0} (outcome : A) (e : SessionError) → IsVerdict outcome verdict (Err e) → IsCausedSo calls new_calls e
       → HasSpent {A = A} turns new_turns asked (Err e) → P → (result : Result (Unit {0}) SessionError) → result ≡ Err e
       → IsEnded (query_polled s verdict told) verdict s info info out out calls new_calls turns new_turns asked P result
-  wait_ended {A = A} outcome e v cause spent p result is = rw is (record {
-    ran = wait_ran outcome e v;
+  wait_ended outcome e v cause spent p result is = rw is (record {
+    ran = wait_ran s out (λ v. query_polled s v told) refl refl verdict outcome e v;
     answerable = wait_answerable outcome verdict e v;
     caused = cause;
     limit = at_limit e P p;
     same = refl;
-    spent = spent_as A (Unit {0}) turns new_turns asked e spent;
+    spent = spent_as outcome turns new_turns asked e spent;
   })
 
   -- an error as the outcome

@@ -1,0 +1,142 @@
+use Rattle.std.proofs.Common.{◌≡◌, inl, inr, List, ℕ, Result, Ok, Err, refl, ap, sym, subst, ◌∙◌}
+use Rattle.std.proofs.lemmas.List.{append-nil}
+use Rattle.std.proofs.lemmas.Result.{err_from_is_err_and}
+use Rattle.pg_messages.specs.declared.extendedquery.Execute.{Execute}
+use Rattle.pg_portal.specs.declared.error.PgWireError.{PgWireError}
+use Rattle.pg_portal.specs.Responses.{ToldResponse, told_response}
+use Rattle.pg_portal.specs.Rows.{IsAnswerableItem}
+use Rattle.pg_portal.specs.Told.{TablePortal}
+use Rattle.pg_handlers.specs.Effect.{Done, IsEffect, IsRefusedEffect}
+use Rattle.pg_handlers.specs.ExecuteRow.{execute_polled, executed}
+use Rattle.pg_handlers.specs.Good.{IsSendableOutcome}
+use Rattle.pg_handlers.specs.Handlers.{told_one}
+use Rattle.pg_handlers.specs.Questions.{Passed, Verdict, questions_since}
+use Rattle.pg_handlers.specs.State.{State, state_of}
+use Rattle.pg_handlers.proofs.Causes.{item_answerable, item_caused}
+use Rattle.pg_handlers.proofs.Sent.{kept_as}
+use Rattle.pg_handlers.proofs.Waits.{at_limit, spent_as, wait_answerable, wait_ran}
+use Rattle.pg_handlers.proofs.query.run.run_unstarted.Goals as goal
+
+module _ {S : Type 0} (s : State S) (m : Execute) (p : TablePortal S) (verdict : Verdict) (told : Result ToldResponse PgWireError)
+    (out : List ℕ) (passed : verdict ≡ Passed) where
+  -- an error as the outcome
+  refused_ran : (e : PgWireError) → told ≡ Err e → IsRefusedEffect (execute_polled s m p verdict told) out out s e
+  refused_ran e t = rw (passed, t) (inr (record { replied = sym (append-nil out); came = refl }))
+
+  -- a response as the outcome, which was sent
+  answer_ran : (r : ToldResponse) (new : List ℕ) (s' : State S) → told ≡ Ok r → IsEffect (executed s m p r) out new (Done s')
+      → IsEffect (execute_polled s m p verdict told) out new (Done s')
+  answer_ran r new s' t x = rw (passed, t) x
+
+  -- one that was refused
+  answer_refused : (r : ToldResponse) (new : List ℕ) (s' : State S) (e : PgWireError) → told ≡ Ok r
+      → IsRefusedEffect (executed s m p r) out new s' e
+      → IsRefusedEffect (execute_polled s m p verdict told) out new s' e
+  answer_refused r new s' e t x = rw (passed, t) x
+
+pub returns-in-Err : goal.returns-in-Err
+returns-in-Err g c =
+    let told = g.D.CancelDesk.told in let out = c.args.client.now.outbox in let x = c.in-Err.ensures in
+    let s = state_of g.St.PortalStore.maps c.args.client.now in
+    let outcome = (g.Q.QueryState.told c.args.query).outcome in
+    let all = told_one g.St.Rows.RowSource.items g.C.CopySource.items outcome in
+    record {
+      ran = λ p q. (
+        x.asked.0,
+        x.asked.1,
+        wait_ran s out (λ verdict. execute_polled s c.args.message p verdict all) refl refl x.asked.0 outcome c.in-Err.error x.asked.2,
+      );
+      answerable = wait_answerable outcome x.asked.0 c.in-Err.error x.asked.2;
+      caused = x.caused;
+      limit = at_limit c.in-Err.error ((s ≡ s) × (out ≡ out)) (refl, refl);
+      info = refl;
+      left = inl refl;
+      kept = kept_as out out refl;
+      good = λ parser good. good;
+      turns = spent_as outcome c.args.turns.now c.wait_for.new.turns (questions_since (told c.args.desk.now).calls (told c.wait_for.new.desk).calls) c.in-Err.error x.turns;
+      bounded = x.bounded;
+      keeps = x.keeps;
+    }
+
+pub returns-in-Ok-Err : goal.returns-in-Ok-Err
+returns-in-Ok-Err g c =
+    let told = g.D.CancelDesk.told in let out = c.args.client.now.outbox in let x = c.in-Ok-Err.ensures in
+    let one = told_one g.St.Rows.RowSource.items g.C.CopySource.items in
+    let e = c.in-Ok-Err.error in
+    let is = ap one (sym x.asked.2.1 ∙ c.in-Ok-Err.field-0-is) in
+    let item : IsAnswerableItem e = inr (subst IsSendableOutcome is c.requires.sendable) in
+    record {
+      ran = λ p q. (
+        x.asked.0,
+        x.asked.1,
+        refused_ran (state_of g.St.PortalStore.maps c.args.client.now) c.args.message p x.asked.0
+            (one (g.Q.QueryState.told c.args.query).outcome) out x.asked.2.0 e is,
+      );
+      answerable = item_answerable e item;
+      caused = item_caused (told c.args.desk.now).calls (told c.wait_for.new.desk).calls e item;
+      limit = tt;
+      info = refl;
+      left = inl refl;
+      kept = kept_as out out refl;
+      good = λ parser good. good;
+      turns = inl x.turns;
+      bounded = x.bounded;
+      keeps = x.keeps;
+    }
+
+pub returns-in_err-answer-in-Ok-Ok : goal.returns-in_err-answer-in-Ok-Ok
+returns-in_err-answer-in-Ok-Ok g c =
+    let maps = g.St.PortalStore.maps in
+    let told = g.D.CancelDesk.told in let x = c.in-Ok-Ok.ensures in
+    let one = told_one g.St.Rows.RowSource.items g.C.CopySource.items in
+    let e = c.in_err-answer-in-Ok-Ok.field-0.0 in
+    let a = c.in_err-answer-in-Ok-Ok.ensures in
+    let u = err_from_is_err_and c.from_residual.result c.from_residual.ensures.1 in
+    let is = u.1 ∙ ap Err u.2 in
+    record {
+      ran = λ p q. (
+        x.asked.0,
+        x.asked.1,
+        rw is (answer_refused (state_of maps c.args.client.now) c.args.message p x.asked.0
+            (one (g.Q.QueryState.told c.args.query).outcome) c.args.client.now.outbox x.asked.2.0
+            (told_response g.St.Rows.RowSource.items g.C.CopySource.items c.in-Ok-Ok.response) c.answer.new.client.outbox
+            (state_of maps c.answer.new.client) e (ap one (sym x.asked.2.1 ∙ c.in-Ok-Ok.field-0-is)) (a.refused p q)),
+      );
+      answerable = rw is (item_answerable e a.answerable);
+      caused = rw is (item_caused (told c.args.desk.now).calls (told c.wait_for.new.desk).calls e a.answerable);
+      limit = rw is tt;
+      info = rw is a.info;
+      left = rw is a.left;
+      kept = a.kept;
+      good = a.good;
+      turns = rw is (inl x.turns);
+      bounded = x.bounded;
+      keeps = x.keeps;
+    }
+
+pub returns-in_ok-answer-in-Ok-Ok : goal.returns-in_ok-answer-in-Ok-Ok
+returns-in_ok-answer-in-Ok-Ok g c =
+    let maps = g.St.PortalStore.maps in
+    let x = c.in-Ok-Ok.ensures in
+    let one = told_one g.St.Rows.RowSource.items g.C.CopySource.items in
+    let a = c.in_ok-answer-in-Ok-Ok.ensures in
+    record {
+      ran = λ p q. (
+        x.asked.0,
+        x.asked.1,
+        answer_ran (state_of maps c.args.client.now) c.args.message p x.asked.0
+            (one (g.Q.QueryState.told c.args.query).outcome) c.args.client.now.outbox x.asked.2.0
+            (told_response g.St.Rows.RowSource.items g.C.CopySource.items c.in-Ok-Ok.response) c.answer.new.client.outbox
+            (state_of maps c.answer.new.client) (ap one (sym x.asked.2.1 ∙ c.in-Ok-Ok.field-0-is)) (a.ok p q),
+      );
+      answerable = tt;
+      caused = tt;
+      limit = tt;
+      info = tt;
+      left = tt;
+      kept = a.kept;
+      good = a.good;
+      turns = x.turns;
+      bounded = x.bounded;
+      keeps = x.keeps;
+    }
