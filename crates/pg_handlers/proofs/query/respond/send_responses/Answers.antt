@@ -7,6 +7,8 @@ use Rattle.pg_portal.specs.Responses.{told_response, told_responses}
 use Rattle.pg_handlers.specs.Good.{IsSendableResponse}
 use Rattle.pg_handlers.specs.ResponseRows.{responded}
 use Rattle.pg_handlers.proofs.Answers.{IsAnswered, answering_begins, answering_goes_on, answering_refused, answering_ends, left_copying, left_next}
+use Rattle.pg_messages.specs.Replies.{replies_bytes}
+use Rattle.pg_handlers.proofs.Sent.{kept_behind, kept_in_front}
 use Rattle.pg_handlers.proofs.query.respond.send_responses.Goals as goal
 
 pub send_response-requires : goal.send_response-requires
@@ -109,3 +111,26 @@ returns-clause-sent g c =
     (told_responses R C (into_iter_items c.loop-response.response-iterator))
     c.loop-response.outbox c.loop-response.invariant.sent (ap (told_responses R C) none) in
     (ended.0, ended.1)
+
+pub returns-in_err-next-clause-left : goal.returns-in_err-next-clause-left
+returns-in_err-next-clause-left g c =
+    let p = err_from_is_err_and c.from_residual.result c.from_residual.ensures.1 in rw p.1 tt
+
+pub returns-in_err-next-clause-answerable : goal.returns-in_err-next-clause-answerable
+returns-in_err-next-clause-answerable g c =
+    let p = err_from_is_err_and c.from_residual.result c.from_residual.ensures.1 in
+    rw (p.1, p.2) c.in_err-next.ensures.answerable
+
+pub returns-in_err-next-clause-kept : goal.returns-in_err-next-clause-kept
+returns-in_err-next-clause-kept g c =
+    let sent = c.loop-response.invariant.sent in
+    kept_behind c.args.outbox.now c.loop-response.outbox c.send_response.new.outbox (replies_bytes sent.replies) sent.replied
+    c.in_err-next.ensures.kept
+
+pub returns-clause-answerable : goal.returns-clause-answerable
+returns-clause-answerable g c = tt
+
+pub returns-clause-kept : goal.returns-clause-kept
+returns-clause-kept g c =
+    let sent = c.loop-response.invariant.sent in
+    kept_in_front c.args.outbox.now c.loop-response.outbox (replies_bytes sent.replies) sent.replied
