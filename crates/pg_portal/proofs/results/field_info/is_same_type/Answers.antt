@@ -44,26 +44,26 @@ returns-then-a-b c =
     let av = c.a.inside in
     let bv = c.b.inside in
     let types : c.if-oid.value ≡ eqb (oid_of av.datatype) (oid_of bv.datatype) && int_eq (format_code av.format) (format_code bv.format) =
-        elim c.if-oid.branch [
-          then-oid w ↦
-              let k = w.if-oid.true in
-              and_true (eqb (oid_of av.datatype) (oid_of bv.datatype)) (int_eq (format_code av.format) (format_code bv.format)) c.if-oid.value
-              (eq-eqb _ _ (sym c.oid.ensures ∙ k ∙ c.oid-2.ensures))
-              (w.value-is
-                  ∙ same_bits w16 w.value.result w.value-then-oid.result (record { sfits = w.value.type_inv }) (record { sfits = w.value-then-oid.type_inv })
-                  ∙ ap (λ x. int_eq x w.value-then-oid.result) w.value.ensures ∙ ap (int_eq (format_code av.format)) w.value-then-oid.ensures)
-          | else-oid w ↦
-              and_differs (oid_of av.datatype) (oid_of bv.datatype) (eqb (oid_of av.datatype) (oid_of bv.datatype)) _ c.if-oid.value refl
-              (w.value-is ∙ ap (λ x. eqb x c.oid-2.result) c.oid.ensures ∙ ap (eqb (oid_of av.datatype)) c.oid-2.ensures)
-              (λ e. w.if-oid.false (c.oid.ensures ∙ e ∙ sym c.oid-2.ensures))
-        ] in
+    elim c.if-oid.branch [
+      | then-oid w ↦
+          let k = w.if-oid.true in
+          and_true (eqb (oid_of av.datatype) (oid_of bv.datatype)) (int_eq (format_code av.format) (format_code bv.format)) c.if-oid.value
+          (eq-eqb _ _ (sym c.oid.ensures ∙ k ∙ c.oid-2.ensures))
+          (w.value-is
+          ∙ same_bits w16 w.value.result w.value-then-oid.result (record { sfits = w.value.type_inv }) (record { sfits = w.value-then-oid.type_inv })
+          ∙ ap (λ x. int_eq x w.value-then-oid.result) w.value.ensures ∙ ap (int_eq (format_code av.format)) w.value-then-oid.ensures)
+      | else-oid w ↦
+          and_differs (oid_of av.datatype) (oid_of bv.datatype) (eqb (oid_of av.datatype) (oid_of bv.datatype)) _ c.if-oid.value refl
+          (w.value-is ∙ ap (λ x. eqb x c.oid-2.result) c.oid.ensures ∙ ap (eqb (oid_of av.datatype)) c.oid-2.ensures)
+          (λ e. w.if-oid.false (c.oid.ensures ∙ e ∙ sym c.oid-2.ensures))
+    ] in
     let sizes : c.if-value.value ≡ c.if-oid.value && int_eq av.type_size bv.type_size =
-        elim c.if-value.branch [
-          then-value w ↦
-              and_true c.if-oid.value (int_eq av.type_size bv.type_size) c.if-value.value w.if-value.true
-              (w.value-is ∙ same_bits w16 av.type_size bv.type_size (search rules) (search rules))
-          | else-value w ↦ and_false c.if-oid.value (int_eq av.type_size bv.type_size) c.if-value.value w.value-is w.if-value.false
-        ] in
+    elim c.if-value.branch [
+      | then-value w ↦
+          and_true c.if-oid.value (int_eq av.type_size bv.type_size) c.if-value.value w.if-value.true
+          (w.value-is ∙ same_bits w16 av.type_size bv.type_size (search rules) (search rules))
+      | else-value w ↦ and_false c.if-oid.value (int_eq av.type_size bv.type_size) c.if-value.value w.value-is w.if-value.false
+    ] in
     rw (← c.a.view_is, ← c.b.view_is)
     (same_bits w32 av.type_modifier bv.type_modifier (search rules) (search rules)
     ∙ all_of _ _ _ (int_eq av.type_modifier bv.type_modifier) c.if-oid.value c.if-value.value types sizes c.if-a-b.true)
@@ -73,25 +73,25 @@ returns-else-a-b c =
     let av = c.a.inside in
     let bv = c.b.inside in
     let types : c.if-oid.value ≡ eqb (oid_of av.datatype) (oid_of bv.datatype) && int_eq (format_code av.format) (format_code bv.format) =
-        elim c.if-oid.branch [
-          then-oid w ↦
-              let k = w.if-oid.true in
-              and_true (eqb (oid_of av.datatype) (oid_of bv.datatype)) (int_eq (format_code av.format) (format_code bv.format)) c.if-oid.value
-              (eq-eqb _ _ (sym c.oid.ensures ∙ k ∙ c.oid-2.ensures))
-              (w.value-is
-                  ∙ same_bits w16 w.value.result w.value-then-oid.result (record { sfits = w.value.type_inv }) (record { sfits = w.value-then-oid.type_inv })
-                  ∙ ap (λ x. int_eq x w.value-then-oid.result) w.value.ensures ∙ ap (int_eq (format_code av.format)) w.value-then-oid.ensures)
-          | else-oid w ↦
-              and_differs (oid_of av.datatype) (oid_of bv.datatype) (eqb (oid_of av.datatype) (oid_of bv.datatype)) _ c.if-oid.value refl
-              (w.value-is ∙ ap (λ x. eqb x c.oid-2.result) c.oid.ensures ∙ ap (eqb (oid_of av.datatype)) c.oid-2.ensures)
-              (λ e. w.if-oid.false (c.oid.ensures ∙ e ∙ sym c.oid-2.ensures))
-        ] in
+    elim c.if-oid.branch [
+      | then-oid w ↦
+          let k = w.if-oid.true in
+          and_true (eqb (oid_of av.datatype) (oid_of bv.datatype)) (int_eq (format_code av.format) (format_code bv.format)) c.if-oid.value
+          (eq-eqb _ _ (sym c.oid.ensures ∙ k ∙ c.oid-2.ensures))
+          (w.value-is
+          ∙ same_bits w16 w.value.result w.value-then-oid.result (record { sfits = w.value.type_inv }) (record { sfits = w.value-then-oid.type_inv })
+          ∙ ap (λ x. int_eq x w.value-then-oid.result) w.value.ensures ∙ ap (int_eq (format_code av.format)) w.value-then-oid.ensures)
+      | else-oid w ↦
+          and_differs (oid_of av.datatype) (oid_of bv.datatype) (eqb (oid_of av.datatype) (oid_of bv.datatype)) _ c.if-oid.value refl
+          (w.value-is ∙ ap (λ x. eqb x c.oid-2.result) c.oid.ensures ∙ ap (eqb (oid_of av.datatype)) c.oid-2.ensures)
+          (λ e. w.if-oid.false (c.oid.ensures ∙ e ∙ sym c.oid-2.ensures))
+    ] in
     let sizes : c.if-value.value ≡ c.if-oid.value && int_eq av.type_size bv.type_size =
-        elim c.if-value.branch [
-          then-value w ↦
-              and_true c.if-oid.value (int_eq av.type_size bv.type_size) c.if-value.value w.if-value.true
-              (w.value-is ∙ same_bits w16 av.type_size bv.type_size (search rules) (search rules))
-          | else-value w ↦ and_false c.if-oid.value (int_eq av.type_size bv.type_size) c.if-value.value w.value-is w.if-value.false
-        ] in
+    elim c.if-value.branch [
+      | then-value w ↦
+          and_true c.if-oid.value (int_eq av.type_size bv.type_size) c.if-value.value w.if-value.true
+          (w.value-is ∙ same_bits w16 av.type_size bv.type_size (search rules) (search rules))
+      | else-value w ↦ and_false c.if-oid.value (int_eq av.type_size bv.type_size) c.if-value.value w.value-is w.if-value.false
+    ] in
     rw (← c.a.view_is, ← c.b.view_is)
     (none_of _ _ _ (int_eq av.type_modifier bv.type_modifier) c.if-oid.value c.if-value.value types sizes c.if-a-b.false)
