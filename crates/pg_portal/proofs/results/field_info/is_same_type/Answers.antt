@@ -7,7 +7,6 @@ use mir.Syntax.{Width, w16, w32}
 use mir.Val.{SFits}
 use Rattle.pg_text.specs.Formats.{format_code}
 use Rattle.pg_text.specs.Types.{oid_of}
-use Rattle.pg_portal.specs.SameFields.{is_same_type}
 use Rattle.pg_portal.proofs.results.field_info.is_same_type.Goals.{then-oid, else-oid, then-value, else-value}
 use Rattle.pg_portal.proofs.results.field_info.is_same_type.Goals as goal
 
