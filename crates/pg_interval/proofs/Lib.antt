@@ -1,3 +1,4 @@
+pub mod ByteRanges
 pub mod PrintedBytes
 pub mod CellLemmas
 pub mod DecimalsLemmas
