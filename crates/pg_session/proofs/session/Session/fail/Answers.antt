@@ -1,4 +1,5 @@
-use Rattle.std.proofs.Common.{refl}
+use Rattle.std.proofs.Common.{refl, subst}
+use Rattle.pg_handlers.specs.Sending.{IsAnswerableError}
 use Rattle.pg_session.specs.Messages.{scope_for}
 use Rattle.pg_session.proofs.Failing.{failed_by_told}
 use Rattle.pg_session.proofs.session.Session.fail.Goals as goal
@@ -11,3 +12,18 @@ returns-in-Wire-clause-failed g c =
     rw c.in-Wire.is (failed_by_told c.in-Wire.error (scope_for c.args.wait_for_sync) c.args.self.now.state c.tell.new.self.state
     c.args.self.now.unsent c.tell.new.self.unsent c.tell.result c.tell.ensures.known c.tell.ensures.replied c.tell.ensures.next
     c.tell.ensures.only)
+
+pub tell-requires-clause-answerable : goal.tell-requires-clause-answerable
+tell-requires-clause-answerable g c = subst IsAnswerableError c.in-Wire.is c.requires.answerable
+
+pub returns-in-Wire-clause-ends : goal.returns-in-Wire-clause-ends
+returns-in-Wire-clause-ends g c = c.tell.ensures.ends
+
+pub returns-in-Wire-clause-open : goal.returns-in-Wire-clause-open
+returns-in-Wire-clause-open g c = c.tell.ensures.«open»
+
+pub returns-in-Wire-clause-handlers : goal.returns-in-Wire-clause-handlers
+returns-in-Wire-clause-handlers g c = c.tell.ensures.handlers
+
+pub returns-in-Wire-clause-rest : goal.returns-in-Wire-clause-rest
+returns-in-Wire-clause-rest g c = c.tell.ensures.rest
