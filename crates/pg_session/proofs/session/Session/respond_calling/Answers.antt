@@ -1,9 +1,21 @@
-use Rattle.std.proofs.Common.{None, ap, sym, ◌∙◌}
+use Rattle.std.proofs.Common.{◌≡◌, ◌≢◌, Option, Some, None, Result, Ok, Err, ap, sym, ◌∙◌}
 use Rattle.pg_handlers.specs.Table.{scope_in}
+use Rattle.pg_handlers.specs.declared.ends.EndKind.{EndKind}
+use Rattle.pg_handlers.specs.declared.ends.EndKind.TheVariants as end
+use Rattle.pg_session.specs.declared.ends.ServeError.{ServeError}
+use Rattle.pg_session.specs.declared.ends.ServeError.TheVariants as serve
 use Rattle.pg_session.specs.Messages.{scope_for}
 use Rattle.pg_session.proofs.Answering.{answered_by_row}
 use Rattle.pg_session.proofs.Failing.{failed_answer, failed_cut, failed_stopped, failed_only, failed_turns}
 use Rattle.pg_session.proofs.session.Session.respond_calling.Goals as goal
+
+-- an answer without an error stops at no limit
+no_limit : {P : Type 0} → ◌≡◌ {A = Result (Option EndKind) ServeError} (Ok None) (Err serve.TurnLimit) → P
+no_limit is = cc
+
+-- what goes on doesn't end
+no_end : ◌≢◌ {A = Option EndKind} None (Some end.InputEnd)
+no_end is = cc
 
 pub returns-in-Ok : goal.returns-in-Ok
 returns-in-Ok g c =
@@ -15,9 +27,9 @@ returns-in-Ok g c =
           (g.D.CancelDesk.told c.args.desk.now).calls (g.D.CancelDesk.told c.process.new.desk).calls session.unsent done.unsent None
           done.state told.ok;
       err = tt;
-      stopped = λ limit. cc;
+      stopped = no_limit;
       only = tt;
-      ends = λ is. cc;
+      ends = no_end;
       opened = told.«open» ∙ c.requires.«open»;
       handlers = told.handlers;
       rest = told.rest;

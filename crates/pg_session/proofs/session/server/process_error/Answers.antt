@@ -31,3 +31,15 @@ returns-clause-next g c =
     let told = c.error_told-outcome in
     subst (λ v. IfOk told.result (λ end. (failed (scope_for c.args.wait_for_sync) [] [] v.state (info_of c.args.error)).next
     ≡ next_of end (state_of g.St.PortalStore.maps told.new.client))) c.session.view_is told.ensures.next
+
+pub returns-clause-ends : goal.returns-clause-ends
+returns-clause-ends g c = c.error_told-outcome.ensures.ends
+
+pub returns-clause-open : goal.returns-clause-open
+returns-clause-open g c = c.goes_on-session-inside.ensures
+
+pub returns-clause-handlers : goal.returns-clause-handlers
+returns-clause-handlers g c = ap (λ v. v.handlers) c.session.view_is
+
+pub returns-clause-rest : goal.returns-clause-rest
+returns-clause-rest g c = ap (λ v. v.rest) c.session.view_is
