@@ -15,3 +15,15 @@ returns-clause-good g c =
     good_parts (g.H.PgWireServerHandlers.told c.args.handlers.now).extended.parser s n.info n.statements n.portals
     c.on_query.ensures.metadata (ap (λ st. (g.St.PortalStore.maps st).statements) c.on_query.ensures.store)
     (ap (λ st. (g.St.PortalStore.maps st).portals) c.on_query.ensures.store) c.requires.good
+
+pub returns-clause-answerable : goal.returns-clause-answerable
+returns-clause-answerable g c = c.on_query.ensures.answerable
+
+pub returns-clause-turns : goal.returns-clause-turns
+returns-clause-turns g c = c.on_query.ensures.turns
+
+pub returns-clause-bounded : goal.returns-clause-bounded
+returns-clause-bounded g c = c.on_query.ensures.bounded
+
+pub returns-clause-keeps : goal.returns-clause-keeps
+returns-clause-keeps g c = c.on_query.ensures.keeps
