@@ -33,3 +33,21 @@ returns-in-Query-clause-refused g c = rw c.in-Query.is (rw c.going.ensures (goin
 
 pub returns-in-Execute-clause-refused : goal.returns-in-Execute-clause-refused
 returns-in-Execute-clause-refused g c = rw c.in-Execute.is (rw c.going-in-Execute.ensures (going_refused _ c.on_execute.result c.on_execute.ensures.refused))
+
+pub returns-in-Query-clause-good : goal.returns-in-Query-clause-good
+returns-in-Query-clause-good g c = c.on_query.ensures.good
+
+pub returns-in-Query-clause-bounded : goal.returns-in-Query-clause-bounded
+returns-in-Query-clause-bounded g c = c.on_query.ensures.bounded
+
+pub returns-in-Query-clause-keeps : goal.returns-in-Query-clause-keeps
+returns-in-Query-clause-keeps g c = c.on_query.ensures.keeps
+
+pub returns-in-Execute-clause-good : goal.returns-in-Execute-clause-good
+returns-in-Execute-clause-good g c = c.on_execute.ensures.good
+
+pub returns-in-Execute-clause-bounded : goal.returns-in-Execute-clause-bounded
+returns-in-Execute-clause-bounded g c = c.on_execute.ensures.bounded
+
+pub returns-in-Execute-clause-keeps : goal.returns-in-Execute-clause-keeps
+returns-in-Execute-clause-keeps g c = c.on_execute.ensures.keeps

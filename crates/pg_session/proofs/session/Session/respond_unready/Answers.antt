@@ -36,3 +36,33 @@ pub returns-in-Err-clause-only : goal.returns-in-Err-clause-only
 returns-in-Err-clause-only g c = failed_memory c.in-Err.error (scope_for c.waits_when_unready-wait_for_sync.result)
     c.process_unready.new.session.state c.fail.new.self.state c.process_unready.new.session.unsent c.fail.new.self.unsent c.fail.result
     c.fail.ensures.failed (never_limited c.in-Err.error _ c.in-Err.ensures.turns)
+
+pub returns-in-Err-clause-ends : goal.returns-in-Err-clause-ends
+returns-in-Err-clause-ends g c = c.fail.ensures.ends
+
+pub returns-in-Err-clause-open : goal.returns-in-Err-clause-open
+returns-in-Err-clause-open g c = c.fail.ensures.«open»
+
+pub returns-in-Err-clause-handlers : goal.returns-in-Err-clause-handlers
+returns-in-Err-clause-handlers g c = c.fail.ensures.handlers ∙ c.in-Err.ensures.handlers
+
+pub returns-in-Err-clause-rest : goal.returns-in-Err-clause-rest
+returns-in-Err-clause-rest g c = c.fail.ensures.rest ∙ c.in-Err.ensures.rest
+
+pub returns-in-Err-clause-registration : goal.returns-in-Err-clause-registration
+returns-in-Err-clause-registration g c = c.in-Err.ensures.registration
+
+pub fail-requires-clause-answerable : goal.fail-requires-clause-answerable
+fail-requires-clause-answerable g c = c.in-Err.ensures.answerable
+
+pub returns-in-Ok-clause-ends : goal.returns-in-Ok-clause-ends
+returns-in-Ok-clause-ends g c = c.in-Ok.ensures.ends
+
+pub returns-in-Ok-clause-handlers : goal.returns-in-Ok-clause-handlers
+returns-in-Ok-clause-handlers g c = c.in-Ok.ensures.handlers
+
+pub returns-in-Ok-clause-rest : goal.returns-in-Ok-clause-rest
+returns-in-Ok-clause-rest g c = c.in-Ok.ensures.rest
+
+pub returns-in-Ok-clause-registration : goal.returns-in-Ok-clause-registration
+returns-in-Ok-clause-registration g c = c.in-Ok.ensures.registration

@@ -1,4 +1,4 @@
-use Rattle.std.proofs.Common.{Option}
+use Rattle.std.proofs.Common.{Option, ◌∙◌}
 use Rattle.pg_handlers.specs.declared.ends.EndKind.{EndKind}
 use Rattle.std.proofs.Common.{ap, sym, ◌∙◌}
 use Rattle.pg_handlers.specs.Table.{scope_in}
@@ -48,3 +48,42 @@ pub returns-in-Err-clause-turns : goal.returns-in-Err-clause-turns
 returns-in-Err-clause-turns g c = failed_turns (Option EndKind) c.in-Err.error (scope_for c.waits_when_ready-wait_for_sync.result)
     c.process_ready.new.session.state c.fail.new.self.state c.process_ready.new.session.unsent c.fail.new.self.unsent c.fail.result
     c.args.turns.now c.process_ready.new.turns _ c.fail.ensures.failed c.in-Err.ensures.turns
+
+pub returns-in-Err-clause-ends : goal.returns-in-Err-clause-ends
+returns-in-Err-clause-ends g c = c.fail.ensures.ends
+
+pub returns-in-Err-clause-open : goal.returns-in-Err-clause-open
+returns-in-Err-clause-open g c = c.fail.ensures.«open»
+
+pub returns-in-Err-clause-handlers : goal.returns-in-Err-clause-handlers
+returns-in-Err-clause-handlers g c = c.fail.ensures.handlers ∙ c.in-Err.ensures.handlers
+
+pub returns-in-Err-clause-rest : goal.returns-in-Err-clause-rest
+returns-in-Err-clause-rest g c = c.fail.ensures.rest ∙ c.in-Err.ensures.rest
+
+pub returns-in-Err-clause-registration : goal.returns-in-Err-clause-registration
+returns-in-Err-clause-registration g c = c.in-Err.ensures.registration
+
+pub fail-requires-clause-answerable : goal.fail-requires-clause-answerable
+fail-requires-clause-answerable g c = c.in-Err.ensures.answerable
+
+pub returns-in-Err-clause-bounded : goal.returns-in-Err-clause-bounded
+returns-in-Err-clause-bounded g c = c.in-Err.ensures.bounded
+
+pub returns-in-Ok-clause-ends : goal.returns-in-Ok-clause-ends
+returns-in-Ok-clause-ends g c = c.in-Ok.ensures.ends
+
+pub returns-in-Ok-clause-handlers : goal.returns-in-Ok-clause-handlers
+returns-in-Ok-clause-handlers g c = c.in-Ok.ensures.handlers
+
+pub returns-in-Ok-clause-rest : goal.returns-in-Ok-clause-rest
+returns-in-Ok-clause-rest g c = c.in-Ok.ensures.rest
+
+pub returns-in-Ok-clause-registration : goal.returns-in-Ok-clause-registration
+returns-in-Ok-clause-registration g c = c.in-Ok.ensures.registration
+
+pub returns-in-Ok-clause-bounded : goal.returns-in-Ok-clause-bounded
+returns-in-Ok-clause-bounded g c = c.in-Ok.ensures.bounded
+
+pub returns-in-Ok-clause-turns : goal.returns-in-Ok-clause-turns
+returns-in-Ok-clause-turns g c = c.in-Ok.ensures.turns
