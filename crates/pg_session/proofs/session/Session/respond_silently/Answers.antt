@@ -46,3 +46,15 @@ returns-in-Err-clause-answer g c = λ calls.
     c.self.view_is
     (silently_told (told (arc_value inside.handlers)) s c.args.message ready c.requires.plain inside.client.outbox mid now.unsent t
     now.state e result refused c.tell.ensures.known c.tell.ensures.replied c.tell.ensures.next calls)
+
+pub returns-in-Err-clause-only : goal.returns-in-Err-clause-only
+returns-in-Err-clause-only g c = c.tell.ensures.only
+
+pub returns-in-Err-clause-ends : goal.returns-in-Err-clause-ends
+returns-in-Err-clause-ends g c = c.tell.ensures.ends
+
+pub returns-in-Err-clause-open : goal.returns-in-Err-clause-open
+returns-in-Err-clause-open g c = c.tell.ensures.«open»
+
+pub tell-requires-clause-answerable : goal.tell-requires-clause-answerable
+tell-requires-clause-answerable g c = c.in-Err.ensures.answerable
