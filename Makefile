@@ -44,7 +44,7 @@ build:
 	@$(call QUIETLY,crates/server,rt run -- --version)
 	@python3 tools/show_frames.py $(CLIENT) crates/server/out/server $(WORDS)
 
-# Proves everything from nothing, tries every must-fail edit, runs every test and program. As many checks run side by side as there are
+# Proves everything from nothing, tries the must-fail edits that are not held, runs every test and program. As many checks run side by side as there are
 # processors, each in one job: a check that is given a second one repeats a tenth to a third of its work. They take up to 5 GB each; where
 # memory is short, `rt ci` alone has as many as fit.
 test:
