@@ -18,44 +18,45 @@ use Rattle.pg_messages.specs.declared.backend.PgWireBackendMessage.TheVariants a
 use Rattle.pg_messages.specs.Frames.{awaits_startup_after, statement_target, portal_target}
 use Rattle.pg_text.specs.declared.format.interval_style.IntervalStyle.{IntervalStyle}
 use Rattle.pg_text.specs.Words.{interval_style_of}
-use Rattle.pg_portal.specs.declared.client.ClientInfo.{ClientInfo}
-use Rattle.pg_portal.specs.declared.client.PgWireConnectionState.{PgWireConnectionState}
-use Rattle.pg_portal.specs.declared.client.PgWireConnectionState.TheVariants as phase
-use Rattle.pg_portal.specs.declared.error.PgWireError.{PgWireError}
-use Rattle.pg_portal.specs.declared.error.PgWireError.TheVariants as wire
-use Rattle.pg_portal.specs.declared.portal.Format.{Format}
-use Rattle.pg_portal.specs.declared.portal.Format.TheVariants as format
-use Rattle.pg_portal.specs.declared.stmt.StoredStatement.{StoredStatement}
+use Rattle.pg_results.specs.declared.client.ClientInfo.{ClientInfo}
+use Rattle.pg_results.specs.declared.client.PgWireConnectionState.{PgWireConnectionState}
+use Rattle.pg_results.specs.declared.client.PgWireConnectionState.TheVariants as phase
+use Rattle.pg_results.specs.declared.error.PgWireError.{PgWireError}
+use Rattle.pg_results.specs.declared.error.PgWireError.TheVariants as wire
+use Rattle.pg_results.specs.declared.format.Format.{Format}
+use Rattle.pg_results.specs.declared.format.Format.TheVariants as format
+use Rattle.pg_results.specs.declared.stmt.StoredStatement.{StoredStatement}
 use Rattle.pg_portal.specs.declared.store.Entry.{Entry}
 use Rattle.pg_portal.specs.declared.store.Entry.TheVariants as entry
-use Rattle.pg_portal.specs.declared.results.describe.DescribeStatementResponse.{DescribeStatementResponse}
-use Rattle.pg_portal.specs.declared.results.describe.DescribePortalResponse.{DescribePortalResponse}
-use Rattle.pg_portal.specs.Describing.{Described, is_empty_list, is_no_data}
-use Rattle.pg_portal.specs.Errors.{info_of}
-use Rattle.pg_portal.specs.Fields.{Field}
-use Rattle.pg_portal.specs.Formats.{format_of}
+use Rattle.pg_results.specs.declared.describe.DescribeStatementResponse.{DescribeStatementResponse}
+use Rattle.pg_results.specs.declared.describe.DescribePortalResponse.{DescribePortalResponse}
+use Rattle.pg_results.specs.Describing.{Described, is_empty_list, is_no_data}
+use Rattle.pg_results.specs.Errors.{info_of}
+use Rattle.pg_results.specs.Fields.{Field}
+use Rattle.pg_results.specs.Formats.{format_of}
 use Rattle.pg_portal.specs.Fetching.{stage_after}
-use Rattle.pg_portal.specs.Page.{PageEnd, AtLimit, AtEnd, AtError, delivered_after, item_page}
-use Rattle.pg_portal.specs.Responses as response
-use Rattle.pg_portal.specs.Responses.{ToldResponse}
-use Rattle.pg_portal.specs.Statements.{prepared}
-use Rattle.pg_portal.specs.Texts.{is_blank}
-use Rattle.pg_portal.specs.Told.{TablePortal, Stage, Unstarted, Started, Ended, ToldRows, value_under}
-use Rattle.pg_handlers.specs.declared.desk.DeskCall.{DeskCall}
-use Rattle.pg_handlers.specs.declared.ends.EndKind.{EndKind}
-use Rattle.pg_handlers.specs.declared.ends.EndKind.TheVariants as end
-use Rattle.pg_handlers.specs.Answer.{Answer, Next, Goes, Ends, Stops, continued, conversation, left_by}
+use Rattle.pg_results.specs.Page.{PageEnd, AtLimit, AtEnd, AtError, delivered_after, item_page}
+use Rattle.pg_results.specs.Responses as response
+use Rattle.pg_results.specs.Responses.{ToldResponse}
+use Rattle.pg_results.specs.Statements.{prepared}
+use Rattle.pg_results.specs.Texts.{is_blank}
+use Rattle.pg_results.specs.Told.{ToldRows}
+use Rattle.pg_portal.specs.Told.{TablePortal, Stage, Unstarted, Started, Ended, value_under}
+use Rattle.pg_client.specs.declared.desk.DeskCall.{DeskCall}
+use Rattle.pg_client.specs.declared.ends.EndKind.{EndKind}
+use Rattle.pg_client.specs.declared.ends.EndKind.TheVariants as end
+use Rattle.pg_client.specs.Answer.{Answer, Next, Goes, Ends, Stops, continued, conversation, left_by}
 use Rattle.pg_handlers.specs.CopyRows.{copy_row}
-use Rattle.pg_handlers.specs.Effect.{Effect, Called, Scope, UntilSync, AnswersReady, Outcome, Done, Failed, Over, Stopped, says, refuses, silent, after_error, settle, settled}
-use Rattle.pg_handlers.specs.Errors.{is_fatal, too_few_codes, values_for_empty}
+use Rattle.pg_client.specs.Effect.{Effect, Called, Scope, UntilSync, AnswersReady, Outcome, Done, Failed, Over, Stopped, says, refuses, silent, after_error, settle, settled}
+use Rattle.pg_client.specs.Errors.{is_fatal, too_few_codes, values_for_empty}
 use Rattle.pg_handlers.specs.ExecuteRow.{at_stage, page_effect, fetched, sent_in_execute, executed, execute_polled, executed_portal, executed_entry}
 use Rattle.pg_handlers.specs.ExtendedRows.{bind_complete, parsed, portal_bound, bound_portal, bound_with_columns, bound, described, described_statement, described_portal, statement_description, portal_description, on_describe, on_close}
 use Rattle.pg_handlers.specs.Handlers.{Handlers}
 use Rattle.pg_handlers.specs.Questions.{Verdict, Passed, Canceled, Unanswered, questioned}
-use Rattle.pg_handlers.specs.Replies.{Replies, error_reply, ready, row_replies, done_with, row_description}
-use Rattle.pg_handlers.specs.ResponseRows.{Sent, responded}
+use Rattle.pg_replies.specs.Replies.{Replies, error_reply, ready, row_replies, done_with, row_description}
+use Rattle.pg_replies.specs.ResponseRows.{Sent, responded}
 use Rattle.pg_handlers.specs.SimpleRows.{answered, responded_all, query_polled, query_run}
-use Rattle.pg_handlers.specs.State.{State, in_phase, with_status, with_portal, without_statement, without_portal, without_unnamed_portal}
+use Rattle.pg_client.specs.State.{State, in_phase, with_status, with_portal, without_statement, without_portal, without_unnamed_portal}
 use Rattle.pg_handlers.specs.Table.{statement_row, ready_row, awaiting_sync_row, row, scope_in, whole_table, is_startup_phase, awaits}
 use Rattle.pg_handlers.proofs.Awaiting.{row_keeps}
 use Rattle.pg_handlers.proofs.GoodStores.{Each, each_after_insert, each_after_remove, none_empty, one_value}

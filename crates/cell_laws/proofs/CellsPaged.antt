@@ -6,13 +6,13 @@ use Rattle.pg_messages.specs.declared.data.DataRow.{DataRow}
 use Rattle.pg_messages.specs.declared.backend.PgWireBackendMessage.{PgWireBackendMessage}
 use Rattle.pg_messages.specs.declared.backend.PgWireBackendMessage.TheVariants as server
 use Rattle.pg_messages.specs.declared.response.TransactionStatus.{TransactionStatus}
-use Rattle.pg_portal.specs.declared.error.PgWireError.{PgWireError}
-use Rattle.pg_portal.specs.Page.{page, is_reached, PageEnd, AtLimit, AtEnd, AtError, ItemPage, item_page, ended_page, before_error, first_error}
-use Rattle.pg_portal.specs.Responses as response
-use Rattle.pg_portal.specs.Responses.{ToldResponse, ToldCopy}
-use Rattle.pg_portal.specs.Told.{ToldRows}
-use Rattle.pg_handlers.specs.Replies.{Replies, row_replies, done_with}
-use Rattle.pg_handlers.specs.ResponseRows.{Sent, unless_error, sent_rows, rows_front, copy_items, copy_data, copy_count, copy_replies, copy_end, copy_out_reply, copy_both_reply, sent_copy, responded}
+use Rattle.pg_results.specs.declared.error.PgWireError.{PgWireError}
+use Rattle.pg_results.specs.Page.{page, is_reached, PageEnd, AtLimit, AtEnd, AtError, ItemPage, item_page, ended_page, before_error, first_error}
+use Rattle.pg_results.specs.Responses as response
+use Rattle.pg_results.specs.Responses.{ToldResponse, ToldCopy}
+use Rattle.pg_results.specs.Told.{ToldRows}
+use Rattle.pg_replies.specs.Replies.{Replies, row_replies, done_with}
+use Rattle.pg_replies.specs.ResponseRows.{Sent, unless_error, sent_rows, rows_front, copy_items, copy_data, copy_count, copy_replies, copy_end, copy_out_reply, copy_both_reply, sent_copy, responded}
 use Rattle.pg_handlers.specs.SimpleRows.{followed, responded_all}
 
 -- ---- lists

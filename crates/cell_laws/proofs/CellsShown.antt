@@ -16,17 +16,17 @@ use Rattle.pg_interval.proofs.VerboseReads.{verbose_stands}
 use Rattle.pg_messages.specs.declared.copy.CopyData.{CopyData}
 use Rattle.pg_messages.specs.declared.data.DataRow.{DataRow}
 use Rattle.pg_messages.specs.Fields.{count32}
-use Rattle.pg_text.specs.declared.field_format.FieldFormat.{FieldFormat}
-use Rattle.pg_text.specs.declared.field_format.FieldFormat.TheVariants as field
+use Rattle.pg_types.specs.declared.field_format.FieldFormat.{FieldFormat}
+use Rattle.pg_types.specs.declared.field_format.FieldFormat.TheVariants as field
 use Rattle.pg_text.specs.declared.format.interval_style.IntervalStyle.{IntervalStyle}
 use Rattle.pg_text.specs.declared.format.interval_style.IntervalStyle.TheVariants as style
 use Rattle.pg_text.specs.Intervals.{read_interval}
 use Rattle.pg_text.specs.Words.{printed_style}
 use Rattle.pg_text.proofs.Cells.{read_some}
-use Rattle.pg_portal.specs.declared.error.PgWireError.{PgWireError}
-use Rattle.pg_portal.specs.declared.portal.Format.{Format}
-use Rattle.pg_portal.specs.Copying.{CopyItem}
-use Rattle.pg_portal.specs.Rows.{RowItem}
+use Rattle.pg_results.specs.declared.error.PgWireError.{PgWireError}
+use Rattle.pg_results.specs.declared.format.Format.{Format}
+use Rattle.pg_results.specs.Copying.{CopyItem}
+use Rattle.pg_results.specs.Rows.{RowItem}
 use Rattle.relation_tables.specs.declared.Relation.{Relation}
 use Rattle.relation_tables.specs.Relations.{relation_at, are_even, HaveEvenRows}
 use Rattle.relation_tables.specs.RelationHandler.{or_refused, in_front, all_or_error, text_of, as_value as as_text_value, value, row_of_values, row_item, line_of_texts, line_item, column_formats}

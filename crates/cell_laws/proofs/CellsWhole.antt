@@ -16,18 +16,18 @@ use Rattle.pg_messages.specs.declared.codec.ProtocolVersion.{ProtocolVersion}
 use Rattle.pg_messages.specs.declared.codec.ProtocolVersion.TheVariants.{PROTOCOL3_0, PROTOCOL3_2}
 use Rattle.pg_messages.specs.Frames.{protocol_3_0, protocol_3_2}
 use Rattle.pg_text.specs.declared.format.interval_style.IntervalStyle.{IntervalStyle}
-use Rattle.pg_portal.specs.declared.error.PgWireError.TheVariants as wire
-use Rattle.pg_portal.specs.declared.portal.Format.{Format}
-use Rattle.pg_portal.specs.declared.portal.Format.TheVariants as format
+use Rattle.pg_results.specs.declared.error.PgWireError.TheVariants as wire
+use Rattle.pg_results.specs.declared.format.Format.{Format}
+use Rattle.pg_results.specs.declared.format.Format.TheVariants as format
 use Rattle.pg_portal.specs.declared.store.Entry.{Entry}
 use Rattle.pg_portal.specs.Told.{value_under}
-use Rattle.pg_handlers.specs.declared.desk.DeskCall.{DeskCall}
-use Rattle.pg_handlers.specs.Answer.{Answer, Next, Goes, Ends, Stops, continued, conversation, left_by}
-use Rattle.pg_handlers.specs.Effect.{UntilSync, refuses, silent, settle}
-use Rattle.pg_handlers.specs.Errors.{unsupported_version}
-use Rattle.pg_handlers.specs.Replies.{Replies, startup_replies}
-use Rattle.pg_handlers.specs.StartupRows.{no_encryption, accepts, told_key, narrowing, started_session}
-use Rattle.pg_handlers.specs.State.{first_state}
+use Rattle.pg_client.specs.declared.desk.DeskCall.{DeskCall}
+use Rattle.pg_client.specs.Answer.{Answer, Next, Goes, Ends, Stops, continued, conversation, left_by}
+use Rattle.pg_client.specs.Effect.{UntilSync, refuses, silent, settle}
+use Rattle.pg_client.specs.Errors.{unsupported_version}
+use Rattle.pg_replies.specs.Replies.{Replies, startup_replies}
+use Rattle.pg_client.specs.StartupRows.{no_encryption, accepts, told_key, narrowing, started_session}
+use Rattle.pg_client.specs.State.{first_state}
 use Rattle.pg_handlers.specs.Table.{whole_table, awaits}
 use Rattle.pg_handlers.proofs.GoodStores.{Each}
 use Rattle.relation_tables.specs.declared.Relation.{Relation}

@@ -4,18 +4,18 @@ use Rattle.std.specs.List.{AllByRecursion}
 use Rattle.pg_messages.specs.declared.extendedquery.PgSync.{PgSync}
 use Rattle.pg_messages.specs.declared.frontend.PgWireFrontendMessage.{PgWireFrontendMessage}
 use Rattle.pg_messages.specs.declared.frontend.PgWireFrontendMessage.TheVariants as client
-use Rattle.pg_portal.specs.declared.client.PgWireConnectionState.{PgWireConnectionState}
-use Rattle.pg_portal.specs.declared.client.PgWireConnectionState.TheVariants as phase
-use Rattle.pg_portal.specs.declared.error.PgWireError.{PgWireError}
-use Rattle.pg_portal.specs.Errors.{info_of}
-use Rattle.pg_handlers.specs.declared.desk.DeskCall.{DeskCall}
-use Rattle.pg_handlers.specs.declared.ends.EndKind.TheVariants as end
-use Rattle.pg_handlers.specs.Answer.{Answer, Goes, Ends, conversation, continued, joined, left_by}
-use Rattle.pg_handlers.specs.Effect.{Called, Scope, UntilSync, Outcome, Failed, settle, settled, after_error}
-use Rattle.pg_handlers.specs.Errors.{is_fatal}
+use Rattle.pg_results.specs.declared.client.PgWireConnectionState.{PgWireConnectionState}
+use Rattle.pg_results.specs.declared.client.PgWireConnectionState.TheVariants as phase
+use Rattle.pg_results.specs.declared.error.PgWireError.{PgWireError}
+use Rattle.pg_results.specs.Errors.{info_of}
+use Rattle.pg_client.specs.declared.desk.DeskCall.{DeskCall}
+use Rattle.pg_client.specs.declared.ends.EndKind.TheVariants as end
+use Rattle.pg_client.specs.Answer.{Answer, Goes, Ends, conversation, continued, joined, left_by}
+use Rattle.pg_client.specs.Effect.{Called, Scope, UntilSync, Outcome, Failed, settle, settled, after_error}
+use Rattle.pg_client.specs.Errors.{is_fatal}
 use Rattle.pg_handlers.specs.Handlers.{Handlers}
-use Rattle.pg_handlers.specs.Replies.{Replies, error_reply}
-use Rattle.pg_handlers.specs.State.{State}
+use Rattle.pg_replies.specs.Replies.{Replies, error_reply}
+use Rattle.pg_client.specs.State.{State}
 use Rattle.pg_handlers.specs.Table.{row, scope_in, whole_table, message_row}
 use Rattle.conversation_laws.specs.Discarding.{IsDiscarded, IsOfExtendedQuery, IsOutsideCopy, EndsWithError, unchanged, synced, behind_sync}
 

@@ -2,11 +2,11 @@
 use Rattle.std.proofs.Common.{◌≡◌, ◌∙◌, ◌⊎◌, inl, inr, ℕ, Bool, List, [], ◌∷◌, ◌++◌, refl, ap, sym, append_assoc}
 use Rattle.pg_messages.specs.declared.frontend.PgWireFrontendMessage.{PgWireFrontendMessage}
 use Rattle.pg_portal.specs.Fetching.{items_to_come}
-use Rattle.pg_portal.specs.Rows.{RowItem}
+use Rattle.pg_results.specs.Rows.{RowItem}
 use Rattle.pg_portal.specs.Told.{Stage, Unstarted, Started, Ended}
-use Rattle.pg_handlers.specs.Answer.{Answer, Table, Next, Goes, Ends, Stops, left_by}
-use Rattle.pg_handlers.specs.Replies.{Replies}
-use Rattle.pg_handlers.specs.State.{State}
+use Rattle.pg_client.specs.Answer.{Answer, Table, Next, Goes, Ends, Stops, left_by}
+use Rattle.pg_replies.specs.Replies.{Replies}
+use Rattle.pg_client.specs.State.{State}
 use Rattle.conversation_laws.specs.Pages.{Taken, HasStarted, IsUnstarted, Leaves, TellsInTurn, TellsLater, WhileStarted, items_of, joined_items, stage_under}
 
 joined_both : (first others : List Taken) → joined_items (first ++ others) ≡ joined_items first ++ joined_items others

@@ -6,15 +6,16 @@ use Rattle.std.proofs.lemmas.Slice.Eq.{bytes_eq-Decides}
 use Rattle.pg_messages.specs.declared.extendedquery.Execute.{Execute}
 use Rattle.pg_messages.specs.declared.frontend.PgWireFrontendMessage.{PgWireFrontendMessage}
 use Rattle.pg_messages.specs.declared.frontend.PgWireFrontendMessage.TheVariants as client
-use Rattle.pg_portal.specs.declared.client.PgWireConnectionState.{PgWireConnectionState}
-use Rattle.pg_portal.specs.declared.client.PgWireConnectionState.TheVariants as phase
+use Rattle.pg_results.specs.declared.client.PgWireConnectionState.{PgWireConnectionState}
+use Rattle.pg_results.specs.declared.client.PgWireConnectionState.TheVariants as phase
 use Rattle.pg_portal.specs.Fetching.{items_to_come}
-use Rattle.pg_portal.specs.Rows.{RowItem}
-use Rattle.pg_portal.specs.Told.{ToldRows, value_under}
-use Rattle.pg_handlers.specs.Answer.{Next, Goes, Ends, Stops}
+use Rattle.pg_results.specs.Rows.{RowItem}
+use Rattle.pg_results.specs.Told.{ToldRows}
+use Rattle.pg_portal.specs.Told.{value_under}
+use Rattle.pg_client.specs.Answer.{Next, Goes, Ends, Stops}
 use Rattle.pg_handlers.specs.Handlers.{Handlers}
-use Rattle.pg_handlers.specs.Replies.{Replies}
-use Rattle.pg_handlers.specs.State.{State}
+use Rattle.pg_replies.specs.Replies.{Replies}
+use Rattle.pg_client.specs.State.{State}
 use Rattle.pg_handlers.specs.Table.{whole_table}
 use Rattle.conversation_laws.specs.Pages.{Taken, HasStarted, IsTold, IsWithin, PagesJoin, Replaces, Starts, TakesPage, TellsPageWhere, TellsPages, is_execute_of, items_of, stage_in, stage_under}
 use Rattle.conversation_laws.proofs.Gathering.{Step, LeavesOrGone, follows, left_so, step_joins}

@@ -14,41 +14,42 @@ use Rattle.pg_messages.specs.declared.frontend.PgWireFrontendMessage.TheVariants
 use Rattle.pg_messages.specs.declared.backend.PgWireBackendMessage.TheVariants as server
 use Rattle.pg_messages.specs.declared.codec.ProtocolVersion.TheVariants.{PROTOCOL3_0, PROTOCOL3_2}
 use Rattle.pg_messages.specs.Frames.{protocol_3_0, protocol_3_2, statement_target, portal_target}
-use Rattle.pg_portal.specs.declared.client.PgWireConnectionState.{PgWireConnectionState}
-use Rattle.pg_portal.specs.declared.client.PgWireConnectionState.TheVariants as phase
-use Rattle.pg_portal.specs.declared.error.PgWireError.{PgWireError}
-use Rattle.pg_portal.specs.declared.error.PgWireError.TheVariants as wire
-use Rattle.pg_portal.specs.declared.results.tag.Tag.{Tag}
-use Rattle.pg_portal.specs.declared.stmt.StoredStatement.{StoredStatement}
+use Rattle.pg_results.specs.declared.client.PgWireConnectionState.{PgWireConnectionState}
+use Rattle.pg_results.specs.declared.client.PgWireConnectionState.TheVariants as phase
+use Rattle.pg_results.specs.declared.error.PgWireError.{PgWireError}
+use Rattle.pg_results.specs.declared.error.PgWireError.TheVariants as wire
+use Rattle.pg_results.specs.declared.tag.Tag.{Tag}
+use Rattle.pg_results.specs.declared.stmt.StoredStatement.{StoredStatement}
 use Rattle.pg_portal.specs.declared.store.Entry.{Entry}
 use Rattle.pg_portal.specs.declared.store.Entry.TheVariants as entry
-use Rattle.pg_portal.specs.Describing.{is_empty_list}
-use Rattle.pg_portal.specs.Errors.{info_of}
-use Rattle.pg_portal.specs.Fields.{Field}
-use Rattle.pg_portal.specs.Names.{NameMap}
-use Rattle.pg_portal.specs.Page.{PageEnd, AtLimit, AtEnd, AtError, delivered_after, item_page}
-use Rattle.pg_portal.specs.Responses as response
-use Rattle.pg_portal.specs.Responses.{ToldResponse}
-use Rattle.pg_portal.specs.Statements.{prepared}
-use Rattle.pg_portal.specs.Texts.{is_blank}
-use Rattle.pg_portal.specs.Told.{TablePortal, ToldRows, Stage, Unstarted, Started, Ended, value_under, value_of}
-use Rattle.pg_portal.proofs.NameMaps.{get-put, get-other}
-use Rattle.pg_handlers.specs.declared.desk.DeskCall.{DeskCall}
-use Rattle.pg_handlers.specs.declared.ends.EndKind.TheVariants as end
-use Rattle.pg_handlers.specs.Answer.{Answer, Next, Goes, Ends, Stops}
+use Rattle.pg_results.specs.Describing.{is_empty_list}
+use Rattle.pg_results.specs.Errors.{info_of}
+use Rattle.pg_results.specs.Fields.{Field}
+use Rattle.named_entries.specs.Names.{NameMap}
+use Rattle.pg_results.specs.Page.{PageEnd, AtLimit, AtEnd, AtError, delivered_after, item_page}
+use Rattle.pg_results.specs.Responses as response
+use Rattle.pg_results.specs.Responses.{ToldResponse}
+use Rattle.pg_results.specs.Statements.{prepared}
+use Rattle.pg_results.specs.Texts.{is_blank}
+use Rattle.pg_results.specs.Told.{ToldRows}
+use Rattle.pg_portal.specs.Told.{TablePortal, Stage, Unstarted, Started, Ended, value_under, value_of}
+use Rattle.named_entries.proofs.NameMaps.{get-put, get-other}
+use Rattle.pg_client.specs.declared.desk.DeskCall.{DeskCall}
+use Rattle.pg_client.specs.declared.ends.EndKind.TheVariants as end
+use Rattle.pg_client.specs.Answer.{Answer, Next, Goes, Ends, Stops}
 use Rattle.pg_handlers.specs.CopyRows.{copied, copy_row, stepped}
-use Rattle.pg_handlers.specs.Effect.{Effect, Called, Scope, UntilSync, AnswersReady, Outcome, Done, Failed, Over, Stopped, says, refuses, silent, settled, after_error}
-use Rattle.pg_handlers.specs.Errors.{is_fatal, unsupported_version, values_for_empty, too_few_codes}
+use Rattle.pg_client.specs.Effect.{Effect, Called, Scope, UntilSync, AnswersReady, Outcome, Done, Failed, Over, Stopped, says, refuses, silent, settled, after_error}
+use Rattle.pg_client.specs.Errors.{is_fatal, unsupported_version, values_for_empty, too_few_codes}
 use Rattle.pg_handlers.specs.ExecuteRow.{at_stage, executed, executed_entry, executed_portal, execute_polled, fetched, page_effect, sent_in_execute}
 use Rattle.pg_portal.specs.Fetching.{stage_after}
 use Rattle.pg_handlers.specs.ExtendedRows.{bind_complete, bound, bound_portal, bound_with_columns, described, described_portal, described_statement, on_close, on_describe, parsed, portal_description, statement_description}
 use Rattle.pg_handlers.specs.Handlers.{Handlers}
 use Rattle.pg_handlers.specs.Questions.{Verdict, Passed, Canceled, Unanswered, questioned}
-use Rattle.pg_handlers.specs.Replies.{Replies, ready}
-use Rattle.pg_handlers.specs.ResponseRows.{Sent, responded}
+use Rattle.pg_replies.specs.Replies.{Replies, ready}
+use Rattle.pg_replies.specs.ResponseRows.{Sent, responded}
 use Rattle.pg_handlers.specs.SimpleRows.{answered, query_polled, query_run, responded_all}
-use Rattle.pg_handlers.specs.StartupRows.{accepts, on_cancel_request, startup_row}
-use Rattle.pg_handlers.specs.State.{State, in_phase, with_portal, with_status, without_portal, without_statement, without_unnamed_portal}
+use Rattle.pg_client.specs.StartupRows.{accepts, on_cancel_request, startup_row}
+use Rattle.pg_client.specs.State.{State, in_phase, with_portal, with_status, without_portal, without_statement, without_unnamed_portal}
 use Rattle.pg_handlers.specs.Table.{awaiting_sync_row, ready_row, row, scope_in, statement_row, whole_table}
 use Rattle.std.proofs.lemmas.Bool.Decides.{Decides-eqb}
 use Rattle.conversation_laws.specs.Pages.{EndsTransaction, IsUnstarted, KeepsPortal, Replaces, is_execute_of, stage_in}

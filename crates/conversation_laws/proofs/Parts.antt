@@ -4,11 +4,11 @@ use Rattle.std.proofs.lemmas.Bool.Decides.{nat_tests}
 use Rattle.std.proofs.lemmas.List.{length-append, length-map, length-take-le, map-append, append-nil, take-append-drop}
 use Rattle.pg_messages.specs.declared.data.DataRow.{DataRow}
 use Rattle.pg_messages.specs.declared.backend.PgWireBackendMessage.{PgWireBackendMessage}
-use Rattle.pg_portal.specs.declared.error.PgWireError.{PgWireError}
-use Rattle.pg_portal.specs.Page.{AtLimit, AtEnd, AtError, is_reached, item_page, before_error}
-use Rattle.pg_portal.specs.Rows.{RowItem}
-use Rattle.pg_portal.proofs.Paging.{page_at_limit, page_at_end, page_at_error}
-use Rattle.pg_handlers.specs.Replies.{Replies, row_replies}
+use Rattle.pg_results.specs.declared.error.PgWireError.{PgWireError}
+use Rattle.pg_results.specs.Page.{AtLimit, AtEnd, AtError, is_reached, item_page, before_error}
+use Rattle.pg_results.specs.Rows.{RowItem}
+use Rattle.pg_results.proofs.Paging.{page_at_limit, page_at_end, page_at_error}
+use Rattle.pg_replies.specs.Replies.{Replies, row_replies}
 use Rattle.conversation_laws.specs.Pages.{SentRows, DroppedRows, IsWithin, items_of, rows_among}
 
 -- what stands behind the rows before the first error

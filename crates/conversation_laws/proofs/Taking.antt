@@ -5,27 +5,28 @@ use Rattle.pg_messages.specs.declared.data.DataRow.{DataRow}
 use Rattle.pg_messages.specs.declared.extendedquery.Execute.{Execute}
 use Rattle.pg_messages.specs.declared.frontend.PgWireFrontendMessage.TheVariants as client
 use Rattle.pg_messages.specs.declared.backend.PgWireBackendMessage.TheVariants as server
-use Rattle.pg_portal.specs.declared.client.PgWireConnectionState.{PgWireConnectionState}
-use Rattle.pg_portal.specs.declared.client.PgWireConnectionState.TheVariants as phase
-use Rattle.pg_portal.specs.declared.error.PgWireError.{PgWireError}
+use Rattle.pg_results.specs.declared.client.PgWireConnectionState.{PgWireConnectionState}
+use Rattle.pg_results.specs.declared.client.PgWireConnectionState.TheVariants as phase
+use Rattle.pg_results.specs.declared.error.PgWireError.{PgWireError}
 use Rattle.pg_portal.specs.declared.store.Entry.{Entry}
 use Rattle.pg_portal.specs.declared.store.Entry.TheVariants as entry
-use Rattle.pg_portal.specs.Errors.{info_of}
-use Rattle.pg_portal.specs.Fetching.{items_to_come, stage_after, with_items}
-use Rattle.pg_portal.specs.Page.{ItemPage, delivered_after}
-use Rattle.pg_portal.specs.Rows.{RowItem}
-use Rattle.pg_portal.specs.Told.{TablePortal, ToldRows, Stage, Unstarted, Started, Ended, value_under}
-use Rattle.pg_portal.proofs.NameMaps.{get-put}
-use Rattle.pg_handlers.specs.declared.desk.DeskCall.{DeskCall}
-use Rattle.pg_handlers.specs.declared.ends.EndKind.TheVariants as end
-use Rattle.pg_handlers.specs.Answer.{Answer, Goes, Ends}
-use Rattle.pg_handlers.specs.Effect.{Effect, UntilSync, settle, after_error}
-use Rattle.pg_handlers.specs.Errors.{is_fatal}
+use Rattle.pg_results.specs.Errors.{info_of}
+use Rattle.pg_results.specs.Told.{with_items, ToldRows}
+use Rattle.pg_portal.specs.Fetching.{items_to_come, stage_after}
+use Rattle.pg_results.specs.Page.{ItemPage, delivered_after}
+use Rattle.pg_results.specs.Rows.{RowItem}
+use Rattle.pg_portal.specs.Told.{TablePortal, Stage, Unstarted, Started, Ended, value_under}
+use Rattle.named_entries.proofs.NameMaps.{get-put}
+use Rattle.pg_client.specs.declared.desk.DeskCall.{DeskCall}
+use Rattle.pg_client.specs.declared.ends.EndKind.TheVariants as end
+use Rattle.pg_client.specs.Answer.{Answer, Goes, Ends}
+use Rattle.pg_client.specs.Effect.{Effect, UntilSync, settle, after_error}
+use Rattle.pg_client.specs.Errors.{is_fatal}
 use Rattle.pg_handlers.specs.ExecuteRow.{at_stage, execute_polled, executed_entry, executed_portal, fetched, page_effect}
 use Rattle.pg_handlers.specs.Handlers.{Handlers}
 use Rattle.pg_handlers.specs.Questions.{Verdict, Passed, started}
-use Rattle.pg_handlers.specs.Replies.{done_with, error_reply}
-use Rattle.pg_handlers.specs.State.{State, with_portal}
+use Rattle.pg_replies.specs.Replies.{done_with, error_reply}
+use Rattle.pg_client.specs.State.{State, with_portal}
 use Rattle.pg_handlers.specs.Table.{row, scope_in, whole_table}
 use Rattle.conversation_laws.specs.Pages.{SentRows, DroppedRows, HasStarted, IsWithin, Leaves, Starts, TakesPage, items_of, stage_in, stage_under}
 use Rattle.conversation_laws.proofs.Parts.{Parts, Reached, Complete, Broken, parts, rows_before}

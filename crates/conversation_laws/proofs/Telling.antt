@@ -14,33 +14,34 @@ use Rattle.pg_messages.specs.declared.backend.PgWireBackendMessage.TheVariants a
 use Rattle.pg_messages.specs.declared.response.ErrorInfo.{ErrorInfo}
 use Rattle.pg_messages.specs.declared.response.TransactionStatus.{TransactionStatus}
 use Rattle.pg_messages.specs.Frames.{statement_target, portal_target}
-use Rattle.pg_portal.specs.declared.client.PgWireConnectionState.{PgWireConnectionState}
-use Rattle.pg_portal.specs.declared.client.PgWireConnectionState.TheVariants as phase
-use Rattle.pg_portal.specs.declared.error.PgWireError.{PgWireError}
-use Rattle.pg_portal.specs.declared.error.PgWireError.TheVariants as wire
-use Rattle.pg_portal.specs.declared.stmt.StoredStatement.{StoredStatement}
+use Rattle.pg_results.specs.declared.client.PgWireConnectionState.{PgWireConnectionState}
+use Rattle.pg_results.specs.declared.client.PgWireConnectionState.TheVariants as phase
+use Rattle.pg_results.specs.declared.error.PgWireError.{PgWireError}
+use Rattle.pg_results.specs.declared.error.PgWireError.TheVariants as wire
+use Rattle.pg_results.specs.declared.stmt.StoredStatement.{StoredStatement}
 use Rattle.pg_portal.specs.declared.store.Entry.{Entry}
 use Rattle.pg_portal.specs.declared.store.Entry.TheVariants as entry
-use Rattle.pg_portal.specs.Describing.{is_empty_list, is_no_data}
-use Rattle.pg_portal.specs.Errors.{info_of}
-use Rattle.pg_portal.specs.Fields.{Field}
-use Rattle.pg_portal.specs.Page.{PageEnd, AtLimit, AtEnd, AtError, delivered_after, item_page, first_error}
-use Rattle.pg_portal.specs.Responses as response
-use Rattle.pg_portal.specs.Responses.{ToldResponse, ToldCopy}
-use Rattle.pg_portal.specs.Statements.{prepared}
-use Rattle.pg_portal.specs.Told.{TablePortal, ToldRows, Stage, Unstarted, Started, Ended}
-use Rattle.pg_handlers.specs.declared.desk.DeskCall.{DeskCall}
-use Rattle.pg_handlers.specs.Answer.{Answer}
-use Rattle.pg_handlers.specs.Effect.{Effect, Scope, UntilSync, Outcome, Done, Failed, Over, Stopped, says, refuses, settle, settled}
-use Rattle.pg_handlers.specs.Errors.{values_for_empty, too_few_codes}
+use Rattle.pg_results.specs.Describing.{is_empty_list, is_no_data}
+use Rattle.pg_results.specs.Errors.{info_of}
+use Rattle.pg_results.specs.Fields.{Field}
+use Rattle.pg_results.specs.Page.{PageEnd, AtLimit, AtEnd, AtError, delivered_after, item_page, first_error}
+use Rattle.pg_results.specs.Responses as response
+use Rattle.pg_results.specs.Responses.{ToldResponse, ToldCopy}
+use Rattle.pg_results.specs.Statements.{prepared}
+use Rattle.pg_results.specs.Told.{ToldRows}
+use Rattle.pg_portal.specs.Told.{TablePortal, Stage, Unstarted, Started, Ended}
+use Rattle.pg_client.specs.declared.desk.DeskCall.{DeskCall}
+use Rattle.pg_client.specs.Answer.{Answer}
+use Rattle.pg_client.specs.Effect.{Effect, Scope, UntilSync, Outcome, Done, Failed, Over, Stopped, says, refuses, settle, settled}
+use Rattle.pg_client.specs.Errors.{values_for_empty, too_few_codes}
 use Rattle.pg_handlers.specs.ExecuteRow.{at_stage, executed, executed_entry, executed_portal, execute_polled, fetched, page_effect, sent_in_execute}
 use Rattle.pg_portal.specs.Fetching.{stage_after}
 use Rattle.pg_handlers.specs.ExtendedRows.{bind_complete, bound, bound_portal, bound_with_columns, described, described_portal, described_statement, on_describe, parsed, portal_description, statement_description}
 use Rattle.pg_handlers.specs.Handlers.{Handlers}
 use Rattle.pg_handlers.specs.Questions.{Verdict, Passed, Canceled, Unanswered, questioned}
-use Rattle.pg_handlers.specs.Replies.{Replies, done_with, row_description, row_replies}
-use Rattle.pg_handlers.specs.ResponseRows.{Sent, responded, sent_copy, unless_error, copy_replies, copy_data, copy_count, copy_end, copy_items, copy_out_reply, copy_both_reply}
-use Rattle.pg_handlers.specs.State.{State, with_portal}
+use Rattle.pg_replies.specs.Replies.{Replies, done_with, row_description, row_replies}
+use Rattle.pg_replies.specs.ResponseRows.{Sent, responded, sent_copy, unless_error, copy_replies, copy_data, copy_count, copy_end, copy_items, copy_out_reply, copy_both_reply}
+use Rattle.pg_client.specs.State.{State, with_portal}
 use Rattle.pg_handlers.specs.Table.{ready_row, row, scope_in, statement_row, whole_table}
 use Rattle.conversation_laws.specs.Discarding.{EndsWithError, IsOfExtendedQuery, has_error}
 use Rattle.conversation_laws.proofs.Discards.{error_ends, extended_scope}

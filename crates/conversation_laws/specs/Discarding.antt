@@ -3,14 +3,14 @@ use Rattle.std.specs.Prelude.{Bool, true, false, [], ◌∷◌, ◌++◌, ◌≡
 use Rattle.pg_messages.specs.declared.frontend.PgWireFrontendMessage.{PgWireFrontendMessage}
 use Rattle.pg_messages.specs.declared.frontend.PgWireFrontendMessage.TheVariants as client
 use Rattle.pg_messages.specs.declared.response.ErrorInfo.{ErrorInfo}
-use Rattle.pg_portal.specs.declared.client.PgWireConnectionState.{PgWireConnectionState}
-use Rattle.pg_portal.specs.declared.client.PgWireConnectionState.TheVariants as phase
+use Rattle.pg_results.specs.declared.client.PgWireConnectionState.{PgWireConnectionState}
+use Rattle.pg_results.specs.declared.client.PgWireConnectionState.TheVariants as phase
 use Rattle.pg_messages.specs.declared.backend.PgWireBackendMessage.TheVariants as server
-use Rattle.pg_handlers.specs.declared.ends.EndKind.TheVariants as end
-use Rattle.pg_handlers.specs.Errors.{is_fatal}
-use Rattle.pg_handlers.specs.Answer.{Answer, Next, Goes, Ends}
-use Rattle.pg_handlers.specs.Replies.{Replies, error_reply, ready}
-use Rattle.pg_handlers.specs.State.{State, in_phase, without_unnamed_portal}
+use Rattle.pg_client.specs.declared.ends.EndKind.TheVariants as end
+use Rattle.pg_client.specs.Errors.{is_fatal}
+use Rattle.pg_client.specs.Answer.{Answer, Next, Goes, Ends}
+use Rattle.pg_replies.specs.Replies.{Replies, error_reply, ready}
+use Rattle.pg_client.specs.State.{State, in_phase, without_unnamed_portal}
 
 -- a message that is dropped after an error: each but Sync and Terminate
 abbrev pub IsDiscarded : PgWireFrontendMessage → Type 0

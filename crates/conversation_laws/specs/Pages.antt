@@ -8,21 +8,22 @@ use Rattle.pg_messages.specs.declared.frontend.PgWireFrontendMessage.{PgWireFron
 use Rattle.pg_messages.specs.declared.frontend.PgWireFrontendMessage.TheVariants as client
 use Rattle.pg_messages.specs.declared.backend.PgWireBackendMessage.TheVariants as server
 use Rattle.pg_messages.specs.Frames.{portal_target}
-use Rattle.pg_portal.specs.declared.client.PgWireConnectionState.{PgWireConnectionState}
-use Rattle.pg_portal.specs.declared.client.PgWireConnectionState.TheVariants as phase
-use Rattle.pg_portal.specs.declared.error.PgWireError.{PgWireError}
-use Rattle.pg_portal.specs.declared.results.tag.Tag.{Tag}
+use Rattle.pg_results.specs.declared.client.PgWireConnectionState.{PgWireConnectionState}
+use Rattle.pg_results.specs.declared.client.PgWireConnectionState.TheVariants as phase
+use Rattle.pg_results.specs.declared.error.PgWireError.{PgWireError}
+use Rattle.pg_results.specs.declared.tag.Tag.{Tag}
 use Rattle.pg_portal.specs.declared.store.Entry.TheVariants as entry
-use Rattle.pg_portal.specs.Errors.{info_of}
+use Rattle.pg_results.specs.Errors.{info_of}
 use Rattle.pg_portal.specs.Fetching.{items_to_come}
-use Rattle.pg_portal.specs.Responses as response
-use Rattle.pg_portal.specs.Rows.{RowItem}
-use Rattle.pg_portal.specs.Told.{TablePortal, ToldRows, Stage, Unstarted, Started, Ended, value_under}
-use Rattle.pg_handlers.specs.Answer.{Answer, Table, Next, Goes, Ends, Stops, left_by}
+use Rattle.pg_results.specs.Responses as response
+use Rattle.pg_results.specs.Rows.{RowItem}
+use Rattle.pg_results.specs.Told.{ToldRows}
+use Rattle.pg_portal.specs.Told.{TablePortal, Stage, Unstarted, Started, Ended, value_under}
+use Rattle.pg_client.specs.Answer.{Answer, Table, Next, Goes, Ends, Stops, left_by}
 use Rattle.pg_handlers.specs.Handlers.{Handlers}
 use Rattle.pg_handlers.specs.Questions.{Passed, started}
-use Rattle.pg_handlers.specs.Replies.{Replies, error_reply}
-use Rattle.pg_handlers.specs.State.{State}
+use Rattle.pg_replies.specs.Replies.{Replies, error_reply}
+use Rattle.pg_client.specs.State.{State}
 
 -- ---- what an Execute takes
 

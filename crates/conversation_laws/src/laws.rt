@@ -7,15 +7,15 @@ ghost use Rattle.pg_messages.specs.declared.extendedquery.PgSync.{PgSync};
 ghost use Rattle.pg_messages.specs.declared.frontend.PgWireFrontendMessage.{PgWireFrontendMessage};
 ghost use Rattle.pg_messages.specs.declared.frontend.PgWireFrontendMessage.TheVariants as client;
 ghost use Rattle.pg_messages.specs.declared.response.ErrorInfo.{ErrorInfo};
-ghost use Rattle.pg_portal.specs.declared.client.PgWireConnectionState.TheVariants as phase;
-ghost use Rattle.pg_portal.specs.declared.error.PgWireError.{PgWireError};
-ghost use Rattle.pg_portal.specs.Errors.{info_of};
+ghost use Rattle.pg_results.specs.declared.client.PgWireConnectionState.TheVariants as phase;
+ghost use Rattle.pg_results.specs.declared.error.PgWireError.{PgWireError};
+ghost use Rattle.pg_results.specs.Errors.{info_of};
 ghost use Rattle.pg_portal.specs.Fetching.{items_to_come};
-ghost use Rattle.pg_portal.specs.Told.{ToldRows};
-ghost use Rattle.pg_handlers.specs.Answer.{Goes, conversation, joined};
-ghost use Rattle.pg_handlers.specs.Effect.{Failed};
+ghost use Rattle.pg_results.specs.Told.{ToldRows};
+ghost use Rattle.pg_client.specs.Answer.{Goes, conversation, joined};
+ghost use Rattle.pg_client.specs.Effect.{Failed};
 ghost use Rattle.pg_handlers.specs.Handlers.{Handlers};
-ghost use Rattle.pg_handlers.specs.State.{State};
+ghost use Rattle.pg_client.specs.State.{State};
 ghost use Rattle.pg_handlers.specs.Table.{whole_table, message_row};
 ghost use Rattle.conversation_laws.specs.Discarding.{
   IsDiscarded,

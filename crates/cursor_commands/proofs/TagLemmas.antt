@@ -3,7 +3,7 @@ use Rattle.std.proofs.Common.{◌≡◌, ◌≢◌, ℕ, suc, zero, ◌+◌, ◌
 use Rattle.std.specs.Fmt.{decimal, digits, digits_onto, digit_glyph}
 use Rattle.std.proofs.lemmas.Fmt.{length-decimal-le}
 use Rattle.pg_messages.specs.Replies.{HasNoZero, IsEncodable}
-use Rattle.pg_portal.specs.Tags.{spaced}
+use Rattle.pg_results.specs.Tags.{spaced}
 use Rattle.cursor_commands.specs.Cursors.{done}
 
 HasNoZero-append : (a b : List ℕ) → HasNoZero a → HasNoZero b → HasNoZero (a ++ b)

@@ -6,8 +6,8 @@ use Rattle.std.proofs.lemmas.List.{reverse-append, reverse-reverse, length-rever
 use Rattle.std.proofs.lemmas.Bool.Decides.{nat_tests}
 use Rattle.std.proofs.lemmas.Slice.Eq.{bytes_eq-Decides}
 use Rattle.std.specs.Char.{to_ascii_lowercase}
-use Rattle.pg_portal.specs.Describing.{is_empty_list}
-use Rattle.pg_portal.specs.Texts.{is_whitespace, is_padding}
+use Rattle.pg_results.specs.Describing.{is_empty_list}
+use Rattle.pg_results.specs.Texts.{is_whitespace, is_padding}
 use Rattle.query_texts.specs.QueryTexts.{without_front_padding, trimmed, words, is_word}
 
 -- ---- what parts words is ASCII

@@ -6,8 +6,8 @@ use Rattle.pg_messages.specs.declared.backend.PgWireBackendMessage.{PgWireBacken
 use Rattle.pg_messages.specs.declared.backend.PgWireBackendMessage.TheVariants as server
 use Rattle.pg_messages.specs.Replies.{reply_type, reply_bytes, replies_bytes}
 use Rattle.pg_messages.proofs.FieldLaws.{eqb-apart}
-use Rattle.pg_portal.specs.declared.results.tag.Tag.{Tag}
-use Rattle.pg_portal.specs.Tags.{spaced, tag_of, tag_with_rows, tag_text}
+use Rattle.pg_results.specs.declared.tag.Tag.{Tag}
+use Rattle.pg_results.specs.Tags.{spaced, tag_of, tag_with_rows, tag_text}
 use Rattle.cursor_commands.specs.declared.command.CursorCommand.{CursorCommand}
 use Rattle.cursor_commands.specs.declared.command.CursorCommand.TheVariants.{Declare, Fetch, Close}
 use Rattle.cursor_commands.specs.declared.rewrite.Change.TheVariants.{Ready, Failed, Fetched}

@@ -7,23 +7,24 @@ use Rattle.pg_messages.specs.declared.frontend.PgWireFrontendMessage.TheVariants
 use Rattle.pg_messages.specs.declared.backend.PgWireBackendMessage.TheVariants as server
 use Rattle.pg_messages.specs.declared.response.ErrorInfo.{ErrorInfo}
 use Rattle.pg_messages.specs.Frames.{portal_target}
-use Rattle.pg_portal.specs.declared.client.PgWireConnectionState.{PgWireConnectionState}
-use Rattle.pg_portal.specs.declared.error.PgWireError.{PgWireError}
-use Rattle.pg_portal.specs.declared.results.describe.DescribePortalResponse.{DescribePortalResponse}
+use Rattle.pg_results.specs.declared.client.PgWireConnectionState.{PgWireConnectionState}
+use Rattle.pg_results.specs.declared.error.PgWireError.{PgWireError}
+use Rattle.pg_results.specs.declared.describe.DescribePortalResponse.{DescribePortalResponse}
 use Rattle.pg_portal.specs.declared.store.Entry.{Entry}
 use Rattle.pg_portal.specs.declared.store.Entry.TheVariants as entry
-use Rattle.pg_portal.specs.Errors.{info_of}
-use Rattle.pg_portal.specs.Fetching.{items_to_come, with_items}
-use Rattle.pg_portal.specs.Page.{delivered_after}
-use Rattle.pg_portal.specs.Rows.{RowItem}
+use Rattle.pg_results.specs.Errors.{info_of}
+use Rattle.pg_results.specs.Told.{with_items}
+use Rattle.pg_portal.specs.Fetching.{items_to_come}
+use Rattle.pg_results.specs.Page.{delivered_after}
+use Rattle.pg_results.specs.Rows.{RowItem}
 use Rattle.pg_portal.specs.Told.{TablePortal, Stage, Started, value_under}
-use Rattle.pg_handlers.specs.Answer.{Answer, Goes, continued, conversation, left_by}
-use Rattle.pg_handlers.specs.Effect.{UntilSync, settle, silent}
+use Rattle.pg_client.specs.Answer.{Answer, Goes, continued, conversation, left_by}
+use Rattle.pg_client.specs.Effect.{UntilSync, settle, silent}
 use Rattle.pg_handlers.specs.ExecuteRow.{at_stage, executed_entry, executed_portal}
 use Rattle.pg_handlers.specs.ExtendedRows.{described, described_portal, portal_description}
 use Rattle.pg_handlers.specs.Handlers.{Handlers}
-use Rattle.pg_handlers.specs.Replies.{Replies, error_reply, ready}
-use Rattle.pg_handlers.specs.State.{State, with_portal}
+use Rattle.pg_replies.specs.Replies.{Replies, error_reply, ready}
+use Rattle.pg_client.specs.State.{State, with_portal}
 use Rattle.pg_handlers.specs.Table.{row, scope_in, whole_table}
 use Rattle.conversation_laws.specs.Discarding.{synced}
 use Rattle.cursor_commands.specs.declared.command.CursorCommand.TheVariants.{Fetch}

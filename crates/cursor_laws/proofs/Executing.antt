@@ -7,24 +7,25 @@ use Rattle.pg_messages.specs.declared.frontend.PgWireFrontendMessage.TheVariants
 use Rattle.pg_messages.specs.declared.backend.PgWireBackendMessage.{PgWireBackendMessage}
 use Rattle.pg_messages.specs.declared.backend.PgWireBackendMessage.TheVariants as server
 use Rattle.pg_messages.specs.declared.response.ErrorInfo.{ErrorInfo}
-use Rattle.pg_portal.specs.declared.client.PgWireConnectionState.{PgWireConnectionState}
-use Rattle.pg_portal.specs.declared.client.PgWireConnectionState.TheVariants as phase
+use Rattle.pg_results.specs.declared.client.PgWireConnectionState.{PgWireConnectionState}
+use Rattle.pg_results.specs.declared.client.PgWireConnectionState.TheVariants as phase
 use Rattle.pg_portal.specs.declared.store.Entry.{Entry}
 use Rattle.pg_portal.specs.declared.store.Entry.TheVariants as entry
-use Rattle.pg_portal.specs.Errors.{info_of}
+use Rattle.pg_results.specs.Errors.{info_of}
 use Rattle.pg_portal.specs.Fetching.{stage_after}
-use Rattle.pg_portal.specs.Page.{PageEnd, AtLimit, AtEnd, AtError, delivered_after, item_page}
-use Rattle.pg_portal.specs.Told.{TablePortal, ToldRows, Stage, Unstarted, Started, Ended, value_under}
-use Rattle.pg_handlers.specs.declared.desk.DeskCall.{DeskCall}
-use Rattle.pg_handlers.specs.declared.ends.EndKind.TheVariants as end
-use Rattle.pg_handlers.specs.Answer.{Answer, Goes, Ends}
-use Rattle.pg_handlers.specs.Effect.{UntilSync, settle, after_error}
-use Rattle.pg_handlers.specs.Errors.{is_fatal}
+use Rattle.pg_results.specs.Page.{PageEnd, AtLimit, AtEnd, AtError, delivered_after, item_page}
+use Rattle.pg_results.specs.Told.{ToldRows}
+use Rattle.pg_portal.specs.Told.{TablePortal, Stage, Unstarted, Started, Ended, value_under}
+use Rattle.pg_client.specs.declared.desk.DeskCall.{DeskCall}
+use Rattle.pg_client.specs.declared.ends.EndKind.TheVariants as end
+use Rattle.pg_client.specs.Answer.{Answer, Goes, Ends}
+use Rattle.pg_client.specs.Effect.{UntilSync, settle, after_error}
+use Rattle.pg_client.specs.Errors.{is_fatal}
 use Rattle.pg_handlers.specs.ExecuteRow.{at_stage, execute_polled, executed_entry, executed_portal, fetched, page_effect}
 use Rattle.pg_handlers.specs.Handlers.{Handlers}
 use Rattle.pg_handlers.specs.Questions.{Verdict, Passed, started}
-use Rattle.pg_handlers.specs.Replies.{done_with, error_reply, row_replies}
-use Rattle.pg_handlers.specs.State.{State, with_portal}
+use Rattle.pg_replies.specs.Replies.{done_with, error_reply, row_replies}
+use Rattle.pg_client.specs.State.{State, with_portal}
 use Rattle.pg_handlers.specs.Table.{row, scope_in, whole_table}
 use Rattle.conversation_laws.specs.Pages.{HasStarted, Starts, stage_in, stage_under}
 use Rattle.cursor_laws.specs.CursorPages.{errors_among}

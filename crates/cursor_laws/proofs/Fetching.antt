@@ -8,27 +8,28 @@ use Rattle.pg_messages.specs.declared.frontend.PgWireFrontendMessage.TheVariants
 use Rattle.pg_messages.specs.declared.backend.PgWireBackendMessage.TheVariants as server
 use Rattle.pg_messages.specs.declared.response.ErrorInfo.{ErrorInfo}
 use Rattle.pg_messages.specs.Frames.{portal_target}
-use Rattle.pg_portal.specs.declared.client.PgWireConnectionState.{PgWireConnectionState}
-use Rattle.pg_portal.specs.declared.client.PgWireConnectionState.TheVariants as phase
-use Rattle.pg_portal.specs.declared.error.PgWireError.{PgWireError}
-use Rattle.pg_portal.specs.declared.error.PgWireError.TheVariants as wire
-use Rattle.pg_portal.specs.declared.results.describe.DescribePortalResponse.{DescribePortalResponse}
+use Rattle.pg_results.specs.declared.client.PgWireConnectionState.{PgWireConnectionState}
+use Rattle.pg_results.specs.declared.client.PgWireConnectionState.TheVariants as phase
+use Rattle.pg_results.specs.declared.error.PgWireError.{PgWireError}
+use Rattle.pg_results.specs.declared.error.PgWireError.TheVariants as wire
+use Rattle.pg_results.specs.declared.describe.DescribePortalResponse.{DescribePortalResponse}
 use Rattle.pg_portal.specs.declared.store.Entry.{Entry}
 use Rattle.pg_portal.specs.declared.store.Entry.TheVariants as entry
-use Rattle.pg_portal.specs.Describing.{is_no_data}
-use Rattle.pg_portal.specs.Errors.{info_of}
+use Rattle.pg_results.specs.Describing.{is_no_data}
+use Rattle.pg_results.specs.Errors.{info_of}
 use Rattle.pg_portal.specs.Fetching.{items_to_come}
-use Rattle.pg_portal.specs.Fields.{Field}
-use Rattle.pg_portal.specs.Rows.{RowItem}
-use Rattle.pg_portal.specs.Told.{TablePortal, ToldRows, value_under}
-use Rattle.pg_handlers.specs.declared.ends.EndKind.TheVariants as end
-use Rattle.pg_handlers.specs.Answer.{Answer, Next, Goes, Ends, Stops, continued, conversation, joined, left_by}
-use Rattle.pg_handlers.specs.Effect.{Effect, UntilSync, after_error, refuses, says, settle, silent}
-use Rattle.pg_handlers.specs.Errors.{is_fatal}
+use Rattle.pg_results.specs.Fields.{Field}
+use Rattle.pg_results.specs.Rows.{RowItem}
+use Rattle.pg_results.specs.Told.{ToldRows}
+use Rattle.pg_portal.specs.Told.{TablePortal, value_under}
+use Rattle.pg_client.specs.declared.ends.EndKind.TheVariants as end
+use Rattle.pg_client.specs.Answer.{Answer, Next, Goes, Ends, Stops, continued, conversation, joined, left_by}
+use Rattle.pg_client.specs.Effect.{Effect, UntilSync, after_error, refuses, says, settle, silent}
+use Rattle.pg_client.specs.Errors.{is_fatal}
 use Rattle.pg_handlers.specs.ExtendedRows.{described, described_portal, portal_description}
 use Rattle.pg_handlers.specs.Handlers.{Handlers}
-use Rattle.pg_handlers.specs.Replies.{Replies, error_reply, row_description}
-use Rattle.pg_handlers.specs.State.{State}
+use Rattle.pg_replies.specs.Replies.{Replies, error_reply, row_description}
+use Rattle.pg_client.specs.State.{State}
 use Rattle.pg_handlers.specs.Table.{row, scope_in, whole_table}
 use Rattle.conversation_laws.specs.Discarding.{behind_sync}
 use Rattle.conversation_laws.specs.Pages.{Taken, SentRows, DroppedRows, HasStarted, IsTold, IsUnstarted, IsWithin, Leaves, Starts, TakesPage, items_of, joined_items, rows_among, stage_in, stage_under}

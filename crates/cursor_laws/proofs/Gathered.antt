@@ -6,14 +6,14 @@ use Rattle.pg_messages.specs.declared.extendedquery.Execute.{Execute}
 use Rattle.pg_messages.specs.declared.frontend.PgWireFrontendMessage.{PgWireFrontendMessage}
 use Rattle.pg_messages.specs.declared.frontend.PgWireFrontendMessage.TheVariants as client
 use Rattle.pg_messages.specs.declared.simplequery.Query.{Query}
-use Rattle.pg_portal.specs.declared.client.PgWireConnectionState.{PgWireConnectionState}
-use Rattle.pg_portal.specs.declared.client.PgWireConnectionState.TheVariants as phase
+use Rattle.pg_results.specs.declared.client.PgWireConnectionState.{PgWireConnectionState}
+use Rattle.pg_results.specs.declared.client.PgWireConnectionState.TheVariants as phase
 use Rattle.pg_portal.specs.Fetching.{items_to_come}
-use Rattle.pg_portal.specs.Rows.{RowItem}
-use Rattle.pg_portal.specs.Told.{ToldRows}
-use Rattle.pg_handlers.specs.Answer.{Goes}
+use Rattle.pg_results.specs.Rows.{RowItem}
+use Rattle.pg_results.specs.Told.{ToldRows}
+use Rattle.pg_client.specs.Answer.{Goes}
 use Rattle.pg_handlers.specs.Handlers.{Handlers}
-use Rattle.pg_handlers.specs.State.{State}
+use Rattle.pg_client.specs.State.{State}
 use Rattle.pg_handlers.specs.Table.{whole_table}
 use Rattle.conversation_laws.specs.Pages.{HasStarted, Starts, stage_under}
 use Rattle.conversation_laws.proofs.Gathering.{Step, follows, step_joins}

@@ -5,15 +5,15 @@ use Rattle.std.specs.FinMap as fin
 use Rattle.pg_messages.specs.declared.frontend.PgWireFrontendMessage.{PgWireFrontendMessage}
 use Rattle.pg_messages.specs.declared.response.ErrorInfo.{ErrorInfo}
 use Rattle.pg_messages.specs.declared.simplequery.Query.{Query}
-use Rattle.pg_portal.specs.declared.client.PgWireConnectionState.{PgWireConnectionState}
-use Rattle.pg_portal.specs.declared.results.describe.DescribePortalResponse.{DescribePortalResponse}
-use Rattle.pg_portal.specs.Errors.{info_of}
-use Rattle.pg_portal.specs.Rows.{RowItem}
-use Rattle.pg_portal.specs.Told.{ToldRows}
-use Rattle.pg_handlers.specs.Answer.{Answer, Table}
+use Rattle.pg_results.specs.declared.client.PgWireConnectionState.{PgWireConnectionState}
+use Rattle.pg_results.specs.declared.describe.DescribePortalResponse.{DescribePortalResponse}
+use Rattle.pg_results.specs.Errors.{info_of}
+use Rattle.pg_results.specs.Rows.{RowItem}
+use Rattle.pg_results.specs.Told.{ToldRows}
+use Rattle.pg_client.specs.Answer.{Answer, Table}
 use Rattle.pg_handlers.specs.Handlers.{Handlers}
-use Rattle.pg_handlers.specs.Replies.{Replies, error_reply}
-use Rattle.pg_handlers.specs.State.{State}
+use Rattle.pg_replies.specs.Replies.{Replies, error_reply}
+use Rattle.pg_client.specs.State.{State}
 use Rattle.conversation_laws.specs.Pages.{Taken, SentRows, DroppedRows, IsUnstarted, IsWithin, Leaves, Starts, TellsInTurn, TellsPages, items_of, joined_items, rows_among, stage_under}
 use Rattle.cursor_commands.specs.declared.command.CursorCommand.{CursorCommand}
 use Rattle.cursor_commands.specs.declared.command.CursorCommand.TheVariants.{Declare, Fetch, Close}

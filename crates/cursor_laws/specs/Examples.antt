@@ -3,11 +3,12 @@ use Rattle.std.specs.Prelude.{[], ◌∷◌, ◌≡◌, Some, Ok, codes}
 use Rattle.std.specs.FinMap as fin
 use Rattle.pg_messages.specs.declared.data.DataRow.{DataRow}
 use Rattle.pg_messages.specs.declared.simplequery.Query.{Query}
-use Rattle.pg_portal.specs.declared.client.PgWireConnectionState.TheVariants as phase
+use Rattle.pg_results.specs.declared.client.PgWireConnectionState.TheVariants as phase
 use Rattle.pg_portal.specs.declared.store.Entry.TheVariants as entry
-use Rattle.pg_portal.specs.Told.{TablePortal, ToldRows, Started}
+use Rattle.pg_results.specs.Told.{ToldRows}
+use Rattle.pg_portal.specs.Told.{TablePortal, Started}
 use Rattle.pg_handlers.specs.Handlers.{Handlers}
-use Rattle.pg_handlers.specs.State.{State}
+use Rattle.pg_client.specs.State.{State}
 
 abbrev pub three_rows : DataRow → DataRow → DataRow → ToldRows
 three_rows one two three = record { command_tag = codes "SELECT"; fields = []; items = Ok one ∷ Ok two ∷ Ok three ∷ [] }

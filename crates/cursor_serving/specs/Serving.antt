@@ -1,8 +1,8 @@
 -- What the server of cursors owes its client: the answer of the cursor table over the relations.
 use Rattle.std.specs.Prelude.{ℕ, ℤ, List, Option, Result}
-use Rattle.pg_handlers.specs.declared.desk.DeskCall.{DeskCall}
-use Rattle.pg_handlers.specs.declared.ends.EndKind.{EndKind}
-use Rattle.pg_handlers.specs.State.{first_state}
+use Rattle.pg_client.specs.declared.desk.DeskCall.{DeskCall}
+use Rattle.pg_client.specs.declared.ends.EndKind.{EndKind}
+use Rattle.pg_client.specs.State.{first_state}
 use Rattle.pg_session.specs.declared.ends.ServeError.{ServeError}
 use Rattle.pg_engine.specs.Serving.{WentSo}
 use Rattle.cursor_table.specs.CursorTable.{cursor_rules}

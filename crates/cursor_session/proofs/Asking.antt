@@ -3,11 +3,11 @@ use Rattle.std.proofs.Common.{◌≡◌, ◌≢◌, ℕ, Bool, true, false, List
 use Rattle.pg_messages.specs.declared.frontend.PgWireFrontendMessage.{PgWireFrontendMessage}
 use Rattle.pg_messages.specs.Frames.{IsFrame, IsUnfinished, IsBad, DividesInto, awaits_startup_after_all}
 use Rattle.pg_messages.specs.Replies.{replies_bytes}
-use Rattle.pg_handlers.specs.declared.desk.DeskCall.{DeskCall}
-use Rattle.pg_handlers.specs.declared.desk.DeskCall.TheVariants as desk
-use Rattle.pg_handlers.specs.declared.ends.EndKind.{EndKind}
-use Rattle.pg_handlers.specs.declared.ends.EndKind.TheVariants as end
-use Rattle.pg_handlers.specs.Answer.{Answer, Table, Next, Goes, Ends, Stops, BeginsWith, answers_of, conversation}
+use Rattle.pg_client.specs.declared.desk.DeskCall.{DeskCall}
+use Rattle.pg_client.specs.declared.desk.DeskCall.TheVariants as desk
+use Rattle.pg_client.specs.declared.ends.EndKind.{EndKind}
+use Rattle.pg_client.specs.declared.ends.EndKind.TheVariants as end
+use Rattle.pg_client.specs.Answer.{Answer, Table, Next, Goes, Ends, Stops, BeginsWith, answers_of, conversation}
 use Rattle.pg_handlers.specs.Lawful.{IsLawful}
 use Rattle.pg_session.specs.declared.ends.Progress.{Progress}
 use Rattle.pg_session.specs.declared.ends.Progress.TheVariants as progress

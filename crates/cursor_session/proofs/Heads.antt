@@ -9,8 +9,8 @@ use Rattle.pg_messages.specs.declared.frontend.PgWireFrontendMessage.TheVariants
 use Rattle.pg_messages.specs.declared.simplequery.Query.{Query}
 use Rattle.pg_messages.specs.Frames.{IsFrame, IsUnfinished, IsGoodHeader, header_len, told_len, type_bytes}
 use Rattle.pg_messages.proofs.OneReading.{front, one_frame}
-use Rattle.pg_portal.specs.declared.client.PgWireConnectionState.{PgWireConnectionState}
-use Rattle.pg_portal.specs.declared.client.PgWireConnectionState.TheVariants as phase
+use Rattle.pg_results.specs.declared.client.PgWireConnectionState.{PgWireConnectionState}
+use Rattle.pg_results.specs.declared.client.PgWireConnectionState.TheVariants as phase
 use Rattle.pg_handlers.specs.Table.{is_startup_phase}
 use Rattle.cursor_commands.specs.declared.command.CursorCommand.{CursorCommand}
 use Rattle.cursor_commands.specs.Asking.{CanBeSent}

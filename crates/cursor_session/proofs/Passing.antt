@@ -2,10 +2,10 @@
 use Rattle.std.proofs.Common.{◌≡◌, ℕ, ◌<◌, Bool, true, false, if◌then◌else◌, List, [], ◌⊎◌, inl, inr, Option, None, refl, sym, ap, subst, ◌∙◌, append-nil, arith}
 use Rattle.pg_messages.specs.declared.frontend.PgWireFrontendMessage.{PgWireFrontendMessage}
 use Rattle.pg_messages.specs.Frames.{IsFrame, IsUnfinished}
-use Rattle.pg_handlers.specs.declared.desk.DeskCall.{DeskCall}
-use Rattle.pg_handlers.specs.Answer.{Table, Next, Goes, Ends, Stops, answers_of, conversation}
+use Rattle.pg_client.specs.declared.desk.DeskCall.{DeskCall}
+use Rattle.pg_client.specs.Answer.{Table, Next, Goes, Ends, Stops, answers_of, conversation}
 use Rattle.pg_handlers.specs.Handlers.{Handlers}
-use Rattle.pg_handlers.specs.State.{State}
+use Rattle.pg_client.specs.State.{State}
 use Rattle.pg_handlers.specs.Table.{whole_table, awaits}
 use Rattle.pg_session.specs.Session.{whole_rules}
 use Rattle.pg_session.specs.Steps.{IsServed}

@@ -2,9 +2,9 @@
 use Rattle.std.proofs.Common.{◌≡◌, ◌≢◌, ℕ, List, [], ◌++◌, inl, Option, Result, Ok, Err, refl, sym, ap, subst, ◌∙◌, append_assoc, take, drop, arith}
 use Rattle.pg_messages.specs.Frames.{IsUnfinished}
 use Rattle.pg_messages.proofs.OneReading.{division_kept}
-use Rattle.pg_handlers.proofs.Desks.{goes_on_none, goes_on_then}
-use Rattle.pg_handlers.specs.declared.desk.DeskCall.{DeskCall}
-use Rattle.pg_handlers.specs.Answer.{Goes}
+use Rattle.pg_client.proofs.Desks.{goes_on_none, goes_on_then}
+use Rattle.pg_client.specs.declared.desk.DeskCall.{DeskCall}
+use Rattle.pg_client.specs.Answer.{Goes}
 use Rattle.pg_handlers.specs.Lawful.{IsLawful}
 use Rattle.pg_session.specs.declared.ends.Progress.{Progress}
 use Rattle.pg_session.specs.declared.ends.Progress.TheVariants as progress

@@ -4,12 +4,12 @@ use Rattle.pg_messages.specs.declared.frontend.PgWireFrontendMessage.{PgWireFron
 use Rattle.std.specs.List.{AllByRecursion}
 use Rattle.pg_messages.specs.Replies.{replies_bytes}
 use Rattle.pg_messages.specs.Frames.{IsFrame, IsUnfinished, IsGoodHeader, header_len, told_len}
-use Rattle.pg_portal.specs.declared.client.PgWireConnectionState.{PgWireConnectionState}
-use Rattle.pg_handlers.specs.declared.ends.Turns.{Turns}
-use Rattle.pg_handlers.specs.Desk.{DeskTold, GoesOn}
+use Rattle.pg_results.specs.declared.client.PgWireConnectionState.{PgWireConnectionState}
+use Rattle.pg_client.specs.declared.ends.Turns.{Turns}
+use Rattle.pg_client.specs.Desk.{DeskTold, GoesOn}
 use Rattle.pg_handlers.specs.Handlers.{Handlers}
 use Rattle.pg_handlers.specs.Questions.{questions_since}
-use Rattle.pg_handlers.specs.State.{State}
+use Rattle.pg_client.specs.State.{State}
 use Rattle.pg_handlers.specs.Table.{is_startup_phase}
 use Rattle.pg_session.specs.declared.ends.Progress.{Progress}
 use Rattle.pg_session.specs.declared.ends.Progress.TheVariants as progress

@@ -1,7 +1,7 @@
 //! The session behind a front.
 
 ghost use Rattle.std.specs.Prelude.{◌≡◌, ◌≤◌, ◌++◌, [], true, OnOk};
-ghost use Rattle.pg_handlers.specs.Desk.{GoesOn};
+ghost use Rattle.pg_client.specs.Desk.{GoesOn};
 ghost use Rattle.pg_handlers.specs.Handlers.{Handlers};
 ghost use Rattle.pg_handlers.specs.Questions.{questions_since};
 ghost use Rattle.pg_session.specs.Session.{SessionValue, whole_rules, HasFed, is_more};

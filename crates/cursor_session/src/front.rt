@@ -3,7 +3,7 @@
 ghost use Rattle.std.specs.Prelude.{◌≡◌, ◌≤◌, ◌++◌, [], true, false, IfOk, OnOk};
 ghost use Rattle.std.specs.Arc.{arc_value};
 ghost use Rattle.pg_portal.specs.Maps.{no_maps};
-ghost use Rattle.pg_handlers.specs.State.{first_state};
+ghost use Rattle.pg_client.specs.State.{first_state};
 ghost use Rattle.pg_session.specs.Session.{is_more};
 
 use crate::parts::Front;
@@ -110,7 +110,7 @@ impl<
         Rows = <H::Extended as ExtendedQueryHandler>::Rows,
     >,
 > Conversation for CursorSession<H, St> {
-    ghost use Rattle.pg_handlers.specs.State.{State};
+    ghost use Rattle.pg_client.specs.State.{State};
     ghost use Rattle.cursor_session.specs.Fronts.{talk_of};
     ghost use Rattle.cursor_table.proofs.CursorLaws.{rules_lawful};
 

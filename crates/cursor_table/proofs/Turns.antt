@@ -2,8 +2,8 @@
 use Rattle.std.proofs.Common.{◌≡◌, ℕ, zero, suc, ◌+◌, Bool, List, [], ◌∷◌, ◌++◌, refl, ap, sym, subst, ◌∙◌, length, drop, append_assoc, length-append, arith}
 use Rattle.std.proofs.Math.Seq.{drop-append_seam}
 use Rattle.pg_messages.specs.declared.frontend.PgWireFrontendMessage.{PgWireFrontendMessage}
-use Rattle.pg_handlers.specs.declared.desk.DeskCall.{DeskCall}
-use Rattle.pg_handlers.specs.Answer.{Table, Next, Goes, Ends, Stops, answers_of, left_by, conversation, continued, joined}
+use Rattle.pg_client.specs.declared.desk.DeskCall.{DeskCall}
+use Rattle.pg_client.specs.Answer.{Table, Next, Goes, Ends, Stops, answers_of, left_by, conversation, continued, joined}
 use Rattle.pg_handlers.specs.Lawful.{IsMade, IsLawful}
 use Rattle.pg_session.proofs.Pieces.{answers_of-append}
 

@@ -3,8 +3,8 @@
 
 ghost use Rattle.std.specs.Prelude.{◌≡◌, ◌⊎◌, ℕ, Bool, false, List, []};
 ghost use Rattle.pg_messages.specs.Frames.{DividesInto, IsUnfinished, IsBad, awaits_startup_after_all};
-ghost use Rattle.pg_handlers.specs.declared.desk.DeskCall.{DeskCall};
-ghost use Rattle.pg_handlers.specs.Answer.{Table, Next};
+ghost use Rattle.pg_client.specs.declared.desk.DeskCall.{DeskCall};
+ghost use Rattle.pg_client.specs.Answer.{Table, Next};
 ghost use Rattle.pg_handlers.specs.Lawful.{IsLawful};
 ghost use Rattle.pg_session.specs.Run.{Rules, IsFed};
 ghost use Rattle.cursor_commands.specs.declared.command.CursorCommand.{CursorCommand};

@@ -1,9 +1,9 @@
 -- A registry that answers from an empty list answers no.
 use Rattle.std.proofs.Common.{◌≡◌, ℕ, zero, suc, Bool, false, List, [], ◌∷◌, length, refl, sym, ap, subst, ◌∙◌}
 use Rattle.std.specs.List.{AllByRecursion}
-use Rattle.pg_handlers.specs.declared.desk.DeskCall.{DeskCall}
-use Rattle.pg_handlers.specs.Answer.{answers_of}
-use Rattle.pg_handlers.specs.Script.{IsScripted, origin_of, scripted}
+use Rattle.pg_client.specs.declared.desk.DeskCall.{DeskCall}
+use Rattle.pg_client.specs.Answer.{answers_of}
+use Rattle.pg_client.specs.Script.{IsScripted, origin_of, scripted}
 
 -- past the end of a list all is no
 all_no : (n : ℕ) → AllByRecursion (λ yes. yes ≡ false) (scripted [] n)

@@ -2,8 +2,8 @@
 use Rattle.std.proofs.Common.{◌≡◌, ◌≤◌, ◌<◌, ◌+◌, ◌⊎◌, ℕ, List, Option, Some, None, Result, Ok, Err, IfSome, inl, inr, length, sym, ap, subst, ◌∙◌, refl, arith, true}
 use Rattle.std.specs.Prelude.{◌^◌}
 use Rattle.std.proofs.lemmas.List.{length-append}
-use Rattle.pg_handlers.specs.declared.ends.EndKind.{EndKind}
-use Rattle.pg_handlers.specs.declared.ends.EndKind.TheVariants as end
+use Rattle.pg_client.specs.declared.ends.EndKind.{EndKind}
+use Rattle.pg_client.specs.declared.ends.EndKind.TheVariants as end
 use Rattle.pg_messages.specs.declared.frontend.PgWireFrontendMessage.{PgWireFrontendMessage}
 use Rattle.pg_messages.specs.Frames.{DividesInto, IsBad, IsUnfinished, awaits_startup_after_all}
 use Rattle.pg_session.specs.declared.ends.ServeError.{ServeError}

@@ -1,6 +1,6 @@
 -- A conversation as the engine sees it: what it answers by, where it stands, and what a piece of the client's bytes does to it.
 use Rattle.std.specs.Prelude.{ℕ, Bool, List, ◌++◌, Option, Result, Ok, ◌≡◌}
-use Rattle.pg_handlers.specs.declared.desk.DeskCall.{DeskCall}
+use Rattle.pg_client.specs.declared.desk.DeskCall.{DeskCall}
 use Rattle.pg_session.specs.declared.ends.Progress.{Progress}
 use Rattle.pg_session.specs.declared.ends.Progress.TheVariants as progress
 use Rattle.pg_session.specs.declared.ends.ServeError.{ServeError}

@@ -1,7 +1,7 @@
 //! What the engine serves: a conversation that takes a client's bytes piece by piece.
 
 ghost use Rattle.std.specs.Prelude.{◌≡◌, ◌≤◌, [], true, OnOk};
-ghost use Rattle.pg_handlers.specs.Desk.{GoesOn};
+ghost use Rattle.pg_client.specs.Desk.{GoesOn};
 ghost use Rattle.pg_handlers.specs.Lawful.{IsLawful};
 ghost use Rattle.pg_handlers.specs.Questions.{questions_since};
 ghost use Rattle.pg_session.specs.Session.{HasFed, is_more};
@@ -64,7 +64,7 @@ impl<
         Rows = <H::Extended as ExtendedQueryHandler>::Rows,
     >,
 > Conversation for Session<H, St> {
-    ghost use Rattle.pg_handlers.specs.State.{State};
+    ghost use Rattle.pg_client.specs.State.{State};
     ghost use Rattle.pg_session.specs.Session.{whole_rules};
     ghost use Rattle.pg_session.proofs.Answering.{whole_lawful};
 

@@ -3,14 +3,14 @@ use Rattle.std.proofs.Common.{◌≡◌, ◌++◌, ◌||◌, List, [], ◌∷◌
 use Rattle.std.proofs.lemmas.List.{append-nil}
 use Rattle.pg_messages.specs.declared.response.TransactionStatus.{TransactionStatus}
 use Rattle.pg_messages.specs.Replies.{replies_bytes}
-use Rattle.pg_portal.specs.declared.error.PgWireError.{PgWireError}
-use Rattle.pg_portal.specs.Responses.{ToldResponse}
+use Rattle.pg_results.specs.declared.error.PgWireError.{PgWireError}
+use Rattle.pg_results.specs.Responses.{ToldResponse}
 use Rattle.pg_handlers.specs.declared.query.respond.Behind.{Behind}
-use Rattle.pg_handlers.specs.Replies.{Replies}
-use Rattle.pg_handlers.specs.ResponseRows.{Sent, responded}
+use Rattle.pg_replies.specs.Replies.{Replies}
+use Rattle.pg_replies.specs.ResponseRows.{Sent, responded}
 use Rattle.pg_handlers.specs.Sending.{behind}
 use Rattle.pg_handlers.specs.SimpleRows.{responded_all, followed}
-use Rattle.pg_handlers.proofs.Sent.{sent_behind}
+use Rattle.pg_replies.proofs.Sent.{sent_behind}
 
 -- what was sent behind replies, and whether a COPY had begun before
 abbrev behind_these : Replies → Bool → Sent → Sent

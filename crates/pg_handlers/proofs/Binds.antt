@@ -3,23 +3,24 @@ use Rattle.std.proofs.Common.{◌≡◌, ◌<◌, ◌∙◌, ℕ, ℤ, Bool, tru
 use Rattle.std.specs.FinMap as fin
 use Rattle.std.proofs.lemmas.Bool.{le-leb, lt-ltb, le-ltb, leb-true}
 use Rattle.pg_messages.specs.declared.extendedquery.Bind.{Bind}
-use Rattle.pg_portal.specs.declared.error.PgWireError.{PgWireError}
-use Rattle.pg_portal.specs.declared.error.PgWireError.TheVariants as wire
-use Rattle.pg_portal.specs.declared.stmt.StoredStatement.{StoredStatement}
+use Rattle.pg_results.specs.declared.error.PgWireError.{PgWireError}
+use Rattle.pg_results.specs.declared.error.PgWireError.TheVariants as wire
+use Rattle.pg_results.specs.declared.stmt.StoredStatement.{StoredStatement}
 use Rattle.pg_portal.specs.declared.store.Entry.{Entry}
 use Rattle.pg_portal.specs.declared.store.Entry.TheVariants as entry
-use Rattle.pg_text.specs.declared.field_format.FieldFormat.{FieldFormat}
-use Rattle.pg_text.specs.declared.field_format.FieldFormat.TheVariants as field
-use Rattle.pg_text.specs.Formats.{format_of_code}
-use Rattle.pg_portal.specs.Formats.{format_of, unified}
-use Rattle.pg_portal.specs.Fields.{Field}
+use Rattle.pg_types.specs.declared.field_format.FieldFormat.{FieldFormat}
+use Rattle.pg_types.specs.declared.field_format.FieldFormat.TheVariants as field
+use Rattle.pg_types.specs.Formats.{format_of_code}
+use Rattle.pg_results.specs.Formats.{format_of, unified}
+use Rattle.pg_results.specs.Fields.{Field}
 use Rattle.pg_portal.specs.Statements.{bound_by}
-use Rattle.pg_portal.specs.Told.{ParserTold, TablePortal, Unstarted, value_under}
-use Rattle.pg_handlers.specs.Effect.{Effect, IsEffect, IsRefusedEffect, Failed, refuses}
+use Rattle.pg_results.specs.Told.{ParserTold}
+use Rattle.pg_portal.specs.Told.{TablePortal, Unstarted, value_under}
+use Rattle.pg_client.specs.Effect.{Effect, IsEffect, IsRefusedEffect, Failed, refuses}
 use Rattle.pg_handlers.specs.ExtendedRows.{on_bind, bound, bound_empty, bound_statement, bound_with_columns, bound_portal, HasEnough, IsTooFew}
 use Rattle.pg_handlers.specs.Good.{IsGoodStatement, IsGoodPortal, HasCodes, HasGoodTag}
 use Rattle.pg_handlers.specs.Handlers.{ExtendedTold}
-use Rattle.pg_handlers.specs.State.{State}
+use Rattle.pg_client.specs.State.{State}
 
 one_format : (f : FieldFormat) (columns : Result (List Field) PgWireError) → HasCodes (unified f) columns
 one_format field.Text columns = tt

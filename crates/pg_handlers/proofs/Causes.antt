@@ -1,12 +1,12 @@
 -- The errors of a query that the session itself tells, and why they come.
 use Rattle.std.proofs.Common.{◌≡◌, ◌∙◌, ap, inl, inr, List, [], ◌∷◌, ◌++◌, true, append_assoc}
-use Rattle.pg_portal.specs.declared.error.PgWireError.{PgWireError}
-use Rattle.pg_portal.specs.declared.error.PgWireError.TheVariants as wire
-use Rattle.pg_portal.specs.Rows.{IsAnswerable, IsAnswerableItem}
-use Rattle.pg_handlers.specs.declared.desk.DeskCall.{DeskCall}
-use Rattle.pg_handlers.specs.declared.desk.DeskCall.TheVariants as desk
-use Rattle.pg_handlers.specs.declared.ends.SessionError.{SessionError}
-use Rattle.pg_handlers.specs.declared.ends.SessionError.TheVariants as session
+use Rattle.pg_results.specs.declared.error.PgWireError.{PgWireError}
+use Rattle.pg_results.specs.declared.error.PgWireError.TheVariants as wire
+use Rattle.pg_results.specs.Rows.{IsAnswerable, IsAnswerableItem}
+use Rattle.pg_client.specs.declared.desk.DeskCall.{DeskCall}
+use Rattle.pg_client.specs.declared.desk.DeskCall.TheVariants as desk
+use Rattle.pg_client.specs.declared.ends.SessionError.{SessionError}
+use Rattle.pg_client.specs.declared.ends.SessionError.TheVariants as session
 use Rattle.pg_handlers.specs.Questions.{IsCausedSo}
 
 -- an error in the place of an item is none of them

@@ -5,11 +5,12 @@ use Rattle.pg_messages.specs.declared.extendedquery.Describe.{Describe}
 use Rattle.pg_messages.specs.Replies.{replies_bytes}
 use Rattle.pg_messages.specs.Frames.{statement_target, portal_target}
 use Rattle.pg_portal.specs.declared.store.Entry.TheVariants as entry
-use Rattle.pg_portal.specs.Describing.{Described, no_data}
-use Rattle.pg_handlers.specs.Effect.{IsEffect, Done}
-use Rattle.pg_handlers.specs.ExtendedRows.{on_describe, description}
+use Rattle.pg_results.specs.Describing.{Described, no_data}
+use Rattle.pg_client.specs.Effect.{IsEffect, Done}
+use Rattle.pg_replies.specs.Descriptions.{description}
+use Rattle.pg_handlers.specs.ExtendedRows.{on_describe}
 use Rattle.pg_handlers.specs.Handlers.{ExtendedTold}
-use Rattle.pg_handlers.specs.State.{State}
+use Rattle.pg_client.specs.State.{State}
 
 pub empty_described : {S : Type 0} (h : ExtendedTold S) (s : State S) (m : Describe) (out new_out : List ℕ) (d : Described)
     → m.target_type ≡ statement_target

@@ -3,12 +3,12 @@ use Rattle.std.proofs.Common.{ℕ, ◌<◌, ◌≤◌, ◌^◌, List, [], ◌∷
 use Rattle.std.specs.Fmt.{decimal}
 use Rattle.std.proofs.lemmas.Fmt.{length-decimal-le}
 use Rattle.pg_messages.specs.Replies.{HasNoZero}
-use Rattle.pg_portal.specs.declared.error.PgWireError.TheVariants as wire
-use Rattle.pg_portal.specs.Errors.{error}
-use Rattle.pg_portal.specs.Rows.{IsTellable}
-use Rattle.pg_portal.specs.Texts.{IsShortText, quoted}
-use Rattle.pg_handlers.specs.Errors.{values_for_empty, too_few_codes}
-use Rattle.pg_handlers.proofs.Encodable.{HasNoZero-append, HasNoZero-decimal, by_test}
+use Rattle.pg_results.specs.declared.error.PgWireError.TheVariants as wire
+use Rattle.pg_results.specs.Errors.{error}
+use Rattle.pg_results.specs.Rows.{IsTellable}
+use Rattle.pg_results.specs.Texts.{IsShortText, quoted}
+use Rattle.pg_client.specs.Errors.{values_for_empty, too_few_codes}
+use Rattle.pg_replies.proofs.Encodable.{HasNoZero-append, HasNoZero-decimal, by_test}
 
 -- an error whose code is written out, and whose message is short
 pub tellable_error : (code message : List ℕ) → length code ≤ 5 → HasNoZero code → length message ≤ 1048800 → HasNoZero message

@@ -3,33 +3,34 @@ use Rattle.std.proofs.Common.{◌≡◌, false, ℕ, ℤ, ◌+◌, ◌≤◌, �
 use Rattle.std.specs.Prelude.{IfErr, OnOk, OnErr}
 use Rattle.std.specs.FinMap as fin
 use Rattle.pg_messages.specs.declared.extendedquery.Execute.{Execute}
-use Rattle.pg_portal.specs.declared.error.PgWireError.{PgWireError}
-use Rattle.pg_portal.specs.declared.error.PgWireError.TheVariants as wire
+use Rattle.pg_results.specs.declared.error.PgWireError.{PgWireError}
+use Rattle.pg_results.specs.declared.error.PgWireError.TheVariants as wire
 use Rattle.pg_portal.specs.declared.store.Entry.{Entry}
-use Rattle.pg_portal.specs.Responses.{ToldResponse}
-use Rattle.pg_portal.specs.Rows.{IsAnswerable, IsAnswerableItem}
-use Rattle.pg_portal.specs.Told.{ParserTold, TablePortal, Stage, Unstarted, value_under}
-use Rattle.pg_handlers.specs.declared.desk.DeskCall.{DeskCall}
-use Rattle.pg_handlers.specs.declared.desk.DeskCall.TheVariants as call
-use Rattle.pg_handlers.specs.declared.ends.SessionError.{SessionError}
-use Rattle.pg_handlers.specs.declared.ends.SessionError.TheVariants as session
-use Rattle.pg_handlers.specs.declared.ends.Turns.{Turns}
-use Rattle.pg_handlers.specs.Desk.{DeskTold, KeepsDesk, after_calls}
-use Rattle.pg_handlers.specs.Effect.{Done, IsCutRow, IsEffect, IsRefusedEffect, IsRefusedRow, IsRow}
+use Rattle.pg_results.specs.Responses.{ToldResponse}
+use Rattle.pg_results.specs.Rows.{IsAnswerable, IsAnswerableItem}
+use Rattle.pg_results.specs.Told.{ParserTold}
+use Rattle.pg_portal.specs.Told.{TablePortal, Stage, Unstarted, value_under}
+use Rattle.pg_client.specs.declared.desk.DeskCall.{DeskCall}
+use Rattle.pg_client.specs.declared.desk.DeskCall.TheVariants as call
+use Rattle.pg_client.specs.declared.ends.SessionError.{SessionError}
+use Rattle.pg_client.specs.declared.ends.SessionError.TheVariants as session
+use Rattle.pg_client.specs.declared.ends.Turns.{Turns}
+use Rattle.pg_client.specs.Desk.{DeskTold, KeepsDesk, after_calls}
+use Rattle.pg_client.specs.Effect.{Done, IsCutRow, IsEffect, IsRefusedEffect, IsRefusedRow, IsRow}
 use Rattle.pg_handlers.specs.ExecuteRow.{execute_polled, executed_nothing, on_execute}
 use Rattle.pg_handlers.specs.Executing.{HasComeTo, IsLeftBehind, IsPageOf, is_unstarted, page_result, portal_under}
 use Rattle.pg_handlers.specs.Good.{HasGoodTag, IsGoodState}
 use Rattle.pg_handlers.specs.Handlers.{ExtendedTold, ToldQuery}
 use Rattle.pg_handlers.specs.Outcomes.{IsRunEnd, session_outcome}
 use Rattle.pg_handlers.specs.Questions.{HasSpent, IsAsked, IsCausedSo, Verdict, questions_since}
-use Rattle.pg_handlers.specs.Sending.{AtTurnLimit, IsAnswerableError}
-use Rattle.pg_handlers.specs.State.{State}
+use Rattle.pg_client.specs.Ends.{AtTurnLimit, IsAnswerableError}
+use Rattle.pg_client.specs.State.{State}
 use Rattle.pg_handlers.proofs.Causes.{caused_since, item_answerable, item_caused}
-use Rattle.pg_handlers.proofs.Desks.{keeps_after, keeps_none, keeps_then}
+use Rattle.pg_client.proofs.Desks.{keeps_after, keeps_none, keeps_then}
 use Rattle.pg_handlers.proofs.Executes.{asked_since, cut_at_none, no_turn_started, silent_row, silent_refused}
 use Rattle.pg_handlers.proofs.Lends.{IsLent, cut_begun, ended_ok, ended_refused, good_same, good_written, left_lent, maps_of, no_portal, started_ok, started_refused}
 use Rattle.pg_handlers.proofs.Rows.{no_turn}
-use Rattle.pg_handlers.proofs.Sent.{kept_as, kept_in_front}
+use Rattle.pg_replies.proofs.Sent.{kept_as, kept_in_front}
 
 pub record IsExecuted {S A : Type 0} (h : ExtendedTold S) (m : Execute) (s s' : State S) (out new_out : List ℕ) (desk new_desk : DeskTold)
     (turns new_turns : Turns) (result : Result A SessionError) : Type 0 where

@@ -6,18 +6,19 @@ use Rattle.std.specs.FinMap as fin
 use Rattle.pg_messages.specs.declared.extendedquery.Close.{Close}
 use Rattle.pg_messages.specs.Frames.{statement_target, portal_target}
 use Rattle.pg_portal.specs.Maps.{Maps, maps_without_statement, maps_without_portal}
-use Rattle.pg_portal.specs.Names.{NameMap}
-use Rattle.pg_portal.specs.declared.client.ClientInfo.{ClientInfo}
-use Rattle.pg_portal.specs.declared.stmt.StoredStatement.{StoredStatement}
+use Rattle.named_entries.specs.Names.{NameMap}
+use Rattle.pg_results.specs.declared.client.ClientInfo.{ClientInfo}
+use Rattle.pg_results.specs.declared.stmt.StoredStatement.{StoredStatement}
 use Rattle.pg_portal.specs.declared.store.Entry.{Entry}
 use Rattle.pg_portal.specs.declared.store.Entry.TheVariants as entry
-use Rattle.pg_portal.specs.Clients.{HasShortMetadata}
+use Rattle.pg_results.specs.Clients.{HasShortMetadata}
 use Rattle.std.specs.Option.{option_map}
 use Rattle.std.specs.Prelude.{is_none, OnOk, OnErr}
-use Rattle.pg_portal.specs.Told.{ParserTold, TablePortal, entry_map, value_under, value_of}
+use Rattle.pg_results.specs.Told.{ParserTold}
+use Rattle.pg_portal.specs.Told.{TablePortal, entry_map, value_under, value_of}
 use Rattle.pg_handlers.specs.Good.{IsGoodStatement, IsGoodPortal, IsGoodState}
 use Rattle.pg_handlers.specs.ExtendedRows.{maps_after_close}
-use Rattle.pg_handlers.specs.State.{State, state_in, with_statement, with_portal, without_statement, without_portal}
+use Rattle.pg_client.specs.State.{State, state_in, with_statement, with_portal, without_statement, without_portal}
 
 -- each value of a map has the property
 abbrev pub Each : {X : Type 0} → (X → Type 0) → NameMap (Entry X) → Type 0

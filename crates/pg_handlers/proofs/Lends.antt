@@ -4,27 +4,28 @@ use Rattle.std.specs.Prelude.{IfErr, OnOk}
 use Rattle.std.specs.FinMap as fin
 use Rattle.pg_messages.specs.declared.data.DataRow.{DataRow}
 use Rattle.pg_messages.specs.declared.extendedquery.Execute.{Execute}
-use Rattle.pg_portal.specs.declared.error.PgWireError.{PgWireError}
-use Rattle.pg_portal.specs.declared.client.ClientInfo.{ClientInfo}
+use Rattle.pg_results.specs.declared.error.PgWireError.{PgWireError}
+use Rattle.pg_results.specs.declared.client.ClientInfo.{ClientInfo}
 use Rattle.pg_portal.specs.declared.store.Entry.{Entry}
 use Rattle.pg_portal.specs.declared.store.Entry.TheVariants as entry
 use Rattle.pg_portal.specs.Maps.{Maps, maps_with_portal}
-use Rattle.pg_portal.specs.Page.{PageEnd, AtLimit, AtEnd, AtError, delivered_after, item_page}
+use Rattle.pg_results.specs.Page.{PageEnd, AtLimit, AtEnd, AtError, delivered_after, item_page}
 use Rattle.pg_portal.specs.Fetching.{stage_after}
-use Rattle.pg_portal.specs.Told.{BoundPortal, ParserTold, TablePortal, Stage, Unstarted, Started, Ended, ToldRows, value_under}
-use Rattle.pg_portal.proofs.NameMaps.{insert-same}
-use Rattle.pg_handlers.specs.declared.desk.DeskCall.{DeskCall}
-use Rattle.pg_handlers.specs.declared.desk.DeskCall.TheVariants as desk
-use Rattle.pg_handlers.specs.declared.ends.SessionError.{SessionError}
-use Rattle.pg_handlers.specs.declared.ends.SessionError.TheVariants as session
-use Rattle.pg_handlers.specs.Effect.{Effect, Failed, Done, IsEffect, IsRow, IsCutRow, IsRefusedRow, IsRefusedEffect, silent}
+use Rattle.pg_results.specs.Told.{ParserTold, ToldRows}
+use Rattle.pg_portal.specs.Told.{BoundPortal, TablePortal, Stage, Unstarted, Started, Ended, value_under}
+use Rattle.named_entries.proofs.NameMaps.{insert-same}
+use Rattle.pg_client.specs.declared.desk.DeskCall.{DeskCall}
+use Rattle.pg_client.specs.declared.desk.DeskCall.TheVariants as desk
+use Rattle.pg_client.specs.declared.ends.SessionError.{SessionError}
+use Rattle.pg_client.specs.declared.ends.SessionError.TheVariants as session
+use Rattle.pg_client.specs.Effect.{Effect, Failed, Done, IsEffect, IsRow, IsCutRow, IsRefusedRow, IsRefusedEffect, silent}
 use Rattle.pg_handlers.specs.ExecuteRow.{at_stage, page_effect, fetched, fetched_nothing, executed_portal, executed_entry, executed_nothing, execute_polled, on_execute}
 use Rattle.pg_handlers.specs.Executing.{OnlyLosesUnnamed, HasComeTo, IsLeftBehind, is_unstarted, IsPageOf, page_result, response_page}
 use Rattle.pg_handlers.specs.Handlers.{ExtendedTold}
 use Rattle.pg_handlers.specs.Outcomes.{IsRunEnd}
 use Rattle.pg_handlers.specs.Questions.{Verdict, IsAsked}
 use Rattle.pg_handlers.specs.Good.{IsGoodState, IsGoodPortal, HasGoodTag}
-use Rattle.pg_handlers.specs.State.{State, state_in, with_portal, without_portal}
+use Rattle.pg_client.specs.State.{State, state_in, with_portal, without_portal}
 use Rattle.pg_handlers.proofs.Executes.{run_row, row_as, stopped_as, run_stopped, cut_as, refused_as, silent_row, silent_refused, cut_started, run_was, run_refused}
 use Rattle.pg_handlers.proofs.GoodStores.{good_parts, good_with_portal, good_without_portal, one_value}
 

@@ -8,17 +8,17 @@ use Rattle.pg_messages.specs.declared.frontend.PgWireFrontendMessage.TheVariants
 use Rattle.pg_messages.specs.declared.backend.PgWireBackendMessage.TheVariants as server
 use Rattle.pg_portal.specs.declared.store.Entry.{Entry}
 use Rattle.pg_portal.specs.declared.store.Entry.TheVariants as entry
-use Rattle.pg_portal.specs.Texts.{is_blank}
+use Rattle.pg_results.specs.Texts.{is_blank}
 use Rattle.pg_portal.specs.Told.{TablePortal, Stage, Unstarted, Started, Ended}
-use Rattle.pg_handlers.specs.Effect.{says, silent}
+use Rattle.pg_client.specs.Effect.{says, silent}
 use Rattle.pg_handlers.specs.ExecuteRow.{executed_portal, executed_entry}
 use Rattle.pg_handlers.specs.Handlers.{Handlers}
 use Rattle.pg_handlers.specs.Questions.{questioned}
-use Rattle.pg_handlers.specs.Replies.{ready}
+use Rattle.pg_replies.specs.Replies.{ready}
 use Rattle.pg_handlers.specs.SimpleRows.{query_run}
-use Rattle.pg_handlers.specs.State.{State}
+use Rattle.pg_client.specs.State.{State}
 use Rattle.pg_handlers.specs.Table.{ready_row}
-use Rattle.pg_handlers.proofs.Desks.{NarrowsNone}
+use Rattle.pg_client.proofs.Desks.{NarrowsNone}
 
 questions_narrow_none : (owed : ℕ) (answers : List Bool) → NarrowsNone (questioned owed answers).calls
 questions_narrow_none zero answers = tt

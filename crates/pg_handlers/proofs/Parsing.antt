@@ -2,12 +2,13 @@
 use Rattle.std.proofs.Common.{◌≡◌, ◌<◌, ◌^◌, Bool, true, false, inl, inr, IsTrue, IfSome, Option, Some, None, Result, Ok, Err, length, map, ap, subst, ◌∙◌, arith, if◌then◌else◌}
 use Rattle.std.proofs.lemmas.List.{length-map}
 use Rattle.pg_messages.specs.declared.extendedquery.Parse.{Parse}
-use Rattle.pg_text.specs.Types.{type_of_oid}
-use Rattle.pg_portal.specs.declared.client.ClientInfo.{ClientInfo}
-use Rattle.pg_portal.specs.declared.error.PgWireError.{PgWireError}
-use Rattle.pg_portal.specs.declared.stmt.StoredStatement.{StoredStatement}
-use Rattle.pg_portal.specs.Statements.{prepared, stored}
-use Rattle.pg_portal.specs.Told.{ParserTold, IsOutcome, value_of}
+use Rattle.pg_types.specs.Types.{type_of_oid}
+use Rattle.pg_results.specs.declared.client.ClientInfo.{ClientInfo}
+use Rattle.pg_results.specs.declared.error.PgWireError.{PgWireError}
+use Rattle.pg_results.specs.declared.stmt.StoredStatement.{StoredStatement}
+use Rattle.pg_results.specs.Statements.{prepared, stored}
+use Rattle.pg_results.specs.Told.{ParserTold, IsOutcome}
+use Rattle.pg_portal.specs.Told.{value_of}
 use Rattle.pg_handlers.specs.ExtendedRows.{entry_of}
 use Rattle.pg_handlers.specs.Good.{IsGoodStatement}
 

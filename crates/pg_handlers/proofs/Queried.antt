@@ -4,28 +4,28 @@ use Rattle.std.specs.Prelude.{IfErr, OnOk, OnErr}
 use Rattle.pg_messages.specs.declared.simplequery.Query.{Query}
 use Rattle.pg_messages.specs.declared.backend.PgWireBackendMessage.TheVariants as server
 use Rattle.pg_messages.specs.Replies.{replies_bytes}
-use Rattle.pg_portal.specs.declared.error.PgWireError.{PgWireError}
-use Rattle.pg_portal.specs.declared.error.PgWireError.TheVariants as wire
-use Rattle.pg_portal.specs.Responses.{ToldResponse}
-use Rattle.pg_portal.specs.Texts.{is_blank}
-use Rattle.pg_handlers.specs.declared.desk.DeskCall.TheVariants as call
-use Rattle.pg_handlers.specs.declared.ends.SessionError.{SessionError}
-use Rattle.pg_handlers.specs.declared.ends.SessionError.TheVariants as session
-use Rattle.pg_handlers.specs.declared.ends.Turns.{Turns}
-use Rattle.pg_handlers.specs.Desk.{DeskTold, KeepsDesk, after_calls}
-use Rattle.pg_handlers.specs.Effect.{Done, IsCutRow, IsRefusedRow, IsRow, says}
+use Rattle.pg_results.specs.declared.error.PgWireError.{PgWireError}
+use Rattle.pg_results.specs.declared.error.PgWireError.TheVariants as wire
+use Rattle.pg_results.specs.Responses.{ToldResponse}
+use Rattle.pg_results.specs.Texts.{is_blank}
+use Rattle.pg_client.specs.declared.desk.DeskCall.TheVariants as call
+use Rattle.pg_client.specs.declared.ends.SessionError.{SessionError}
+use Rattle.pg_client.specs.declared.ends.SessionError.TheVariants as session
+use Rattle.pg_client.specs.declared.ends.Turns.{Turns}
+use Rattle.pg_client.specs.Desk.{DeskTold, KeepsDesk, after_calls}
+use Rattle.pg_client.specs.Effect.{Done, IsCutRow, IsRefusedRow, IsRow, says}
 use Rattle.pg_handlers.specs.Handlers.{SimpleTold, ToldQuery}
 use Rattle.pg_handlers.specs.Outcomes.{IsRunEnd, session_outcome}
 use Rattle.pg_handlers.specs.Questions.{HasSpent, IsAsked, IsCausedSo, Verdict, questions_since}
-use Rattle.pg_handlers.specs.Replies.{ready}
-use Rattle.pg_handlers.specs.Sending.{AtTurnLimit, IsAnswerableError}
+use Rattle.pg_replies.specs.Replies.{ready}
+use Rattle.pg_client.specs.Ends.{AtTurnLimit, IsAnswerableError}
 use Rattle.pg_handlers.specs.SimpleRows.{on_query, query_polled}
-use Rattle.pg_handlers.specs.State.{State}
+use Rattle.pg_client.specs.State.{State}
 use Rattle.pg_handlers.proofs.Causes.{caused_since}
-use Rattle.pg_handlers.proofs.Desks.{keeps_after, keeps_none, keeps_then}
+use Rattle.pg_client.proofs.Desks.{keeps_after, keeps_none, keeps_then}
 use Rattle.pg_handlers.proofs.Executes.{asked_since, cut_as, cut_at_none, cut_started, no_turn_started, refused_as, row_as, run_refused, run_row, run_stopped, run_was, runs_query, silent_row, stopped_as}
 use Rattle.pg_handlers.proofs.Rows.{no_turn}
-use Rattle.pg_handlers.proofs.Sent.{kept_as}
+use Rattle.pg_replies.proofs.Sent.{kept_as}
 
 pub record IsQueried {S A : Type 0} (h : SimpleTold) (m : Query) (s s' : State S) (out new_out : List ℕ) (desk new_desk : DeskTold)
     (turns new_turns : Turns) (result : Result A SessionError) : Type 0 where

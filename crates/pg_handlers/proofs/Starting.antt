@@ -3,17 +3,18 @@ use Rattle.std.proofs.Common.{◌≡◌, ℕ, ℤ, false, inl, List, IfSome, Opt
 use Rattle.std.specs.Prelude.{IfErr, OnOk, OnErr}
 use Rattle.std.specs.Option.{IsSomeAnd}
 use Rattle.pg_messages.specs.declared.extendedquery.Execute.{Execute}
-use Rattle.pg_portal.specs.declared.error.PgWireError.{PgWireError}
+use Rattle.pg_results.specs.declared.error.PgWireError.{PgWireError}
 use Rattle.pg_portal.specs.Maps.{Maps}
-use Rattle.pg_portal.specs.Page.{item_page}
-use Rattle.pg_portal.specs.Responses as response
-use Rattle.pg_portal.specs.Responses.{ToldResponse}
-use Rattle.pg_portal.specs.Told.{ParserTold, TablePortal, Stage, Started, Unstarted, ToldRows}
-use Rattle.pg_handlers.specs.Effect.{Done, IsEffect, IsRefusedEffect}
+use Rattle.pg_results.specs.Page.{item_page}
+use Rattle.pg_results.specs.Responses as response
+use Rattle.pg_results.specs.Responses.{ToldResponse}
+use Rattle.pg_results.specs.Told.{ParserTold, ToldRows}
+use Rattle.pg_portal.specs.Told.{TablePortal, Stage, Started, Unstarted}
+use Rattle.pg_client.specs.Effect.{Done, IsEffect, IsRefusedEffect}
 use Rattle.pg_handlers.specs.ExecuteRow.{executed, executed_without_rows, fetched}
 use Rattle.pg_handlers.specs.Executing.{HasUnstarted, IsLeftBehind, IsPageOf, has_rows, page_result, portal_under, response_page}
 use Rattle.pg_handlers.specs.Good.{HasGoodTag, IsGoodState}
-use Rattle.pg_handlers.specs.State.{State}
+use Rattle.pg_client.specs.State.{State}
 use Rattle.pg_handlers.proofs.Lends.{IsLent, comes_from_unstarted, fetched_ok, fetched_refused, good_written, left_lent, maps_of}
 
 -- ---- the portal under the name

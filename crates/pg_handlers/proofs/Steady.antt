@@ -10,28 +10,28 @@ use Rattle.pg_messages.specs.declared.frontend.PgWireFrontendMessage.TheVariants
 use Rattle.pg_messages.specs.declared.backend.PgWireBackendMessage.TheVariants as server
 use Rattle.pg_messages.specs.declared.codec.ProtocolVersion.TheVariants.{PROTOCOL3_0, PROTOCOL3_2}
 use Rattle.pg_messages.specs.Frames.{protocol_3_0, protocol_3_2}
-use Rattle.pg_portal.specs.declared.client.PgWireConnectionState.{PgWireConnectionState}
-use Rattle.pg_portal.specs.declared.client.PgWireConnectionState.TheVariants as phase
-use Rattle.pg_portal.specs.declared.error.PgWireError.TheVariants as wire
+use Rattle.pg_results.specs.declared.client.PgWireConnectionState.{PgWireConnectionState}
+use Rattle.pg_results.specs.declared.client.PgWireConnectionState.TheVariants as phase
+use Rattle.pg_results.specs.declared.error.PgWireError.TheVariants as wire
 use Rattle.pg_portal.specs.declared.store.Entry.{Entry}
 use Rattle.pg_portal.specs.declared.store.Entry.TheVariants as entry
-use Rattle.pg_portal.specs.Errors.{info_of}
-use Rattle.pg_portal.specs.Texts.{is_blank}
+use Rattle.pg_results.specs.Errors.{info_of}
+use Rattle.pg_results.specs.Texts.{is_blank}
 use Rattle.pg_portal.specs.Told.{TablePortal, Stage, Unstarted, Started, Ended}
-use Rattle.pg_handlers.specs.declared.desk.DeskCall.{DeskCall}
-use Rattle.pg_handlers.specs.declared.desk.DeskCall.TheVariants as desk
-use Rattle.pg_handlers.specs.declared.ends.EndKind.TheVariants as end
-use Rattle.pg_handlers.specs.Answer.{Answer, Goes, Ends, answers_of, left_by}
-use Rattle.pg_handlers.specs.Effect.{Effect, Called, Scope, Outcome, Done, Failed, Over, Stopped, says, refuses, stopped, silent, settle, settled}
-use Rattle.pg_handlers.specs.Errors.{is_fatal, unsupported_version}
+use Rattle.pg_client.specs.declared.desk.DeskCall.{DeskCall}
+use Rattle.pg_client.specs.declared.desk.DeskCall.TheVariants as desk
+use Rattle.pg_client.specs.declared.ends.EndKind.TheVariants as end
+use Rattle.pg_client.specs.Answer.{Answer, Goes, Ends, answers_of, left_by}
+use Rattle.pg_client.specs.Effect.{Effect, Called, Scope, Outcome, Done, Failed, Over, Stopped, says, refuses, stopped, silent, settle, settled}
+use Rattle.pg_client.specs.Errors.{is_fatal, unsupported_version}
 use Rattle.pg_handlers.specs.ExecuteRow.{execute_polled, executed_portal, executed_entry}
 use Rattle.pg_handlers.specs.Handlers.{Handlers}
 use Rattle.pg_handlers.specs.Lawful.{IsMade}
 use Rattle.pg_handlers.specs.Questions.{Verdict, Passed, Canceled, Unanswered, Questioned, questioned, started, after_call}
-use Rattle.pg_handlers.specs.Replies.{Replies, ready}
+use Rattle.pg_replies.specs.Replies.{Replies, ready}
 use Rattle.pg_handlers.specs.SimpleRows.{query_polled, query_run}
-use Rattle.pg_handlers.specs.StartupRows.{accepts, tells_less, startup_row, on_cancel_request}
-use Rattle.pg_handlers.specs.State.{State}
+use Rattle.pg_client.specs.StartupRows.{accepts, tells_less, startup_row, on_cancel_request}
+use Rattle.pg_client.specs.State.{State}
 use Rattle.pg_handlers.specs.Table.{row}
 
 -- ---- questions

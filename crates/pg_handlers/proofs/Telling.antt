@@ -4,18 +4,19 @@ use Rattle.std.specs.Prelude.{OnOk, IfErr}
 use Rattle.std.specs.FinMap as fin
 use Rattle.pg_messages.specs.declared.extendedquery.Describe.{Describe}
 use Rattle.pg_messages.specs.Frames.{statement_target, portal_target}
-use Rattle.pg_portal.specs.declared.error.PgWireError.{PgWireError}
-use Rattle.pg_portal.specs.declared.error.PgWireError.TheVariants as wire
-use Rattle.pg_portal.specs.declared.stmt.StoredStatement.{StoredStatement}
+use Rattle.pg_results.specs.declared.error.PgWireError.{PgWireError}
+use Rattle.pg_results.specs.declared.error.PgWireError.TheVariants as wire
+use Rattle.pg_results.specs.declared.stmt.StoredStatement.{StoredStatement}
 use Rattle.pg_portal.specs.declared.store.Entry.{Entry}
 use Rattle.pg_portal.specs.declared.store.Entry.TheVariants as entry
-use Rattle.pg_portal.specs.Told.{IsOutcome, TablePortal, value_under}
-use Rattle.pg_handlers.specs.Effect.{IsEffect, IsRefusedEffect, Done, Failed}
+use Rattle.pg_results.specs.Told.{IsOutcome}
+use Rattle.pg_portal.specs.Told.{TablePortal, value_under}
+use Rattle.pg_client.specs.Effect.{IsEffect, IsRefusedEffect, Done, Failed}
 use Rattle.pg_handlers.specs.ExtendedRows.{on_describe, described, statement_description, portal_description}
 use Rattle.pg_handlers.specs.Handlers.{ExtendedTold}
-use Rattle.pg_handlers.specs.Replies.{Replies}
-use Rattle.pg_handlers.specs.State.{State}
-use Rattle.pg_handlers.specs.Telling.{IsToldSo}
+use Rattle.pg_replies.specs.Replies.{Replies}
+use Rattle.pg_client.specs.State.{State}
+use Rattle.pg_replies.specs.Telling.{IsToldSo}
 
 -- an entry with a value is this value's
 entry_with : {X : Type 0} (o : Option (Entry X)) (x : X) → value_under o ≡ Some x → o ≡ Some (entry.Value x)

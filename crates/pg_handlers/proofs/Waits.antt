@@ -1,16 +1,16 @@
 -- The errors of a wait for a query.
 use Rattle.std.proofs.Common.{◌≡◌, ℕ, inl, inr, List, sym, subst, refl, Err}
 use Rattle.std.proofs.lemmas.List.{append-nil}
-use Rattle.pg_portal.specs.declared.error.PgWireError.TheVariants as wire
-use Rattle.pg_portal.specs.Rows.{IsAnswerable}
-use Rattle.pg_handlers.specs.declared.ends.SessionError.{SessionError}
-use Rattle.pg_handlers.specs.declared.ends.SessionError.TheVariants as session
-use Rattle.pg_handlers.specs.declared.ends.Turns.{Turns}
-use Rattle.pg_handlers.specs.Effect.{Effect, refuses, stopped}
+use Rattle.pg_results.specs.declared.error.PgWireError.TheVariants as wire
+use Rattle.pg_results.specs.Rows.{IsAnswerable}
+use Rattle.pg_client.specs.declared.ends.SessionError.{SessionError}
+use Rattle.pg_client.specs.declared.ends.SessionError.TheVariants as session
+use Rattle.pg_client.specs.declared.ends.Turns.{Turns}
+use Rattle.pg_client.specs.Effect.{Effect, refuses, stopped}
 use Rattle.pg_handlers.specs.Outcomes.{IsRunEnd}
 use Rattle.pg_handlers.specs.Questions.{Canceled, HasSpent, IsVerdict, Unanswered, Verdict}
-use Rattle.pg_handlers.specs.Sending.{AtTurnLimit, IsAnswerableError}
-use Rattle.pg_handlers.specs.State.{State}
+use Rattle.pg_client.specs.Ends.{AtTurnLimit, IsAnswerableError}
+use Rattle.pg_client.specs.State.{State}
 use Rattle.pg_handlers.proofs.Rows.{canceled_told}
 
 -- each is answered

@@ -2,13 +2,13 @@
 use Rattle.std.specs.Prelude.{Bool, true, false, [], ◌∷◌, ◌++◌, Option, Some, None}
 use Rattle.pg_messages.specs.declared.frontend.PgWireFrontendMessage.{PgWireFrontendMessage}
 use Rattle.pg_messages.specs.declared.frontend.PgWireFrontendMessage.TheVariants as client
-use Rattle.pg_portal.specs.declared.error.PgWireError.{PgWireError}
-use Rattle.pg_portal.specs.declared.client.PgWireConnectionState.TheVariants as phase
-use Rattle.pg_handlers.specs.declared.ends.EndKind.TheVariants as end
-use Rattle.pg_handlers.specs.Replies.{Replies, ready}
+use Rattle.pg_results.specs.declared.error.PgWireError.{PgWireError}
+use Rattle.pg_results.specs.declared.client.PgWireConnectionState.TheVariants as phase
+use Rattle.pg_client.specs.declared.ends.EndKind.TheVariants as end
+use Rattle.pg_replies.specs.Replies.{Replies, ready}
 use Rattle.pg_handlers.specs.Handlers.{CopyTold, CopyStep}
-use Rattle.pg_handlers.specs.State.{State, in_phase}
-use Rattle.pg_handlers.specs.Effect.{Effect, says, refuses, over, Failed}
+use Rattle.pg_client.specs.State.{State, in_phase}
+use Rattle.pg_client.specs.Effect.{Effect, says, refuses, over, Failed}
 
 -- The handler's replies stand before its refusal, or before what follows where it doesn't refuse.
 abbrev pub stepped : {S : Type 0} → State S → Replies → Option PgWireError → Effect S → Effect S

@@ -1,36 +1,32 @@
 -- Execute (protocol: Message Flow, Extended Query).
-use Rattle.std.specs.Prelude.{ℕ, Bool, true, List, [], ◌∷◌, ◌++◌, Option, Some, None, Result, Ok, Err, if◌then◌else◌, length, codes}
+use Rattle.std.specs.Prelude.{ℕ, Bool, true, List, [], ◌∷◌, Option, Some, None, Result, Ok, Err, if◌then◌else◌, length, codes}
 use Rattle.std.specs.FinMap as fin
 use Rattle.pg_messages.specs.declared.extendedquery.Execute.{Execute}
 use Rattle.pg_messages.specs.declared.data.DataRow.{DataRow}
 use Rattle.pg_messages.specs.declared.backend.PgWireBackendMessage.TheVariants as server
-use Rattle.pg_portal.specs.declared.error.PgWireError.{PgWireError}
-use Rattle.pg_portal.specs.declared.error.PgWireError.TheVariants as wire
-use Rattle.pg_portal.specs.declared.client.PgWireConnectionState.TheVariants as phase
+use Rattle.pg_results.specs.declared.error.PgWireError.{PgWireError}
+use Rattle.pg_results.specs.declared.error.PgWireError.TheVariants as wire
+use Rattle.pg_results.specs.declared.client.PgWireConnectionState.TheVariants as phase
 use Rattle.pg_portal.specs.declared.store.Entry.{Entry}
 use Rattle.pg_portal.specs.declared.store.Entry.TheVariants as entry
 use Rattle.pg_portal.specs.Fetching.{stage_after}
-use Rattle.pg_portal.specs.Page.{PageEnd, AtLimit, AtEnd, AtError, delivered_after, item_page}
-use Rattle.pg_portal.specs.Told.{TablePortal, Stage, Unstarted, Started, Ended, ToldRows}
-use Rattle.pg_portal.specs.Responses as response
-use Rattle.pg_portal.specs.Responses.{ToldResponse}
-use Rattle.pg_handlers.specs.Replies.{Replies, done_with, row_replies}
+use Rattle.pg_results.specs.Page.{PageEnd, AtLimit, AtEnd, AtError, delivered_after, item_page}
+use Rattle.pg_results.specs.Told.{ToldRows}
+use Rattle.pg_portal.specs.Told.{TablePortal, Stage, Unstarted, Started, Ended}
+use Rattle.pg_results.specs.Responses as response
+use Rattle.pg_results.specs.Responses.{ToldResponse}
+use Rattle.pg_replies.specs.PageEnd.{page_replies}
+use Rattle.pg_replies.specs.Replies.{done_with}
 use Rattle.pg_handlers.specs.Questions.{Verdict, Passed, Canceled, Unanswered, started}
 use Rattle.pg_handlers.specs.Handlers.{ExtendedTold, ToldQuery}
-use Rattle.pg_handlers.specs.State.{State, in_phase, with_status, with_portal, without_unnamed_portal}
-use Rattle.pg_handlers.specs.ResponseRows.{Sent, responded}
-use Rattle.pg_handlers.specs.Effect.{Effect, Called, says, refuses, stopped, silent, Failed}
+use Rattle.pg_client.specs.State.{State, in_phase, with_status, with_portal, without_unnamed_portal}
+use Rattle.pg_replies.specs.ResponseRows.{Sent, responded}
+use Rattle.pg_client.specs.Effect.{Effect, Called, says, refuses, stopped, silent, Failed}
 
 -- ---- a started portal
 
 abbrev pub at_stage : {S : Type 0} → TablePortal S → Stage → TablePortal S
 at_stage p stage = record { bound = p.bound; stage = stage }
-
--- what a page replies: its rows, and that the portal is suspended or the tag with a number; nothing where an error is met
-abbrev pub page_replies : List ℕ → ℕ → List DataRow → PageEnd DataRow → Replies
-page_replies tag number rows (AtLimit items) = row_replies rows ++ server.PortalSuspended (record {}) ∷ []
-page_replies tag number rows AtEnd = row_replies rows ++ done_with tag number ∷ []
-page_replies tag number rows (AtError e items) = []
 
 -- A page at its limit leaves the portal suspended, one at the end is told by the tag, and one at an error is answered by the error alone.
 abbrev pub page_effect : {S : Type 0} → State S → List ℕ → ℕ → List DataRow → PageEnd DataRow → Effect S

@@ -4,17 +4,19 @@ use Rattle.std.specs.Option.{IsSomeAnd}
 use Rattle.std.specs.FinMap as fin
 use Rattle.pg_messages.specs.declared.data.DataRow.{DataRow}
 use Rattle.pg_messages.specs.Replies.{replies_bytes}
-use Rattle.pg_portal.specs.declared.error.PgWireError.{PgWireError}
-use Rattle.pg_portal.specs.declared.error.PgWireError.TheVariants as wire
+use Rattle.pg_results.specs.declared.error.PgWireError.{PgWireError}
+use Rattle.pg_results.specs.declared.error.PgWireError.TheVariants as wire
 use Rattle.pg_portal.specs.declared.store.Entry.TheVariants as entry
 use Rattle.pg_portal.specs.Fetching.{IsKept, stage_after}
 use Rattle.pg_portal.specs.Maps.{Maps, maps_with_portal, maps_without_portal}
-use Rattle.pg_portal.specs.Page.{ItemPage, PageEnd, AtLimit, AtEnd, AtError, delivered_after, item_page}
-use Rattle.pg_portal.specs.Told.{Stage, Unstarted, Started, Ended, ToldRows, TablePortal, value_under}
-use Rattle.pg_portal.specs.Responses as response
-use Rattle.pg_portal.specs.Responses.{ToldResponse}
-use Rattle.pg_handlers.specs.Replies.{Replies, done_with}
-use Rattle.pg_handlers.specs.ExecuteRow.{at_stage, page_replies}
+use Rattle.pg_results.specs.Page.{ItemPage, PageEnd, AtLimit, AtEnd, AtError, delivered_after, item_page}
+use Rattle.pg_results.specs.Told.{ToldRows}
+use Rattle.pg_portal.specs.Told.{Stage, Unstarted, Started, Ended, TablePortal, value_under}
+use Rattle.pg_results.specs.Responses as response
+use Rattle.pg_results.specs.Responses.{ToldResponse}
+use Rattle.pg_replies.specs.Replies.{Replies, done_with}
+use Rattle.pg_replies.specs.PageEnd.{page_replies}
+use Rattle.pg_handlers.specs.ExecuteRow.{at_stage}
 
 abbrev pub is_unstarted : Stage → Bool
 is_unstarted Unstarted = true

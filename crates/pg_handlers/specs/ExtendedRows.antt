@@ -8,25 +8,27 @@ use Rattle.pg_messages.specs.declared.extendedquery.Close.{Close}
 use Rattle.pg_messages.specs.declared.backend.PgWireBackendMessage.{PgWireBackendMessage}
 use Rattle.pg_messages.specs.declared.backend.PgWireBackendMessage.TheVariants as server
 use Rattle.pg_messages.specs.Frames.{statement_target, portal_target}
-use Rattle.pg_portal.specs.declared.error.PgWireError.{PgWireError}
-use Rattle.pg_portal.specs.declared.error.PgWireError.TheVariants as wire
-use Rattle.pg_portal.specs.declared.client.PgWireConnectionState.TheVariants as phase
-use Rattle.pg_portal.specs.declared.stmt.StoredStatement.{StoredStatement}
+use Rattle.pg_results.specs.declared.error.PgWireError.{PgWireError}
+use Rattle.pg_results.specs.declared.error.PgWireError.TheVariants as wire
+use Rattle.pg_results.specs.declared.client.PgWireConnectionState.TheVariants as phase
+use Rattle.pg_results.specs.declared.stmt.StoredStatement.{StoredStatement}
 use Rattle.pg_portal.specs.declared.store.Entry.{Entry}
 use Rattle.pg_portal.specs.declared.store.Entry.TheVariants as entry
-use Rattle.pg_portal.specs.declared.results.describe.DescribeStatementResponse.{DescribeStatementResponse}
-use Rattle.pg_portal.specs.declared.results.describe.DescribePortalResponse.{DescribePortalResponse}
-use Rattle.pg_text.specs.declared.pg_type.PgType.{PgType}
-use Rattle.pg_portal.specs.Describing.{Described, is_empty_list, is_no_data}
-use Rattle.pg_portal.specs.Fields.{Field}
+use Rattle.pg_results.specs.declared.describe.DescribeStatementResponse.{DescribeStatementResponse}
+use Rattle.pg_results.specs.declared.describe.DescribePortalResponse.{DescribePortalResponse}
+use Rattle.pg_results.specs.Describing.{is_empty_list}
+use Rattle.pg_results.specs.Fields.{Field}
 use Rattle.pg_portal.specs.Maps.{Maps, maps_without_statement, maps_without_portal}
-use Rattle.pg_portal.specs.Statements.{prepared, bound_by}
-use Rattle.pg_portal.specs.Told.{ParserTold, TablePortal, Unstarted}
-use Rattle.pg_handlers.specs.Errors.{values_for_empty, too_few_codes}
-use Rattle.pg_handlers.specs.Replies.{Replies, ready, row_description, parameter_description}
+use Rattle.pg_results.specs.Statements.{prepared}
+use Rattle.pg_portal.specs.Statements.{bound_by}
+use Rattle.pg_results.specs.Told.{ParserTold}
+use Rattle.pg_portal.specs.Told.{TablePortal, Unstarted}
+use Rattle.pg_replies.specs.Descriptions.{description}
+use Rattle.pg_client.specs.Errors.{values_for_empty, too_few_codes}
+use Rattle.pg_replies.specs.Replies.{Replies, ready}
 use Rattle.pg_handlers.specs.Handlers.{ExtendedTold}
-use Rattle.pg_handlers.specs.State.{State, in_phase, with_statement, with_portal, without_statement, without_portal, without_unnamed_portal}
-use Rattle.pg_handlers.specs.Effect.{Effect, says, refuses}
+use Rattle.pg_client.specs.State.{State, in_phase, with_statement, with_portal, without_statement, without_portal, without_unnamed_portal}
+use Rattle.pg_client.specs.Effect.{Effect, says, refuses}
 
 -- ---- Parse
 
@@ -97,18 +99,6 @@ IsTooFew codes (Err told) e = (2 ≤ codes) × (e ≡ told)
 IsTooFew codes (Ok fields) e = (2 ≤ codes) × (codes < length fields) × (e ≡ wire.UserError (too_few_codes codes (length fields)))
 
 -- ---- Describe
-
--- the columns, or that there is no data
-abbrev pub columns_reply : Described → PgWireBackendMessage
-columns_reply d = if is_no_data d then server.NoData (record {}) else row_description d.fields
-
--- the types of the parameters, where it is a statement, stand before the columns
-abbrev pub description_with : Option (List PgType) → PgWireBackendMessage → Replies
-description_with None columns = columns ∷ []
-description_with (Some types) columns = parameter_description types ∷ columns ∷ []
-
-abbrev pub description : Described → Replies
-description d = description_with d.parameters (columns_reply d)
 
 -- A statement is described by its parameters' types and its columns; it has no data where it has neither.
 abbrev pub statement_description : DescribeStatementResponse → Replies

@@ -1,32 +1,29 @@
 -- What stands in a good store, and what can be sent of what handlers tell.
-use Rattle.std.specs.Prelude.{ℕ, false, List, Some, None, Result, Ok, Err, ◌≡◌, ◌≤◌, ◌<◌, ◌^◌, IsTrue, length}
+use Rattle.std.specs.Prelude.{ℕ, false, List, Some, None, Result, Ok, Err, ◌≡◌, ◌≤◌, IsTrue, length}
 use Rattle.std.specs.List.{AllByRecursion}
 use Rattle.std.specs.FinMap as fin
 use Rattle.pg_messages.specs.declared.frontend.PgWireFrontendMessage.{PgWireFrontendMessage}
 use Rattle.pg_messages.specs.Frames.{IsFrame}
 use Rattle.pg_messages.specs.Replies.{IsEncodable}
-use Rattle.pg_portal.specs.declared.error.PgWireError.{PgWireError}
-use Rattle.pg_portal.specs.declared.portal.Format.{Format}
-use Rattle.pg_portal.specs.declared.portal.Format.TheVariants as format
-use Rattle.pg_portal.specs.declared.stmt.StoredStatement.{StoredStatement}
-use Rattle.pg_portal.specs.declared.results.describe.DescribeStatementResponse.{DescribeStatementResponse}
-use Rattle.pg_portal.specs.Clients.{HasShortMetadata}
-use Rattle.pg_portal.specs.Fields.{Field}
-use Rattle.pg_portal.specs.Responses as response
-use Rattle.pg_portal.specs.Responses.{ToldResponse, ToldCopy}
-use Rattle.pg_portal.specs.Rows.{IsItemError}
-use Rattle.pg_portal.specs.Tags.{tag_text}
-use Rattle.pg_portal.specs.Told.{ParserTold, TablePortal, Stage, Started, Unstarted, Ended, value_under}
-use Rattle.pg_handlers.specs.Replies.{done, done_with, error_reply, row_description, parameter_description}
-use Rattle.pg_handlers.specs.State.{State}
+use Rattle.pg_results.specs.declared.error.PgWireError.{PgWireError}
+use Rattle.pg_results.specs.declared.format.Format.{Format}
+use Rattle.pg_results.specs.declared.format.Format.TheVariants as format
+use Rattle.pg_results.specs.declared.stmt.StoredStatement.{StoredStatement}
+use Rattle.pg_results.specs.declared.describe.DescribeStatementResponse.{DescribeStatementResponse}
+use Rattle.pg_results.specs.Clients.{HasShortMetadata}
+use Rattle.pg_results.specs.Fields.{Field}
+use Rattle.pg_results.specs.Responses as response
+use Rattle.pg_results.specs.Responses.{ToldResponse, ToldCopy}
+use Rattle.pg_results.specs.Rows.{IsItemError}
+use Rattle.pg_results.specs.Tags.{tag_text}
+use Rattle.pg_results.specs.Told.{ParserTold}
+use Rattle.pg_portal.specs.Told.{TablePortal, Stage, Started, Unstarted, Ended, value_under}
+use Rattle.pg_replies.specs.Replies.{IsTag, done, error_reply, row_description, parameter_description}
+use Rattle.pg_client.specs.State.{State}
 
 -- the message is one that a good frame carries
 abbrev pub IsGiven : PgWireFrontendMessage → Type 0
 IsGiven m = (frame : List ℕ) × IsFrame false frame m
-
--- a tag that can be sent with any number of rows
-abbrev pub IsTag : List ℕ → Type 0
-IsTag tag = (rows : ℕ) → rows < 2 ^ 64 → IsEncodable (done_with tag rows)
 
 -- ---- what handlers tell
 

@@ -1,19 +1,20 @@
 -- What the parts of a server tell: the handlers of extended and of simple queries, and the handler of COPY.
 use Rattle.std.specs.Prelude.{ℕ, ℤ, Bool, true, List, Option, Result, Ok, Err, ◌≡◌, ◌≢◌, ◌-◌}
 use Rattle.std.specs.declared.alloc.AllocError.{AllocError}
-use Rattle.pg_portal.specs.declared.error.PgWireError.{PgWireError}
-use Rattle.pg_portal.specs.declared.client.ClientInfo.{ClientInfo}
-use Rattle.pg_portal.specs.declared.stmt.StoredStatement.{StoredStatement}
-use Rattle.pg_portal.specs.declared.results.response.Response.{Response}
-use Rattle.pg_portal.specs.declared.results.describe.DescribeStatementResponse.{DescribeStatementResponse}
-use Rattle.pg_portal.specs.declared.results.describe.DescribePortalResponse.{DescribePortalResponse}
-use Rattle.pg_portal.specs.Rows.{RowItem}
-use Rattle.pg_portal.specs.Copying.{CopyItem}
-use Rattle.pg_portal.specs.Told.{ParserTold, BoundPortal}
-use Rattle.pg_portal.specs.Responses.{ToldResponse, told_response, told_responses}
+use Rattle.pg_results.specs.declared.error.PgWireError.{PgWireError}
+use Rattle.pg_results.specs.declared.client.ClientInfo.{ClientInfo}
+use Rattle.pg_results.specs.declared.stmt.StoredStatement.{StoredStatement}
+use Rattle.pg_results.specs.declared.response.Response.{Response}
+use Rattle.pg_results.specs.declared.describe.DescribeStatementResponse.{DescribeStatementResponse}
+use Rattle.pg_results.specs.declared.describe.DescribePortalResponse.{DescribePortalResponse}
+use Rattle.pg_results.specs.Rows.{RowItem}
+use Rattle.pg_results.specs.Copying.{CopyItem}
+use Rattle.pg_results.specs.Told.{ParserTold}
+use Rattle.pg_portal.specs.Told.{BoundPortal}
+use Rattle.pg_results.specs.Responses.{ToldResponse, told_response, told_responses}
 use Rattle.pg_handlers.specs.declared.query.Turn.{Turn}
 use Rattle.pg_handlers.specs.declared.query.Turn.TheVariants.{Unready, Ready}
-use Rattle.pg_handlers.specs.Replies.{Replies}
+use Rattle.pg_replies.specs.Replies.{Replies}
 
 -- a query as its handler tells it: the number of polls that find it unready, and what it answers then
 pub record ToldQuery (A : Type 0) : Type 0 where

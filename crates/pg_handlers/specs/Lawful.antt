@@ -2,7 +2,7 @@
 use Rattle.std.specs.Prelude.{Bool, List, ◌++◌, ◌≡◌}
 use Rattle.pg_messages.specs.declared.frontend.PgWireFrontendMessage.{PgWireFrontendMessage}
 use Rattle.pg_messages.specs.Frames.{awaits_startup_after}
-use Rattle.pg_handlers.specs.Answer.{Table, Next, Goes, Ends, Stops, answers_of, left_by}
+use Rattle.pg_client.specs.Answer.{Table, Next, Goes, Ends, Stops, answers_of, left_by}
 
 -- it didn't stop for want of an answer
 abbrev pub IsMade : {T : Type 0} → Next T → Type 0

@@ -1,10 +1,10 @@
 -- What the handlers tell that implement nothing: queries and COPY are refused with FATAL, and there is nothing to describe.
 use Rattle.std.specs.Prelude.{ℕ, Bool, true, false, List, [], Option, Some, None, Result, Ok, Err}
 use Rattle.pg_messages.specs.declared.response.ErrorInfo.{ErrorInfo}
-use Rattle.pg_portal.specs.declared.error.PgWireError.{PgWireError}
-use Rattle.pg_portal.specs.declared.error.PgWireError.TheVariants as wire
-use Rattle.pg_portal.specs.Noop.{noop_told}
-use Rattle.pg_handlers.specs.Errors.{copy_given_up, not_implemented}
+use Rattle.pg_results.specs.declared.error.PgWireError.{PgWireError}
+use Rattle.pg_results.specs.declared.error.PgWireError.TheVariants as wire
+use Rattle.pg_results.specs.Noop.{noop_told}
+use Rattle.pg_client.specs.Errors.{copy_given_up, not_implemented}
 use Rattle.pg_handlers.specs.Handlers.{ExtendedTold, SimpleTold, CopyTold, CopyStep, ToldQuery, QueryTold}
 
 abbrev pub noop_step : CopyStep

@@ -1,11 +1,11 @@
 -- What a message and a query come to, as the outcome of a session.
 use Rattle.std.specs.Prelude.{ℕ, List, Result, Ok, Err, ◌≡◌}
-use Rattle.pg_portal.specs.declared.error.PgWireError.{PgWireError}
-use Rattle.pg_handlers.specs.declared.ends.SessionError.{SessionError}
-use Rattle.pg_handlers.specs.declared.ends.SessionError.TheVariants as session
-use Rattle.pg_handlers.specs.Effect.{Effect, Done, Stopped, IsEffect, IsRefusedEffect}
+use Rattle.pg_results.specs.declared.error.PgWireError.{PgWireError}
+use Rattle.pg_client.specs.declared.ends.SessionError.{SessionError}
+use Rattle.pg_client.specs.declared.ends.SessionError.TheVariants as session
+use Rattle.pg_client.specs.Effect.{Effect, Done, Stopped, IsEffect, IsRefusedEffect}
 use Rattle.pg_handlers.specs.Questions.{Verdict, Unanswered}
-use Rattle.pg_handlers.specs.State.{State}
+use Rattle.pg_client.specs.State.{State}
 
 abbrev pub session_outcome : {A : Type 0} → Result A PgWireError → Result A SessionError
 session_outcome (Ok x) = Ok x

@@ -1,12 +1,12 @@
 -- The registry calls of a query: one start, and a question behind each poll that found it unready.
 use Rattle.std.specs.Prelude.{ℕ, zero, suc, Bool, true, false, List, [], ◌∷◌, ◌++◌, ◌+◌, ◌≡◌, ◌≤◌, ◌⊎◌, Result, Ok, Err, length, drop}
-use Rattle.pg_portal.specs.declared.error.PgWireError.TheVariants as wire
-use Rattle.pg_handlers.specs.declared.ends.SessionError.{SessionError}
-use Rattle.pg_handlers.specs.declared.ends.SessionError.TheVariants as session
-use Rattle.pg_handlers.specs.declared.ends.Turns.{Turns}
-use Rattle.pg_handlers.specs.declared.desk.DeskCall.{DeskCall}
-use Rattle.pg_handlers.specs.declared.desk.DeskCall.TheVariants as desk
-use Rattle.pg_handlers.specs.Answer.{answers_of}
+use Rattle.pg_results.specs.declared.error.PgWireError.TheVariants as wire
+use Rattle.pg_client.specs.declared.ends.SessionError.{SessionError}
+use Rattle.pg_client.specs.declared.ends.SessionError.TheVariants as session
+use Rattle.pg_client.specs.declared.ends.Turns.{Turns}
+use Rattle.pg_client.specs.declared.desk.DeskCall.{DeskCall}
+use Rattle.pg_client.specs.declared.desk.DeskCall.TheVariants as desk
+use Rattle.pg_client.specs.Answer.{answers_of}
 
 -- each question was answered no; one was answered yes, and is the last; an answer was missing
 pub data Verdict : Type 0 where

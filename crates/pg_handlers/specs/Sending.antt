@@ -1,60 +1,7 @@
--- What calls that send made of the outbox.
-use Rattle.std.specs.Prelude.{ℕ, Bool, true, false, List, ◌++◌, Some, None, Result, Ok, Err, ◌≡◌, ◌⊎◌}
-use Rattle.pg_messages.specs.declared.copy.CopyData.{CopyData}
-use Rattle.pg_messages.specs.declared.data.DataRow.{DataRow}
-use Rattle.pg_messages.specs.Replies.{replies_bytes}
-use Rattle.pg_portal.specs.declared.error.PgWireError.{PgWireError}
-use Rattle.pg_portal.specs.declared.error.PgWireError.TheVariants as wire
-use Rattle.pg_portal.specs.Fetching.{with_items}
-use Rattle.pg_portal.specs.Page.{PageEnd, AtLimit, AtEnd, AtError, before_error, first_error}
-use Rattle.pg_portal.specs.Rows.{RowItem, IsAnswerable}
-use Rattle.pg_portal.specs.Told.{ToldRows}
+-- What a response left.
 use Rattle.pg_handlers.specs.declared.query.respond.Behind.{Behind}
-use Rattle.pg_handlers.specs.declared.ends.SessionError.{SessionError}
-use Rattle.pg_handlers.specs.declared.ends.SessionError.TheVariants as session
-use Rattle.pg_handlers.specs.Replies.{row_replies}
-use Rattle.pg_handlers.specs.ResponseRows.{Sent, copy_replies, copy_count, not_empty}
-
--- A page was sent, which ended so: whether it was suspended, and what is left of the response.
-abbrev pub IsSentPage : ToldRows → PageEnd DataRow → Bool → ToldRows → Type 0
-IsSentPage old (AtLimit items) suspended new = (suspended ≡ true) × (new ≡ with_items old items)
-IsSentPage old AtEnd suspended new = suspended ≡ false
-IsSentPage old (AtError e items) suspended new = ⊥
-
--- A page met this error: the rows before it stand in the outbox, and it is consumed.
-pub record IsMetError (old : ToldRows) (ending : PageEnd DataRow) (e : PgWireError) (new : ToldRows) (out new_out : List ℕ) : Type 0 where
-  pub items : List RowItem
-  pub met : ending ≡ AtError e items
-  pub left : new ≡ with_items old items
-  pub rows : new_out ≡ out ++ replies_bytes (row_replies (before_error old.items))
-
--- All was sent, or what stands before an error; or memory is wanting.
-abbrev pub IsAllSent : {A : Type 0} → Sent → List ℕ → List ℕ → Result A PgWireError → Type 0
-IsAllSent sent out new_out (Ok x) = (sent.refusal ≡ None) × (new_out ≡ out ++ replies_bytes sent.replies)
-IsAllSent sent out new_out (Err e) = (e ≡ wire.NoMemory) ⊎ ((sent.refusal ≡ Some e) × (new_out ≡ out ++ replies_bytes sent.replies))
+use Rattle.pg_replies.specs.ResponseRows.{Sent}
 
 -- the status and the COPY that a response left
 abbrev pub behind : Sent → Behind
 behind sent = record { status = sent.status; copying = sent.copying }
-
--- the data of a COPY was sent, so many of which count
-pub record IsSentData (items : List (Result CopyData PgWireError)) (out new_out : List ℕ) (count : ℕ) : Type 0 where
-  pub whole : first_error items ≡ None
-  pub replied : new_out ≡ out ++ replies_bytes (copy_replies (not_empty (before_error items)))
-  pub counted : count ≡ copy_count (not_empty (before_error items))
-
--- An error stood in the place of data.
-pub record IsRefusedData (items : List (Result CopyData PgWireError)) (out new_out : List ℕ) (e : PgWireError) : Type 0 where
-  pub left : List (Result CopyData PgWireError)
-  pub met : first_error items ≡ Some (e, left)
-  pub replied : new_out ≡ out ++ replies_bytes (copy_replies (not_empty (before_error items)))
-
--- an error that is answered, or a turn that is wanting
-abbrev pub IsAnswerableError : SessionError → Type 0
-IsAnswerableError (session.Wire e) = IsAnswerable e
-IsAnswerableError session.TurnLimit = Unit {0}
-
--- what holds after an error where it is the limit of the turns
-abbrev pub AtTurnLimit : SessionError → Type 0 → Type 0
-AtTurnLimit (session.Wire e) P = Unit {0}
-AtTurnLimit session.TurnLimit P = P

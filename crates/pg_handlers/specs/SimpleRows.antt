@@ -3,17 +3,17 @@ use Rattle.std.specs.Prelude.{Bool, false, List, [], ◌∷◌, ◌++◌, ◌||�
 use Rattle.pg_messages.specs.declared.simplequery.Query.{Query}
 use Rattle.pg_messages.specs.declared.response.TransactionStatus.{TransactionStatus}
 use Rattle.pg_messages.specs.declared.backend.PgWireBackendMessage.TheVariants as server
-use Rattle.pg_portal.specs.declared.error.PgWireError.{PgWireError}
-use Rattle.pg_portal.specs.declared.error.PgWireError.TheVariants as wire
-use Rattle.pg_portal.specs.declared.client.PgWireConnectionState.TheVariants as phase
-use Rattle.pg_portal.specs.Texts.{is_blank}
-use Rattle.pg_portal.specs.Responses.{ToldResponse}
-use Rattle.pg_handlers.specs.Replies.{ready}
+use Rattle.pg_results.specs.declared.error.PgWireError.{PgWireError}
+use Rattle.pg_results.specs.declared.error.PgWireError.TheVariants as wire
+use Rattle.pg_results.specs.declared.client.PgWireConnectionState.TheVariants as phase
+use Rattle.pg_results.specs.Texts.{is_blank}
+use Rattle.pg_results.specs.Responses.{ToldResponse}
+use Rattle.pg_replies.specs.Replies.{ready}
 use Rattle.pg_handlers.specs.Questions.{Verdict, Passed, Canceled, Unanswered, started}
 use Rattle.pg_handlers.specs.Handlers.{SimpleTold, ToldQuery}
-use Rattle.pg_handlers.specs.State.{State, in_phase, with_status}
-use Rattle.pg_handlers.specs.ResponseRows.{Sent, sent, responded}
-use Rattle.pg_handlers.specs.Effect.{Effect, Called, says, refuses, stopped, silent, Failed}
+use Rattle.pg_client.specs.State.{State, in_phase, with_status}
+use Rattle.pg_replies.specs.ResponseRows.{Sent, sent, responded}
+use Rattle.pg_client.specs.Effect.{Effect, Called, says, refuses, stopped, silent, Failed}
 
 -- what was sent of a response, and of those behind it unless an error cut it short
 abbrev pub followed : Sent → Option PgWireError → Sent → Sent

@@ -2,14 +2,14 @@
 use Rattle.std.specs.Prelude.{Bool, true, false, List, []}
 use Rattle.pg_messages.specs.declared.frontend.PgWireFrontendMessage.{PgWireFrontendMessage}
 use Rattle.pg_messages.specs.declared.frontend.PgWireFrontendMessage.TheVariants as client
-use Rattle.pg_portal.specs.declared.client.PgWireConnectionState.{PgWireConnectionState}
-use Rattle.pg_portal.specs.declared.client.PgWireConnectionState.TheVariants as phase
-use Rattle.pg_handlers.specs.declared.ends.EndKind.TheVariants as end
-use Rattle.pg_handlers.specs.Answer.{Table}
+use Rattle.pg_results.specs.declared.client.PgWireConnectionState.{PgWireConnectionState}
+use Rattle.pg_results.specs.declared.client.PgWireConnectionState.TheVariants as phase
+use Rattle.pg_client.specs.declared.ends.EndKind.TheVariants as end
+use Rattle.pg_client.specs.Answer.{Table}
 use Rattle.pg_handlers.specs.Handlers.{Handlers, ExtendedTold}
-use Rattle.pg_handlers.specs.State.{State}
-use Rattle.pg_handlers.specs.Effect.{Effect, Called, Scope, UntilSync, AnswersReady, says, over, silent, settle}
-use Rattle.pg_handlers.specs.StartupRows.{startup_row}
+use Rattle.pg_client.specs.State.{State}
+use Rattle.pg_client.specs.Effect.{Effect, Called, Scope, UntilSync, AnswersReady, says, over, silent, settle}
+use Rattle.pg_client.specs.StartupRows.{startup_row}
 use Rattle.pg_handlers.specs.ExtendedRows.{on_parse, on_bind, on_describe, on_close, on_sync}
 use Rattle.pg_handlers.specs.ExecuteRow.{on_execute}
 use Rattle.pg_handlers.specs.SimpleRows.{on_query}

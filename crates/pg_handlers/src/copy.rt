@@ -2,17 +2,17 @@
 
 ghost use Rattle.std.specs.Prelude.{◌≡◌, ◌⊎◌, ◌++◌, codes, length, take, IfOk, IfErr, OnOk};
 ghost use Rattle.pg_messages.specs.declared.frontend.PgWireFrontendMessage.TheVariants as frontend;
-ghost use Rattle.pg_portal.specs.Clients.{HasShortMetadata};
-ghost use Rattle.pg_portal.specs.Rows.{IsAnswerable};
-ghost use Rattle.pg_portal.specs.declared.error.PgWireError.TheVariants as wire;
+ghost use Rattle.pg_results.specs.Clients.{HasShortMetadata};
+ghost use Rattle.pg_results.specs.Rows.{IsAnswerable};
+ghost use Rattle.pg_results.specs.declared.error.PgWireError.TheVariants as wire;
 ghost use Rattle.pg_handlers.specs.CopyRows.{copy_step};
-ghost use Rattle.pg_handlers.specs.Effect.{IsEffect, IsRefusedEffect, Done};
-ghost use Rattle.pg_handlers.specs.Errors.{copy_given_up};
+ghost use Rattle.pg_client.specs.Effect.{IsEffect, IsRefusedEffect, Done};
+ghost use Rattle.pg_client.specs.Errors.{copy_given_up};
 ghost use Rattle.pg_handlers.specs.Good.{IsGiven};
 ghost use Rattle.pg_handlers.specs.Handlers.{CopyTold};
-ghost use Rattle.pg_handlers.specs.State.{state_of};
+ghost use Rattle.pg_client.specs.State.{state_of};
 
-use crate::client::Client;
+use pg_client::Client;
 use pg_messages::{CopyData, CopyDone, CopyFail, ErrorInfo, PgStr};
 use pg_portal::{PgWireError, PortalStore};
 use std::alloc::{AllocError, Global};

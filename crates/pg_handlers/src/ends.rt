@@ -1,60 +1,12 @@
-//! How conversations end, and the turns that they have.
+//! How messages end, as the session sees it.
 
-ghost use Rattle.std.specs.Prelude.{◌≡◌, ◌+◌, ◌<◌, ◌↔◌, Err, IsTrue};
-ghost use Rattle.std.specs.Bool.{OnTrue, OnFalse};
-ghost use Rattle.pg_portal.specs.declared.error.PgWireError.TheVariants as wire;
-ghost use Rattle.pg_handlers.specs.declared.ends.SessionError.TheVariants as session;
+ghost use Rattle.std.specs.Prelude.{◌≡◌, Err};
+ghost use Rattle.pg_results.specs.declared.error.PgWireError.TheVariants as wire;
+ghost use Rattle.pg_client.specs.declared.ends.SessionError.TheVariants as session;
 ghost use Rattle.pg_handlers.specs.Outcomes.{session_outcome};
 
+use pg_client::SessionError;
 use pg_portal::PgWireError;
-use std::alloc::AllocError;
-
-/// How a conversation ended.
-#[derive(Clone, Copy, Debug, PartialEq, Eq)]
-pub enum EndKind {
-    /// The client sent Terminate.
-    Terminate,
-    /// The input ended where no whole frame was left.
-    InputEnd,
-    /// The bytes go on with a bad header or frame.
-    BadFrame,
-    /// An error of severity FATAL was told.
-    Fatal,
-    /// The client asked to cancel another session's query, and the registry was called.
-    CancelServed,
-}
-
-/// Why a message isn't carried out.
-#[derive(Drop)]
-pub enum SessionError {
-    /// An error that the client is told, or want of memory.
-    Wire(PgWireError),
-    /// All turns were spent, and a query wanted one more.
-    TurnLimit,
-}
-
-impl From<PgWireError> for SessionError {
-    ghost use Rattle.std.specs.Prelude.{◌≡◌};
-    ghost use Rattle.pg_handlers.specs.declared.ends.SessionError.{SessionError};
-
-    ghost from_gives = { λ wire error. error ≡ SessionError.Wire wire };
-
-    fn from(error: PgWireError) -> SessionError {
-        SessionError::Wire(error)
-    }
-}
-
-impl From<AllocError> for SessionError {
-    ghost use Rattle.std.specs.Prelude.{◌≡◌};
-    ghost use Rattle.pg_portal.specs.declared.error.PgWireError.{PgWireError};
-    ghost use Rattle.pg_handlers.specs.declared.ends.SessionError.{SessionError};
-
-    ghost from_gives = { λ _ error. error ≡ SessionError.Wire PgWireError.NoMemory };
-
-    fn from(_error: AllocError) -> SessionError {
-        SessionError::Wire(PgWireError::NoMemory)
-    }
-}
 
 /// The outcome of a message, as the session's.
 #[inline(always)]
@@ -83,31 +35,4 @@ pub(crate) fn query_out_of_memory<T: Drop>(_left: T) -> Result<(), SessionError>
     ensures { result ≡ Err (session.Wire wire.NoMemory) }
 {
     Err(SessionError::Wire(PgWireError::NoMemory))
-}
-
-/// The turns of a session: those that are spent, and how many there are. A turn is a read that gave
-/// at least one byte or the end, or a poll that found a query unready.
-#[derive(Clone, Copy, Debug, PartialEq, Eq)]
-pub struct Turns {
-    /// How many are spent.
-    pub spent: u64,
-    /// How many there are.
-    pub limit: u64,
-}
-
-impl Turns {
-    /// Spends one turn, and answers false exactly where none is left.
-    pub fn spend(&mut self) -> bool
-        ensures left { IsTrue result ↔ (self.old.spent < self.old.limit) }
-        ensures spent { OnTrue result (self.new.spent ≡ self.old.spent + 1) }
-        ensures kept { OnFalse result (self.new.spent ≡ self.old.spent) }
-        ensures limit { self.new.limit ≡ self.old.limit }
-    {
-        if self.spent < self.limit {
-            self.spent += 1;
-            true
-        } else {
-            false
-        }
-    }
 }

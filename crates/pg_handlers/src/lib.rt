@@ -2,28 +2,24 @@
 //! COPY, their rules as default bodies, and the replies that they send.
 #![tactic(auto)]
 
-mod client;
 mod copy;
-mod desk;
 mod ends;
 mod handlers;
 mod laws;
 mod noop;
 mod query;
 
-pub use client::Client;
 pub use copy::{CopyHandler, copy_given_up};
-pub use desk::{CancelDesk, DeskCall, ScriptDesk};
-pub use ends::{EndKind, SessionError, Turns};
 pub use handlers::PgWireServerHandlers;
 pub use laws::whole_table_is_lawful;
 pub use noop::{NoRows, NoopExtendedQuery, NoopHandler, NoopSimpleQuery};
+pub use pg_client::{CancelDesk, Client, DeskCall, EndKind, ScriptDesk, SessionError, Turns};
 pub use pg_outbox::{CHUNK, Outbox};
-pub use query::extended::ExtendedQueryHandler;
-pub use query::send::{
+pub use pg_replies::{
     send_copy_both_response, send_copy_in_response, send_copy_out_response, send_describe_response,
     send_execution_response, send_partial_query_response, send_query_response,
     send_ready_for_query,
 };
+pub use query::extended::ExtendedQueryHandler;
 pub use query::simple::SimpleQueryHandler;
 pub use query::{QueryState, Turn};

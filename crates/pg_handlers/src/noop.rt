@@ -1,15 +1,15 @@
 //! Handlers that implement nothing.
 
 ghost use Rattle.std.specs.Prelude.{◌≡◌, [], IfOk};
-ghost use Rattle.pg_portal.specs.Rows.{IsTellable};
-ghost use Rattle.pg_portal.specs.declared.error.PgWireError.TheVariants as wire;
-ghost use Rattle.pg_handlers.specs.Errors.{not_implemented};
+ghost use Rattle.pg_results.specs.Rows.{IsTellable};
+ghost use Rattle.pg_results.specs.declared.error.PgWireError.TheVariants as wire;
+ghost use Rattle.pg_client.specs.Errors.{not_implemented};
 
-use crate::client::Client;
 use crate::copy::{CopyHandler, copy_given_up};
 use crate::query::extended::ExtendedQueryHandler;
 use crate::query::simple::SimpleQueryHandler;
 use crate::query::{QueryState, Turn};
+use pg_client::Client;
 use pg_messages::{CopyData, CopyDone, CopyFail, DataRow, ErrorInfo, PgList, PgStr};
 use pg_portal::{
     ClientInfo, CopySource, DescribePortalResponse, DescribeResponse, DescribeStatementResponse,

@@ -11,7 +11,7 @@ use Rattle.std.proofs.lemmas.List.Elements.{filter-append}
 use Rattle.pg_interval.specs.Texts.{is_whitespace, is_digit, is_sign, is_point, is_colon, is_minus, is_empty, are_digits, tokens}
 use Rattle.pg_interval.specs.Decimals.{number_of, decimal_of, decimal_of_parts, decimal_between}
 use Rattle.pg_interval.specs.Printed.{minus_if, two_digits_of}
-use Rattle.pg_interval.specs.declared.interval_parse.parse_error.DecimalError.TheVariants.{Malformed, TooManyDigits}
+use Rattle.interval_errors.specs.declared.DecimalError.TheVariants.{Malformed, TooManyDigits}
 
 -- ---- tests
 

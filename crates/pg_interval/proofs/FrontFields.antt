@@ -16,9 +16,9 @@ use Rattle.pg_interval.specs.SqlText.{field_pair, fraction_pair, is_field, field
 use Rattle.pg_interval.specs.FieldReader.{int_out_of_range}
 use Rattle.pg_interval.specs.FrontReader.{IsNumberFront, IsAmount, IsAmountFront, IsSeconds, only_months, only_days, only_time}
 use Rattle.pg_interval.specs.declared.pg_interval.Interval.{Interval}
-use Rattle.pg_interval.specs.declared.interval_parse.parse_error.ParseError.{ParseError}
-use Rattle.pg_interval.specs.declared.interval_parse.parse_error.ParseError.TheVariants.{ParseIntErr}
-use Rattle.pg_interval.specs.declared.interval_parse.parse_error.IntError.TheVariants.{InvalidDigit}
+use Rattle.interval_errors.specs.declared.ParseError.{ParseError}
+use Rattle.interval_errors.specs.declared.ParseError.TheVariants.{ParseIntErr}
+use Rattle.interval_errors.specs.declared.IntError.TheVariants.{InvalidDigit}
 use Rattle.pg_interval.proofs.DigitTexts.{digit_no_space, digit_no_colon, digit_no_point, all_digits, filled_digits, split_none, split_at, tokens_append, tokens_whole}
 use Rattle.pg_interval.proofs.PartTexts.{whole_number, unit_worth, worth_whole, whole_worth, zero_sign}
 use Rattle.pg_interval.proofs.ReadSums.{total_more}

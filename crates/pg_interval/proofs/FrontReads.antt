@@ -16,8 +16,8 @@ use Rattle.pg_interval.specs.Reader.{capped_decimal, fraction_after}
 use Rattle.pg_interval.specs.WordReader.{State, left, worded_left}
 use Rattle.pg_interval.specs.FrontReader.{IsNumberFront, IsDecimalFront, IsPairFront, is_solid}
 use Rattle.pg_interval.specs.declared.pg_interval.Interval.{Interval}
-use Rattle.pg_interval.specs.declared.interval_parse.parse_error.DecimalError.{DecimalError}
-use Rattle.pg_interval.specs.declared.interval_parse.parse_error.ParseError.{ParseError}
+use Rattle.interval_errors.specs.declared.DecimalError.{DecimalError}
+use Rattle.interval_errors.specs.declared.ParseError.{ParseError}
 use Rattle.pg_interval.proofs.DigitTexts.{and_left, and_right, all_digits}
 use Rattle.pg_interval.proofs.ReadNumbers.{digit_is, digits_below, decimal_is, good_read}
 use Rattle.pg_interval.proofs.ReadTokens.{spaced_left, word_held}

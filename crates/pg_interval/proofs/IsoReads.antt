@@ -20,9 +20,9 @@ use Rattle.pg_interval.specs.Printed.{minus_if, digits_of, is_zero, is_all_zero,
 use Rattle.pg_interval.specs.NormalForm.{normal_form, exact_total}
 use Rattle.pg_interval.specs.declared.pg_interval.Interval.{Interval}
 use Rattle.pg_interval.specs.declared.interval_norm.IntervalNorm.{IntervalNorm}
-use Rattle.pg_interval.specs.declared.interval_parse.parse_error.Reason.TheVariants.{TooLong}
-use Rattle.pg_interval.specs.declared.interval_parse.parse_error.ParseError.{ParseError}
-use Rattle.pg_interval.specs.declared.interval_parse.parse_error.ParseError.TheVariants.{InvalidInterval}
+use Rattle.interval_errors.specs.declared.Reason.TheVariants.{TooLong}
+use Rattle.interval_errors.specs.declared.ParseError.{ParseError}
+use Rattle.interval_errors.specs.declared.ParseError.TheVariants.{InvalidInterval}
 use Rattle.pg_interval.proofs.DigitTexts.{none_of_digits, all_digits, digits_decimal, value_decimal, decimal_point, split_none, split_at, not_longer, and_left, and_right, or_none_left, or_none_right}
 use Rattle.pg_interval.proofs.PartTexts.{whole_number, number_pairs, number_total, abs_small, unit_worth, decimal_pair_whole, fits_by_mag, whole_worth}
 use Rattle.pg_interval.proofs.TimeTexts.{second_decimal, second_worth, six_are_digits, six_value}

@@ -13,7 +13,7 @@ use Rattle.pg_interval.specs.Printed.{is_zero}
 use Rattle.pg_interval.specs.NormalForm.{normal_form, exact_total}
 use Rattle.pg_interval.specs.declared.pg_interval.Interval.{Interval}
 use Rattle.pg_interval.specs.declared.interval_norm.IntervalNorm.{IntervalNorm}
-use Rattle.pg_interval.specs.declared.interval_parse.parse_error.ParseError.{ParseError}
+use Rattle.interval_errors.specs.declared.ParseError.{ParseError}
 use Rattle.pg_interval.proofs.PrintedLemmas.{is_zero_yes}
 use Rattle.pg_interval.proofs.DigitTexts.{and_left, and_right}
 use Rattle.pg_interval.proofs.PartTexts.{whole_number, number_pairs, number_total, unit_worth, worth_whole, whole_worth, zero_sign, nothing_more, fits_by_mag}

@@ -14,7 +14,7 @@ use Rattle.pg_interval.specs.Pairs.{Pair, pair, decimal_pair, checked, fits_fiel
 use Rattle.pg_interval.specs.PostgresText.{Token, Number, Word, token_of, time_of, token_split, is_number_byte, pairs_of_tokens}
 use Rattle.pg_interval.specs.Printed.{Part, part_of, part_text, own_text, word_end, minus_if, digits_of, is_zero}
 use Rattle.pg_interval.specs.declared.pg_interval.Interval.{Interval}
-use Rattle.pg_interval.specs.declared.interval_parse.parse_error.ParseError.{ParseError}
+use Rattle.interval_errors.specs.declared.ParseError.{ParseError}
 use Rattle.pg_interval.proofs.PrintedLemmas.{zero_is_zero}
 use Rattle.pg_interval.proofs.DigitTexts.{none_of_digits, digit_no_space, digit_no_colon, all_digits, filled_digits, digits_decimal, value_decimal, decimal_whole, tokens_append, tokens_whole, take_while_all, and_left, and_right}
 

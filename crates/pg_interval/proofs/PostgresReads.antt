@@ -19,9 +19,9 @@ use Rattle.pg_interval.specs.Printed.{Part, part_of, part_text, own_text, word_e
 use Rattle.pg_interval.specs.NormalForm.{normal_form, exact_total}
 use Rattle.pg_interval.specs.declared.pg_interval.Interval.{Interval}
 use Rattle.pg_interval.specs.declared.interval_norm.IntervalNorm.{IntervalNorm}
-use Rattle.pg_interval.specs.declared.interval_parse.parse_error.Reason.TheVariants.{TooLong}
-use Rattle.pg_interval.specs.declared.interval_parse.parse_error.ParseError.{ParseError}
-use Rattle.pg_interval.specs.declared.interval_parse.parse_error.ParseError.TheVariants.{InvalidInterval}
+use Rattle.interval_errors.specs.declared.Reason.TheVariants.{TooLong}
+use Rattle.interval_errors.specs.declared.ParseError.{ParseError}
+use Rattle.interval_errors.specs.declared.ParseError.TheVariants.{InvalidInterval}
 use Rattle.pg_interval.proofs.DigitTexts.{none_of_digits, digit_no_space, all_digits, digits_two, tokens_append, tokens_whole, not_longer}
 use Rattle.pg_interval.proofs.PartTexts.{Names, whole_number, number_pairs, number_first, tokens_of_parts, abs_small}
 use Rattle.pg_interval.proofs.TimeTexts.{second_decimal, time_numbers, time_token, six_are_digits}

@@ -13,9 +13,9 @@ use Rattle.pg_interval.specs.Reader.{joined, tallied, capped_decimal}
 use Rattle.pg_interval.specs.FieldReader.{answer, fraction_number, int_out_of_range, minute_pairs, number_capped, pairs_of_one, pairs_of_two, pairs_of_three, token_first}
 use Rattle.pg_interval.specs.WordReader.{answered}
 use Rattle.pg_interval.specs.declared.pg_interval.Interval.{Interval}
-use Rattle.pg_interval.specs.declared.interval_parse.parse_error.IntError.TheVariants.{Empty, InvalidDigit}
-use Rattle.pg_interval.specs.declared.interval_parse.parse_error.ParseError.{ParseError}
-use Rattle.pg_interval.specs.declared.interval_parse.parse_error.ParseError.TheVariants.{ParseIntErr}
+use Rattle.interval_errors.specs.declared.IntError.TheVariants.{Empty, InvalidDigit}
+use Rattle.interval_errors.specs.declared.ParseError.{ParseError}
+use Rattle.interval_errors.specs.declared.ParseError.TheVariants.{ParseIntErr}
 use Rattle.pg_interval.proofs.DigitTexts.{split_none, split_at}
 use Rattle.pg_interval.proofs.ReadNumbers.{two_parts, split_parts, not_all_run, all_run}
 use Rattle.pg_interval.proofs.ReadSums.{joined_joined, total_more, start_joined, joined_nothing, tallied_capped}

@@ -14,9 +14,9 @@ use Rattle.pg_interval.specs.Reader.{joined, tallied}
 use Rattle.pg_interval.specs.ItemReader.{is_time_mark, is_unmarked, items_left, halves_left, left, item_left, unit_at}
 use Rattle.pg_interval.specs.WordReader.{answered, out_of_range}
 use Rattle.pg_interval.specs.declared.pg_interval.Interval.{Interval}
-use Rattle.pg_interval.specs.declared.interval_parse.parse_error.Reason.TheVariants.{Shape}
-use Rattle.pg_interval.specs.declared.interval_parse.parse_error.ParseError.{ParseError}
-use Rattle.pg_interval.specs.declared.interval_parse.parse_error.ParseError.TheVariants.{InvalidInterval}
+use Rattle.interval_errors.specs.declared.Reason.TheVariants.{Shape}
+use Rattle.interval_errors.specs.declared.ParseError.{ParseError}
+use Rattle.interval_errors.specs.declared.ParseError.TheVariants.{InvalidInterval}
 use Rattle.pg_interval.proofs.DigitTexts.{or_none_left, or_none_right, and_left, and_right, split_none, split_at}
 use Rattle.pg_interval.proofs.ReadNumbers.{split_parts, two_parts, all_run, not_all_run}
 use Rattle.pg_interval.proofs.ReadTimes.{parts_front}

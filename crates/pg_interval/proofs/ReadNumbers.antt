@@ -14,8 +14,8 @@ use Rattle.std.proofs.Math.Nat.{pow-le-pow_right}
 use Rattle.pg_interval.specs.Texts.{is_digit, is_minus, is_point, is_empty, are_digits, begins, without_sign}
 use Rattle.pg_interval.specs.Decimals.{Decimal, number_of, decimal_of, decimal_of_parts, decimal_between}
 use Rattle.pg_interval.specs.Reader.{capped, capped_decimal, fraction_after, number_held, turned_if}
-use Rattle.pg_interval.specs.declared.interval_parse.parse_error.DecimalError.{DecimalError}
-use Rattle.pg_interval.specs.declared.interval_parse.parse_error.DecimalError.TheVariants.{Malformed, TooManyDigits}
+use Rattle.interval_errors.specs.declared.DecimalError.{DecimalError}
+use Rattle.interval_errors.specs.declared.DecimalError.TheVariants.{Malformed, TooManyDigits}
 use Rattle.pg_interval.proofs.DigitTexts.{and_left, and_right, split_none, split_at, none_of_digits, digit_no_point, not_longer}
 
 -- ---- lists

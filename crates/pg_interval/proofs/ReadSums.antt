@@ -7,8 +7,8 @@ use Rattle.pg_interval.specs.Pairs.{Pair, checked, fits_above, fits_field, nothi
 use Rattle.pg_interval.specs.Reader.{capped, capped_decimal, number_held, size_of, rounded_size, sum_left, so_far_of, joined, tallied, with_if}
 use Rattle.pg_interval.specs.declared.pg_interval.Interval.{Interval}
 use Rattle.pg_interval.specs.declared.interval_parse.parts.Amount.{Amount}
-use Rattle.pg_interval.specs.declared.interval_parse.parse_error.DecimalError.{DecimalError}
-use Rattle.pg_interval.specs.declared.interval_parse.parse_error.ParseError.{ParseError}
+use Rattle.interval_errors.specs.declared.DecimalError.{DecimalError}
+use Rattle.interval_errors.specs.declared.ParseError.{ParseError}
 use Rattle.pg_interval.proofs.NormalFacts.{same_interval}
 
 -- ---- fields

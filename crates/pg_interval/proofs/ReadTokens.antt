@@ -14,9 +14,9 @@ use Rattle.pg_interval.specs.PostgresText.{Token, Number, Word, Joined, Time, Ot
 use Rattle.pg_interval.specs.Reader.{capped_decimal, turned_if, number_held}
 use Rattle.pg_interval.specs.WordReader.{State, Times, has, left, pair_left, time_left, taken, taken_one, taken_unless_zero, taken_times, times_of, times_of_parts, held_times, turned_by, unit_in, out_of_range, with_unit, worded_left}
 use Rattle.pg_interval.specs.declared.pg_interval.Interval.{Interval}
-use Rattle.pg_interval.specs.declared.interval_parse.parse_error.DecimalError.{DecimalError}
-use Rattle.pg_interval.specs.declared.interval_parse.parse_error.ParseError.{ParseError}
-use Rattle.pg_interval.specs.declared.interval_parse.parse_error.ParseError.TheVariants.{ParseFloatErr}
+use Rattle.interval_errors.specs.declared.DecimalError.{DecimalError}
+use Rattle.interval_errors.specs.declared.ParseError.{ParseError}
+use Rattle.interval_errors.specs.declared.ParseError.TheVariants.{ParseFloatErr}
 use Rattle.pg_interval.proofs.DigitTexts.{split_at, tokens_whole}
 use Rattle.pg_interval.proofs.PartTexts.{number_token}
 use Rattle.pg_interval.proofs.ReadSums.{tallied_capped, is_zero_capped}

@@ -12,9 +12,9 @@ use Rattle.pg_interval.specs.Reader.{joined, tallied}
 use Rattle.pg_interval.specs.WordReader.{State, answered, has, left, none_seen, out_of_range, start, taken, turned_by, with_unit, within_left}
 use Rattle.pg_interval.specs.declared.pg_interval.Interval.{Interval}
 use Rattle.pg_interval.specs.declared.interval_parse.parts.Seen.{Seen}
-use Rattle.pg_interval.specs.declared.interval_parse.parse_error.Reason.TheVariants.{TooLong, Shape}
-use Rattle.pg_interval.specs.declared.interval_parse.parse_error.ParseError.{ParseError}
-use Rattle.pg_interval.specs.declared.interval_parse.parse_error.ParseError.TheVariants.{InvalidInterval}
+use Rattle.interval_errors.specs.declared.Reason.TheVariants.{TooLong, Shape}
+use Rattle.interval_errors.specs.declared.ParseError.{ParseError}
+use Rattle.interval_errors.specs.declared.ParseError.TheVariants.{InvalidInterval}
 use Rattle.pg_interval.proofs.DigitTexts.{not_longer}
 use Rattle.pg_interval.proofs.ReadSums.{total_more, joined_joined, start_joined, no_more as no_more_sum}
 

@@ -20,10 +20,10 @@ use Rattle.pg_interval.specs.Printed.{minus_if, sign_of, digits_of, is_zero, is_
 use Rattle.pg_interval.specs.NormalForm.{normal_form, exact_total, HaveOneSign}
 use Rattle.pg_interval.specs.declared.pg_interval.Interval.{Interval}
 use Rattle.pg_interval.specs.declared.interval_norm.IntervalNorm.{IntervalNorm}
-use Rattle.pg_interval.specs.declared.interval_parse.parse_error.Reason.TheVariants.{TooLong}
-use Rattle.pg_interval.specs.declared.interval_parse.parse_error.ParseError.{ParseError}
-use Rattle.pg_interval.specs.declared.interval_parse.parse_error.ParseError.TheVariants.{InvalidInterval, ParseIntErr}
-use Rattle.pg_interval.specs.declared.interval_parse.parse_error.IntError.TheVariants.{InvalidDigit}
+use Rattle.interval_errors.specs.declared.Reason.TheVariants.{TooLong}
+use Rattle.interval_errors.specs.declared.ParseError.{ParseError}
+use Rattle.interval_errors.specs.declared.ParseError.TheVariants.{InvalidInterval, ParseIntErr}
+use Rattle.interval_errors.specs.declared.IntError.TheVariants.{InvalidDigit}
 use Rattle.pg_interval.proofs.DigitTexts.{none_of_digits, digit_no_space, digit_no_colon, digit_no_point, digit_no_sign, digit_no_minus, all_digits, filled_digits, digits_decimal, value_decimal, digits_two, value_two, split_none, split_at, tokens_append, tokens_whole, not_longer, and_left, and_right, or_none_left, or_none_right}
 use Rattle.pg_interval.proofs.PartTexts.{whole_number, abs_small, unit_worth, worth_whole, fits_by_mag, whole_worth, with_sign_is, zero_sign, nothing_more}
 use Rattle.pg_interval.proofs.TimeTexts.{six_are_digits, six_value, rounded_six, time_cut}

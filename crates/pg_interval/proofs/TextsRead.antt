@@ -1,16 +1,16 @@
 -- The grammars at texts whose meaning is known, computed.
 use Rattle.std.proofs.Common.{◌≡◌, refl, ℤ, pos, negsuc, ℕ, List, [], ◌∷◌, map, Result, Ok, Err, codes, replicate}
 use Rattle.pg_interval.specs.declared.pg_interval.Interval.{Interval}
-use Rattle.pg_interval.specs.declared.interval_parse.parse_error.ParseError.{ParseError}
+use Rattle.interval_errors.specs.declared.ParseError.{ParseError}
 use Rattle.pg_interval.specs.Reading.{reading, Style, Postgres, PostgresVerbose, Iso8601, SqlStandard}
 use Rattle.pg_interval.specs.PostgresText.{postgres_pairs, verbose_pairs}
 use Rattle.pg_interval.specs.IsoText.{iso_pairs}
 use Rattle.pg_interval.specs.SqlText.{sql_pairs}
-use Rattle.pg_interval.specs.declared.interval_parse.parse_error.DecimalError.TheVariants as decimals
-use Rattle.pg_interval.specs.declared.interval_parse.parse_error.IntError.TheVariants as integers
-use Rattle.pg_interval.specs.declared.interval_parse.parse_error.Reason.TheVariants.{TooLong, Shape, Overflow}
-use Rattle.pg_interval.specs.declared.interval_parse.parse_error.ParseError.TheVariants.{ParseIntErr, ParseFloatErr, InvalidYearMonth}
-use Rattle.pg_interval.specs.declared.interval_parse.parse_error.ParseError.TheVariants.{InvalidTime, InvalidInterval}
+use Rattle.interval_errors.specs.declared.DecimalError.TheVariants as decimals
+use Rattle.interval_errors.specs.declared.IntError.TheVariants as integers
+use Rattle.interval_errors.specs.declared.Reason.TheVariants.{TooLong, Shape, Overflow}
+use Rattle.interval_errors.specs.declared.ParseError.TheVariants.{ParseIntErr, ParseFloatErr, InvalidYearMonth}
+use Rattle.interval_errors.specs.declared.ParseError.TheVariants.{InvalidTime, InvalidInterval}
 
 abbrev of : ℤ → ℤ → ℤ → Interval
 of months days microseconds = record { months = months; days = days; microseconds = microseconds }

@@ -22,9 +22,9 @@ use Rattle.pg_interval.specs.Printed.{Part, part_of, part_text, word_end, minus_
 use Rattle.pg_interval.specs.NormalForm.{normal_form, exact_total}
 use Rattle.pg_interval.specs.declared.pg_interval.Interval.{Interval}
 use Rattle.pg_interval.specs.declared.interval_norm.IntervalNorm.{IntervalNorm}
-use Rattle.pg_interval.specs.declared.interval_parse.parse_error.Reason.TheVariants.{TooLong}
-use Rattle.pg_interval.specs.declared.interval_parse.parse_error.ParseError.{ParseError}
-use Rattle.pg_interval.specs.declared.interval_parse.parse_error.ParseError.TheVariants.{InvalidInterval}
+use Rattle.interval_errors.specs.declared.Reason.TheVariants.{TooLong}
+use Rattle.interval_errors.specs.declared.ParseError.{ParseError}
+use Rattle.interval_errors.specs.declared.ParseError.TheVariants.{InvalidInterval}
 use Rattle.pg_interval.proofs.DigitTexts.{none_of_digits, digit_no_space, digit_no_colon, all_digits, digits_decimal, value_decimal, decimal_point, not_longer, and_left, and_right}
 use Rattle.pg_interval.proofs.PartTexts.{Names, IsPartRead, spaced_part, pair_first, number_token, whole_number, number_pairs, number_total, abs_small, unit_worth, decimal_pair_whole, fits_by_mag, whole_worth, zero_sign}
 use Rattle.pg_interval.proofs.TimeTexts.{six_value, six_are_digits}

@@ -5,8 +5,8 @@ use Rattle.std.specs.List.{slice_split}
 use Rattle.std.specs.Str.Parse.{digits_value}
 use Rattle.pg_interval.specs.Texts.{is_point, is_minus, are_digits, without_sign}
 use Rattle.pg_interval.specs.declared.pg_interval.Interval.{Interval}
-use Rattle.pg_interval.specs.declared.interval_parse.parse_error.DecimalError.{DecimalError}
-use Rattle.pg_interval.specs.declared.interval_parse.parse_error.DecimalError.TheVariants.{Empty, Malformed, TooManyDigits}
+use Rattle.interval_errors.specs.declared.DecimalError.{DecimalError}
+use Rattle.interval_errors.specs.declared.DecimalError.TheVariants.{Empty, Malformed, TooManyDigits}
 
 -- the number whole + fraction / 10 ^ places, negated if it is negative
 pub record Decimal : Type 0 where

@@ -8,10 +8,10 @@ use Rattle.pg_interval.specs.SqlText.{day_pairs, field_pair, is_field, second_pa
 use Rattle.pg_interval.specs.Reader.{capped_decimal, decimal_from, joined}
 use Rattle.pg_interval.specs.declared.pg_interval.Interval.{Interval}
 use Rattle.pg_interval.specs.declared.interval_parse.parts.Number.{Number}
-use Rattle.pg_interval.specs.declared.interval_parse.parse_error.IntError.{IntError}
-use Rattle.pg_interval.specs.declared.interval_parse.parse_error.IntError.TheVariants.{InvalidDigit, OutOfRange}
-use Rattle.pg_interval.specs.declared.interval_parse.parse_error.ParseError.{ParseError}
-use Rattle.pg_interval.specs.declared.interval_parse.parse_error.ParseError.TheVariants.{ParseIntErr}
+use Rattle.interval_errors.specs.declared.IntError.{IntError}
+use Rattle.interval_errors.specs.declared.IntError.TheVariants.{InvalidDigit, OutOfRange}
+use Rattle.interval_errors.specs.declared.ParseError.{ParseError}
+use Rattle.interval_errors.specs.declared.ParseError.TheVariants.{ParseIntErr}
 
 abbrev pub int_out_of_range : ParseError
 int_out_of_range = ParseIntErr OutOfRange

@@ -12,7 +12,7 @@ use Rattle.pg_interval.specs.Reader.{number_held}
 use Rattle.pg_interval.specs.ItemReader.{left}
 use Rattle.pg_interval.specs.declared.pg_interval.Interval.{Interval}
 use Rattle.pg_interval.specs.declared.interval_parse.iso_front.Sums.{Sums}
-use Rattle.pg_interval.specs.declared.interval_parse.parse_error.ParseError.{ParseError}
+use Rattle.interval_errors.specs.declared.ParseError.{ParseError}
 
 abbrev pub is_solid : ℕ → Bool
 is_solid c = not (is_whitespace c)

@@ -9,7 +9,7 @@ use Rattle.pg_interval.specs.Reader.{joined, tallied, so_far}
 use Rattle.pg_interval.specs.WordReader.{out_of_range}
 use Rattle.pg_interval.specs.declared.pg_interval.Interval.{Interval}
 use Rattle.pg_interval.specs.declared.interval_parse.parts.Items.{Items}
-use Rattle.pg_interval.specs.declared.interval_parse.parse_error.ParseError.{ParseError}
+use Rattle.interval_errors.specs.declared.ParseError.{ParseError}
 
 abbrev pub is_time_mark : ℕ → Bool
 is_time_mark c = c == 84

@@ -4,7 +4,6 @@ pub mod Cell
 pub mod Decimals
 pub mod IsoText
 pub mod Duration
-pub mod ErrorText
 pub mod NormalForm
 pub mod Pairs
 pub mod PostgresText

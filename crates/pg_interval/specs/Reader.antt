@@ -15,7 +15,7 @@ use Rattle.pg_interval.specs.declared.interval_parse.parts.Amount.{Amount}
 use Rattle.pg_interval.specs.declared.interval_parse.parts.Totals.{Totals}
 use Rattle.pg_interval.specs.declared.interval_parse.parts.Unit.{Unit}
 use Rattle.pg_interval.specs.declared.interval_parse.parts.Unit.TheVariants as units
-use Rattle.pg_interval.specs.declared.interval_parse.parse_error.ParseError.{ParseError}
+use Rattle.interval_errors.specs.declared.ParseError.{ParseError}
 
 -- the bytes of a kind
 abbrev pub is_kind : Kind → ℕ → Bool

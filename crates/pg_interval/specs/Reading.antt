@@ -5,11 +5,11 @@ use Rattle.pg_interval.specs.PostgresText.{postgres_pairs, verbose_pairs}
 use Rattle.pg_interval.specs.IsoText.{iso_pairs}
 use Rattle.pg_interval.specs.SqlText.{sql_pairs}
 use Rattle.pg_interval.specs.declared.pg_interval.Interval.{Interval}
-use Rattle.pg_interval.specs.declared.interval_parse.parse_error.DecimalError.TheVariants as decimals
-use Rattle.pg_interval.specs.declared.interval_parse.parse_error.IntError.TheVariants as integers
-use Rattle.pg_interval.specs.declared.interval_parse.parse_error.Reason.TheVariants.{TooLong, Shape}
-use Rattle.pg_interval.specs.declared.interval_parse.parse_error.ParseError.{ParseError}
-use Rattle.pg_interval.specs.declared.interval_parse.parse_error.ParseError.TheVariants.{ParseIntErr, ParseFloatErr, InvalidInterval}
+use Rattle.interval_errors.specs.declared.DecimalError.TheVariants as decimals
+use Rattle.interval_errors.specs.declared.IntError.TheVariants as integers
+use Rattle.interval_errors.specs.declared.Reason.TheVariants.{TooLong, Shape}
+use Rattle.interval_errors.specs.declared.ParseError.{ParseError}
+use Rattle.interval_errors.specs.declared.ParseError.TheVariants.{ParseIntErr, ParseFloatErr, InvalidInterval}
 
 pub data Style : Type 0 where
   Postgres : Style

@@ -4,9 +4,9 @@ use Rattle.std.specs.List.{slice_split, list_all, list_any, before_first, after_
 use Rattle.pg_interval.specs.Texts.{◌>>=◌, is_digit, is_sign, is_point, is_colon, is_minus, begins, without_sign, tokens}
 use Rattle.pg_interval.specs.Decimals.{Decimal, TimeUnit, Year, Month, Day, Hour, Minute, Second, number_of}
 use Rattle.pg_interval.specs.Pairs.{Pair}
-use Rattle.pg_interval.specs.declared.interval_parse.parse_error.IntError.TheVariants.{Empty, InvalidDigit}
-use Rattle.pg_interval.specs.declared.interval_parse.parse_error.ParseError.{ParseError}
-use Rattle.pg_interval.specs.declared.interval_parse.parse_error.ParseError.TheVariants.{ParseIntErr}
+use Rattle.interval_errors.specs.declared.IntError.TheVariants.{Empty, InvalidDigit}
+use Rattle.interval_errors.specs.declared.ParseError.{ParseError}
+use Rattle.interval_errors.specs.declared.ParseError.TheVariants.{ParseIntErr}
 
 -- the whole number that a field is to be: digits
 abbrev pub field_number : Bool → List ℕ → Result Decimal ParseError

@@ -11,11 +11,11 @@ use Rattle.pg_interval.specs.declared.pg_interval.Interval.{Interval}
 use Rattle.pg_interval.specs.declared.interval_parse.parts.Clock.{Clock}
 use Rattle.pg_interval.specs.declared.interval_parse.parts.Seen.{Seen}
 use Rattle.pg_interval.specs.declared.interval_parse.parts.Words.{Words}
-use Rattle.pg_interval.specs.declared.interval_parse.parse_error.DecimalError.{DecimalError}
-use Rattle.pg_interval.specs.declared.interval_parse.parse_error.DecimalError.TheVariants.{OutOfRange}
-use Rattle.pg_interval.specs.declared.interval_parse.parse_error.Reason.TheVariants.{Shape}
-use Rattle.pg_interval.specs.declared.interval_parse.parse_error.ParseError.{ParseError}
-use Rattle.pg_interval.specs.declared.interval_parse.parse_error.ParseError.TheVariants.{ParseFloatErr, InvalidInterval}
+use Rattle.interval_errors.specs.declared.DecimalError.{DecimalError}
+use Rattle.interval_errors.specs.declared.DecimalError.TheVariants.{OutOfRange}
+use Rattle.interval_errors.specs.declared.Reason.TheVariants.{Shape}
+use Rattle.interval_errors.specs.declared.ParseError.{ParseError}
+use Rattle.interval_errors.specs.declared.ParseError.TheVariants.{ParseFloatErr, InvalidInterval}
 
 -- whether the unit has a number
 abbrev pub has : Seen → TimeUnit → Bool

@@ -2,8 +2,8 @@ ghost use Rattle.std.specs.Prelude.{◌≡◌, ◌≢◌, ◌↔◌, ◌⊎◌, 
 ghost use Rattle.pg_interval.specs.Cell.{IsInterval};
 ghost use Rattle.pg_interval.specs.NormalForm.{normal_form, total_seconds, exact_total, MonthsFit, MicrosecondsFit, IsNormal, HaveOneSign, time_fields, all_fields};
 
-use crate::interval_parse::parse_error::{ParseError, Reason};
 use crate::pg_interval::Interval;
+use interval_errors::{ParseError, Reason};
 
 /// An interval in years, months, days, hours, minutes, seconds and microseconds.
 #[derive(Clone, Copy, Debug, PartialEq, Eq)]

@@ -2,8 +2,9 @@
 use Rattle.std.proofs.Common.{◌≡◌, List, ℕ, ℤ, ap}
 use Rattle.pg_messages.specs.declared.data.DataRow.{DataRow}
 use Rattle.pg_portal.specs.Fetching.{fetched, fetched_page}
-use Rattle.pg_portal.specs.Page.{ItemPage, PageEnd, item_page}
-use Rattle.pg_portal.specs.Told.{ToldRows, Started}
+use Rattle.pg_results.specs.Page.{ItemPage, PageEnd, item_page}
+use Rattle.pg_results.specs.Told.{ToldRows}
+use Rattle.pg_portal.specs.Told.{Started}
 
 -- what a fetch answers where its page ended so
 pub ends_so : (limit : ℤ) (old : ToldRows) (delivered : ℕ) (rows : List DataRow) (ending : PageEnd DataRow)

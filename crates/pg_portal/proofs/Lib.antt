@@ -1,9 +1,3 @@
-pub mod NameMaps
-pub mod UnnamedEntries
 pub mod StoreMaps
-pub mod Paging
-pub mod Delivering
 pub mod Fetches
 pub mod TwoFetches
-pub mod SameColumns
-pub mod Taking

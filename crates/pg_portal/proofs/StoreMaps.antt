@@ -1,11 +1,11 @@
 -- What a store tells of an entry of the code.
 use Rattle.std.proofs.Common.{◌≡◌, refl}
 use Rattle.std.specs.Option.{option_map}
-use Rattle.pg_portal.specs.declared.stmt.StoredStatement.{StoredStatement}
+use Rattle.pg_results.specs.declared.stmt.StoredStatement.{StoredStatement}
 use Rattle.pg_portal.specs.declared.store.Entry.{Entry}
 use Rattle.pg_portal.specs.declared.store.Entry.TheVariants.{Empty, Value}
 use Rattle.pg_portal.specs.Maps.{Maps}
-use Rattle.pg_portal.specs.Names.{NameMap}
+use Rattle.named_entries.specs.Names.{NameMap}
 use Rattle.pg_portal.specs.Told.{TablePortal, entry_map, value_of}
 
 pub value_of-map : {X Y : Type 0} (f : X → Y) (x : Entry X) → option_map f (value_of x) ≡ value_of (entry_map f x)

@@ -3,13 +3,14 @@ use Rattle.std.proofs.Common.{arith, ◌≡◌, ◌++◌, ◌∙◌, ◌+◌, �
 use Rattle.std.proofs.lemmas.Bool.Decides.{nat_tests}
 use Rattle.std.proofs.lemmas.List.{length-append, length-take-le, map-append, append-nil, take-append-drop}
 use Rattle.pg_messages.specs.declared.data.DataRow.{DataRow}
-use Rattle.pg_portal.specs.declared.error.PgWireError.{PgWireError}
-use Rattle.pg_portal.specs.Fetching.{Fetched, AreOneFetch, fetched, fetched_page, with_items}
-use Rattle.pg_portal.specs.Page.{AtLimit, AtEnd, AtError, delivered_after, is_reached, item_page, before_error}
-use Rattle.pg_portal.specs.Rows.{RowItem}
-use Rattle.pg_portal.specs.Told.{ToldRows, Stage, Unstarted, Started, Ended}
+use Rattle.pg_results.specs.declared.error.PgWireError.{PgWireError}
+use Rattle.pg_results.specs.Told.{with_items, ToldRows}
+use Rattle.pg_portal.specs.Fetching.{Fetched, AreOneFetch, fetched, fetched_page}
+use Rattle.pg_results.specs.Page.{AtLimit, AtEnd, AtError, delivered_after, is_reached, item_page, before_error}
+use Rattle.pg_results.specs.Rows.{RowItem}
+use Rattle.pg_portal.specs.Told.{Stage, Unstarted, Started, Ended}
 use Rattle.pg_portal.proofs.Fetches.{ends_so}
-use Rattle.pg_portal.proofs.Paging.{page_at_limit, page_at_end, page_at_error}
+use Rattle.pg_results.proofs.Paging.{page_at_limit, page_at_end, page_at_error}
 
 -- what stands behind the rows before the first error
 abbrev tail_of : List RowItem → List RowItem

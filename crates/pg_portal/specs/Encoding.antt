@@ -2,14 +2,14 @@
 use Rattle.std.specs.Prelude.{ℕ, zero, suc, ◌+◌, ◌-◌, List, [], ◌∷◌, ◌++◌, length, Option, Some, None, pos, negsuc, Ok, Err, ◌≡◌, ◌⊎◌}
 use Rattle.pg_messages.specs.declared.data.DataRow.{DataRow}
 use Rattle.pg_messages.specs.Fields.{int32, count32}
-use Rattle.pg_text.specs.declared.pg_type.PgType.{PgType}
-use Rattle.pg_text.specs.declared.field_format.FieldFormat.{FieldFormat}
-use Rattle.pg_text.specs.declared.field_format.FieldFormat.TheVariants.{Text, Binary}
-use Rattle.pg_text.specs.declared.format.FormatOptions.{FormatOptions}
-use Rattle.pg_text.specs.declared.error.CellError.{CellError}
-use Rattle.pg_text.specs.declared.error.CellError.TheVariants.{NoMemory}
+use Rattle.pg_types.specs.declared.pg_type.PgType.{PgType}
+use Rattle.pg_types.specs.declared.field_format.FieldFormat.{FieldFormat}
+use Rattle.pg_types.specs.declared.field_format.FieldFormat.TheVariants.{Text, Binary}
+use Rattle.pg_types.specs.declared.format.FormatOptions.{FormatOptions}
+use Rattle.pg_types.specs.declared.error.CellError.{CellError}
+use Rattle.pg_types.specs.declared.error.CellError.TheVariants.{NoMemory}
 use Rattle.pg_text.specs.Cells.{Cell}
-use Rattle.pg_portal.specs.Fields.{Field}
+use Rattle.pg_results.specs.Fields.{Field}
 
 -- a row so far: its columns, its cells' bytes, and how many cells these are
 pub record RowSoFar : Type 0 where

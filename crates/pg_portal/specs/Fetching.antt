@@ -1,20 +1,17 @@
 -- What a fetch answers, and how far the portal has come then (protocol: Extended Query, Execute).
 use Rattle.std.specs.Prelude.{ℤ, Bool, true, false, List, [], ◌∷◌, ◌++◌, map, Result, Ok, Err, IsOk, ◌≡◌, ◌≢◌, ◌⊎◌, ℕ, length, codes}
 use Rattle.pg_messages.specs.declared.data.DataRow.{DataRow}
-use Rattle.pg_portal.specs.declared.error.PgWireError.{PgWireError}
-use Rattle.pg_portal.specs.declared.error.PgWireError.TheVariants.{PortalNotStarted, NoMemory}
+use Rattle.pg_results.specs.declared.error.PgWireError.{PgWireError}
+use Rattle.pg_results.specs.declared.error.PgWireError.TheVariants.{PortalNotStarted, NoMemory}
 use Rattle.pg_portal.specs.declared.portal.FetchResult.{FetchResult}
-use Rattle.pg_portal.specs.Page.{PageEnd, AtLimit, AtEnd, AtError, delivered_after, item_page}
-use Rattle.pg_portal.specs.Rows.{RowItem}
-use Rattle.pg_portal.specs.Told.{ToldRows, Stage, Unstarted, Started, Ended}
+use Rattle.pg_results.specs.Page.{PageEnd, AtLimit, AtEnd, AtError, delivered_after, item_page}
+use Rattle.pg_results.specs.Rows.{RowItem}
+use Rattle.pg_results.specs.Told.{ToldRows, with_items, IsRest}
+use Rattle.pg_portal.specs.Told.{Stage, Unstarted, Started, Ended}
 
 pub record Fetched : Type 0 where
   pub answer : Result FetchResult PgWireError
   pub stage : Stage
-
--- the items that are left of a response
-abbrev pub with_items : ToldRows → List RowItem → ToldRows
-with_items response items = record { command_tag = response.command_tag; fields = response.fields; items = items }
 
 -- How far a portal has come behind a page: suspended at its limit, finished at the end, and past an error, where the page's rows are
 -- dropped. So many rows were delivered before the page.
@@ -54,10 +51,6 @@ fetched limit Unstarted = record { answer = Err PortalNotStarted; stage = Unstar
 fetched limit (Started response delivered) =
     let page = item_page limit response.items in fetched_page response delivered page.rows page.ending
 fetched limit (Ended delivered) = record { answer = Ok (no_rows delivered); stage = Ended delivered }
-
--- some of the items were taken, and the rest is left
-abbrev pub IsRest : ToldRows → ToldRows → Type 0
-IsRest old new = (taken : List RowItem) × (left : List RowItem) × (old.items ≡ taken ++ left) × (new ≡ with_items old left)
 
 -- What stands after want of memory: a started portal stays so, with a rest of its items, and as many rows delivered. Any other stays as
 -- it is.

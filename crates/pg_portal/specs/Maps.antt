@@ -1,9 +1,9 @@
 -- The statements and the portals of a session, under their names: two finite maps, as one value.
 use Rattle.std.specs.Prelude.{List, ℕ}
 use Rattle.std.specs.FinMap as fin
-use Rattle.pg_portal.specs.declared.stmt.StoredStatement.{StoredStatement}
+use Rattle.pg_results.specs.declared.stmt.StoredStatement.{StoredStatement}
 use Rattle.pg_portal.specs.declared.store.Entry.{Entry}
-use Rattle.pg_portal.specs.Names.{NameMap}
+use Rattle.named_entries.specs.Names.{NameMap}
 use Rattle.pg_portal.specs.Told.{TablePortal}
 
 pub record Maps (S : Type 0) : Type 0 where

@@ -1,16 +1,16 @@
 -- Parameters of portals, read as values (protocol: Extended Query, Bind; Formats and Format Codes).
 use Rattle.std.specs.Prelude.{ℕ, Bool, List, Option, Some, None, Result, Ok, Err, if◌then◌else◌, slice_get}
-use Rattle.pg_text.specs.declared.error.CellError.{CellError}
-use Rattle.pg_text.specs.declared.error.CellError.TheVariants as cell
-use Rattle.pg_text.specs.declared.field_format.FieldFormat.{FieldFormat}
-use Rattle.pg_text.specs.declared.field_format.FieldFormat.TheVariants as field
-use Rattle.pg_text.specs.declared.format.FormatOptions.{FormatOptions}
-use Rattle.pg_text.specs.declared.pg_type.PgType.{PgType}
-use Rattle.pg_text.specs.Options.{default_options}
-use Rattle.pg_text.specs.Types.{name_of}
-use Rattle.pg_portal.specs.declared.error.PgWireError.{PgWireError}
-use Rattle.pg_portal.specs.declared.error.PgWireError.TheVariants as wire
-use Rattle.pg_portal.specs.Formats.{format_for}
+use Rattle.pg_types.specs.declared.error.CellError.{CellError}
+use Rattle.pg_types.specs.declared.error.CellError.TheVariants as cell
+use Rattle.pg_types.specs.declared.field_format.FieldFormat.{FieldFormat}
+use Rattle.pg_types.specs.declared.field_format.FieldFormat.TheVariants as field
+use Rattle.pg_types.specs.declared.format.FormatOptions.{FormatOptions}
+use Rattle.pg_types.specs.declared.pg_type.PgType.{PgType}
+use Rattle.pg_types.specs.Options.{default_options}
+use Rattle.pg_types.specs.Types.{name_of}
+use Rattle.pg_results.specs.declared.error.PgWireError.{PgWireError}
+use Rattle.pg_results.specs.declared.error.PgWireError.TheVariants as wire
+use Rattle.pg_results.specs.Formats.{format_for}
 use Rattle.pg_portal.specs.Told.{BoundPortal}
 
 -- what a cell tells of a value, in a format and with the default options

@@ -1,45 +1,15 @@
--- What a parser of queries tells, and what a store tells of its statements and portals.
-use Rattle.std.specs.Prelude.{ℕ, Bool, List, Option, Some, None, Result, Err, ◌≡◌, ◌⊎◌}
+-- What a store tells of its statements and portals.
+use Rattle.std.specs.Prelude.{ℕ, List, Option, Some, None}
 use Rattle.std.specs.Arc.{arc_value}
-use Rattle.pg_text.specs.declared.pg_type.PgType.{PgType}
-use Rattle.pg_portal.specs.declared.error.PgWireError.{PgWireError}
-use Rattle.pg_portal.specs.declared.error.PgWireError.TheVariants.{NoMemory}
-use Rattle.pg_portal.specs.declared.client.ClientInfo.{ClientInfo}
-use Rattle.pg_portal.specs.declared.portal.Format.{Format}
+use Rattle.pg_results.specs.declared.format.Format.{Format}
 use Rattle.pg_portal.specs.declared.portal.Portal.{Portal}
 use Rattle.pg_portal.specs.declared.portal.PortalExecutionState.{PortalExecutionState}
 use Rattle.pg_portal.specs.declared.portal.PortalExecutionState.TheVariants.{Initial, Suspended, Finished}
-use Rattle.pg_portal.specs.declared.results.response.QueryResponse.{QueryResponse}
-use Rattle.pg_portal.specs.declared.stmt.StoredStatement.{StoredStatement}
+use Rattle.pg_results.specs.declared.stmt.StoredStatement.{StoredStatement}
 use Rattle.pg_portal.specs.declared.store.Entry.{Entry}
 use Rattle.pg_portal.specs.declared.store.Entry.TheVariants.{Empty, Value}
-use Rattle.pg_portal.specs.Fields.{Field}
-use Rattle.pg_portal.specs.Rows.{RowItem}
-
--- the outcome that is told, or want of memory
-abbrev pub IsOutcome : {A : Type 0} → Result A PgWireError → Result A PgWireError → Type 0
-IsOutcome told result = (result ≡ told) ⊎ (result ≡ Err NoMemory)
-
--- The statements that a parser can give; what it makes of a query of a client, with the types of parameters that were given, where
--- None is an empty statement; and of a statement that it can give its parameters' types, and its columns with formats and without.
-pub record ParserTold (S : Type 0) : Type 0 where
-  pub gives : S → Bool
-  pub parse : ClientInfo → List ℕ → List (Option PgType) → Result (Option S) PgWireError
-  pub parameter_types : S → Result (List PgType) PgWireError
-  pub columns : S → Option Format → Result (List Field) PgWireError
-
--- what a query answered with rows: its tag, its columns, and the items to come
-pub record ToldRows : Type 0 where
-  pub command_tag : List ℕ
-  pub fields : List Field
-  pub items : List RowItem
-
-abbrev pub told_rows : {R : Type 0} → (R → List RowItem) → QueryResponse R → ToldRows
-told_rows items response = record {
-  command_tag = response.command_tag;
-  fields = arc_value response.row_schema;
-  items = items response.data_rows;
-}
+use Rattle.pg_results.specs.Rows.{RowItem}
+use Rattle.pg_results.specs.Told.{ToldRows, told_rows}
 
 -- a portal as its Bind made it
 pub record BoundPortal (S : Type 0) : Type 0 where

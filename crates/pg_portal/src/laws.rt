@@ -4,9 +4,9 @@
 ghost use Rattle.std.specs.Prelude.{◌≡◌, ◌≢◌, ◌↔◌, ℕ, ◌+◌, ◌≤◌, pos, List, Some, IsOk, true};
 ghost use Rattle.std.specs.FinMap as fin;
 ghost use Rattle.pg_portal.specs.Fetching.{fetched, AreOneFetch};
-ghost use Rattle.pg_portal.specs.Fields.{Field};
-ghost use Rattle.pg_portal.specs.Names.{NameMap};
-ghost use Rattle.pg_portal.specs.SameFields.{is_same_field};
+ghost use Rattle.pg_results.specs.Fields.{Field};
+ghost use Rattle.named_entries.specs.Names.{NameMap};
+ghost use Rattle.pg_results.specs.SameFields.{is_same_field};
 ghost use Rattle.pg_portal.specs.Told.{Stage};
 
 /// Two fetches of positive limits, one after another and without a row's error, give the rows that

@@ -6,12 +6,11 @@ ghost use Rattle.pg_portal.specs.Maps.{no_maps, maps_with_statement, maps_with_p
 ghost use Rattle.pg_portal.specs.Told.{portal_of};
 ghost use Rattle.pg_portal.specs.declared.store.Entry.TheVariants as entry;
 
-use crate::names::Named;
 use crate::portal::Portal;
-use crate::rows::RowSource;
-use crate::stmt::StoredStatement;
 use crate::store::{Entry, PortalStore};
+use named_entries::Named;
 use pg_messages::PgStr;
+use pg_results::{RowSource, StoredStatement};
 use std::alloc::{AllocError, Global};
 use std::sync::Arc;
 
@@ -70,7 +69,7 @@ impl<S: Drop, R: RowSource> MemPortalStore<S, R> {
 
 impl<S: Drop, R: RowSource> PortalStore for MemPortalStore<S, R> {
     ghost use Rattle.std.specs.Arc.{arc_value};
-    ghost use Rattle.pg_portal.specs.Names.{map_values};
+    ghost use Rattle.named_entries.specs.Names.{map_values};
     ghost use Rattle.pg_portal.specs.Told.{entry_map, portal_of};
 
     type Statement = S;

@@ -2,12 +2,12 @@
 
 ghost use Rattle.std.specs.Prelude.{◌≡◌};
 ghost use Rattle.pg_portal.specs.Parameters.{parameter, parsed, read_in};
-ghost use Rattle.pg_portal.specs.Told.{IsOutcome, bound_of};
+ghost use Rattle.pg_results.specs.Told.{IsOutcome};
+ghost use Rattle.pg_portal.specs.Told.{bound_of};
 
-use crate::error::PgWireError;
 use crate::portal::Portal;
-use crate::rows::RowSource;
 use pg_messages::PgStr;
+use pg_results::{PgWireError, RowSource};
 use pg_text::{CellError, FieldFormat, FormatOptions, FromSql, FromSqlText, PgType};
 use std::alloc::Global;
 

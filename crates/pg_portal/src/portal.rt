@@ -1,121 +1,20 @@
 //! Portals: statements with their parameters and formats, whose rows are fetched page by page.
 
-ghost use Rattle.std.specs.Prelude.{◌≡◌, ◌↔◌, length, option_map, IfOk, IfErr, IsErrOf, OnOk};
+ghost use Rattle.std.specs.Prelude.{◌≡◌, ◌↔◌, length, IfOk, IfErr, IsErrOf, OnOk};
 ghost use Rattle.std.specs.Arc.{arc_value};
 ghost use Rattle.pg_portal.specs.Fetching.{IsRefusedFetch, TakesInOrder, IsPage, IsRefusedPage, fetched, no_rows};
-ghost use Rattle.pg_portal.specs.Formats.{format_of, format_for, unified, is_text, is_binary};
+ghost use Rattle.pg_results.specs.Formats.{format_of};
 ghost use Rattle.pg_portal.specs.Statements.{bound_by, cursor_of};
-ghost use Rattle.pg_portal.specs.Told.{Unstarted, Started, stage_of, bound_of, told_rows};
-ghost use Rattle.pg_portal.specs.Rows.{IsAnswerableItem};
-ghost use Rattle.pg_portal.specs.declared.error.PgWireError.{PgWireError};
-ghost use Rattle.pg_portal.specs.declared.error.PgWireError.TheVariants as wire;
+ghost use Rattle.pg_results.specs.Told.{told_rows};
+ghost use Rattle.pg_portal.specs.Told.{Unstarted, Started, stage_of, bound_of};
+ghost use Rattle.pg_results.specs.Rows.{IsAnswerableItem};
+ghost use Rattle.pg_results.specs.declared.error.PgWireError.{PgWireError};
+ghost use Rattle.pg_results.specs.declared.error.PgWireError.TheVariants as wire;
 
-use crate::error::PgWireError;
-use crate::page::deliver_page;
-use crate::results::response::QueryResponse;
-use crate::rows::RowSource;
-use crate::stmt::StoredStatement;
 use pg_messages::{Bind, DataRow, PgBytes, PgList, PgStr};
-use pg_text::FieldFormat;
+use pg_results::{Format, PgWireError, QueryResponse, RowSource, StoredStatement, deliver_page};
 use std::alloc::{AllocError, Global};
 use std::sync::Arc;
-
-/// The formats of values or columns.
-#[derive(Debug, Default, Drop)]
-pub enum Format {
-    /// All are text.
-    #[default]
-    UnifiedText,
-    /// All are binary.
-    UnifiedBinary,
-    /// Each has the format of its code.
-    Individual(PgList<i16>),
-}
-
-impl From<i16> for Format {
-    ghost use Rattle.std.specs.Prelude.{◌≡◌};
-    ghost use Rattle.pg_text.specs.Formats.{format_of_code};
-    ghost use Rattle.pg_portal.specs.Formats.{unified};
-
-    ghost from_gives = { λ code format. format ≡ unified (format_of_code code) };
-
-    /// One format for all: binary for the code 1, else text.
-    fn from(code: i16) -> Format {
-        match FieldFormat::from(code) {
-            FieldFormat::Binary => Format::UnifiedBinary,
-            FieldFormat::Text => Format::UnifiedText,
-        }
-    }
-}
-
-impl Format {
-    /// The format of the value at an index, or None exactly where it is past individual codes. No
-    /// memory is taken.
-    pub fn format_for(&self, idx: usize) -> Option<FieldFormat>
-        ensures { result ≡ format_for self.now idx }
-    {
-        match self {
-            Format::UnifiedText => Some(FieldFormat::Text),
-            Format::UnifiedBinary => Some(FieldFormat::Binary),
-            Format::Individual(codes) => match codes.as_slice().get(idx) {
-                Some(code) => Some(FieldFormat::from(*code)),
-                None => None,
-            },
-        }
-    }
-
-    /// Whether the value at an index is text, or None exactly where it is past individual codes.
-    pub fn is_text(&self, idx: usize) -> Option<bool>
-        ensures { result ≡ option_map is_text (format_for self.now idx) }
-    {
-        match self.format_for(idx) {
-            Some(format) => Some(matches!(format, FieldFormat::Text)),
-            None => None,
-        }
-    }
-
-    /// Whether the value at an index is binary, or None exactly where it is past individual codes.
-    pub fn is_binary(&self, idx: usize) -> Option<bool>
-        ensures { result ≡ option_map is_binary (format_for self.now idx) }
-    {
-        match self.format_for(idx) {
-            Some(format) => Some(matches!(format, FieldFormat::Binary)),
-            None => None,
-        }
-    }
-
-    /// An equal value.
-    pub fn copy_of(&self, alloc: Global) -> Result<Format, AllocError>
-        ensures { IfOk result (λ copy. copy ≡ self.now) }
-    {
-        match self {
-            Format::UnifiedText => Ok(Format::UnifiedText),
-            Format::UnifiedBinary => Ok(Format::UnifiedBinary),
-            Format::Individual(codes) => Ok(Format::Individual(copy_of_codes(
-                alloc,
-                codes.as_slice(),
-            )?)),
-        }
-    }
-}
-
-/// A copy of codes.
-fn copy_of_codes(alloc: Global, codes: &[i16]) -> Result<PgList<i16>, AllocError>
-    ensures { IfOk result (λ copy. copy ≡ codes.now) }
-{
-    Ok(PgList::from_vec(Vec::from_slice(alloc, codes)?))
-}
-
-/// The formats of a Bind's codes: none is text, one is for all, several are one for each.
-fn format_of(alloc: Global, codes: &[i16]) -> Result<Format, AllocError>
-    ensures { IfOk result (λ format. format ≡ format_of codes.now) }
-{
-    match codes {
-        [] => Ok(Format::UnifiedText),
-        [code] => Ok(Format::from(*code)),
-        _ => Ok(Format::Individual(copy_of_codes(alloc, codes)?)),
-    }
-}
 
 /// The formats of a Bind's parameters, and of the columns that it asks for.
 fn formats_of(alloc: Global, bind: &Bind) -> Result<(Format, Format), AllocError>
@@ -124,8 +23,8 @@ fn formats_of(alloc: Global, bind: &Bind) -> Result<(Format, Format), AllocError
     ensures columns { IfOk result (λ formats.
         formats.1 ≡ format_of bind.now.result_column_format_codes) }
 {
-    let parameters = format_of(alloc, bind.parameter_format_codes.as_slice())?;
-    let columns = format_of(alloc, bind.result_column_format_codes.as_slice())?;
+    let parameters = Format::from_codes(alloc, bind.parameter_format_codes.as_slice())?;
+    let columns = Format::from_codes(alloc, bind.result_column_format_codes.as_slice())?;
     Ok((parameters, columns))
 }
 

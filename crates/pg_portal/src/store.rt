@@ -12,8 +12,7 @@ ghost use Rattle.pg_portal.specs.contracts.store.Entry.{the_row as entry_row};
 ghost use Rattle.pg_portal.specs.declared.store.Entry.TheVariants as entry;
 
 use crate::portal::Portal;
-use crate::rows::RowSource;
-use crate::stmt::StoredStatement;
+use pg_results::{RowSource, StoredStatement};
 use std::alloc::{AllocError, Global};
 use std::sync::Arc;
 

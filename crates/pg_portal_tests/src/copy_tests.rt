@@ -2,7 +2,7 @@
 //! with a trailer`, `copy both`.
 
 ghost use Rattle.std.specs.List.{AllByRecursion};
-ghost use Rattle.pg_portal.specs.Copying.{IsSendableCopy};
+ghost use Rattle.pg_results.specs.Copying.{IsSendableCopy};
 
 use pg_messages::{CopyData, PgBytes, PgList};
 use pg_portal::{CopyResponse, CopySource, ListCopy, PgWireError};

@@ -1,7 +1,7 @@
 //! Portals over rows in memory.
 
 ghost use Rattle.std.specs.List.{AllByRecursion};
-ghost use Rattle.pg_portal.specs.Rows.{IsSendable};
+ghost use Rattle.pg_results.specs.Rows.{IsSendable};
 
 use pg_messages::{DataRow, PgBytes, PgList, PgStr};
 use pg_portal::{ListRows, PgWireError, Portal, QueryResponse, StoredStatement};

@@ -1,7 +1,7 @@
 //! Pages of portals.
 
 ghost use Rattle.std.specs.List.{AllByRecursion};
-ghost use Rattle.pg_portal.specs.Rows.{IsSendable};
+ghost use Rattle.pg_results.specs.Rows.{IsSendable};
 
 use crate::fixtures::{Items, cursor, push_error, push_row, start};
 use pg_messages::{DataRow, PgList, PgStr};

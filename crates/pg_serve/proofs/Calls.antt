@@ -7,8 +7,8 @@ use Rattle.std.proofs.lemmas.Grind.{flat_map-append}
 use mathlib.Core.List.{IsPrefix}
 use Rattle.pg_cancel.specs.declared.entries.Entry.{Entry}
 use Rattle.pg_cancel.specs.Connections.{Connection, Issuer, IsSameConnection, calls_of, origin_of}
-use Rattle.pg_handlers.specs.declared.desk.DeskCall.{DeskCall}
-use Rattle.pg_handlers.specs.Desk.{DeskTold, GoesOn}
+use Rattle.pg_client.specs.declared.desk.DeskCall.{DeskCall}
+use Rattle.pg_client.specs.Desk.{DeskTold, GoesOn}
 use Rattle.pg_serve.specs.Desk.{ConnectionGoesOn, desk_call, desk_calls, registration_of}
 
 -- what a connection has seen goes on, and so do its own calls there: by those of a session

@@ -1,7 +1,7 @@
 -- A desk over a script that finds no memory as it is told.
 use Rattle.std.specs.Prelude.{ℕ, Bool, List, ◌≡◌, ◌==◌}
 use Rattle.std.specs.List.{list_any}
-use Rattle.pg_handlers.specs.Script.{Script}
+use Rattle.pg_client.specs.Script.{Script}
 use Rattle.pg_streams.specs.Memory.{raised}
 
 -- What such a desk has: the script, the numbers of the calls that fail, and how many calls there were, those that failed among them.

@@ -1,9 +1,9 @@
 //! A desk that answers from a list, and finds no memory at the calls that it is told.
 
 ghost use Rattle.std.specs.Prelude.{◌≡◌, [], ◌∷◌, drop, take, IfOk, OnOk, OnErr, IsTrue, IsErr};
-ghost use Rattle.pg_handlers.specs.declared.desk.DeskCall.{DeskCall};
-ghost use Rattle.pg_handlers.specs.Desk.{after_calls};
-ghost use Rattle.pg_handlers.specs.Script.{first_or_no, script_told, IsScripted};
+ghost use Rattle.pg_client.specs.declared.desk.DeskCall.{DeskCall};
+ghost use Rattle.pg_client.specs.Desk.{after_calls};
+ghost use Rattle.pg_client.specs.Script.{first_or_no, script_told, IsScripted};
 ghost use Rattle.pg_serve.specs.Flaky.{is_next_refused, IsNextCall};
 
 use pg_messages::{PgList, SecretKey};

@@ -1,9 +1,9 @@
 -- What a query is answered before its client awaits one (pgwire: `on_query`, `on_execute`).
 use Rattle.std.specs.Prelude.{ℕ, [], ◌≡◌}
-use Rattle.pg_portal.specs.declared.error.PgWireError.TheVariants as wire
-use Rattle.pg_portal.specs.declared.client.PgWireConnectionState.TheVariants as phase
-use Rattle.pg_handlers.specs.State.{State}
-use Rattle.pg_handlers.specs.Effect.{Called, Failed, when_ready}
+use Rattle.pg_results.specs.declared.error.PgWireError.TheVariants as wire
+use Rattle.pg_results.specs.declared.client.PgWireConnectionState.TheVariants as phase
+use Rattle.pg_client.specs.State.{State}
+use Rattle.pg_client.specs.Effect.{Called, Failed, when_ready}
 
 -- While the client awaits Sync, nothing is called and nothing replied, whatever the row would say: it is NotReadyForQuery.
 abbrev pub IsNotExecutedBeforeSync : State ℕ → Called ℕ → Type 0

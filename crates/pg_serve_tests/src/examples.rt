@@ -1,8 +1,8 @@
 //! An example of what a query is answered before its client awaits one. The function takes nothing
 //! and does nothing: its contract is the example.
 
-ghost use Rattle.pg_handlers.specs.Effect.{Called};
-ghost use Rattle.pg_handlers.specs.State.{State};
+ghost use Rattle.pg_client.specs.Effect.{Called};
+ghost use Rattle.pg_client.specs.State.{State};
 ghost use Rattle.pg_serve_tests.specs.Examples.{IsNotExecutedBeforeSync};
 ghost use Rattle.std.specs.Prelude.{ℕ};
 

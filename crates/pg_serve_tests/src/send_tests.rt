@@ -3,8 +3,8 @@
 ghost use Rattle.std.specs.Prelude.{◌≡◌, [], codes, IfOk};
 ghost use Rattle.std.specs.Arc.{arc_value};
 ghost use Rattle.std.specs.List.{AllByRecursion};
-ghost use Rattle.pg_portal.specs.Rows.{IsSendable};
-ghost use Rattle.pg_handlers.specs.Good.{IsTag};
+ghost use Rattle.pg_results.specs.Rows.{IsSendable};
+ghost use Rattle.pg_replies.specs.Replies.{IsTag};
 
 use pg_messages::{DataRow, PgBytes, PgList};
 use pg_portal::{ListRows, PgWireError, QueryResponse};

@@ -2,24 +2,25 @@
 use Rattle.std.proofs.Common.{◌≡◌, ◌≢◌, ℕ, inl, inr, Bool, true, false, if◌then◌else◌, List, [], ◌∷◌, ◌++◌, Option, Some, None, Result, Ok, Err, IfOk, OnOk, refl, sym, ap, ◌∙◌, append_assoc, append-nil}
 use Rattle.pg_messages.specs.declared.frontend.PgWireFrontendMessage.{PgWireFrontendMessage}
 use Rattle.pg_messages.specs.Replies.{replies_bytes}
-use Rattle.pg_portal.specs.declared.error.PgWireError.{PgWireError}
-use Rattle.pg_portal.specs.declared.error.PgWireError.TheVariants as wire
-use Rattle.pg_portal.specs.Errors.{info_of}
-use Rattle.pg_handlers.specs.declared.desk.DeskCall.{DeskCall}
-use Rattle.pg_handlers.specs.declared.ends.EndKind.{EndKind}
-use Rattle.pg_handlers.specs.declared.ends.EndKind.TheVariants as end
-use Rattle.pg_handlers.specs.declared.ends.SessionError.TheVariants as session
-use Rattle.pg_handlers.specs.Answer.{Answer, Next, Goes, Ends, answers_of}
-use Rattle.pg_handlers.specs.Effect.{Scope, Outcome, Done, Failed, Over, Stopped, IsRow, IsStoppedRow, IsCutRow, IsRefusedRow, after_error, failed, settled}
-use Rattle.pg_handlers.specs.Errors.{is_fatal}
+use Rattle.pg_results.specs.declared.error.PgWireError.{PgWireError}
+use Rattle.pg_results.specs.declared.error.PgWireError.TheVariants as wire
+use Rattle.pg_results.specs.Errors.{info_of}
+use Rattle.pg_client.specs.declared.desk.DeskCall.{DeskCall}
+use Rattle.pg_client.specs.declared.ends.EndKind.{EndKind}
+use Rattle.pg_client.specs.declared.ends.EndKind.TheVariants as end
+use Rattle.pg_client.specs.declared.ends.SessionError.TheVariants as session
+use Rattle.pg_client.specs.Answer.{Answer, Next, Goes, Ends, answers_of}
+use Rattle.pg_client.specs.Effect.{Scope, Outcome, Done, Failed, Over, Stopped, IsRow, IsStoppedRow, IsCutRow, IsRefusedRow, after_error, failed, settled}
+use Rattle.pg_client.specs.Errors.{is_fatal}
 use Rattle.pg_handlers.specs.Handlers.{Handlers}
 use Rattle.pg_handlers.specs.Lawful.{IsLawful}
-use Rattle.pg_handlers.specs.Replies.{Replies, error_reply}
-use Rattle.pg_handlers.specs.State.{State}
+use Rattle.pg_replies.specs.Replies.{Replies, error_reply}
+use Rattle.pg_client.specs.State.{State}
 use Rattle.pg_handlers.specs.Table.{message_row, whole_table, scope_in, awaits}
 use Rattle.pg_handlers.proofs.Awaiting.{row_keeps}
 use Rattle.pg_handlers.proofs.Steady.{row_same, settled_row_takes}
-use Rattle.pg_session.specs.Messages.{outcome_of, next_of}
+use Rattle.pg_client.specs.Ends.{outcome_of}
+use Rattle.pg_session.specs.Messages.{next_of}
 use Rattle.pg_session.specs.declared.ends.ServeError.{ServeError}
 use Rattle.pg_session.specs.Session.{goes_on}
 use Rattle.pg_session.specs.Steps.{IsAnswered, IsCutAnswer, IsStoppedAnswer}

@@ -1,8 +1,8 @@
 -- What was sent behind a step, and what a round comes to by it.
 use Rattle.std.proofs.Common.{◌≡◌, ◌⊎◌, inl, inr, ℕ, List, [], true, Option, Some, None, Result, Ok, Err, IfOk, IfErr, IfSome, IfNone, OnOk, OnErr, IsErrOf, refl, sym, ap, subst, ◌∙◌, arith}
-use Rattle.pg_handlers.specs.Answer.{Next}
-use Rattle.pg_handlers.specs.declared.desk.DeskCall.{DeskCall}
-use Rattle.pg_handlers.specs.declared.ends.Turns.{Turns}
+use Rattle.pg_client.specs.Answer.{Next}
+use Rattle.pg_client.specs.declared.desk.DeskCall.{DeskCall}
+use Rattle.pg_client.specs.declared.ends.Turns.{Turns}
 use Rattle.pg_session.specs.declared.ends.Progress.{Progress}
 use Rattle.pg_session.specs.declared.ends.Progress.TheVariants as progress
 use Rattle.pg_session.specs.declared.ends.ServeError.{ServeError}

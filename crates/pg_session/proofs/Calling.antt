@@ -1,12 +1,12 @@
 -- A message of a session that is ready, which may call the registry: its row is that of its phase.
 use Rattle.std.proofs.Common.{◌≡◌, ℕ, List, Result, IfErr, OnOk, sym, subst}
 use Rattle.pg_messages.specs.declared.frontend.PgWireFrontendMessage.{PgWireFrontendMessage}
-use Rattle.pg_portal.specs.declared.client.PgWireConnectionState.TheVariants as phase
-use Rattle.pg_handlers.specs.declared.desk.DeskCall.{DeskCall}
-use Rattle.pg_handlers.specs.declared.ends.SessionError.{SessionError}
-use Rattle.pg_handlers.specs.Effect.{Outcome, IsRow, IsRefusedRow}
+use Rattle.pg_results.specs.declared.client.PgWireConnectionState.TheVariants as phase
+use Rattle.pg_client.specs.declared.desk.DeskCall.{DeskCall}
+use Rattle.pg_client.specs.declared.ends.SessionError.{SessionError}
+use Rattle.pg_client.specs.Effect.{Outcome, IsRow, IsRefusedRow}
 use Rattle.pg_handlers.specs.Handlers.{Handlers}
-use Rattle.pg_handlers.specs.State.{State}
+use Rattle.pg_client.specs.State.{State}
 use Rattle.pg_handlers.specs.Table.{message_row, ready_row, row}
 
 module _ {S : Type 0} (h : Handlers S) (s : State S) (m : PgWireFrontendMessage) (ready : s.info.state ≡ phase.ReadyForQuery) where

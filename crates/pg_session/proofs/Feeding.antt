@@ -1,7 +1,7 @@
 -- What became of a text that a session was fed with, piece by piece.
 use Rattle.std.proofs.Common.{ℕ, List, [], ◌++◌, Option, Result, Ok, Err, IfOk, OnErr, IsErrOf, refl, sym, append-nil}
-use Rattle.pg_handlers.specs.declared.desk.DeskCall.{DeskCall}
-use Rattle.pg_handlers.specs.Answer.{Next, Goes, Stops}
+use Rattle.pg_client.specs.declared.desk.DeskCall.{DeskCall}
+use Rattle.pg_client.specs.Answer.{Next, Goes, Stops}
 use Rattle.pg_handlers.specs.Lawful.{IsLawful}
 use Rattle.pg_session.specs.declared.ends.Progress.{Progress}
 use Rattle.pg_session.specs.declared.ends.ServeError.{ServeError}

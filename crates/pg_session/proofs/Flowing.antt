@@ -1,7 +1,7 @@
 -- Bytes that went through an outbox, and then more.
 use Rattle.std.proofs.Common.{◌≡◌, ℕ, List, [], ◌++◌, Option, Some, None, refl, sym, ap, subst, ◌∙◌, append_assoc, append-nil, take, drop}
 use Rattle.std.proofs.lemmas.List.{take-append-drop}
-use Rattle.pg_handlers.specs.Answer.{BeginsWith}
+use Rattle.pg_client.specs.Answer.{BeginsWith}
 use Rattle.pg_session.specs.Streams.{GrowsBy, GrowsByFront}
 use Rattle.pg_session.specs.Steps.{Flows}
 

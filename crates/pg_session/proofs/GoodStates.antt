@@ -4,14 +4,15 @@ use Rattle.std.specs.List.{AllByRecursion}
 use Rattle.std.specs.Cmp.Lexicographic.{slice_cmp}
 use Rattle.std.specs.Ordering.{nat_cmp}
 use Rattle.std.specs.FinMap as fin
-use Rattle.pg_portal.specs.Names.{NameMap}
-use Rattle.pg_portal.specs.declared.client.ClientInfo.{ClientInfo}
-use Rattle.pg_portal.specs.declared.stmt.StoredStatement.{StoredStatement}
+use Rattle.named_entries.specs.Names.{NameMap}
+use Rattle.pg_results.specs.declared.client.ClientInfo.{ClientInfo}
+use Rattle.pg_results.specs.declared.stmt.StoredStatement.{StoredStatement}
 use Rattle.pg_portal.specs.declared.store.Entry.{Entry}
-use Rattle.pg_portal.specs.Texts.{IsShortText}
-use Rattle.pg_portal.specs.Told.{ParserTold, TablePortal, value_under}
+use Rattle.pg_results.specs.Texts.{IsShortText}
+use Rattle.pg_results.specs.Told.{ParserTold}
+use Rattle.pg_portal.specs.Told.{TablePortal, value_under}
 use Rattle.pg_handlers.specs.Good.{IsGoodState}
-use Rattle.pg_handlers.specs.State.{first_state}
+use Rattle.pg_client.specs.State.{first_state}
 use Rattle.pg_handlers.proofs.GoodStores.{good_parts}
 
 none_some : {X : Type 0} (x : X) → ◌≡◌ {A = Option X} None (Some x) → ⊥

@@ -14,7 +14,6 @@ pub mod Rounds
 pub mod Rows
 pub mod Silently
 pub mod Spending
-pub mod Starting
 pub mod StartupTurns
 pub mod Stepped
 pub mod Stepping

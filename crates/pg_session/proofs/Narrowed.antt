@@ -5,21 +5,21 @@ use Rattle.std.proofs.lemmas.List.{take_all}
 use Rattle.pg_messages.specs.declared.codec.ProtocolVersion.{ProtocolVersion}
 use Rattle.pg_messages.specs.declared.codec.ProtocolVersion.TheVariants.{PROTOCOL3_0, PROTOCOL3_2}
 use Rattle.pg_messages.specs.declared.frontend.PgWireFrontendMessage.{PgWireFrontendMessage}
-use Rattle.pg_handlers.specs.declared.desk.DeskCall.{DeskCall}
-use Rattle.pg_handlers.specs.declared.desk.DeskCall.TheVariants as desk
-use Rattle.pg_handlers.specs.declared.ends.EndKind.{EndKind}
-use Rattle.pg_handlers.specs.declared.ends.SessionError.{SessionError}
-use Rattle.pg_handlers.specs.declared.ends.SessionError.TheVariants as session
-use Rattle.pg_handlers.specs.Answer.{answers_of}
-use Rattle.pg_handlers.specs.Desk.{DeskTold, KeepsDesk, GoesOn, after_calls}
-use Rattle.pg_handlers.specs.Effect.{Outcome, IsRow, IsCutRow, IsRefusedRow}
+use Rattle.pg_client.specs.declared.desk.DeskCall.{DeskCall}
+use Rattle.pg_client.specs.declared.desk.DeskCall.TheVariants as desk
+use Rattle.pg_client.specs.declared.ends.EndKind.{EndKind}
+use Rattle.pg_client.specs.declared.ends.SessionError.{SessionError}
+use Rattle.pg_client.specs.declared.ends.SessionError.TheVariants as session
+use Rattle.pg_client.specs.Answer.{answers_of}
+use Rattle.pg_client.specs.Desk.{DeskTold, KeepsDesk, GoesOn, after_calls}
+use Rattle.pg_client.specs.Effect.{Outcome, IsRow, IsCutRow, IsRefusedRow}
 use Rattle.pg_handlers.specs.Handlers.{Handlers}
-use Rattle.pg_handlers.specs.StartupRows.{told_key, tells_less, narrowing}
-use Rattle.pg_handlers.specs.State.{State}
+use Rattle.pg_client.specs.StartupRows.{told_key, tells_less, narrowing}
+use Rattle.pg_client.specs.State.{State}
 use Rattle.pg_handlers.specs.Table.{ready_row}
-use Rattle.pg_handlers.proofs.Desks.{NarrowsNone, after_none, narrows_none_front, goes_on_kept}
+use Rattle.pg_client.proofs.Desks.{NarrowsNone, after_none, narrows_none_front, goes_on_kept}
 use Rattle.pg_handlers.proofs.Narrowing.{ready_narrows_none}
-use Rattle.pg_session.specs.Messages.{outcome_of}
+use Rattle.pg_client.specs.Ends.{outcome_of}
 
 -- ---- the key that a client is told
 

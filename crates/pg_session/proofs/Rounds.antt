@@ -1,10 +1,10 @@
 -- What was served round by round, and the round that tells how it ends.
 use Rattle.std.proofs.Common.{◌≡◌, ◌++◌, ℕ, List, [], Option, Result, Ok, Err, IfOk}
-use Rattle.pg_handlers.specs.Answer.{Next, Goes}
+use Rattle.pg_client.specs.Answer.{Next, Goes}
 use Rattle.pg_handlers.specs.Lawful.{IsLawful}
 use Rattle.pg_handlers.specs.Questions.{questions_since}
-use Rattle.pg_handlers.specs.declared.desk.DeskCall.{DeskCall}
-use Rattle.pg_handlers.specs.declared.ends.Turns.{Turns}
+use Rattle.pg_client.specs.declared.desk.DeskCall.{DeskCall}
+use Rattle.pg_client.specs.declared.ends.Turns.{Turns}
 use Rattle.pg_session.specs.Run.{Rules}
 use Rattle.pg_session.specs.Session.{HasFed}
 use Rattle.pg_session.specs.Steps.{IsServed, Stands, WasFed}

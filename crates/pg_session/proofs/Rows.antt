@@ -1,22 +1,22 @@
 -- Rows that call nothing, and rows that are the same.
 use Rattle.std.proofs.Common.{◌≡◌, ℕ, List, [], ◌∷◌, ◌++◌, Bool, Option, Result, IfOk, IfErr, refl, sym, ap, subst, ◌∙◌, append-nil, ⊎_elim, inl, inr}
-use Rattle.pg_portal.specs.declared.error.PgWireError.{PgWireError}
-use Rattle.pg_handlers.specs.declared.desk.DeskCall.{DeskCall}
-use Rattle.pg_handlers.specs.declared.ends.EndKind.{EndKind}
-use Rattle.pg_handlers.specs.declared.ends.SessionError.{SessionError}
-use Rattle.pg_handlers.specs.declared.ends.SessionError.TheVariants as session
+use Rattle.pg_results.specs.declared.error.PgWireError.{PgWireError}
+use Rattle.pg_client.specs.declared.desk.DeskCall.{DeskCall}
+use Rattle.pg_client.specs.declared.ends.EndKind.{EndKind}
+use Rattle.pg_client.specs.declared.ends.SessionError.{SessionError}
+use Rattle.pg_client.specs.declared.ends.SessionError.TheVariants as session
 use Rattle.pg_messages.specs.declared.simplequery.Query.{Query}
 use Rattle.pg_messages.specs.declared.extendedquery.Execute.{Execute}
 use Rattle.pg_messages.specs.declared.startup.Terminate.{Terminate}
 use Rattle.pg_messages.specs.declared.frontend.PgWireFrontendMessage.{PgWireFrontendMessage}
 use Rattle.pg_messages.specs.declared.frontend.PgWireFrontendMessage.TheVariants as client
-use Rattle.pg_handlers.specs.declared.ends.EndKind.TheVariants as end
-use Rattle.pg_handlers.specs.Answer.{answers_of}
+use Rattle.pg_client.specs.declared.ends.EndKind.TheVariants as end
+use Rattle.pg_client.specs.Answer.{answers_of}
 use Rattle.pg_handlers.specs.Handlers.{ExtendedTold, Handlers}
 use Rattle.pg_handlers.specs.Table.{message_row, ready_row, statement_row}
-use Rattle.pg_handlers.specs.State.{State}
-use Rattle.pg_handlers.specs.Effect.{Effect, Outcome, Row, IsEffect, IsRefusedEffect, IsRow, IsCutRow, IsStoppedRow, IsRefusedRow, Over, Stopped, silent, over}
-use Rattle.pg_session.specs.Messages.{outcome_of}
+use Rattle.pg_client.specs.State.{State}
+use Rattle.pg_client.specs.Effect.{Effect, Outcome, Row, IsEffect, IsRefusedEffect, IsRow, IsCutRow, IsStoppedRow, IsRefusedRow, Over, Stopped, silent, over}
+use Rattle.pg_client.specs.Ends.{outcome_of}
 use Rattle.pg_session.specs.Session.{SessionValue}
 
 pub silent_row : {S : Type 0} (e : Effect S) {out new_out : List ℕ} (calls : List DeskCall) {o : Outcome S} → IsEffect e out new_out o

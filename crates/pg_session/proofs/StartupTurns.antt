@@ -5,20 +5,20 @@ use Rattle.pg_messages.specs.declared.frontend.PgWireFrontendMessage.{PgWireFron
 use Rattle.pg_messages.specs.declared.frontend.PgWireFrontendMessage.TheVariants as client
 use Rattle.pg_messages.specs.declared.codec.ProtocolVersion.TheVariants.{PROTOCOL3_0, PROTOCOL3_2}
 use Rattle.pg_messages.specs.Frames.{protocol_3_0, protocol_3_2}
-use Rattle.pg_portal.specs.declared.error.PgWireError.TheVariants as wire
-use Rattle.pg_handlers.specs.declared.desk.DeskCall.{DeskCall}
-use Rattle.pg_handlers.specs.declared.desk.DeskCall.TheVariants as desk
-use Rattle.pg_handlers.specs.declared.ends.EndKind.{EndKind}
-use Rattle.pg_handlers.specs.declared.ends.SessionError.{SessionError}
-use Rattle.pg_handlers.specs.declared.ends.SessionError.TheVariants as session
-use Rattle.pg_handlers.specs.declared.ends.Turns.{Turns}
-use Rattle.pg_handlers.specs.Answer.{answers_of}
-use Rattle.pg_handlers.specs.Effect.{Called, Outcome, IsRow, IsCutRow, IsRefusedRow, silent, refuses}
-use Rattle.pg_handlers.specs.Errors.{unsupported_version}
+use Rattle.pg_results.specs.declared.error.PgWireError.TheVariants as wire
+use Rattle.pg_client.specs.declared.desk.DeskCall.{DeskCall}
+use Rattle.pg_client.specs.declared.desk.DeskCall.TheVariants as desk
+use Rattle.pg_client.specs.declared.ends.EndKind.{EndKind}
+use Rattle.pg_client.specs.declared.ends.SessionError.{SessionError}
+use Rattle.pg_client.specs.declared.ends.SessionError.TheVariants as session
+use Rattle.pg_client.specs.declared.ends.Turns.{Turns}
+use Rattle.pg_client.specs.Answer.{answers_of}
+use Rattle.pg_client.specs.Effect.{Called, Outcome, IsRow, IsCutRow, IsRefusedRow, silent, refuses}
+use Rattle.pg_client.specs.Errors.{unsupported_version}
 use Rattle.pg_handlers.specs.Questions.{HasSpent, questions, questions_since}
-use Rattle.pg_handlers.specs.StartupRows.{startup_row, accepts, tells_less}
-use Rattle.pg_handlers.specs.State.{State}
-use Rattle.pg_session.specs.Messages.{outcome_of}
+use Rattle.pg_client.specs.StartupRows.{startup_row, accepts, tells_less}
+use Rattle.pg_client.specs.State.{State}
+use Rattle.pg_client.specs.Ends.{outcome_of}
 
 asks_either : {S : Type 0} (b : Bool) (x y : Called S) → questions x.calls ≡ 0 → questions y.calls ≡ 0 → questions (cond b x y).calls ≡ 0
 asks_either true x y p q = p

@@ -6,12 +6,12 @@ use Rattle.pg_messages.specs.declared.response.ErrorInfo.{ErrorInfo}
 use Rattle.pg_messages.specs.declared.response.TransactionStatus.{TransactionStatus}
 use Rattle.pg_messages.specs.Replies.{replies_bytes, reply_bytes}
 use Rattle.pg_messages.specs.Status.{to_error_state}
-use Rattle.pg_portal.specs.declared.client.PgWireConnectionState.TheVariants as phase
-use Rattle.pg_handlers.specs.Answer.{Goes}
-use Rattle.pg_handlers.specs.Errors.{is_fatal}
-use Rattle.pg_handlers.specs.Replies.{error_reply, ready}
-use Rattle.pg_handlers.specs.Effect.{failed}
-use Rattle.pg_handlers.specs.State.{State}
+use Rattle.pg_results.specs.declared.client.PgWireConnectionState.TheVariants as phase
+use Rattle.pg_client.specs.Answer.{Goes}
+use Rattle.pg_client.specs.Errors.{is_fatal}
+use Rattle.pg_replies.specs.Replies.{error_reply, ready}
+use Rattle.pg_client.specs.Effect.{failed}
+use Rattle.pg_client.specs.State.{State}
 use Rattle.pg_session.specs.Messages.{scope_for}
 
 -- a severity that isn't FATAL

@@ -1,26 +1,26 @@
 -- Rows of a phase that calls nothing, told with an error of a session.
 use Rattle.std.proofs.Common.{◌≡◌, ◌≢◌, ℕ, List, Bool, Option, Some, Result, Ok, Err, IfOk, IfErr, refl, subst, sym, inl}
 use Rattle.pg_messages.specs.declared.frontend.PgWireFrontendMessage.{PgWireFrontendMessage}
-use Rattle.pg_portal.specs.declared.client.PgWireConnectionState.{PgWireConnectionState}
-use Rattle.pg_portal.specs.declared.client.PgWireConnectionState.TheVariants as phase
+use Rattle.pg_results.specs.declared.client.PgWireConnectionState.{PgWireConnectionState}
+use Rattle.pg_results.specs.declared.client.PgWireConnectionState.TheVariants as phase
 use Rattle.pg_handlers.specs.CopyRows.{copy_row}
 use Rattle.pg_handlers.specs.Handlers.{Handlers}
 use Rattle.pg_handlers.specs.Table.{message_row, row, ready_row, awaiting_sync_row}
-use Rattle.pg_portal.specs.declared.error.PgWireError.{PgWireError}
-use Rattle.pg_handlers.specs.declared.desk.DeskCall.{DeskCall}
-use Rattle.pg_handlers.specs.declared.ends.EndKind.{EndKind}
-use Rattle.pg_handlers.specs.declared.ends.EndKind.TheVariants as end
-use Rattle.pg_handlers.specs.declared.ends.Turns.{Turns}
-use Rattle.pg_portal.specs.Rows.{IsAnswerable}
+use Rattle.pg_results.specs.declared.error.PgWireError.{PgWireError}
+use Rattle.pg_client.specs.declared.desk.DeskCall.{DeskCall}
+use Rattle.pg_client.specs.declared.ends.EndKind.{EndKind}
+use Rattle.pg_client.specs.declared.ends.EndKind.TheVariants as end
+use Rattle.pg_client.specs.declared.ends.Turns.{Turns}
+use Rattle.pg_results.specs.Rows.{IsAnswerable}
 use Rattle.pg_handlers.specs.Questions.{HasSpent, questions_since}
-use Rattle.pg_handlers.specs.Sending.{IsAnswerableError}
+use Rattle.pg_client.specs.Ends.{IsAnswerableError, outcome_of}
 use Rattle.pg_handlers.proofs.Rows.{no_turn}
-use Rattle.pg_handlers.specs.declared.ends.SessionError.{SessionError}
-use Rattle.pg_handlers.specs.declared.ends.SessionError.TheVariants as session
-use Rattle.pg_handlers.specs.Effect.{Effect, Row, IsEffect, IsRefusedEffect, IsRow, IsRefusedRow, silent}
-use Rattle.pg_handlers.specs.StartupRows.{startup_row}
-use Rattle.pg_handlers.specs.State.{State}
-use Rattle.pg_session.specs.Messages.{going, outcome_of, with_session_error}
+use Rattle.pg_client.specs.declared.ends.SessionError.{SessionError}
+use Rattle.pg_client.specs.declared.ends.SessionError.TheVariants as session
+use Rattle.pg_client.specs.Effect.{Effect, Row, IsEffect, IsRefusedEffect, IsRow, IsRefusedRow, silent}
+use Rattle.pg_client.specs.StartupRows.{startup_row}
+use Rattle.pg_client.specs.State.{State}
+use Rattle.pg_session.specs.Messages.{going, with_session_error}
 use Rattle.pg_session.proofs.Rows.{silent_row, silent_refused, same_row, same_refused}
 
 pub with_session_error_ok : {S : Type 0} (row : Row S) (e : Effect S) (out new_out : List ℕ) (calls : List DeskCall) (s : State S)

@@ -1,30 +1,19 @@
 -- What a message and an error come to.
-use Rattle.std.specs.Prelude.{ℕ, Bool, true, false, List, Option, Some, None, Result, Ok, Err, ◌==◌, if◌then◌else◌}
-use Rattle.pg_messages.specs.declared.codec.ProtocolVersion.{ProtocolVersion}
-use Rattle.pg_messages.specs.declared.codec.ProtocolVersion.TheVariants.{PROTOCOL3_0, PROTOCOL3_2}
+use Rattle.std.specs.Prelude.{ℕ, Bool, true, false, List, Option, Some, None, Result, Ok, Err}
 use Rattle.pg_messages.specs.declared.frontend.PgWireFrontendMessage.{PgWireFrontendMessage}
-use Rattle.pg_messages.specs.Frames.{IsFrame, protocol_3_0, protocol_3_2}
-use Rattle.pg_portal.specs.declared.error.PgWireError.{PgWireError}
-use Rattle.pg_handlers.specs.declared.ends.EndKind.{EndKind}
-use Rattle.pg_handlers.specs.declared.ends.SessionError.{SessionError}
-use Rattle.pg_handlers.specs.declared.ends.SessionError.TheVariants as session
-use Rattle.pg_handlers.specs.Answer.{Next, Goes, Ends}
-use Rattle.pg_handlers.specs.Effect.{Outcome, Done, Over, Scope, UntilSync, AnswersReady}
-use Rattle.pg_handlers.specs.State.{State}
+use Rattle.pg_messages.specs.Frames.{IsFrame}
+use Rattle.pg_results.specs.declared.error.PgWireError.{PgWireError}
+use Rattle.pg_client.specs.declared.ends.EndKind.{EndKind}
+use Rattle.pg_client.specs.declared.ends.SessionError.{SessionError}
+use Rattle.pg_client.specs.declared.ends.SessionError.TheVariants as session
+use Rattle.pg_client.specs.Answer.{Next, Goes, Ends}
+use Rattle.pg_client.specs.Effect.{Scope, UntilSync, AnswersReady}
+use Rattle.pg_client.specs.State.{State}
 use Rattle.pg_handlers.specs.Table.{awaits}
 
 -- the message is one that a good frame carries in the phase of a state
 abbrev pub IsGivenIn : {S : Type 0} → State S → PgWireFrontendMessage → Type 0
 IsGivenIn s m = (frame : List ℕ) × IsFrame (awaits s) frame m
-
--- the version of a startup packet's code, where it is spoken
-abbrev pub spoken_version : ℕ → Option ProtocolVersion
-spoken_version code = if code == protocol_3_0 then Some PROTOCOL3_0 else if code == protocol_3_2 then Some PROTOCOL3_2 else None
-
--- the outcome of a message that ended the conversation, or left a state
-abbrev pub outcome_of : {S : Type 0} → Option EndKind → State S → Outcome S
-outcome_of None s = Done s
-outcome_of (Some kind) s = Over kind
 
 -- what an error ends, where it waits for Sync or doesn't
 abbrev pub scope_for : Bool → Scope

@@ -4,28 +4,28 @@ use Rattle.pg_messages.specs.declared.frontend.PgWireFrontendMessage.{PgWireFron
 use Rattle.pg_messages.specs.declared.backend.PgWireBackendMessage.{PgWireBackendMessage}
 use Rattle.pg_messages.specs.Frames.{IsUnfinished, DividesInto}
 use Rattle.pg_messages.specs.Replies.{replies_bytes}
-use Rattle.pg_handlers.specs.declared.desk.DeskCall.{DeskCall}
-use Rattle.pg_handlers.specs.declared.ends.EndKind.{EndKind}
-use Rattle.pg_handlers.specs.declared.ends.EndKind.TheVariants as end
-use Rattle.pg_handlers.specs.declared.ends.SessionError.{SessionError}
-use Rattle.pg_handlers.specs.declared.ends.SessionError.TheVariants as session
-use Rattle.pg_handlers.specs.declared.ends.Turns.{Turns}
-use Rattle.pg_handlers.specs.Desk.{DeskTold, GoesOn}
-use Rattle.pg_handlers.specs.Effect.{Scope, failed}
+use Rattle.pg_client.specs.declared.desk.DeskCall.{DeskCall}
+use Rattle.pg_client.specs.declared.ends.EndKind.{EndKind}
+use Rattle.pg_client.specs.declared.ends.EndKind.TheVariants as end
+use Rattle.pg_client.specs.declared.ends.SessionError.{SessionError}
+use Rattle.pg_client.specs.declared.ends.SessionError.TheVariants as session
+use Rattle.pg_client.specs.declared.ends.Turns.{Turns}
+use Rattle.pg_client.specs.Desk.{DeskTold, GoesOn}
+use Rattle.pg_client.specs.Effect.{Scope, failed}
 use Rattle.pg_handlers.specs.Handlers.{Handlers}
 use Rattle.pg_handlers.specs.Questions.{questions_since}
-use Rattle.pg_handlers.specs.State.{State}
+use Rattle.pg_client.specs.State.{State}
 use Rattle.pg_handlers.specs.Table.{whole_table, awaits}
-use Rattle.pg_portal.specs.Errors.{info_of}
-use Rattle.pg_portal.specs.declared.error.PgWireError.{PgWireError}
-use Rattle.pg_portal.specs.declared.error.PgWireError.TheVariants as wire
+use Rattle.pg_results.specs.Errors.{info_of}
+use Rattle.pg_results.specs.declared.error.PgWireError.{PgWireError}
+use Rattle.pg_results.specs.declared.error.PgWireError.TheVariants as wire
 use Rattle.pg_session.specs.Messages.{next_of}
 use Rattle.pg_session.specs.declared.ends.Progress.{Progress}
 use Rattle.pg_session.specs.declared.ends.Progress.TheVariants as progress
 use Rattle.pg_session.specs.declared.ends.ServeError.{ServeError}
 use Rattle.pg_session.specs.declared.ends.ServeError.TheVariants as serve
-use Rattle.pg_handlers.specs.Answer.{Answer, Table, Next, Goes, Stops, answers_of, conversation}
-use Rattle.pg_handlers.specs.Answer.{BeginsWith, AsksNext}
+use Rattle.pg_client.specs.Answer.{Answer, Table, Next, Goes, Stops, answers_of, conversation}
+use Rattle.pg_client.specs.Answer.{BeginsWith, AsksNext}
 use Rattle.pg_session.specs.Streams.{GrowsBy, GrowsByFront}
 use Rattle.pg_session.specs.Run.{Rules, IsFed, EndsWith}
 use Rattle.pg_session.specs.Session.{SessionValue, HasFed, goes_on, is_going, whole_rules}

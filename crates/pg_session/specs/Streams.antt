@@ -1,6 +1,6 @@
 -- What goes in and out of a conversation: bytes that come, bytes that go, and counts.
 use Rattle.std.specs.Prelude.{ℕ, List, [], ◌++◌, Option, Some, Result, Ok, Err, ◌≡◌, ◌≤◌, ◌<◌, ◌+◌, ◌==◌, ◌⊎◌, IfSome, IsErrOf, OnOk, if◌then◌else◌, min, take, drop, length}
-use Rattle.pg_handlers.specs.Answer.{BeginsWith}
+use Rattle.pg_client.specs.Answer.{BeginsWith}
 use Rattle.pg_session.specs.declared.ends.Progress.{Progress}
 use Rattle.pg_session.specs.declared.ends.ServeError.{ServeError}
 use Rattle.pg_session.specs.declared.ends.ServeError.TheVariants.{ReadFault, WriteFault, TurnLimit, NoMemory}

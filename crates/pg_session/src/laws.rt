@@ -1,10 +1,10 @@
 //! Laws of the session's run. The function takes nothing and does nothing: its contract is the law.
 
 ghost use Rattle.std.specs.Prelude.{ℕ, List, ◌++◌, Option, Result};
-ghost use Rattle.pg_handlers.specs.Answer.{Goes};
+ghost use Rattle.pg_client.specs.Answer.{Goes};
 ghost use Rattle.pg_handlers.specs.Handlers.{Handlers};
-ghost use Rattle.pg_handlers.specs.State.{State};
-ghost use Rattle.pg_handlers.specs.declared.desk.DeskCall.{DeskCall};
+ghost use Rattle.pg_client.specs.State.{State};
+ghost use Rattle.pg_client.specs.declared.desk.DeskCall.{DeskCall};
 ghost use Rattle.pg_session.specs.Session.{whole_rules};
 ghost use Rattle.pg_session.specs.Steps.{IsServed, WasFed};
 ghost use Rattle.pg_session.specs.declared.ends.Progress.{Progress};

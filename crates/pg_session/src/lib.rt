@@ -6,7 +6,6 @@ mod ends;
 mod laws;
 mod messages;
 mod session;
-mod startup;
 mod streams;
 
 pub use ends::{Progress, ServeError};

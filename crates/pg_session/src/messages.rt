@@ -8,28 +8,28 @@ ghost use Rattle.pg_messages.specs.declared.extendedquery.PgSync.{PgSync};
 ghost use Rattle.pg_messages.specs.declared.frontend.PgWireFrontendMessage.TheVariants as frontend;
 ghost use Rattle.pg_messages.specs.declared.simplequery.Query.{Query};
 ghost use Rattle.pg_messages.specs.declared.startup.Terminate.{Terminate};
-ghost use Rattle.pg_portal.specs.Rows.{IsAnswerable};
-ghost use Rattle.pg_portal.specs.declared.error.PgWireError.{PgWireError};
-ghost use Rattle.pg_portal.specs.declared.client.PgWireConnectionState.TheVariants as phase;
-ghost use Rattle.pg_handlers.specs.Desk.{GoesOn, KeepsDesk};
+ghost use Rattle.pg_results.specs.Rows.{IsAnswerable};
+ghost use Rattle.pg_results.specs.declared.error.PgWireError.{PgWireError};
+ghost use Rattle.pg_results.specs.declared.client.PgWireConnectionState.TheVariants as phase;
+ghost use Rattle.pg_client.specs.Desk.{GoesOn, KeepsDesk};
 ghost use Rattle.pg_handlers.specs.CopyRows.{copy_row, copied};
-ghost use Rattle.pg_handlers.specs.Effect.{IsRow, IsRefusedRow, IsEffect, IsRefusedEffect, Done};
+ghost use Rattle.pg_client.specs.Effect.{IsRow, IsRefusedRow, IsEffect, IsRefusedEffect, Done};
 ghost use Rattle.pg_handlers.specs.Good.{IsGiven, IsGoodState};
 ghost use Rattle.pg_handlers.specs.Questions.{HasSpent, questions_since};
-ghost use Rattle.pg_handlers.specs.Sending.{IsAnswerableError};
-ghost use Rattle.pg_handlers.specs.State.{state_of};
+ghost use Rattle.pg_client.specs.Ends.{IsAnswerableError, outcome_of};
+ghost use Rattle.pg_client.specs.State.{state_of};
 ghost use Rattle.pg_handlers.specs.Table.{message_row, ready_row, statement_row, IsPlain, awaiting_sync_row};
-ghost use Rattle.pg_handlers.specs.declared.ends.EndKind.TheVariants.{InputEnd};
-ghost use Rattle.pg_handlers.specs.declared.ends.Turns.{Turns};
-ghost use Rattle.pg_session.specs.Messages.{going, IsGivenIn, outcome_of, with_session_error};
+ghost use Rattle.pg_client.specs.declared.ends.EndKind.TheVariants.{InputEnd};
+ghost use Rattle.pg_client.specs.declared.ends.Turns.{Turns};
+ghost use Rattle.pg_session.specs.Messages.{going, IsGivenIn, with_session_error};
 
-use crate::startup::{let_go, on_startup_phase};
 use pg_handlers::{
     CancelDesk, Client, CopyHandler, EndKind, ExtendedQueryHandler, PgWireServerHandlers,
     SessionError, SimpleQueryHandler, Turns, send_ready_for_query,
 };
 use pg_messages::{CopyDone, Execute, PgWireFrontendMessage, Query};
 use pg_portal::{PgWireConnectionState, PgWireError, PortalStore};
+use pg_startup::on_startup_phase;
 use std::alloc::Global;
 
 /// The same answer, with an error of a message as one of a session.
@@ -539,3 +539,6 @@ fn end_copy<St: PortalStore>(client: &mut Client<St>, is_extended: bool) -> Resu
     client.info.state = PgWireConnectionState::ReadyForQuery;
     Ok(())
 }
+
+/// Lets a message go in one place.
+fn let_go(_message: PgWireFrontendMessage) {}

@@ -8,7 +8,7 @@ use Rattle.std.proofs.Math.Facts.{Fits-of_z, to_z-of_z}
 use Rattle.pg_interval.specs.declared.pg_interval.Interval.{Interval}
 use Rattle.pg_interval.specs.Cell.{int64_bytes, int32_bytes, interval_cell, IsInterval}
 use Rattle.pg_interval.proofs.CellLemmas.{same_interval}
-use Rattle.pg_text.specs.declared.error.CellError.TheVariants.{ShortCell}
+use Rattle.pg_types.specs.declared.error.CellError.TheVariants.{ShortCell}
 use Rattle.pg_text.specs.Intervals.{int64_of, int32_of, interval_in, read_interval}
 
 of_int64 : (z : ℤ) → FitsSigned w64 z → int64_of (int64_bytes z) ≡ z

@@ -4,11 +4,11 @@ use Rattle.std.proofs.lemmas.Bool.Decides.{nat_tests}
 use Rattle.std.proofs.lemmas.Str.{is_utf8-from_IsUtf8}
 use Rattle.std.specs.Str.{IsUtf8}
 use Rattle.pg_messages.proofs.Utf8.{is_utf8-fails}
-use Rattle.pg_text.specs.declared.error.CellError.TheVariants.{NotUtf8}
+use Rattle.pg_types.specs.declared.error.CellError.TheVariants.{NotUtf8}
 use Rattle.pg_text.specs.declared.format.interval_style.IntervalStyle.{IntervalStyle}
 use Rattle.pg_text.specs.Intervals.{as_parse, read_in}
 use Rattle.pg_text.specs.Words.{printed_style}
-use Rattle.pg_interval.specs.declared.interval_parse.parse_error.ParseError.{ParseError}
+use Rattle.interval_errors.specs.declared.ParseError.{ParseError}
 use Rattle.pg_interval.specs.declared.pg_interval.Interval.{Interval}
 use Rattle.pg_interval.specs.Reading.{Style, reading, StandsFor}
 

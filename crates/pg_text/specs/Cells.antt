@@ -1,7 +1,7 @@
 -- What a value writes of itself into a cell, and what is read of one.
 use Rattle.std.specs.Prelude.{◌≡◌, ◌≤◌, ◌⊎◌, ℕ, Bool, true, false, List, [], length, Option, None, Some, Result, Ok, Err}
-use Rattle.pg_text.specs.declared.error.CellError.{CellError}
-use Rattle.pg_text.specs.declared.error.CellError.TheVariants.{NoMemory, WrongType}
+use Rattle.pg_types.specs.declared.error.CellError.{CellError}
+use Rattle.pg_types.specs.declared.error.CellError.TheVariants.{NoMemory, WrongType}
 use Rattle.pg_text.specs.declared.to_sql.IsNull.{IsNull}
 use Rattle.pg_text.specs.declared.to_sql.IsNull.TheVariants.{Yes, No}
 

@@ -7,15 +7,15 @@ use Rattle.pg_interval.specs.Pairs.{fits_above}
 use Rattle.pg_interval.specs.Printed.{printed}
 use Rattle.pg_interval.specs.Reading.{reading, StandsForOnly}
 use Rattle.pg_interval.specs.declared.pg_interval.Interval.{Interval}
-use Rattle.pg_interval.specs.declared.interval_parse.parse_error.ParseError.{ParseError}
+use Rattle.interval_errors.specs.declared.ParseError.{ParseError}
 use Rattle.pg_text.specs.Cells.{Cell}
 use Rattle.pg_text.specs.Words.{or_invalid, interval_style_of, printed_style}
-use Rattle.pg_text.specs.declared.error.CellError.{CellError}
-use Rattle.pg_text.specs.declared.error.CellError.TheVariants.{ShortCell, NotUtf8, Parse, DurationOverflow}
-use Rattle.pg_text.specs.declared.format.FormatOptions.{FormatOptions}
+use Rattle.pg_types.specs.declared.error.CellError.{CellError}
+use Rattle.pg_types.specs.declared.error.CellError.TheVariants.{ShortCell, NotUtf8, Parse, DurationOverflow}
+use Rattle.pg_types.specs.declared.format.FormatOptions.{FormatOptions}
 use Rattle.pg_text.specs.declared.format.interval_style.IntervalStyle.{IntervalStyle}
-use Rattle.pg_text.specs.declared.pg_type.PgType.{PgType}
-use Rattle.pg_text.specs.declared.pg_type.PgType.TheVariants as types
+use Rattle.pg_types.specs.declared.pg_type.PgType.{PgType}
+use Rattle.pg_types.specs.declared.pg_type.PgType.TheVariants as types
 
 -- intervals go into columns of the type `interval` alone
 abbrev pub is_interval_type : PgType → Bool

@@ -5,8 +5,8 @@ use Rattle.std.specs.Str.{str_to_ascii_lowercase}
 use Rattle.pg_interval.specs.PostgresText.{trimmed}
 use Rattle.pg_interval.specs.Reading.{Style}
 use Rattle.pg_interval.specs.Reading as styles
-use Rattle.pg_text.specs.declared.error.CellError.{CellError}
-use Rattle.pg_text.specs.declared.error.CellError.TheVariants.{InvalidOptionValue}
+use Rattle.pg_types.specs.declared.error.CellError.{CellError}
+use Rattle.pg_types.specs.declared.error.CellError.TheVariants.{InvalidOptionValue}
 use Rattle.pg_text.specs.declared.format.interval_style.IntervalStyle.{IntervalStyle}
 use Rattle.pg_text.specs.declared.format.interval_style.IntervalStyle.TheVariants as style
 use Rattle.pg_text.specs.declared.format.bytea_output.ByteaOutput.{ByteaOutput}

@@ -1,13 +1,12 @@
 ghost use Rattle.std.specs.Prelude.{ℕ, Bool, List, Result, ◌≡◌};
 
-use crate::error::CellError;
-use crate::pg_type::PgType;
 use pg_interval::Interval;
+use pg_types::{CellError, PgType};
 
 /// A value that is read of a cell in the binary format of its type.
 pub trait FromSql: Sized {
-    ghost use Rattle.pg_text.specs.declared.pg_type.PgType.{PgType};
-    ghost use Rattle.pg_text.specs.declared.error.CellError.{CellError};
+    ghost use Rattle.pg_types.specs.declared.pg_type.PgType.{PgType};
+    ghost use Rattle.pg_types.specs.declared.error.CellError.{CellError};
 
     // the value of a cell's bytes in a column of a type, or why there is none
     ghost read: { PgType → List ℕ → Result Self CellError };

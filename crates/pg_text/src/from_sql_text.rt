@@ -1,18 +1,16 @@
 ghost use Rattle.std.specs.Prelude.{ℕ, List, Result};
 ghost use Rattle.pg_text.specs.Cells.{IsRead};
 
-use crate::error::CellError;
-use crate::format::FormatOptions;
 use crate::format::interval_style::IntervalStyle;
-use crate::pg_type::PgType;
 use pg_interval::Interval;
+use pg_types::{CellError, FormatOptions, PgType};
 use std::alloc::Global;
 
 /// A value that is read of a cell's text.
 pub trait FromSqlText: Sized {
-    ghost use Rattle.pg_text.specs.declared.pg_type.PgType.{PgType};
-    ghost use Rattle.pg_text.specs.declared.error.CellError.{CellError};
-    ghost use Rattle.pg_text.specs.declared.format.FormatOptions.{FormatOptions};
+    ghost use Rattle.pg_types.specs.declared.pg_type.PgType.{PgType};
+    ghost use Rattle.pg_types.specs.declared.error.CellError.{CellError};
+    ghost use Rattle.pg_types.specs.declared.format.FormatOptions.{FormatOptions};
 
     // the value of a text in a column of a type, under these options, or why there is none
     ghost read: { PgType → List ℕ → FormatOptions → Result Self CellError };

@@ -2,18 +2,12 @@
 // read back.
 #![tactic(auto)]
 
-mod error;
-mod field_format;
 mod format;
 mod from_sql;
 mod from_sql_text;
-mod pg_type;
 mod to_sql;
 mod to_sql_text;
 
-pub use error::CellError;
-pub use field_format::FieldFormat;
-pub use format::FormatOptions;
 pub use format::bytea_output::{BYTEA_OUTPUT_ESCAPE, BYTEA_OUTPUT_HEX, ByteaOutput};
 pub use format::date_style::{
     DATE_STYLE_DISPLAY_GERMAN, DATE_STYLE_DISPLAY_ISO, DATE_STYLE_DISPLAY_POSTGRES,
@@ -26,6 +20,6 @@ pub use format::interval_style::{
 };
 pub use from_sql::FromSql;
 pub use from_sql_text::FromSqlText;
-pub use pg_type::PgType;
+pub use pg_types::{CellError, FieldFormat, FormatOptions, PgType};
 pub use to_sql::{IsNull, ToSql};
 pub use to_sql_text::ToSqlText;

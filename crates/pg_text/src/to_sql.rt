@@ -1,10 +1,9 @@
 ghost use Rattle.std.specs.Prelude.{Bool, ◌≡◌, ◌++◌, OnOk, OnErr};
 ghost use Rattle.pg_text.specs.Cells.{Cell, IsAnswer, AtCell, IsShort, bytes_of, checked};
 
-use crate::error::CellError;
-use crate::pg_type::PgType;
 use bytes::BytesMut;
 use pg_interval::Interval;
+use pg_types::{CellError, PgType};
 
 /// Whether a value was null.
 #[derive(Clone, Copy, Debug, PartialEq, Eq)]
@@ -15,7 +14,7 @@ pub enum IsNull {
 
 /// A value that writes its cell in the binary format of its type.
 pub trait ToSql {
-    ghost use Rattle.pg_text.specs.declared.pg_type.PgType.{PgType};
+    ghost use Rattle.pg_types.specs.declared.pg_type.PgType.{PgType};
 
     // the cell of a value in a column of a type
     ghost binary: { Self → PgType → Cell };

@@ -1,20 +1,18 @@
 ghost use Rattle.std.specs.Prelude.{◌≡◌, ◌++◌, OnOk, OnErr};
 ghost use Rattle.pg_text.specs.Cells.{Cell, IsAnswer, AtCell, IsShort, bytes_of};
 
-use crate::error::CellError;
-use crate::format::FormatOptions;
 use crate::format::interval_style::IntervalStyle;
-use crate::pg_type::PgType;
 use crate::to_sql::IsNull;
 use bytes::BytesMut;
 use jiff::SignedDuration;
 use pg_interval::Interval;
+use pg_types::{CellError, FormatOptions, PgType};
 use std::alloc::Global;
 
 /// A value that writes its cell as text.
 pub trait ToSqlText {
-    ghost use Rattle.pg_text.specs.declared.pg_type.PgType.{PgType};
-    ghost use Rattle.pg_text.specs.declared.format.FormatOptions.{FormatOptions};
+    ghost use Rattle.pg_types.specs.declared.pg_type.PgType.{PgType};
+    ghost use Rattle.pg_types.specs.declared.format.FormatOptions.{FormatOptions};
 
     // the cell of a value in a column of a type, under these options
     ghost text: { Self → PgType → FormatOptions → Cell };

@@ -1,7 +1,7 @@
 -- A query that gives its outcome once.
 use Rattle.std.specs.Prelude.{ℕ, Bool, true, false, Option, Some, None, Result, Err}
-use Rattle.pg_portal.specs.declared.error.PgWireError.{PgWireError}
-use Rattle.pg_portal.specs.declared.error.PgWireError.TheVariants as wire
+use Rattle.pg_results.specs.declared.error.PgWireError.{PgWireError}
+use Rattle.pg_results.specs.declared.error.PgWireError.TheVariants as wire
 use Rattle.pg_handlers.specs.Handlers.{QueryTold}
 
 -- whether the outcome was given

@@ -3,7 +3,7 @@ use Rattle.std.proofs.Common.{◌≡◌, ℕ, suc, ◌+◌, ◌<◌, Bool, true,
 use Rattle.std.proofs.Common.{arith}
 use Rattle.std.proofs.lemmas.Bool.Decides.{nat_tests}
 use Rattle.std.proofs.Math.Seq.{drop-cons}
-use Rattle.pg_portal.specs.Texts.{is_padding}
+use Rattle.pg_results.specs.Texts.{is_padding}
 use Rattle.query_texts.specs.QueryTexts.{without_front_padding}
 
 -- what remains of a byte and the bytes behind it

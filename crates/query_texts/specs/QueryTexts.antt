@@ -2,8 +2,8 @@
 use Rattle.std.specs.Prelude.{ℕ, Bool, List, [], ◌∷◌, if◌then◌else◌, reverse, not, filter}
 use Rattle.std.specs.List.{slice_split}
 use Rattle.std.specs.Str.{str_eq_ignore_ascii_case}
-use Rattle.pg_portal.specs.Describing.{is_empty_list}
-use Rattle.pg_portal.specs.Texts.{is_whitespace, is_padding}
+use Rattle.pg_results.specs.Describing.{is_empty_list}
+use Rattle.pg_results.specs.Texts.{is_whitespace, is_padding}
 
 -- the text behind the whitespace and semicolons at its front
 abbrev pub without_front_padding : List ℕ → List ℕ

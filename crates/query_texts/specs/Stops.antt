@@ -1,6 +1,6 @@
 -- Where words begin and end.
 use Rattle.std.specs.Prelude.{ℕ, Bool, List, [], ◌∷◌, ◌≡◌}
-use Rattle.pg_portal.specs.Texts.{is_whitespace}
+use Rattle.pg_results.specs.Texts.{is_whitespace}
 
 -- The text is at its end, or its first byte is whitespace as this says.
 abbrev pub StopsAt : Bool → List ℕ → Type 0

@@ -2,7 +2,7 @@
 
 ghost use Rattle.std.specs.Prelude.{◌≡◌, ◌<◌, false, [], ◌∷◌, IsNone, IfSome, length, take, drop};
 ghost use Rattle.std.specs.Str.{IsCharBoundary};
-ghost use Rattle.pg_portal.specs.Texts.{is_whitespace};
+ghost use Rattle.pg_results.specs.Texts.{is_whitespace};
 ghost use Rattle.query_texts.specs.QueryTexts.{words};
 ghost use Rattle.query_texts.specs.Stops.{StopsAt};
 

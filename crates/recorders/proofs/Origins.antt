@@ -1,7 +1,7 @@
 -- A recorder that was lent to somebody is known again by its origin.
 use Rattle.std.proofs.Common.{◌≡◌, ◌∙◌, ℕ, ◌-◌, List, [], ◌∷◌, ◌++◌, Option, Some, None, refl, ap, sym, length, take, drop, arith}
 use Rattle.std.proofs.Math.Seq.{take-append_seam, drop-append_seam}
-use Rattle.pg_handlers.specs.declared.desk.DeskCall.{DeskCall}
+use Rattle.pg_client.specs.declared.desk.DeskCall.{DeskCall}
 use Rattle.recorders.specs.Kept.{IsEndOf, told_numbers}
 
 -- told numbers tell what is told

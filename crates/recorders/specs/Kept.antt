@@ -1,6 +1,6 @@
 -- What is kept of streams and of a desk while they are recorded.
 use Rattle.std.specs.Prelude.{ℕ, Bool, false, List, [], ◌∷◌, ◌++◌, Option, Some, None, ◌≡◌, ◌-◌, min, take, drop, length}
-use Rattle.pg_handlers.specs.declared.desk.DeskCall.{DeskCall}
+use Rattle.pg_client.specs.declared.desk.DeskCall.{DeskCall}
 use Rattle.pg_session.specs.Streams.{greatest_count}
 
 -- a number of bytes, which stands still at the greatest count

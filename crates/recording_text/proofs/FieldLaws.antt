@@ -13,10 +13,10 @@ use Rattle.std.proofs.lemmas.Nat.{be_bytes_8, from_be_bytes-to_be_bytes_8}
 use Rattle.pg_messages.specs.Fields.{int32, count16, count32}
 use Rattle.pg_messages.proofs.Laws.{IsBytes, IsBytes-behind, rest_fits}
 use Rattle.pg_messages.proofs.FieldLaws.{IsWide, wide16, wide32, IsBytes-take}
-use Rattle.pg_handlers.specs.declared.desk.DeskCall.{DeskCall}
-use Rattle.pg_handlers.specs.declared.desk.DeskCall.TheVariants as desk
-use Rattle.pg_handlers.specs.declared.ends.EndKind.{EndKind}
-use Rattle.pg_handlers.specs.declared.ends.EndKind.TheVariants as end
+use Rattle.pg_client.specs.declared.desk.DeskCall.{DeskCall}
+use Rattle.pg_client.specs.declared.desk.DeskCall.TheVariants as desk
+use Rattle.pg_client.specs.declared.ends.EndKind.{EndKind}
+use Rattle.pg_client.specs.declared.ends.EndKind.TheVariants as end
 use Rattle.recording_text.specs.declared.recording.ReadError.TheVariants.{Truncated, BadField}
 use Rattle.recording_text.specs.Text.{count64, key_text, bytes_text, call_text, calls_text, end_byte, IsKey, IsCall}
 use Rattle.recording_text.specs.Judging.{◌>>=◌, Reading, as_at, items_at, bytes_at, number_at, signed_at, number_is_at, key_len_at, key_at, counted_at, registration_at, cancel_of, call_at, calls_at, end_at}

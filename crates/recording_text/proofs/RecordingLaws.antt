@@ -8,8 +8,8 @@ use Rattle.std.proofs.lemmas.List.{append-nil, nil_from_length}
 use Rattle.pg_messages.specs.Fields.{int32, count32}
 use Rattle.pg_messages.proofs.Laws.{IsBytes}
 use Rattle.pg_messages.proofs.FieldLaws.{wide32}
-use Rattle.pg_handlers.specs.declared.desk.DeskCall.{DeskCall}
-use Rattle.pg_handlers.specs.declared.ends.EndKind.{EndKind}
+use Rattle.pg_client.specs.declared.desk.DeskCall.{DeskCall}
+use Rattle.pg_client.specs.declared.ends.EndKind.{EndKind}
 use Rattle.recording_text.specs.declared.recording.Recording.{Recording}
 use Rattle.recording_text.specs.declared.recording.ReadError.{ReadError}
 use Rattle.recording_text.specs.declared.recording.ReadError.TheVariants.{Truncated, BadField, Trailing, NoMemory}

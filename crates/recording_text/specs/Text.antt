@@ -3,10 +3,10 @@ use Rattle.std.specs.Prelude.{ℕ, List, [], ◌∷◌, ◌++◌, ◌<◌, ◌�
 use Rattle.std.specs.List.{AllByRecursion, flat_map}
 use Rattle.std.specs.Int.{w32, w64, to_be_bytes}
 use Rattle.pg_messages.specs.Fields.{int32, count16, count32}
-use Rattle.pg_handlers.specs.declared.desk.DeskCall.{DeskCall}
-use Rattle.pg_handlers.specs.declared.desk.DeskCall.TheVariants as desk
-use Rattle.pg_handlers.specs.declared.ends.EndKind.{EndKind}
-use Rattle.pg_handlers.specs.declared.ends.EndKind.TheVariants as end
+use Rattle.pg_client.specs.declared.desk.DeskCall.{DeskCall}
+use Rattle.pg_client.specs.declared.desk.DeskCall.TheVariants as desk
+use Rattle.pg_client.specs.declared.ends.EndKind.{EndKind}
+use Rattle.pg_client.specs.declared.ends.EndKind.TheVariants as end
 use Rattle.recording_text.specs.declared.recording.Recording.{Recording}
 
 -- what each recording begins with: the text `PGR1`

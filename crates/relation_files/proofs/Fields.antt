@@ -7,7 +7,7 @@ use Rattle.std.proofs.lemmas.Str.{is_utf8-from_IsUtf8, IsUtf8-from_is_utf8}
 use Rattle.std.proofs.lemmas.Bool.{eq-eqb, ne_eqb}
 use Rattle.pg_interval.specs.Reading.{reading, Postgres}
 use Rattle.pg_interval.specs.declared.pg_interval.Interval.{Interval}
-use Rattle.pg_interval.specs.declared.interval_parse.parse_error.ParseError.{ParseError}
+use Rattle.interval_errors.specs.declared.ParseError.{ParseError}
 use Rattle.relation_files.specs.declared.errors.LineReason.TheVariants.{Text, Header, Width}
 use Rattle.relation_files.specs.Lines.{fields_of}
 use Rattle.relation_files.specs.Reader.{fields_behind}

@@ -6,7 +6,7 @@ use Rattle.std.specs.Str.{bytes_eq}
 use Rattle.std.specs.FinMap as fin
 use Rattle.std.proofs.lemmas.List.Folds.{list_any-append}
 use Rattle.std.proofs.lemmas.Map.Text.{is_eq-slice_cmp}
-use Rattle.pg_portal.specs.Names.{NameMap}
+use Rattle.named_entries.specs.Names.{NameMap}
 use Rattle.relation_tables.specs.declared.Relation.{Relation}
 use Rattle.relation_files.specs.Refusal.{is_among, line_reason}
 use Rattle.relation_files.specs.Reader.{SoFar, names_of, width_of, reason_at}

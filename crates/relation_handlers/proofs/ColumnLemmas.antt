@@ -1,8 +1,8 @@
 -- The formats of columns, one after another.
 use Rattle.std.proofs.Common.{◌≡◌, ℕ, zero, suc, ◌+◌, ◌≤◌, List, [], ◌∷◌, ◌++◌, length, drop, refl, sym, ap, ◌∙◌, arith}
 use Rattle.std.proofs.lemmas.List.{append-nil}
-use Rattle.pg_text.specs.declared.field_format.FieldFormat.{FieldFormat}
-use Rattle.pg_portal.specs.declared.portal.Format.{Format}
+use Rattle.pg_types.specs.declared.field_format.FieldFormat.{FieldFormat}
+use Rattle.pg_results.specs.declared.format.Format.{Format}
 use Rattle.relation_tables.specs.RelationHandler.{column_formats_from}
 
 -- nothing is left behind the last

@@ -2,7 +2,7 @@
 use Rattle.std.proofs.Common.{◌≡◌, ℕ, zero, suc, ◌+◌, ◌<◌, List, [], ◌∷◌, ◌++◌, Result, Ok, Err, length, drop, get_or, map, refl, sym, ap, ◌∙◌, append_assoc, add-one}
 use Rattle.std.specs.List.{flat_map, join_with_byte}
 use Rattle.std.proofs.lemmas.List.{drop_more, append-nil}
-use Rattle.pg_portal.specs.declared.error.PgWireError.{PgWireError}
+use Rattle.pg_results.specs.declared.error.PgWireError.{PgWireError}
 use Rattle.pg_portal.specs.Encoding.{line_cell}
 use Rattle.relation_tables.specs.RelationHandler.{in_front, all_or_error}
 use Rattle.relation_handlers.specs.Values.{IsPushed, tabbed}

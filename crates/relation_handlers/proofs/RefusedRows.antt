@@ -2,11 +2,11 @@
 use Rattle.std.proofs.Common.{◌≡◌, ◌<◌, true, false, List, [], ◌∷◌, Result, Ok, Err, length, map, refl, ap, arith}
 use Rattle.std.specs.List.{list_any, zip}
 use Rattle.pg_interval.specs.declared.pg_interval.Interval.{Interval}
-use Rattle.pg_text.specs.declared.field_format.FieldFormat.{FieldFormat}
-use Rattle.pg_text.specs.declared.field_format.FieldFormat.TheVariants as field
+use Rattle.pg_types.specs.declared.field_format.FieldFormat.{FieldFormat}
+use Rattle.pg_types.specs.declared.field_format.FieldFormat.TheVariants as field
 use Rattle.pg_text.specs.declared.format.interval_style.IntervalStyle.{IntervalStyle}
-use Rattle.pg_portal.specs.declared.error.PgWireError.{PgWireError}
-use Rattle.pg_portal.specs.Formats.{is_text}
+use Rattle.pg_results.specs.declared.error.PgWireError.{PgWireError}
+use Rattle.pg_results.specs.Formats.{is_text}
 use Rattle.relation_tables.specs.RelationHandler.{all_or_error, line_item, row_item, row_of_values, value}
 use Rattle.relation_tables.specs.Relations.{binary_value}
 

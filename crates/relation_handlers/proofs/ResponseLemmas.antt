@@ -3,17 +3,17 @@ use Rattle.std.proofs.Common.{◌≡◌, ◌≤◌, subst, List, Option, Result,
 use Rattle.std.specs.Arc.{arc_value}
 use Rattle.std.proofs.lemmas.List.{length-map}
 use Rattle.pg_messages.specs.Replies.{IsEncodable}
-use Rattle.pg_text.specs.declared.pg_type.PgType.{PgType}
-use Rattle.pg_text.specs.declared.pg_type.PgType.TheVariants as type
-use Rattle.pg_portal.specs.declared.client.ClientInfo.{ClientInfo}
-use Rattle.pg_portal.specs.declared.portal.Format.{Format}
-use Rattle.pg_portal.specs.declared.results.response.QueryResponse.{QueryResponse}
-use Rattle.pg_portal.specs.Responses as response
-use Rattle.pg_portal.specs.Rows.{RowItem}
-use Rattle.pg_portal.specs.Told.{told_rows}
+use Rattle.pg_types.specs.declared.pg_type.PgType.{PgType}
+use Rattle.pg_types.specs.declared.pg_type.PgType.TheVariants as type
+use Rattle.pg_results.specs.declared.client.ClientInfo.{ClientInfo}
+use Rattle.pg_results.specs.declared.format.Format.{Format}
+use Rattle.pg_results.specs.declared.response.QueryResponse.{QueryResponse}
+use Rattle.pg_results.specs.Responses as response
+use Rattle.pg_results.specs.Rows.{RowItem}
+use Rattle.pg_results.specs.Told.{told_rows}
 use Rattle.pg_handlers.specs.Good.{IsSendableResponse}
-use Rattle.pg_handlers.specs.Replies.{parameter_description, row_description}
-use Rattle.pg_handlers.proofs.Encodable.{select_is_tag}
+use Rattle.pg_replies.specs.Replies.{parameter_description, row_description}
+use Rattle.pg_replies.proofs.Encodable.{select_is_tag}
 use Rattle.relation_tables.specs.declared.Relation.{Relation}
 use Rattle.relation_tables.specs.RelationHandler.{column_formats, columns_in, given_types, row_item, rows_response, session_style}
 use Rattle.relation_tables.proofs.GoodColumns.{good_columns}

@@ -2,11 +2,11 @@
 use Rattle.std.proofs.Common.{◌≡◌, ℕ, ◌+◌, false, List, [], ◌∷◌, map, refl, ap}
 use Rattle.std.specs.List.{list_any}
 use Rattle.pg_interval.specs.declared.pg_interval.Interval.{Interval}
-use Rattle.pg_text.specs.declared.format.FormatOptions.{FormatOptions}
-use Rattle.pg_portal.specs.declared.client.ClientInfo.{ClientInfo}
-use Rattle.pg_portal.specs.declared.portal.Format.{Format}
-use Rattle.pg_portal.specs.declared.portal.Format.TheVariants as format
-use Rattle.pg_portal.specs.Formats.{is_text}
+use Rattle.pg_types.specs.declared.format.FormatOptions.{FormatOptions}
+use Rattle.pg_results.specs.declared.client.ClientInfo.{ClientInfo}
+use Rattle.pg_results.specs.declared.format.Format.{Format}
+use Rattle.pg_results.specs.declared.format.Format.TheVariants as format
+use Rattle.pg_results.specs.Formats.{is_text}
 use Rattle.relation_tables.specs.RelationHandler.{column_formats, column_formats_from, row_item, session_style}
 use Rattle.relation_handlers.specs.Made.{IsSettled, style_in}
 use Rattle.relation_handlers.proofs.RefusedRows.{rows_without_text}

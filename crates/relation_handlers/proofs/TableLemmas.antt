@@ -8,7 +8,7 @@ use Rattle.std.specs.FinMap as map
 use Rattle.std.proofs.lemmas.List.{drop_more, take_more, length-take-le}
 use Rattle.std.proofs.lemmas.Map.Text.{is_eq-slice_cmp}
 use Rattle.std.proofs.lemmas.Slice.Eq.{bytes_eq-Decides}
-use Rattle.pg_portal.specs.Names.{NameMap}
+use Rattle.named_entries.specs.Names.{NameMap}
 use Rattle.relation_tables.specs.declared.Relation.{Relation}
 use Rattle.relation_handlers.specs.declared.table.TableError.{TableError}
 use Rattle.relation_handlers.specs.declared.table.TableError.TheVariants.{BadName, BadColumn, RaggedRow}

@@ -1,7 +1,7 @@
 -- Values that are appended one after another, up to the first refusal.
 use Rattle.std.proofs.Common.{ℕ, ◌++◌, List, Result, Ok, Err, drop, map}
 use Rattle.std.specs.List.{concat, zip}
-use Rattle.pg_portal.specs.declared.error.PgWireError.{PgWireError}
+use Rattle.pg_results.specs.declared.error.PgWireError.{PgWireError}
 use Rattle.relation_tables.specs.RelationHandler.{all_or_error}
 
 abbrev pub Values : Type 0

@@ -1,24 +1,24 @@
 -- The rows of a relation, and its lines, as they are made on demand.
 use Rattle.std.specs.Prelude.{ℕ, ◌≡◌, ◌<◌, ⊤, IsTrue, is_some, List, Result, map, drop, length}
 use Rattle.pg_interval.specs.declared.pg_interval.Interval.{Interval}
-use Rattle.pg_text.specs.declared.field_format.FieldFormat.{FieldFormat}
-use Rattle.pg_text.specs.declared.format.FormatOptions.{FormatOptions}
+use Rattle.pg_types.specs.declared.field_format.FieldFormat.{FieldFormat}
+use Rattle.pg_types.specs.declared.format.FormatOptions.{FormatOptions}
 use Rattle.pg_text.specs.declared.format.interval_style.IntervalStyle.{IntervalStyle}
-use Rattle.pg_text.specs.Options.{default_options}
+use Rattle.pg_types.specs.Options.{default_options}
 use Rattle.pg_text.specs.Words.{interval_style_of}
-use Rattle.pg_portal.specs.declared.client.ClientInfo.{ClientInfo}
-use Rattle.pg_portal.specs.declared.error.PgWireError.{PgWireError}
-use Rattle.pg_portal.specs.declared.portal.Format.{Format}
-use Rattle.pg_portal.specs.declared.portal.Format.TheVariants as format
-use Rattle.pg_portal.specs.Copying.{CopyItem}
-use Rattle.pg_portal.specs.Formats.{format_for}
-use Rattle.pg_portal.specs.Rows.{RowItem}
-use Rattle.pg_portal.specs.Texts.{IsShortText}
+use Rattle.pg_results.specs.declared.client.ClientInfo.{ClientInfo}
+use Rattle.pg_results.specs.declared.error.PgWireError.{PgWireError}
+use Rattle.pg_results.specs.declared.format.Format.{Format}
+use Rattle.pg_results.specs.declared.format.Format.TheVariants as format
+use Rattle.pg_results.specs.Copying.{CopyItem}
+use Rattle.pg_results.specs.Formats.{format_for}
+use Rattle.pg_results.specs.Rows.{RowItem}
+use Rattle.pg_results.specs.Texts.{IsShortText}
 use Rattle.relation_tables.specs.declared.Relation.{Relation}
 use Rattle.relation_tables.specs.Relations.{relation_at}
 use Rattle.relation_tables.specs.RelationHandler.{column_formats, line_item, or_refused, row_item, style_text}
 use Rattle.relation_handlers.specs.Tables.{IsSound}
-use Rattle.pg_portal.specs.declared.on_demand.OnDemand.{OnDemand}
+use Rattle.pg_results.specs.declared.on_demand.OnDemand.{OnDemand}
 
 -- what makes the rows of a relation: the table and the relation's place in it, the formats of a row, and the options of a text
 pub record ToldMaker : Type 0 where

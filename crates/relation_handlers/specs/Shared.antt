@@ -1,7 +1,7 @@
 -- The columns of relations, which queries share.
 use Rattle.std.specs.Prelude.{ℕ, List}
-use Rattle.pg_portal.specs.declared.portal.Format.{Format}
-use Rattle.pg_portal.specs.declared.portal.Format.TheVariants as format
+use Rattle.pg_results.specs.declared.format.Format.{Format}
+use Rattle.pg_results.specs.declared.format.Format.TheVariants as format
 use Rattle.relation_tables.specs.declared.Relation.{Relation}
 use Rattle.relation_tables.specs.RelationHandler.{column_formats, columns_in}
 use Rattle.relation_handlers.specs.Told.{ToldColumns}

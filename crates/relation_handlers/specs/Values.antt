@@ -1,7 +1,7 @@
 -- What becomes of values that are appended one after another.
 use Rattle.std.specs.Prelude.{ℕ, List, ◌++◌, Result, Ok, Err, ◌≡◌}
 use Rattle.std.specs.List.{concat, join_with_byte}
-use Rattle.pg_portal.specs.declared.error.PgWireError.{PgWireError}
+use Rattle.pg_results.specs.declared.error.PgWireError.{PgWireError}
 use Rattle.pg_portal.specs.Encoding.{line_cell}
 
 -- the bytes were appended

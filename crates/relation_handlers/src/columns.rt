@@ -3,7 +3,7 @@
 ghost use Rattle.std.specs.Prelude.{◌≡◌, ◌<◌, IfOk, IsTrue, length, map, zip};
 ghost use Rattle.pg_messages.specs.declared.backend.PgWireBackendMessage.TheVariants as server;
 ghost use Rattle.pg_messages.specs.Replies.{IsEncodable};
-ghost use Rattle.pg_handlers.specs.Replies.{row_description};
+ghost use Rattle.pg_replies.specs.Replies.{row_description};
 ghost use Rattle.relation_tables.specs.Relations.{column, relation_at};
 ghost use Rattle.relation_tables.specs.RelationHandler.{column_format, column_formats, columns_in, fields_of, is_statement_of};
 ghost use Rattle.relation_handlers.specs.Shared.{shared_of, told_columns};

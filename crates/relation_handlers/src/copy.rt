@@ -19,7 +19,7 @@ pub struct RelationCopy<'r, A> {
 
 impl<'r, A> Model for RelationCopy<'r, A> {
     ghost use Rattle.std.specs.Prelude.{List};
-    ghost use Rattle.pg_portal.specs.Copying.{CopyItem};
+    ghost use Rattle.pg_results.specs.Copying.{CopyItem};
     ghost use Rattle.relation_handlers.specs.Made.{lines_left};
 
     ghost Value = { List CopyItem };

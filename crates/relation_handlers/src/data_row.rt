@@ -7,10 +7,10 @@ ghost use Rattle.pg_text.specs.Words.{printed_style};
 ghost use Rattle.pg_messages.specs.declared.backend.PgWireBackendMessage.TheVariants as server;
 ghost use Rattle.pg_messages.specs.Replies.{IsEncodable};
 ghost use Rattle.pg_portal.specs.Encoding.{cell_bytes};
-ghost use Rattle.pg_portal.specs.Formats.{is_text};
-ghost use Rattle.pg_portal.specs.Rows.{IsSendable, IsSendableRow};
-ghost use Rattle.pg_portal.specs.Texts.{IsShortText};
-ghost use Rattle.pg_portal.specs.declared.error.PgWireError.TheVariants as wire;
+ghost use Rattle.pg_results.specs.Formats.{is_text};
+ghost use Rattle.pg_results.specs.Rows.{IsSendable, IsSendableRow};
+ghost use Rattle.pg_results.specs.Texts.{IsShortText};
+ghost use Rattle.pg_results.specs.declared.error.PgWireError.TheVariants as wire;
 ghost use Rattle.relation_tables.specs.RelationHandler.{all_or_error, value, row_item};
 ghost use Rattle.relation_handlers.specs.Values.{IsPushed, joined};
 

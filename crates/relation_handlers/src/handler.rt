@@ -2,7 +2,7 @@
 
 ghost use Rattle.std.specs.Prelude.{◌≡◌, ◌≤◌, false, IfOk, length};
 ghost use Rattle.pg_messages.specs.Replies.{IsEncodable};
-ghost use Rattle.pg_handlers.specs.Replies.{parameter_description};
+ghost use Rattle.pg_replies.specs.Replies.{parameter_description};
 ghost use Rattle.relation_tables.specs.RelationHandler.{given_types};
 
 use crate::columns::fields_of;

@@ -4,8 +4,8 @@ ghost use Rattle.std.specs.Prelude.{◌≡◌, ℕ, List, ◌<◌, IsTrue, IfOk,
 ghost use Rattle.std.specs.Arc.{arc_value};
 ghost use Rattle.std.specs.Option.{option_copied};
 ghost use Rattle.std.specs.FinMap as fin;
-ghost use Rattle.pg_portal.specs.Rows.{IsAnswerable};
-ghost use Rattle.pg_portal.specs.Texts.{IsShortText};
+ghost use Rattle.pg_results.specs.Rows.{IsAnswerable};
+ghost use Rattle.pg_results.specs.Texts.{IsShortText};
 ghost use Rattle.relation_tables.specs.Relations.{place_of, relation_at};
 ghost use Rattle.relation_tables.specs.RelationHandler.{told_parser};
 ghost use Rattle.relation_handlers.specs.Shared.{shared_columns};

@@ -2,10 +2,10 @@
 
 ghost use Rattle.std.specs.Prelude.{◌≡◌, IfOk};
 ghost use Rattle.std.specs.Arc.{arc_value};
-ghost use Rattle.pg_text.specs.Options.{default_options};
+ghost use Rattle.pg_types.specs.Options.{default_options};
 ghost use Rattle.pg_text.specs.Words.{interval_style_name};
 ghost use Rattle.pg_text.specs.declared.format.interval_style.IntervalStyle.TheVariants as interval_style;
-ghost use Rattle.pg_portal.specs.Texts.{IsShortText};
+ghost use Rattle.pg_results.specs.Texts.{IsShortText};
 ghost use Rattle.relation_handlers.specs.Made.{style_in};
 
 use crate::style::SessionStyle;
@@ -25,8 +25,8 @@ pub(crate) struct Settings {
 impl Model for Settings {
     ghost use Rattle.std.specs.Prelude.{◌≡◌};
     ghost use Rattle.std.specs.Arc.{arc_value};
-    ghost use Rattle.pg_text.specs.declared.format.FormatOptions.{FormatOptions};
-    ghost use Rattle.pg_portal.specs.Texts.{IsShortText};
+    ghost use Rattle.pg_types.specs.declared.format.FormatOptions.{FormatOptions};
+    ghost use Rattle.pg_results.specs.Texts.{IsShortText};
     ghost use Rattle.relation_handlers.specs.Made.{style_in};
 
     ghost Value = { FormatOptions };
@@ -60,7 +60,7 @@ pub(crate) struct StyledOptions {
 impl Model for StyledOptions {
     ghost use Rattle.std.specs.Prelude.{◌≡◌};
     ghost use Rattle.std.specs.Arc.{arc_value};
-    ghost use Rattle.pg_text.specs.Options.{default_options};
+    ghost use Rattle.pg_types.specs.Options.{default_options};
     ghost use Rattle.pg_text.specs.Words.{interval_style_name};
     ghost use Rattle.pg_text.specs.declared.format.interval_style.IntervalStyle.{IntervalStyle};
 

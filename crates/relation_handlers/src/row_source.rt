@@ -2,7 +2,7 @@
 
 ghost use Rattle.std.specs.Prelude.{◌≡◌, ◌≤◌, ◌<◌, Some, IfOk, length, slice_get};
 ghost use Rattle.std.specs.Arc.{arc_value};
-ghost use Rattle.pg_portal.specs.Texts.{IsShortText};
+ghost use Rattle.pg_results.specs.Texts.{IsShortText};
 ghost use Rattle.relation_tables.specs.Relations.{relation_at};
 ghost use Rattle.relation_tables.specs.RelationHandler.{column_formats};
 ghost use Rattle.relation_handlers.specs.Made.{ToldMaker, GivesFormats, relation_of, row_items, style_in};

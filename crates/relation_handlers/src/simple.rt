@@ -2,9 +2,9 @@
 
 ghost use Rattle.std.specs.Prelude.{◌≡◌, ◌<◌, [], ◌∷◌, false, Ok, Some, IfOk, IsTrue, length};
 ghost use Rattle.polled_queries.specs.Queries.{is_given, query_told};
-ghost use Rattle.pg_portal.specs.Clients.{HasShortMetadata};
-ghost use Rattle.pg_portal.specs.Responses.{told_response, told_responses};
-ghost use Rattle.pg_portal.specs.Texts.{IsShortText};
+ghost use Rattle.pg_results.specs.Clients.{HasShortMetadata};
+ghost use Rattle.pg_results.specs.Responses.{told_response, told_responses};
+ghost use Rattle.pg_results.specs.Texts.{IsShortText};
 ghost use Rattle.pg_handlers.specs.Good.{AreSendable};
 ghost use Rattle.pg_handlers.specs.Handlers.{told_all, told_query};
 ghost use Rattle.relation_tables.specs.Queries.{words, copied_name};

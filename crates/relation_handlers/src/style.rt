@@ -3,11 +3,11 @@
 ghost use Rattle.std.specs.Prelude.{◌≡◌, Ok, Err, IfOk, IfErr, codes, unwrap_or};
 ghost use Rattle.std.specs.FinMap as fin;
 ghost use Rattle.pg_text.specs.Words.{interval_style_of};
-ghost use Rattle.pg_portal.specs.declared.error.PgWireError.TheVariants as wire;
-ghost use Rattle.pg_portal.specs.Clients.{HasShortMetadata};
-ghost use Rattle.pg_portal.specs.Rows.{IsAnswerableItem};
-ghost use Rattle.pg_portal.specs.Texts.{IsShortText};
-ghost use Rattle.pg_portal.specs.Told.{IsOutcome};
+ghost use Rattle.pg_results.specs.declared.error.PgWireError.TheVariants as wire;
+ghost use Rattle.pg_results.specs.Clients.{HasShortMetadata};
+ghost use Rattle.pg_results.specs.Rows.{IsAnswerableItem};
+ghost use Rattle.pg_results.specs.Texts.{IsShortText};
+ghost use Rattle.pg_results.specs.Told.{IsOutcome};
 ghost use Rattle.relation_tables.specs.RelationHandler.{or_refused, session_style};
 ghost use Rattle.relation_handlers.specs.Told.{told_style};
 
@@ -26,8 +26,8 @@ pub struct SessionStyle {
 impl Model for SessionStyle {
     ghost use Rattle.std.specs.Prelude.{Result, IfErr};
     ghost use Rattle.pg_text.specs.declared.format.interval_style.IntervalStyle.{IntervalStyle};
-    ghost use Rattle.pg_portal.specs.declared.error.PgWireError.{PgWireError};
-    ghost use Rattle.pg_portal.specs.Texts.{IsShortText};
+    ghost use Rattle.pg_results.specs.declared.error.PgWireError.{PgWireError};
+    ghost use Rattle.pg_results.specs.Texts.{IsShortText};
     ghost use Rattle.relation_handlers.specs.Told.{told_style};
 
     ghost Value = { Result IntervalStyle PgWireError };

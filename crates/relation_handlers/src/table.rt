@@ -4,8 +4,8 @@ ghost use Rattle.std.specs.Prelude.{◌≡◌, ℕ, List, [], ◌^◌, ◌<◌, 
 ghost use Rattle.std.specs.Arc.{arc_value};
 ghost use Rattle.std.specs.FinMap as map;
 ghost use Rattle.std.specs.List.{list_all};
-ghost use Rattle.pg_text.specs.Options.{default_options};
-ghost use Rattle.pg_portal.specs.Clients.{HasShortMetadata};
+ghost use Rattle.pg_types.specs.Options.{default_options};
+ghost use Rattle.pg_results.specs.Clients.{HasShortMetadata};
 ghost use Rattle.relation_tables.specs.Relations.{are_even, place_of};
 ghost use Rattle.relation_handlers.specs.Made.{session_options};
 ghost use Rattle.relation_handlers.specs.Tables.{is_transaction_word, is_foreign_to_names, is_name, is_column_name, are_columns, refusal_at, refusal, HoldIntervals, IsValid, IsCause};

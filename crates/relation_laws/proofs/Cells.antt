@@ -2,11 +2,11 @@
 use Rattle.std.proofs.Common.{arith, ◌≡◌, ◌<◌, ℕ, zero, suc, List, [], ◌∷◌, Option, Some, None, Result, Ok, Err, map, zip, length, get_or, refl, ap, sym}
 use Rattle.std.specs.List.{Contains}
 use Rattle.pg_interval.specs.declared.pg_interval.Interval.{Interval}
-use Rattle.pg_text.specs.declared.field_format.FieldFormat.{FieldFormat}
-use Rattle.pg_text.specs.declared.field_format.FieldFormat.TheVariants as field
+use Rattle.pg_types.specs.declared.field_format.FieldFormat.{FieldFormat}
+use Rattle.pg_types.specs.declared.field_format.FieldFormat.TheVariants as field
 use Rattle.pg_text.specs.declared.format.interval_style.IntervalStyle.{IntervalStyle}
-use Rattle.pg_portal.specs.declared.error.PgWireError.{PgWireError}
-use Rattle.pg_portal.specs.declared.error.PgWireError.TheVariants as wire
+use Rattle.pg_results.specs.declared.error.PgWireError.{PgWireError}
+use Rattle.pg_results.specs.declared.error.PgWireError.TheVariants as wire
 use Rattle.relation_tables.specs.RelationHandler.{or_refused, in_front, all_or_error, value, text_of, row_of_values, row_item, line_of_texts, line_item}
 
 -- why values are refused: there is no style

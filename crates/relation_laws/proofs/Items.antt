@@ -4,8 +4,8 @@ use Rattle.std.specs.List.{Contains}
 use Rattle.std.proofs.lemmas.Bool.Decides.{nat_tests}
 use Rattle.std.proofs.lemmas.List.{length-map, length-drop, length-take-le, get_or-take, drop-map}
 use Rattle.pg_interval.specs.declared.pg_interval.Interval.{Interval}
-use Rattle.pg_portal.specs.declared.error.PgWireError.{PgWireError}
-use Rattle.pg_portal.specs.Page.{Page, PageEnd, AtLimit, AtError, is_reached, page, ended_page, item_page, before_error, first_error}
+use Rattle.pg_results.specs.declared.error.PgWireError.{PgWireError}
+use Rattle.pg_results.specs.Page.{Page, PageEnd, AtLimit, AtError, is_reached, page, ended_page, item_page, before_error, first_error}
 use Rattle.relation_tables.proofs.ItemsAgree.{drop-further}
 use Rattle.relation_laws.specs.Causes.{last_rows}
 

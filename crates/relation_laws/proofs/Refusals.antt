@@ -14,42 +14,43 @@ use Rattle.pg_messages.specs.declared.extendedquery.Execute.{Execute}
 use Rattle.pg_messages.specs.declared.codec.ProtocolVersion.TheVariants.{PROTOCOL3_0, PROTOCOL3_2}
 use Rattle.pg_messages.specs.declared.frontend.PgWireFrontendMessage.{PgWireFrontendMessage}
 use Rattle.pg_messages.specs.declared.frontend.PgWireFrontendMessage.TheVariants as client
-use Rattle.pg_text.specs.declared.field_format.FieldFormat.{FieldFormat}
-use Rattle.pg_text.specs.declared.field_format.FieldFormat.TheVariants as field
+use Rattle.pg_types.specs.declared.field_format.FieldFormat.{FieldFormat}
+use Rattle.pg_types.specs.declared.field_format.FieldFormat.TheVariants as field
 use Rattle.pg_text.specs.Words.{interval_style_of}
-use Rattle.pg_portal.specs.declared.client.PgWireConnectionState.{PgWireConnectionState}
-use Rattle.pg_portal.specs.declared.client.PgWireConnectionState.TheVariants as phase
-use Rattle.pg_portal.specs.declared.error.PgWireError.{PgWireError}
-use Rattle.pg_portal.specs.declared.error.PgWireError.TheVariants as wire
-use Rattle.pg_portal.specs.declared.portal.Format.TheVariants as format
-use Rattle.pg_portal.specs.declared.stmt.StoredStatement.{StoredStatement}
+use Rattle.pg_results.specs.declared.client.PgWireConnectionState.{PgWireConnectionState}
+use Rattle.pg_results.specs.declared.client.PgWireConnectionState.TheVariants as phase
+use Rattle.pg_results.specs.declared.error.PgWireError.{PgWireError}
+use Rattle.pg_results.specs.declared.error.PgWireError.TheVariants as wire
+use Rattle.pg_results.specs.declared.format.Format.TheVariants as format
+use Rattle.pg_results.specs.declared.stmt.StoredStatement.{StoredStatement}
 use Rattle.pg_portal.specs.declared.store.Entry.TheVariants as entry
-use Rattle.pg_portal.specs.Describing.{is_empty_list}
-use Rattle.pg_portal.specs.Errors.{info_of}
-use Rattle.pg_portal.specs.Fields.{Field}
+use Rattle.pg_results.specs.Describing.{is_empty_list}
+use Rattle.pg_results.specs.Errors.{info_of}
+use Rattle.pg_results.specs.Fields.{Field}
 use Rattle.pg_portal.specs.Fetching.{stage_after}
-use Rattle.pg_portal.specs.Page.{AtError, delivered_after, item_page, page, before_error, first_error}
-use Rattle.pg_portal.specs.Responses.{ToldCopy}
-use Rattle.pg_portal.specs.Rows.{RowItem}
-use Rattle.pg_portal.specs.Statements.{stored}
-use Rattle.pg_portal.specs.Texts.{is_blank}
-use Rattle.pg_portal.specs.Told.{TablePortal, Stage, Unstarted, Started, Ended, ToldRows, value_under}
-use Rattle.pg_handlers.specs.declared.desk.DeskCall.{DeskCall}
-use Rattle.pg_handlers.specs.declared.desk.DeskCall.TheVariants as desk
-use Rattle.pg_handlers.specs.declared.ends.EndKind.TheVariants as end
-use Rattle.pg_handlers.specs.Answer.{Answer, Goes, Ends}
-use Rattle.pg_handlers.specs.Effect.{Effect, Called, Scope, UntilSync, AnswersReady, Outcome, Done, Failed, Over, Stopped, says, refuses, silent, settled, after_error}
-use Rattle.pg_handlers.specs.Errors.{is_fatal, unsupported_version, too_few_codes, values_for_empty}
+use Rattle.pg_results.specs.Page.{AtError, delivered_after, item_page, page, before_error, first_error}
+use Rattle.pg_results.specs.Responses.{ToldCopy}
+use Rattle.pg_results.specs.Rows.{RowItem}
+use Rattle.pg_results.specs.Statements.{stored}
+use Rattle.pg_results.specs.Texts.{is_blank}
+use Rattle.pg_results.specs.Told.{ToldRows}
+use Rattle.pg_portal.specs.Told.{TablePortal, Stage, Unstarted, Started, Ended, value_under}
+use Rattle.pg_client.specs.declared.desk.DeskCall.{DeskCall}
+use Rattle.pg_client.specs.declared.desk.DeskCall.TheVariants as desk
+use Rattle.pg_client.specs.declared.ends.EndKind.TheVariants as end
+use Rattle.pg_client.specs.Answer.{Answer, Goes, Ends}
+use Rattle.pg_client.specs.Effect.{Effect, Called, Scope, UntilSync, AnswersReady, Outcome, Done, Failed, Over, Stopped, says, refuses, silent, settled, after_error}
+use Rattle.pg_client.specs.Errors.{is_fatal, unsupported_version, too_few_codes, values_for_empty}
 use Rattle.pg_handlers.specs.ExecuteRow.{at_stage, page_effect, fetched, execute_polled, execute_run, executed_portal, executed_entry}
 use Rattle.pg_handlers.specs.ExtendedRows.{bind_complete, parsed, bound_portal, bound, described_statement, described_portal}
 use Rattle.pg_handlers.specs.Handlers.{Handlers}
 use Rattle.pg_messages.specs.declared.backend.PgWireBackendMessage.TheVariants as server
 use Rattle.pg_messages.specs.Frames.{protocol_3_0, protocol_3_2, statement_target, portal_target}
-use Rattle.pg_handlers.specs.Replies.{Replies, error_reply, ready, row_description, row_replies, done_with}
-use Rattle.pg_handlers.specs.ResponseRows.{sent, unless_error, copy_out_reply, copy_replies, copy_count, copy_end, not_empty}
+use Rattle.pg_replies.specs.Replies.{Replies, error_reply, ready, row_description, row_replies, done_with}
+use Rattle.pg_replies.specs.ResponseRows.{sent, unless_error, copy_out_reply, copy_replies, copy_count, copy_end, not_empty}
 use Rattle.pg_handlers.specs.SimpleRows.{followed, answered, query_polled, query_run}
-use Rattle.pg_handlers.specs.StartupRows.{accepts}
-use Rattle.pg_handlers.specs.State.{with_portal}
+use Rattle.pg_client.specs.StartupRows.{accepts}
+use Rattle.pg_client.specs.State.{with_portal}
 use Rattle.pg_handlers.specs.Table.{ready_row, row, message_row, scope_in}
 use Rattle.relation_tables.specs.declared.Relation.{Relation}
 use Rattle.relation_tables.specs.declared.RelationStatement.{RelationStatement}

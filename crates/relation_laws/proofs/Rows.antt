@@ -26,41 +26,42 @@ use Rattle.pg_messages.specs.declared.frontend.PgWireFrontendMessage.TheVariants
 use Rattle.pg_messages.specs.declared.backend.PgWireBackendMessage.TheVariants as server
 use Rattle.pg_messages.specs.Frames.{protocol_3_0, protocol_3_2, statement_target, portal_target}
 use Rattle.pg_text.specs.Words.{interval_style_of}
-use Rattle.pg_portal.specs.declared.client.PgWireConnectionState.{PgWireConnectionState}
-use Rattle.pg_portal.specs.declared.client.PgWireConnectionState.TheVariants as phase
-use Rattle.pg_portal.specs.declared.error.PgWireError.{PgWireError}
-use Rattle.pg_portal.specs.declared.error.PgWireError.TheVariants as wire
-use Rattle.pg_portal.specs.declared.portal.Format.TheVariants as format
-use Rattle.pg_portal.specs.declared.stmt.StoredStatement.{StoredStatement}
+use Rattle.pg_results.specs.declared.client.PgWireConnectionState.{PgWireConnectionState}
+use Rattle.pg_results.specs.declared.client.PgWireConnectionState.TheVariants as phase
+use Rattle.pg_results.specs.declared.error.PgWireError.{PgWireError}
+use Rattle.pg_results.specs.declared.error.PgWireError.TheVariants as wire
+use Rattle.pg_results.specs.declared.format.Format.TheVariants as format
+use Rattle.pg_results.specs.declared.stmt.StoredStatement.{StoredStatement}
 use Rattle.pg_portal.specs.declared.store.Entry.{Entry}
 use Rattle.pg_portal.specs.declared.store.Entry.TheVariants as entry
-use Rattle.pg_portal.specs.declared.results.describe.DescribeStatementResponse.{DescribeStatementResponse}
-use Rattle.pg_portal.specs.declared.results.describe.DescribePortalResponse.{DescribePortalResponse}
-use Rattle.pg_portal.specs.Describing.{is_empty_list, is_no_data}
-use Rattle.pg_portal.specs.Errors.{info_of}
-use Rattle.pg_portal.specs.Fields.{Field}
-use Rattle.pg_portal.specs.Fetching.{stage_after, with_items}
-use Rattle.pg_portal.specs.Page.{PageEnd, AtLimit, AtEnd, AtError, delivered_after, item_page, page, before_error, first_error}
-use Rattle.pg_portal.specs.Responses.{ToldResponse, ToldCopy}
-use Rattle.pg_portal.specs.Rows.{RowItem}
-use Rattle.pg_portal.specs.Statements.{stored, types_of}
-use Rattle.pg_portal.specs.Texts.{is_blank}
-use Rattle.pg_portal.specs.Told.{TablePortal, Stage, Unstarted, Started, Ended, ToldRows, value_under}
-use Rattle.pg_handlers.specs.declared.desk.DeskCall.{DeskCall}
-use Rattle.pg_handlers.specs.declared.desk.DeskCall.TheVariants as desk
-use Rattle.pg_handlers.specs.declared.ends.EndKind.TheVariants as end
+use Rattle.pg_results.specs.declared.describe.DescribeStatementResponse.{DescribeStatementResponse}
+use Rattle.pg_results.specs.declared.describe.DescribePortalResponse.{DescribePortalResponse}
+use Rattle.pg_results.specs.Describing.{is_empty_list, is_no_data}
+use Rattle.pg_results.specs.Errors.{info_of}
+use Rattle.pg_results.specs.Fields.{Field}
+use Rattle.pg_results.specs.Told.{with_items, ToldRows}
+use Rattle.pg_portal.specs.Fetching.{stage_after}
+use Rattle.pg_results.specs.Page.{PageEnd, AtLimit, AtEnd, AtError, delivered_after, item_page, page, before_error, first_error}
+use Rattle.pg_results.specs.Responses.{ToldResponse, ToldCopy}
+use Rattle.pg_results.specs.Rows.{RowItem}
+use Rattle.pg_results.specs.Statements.{stored, types_of}
+use Rattle.pg_results.specs.Texts.{is_blank}
+use Rattle.pg_portal.specs.Told.{TablePortal, Stage, Unstarted, Started, Ended, value_under}
+use Rattle.pg_client.specs.declared.desk.DeskCall.{DeskCall}
+use Rattle.pg_client.specs.declared.desk.DeskCall.TheVariants as desk
+use Rattle.pg_client.specs.declared.ends.EndKind.TheVariants as end
 use Rattle.pg_handlers.specs.CopyRows.{copy_row}
-use Rattle.pg_handlers.specs.Effect.{Effect, Called, Outcome, Done, Failed, Over, Stopped, says, refuses, silent}
-use Rattle.pg_handlers.specs.Errors.{values_for_empty, too_few_codes, unsupported_version}
+use Rattle.pg_client.specs.Effect.{Effect, Called, Outcome, Done, Failed, Over, Stopped, says, refuses, silent}
+use Rattle.pg_client.specs.Errors.{values_for_empty, too_few_codes, unsupported_version}
 use Rattle.pg_handlers.specs.ExecuteRow.{at_stage, page_effect, fetched, execute_polled, execute_run, executed_portal, executed_entry}
 use Rattle.pg_handlers.specs.ExtendedRows.{parse_complete, bind_complete, parsed, portal_bound, bound_portal, bound, described_statement, described_portal, statement_description, portal_description}
 use Rattle.pg_handlers.specs.Handlers.{Handlers}
 use Rattle.pg_handlers.specs.Questions.{Verdict, Passed, Canceled, Unanswered, questioned, started}
-use Rattle.pg_handlers.specs.Replies.{Replies, ready, row_replies, done_with, row_description}
-use Rattle.pg_handlers.specs.ResponseRows.{sent, unless_error, copy_replies, copy_count, copy_end, copy_out_reply, not_empty as not_empty_data}
+use Rattle.pg_replies.specs.Replies.{Replies, ready, row_replies, done_with, row_description}
+use Rattle.pg_replies.specs.ResponseRows.{sent, unless_error, copy_replies, copy_count, copy_end, copy_out_reply, not_empty as not_empty_data}
 use Rattle.pg_handlers.specs.SimpleRows.{followed, answered, answered_all, query_polled, query_run}
-use Rattle.pg_handlers.specs.StartupRows.{no_encryption, on_cancel_request, accepts, tells_less, started_session, startup_row}
-use Rattle.pg_handlers.specs.State.{State, in_phase, with_status, with_portal, with_statement, without_statement, without_portal, without_unnamed_portal}
+use Rattle.pg_client.specs.StartupRows.{no_encryption, on_cancel_request, accepts, tells_less, started_session, startup_row}
+use Rattle.pg_client.specs.State.{State, in_phase, with_status, with_portal, with_statement, without_statement, without_portal, without_unnamed_portal}
 use Rattle.pg_handlers.specs.Table.{statement_row, ready_row, awaiting_sync_row, row, message_row}
 use Rattle.pg_handlers.proofs.GoodStores.{Each, each_after_insert, each_after_remove, none_empty, one_value}
 use Rattle.relation_tables.specs.declared.Relation.{Relation}

@@ -8,17 +8,17 @@ use Rattle.std.specs.List.{Contains}
 use Rattle.std.specs.FinMap as fin
 use Rattle.pg_messages.specs.declared.response.ErrorInfo.{ErrorInfo}
 use Rattle.pg_messages.specs.declared.frontend.PgWireFrontendMessage.{PgWireFrontendMessage}
-use Rattle.pg_portal.specs.declared.error.PgWireError.TheVariants as wire
+use Rattle.pg_results.specs.declared.error.PgWireError.TheVariants as wire
 use Rattle.pg_portal.specs.declared.store.Entry.{Entry}
-use Rattle.pg_portal.specs.Errors.{info_of}
+use Rattle.pg_results.specs.Errors.{info_of}
 use Rattle.pg_portal.specs.Told.{TablePortal, value_under}
-use Rattle.pg_handlers.specs.declared.desk.DeskCall.{DeskCall}
-use Rattle.pg_handlers.specs.declared.ends.EndKind.TheVariants as end
-use Rattle.pg_handlers.specs.Answer.{Answer, Next, Goes, Ends, Stops, continued, conversation, left_by}
-use Rattle.pg_handlers.specs.Effect.{Scope, UntilSync, AnswersReady, Outcome, Done, Failed, Over, Stopped, settled, after_error}
-use Rattle.pg_handlers.specs.Errors.{is_fatal}
-use Rattle.pg_handlers.specs.Replies.{Replies, error_reply}
-use Rattle.pg_handlers.specs.State.{first_state}
+use Rattle.pg_client.specs.declared.desk.DeskCall.{DeskCall}
+use Rattle.pg_client.specs.declared.ends.EndKind.TheVariants as end
+use Rattle.pg_client.specs.Answer.{Answer, Next, Goes, Ends, Stops, continued, conversation, left_by}
+use Rattle.pg_client.specs.Effect.{Scope, UntilSync, AnswersReady, Outcome, Done, Failed, Over, Stopped, settled, after_error}
+use Rattle.pg_client.specs.Errors.{is_fatal}
+use Rattle.pg_replies.specs.Replies.{Replies, error_reply}
+use Rattle.pg_client.specs.State.{first_state}
 use Rattle.pg_handlers.specs.Table.{message_row, scope_in, whole_table}
 use Rattle.relation_tables.specs.declared.Relation.{Relation}
 use Rattle.relation_tables.specs.declared.RelationStatement.{RelationStatement}

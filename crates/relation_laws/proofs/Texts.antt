@@ -5,7 +5,7 @@ use Rattle.std.proofs.lemmas.List.Folds.{list_all-append}
 use Rattle.std.proofs.lemmas.Slice.Eq.{bytes_eq-Decides}
 use Rattle.std.specs.List.{Contains, position_from}
 use Rattle.std.specs.Str.{str_eq_ignore_ascii_case}
-use Rattle.pg_portal.specs.Texts.{is_padding, is_blank}
+use Rattle.pg_results.specs.Texts.{is_padding, is_blank}
 use Rattle.relation_tables.specs.declared.Relation.{Relation}
 use Rattle.relation_tables.specs.declared.RelationStatement.TheVariants as statement
 use Rattle.relation_tables.specs.Queries.{trimmed, without_front_padding, without_end_padding}

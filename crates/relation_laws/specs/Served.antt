@@ -3,10 +3,11 @@ use Rattle.std.specs.Prelude.{ℕ, Bool, List, Some, None, Result, ◌≡◌, �
 use Rattle.std.specs.FinMap as fin
 use Rattle.pg_messages.specs.declared.frontend.PgWireFrontendMessage.{PgWireFrontendMessage}
 use Rattle.pg_text.specs.declared.format.interval_style.IntervalStyle.{IntervalStyle}
-use Rattle.pg_portal.specs.declared.client.PgWireConnectionState.TheVariants as phase
-use Rattle.pg_portal.specs.declared.error.PgWireError.{PgWireError}
-use Rattle.pg_portal.specs.Told.{BoundPortal, TablePortal, ToldRows, Stage, Unstarted, Started, Ended, value_under}
-use Rattle.pg_handlers.specs.State.{State}
+use Rattle.pg_results.specs.declared.client.PgWireConnectionState.TheVariants as phase
+use Rattle.pg_results.specs.declared.error.PgWireError.{PgWireError}
+use Rattle.pg_results.specs.Told.{ToldRows}
+use Rattle.pg_portal.specs.Told.{BoundPortal, TablePortal, Stage, Unstarted, Started, Ended, value_under}
+use Rattle.pg_client.specs.State.{State}
 use Rattle.relation_tables.specs.declared.Relation.{Relation}
 use Rattle.relation_tables.specs.declared.RelationStatement.{RelationStatement}
 use Rattle.relation_tables.specs.declared.RelationStatement.TheVariants as statement

@@ -3,7 +3,7 @@ use Rattle.std.specs.Prelude.{ℕ, List, [], ◌∷◌, ◌++◌, ◌≡◌, cod
 use Rattle.std.specs.List.{Contains}
 use Rattle.pg_messages.specs.declared.backend.PgWireBackendMessage.TheVariants as server
 use Rattle.pg_messages.specs.declared.response.ErrorInfo.{ErrorInfo}
-use Rattle.pg_handlers.specs.Replies.{Replies}
+use Rattle.pg_replies.specs.Replies.{Replies}
 
 -- what the ErrorResponses among replies tell
 abbrev pub errors_among : Replies → List ErrorInfo

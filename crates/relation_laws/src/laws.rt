@@ -5,11 +5,11 @@ ghost use Rattle.std.specs.Prelude.{◌≡◌, ◌≤◌, ◌↔◌, ◌⊎◌, 
 ghost use Rattle.std.specs.List.{Contains};
 ghost use Rattle.pg_messages.specs.declared.frontend.PgWireFrontendMessage.{PgWireFrontendMessage};
 ghost use Rattle.pg_messages.specs.declared.response.ErrorInfo.{ErrorInfo};
-ghost use Rattle.pg_portal.specs.declared.error.PgWireError.TheVariants as wire;
-ghost use Rattle.pg_portal.specs.Errors.{info_of};
-ghost use Rattle.pg_handlers.specs.Answer.{Goes, Ends};
-ghost use Rattle.pg_handlers.specs.declared.ends.EndKind.TheVariants as end;
-ghost use Rattle.pg_handlers.specs.State.{State};
+ghost use Rattle.pg_results.specs.declared.error.PgWireError.TheVariants as wire;
+ghost use Rattle.pg_results.specs.Errors.{info_of};
+ghost use Rattle.pg_client.specs.Answer.{Goes, Ends};
+ghost use Rattle.pg_client.specs.declared.ends.EndKind.TheVariants as end;
+ghost use Rattle.pg_client.specs.State.{State};
 ghost use Rattle.relation_tables.specs.declared.Relation.{Relation};
 ghost use Rattle.relation_tables.specs.declared.RelationStatement.{RelationStatement};
 ghost use Rattle.relation_laws.specs.Told.{errors_among, served_codes, told_codes};

@@ -6,7 +6,7 @@ use Rattle.pg_cancel.specs.declared.entries.RegistryCall.TheVariants.{Register}
 use Rattle.pg_cancel.specs.declared.entries.RegistryAnswer.TheVariants.{Taken}
 use Rattle.pg_cancel.specs.Connections.{Connection, Issuer, Registers, Witness, before_last}
 use Rattle.pg_cancel.specs.LegalHistory.{HasPid}
-use Rattle.pg_handlers.specs.declared.ends.EndKind.{EndKind}
+use Rattle.pg_client.specs.declared.ends.EndKind.{EndKind}
 use Rattle.pg_messages.specs.declared.backend.PgWireBackendMessage.{PgWireBackendMessage}
 use Rattle.pg_messages.specs.Replies.{replies_bytes}
 use Rattle.pg_session.specs.declared.ends.ServeError.{ServeError}

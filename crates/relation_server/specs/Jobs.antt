@@ -6,7 +6,7 @@ use Rattle.pg_cancel.specs.declared.entries.RegistryCall.TheVariants.{Register, 
 use Rattle.pg_cancel.specs.declared.entries.RegistryAnswer.TheVariants.{Registered, Done}
 use Rattle.pg_cancel.specs.Connections.{Connection, Witness, calls_of, entry}
 use Rattle.pg_cancel.specs.LegalHistory.{IsLegal}
-use Rattle.pg_handlers.specs.declared.ends.EndKind.{EndKind}
+use Rattle.pg_client.specs.declared.ends.EndKind.{EndKind}
 use Rattle.pg_handlers.specs.Questions.{questions}
 use Rattle.pg_session.specs.declared.ends.ServeError.{ServeError}
 use Rattle.pg_serve.specs.Desk.{desk_calls}

@@ -5,8 +5,8 @@ use Rattle.pg_cancel.specs.declared.entries.RegistryCall.TheVariants.{Register}
 use Rattle.pg_cancel.specs.declared.entries.RegistryAnswer.TheVariants.{Registered, Taken}
 use Rattle.pg_cancel.specs.Connections.{Connection, Witness, Issuer, Registers, before_last, entry}
 use Rattle.pg_cancel.specs.LegalHistory.{HasPid}
-use Rattle.pg_handlers.specs.declared.ends.EndKind.{EndKind}
-use Rattle.pg_handlers.specs.State.{first_state}
+use Rattle.pg_client.specs.declared.ends.EndKind.{EndKind}
+use Rattle.pg_client.specs.State.{first_state}
 use Rattle.pg_session.specs.declared.ends.ServeError.{ServeError}
 use Rattle.pg_session.specs.declared.ends.ServeError.TheVariants.{WriteFault, NoMemory}
 use Rattle.pg_session.specs.Run.{IsRun}

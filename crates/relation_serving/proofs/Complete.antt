@@ -6,11 +6,11 @@ use Rattle.pg_messages.specs.declared.frontend.PgWireFrontendMessage.{PgWireFron
 use Rattle.pg_messages.specs.declared.backend.PgWireBackendMessage.{PgWireBackendMessage}
 use Rattle.pg_messages.specs.Frames.{DividesInto, IsBad, IsUnfinished, awaits_startup_after_all}
 use Rattle.pg_messages.proofs.OneReading.{division_kept, division_joined, awaits_joined, has_division, one_division}
-use Rattle.pg_handlers.specs.declared.desk.DeskCall.{DeskCall}
-use Rattle.pg_handlers.specs.declared.ends.EndKind.{EndKind}
-use Rattle.pg_handlers.specs.Answer.{Next, answers_of, conversation}
+use Rattle.pg_client.specs.declared.desk.DeskCall.{DeskCall}
+use Rattle.pg_client.specs.declared.ends.EndKind.{EndKind}
+use Rattle.pg_client.specs.Answer.{Next, answers_of, conversation}
 use Rattle.pg_handlers.specs.Questions.{questions, questions_since}
-use Rattle.pg_handlers.specs.State.{State, first_state}
+use Rattle.pg_client.specs.State.{State, first_state}
 use Rattle.pg_session.specs.declared.ends.ServeError.{ServeError}
 use Rattle.pg_session.specs.declared.ends.ServeError.TheVariants as fault
 use Rattle.pg_session.specs.Run.{Rules}

@@ -4,11 +4,11 @@ use Rattle.pg_messages.specs.declared.frontend.PgWireFrontendMessage.{PgWireFron
 use Rattle.pg_messages.specs.declared.backend.PgWireBackendMessage.{PgWireBackendMessage}
 use Rattle.pg_messages.specs.Frames.{IsBad, IsUnfinished}
 use Rattle.pg_messages.specs.Replies.{replies_bytes}
-use Rattle.pg_handlers.specs.declared.desk.DeskCall.{DeskCall}
-use Rattle.pg_handlers.specs.declared.ends.EndKind.{EndKind}
-use Rattle.pg_handlers.specs.declared.ends.EndKind.TheVariants as end
-use Rattle.pg_handlers.specs.Answer.{Answer, Next, Goes, Ends, Stops, BeginsWith, answers_of, conversation}
-use Rattle.pg_handlers.specs.State.{State, first_state}
+use Rattle.pg_client.specs.declared.desk.DeskCall.{DeskCall}
+use Rattle.pg_client.specs.declared.ends.EndKind.{EndKind}
+use Rattle.pg_client.specs.declared.ends.EndKind.TheVariants as end
+use Rattle.pg_client.specs.Answer.{Answer, Next, Goes, Ends, Stops, BeginsWith, answers_of, conversation}
+use Rattle.pg_client.specs.State.{State, first_state}
 use Rattle.pg_handlers.specs.Table.{awaits}
 use Rattle.pg_session.specs.declared.ends.ServeError.{ServeError}
 use Rattle.pg_session.specs.declared.ends.ServeError.TheVariants as fault

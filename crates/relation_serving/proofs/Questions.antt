@@ -10,28 +10,28 @@ use Rattle.pg_messages.specs.declared.frontend.PgWireFrontendMessage.{PgWireFron
 use Rattle.pg_messages.specs.declared.frontend.PgWireFrontendMessage.TheVariants as client
 use Rattle.pg_messages.specs.Frames.{protocol_3_0, protocol_3_2}
 use Rattle.pg_messages.specs.declared.codec.ProtocolVersion.TheVariants.{PROTOCOL3_0}
-use Rattle.pg_portal.specs.declared.client.ClientInfo.{ClientInfo}
-use Rattle.pg_portal.specs.declared.client.PgWireConnectionState.{PgWireConnectionState}
-use Rattle.pg_portal.specs.declared.client.PgWireConnectionState.TheVariants as phase
-use Rattle.pg_portal.specs.declared.portal.Format.{Format}
-use Rattle.pg_portal.specs.declared.portal.Format.TheVariants as format
+use Rattle.pg_results.specs.declared.client.ClientInfo.{ClientInfo}
+use Rattle.pg_results.specs.declared.client.PgWireConnectionState.{PgWireConnectionState}
+use Rattle.pg_results.specs.declared.client.PgWireConnectionState.TheVariants as phase
+use Rattle.pg_results.specs.declared.format.Format.{Format}
+use Rattle.pg_results.specs.declared.format.Format.TheVariants as format
 use Rattle.pg_portal.specs.declared.store.Entry.{Entry}
 use Rattle.pg_portal.specs.declared.store.Entry.TheVariants as entry
-use Rattle.pg_portal.specs.Texts.{is_blank}
+use Rattle.pg_results.specs.Texts.{is_blank}
 use Rattle.pg_portal.specs.Told.{BoundPortal, TablePortal, Stage, Unstarted, Started, Ended}
-use Rattle.pg_portal.specs.Errors.{info_of}
-use Rattle.pg_handlers.specs.declared.desk.DeskCall.{DeskCall}
-use Rattle.pg_handlers.specs.declared.desk.DeskCall.TheVariants as desk
-use Rattle.pg_handlers.specs.Answer.{Answer, Table, Next, Goes, Ends, Stops, conversation, continued, left_by}
-use Rattle.pg_handlers.specs.Errors.{is_fatal}
-use Rattle.pg_handlers.specs.Replies.{Replies}
-use Rattle.pg_handlers.specs.Effect.{Called, Scope, Outcome, Done, Failed, Over, Stopped, settled}
+use Rattle.pg_results.specs.Errors.{info_of}
+use Rattle.pg_client.specs.declared.desk.DeskCall.{DeskCall}
+use Rattle.pg_client.specs.declared.desk.DeskCall.TheVariants as desk
+use Rattle.pg_client.specs.Answer.{Answer, Table, Next, Goes, Ends, Stops, conversation, continued, left_by}
+use Rattle.pg_client.specs.Errors.{is_fatal}
+use Rattle.pg_replies.specs.Replies.{Replies}
+use Rattle.pg_client.specs.Effect.{Called, Scope, Outcome, Done, Failed, Over, Stopped, settled}
 use Rattle.pg_handlers.specs.ExecuteRow.{executed_portal, executed_entry}
 use Rattle.pg_handlers.specs.Handlers.{Handlers}
 use Rattle.pg_handlers.specs.Questions.{questions, questioned, started}
 use Rattle.pg_handlers.specs.SimpleRows.{on_query}
-use Rattle.pg_handlers.specs.StartupRows.{on_cancel_request, tells_less, startup_row}
-use Rattle.pg_handlers.specs.State.{State}
+use Rattle.pg_client.specs.StartupRows.{on_cancel_request, tells_less, startup_row}
+use Rattle.pg_client.specs.State.{State}
 use Rattle.pg_handlers.specs.Table.{ready_row, row, scope_in, whole_table}
 use Rattle.pg_session.proofs.Spending.{questions-append}
 use Rattle.relation_tables.specs.declared.Relation.{Relation}

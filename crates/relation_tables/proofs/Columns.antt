@@ -3,17 +3,17 @@ use Rattle.std.proofs.Common.{◌≡◌, ℕ, zero, suc, ◌+◌, ◌≤◌, ◌
 use Rattle.std.proofs.Math.Path.{ap₂}
 use Rattle.std.specs.List.{AllByRecursion}
 use Rattle.std.specs.Option.{option_map, unwrap_or}
-use Rattle.pg_text.specs.declared.field_format.FieldFormat.{FieldFormat}
-use Rattle.pg_text.specs.declared.field_format.FieldFormat.TheVariants as field
-use Rattle.pg_text.specs.declared.pg_type.PgType.{PgType}
-use Rattle.pg_text.specs.declared.pg_type.PgType.TheVariants as type
-use Rattle.pg_text.specs.Formats.{format_of_code}
-use Rattle.pg_text.specs.Types.{oid_of, types}
-use Rattle.pg_portal.specs.declared.portal.Format.{Format}
-use Rattle.pg_portal.specs.declared.portal.Format.TheVariants as format
-use Rattle.pg_portal.specs.Describing.{is_empty_list}
-use Rattle.pg_portal.specs.Formats.{format_of}
-use Rattle.pg_portal.specs.Statements.{types_of}
+use Rattle.pg_types.specs.declared.field_format.FieldFormat.{FieldFormat}
+use Rattle.pg_types.specs.declared.field_format.FieldFormat.TheVariants as field
+use Rattle.pg_types.specs.declared.pg_type.PgType.{PgType}
+use Rattle.pg_types.specs.declared.pg_type.PgType.TheVariants as type
+use Rattle.pg_types.specs.Formats.{format_of_code}
+use Rattle.pg_types.specs.Types.{oid_of, types}
+use Rattle.pg_results.specs.declared.format.Format.{Format}
+use Rattle.pg_results.specs.declared.format.Format.TheVariants as format
+use Rattle.pg_results.specs.Describing.{is_empty_list}
+use Rattle.pg_results.specs.Formats.{format_of}
+use Rattle.pg_results.specs.Statements.{types_of}
 use Rattle.relation_tables.specs.Relations.{column}
 use Rattle.relation_tables.specs.RelationHandler.{column_formats, column_formats_from, columns_in, given_types}
 use Rattle.relation_tables.specs.CoreTable.{core_oid}

@@ -7,16 +7,16 @@ use Rattle.pg_messages.specs.declared.startup.Terminate.{Terminate}
 use Rattle.pg_messages.specs.declared.frontend.PgWireFrontendMessage.{PgWireFrontendMessage}
 use Rattle.pg_messages.specs.declared.frontend.PgWireFrontendMessage.TheVariants as client
 use Rattle.pg_messages.specs.Frames.{protocol_3_0, protocol_3_2}
-use Rattle.pg_portal.specs.declared.client.PgWireConnectionState.{PgWireConnectionState}
-use Rattle.pg_portal.specs.declared.client.PgWireConnectionState.TheVariants as phase
-use Rattle.pg_portal.specs.declared.error.PgWireError.TheVariants as wire
-use Rattle.pg_handlers.specs.declared.ends.EndKind.TheVariants as end
-use Rattle.pg_handlers.specs.Answer.{Answer, Table, conversation, continued, left_by}
-use Rattle.pg_handlers.specs.Effect.{UntilSync, refuses, silent, settle}
-use Rattle.pg_handlers.specs.Errors.{unsupported_version}
-use Rattle.pg_handlers.specs.Replies.{error_reply}
-use Rattle.pg_handlers.specs.StartupRows.{accepts}
-use Rattle.pg_handlers.specs.State.{State, first_state}
+use Rattle.pg_results.specs.declared.client.PgWireConnectionState.{PgWireConnectionState}
+use Rattle.pg_results.specs.declared.client.PgWireConnectionState.TheVariants as phase
+use Rattle.pg_results.specs.declared.error.PgWireError.TheVariants as wire
+use Rattle.pg_client.specs.declared.ends.EndKind.TheVariants as end
+use Rattle.pg_client.specs.Answer.{Answer, Table, conversation, continued, left_by}
+use Rattle.pg_client.specs.Effect.{UntilSync, refuses, silent, settle}
+use Rattle.pg_client.specs.Errors.{unsupported_version}
+use Rattle.pg_replies.specs.Replies.{error_reply}
+use Rattle.pg_client.specs.StartupRows.{accepts}
+use Rattle.pg_client.specs.State.{State, first_state}
 use Rattle.pg_handlers.specs.Table.{row, scope_in, whole_table, awaits}
 use Rattle.relation_tables.specs.declared.RelationStatement.{RelationStatement}
 use Rattle.relation_tables.specs.Relations.{HaveEvenRows}

@@ -11,12 +11,12 @@ use Rattle.pg_messages.specs.declared.backend.PgWireBackendMessage.TheVariants a
 use Rattle.pg_messages.specs.declared.response.TransactionStatus.TheVariants as status
 use Rattle.pg_messages.specs.Status.{to_error_state}
 use Rattle.pg_messages.specs.Frames.{protocol_3_0, protocol_3_2}
-use Rattle.pg_text.specs.declared.field_format.FieldFormat.TheVariants as field
+use Rattle.pg_types.specs.declared.field_format.FieldFormat.TheVariants as field
 use Rattle.pg_portal.specs.declared.store.Entry.TheVariants as entry
-use Rattle.pg_handlers.specs.declared.desk.DeskCall.TheVariants as desk
-use Rattle.pg_handlers.specs.declared.ends.EndKind.TheVariants as end
-use Rattle.pg_handlers.specs.Answer.{Goes, Ends, Stops}
-use Rattle.pg_handlers.specs.Replies.{startup_replies, done, row_description}
+use Rattle.pg_client.specs.declared.desk.DeskCall.TheVariants as desk
+use Rattle.pg_client.specs.declared.ends.EndKind.TheVariants as end
+use Rattle.pg_client.specs.Answer.{Goes, Ends, Stops}
+use Rattle.pg_replies.specs.Replies.{startup_replies, done, row_description}
 use Rattle.relation_tables.specs.declared.Relation.{Relation}
 use Rattle.relation_tables.specs.declared.RelationStatement.TheVariants as statement
 use Rattle.relation_tables.specs.Relations.{binary_row, column}

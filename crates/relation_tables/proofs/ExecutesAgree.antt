@@ -10,23 +10,24 @@ use Rattle.std.specs.Str.{bytes_eq}
 use Rattle.pg_interval.specs.declared.pg_interval.Interval.{Interval}
 use Rattle.pg_messages.specs.declared.extendedquery.Execute.{Execute}
 use Rattle.pg_messages.specs.Status.{to_in_transaction_state}
-use Rattle.pg_text.specs.declared.field_format.FieldFormat.TheVariants as field
-use Rattle.pg_portal.specs.declared.error.PgWireError.TheVariants as wire
+use Rattle.pg_types.specs.declared.field_format.FieldFormat.TheVariants as field
+use Rattle.pg_results.specs.declared.error.PgWireError.TheVariants as wire
 use Rattle.pg_portal.specs.declared.store.Entry.{Entry}
 use Rattle.pg_portal.specs.declared.store.Entry.TheVariants as entry
-use Rattle.pg_portal.specs.Errors.{info_of}
-use Rattle.pg_portal.specs.Page.{Page, delivered_after, page, is_reached, item_page}
+use Rattle.pg_results.specs.Errors.{info_of}
+use Rattle.pg_results.specs.Page.{Page, delivered_after, page, is_reached, item_page}
 use Rattle.pg_portal.specs.Fetching.{stage_after}
-use Rattle.pg_portal.specs.Told.{TablePortal, Stage, Unstarted, Started, Ended, ToldRows}
-use Rattle.pg_handlers.specs.declared.desk.DeskCall.{DeskCall}
-use Rattle.pg_handlers.specs.declared.ends.EndKind.TheVariants as end
-use Rattle.pg_handlers.specs.Answer.{Answer, Goes, Ends}
-use Rattle.pg_handlers.specs.Effect.{Effect, settled, Outcome, Done, Failed, Over, Stopped, UntilSync}
-use Rattle.pg_handlers.specs.Errors.{is_fatal}
+use Rattle.pg_results.specs.Told.{ToldRows}
+use Rattle.pg_portal.specs.Told.{TablePortal, Stage, Unstarted, Started, Ended}
+use Rattle.pg_client.specs.declared.desk.DeskCall.{DeskCall}
+use Rattle.pg_client.specs.declared.ends.EndKind.TheVariants as end
+use Rattle.pg_client.specs.Answer.{Answer, Goes, Ends}
+use Rattle.pg_client.specs.Effect.{Effect, settled, Outcome, Done, Failed, Over, Stopped, UntilSync}
+use Rattle.pg_client.specs.Errors.{is_fatal}
 use Rattle.pg_handlers.specs.ExecuteRow.{page_effect, at_stage, fetched, fetched_nothing, execute_polled, execute_run, executed_portal, executed_entry, on_execute}
 use Rattle.pg_handlers.specs.Questions.{Verdict, Passed, Canceled, Unanswered, started}
-use Rattle.pg_handlers.specs.Replies.{Replies, row_replies, done_with}
-use Rattle.pg_handlers.specs.State.{State, with_portal}
+use Rattle.pg_replies.specs.Replies.{Replies, row_replies, done_with}
+use Rattle.pg_client.specs.State.{State, with_portal}
 use Rattle.relation_tables.specs.declared.RelationStatement.{RelationStatement}
 use Rattle.relation_tables.specs.declared.RelationStatement.TheVariants as statement
 use Rattle.relation_tables.specs.Relations.{relation_at, binary_row, columns_of, HaveEvenRows}

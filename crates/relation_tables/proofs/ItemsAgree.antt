@@ -6,10 +6,10 @@ use Rattle.std.proofs.lemmas.List.{length-map, take-map}
 use Rattle.std.proofs.Math.Seq.{drop-length}
 use Rattle.pg_interval.specs.declared.pg_interval.Interval.{Interval}
 use Rattle.pg_messages.specs.declared.data.DataRow.{DataRow}
-use Rattle.pg_text.specs.declared.field_format.FieldFormat.TheVariants as field
+use Rattle.pg_types.specs.declared.field_format.FieldFormat.TheVariants as field
 use Rattle.pg_text.specs.declared.format.interval_style.IntervalStyle.{IntervalStyle}
-use Rattle.pg_portal.specs.declared.error.PgWireError.{PgWireError}
-use Rattle.pg_portal.specs.Page.{Page, page, is_reached, ItemPage, AtLimit, AtEnd, item_page, before_error, first_error}
+use Rattle.pg_results.specs.declared.error.PgWireError.{PgWireError}
+use Rattle.pg_results.specs.Page.{Page, page, is_reached, ItemPage, AtLimit, AtEnd, item_page, before_error, first_error}
 use Rattle.relation_tables.specs.declared.Relation.{Relation}
 use Rattle.relation_tables.specs.Relations.{relation_at, binary_row, binary_value, are_even, HaveEvenRows}
 use Rattle.relation_tables.specs.RelationHandler.{in_front, all_or_error, value, row_item, row_of_values}

@@ -5,7 +5,7 @@ use Rattle.std.specs.Ordering.{nat_cmp, eq_by_cmp}
 use Rattle.std.specs.FinMap as fin
 use Rattle.pg_portal.specs.declared.store.Entry.{Entry}
 use Rattle.pg_portal.specs.declared.store.Entry.TheVariants as entry
-use Rattle.pg_portal.specs.Names.{NameMap}
+use Rattle.named_entries.specs.Names.{NameMap}
 
 abbrev pub AgreeEntry : {A B : Type 0} → (A → B → Type 0) → Option (Entry A) → Option (Entry B) → Type 0
 AgreeEntry R None None = Unit {0}

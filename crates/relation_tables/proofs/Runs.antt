@@ -3,7 +3,7 @@ use Rattle.std.proofs.Common.{Bool, List, [], ◌∷◌, ◌++◌, ◌≡◌, re
 use Rattle.std.proofs.Math.Path.{ap₂}
 use Rattle.std.specs.List.{AllByRecursion}
 use Rattle.pg_messages.specs.declared.frontend.PgWireFrontendMessage.{PgWireFrontendMessage}
-use Rattle.pg_handlers.specs.Answer.{Answer, Table, Next, Goes, Ends, Stops, conversation, continued, left_by}
+use Rattle.pg_client.specs.Answer.{Answer, Table, Next, Goes, Ends, Stops, conversation, continued, left_by}
 
 -- both go on in states that agree, or end alike, or both stop
 abbrev pub AgreeNext : {T U : Type 0} → (T → U → Type 0) → Next T → Next U → Type 0

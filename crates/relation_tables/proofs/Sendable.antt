@@ -7,21 +7,21 @@ use Rattle.std.proofs.lemmas.Int.{ints}
 use Rattle.std.proofs.lemmas.List.{length-map}
 use Rattle.pg_messages.specs.Fields.{count16, count32}
 use Rattle.pg_messages.specs.Replies.{IsEncodable, HasNoZero, field_description}
-use Rattle.pg_text.specs.declared.field_format.FieldFormat.{FieldFormat}
-use Rattle.pg_text.specs.declared.pg_type.PgType.{PgType}
-use Rattle.pg_text.specs.declared.pg_type.PgType.TheVariants as type
-use Rattle.pg_text.specs.Types.{oid_of}
-use Rattle.pg_portal.specs.declared.client.ClientInfo.{ClientInfo}
-use Rattle.pg_portal.specs.declared.error.PgWireError.TheVariants as wire
-use Rattle.pg_portal.specs.declared.portal.Format.{Format}
-use Rattle.pg_portal.specs.declared.portal.Format.TheVariants as format
-use Rattle.pg_portal.specs.declared.stmt.StoredStatement.{StoredStatement}
-use Rattle.pg_portal.specs.Fields.{Field, description_of}
-use Rattle.pg_portal.specs.Rows.{IsItemError, IsTellable}
-use Rattle.pg_portal.specs.Texts.{IsShortText, quoted}
+use Rattle.pg_types.specs.declared.field_format.FieldFormat.{FieldFormat}
+use Rattle.pg_types.specs.declared.pg_type.PgType.{PgType}
+use Rattle.pg_types.specs.declared.pg_type.PgType.TheVariants as type
+use Rattle.pg_types.specs.Types.{oid_of}
+use Rattle.pg_results.specs.declared.client.ClientInfo.{ClientInfo}
+use Rattle.pg_results.specs.declared.error.PgWireError.TheVariants as wire
+use Rattle.pg_results.specs.declared.format.Format.{Format}
+use Rattle.pg_results.specs.declared.format.Format.TheVariants as format
+use Rattle.pg_results.specs.declared.stmt.StoredStatement.{StoredStatement}
+use Rattle.pg_results.specs.Fields.{Field, description_of}
+use Rattle.pg_results.specs.Rows.{IsItemError, IsTellable}
+use Rattle.pg_results.specs.Texts.{IsShortText, quoted}
 use Rattle.pg_handlers.specs.Good.{IsSendableOutcome, AreSendable, IsSendableDescription}
-use Rattle.pg_handlers.specs.Replies.{done, row_description, parameter_description}
-use Rattle.pg_handlers.proofs.Encodable.{HasNoZero-append, by_test, select_is_tag}
+use Rattle.pg_replies.specs.Replies.{done, row_description, parameter_description}
+use Rattle.pg_replies.proofs.Encodable.{HasNoZero-append, by_test, select_is_tag}
 use Rattle.pg_handlers.proofs.ErrorTexts.{tellable_error}
 use Rattle.relation_tables.specs.declared.Relation.{Relation}
 use Rattle.relation_tables.specs.declared.RelationStatement.{RelationStatement}

@@ -7,11 +7,11 @@ use Rattle.std.specs.FinMap as fin
 use Rattle.std.specs.Option.{unwrap_or}
 use Rattle.std.proofs.lemmas.List.{reverse-append, length-reverse}
 use Rattle.pg_messages.specs.Replies.{HasNoZero}
-use Rattle.pg_portal.specs.declared.client.ClientInfo.{ClientInfo}
-use Rattle.pg_portal.specs.Clients.{HasShortMetadata}
-use Rattle.pg_portal.specs.Describing.{is_empty_list}
-use Rattle.pg_portal.specs.Texts.{IsShortText, is_padding, is_whitespace}
-use Rattle.pg_handlers.proofs.Encodable.{HasNoZero-append, by_test}
+use Rattle.pg_results.specs.declared.client.ClientInfo.{ClientInfo}
+use Rattle.pg_results.specs.Clients.{HasShortMetadata}
+use Rattle.pg_results.specs.Describing.{is_empty_list}
+use Rattle.pg_results.specs.Texts.{IsShortText, is_padding, is_whitespace}
+use Rattle.pg_replies.proofs.Encodable.{HasNoZero-append, by_test}
 use Rattle.relation_tables.specs.Queries.{trimmed, without_front_padding, words, copied_name, is_word}
 use Rattle.relation_tables.specs.RelationHandler.{style_text}
 

@@ -12,27 +12,27 @@ use Rattle.pg_messages.specs.declared.backend.PgWireBackendMessage.TheVariants a
 use Rattle.pg_messages.specs.declared.codec.ProtocolVersion.{ProtocolVersion}
 use Rattle.pg_messages.specs.declared.codec.ProtocolVersion.TheVariants.{PROTOCOL3_0, PROTOCOL3_2}
 use Rattle.pg_messages.specs.Frames.{protocol_3_0, protocol_3_2, statement_target, portal_target}
-use Rattle.pg_text.specs.declared.pg_type.PgType.{PgType}
-use Rattle.pg_text.specs.declared.field_format.FieldFormat.TheVariants as field
-use Rattle.pg_text.specs.Types.{oid_of}
-use Rattle.pg_portal.specs.declared.error.PgWireError.TheVariants as wire
-use Rattle.pg_portal.specs.declared.portal.Format.TheVariants as format
-use Rattle.pg_portal.specs.declared.stmt.StoredStatement.{StoredStatement}
+use Rattle.pg_types.specs.declared.pg_type.PgType.{PgType}
+use Rattle.pg_types.specs.declared.field_format.FieldFormat.TheVariants as field
+use Rattle.pg_types.specs.Types.{oid_of}
+use Rattle.pg_results.specs.declared.error.PgWireError.TheVariants as wire
+use Rattle.pg_results.specs.declared.format.Format.TheVariants as format
+use Rattle.pg_results.specs.declared.stmt.StoredStatement.{StoredStatement}
 use Rattle.pg_portal.specs.declared.store.Entry.{Entry}
 use Rattle.pg_portal.specs.declared.store.Entry.TheVariants as entry
-use Rattle.pg_portal.specs.Describing.{is_empty_list}
-use Rattle.pg_portal.specs.Fields.{Field}
-use Rattle.pg_portal.specs.Formats.{format_of}
-use Rattle.pg_portal.specs.Statements.{stored}
-use Rattle.pg_portal.specs.Texts.{is_blank}
+use Rattle.pg_results.specs.Describing.{is_empty_list}
+use Rattle.pg_results.specs.Fields.{Field}
+use Rattle.pg_results.specs.Formats.{format_of}
+use Rattle.pg_results.specs.Statements.{stored}
+use Rattle.pg_results.specs.Texts.{is_blank}
 use Rattle.pg_portal.specs.Told.{TablePortal}
-use Rattle.pg_handlers.specs.declared.ends.EndKind.TheVariants as end
-use Rattle.pg_handlers.specs.Errors.{values_for_empty, too_few_codes, unsupported_version}
-use Rattle.pg_handlers.specs.Replies.{ready, startup_replies, error_reply, row_description}
-use Rattle.pg_handlers.specs.State.{State, without_statement, without_portal}
-use Rattle.pg_handlers.specs.StartupRows.{on_startup, accepts, told_key, narrowing}
+use Rattle.pg_client.specs.declared.ends.EndKind.TheVariants as end
+use Rattle.pg_client.specs.Errors.{values_for_empty, too_few_codes, unsupported_version}
+use Rattle.pg_replies.specs.Replies.{ready, startup_replies, error_reply, row_description}
+use Rattle.pg_client.specs.State.{State, without_statement, without_portal}
+use Rattle.pg_client.specs.StartupRows.{on_startup, accepts, told_key, narrowing}
 use Rattle.pg_handlers.specs.ExtendedRows.{on_parse, parsed, parse_complete, on_bind, bound, bind_complete, bound_portal, on_describe, described_statement, described_portal, statement_description, portal_description, on_close, on_sync}
-use Rattle.pg_handlers.specs.Effect.{says, refuses, silent}
+use Rattle.pg_client.specs.Effect.{says, refuses, silent}
 use Rattle.relation_tables.specs.declared.RelationStatement.{RelationStatement}
 use Rattle.relation_tables.specs.Errors.{unknown_relation}
 use Rattle.relation_tables.specs.Queries.{trimmed}

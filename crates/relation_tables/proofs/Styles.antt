@@ -2,19 +2,19 @@
 use Rattle.std.proofs.Common.{◌≡◌, ℕ, List, Option, Some, None, Result, Ok, Err, ◌++◌, refl, ap, sym}
 use Rattle.pg_interval.specs.declared.pg_interval.Interval.{Interval}
 use Rattle.pg_interval.specs.Cell.{interval_cell}
-use Rattle.pg_text.specs.declared.error.CellError.TheVariants as cell
-use Rattle.pg_text.specs.declared.field_format.FieldFormat.{FieldFormat}
-use Rattle.pg_text.specs.declared.field_format.FieldFormat.TheVariants as field
-use Rattle.pg_text.specs.declared.format.FormatOptions.{FormatOptions}
+use Rattle.pg_types.specs.declared.error.CellError.TheVariants as cell
+use Rattle.pg_types.specs.declared.field_format.FieldFormat.{FieldFormat}
+use Rattle.pg_types.specs.declared.field_format.FieldFormat.TheVariants as field
+use Rattle.pg_types.specs.declared.format.FormatOptions.{FormatOptions}
 use Rattle.pg_text.specs.declared.format.interval_style.IntervalStyle.{IntervalStyle}
 use Rattle.pg_text.specs.Cells.{Cell}
 use Rattle.pg_text.specs.Intervals.{interval_text, text_in}
 use Rattle.pg_text.specs.Words.{interval_style_of, or_invalid}
-use Rattle.pg_portal.specs.declared.client.ClientInfo.{ClientInfo}
-use Rattle.pg_portal.specs.declared.error.PgWireError.{PgWireError}
-use Rattle.pg_portal.specs.declared.error.PgWireError.TheVariants as wire
+use Rattle.pg_results.specs.declared.client.ClientInfo.{ClientInfo}
+use Rattle.pg_results.specs.declared.error.PgWireError.{PgWireError}
+use Rattle.pg_results.specs.declared.error.PgWireError.TheVariants as wire
 use Rattle.pg_messages.specs.Fields.{count32}
-use Rattle.pg_text.specs.declared.pg_type.PgType.TheVariants as type
+use Rattle.pg_types.specs.declared.pg_type.PgType.TheVariants as type
 use Rattle.pg_portal.specs.Encoding.{cell_bytes, field_cell}
 use Rattle.pg_interval.proofs.CellLemmas.{length-interval_cell}
 use Rattle.relation_tables.specs.RelationHandler.{style_text, session_style, or_refused, text_of, as_value, value}

@@ -2,12 +2,12 @@
 use Rattle.std.proofs.Common.{◌≡◌, Bool, true, List, [], refl}
 use Rattle.pg_messages.specs.declared.frontend.PgWireFrontendMessage.{PgWireFrontendMessage}
 use Rattle.pg_messages.specs.declared.frontend.PgWireFrontendMessage.TheVariants as client
-use Rattle.pg_portal.specs.declared.client.PgWireConnectionState.{PgWireConnectionState}
-use Rattle.pg_portal.specs.declared.client.PgWireConnectionState.TheVariants as phase
-use Rattle.pg_handlers.specs.Answer.{Answer, Next, Goes, Ends, Stops, conversation}
-use Rattle.pg_handlers.specs.Effect.{UntilSync, silent, settle}
-use Rattle.pg_handlers.specs.StartupRows.{startup_row}
-use Rattle.pg_handlers.specs.State.{State, first_state}
+use Rattle.pg_results.specs.declared.client.PgWireConnectionState.{PgWireConnectionState}
+use Rattle.pg_results.specs.declared.client.PgWireConnectionState.TheVariants as phase
+use Rattle.pg_client.specs.Answer.{Answer, Next, Goes, Ends, Stops, conversation}
+use Rattle.pg_client.specs.Effect.{UntilSync, silent, settle}
+use Rattle.pg_client.specs.StartupRows.{startup_row}
+use Rattle.pg_client.specs.State.{State, first_state}
 use Rattle.pg_handlers.specs.Table.{ready_row, awaiting_sync_row, scope_of, scope_in, row, whole_table, awaits, is_startup_phase}
 use Rattle.relation_tables.specs.declared.RelationStatement.{RelationStatement}
 use Rattle.relation_tables.specs.Relations.{HaveEvenRows}

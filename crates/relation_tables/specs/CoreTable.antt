@@ -18,27 +18,27 @@ use Rattle.pg_messages.specs.declared.backend.PgWireBackendMessage.{PgWireBacken
 use Rattle.pg_messages.specs.declared.backend.PgWireBackendMessage.TheVariants as server
 use Rattle.pg_messages.specs.Status.{to_error_state, to_in_transaction_state}
 use Rattle.pg_messages.specs.Frames.{protocol_3_0, protocol_3_2, statement_target, portal_target}
-use Rattle.pg_text.specs.declared.field_format.FieldFormat.{FieldFormat}
-use Rattle.pg_text.specs.declared.field_format.FieldFormat.TheVariants as field
-use Rattle.pg_text.specs.Types.{type_of_oid}
-use Rattle.pg_portal.specs.declared.error.PgWireError.{PgWireError}
-use Rattle.pg_portal.specs.declared.error.PgWireError.TheVariants as wire
+use Rattle.pg_types.specs.declared.field_format.FieldFormat.{FieldFormat}
+use Rattle.pg_types.specs.declared.field_format.FieldFormat.TheVariants as field
+use Rattle.pg_types.specs.Types.{type_of_oid}
+use Rattle.pg_results.specs.declared.error.PgWireError.{PgWireError}
+use Rattle.pg_results.specs.declared.error.PgWireError.TheVariants as wire
 use Rattle.pg_portal.specs.declared.store.Entry.{Entry}
 use Rattle.pg_portal.specs.declared.store.Entry.TheVariants as entry
-use Rattle.pg_portal.specs.Describing.{is_empty_list}
-use Rattle.pg_portal.specs.Errors.{info_of}
-use Rattle.pg_portal.specs.Names.{NameMap}
-use Rattle.pg_portal.specs.Page.{Page, delivered_after, page}
-use Rattle.pg_portal.specs.Texts.{is_blank}
-use Rattle.pg_handlers.specs.declared.desk.DeskCall.{DeskCall}
-use Rattle.pg_handlers.specs.declared.desk.DeskCall.TheVariants as desk
-use Rattle.pg_handlers.specs.declared.ends.EndKind.{EndKind}
-use Rattle.pg_handlers.specs.declared.ends.EndKind.TheVariants as end
-use Rattle.pg_handlers.specs.Answer.{Answer, Table, Goes, Ends, Stops}
-use Rattle.pg_handlers.specs.Errors.{values_for_empty, too_few_codes, unsupported_version}
+use Rattle.pg_results.specs.Describing.{is_empty_list}
+use Rattle.pg_results.specs.Errors.{info_of}
+use Rattle.named_entries.specs.Names.{NameMap}
+use Rattle.pg_results.specs.Page.{Page, delivered_after, page}
+use Rattle.pg_results.specs.Texts.{is_blank}
+use Rattle.pg_client.specs.declared.desk.DeskCall.{DeskCall}
+use Rattle.pg_client.specs.declared.desk.DeskCall.TheVariants as desk
+use Rattle.pg_client.specs.declared.ends.EndKind.{EndKind}
+use Rattle.pg_client.specs.declared.ends.EndKind.TheVariants as end
+use Rattle.pg_client.specs.Answer.{Answer, Table, Goes, Ends, Stops}
+use Rattle.pg_client.specs.Errors.{values_for_empty, too_few_codes, unsupported_version}
 use Rattle.pg_handlers.specs.Questions.{Verdict, Passed, Canceled, Unanswered, started}
-use Rattle.pg_handlers.specs.Replies.{Replies, error_reply, ready, startup_replies, done, done_with, row_replies, row_description}
-use Rattle.pg_handlers.specs.StartupRows.{told_key, narrowing}
+use Rattle.pg_replies.specs.Replies.{Replies, error_reply, ready, startup_replies, done, done_with, row_replies, row_description}
+use Rattle.pg_client.specs.StartupRows.{told_key, narrowing}
 use Rattle.relation_tables.specs.declared.Relation.{Relation}
 use Rattle.relation_tables.specs.declared.RelationStatement.{RelationStatement}
 use Rattle.relation_tables.specs.declared.RelationStatement.TheVariants as statement

@@ -1,8 +1,8 @@
 -- The error that relations are refused by (PostgreSQL: Error Codes).
 use Rattle.std.specs.Prelude.{ℕ, List, ◌++◌, codes}
 use Rattle.pg_messages.specs.declared.response.ErrorInfo.{ErrorInfo}
-use Rattle.pg_portal.specs.Errors.{error}
-use Rattle.pg_portal.specs.Texts.{quoted}
+use Rattle.pg_results.specs.Errors.{error}
+use Rattle.pg_results.specs.Texts.{quoted}
 
 -- there is no relation of this name
 abbrev pub unknown_relation : List ℕ → ErrorInfo

@@ -3,7 +3,7 @@ use Rattle.std.specs.Prelude.{ℤ, pos, Bool, List, [], ◌∷◌, ◌≡◌, �
 use Rattle.std.specs.List.{AllByRecursion}
 use Rattle.pg_messages.specs.declared.frontend.PgWireFrontendMessage.{PgWireFrontendMessage}
 use Rattle.pg_messages.specs.declared.frontend.PgWireFrontendMessage.TheVariants as client
-use Rattle.pg_handlers.specs.Answer.{Answer, Next, Goes, Ends, Stops}
+use Rattle.pg_client.specs.Answer.{Answer, Next, Goes, Ends, Stops}
 use Rattle.relation_tables.specs.CoreTable.{is_served}
 
 -- result codes for binary alone: they aren't empty, and each is 1

@@ -4,28 +4,29 @@ use Rattle.std.specs.List.{concat, join_with_byte}
 use Rattle.std.specs.FinMap as fin
 use Rattle.pg_interval.specs.declared.pg_interval.Interval.{Interval}
 use Rattle.pg_interval.specs.Printed.{printed}
-use Rattle.pg_text.specs.declared.field_format.FieldFormat.{FieldFormat}
-use Rattle.pg_text.specs.declared.field_format.FieldFormat.TheVariants as field
+use Rattle.pg_types.specs.declared.field_format.FieldFormat.{FieldFormat}
+use Rattle.pg_types.specs.declared.field_format.FieldFormat.TheVariants as field
 use Rattle.pg_text.specs.declared.format.interval_style.IntervalStyle.{IntervalStyle}
-use Rattle.pg_text.specs.declared.pg_type.PgType.{PgType}
-use Rattle.pg_text.specs.declared.pg_type.PgType.TheVariants as type
+use Rattle.pg_types.specs.declared.pg_type.PgType.{PgType}
+use Rattle.pg_types.specs.declared.pg_type.PgType.TheVariants as type
 use Rattle.pg_text.specs.Words.{interval_style_of, printed_style}
-use Rattle.pg_portal.specs.declared.client.ClientInfo.{ClientInfo}
-use Rattle.pg_portal.specs.declared.error.PgWireError.{PgWireError}
-use Rattle.pg_portal.specs.declared.error.PgWireError.TheVariants as wire
-use Rattle.pg_portal.specs.declared.portal.Format.{Format}
-use Rattle.pg_portal.specs.declared.portal.Format.TheVariants as format
-use Rattle.pg_portal.specs.declared.results.describe.DescribePortalResponse.{DescribePortalResponse}
-use Rattle.pg_portal.specs.declared.results.describe.DescribeStatementResponse.{DescribeStatementResponse}
-use Rattle.pg_portal.specs.declared.stmt.StoredStatement.{StoredStatement}
-use Rattle.pg_portal.specs.Copying.{CopyItem}
-use Rattle.pg_portal.specs.Fields.{Field}
-use Rattle.pg_portal.specs.Formats.{format_for}
-use Rattle.pg_portal.specs.Responses as response
-use Rattle.pg_portal.specs.Responses.{ToldResponse}
-use Rattle.pg_portal.specs.Rows.{RowItem}
-use Rattle.pg_portal.specs.Tags.{tag_of}
-use Rattle.pg_portal.specs.Told.{ParserTold, BoundPortal}
+use Rattle.pg_results.specs.declared.client.ClientInfo.{ClientInfo}
+use Rattle.pg_results.specs.declared.error.PgWireError.{PgWireError}
+use Rattle.pg_results.specs.declared.error.PgWireError.TheVariants as wire
+use Rattle.pg_results.specs.declared.format.Format.{Format}
+use Rattle.pg_results.specs.declared.format.Format.TheVariants as format
+use Rattle.pg_results.specs.declared.describe.DescribePortalResponse.{DescribePortalResponse}
+use Rattle.pg_results.specs.declared.describe.DescribeStatementResponse.{DescribeStatementResponse}
+use Rattle.pg_results.specs.declared.stmt.StoredStatement.{StoredStatement}
+use Rattle.pg_results.specs.Copying.{CopyItem}
+use Rattle.pg_results.specs.Fields.{Field}
+use Rattle.pg_results.specs.Formats.{format_for}
+use Rattle.pg_results.specs.Responses as response
+use Rattle.pg_results.specs.Responses.{ToldResponse}
+use Rattle.pg_results.specs.Rows.{RowItem}
+use Rattle.pg_results.specs.Tags.{tag_of}
+use Rattle.pg_results.specs.Told.{ParserTold}
+use Rattle.pg_portal.specs.Told.{BoundPortal}
 use Rattle.pg_handlers.specs.Handlers.{ExtendedTold, SimpleTold, Handlers, ToldQuery}
 use Rattle.pg_handlers.specs.Noop.{noop_copy}
 use Rattle.relation_tables.specs.declared.Relation.{Relation}

@@ -6,10 +6,10 @@ use Rattle.pg_interval.specs.declared.pg_interval.Interval.{Interval}
 use Rattle.pg_interval.specs.Cell.{interval_cell}
 use Rattle.pg_messages.specs.declared.data.DataRow.{DataRow}
 use Rattle.pg_messages.specs.Fields.{count32}
-use Rattle.pg_text.specs.declared.field_format.FieldFormat.{FieldFormat}
-use Rattle.pg_text.specs.declared.pg_type.PgType.TheVariants as type
-use Rattle.pg_text.specs.Options.{default_options}
-use Rattle.pg_portal.specs.Fields.{Field}
+use Rattle.pg_types.specs.declared.field_format.FieldFormat.{FieldFormat}
+use Rattle.pg_types.specs.declared.pg_type.PgType.TheVariants as type
+use Rattle.pg_types.specs.Options.{default_options}
+use Rattle.pg_results.specs.Fields.{Field}
 use Rattle.relation_tables.specs.declared.Relation.{Relation}
 use Rattle.relation_tables.specs.declared.RelationStatement.{RelationStatement}
 use Rattle.relation_tables.specs.declared.RelationStatement.TheVariants as statement

@@ -1,6 +1,6 @@
 -- Which recordings are those of a run.
 use Rattle.std.specs.Prelude.{List}
-use Rattle.pg_handlers.specs.State.{first_state}
+use Rattle.pg_client.specs.State.{first_state}
 use Rattle.pg_session.specs.Run.{IsRun}
 use Rattle.pg_session.specs.Session.{whole_rules}
 use Rattle.recording_text.specs.declared.recording.Recording.{Recording}

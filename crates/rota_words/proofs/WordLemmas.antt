@@ -6,7 +6,7 @@ use Rattle.pg_text.specs.Words.{or_invalid, interval_style_of}
 use Rattle.pg_text.specs.declared.format.interval_style.IntervalStyle.{IntervalStyle}
 use Rattle.rota_moments.specs.Texts.{IsReading}
 use Rattle.rota_words.specs.Orders.{Named, OrderLines, OrderClashes}
-use Rattle.pg_text.specs.declared.error.CellError.{CellError}
+use Rattle.pg_types.specs.declared.error.CellError.{CellError}
 
 -- an answer of a reader that is Ok is the value that is named
 pub style_read : {T : Type 0} (text : List ℕ) (o : Option T) (x : T) → IsRead (or_invalid text o) (Ok x) → Some x ≡ o

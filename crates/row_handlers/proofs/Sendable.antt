@@ -6,9 +6,9 @@ use Rattle.std.proofs.lemmas.Int.{ints}
 use Rattle.std.proofs.lemmas.List.{length-map}
 use Rattle.pg_messages.specs.Fields.{count16, count32}
 use Rattle.pg_messages.specs.Replies.{IsEncodable}
-use Rattle.pg_text.specs.declared.pg_type.PgType.{PgType}
-use Rattle.pg_text.specs.Types.{oid_of}
-use Rattle.pg_handlers.specs.Replies.{parameter_description}
+use Rattle.pg_types.specs.declared.pg_type.PgType.{PgType}
+use Rattle.pg_types.specs.Types.{oid_of}
+use Rattle.pg_replies.specs.Replies.{parameter_description}
 
 oids_len : (oids : List ℕ) → length (flat_map count32 oids) ≡ 4 * length oids
 oids_len [] = refl

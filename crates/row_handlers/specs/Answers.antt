@@ -1,13 +1,13 @@
 -- What a server answers its queries with: what they mean, and the rows that they have.
 use Rattle.std.specs.Prelude.{ℕ, ℤ, List, Option, None, Result, Ok, Err, unwrap_or}
-use Rattle.pg_text.specs.declared.pg_type.PgType.{PgType}
-use Rattle.pg_text.specs.declared.field_format.FieldFormat.{FieldFormat}
-use Rattle.pg_text.specs.declared.field_format.FieldFormat.TheVariants as field
-use Rattle.pg_portal.specs.Fields.{Field, plain_field}
-use Rattle.pg_portal.specs.Formats.{format_for}
-use Rattle.pg_portal.specs.Rows.{RowItem}
-use Rattle.pg_portal.specs.declared.error.PgWireError.{PgWireError}
-use Rattle.pg_portal.specs.declared.portal.Format.{Format}
+use Rattle.pg_types.specs.declared.pg_type.PgType.{PgType}
+use Rattle.pg_types.specs.declared.field_format.FieldFormat.{FieldFormat}
+use Rattle.pg_types.specs.declared.field_format.FieldFormat.TheVariants as field
+use Rattle.pg_results.specs.Fields.{Field, plain_field}
+use Rattle.pg_results.specs.Formats.{format_for}
+use Rattle.pg_results.specs.Rows.{RowItem}
+use Rattle.pg_results.specs.declared.error.PgWireError.{PgWireError}
+use Rattle.pg_results.specs.declared.format.Format.{Format}
 
 -- The statement of a query, whose types are None in a simple one; the types of a statement's parameters; its columns in formats; and
 -- its rows with parameters, in the formats of these, and in the formats of the columns.

@@ -1,13 +1,13 @@
 -- What handlers tell that answer each query with rows.
 use Rattle.std.specs.Prelude.{ℕ, true, List, [], ◌∷◌, Option, Some, None, Result, Ok, Err, unwrap_or, codes}
-use Rattle.pg_portal.specs.Fields.{Field}
-use Rattle.pg_portal.specs.Responses as response
-use Rattle.pg_portal.specs.Responses.{ToldResponse}
-use Rattle.pg_portal.specs.Rows.{RowItem}
-use Rattle.pg_portal.specs.Told.{ParserTold}
-use Rattle.pg_portal.specs.declared.error.PgWireError.{PgWireError}
-use Rattle.pg_portal.specs.declared.portal.Format.{Format}
-use Rattle.pg_portal.specs.declared.portal.Format.TheVariants as format
+use Rattle.pg_results.specs.Fields.{Field}
+use Rattle.pg_results.specs.Responses as response
+use Rattle.pg_results.specs.Responses.{ToldResponse}
+use Rattle.pg_results.specs.Rows.{RowItem}
+use Rattle.pg_results.specs.Told.{ParserTold}
+use Rattle.pg_results.specs.declared.error.PgWireError.{PgWireError}
+use Rattle.pg_results.specs.declared.format.Format.{Format}
+use Rattle.pg_results.specs.declared.format.Format.TheVariants as format
 use Rattle.pg_handlers.specs.Handlers.{ExtendedTold, Handlers, SimpleTold, ToldQuery, handlers_of}
 use Rattle.pg_handlers.specs.Noop.{noop_copy}
 use Rattle.row_handlers.specs.Answers.{AnswersTold}

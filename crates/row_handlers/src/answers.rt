@@ -3,10 +3,10 @@
 ghost use Rattle.std.specs.Prelude.{◌≡◌, ◌≤◌, IfOk, IfErr, length};
 ghost use Rattle.std.specs.Option.{option_copied};
 ghost use Rattle.pg_messages.specs.Replies.{IsEncodable};
-ghost use Rattle.pg_portal.specs.Rows.{IsAnswerableItem};
-ghost use Rattle.pg_portal.specs.Texts.{IsShortText};
-ghost use Rattle.pg_portal.specs.Told.{IsOutcome};
-ghost use Rattle.pg_handlers.specs.Replies.{row_description};
+ghost use Rattle.pg_results.specs.Rows.{IsAnswerableItem};
+ghost use Rattle.pg_results.specs.Texts.{IsShortText};
+ghost use Rattle.pg_results.specs.Told.{IsOutcome};
+ghost use Rattle.pg_replies.specs.Replies.{row_description};
 ghost use Rattle.row_handlers.specs.Answers.{AnswersTold, items_of};
 
 use pg_messages::{PgBytes, PgList};

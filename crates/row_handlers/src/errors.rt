@@ -1,8 +1,8 @@
 //! Errors of one's own.
 
 ghost use Rattle.std.specs.Prelude.{◌≡◌, IfOk};
-ghost use Rattle.pg_portal.specs.Errors.{error};
-ghost use Rattle.pg_portal.specs.declared.error.PgWireError.TheVariants as wire;
+ghost use Rattle.pg_results.specs.Errors.{error};
+ghost use Rattle.pg_results.specs.declared.error.PgWireError.TheVariants as wire;
 
 use pg_messages::{ErrorInfo, PgStr};
 use pg_portal::PgWireError;

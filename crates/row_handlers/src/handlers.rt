@@ -2,10 +2,10 @@
 
 ghost use Rattle.std.specs.Prelude.{◌≡◌, [], IfOk, IfErr};
 ghost use Rattle.std.specs.List.{AllByRecursion};
-ghost use Rattle.pg_portal.specs.Responses.{told_responses};
-ghost use Rattle.pg_portal.specs.Rows.{IsAnswerableItem};
-ghost use Rattle.pg_portal.specs.Texts.{IsShortText};
-ghost use Rattle.pg_portal.specs.Told.{IsOutcome};
+ghost use Rattle.pg_results.specs.Responses.{told_responses};
+ghost use Rattle.pg_results.specs.Rows.{IsAnswerableItem};
+ghost use Rattle.pg_results.specs.Texts.{IsShortText};
+ghost use Rattle.pg_results.specs.Told.{IsOutcome};
 ghost use Rattle.pg_handlers.specs.Good.{IsSendableResponse};
 ghost use Rattle.pg_handlers.specs.Handlers.{told_all};
 

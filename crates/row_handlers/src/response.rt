@@ -3,12 +3,12 @@
 ghost use Rattle.std.specs.Prelude.{◌≡◌, ◌↔◌, [], Some, Err, IfOk, IfErr, IsErr};
 ghost use Rattle.pg_handlers.specs.Good.{IsSendableResponse};
 ghost use Rattle.pg_handlers.specs.Handlers.{told_one};
-ghost use Rattle.pg_portal.specs.Responses as response;
-ghost use Rattle.pg_portal.specs.Responses.{told_response};
-ghost use Rattle.pg_portal.specs.Rows.{IsAnswerableItem};
-ghost use Rattle.pg_portal.specs.Texts.{IsShortText};
-ghost use Rattle.pg_portal.specs.Told.{IsOutcome, told_rows};
-ghost use Rattle.pg_portal.specs.declared.error.PgWireError.TheVariants as wire;
+ghost use Rattle.pg_results.specs.Responses as response;
+ghost use Rattle.pg_results.specs.Responses.{told_response};
+ghost use Rattle.pg_results.specs.Rows.{IsAnswerableItem};
+ghost use Rattle.pg_results.specs.Texts.{IsShortText};
+ghost use Rattle.pg_results.specs.Told.{IsOutcome, told_rows};
+ghost use Rattle.pg_results.specs.declared.error.PgWireError.TheVariants as wire;
 ghost use Rattle.row_handlers.specs.Told.{answer_of, rows_under, simple_answer};
 
 use crate::answers::RowAnswers;

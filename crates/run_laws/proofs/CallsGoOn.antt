@@ -3,9 +3,9 @@ use Rattle.std.proofs.Common.{◌≡◌, ℕ, Bool, List, [], ◌∷◌, ◌++�
 use Rattle.pg_messages.specs.declared.frontend.PgWireFrontendMessage.{PgWireFrontendMessage}
 use Rattle.pg_messages.specs.Frames.{DividesInto, awaits_startup_after}
 use Rattle.pg_messages.proofs.OneReading.{one_frame, division_kept}
-use Rattle.pg_handlers.specs.declared.desk.DeskCall.{DeskCall}
-use Rattle.pg_handlers.specs.declared.ends.EndKind.{EndKind}
-use Rattle.pg_handlers.specs.Answer.{Answer, Next, Goes, Ends, Stops, BeginsWith, answers_of, left_by, conversation, continued, joined}
+use Rattle.pg_client.specs.declared.desk.DeskCall.{DeskCall}
+use Rattle.pg_client.specs.declared.ends.EndKind.{EndKind}
+use Rattle.pg_client.specs.Answer.{Answer, Next, Goes, Ends, Stops, BeginsWith, answers_of, left_by, conversation, continued, joined}
 use Rattle.pg_handlers.specs.Lawful.{IsMade, IsLawful}
 use Rattle.pg_session.specs.Run.{Rules, IsRun, EndsWith}
 use Rattle.run_laws.specs.Steady.{IsSteady, IsCalledSoFar, AgreeAsFar}

@@ -5,10 +5,10 @@ use Rattle.pg_messages.specs.declared.frontend.PgWireFrontendMessage.{PgWireFron
 use Rattle.pg_messages.specs.Frames.{DividesInto, IsFrame, IsBad, IsUnfinished, awaits_startup_after}
 use Rattle.pg_messages.specs.Replies.{replies_bytes}
 use Rattle.pg_messages.proofs.OneReading.{one_frame, frame_finished, frame_not_bad}
-use Rattle.pg_handlers.specs.declared.desk.DeskCall.{DeskCall}
-use Rattle.pg_handlers.specs.declared.ends.EndKind.{EndKind}
-use Rattle.pg_handlers.specs.declared.ends.EndKind.TheVariants.{Terminate, InputEnd, BadFrame, Fatal, CancelServed}
-use Rattle.pg_handlers.specs.Answer.{Answer, Next, Goes, Ends, Stops, answers_of, left_by, conversation, continued, joined}
+use Rattle.pg_client.specs.declared.desk.DeskCall.{DeskCall}
+use Rattle.pg_client.specs.declared.ends.EndKind.{EndKind}
+use Rattle.pg_client.specs.declared.ends.EndKind.TheVariants.{Terminate, InputEnd, BadFrame, Fatal, CancelServed}
+use Rattle.pg_client.specs.Answer.{Answer, Next, Goes, Ends, Stops, answers_of, left_by, conversation, continued, joined}
 use Rattle.pg_handlers.specs.Lawful.{IsMade, IsLawful}
 use Rattle.pg_session.specs.Run.{Rules, IsRun, EndsWith}
 

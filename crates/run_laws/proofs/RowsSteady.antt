@@ -14,36 +14,37 @@ use Rattle.pg_messages.specs.declared.frontend.PgWireFrontendMessage.TheVariants
 use Rattle.pg_messages.specs.declared.backend.PgWireBackendMessage.TheVariants as server
 use Rattle.pg_messages.specs.declared.codec.ProtocolVersion.TheVariants.{PROTOCOL3_0, PROTOCOL3_2}
 use Rattle.pg_messages.specs.Frames.{protocol_3_0, protocol_3_2, statement_target, portal_target}
-use Rattle.pg_portal.specs.declared.client.PgWireConnectionState.{PgWireConnectionState}
-use Rattle.pg_portal.specs.declared.client.PgWireConnectionState.TheVariants as phase
-use Rattle.pg_portal.specs.declared.error.PgWireError.{PgWireError}
-use Rattle.pg_portal.specs.declared.error.PgWireError.TheVariants as wire
-use Rattle.pg_portal.specs.declared.stmt.StoredStatement.{StoredStatement}
+use Rattle.pg_results.specs.declared.client.PgWireConnectionState.{PgWireConnectionState}
+use Rattle.pg_results.specs.declared.client.PgWireConnectionState.TheVariants as phase
+use Rattle.pg_results.specs.declared.error.PgWireError.{PgWireError}
+use Rattle.pg_results.specs.declared.error.PgWireError.TheVariants as wire
+use Rattle.pg_results.specs.declared.stmt.StoredStatement.{StoredStatement}
 use Rattle.pg_portal.specs.declared.store.Entry.{Entry}
 use Rattle.pg_portal.specs.declared.store.Entry.TheVariants as entry
-use Rattle.pg_portal.specs.Describing.{is_empty_list}
-use Rattle.pg_portal.specs.Fields.{Field}
-use Rattle.pg_portal.specs.Page.{PageEnd, AtLimit, AtEnd, AtError, delivered_after, item_page}
+use Rattle.pg_results.specs.Describing.{is_empty_list}
+use Rattle.pg_results.specs.Fields.{Field}
+use Rattle.pg_results.specs.Page.{PageEnd, AtLimit, AtEnd, AtError, delivered_after, item_page}
 use Rattle.pg_portal.specs.Fetching.{stage_after}
-use Rattle.pg_portal.specs.Responses as response
-use Rattle.pg_portal.specs.Responses.{ToldResponse}
-use Rattle.pg_portal.specs.Statements.{prepared}
-use Rattle.pg_portal.specs.Texts.{is_blank}
-use Rattle.pg_portal.specs.Told.{TablePortal, Stage, Unstarted, Started, Ended, ToldRows}
-use Rattle.pg_handlers.specs.declared.desk.DeskCall.TheVariants as desk
-use Rattle.pg_handlers.specs.Answer.{BeginsWith, answers_of}
+use Rattle.pg_results.specs.Responses as response
+use Rattle.pg_results.specs.Responses.{ToldResponse}
+use Rattle.pg_results.specs.Statements.{prepared}
+use Rattle.pg_results.specs.Texts.{is_blank}
+use Rattle.pg_results.specs.Told.{ToldRows}
+use Rattle.pg_portal.specs.Told.{TablePortal, Stage, Unstarted, Started, Ended}
+use Rattle.pg_client.specs.declared.desk.DeskCall.TheVariants as desk
+use Rattle.pg_client.specs.Answer.{BeginsWith, answers_of}
 use Rattle.pg_handlers.specs.CopyRows.{stepped, copied, copy_row}
-use Rattle.pg_handlers.specs.Effect.{Effect, Called, Row, Outcome, Stopped, says, refuses, silent}
-use Rattle.pg_handlers.specs.Errors.{unsupported_version, too_few_codes, values_for_empty}
+use Rattle.pg_client.specs.Effect.{Effect, Called, Row, Outcome, Stopped, says, refuses, silent}
+use Rattle.pg_client.specs.Errors.{unsupported_version, too_few_codes, values_for_empty}
 use Rattle.pg_handlers.specs.ExecuteRow.{at_stage, page_effect, sent_in_execute, fetched, fetched_nothing, executed, execute_polled, executed_nothing, executed_portal, executed_entry}
 use Rattle.pg_handlers.specs.ExtendedRows.{bind_complete, parsed, bound_portal, bound_with_columns, bound, described, described_statement, described_portal, statement_description, portal_description, on_describe}
 use Rattle.pg_handlers.specs.Handlers.{Handlers}
 use Rattle.pg_handlers.specs.Questions.{Verdict, Passed, Canceled, Unanswered, Questioned, questioned, started, after_call}
-use Rattle.pg_handlers.specs.Replies.{Replies, ready}
-use Rattle.pg_handlers.specs.ResponseRows.{Sent, responded}
+use Rattle.pg_replies.specs.Replies.{Replies, ready}
+use Rattle.pg_replies.specs.ResponseRows.{Sent, responded}
 use Rattle.pg_handlers.specs.SimpleRows.{answered, responded_all, query_polled, query_run}
-use Rattle.pg_handlers.specs.StartupRows.{accepts, startup_row, on_startup, on_cancel_request}
-use Rattle.pg_handlers.specs.State.{State, in_phase, with_portal}
+use Rattle.pg_client.specs.StartupRows.{accepts, startup_row, on_startup, on_cancel_request}
+use Rattle.pg_client.specs.State.{State, in_phase, with_portal}
 use Rattle.pg_handlers.specs.Table.{statement_row, ready_row, awaiting_sync_row, row}
 
 -- ---- questions

@@ -1,8 +1,8 @@
 -- Answers of a script, in its order, and no past its end.
 use Rattle.std.proofs.Common.{◌≡◌, ℕ, zero, suc, ◌+◌, ◌-◌, ◌≤◌, Bool, List, [], ◌∷◌, ◌++◌, refl, ap, sym, ◌∙◌, length, drop, arith, inl, inr, ⊎_elim}
 use Rattle.std.proofs.lemmas.Bool.{cases_lt}
-use Rattle.pg_handlers.specs.Answer.{BeginsWith}
-use Rattle.pg_handlers.specs.Script.{first_or_no, scripted}
+use Rattle.pg_client.specs.Answer.{BeginsWith}
+use Rattle.pg_client.specs.Script.{first_or_no, scripted}
 use Rattle.run_laws.specs.Steady.{AgreeAsFar}
 
 drop_one_more : (n : ℕ) (xs : List Bool) → drop n (drop 1 xs) ≡ drop (suc n) xs

@@ -6,12 +6,12 @@ use Rattle.pg_messages.specs.declared.frontend.PgWireFrontendMessage.{PgWireFron
 use Rattle.pg_messages.specs.Frames.{IsBad, IsUnfinished, awaits_startup_after, awaits_startup_after_all}
 use Rattle.pg_messages.specs.Replies.{replies_bytes}
 use Rattle.pg_messages.proofs.OneReading.{has_division}
-use Rattle.pg_handlers.specs.declared.ends.EndKind.{EndKind}
-use Rattle.pg_handlers.specs.declared.ends.EndKind.TheVariants.{InputEnd, BadFrame}
-use Rattle.pg_handlers.specs.Answer.{Answer, Next, Goes, Ends, Stops, answers_of, left_by, conversation, continued, joined}
+use Rattle.pg_client.specs.declared.ends.EndKind.{EndKind}
+use Rattle.pg_client.specs.declared.ends.EndKind.TheVariants.{InputEnd, BadFrame}
+use Rattle.pg_client.specs.Answer.{Answer, Next, Goes, Ends, Stops, answers_of, left_by, conversation, continued, joined}
 use Rattle.pg_handlers.specs.Lawful.{IsMade, IsLawful}
-use Rattle.pg_handlers.specs.Script.{scripted}
-use Rattle.pg_handlers.proofs.Scripts.{answers_of-append}
+use Rattle.pg_client.specs.Script.{scripted}
+use Rattle.pg_client.proofs.Scripts.{answers_of-append}
 use Rattle.pg_session.specs.Run.{Rules, EndsWith}
 use Rattle.run_laws.specs.Steady.{IsSteady, HasScriptedRun}
 use Rattle.run_laws.proofs.Scripted.{scripted_more, scripted_front, length_scripted}

@@ -2,11 +2,11 @@
 use Rattle.std.specs.Prelude.{ℕ, Bool, List, ◌++◌, ◌≡◌, ◌≤◌, ◌⊎◌, length}
 use Rattle.pg_messages.specs.declared.frontend.PgWireFrontendMessage.{PgWireFrontendMessage}
 use Rattle.pg_messages.specs.Frames.{DividesInto}
-use Rattle.pg_handlers.specs.declared.desk.DeskCall.{DeskCall}
-use Rattle.pg_handlers.specs.declared.ends.EndKind.{EndKind}
-use Rattle.pg_handlers.specs.Answer.{Table, BeginsWith, answers_of, conversation}
+use Rattle.pg_client.specs.declared.desk.DeskCall.{DeskCall}
+use Rattle.pg_client.specs.declared.ends.EndKind.{EndKind}
+use Rattle.pg_client.specs.Answer.{Table, BeginsWith, answers_of, conversation}
 use Rattle.pg_handlers.specs.Lawful.{IsMade}
-use Rattle.pg_handlers.specs.Script.{scripted}
+use Rattle.pg_client.specs.Script.{scripted}
 use Rattle.pg_session.specs.Run.{Rules, IsRun}
 
 -- More answers add calls only behind those that there are. A message is answered the same under the very answers that its calls tell, and

@@ -1,12 +1,12 @@
 //! Laws of runs. The functions take nothing and do nothing: their contracts are the laws.
 
 ghost use Rattle.std.specs.Prelude.{◌≡◌, ◌++◌, ℕ, Bool, List};
-ghost use Rattle.pg_handlers.specs.Answer.{BeginsWith, answers_of};
+ghost use Rattle.pg_client.specs.Answer.{BeginsWith, answers_of};
 ghost use Rattle.pg_handlers.specs.Handlers.{Handlers};
 ghost use Rattle.pg_handlers.specs.Lawful.{IsLawful};
 ghost use Rattle.pg_handlers.specs.Table.{whole_table};
-ghost use Rattle.pg_handlers.specs.declared.desk.DeskCall.{DeskCall};
-ghost use Rattle.pg_handlers.specs.declared.ends.EndKind.{EndKind};
+ghost use Rattle.pg_client.specs.declared.desk.DeskCall.{DeskCall};
+ghost use Rattle.pg_client.specs.declared.ends.EndKind.{EndKind};
 ghost use Rattle.pg_session.specs.Run.{Rules, IsRun};
 ghost use Rattle.run_laws.specs.Steady.{IsSteady, IsCalledSoFar, AgreeAsFar, HasScriptedRun};
 

@@ -4,14 +4,14 @@ use Rattle.std.specs.Fmt.{decimal}
 use Rattle.std.proofs.lemmas.Fmt.{length-decimal-le}
 use Rattle.std.specs.List.{AllByRecursion}
 use Rattle.pg_messages.specs.Replies.{IsEncodable}
-use Rattle.pg_text.specs.declared.field_format.FieldFormat.{FieldFormat}
-use Rattle.pg_portal.specs.declared.portal.Format.{Format}
-use Rattle.pg_portal.specs.declared.portal.Format.TheVariants as format
-use Rattle.pg_portal.specs.Rows.{IsItemError}
-use Rattle.pg_portal.specs.Tags.{spaced, tag_text}
+use Rattle.pg_types.specs.declared.field_format.FieldFormat.{FieldFormat}
+use Rattle.pg_results.specs.declared.format.Format.{Format}
+use Rattle.pg_results.specs.declared.format.Format.TheVariants as format
+use Rattle.pg_results.specs.Rows.{IsItemError}
+use Rattle.pg_results.specs.Tags.{spaced, tag_text}
 use Rattle.pg_handlers.specs.Good.{IsSendableResponse}
-use Rattle.pg_handlers.specs.Replies.{done, row_description}
-use Rattle.pg_handlers.proofs.Encodable.{HasNoZero-append, HasNoZero-decimal, by_test, select_is_tag}
+use Rattle.pg_replies.specs.Replies.{done, row_description}
+use Rattle.pg_replies.proofs.Encodable.{HasNoZero-append, HasNoZero-decimal, by_test, select_is_tag}
 use Rattle.pg_handlers.proofs.ErrorTexts.{tellable_error}
 use Rattle.sample_handlers.specs.declared.meaning.SampleStatement.{SampleStatement}
 use Rattle.sample_handlers.specs.declared.meaning.SampleStatement.TheVariants as statement

@@ -4,26 +4,26 @@ use Rattle.std.specs.List.{flat_map}
 use Rattle.pg_messages.specs.declared.codec.ProtocolVersion.{ProtocolVersion}
 use Rattle.pg_messages.specs.declared.codec.ProtocolVersion.TheVariants as protocol
 use Rattle.pg_messages.specs.declared.data.DataRow.{DataRow}
-use Rattle.pg_text.specs.declared.field_format.FieldFormat.{FieldFormat}
-use Rattle.pg_text.specs.declared.field_format.FieldFormat.TheVariants as field
-use Rattle.pg_text.specs.declared.pg_type.PgType.TheVariants as type
-use Rattle.pg_portal.specs.declared.client.ClientInfo.{ClientInfo}
-use Rattle.pg_portal.specs.declared.error.PgWireError.{PgWireError}
-use Rattle.pg_portal.specs.declared.error.PgWireError.TheVariants as wire
-use Rattle.pg_portal.specs.declared.portal.Format.{Format}
-use Rattle.pg_portal.specs.declared.portal.Format.TheVariants as format
-use Rattle.pg_portal.specs.declared.results.tag.Tag.{Tag}
-use Rattle.pg_portal.specs.Copying.{CopyItem, has_trailer}
+use Rattle.pg_types.specs.declared.field_format.FieldFormat.{FieldFormat}
+use Rattle.pg_types.specs.declared.field_format.FieldFormat.TheVariants as field
+use Rattle.pg_types.specs.declared.pg_type.PgType.TheVariants as type
+use Rattle.pg_results.specs.declared.client.ClientInfo.{ClientInfo}
+use Rattle.pg_results.specs.declared.error.PgWireError.{PgWireError}
+use Rattle.pg_results.specs.declared.error.PgWireError.TheVariants as wire
+use Rattle.pg_results.specs.declared.format.Format.{Format}
+use Rattle.pg_results.specs.declared.format.Format.TheVariants as format
+use Rattle.pg_results.specs.declared.tag.Tag.{Tag}
+use Rattle.pg_results.specs.Copying.{CopyItem, has_trailer}
 use Rattle.pg_portal.specs.Encoding.{cell_bytes}
-use Rattle.pg_portal.specs.Errors.{error}
-use Rattle.pg_portal.specs.Fields.{Field, plain_field}
-use Rattle.pg_portal.specs.Formats.{format_for}
-use Rattle.pg_portal.specs.Responses as response
-use Rattle.pg_portal.specs.Responses.{ToldCopy, ToldResponse}
-use Rattle.pg_portal.specs.Rows.{RowItem}
-use Rattle.pg_portal.specs.Tags.{tag_of, tag_with_oid, tag_with_rows}
-use Rattle.pg_portal.specs.Told.{ParserTold, ToldRows}
-use Rattle.pg_handlers.specs.Errors.{copy_given_up}
+use Rattle.pg_results.specs.Errors.{error}
+use Rattle.pg_results.specs.Fields.{Field, plain_field}
+use Rattle.pg_results.specs.Formats.{format_for}
+use Rattle.pg_results.specs.Responses as response
+use Rattle.pg_results.specs.Responses.{ToldCopy, ToldResponse}
+use Rattle.pg_results.specs.Rows.{RowItem}
+use Rattle.pg_results.specs.Tags.{tag_of, tag_with_oid, tag_with_rows}
+use Rattle.pg_results.specs.Told.{ParserTold, ToldRows}
+use Rattle.pg_client.specs.Errors.{copy_given_up}
 use Rattle.pg_handlers.specs.Handlers.{CopyStep, CopyTold, ExtendedTold, Handlers, SimpleTold, ToldQuery, handlers_of}
 use Rattle.pg_handlers.specs.Noop.{noop_copy}
 use Rattle.sample_handlers.specs.declared.copying.SampleCopying.{SampleCopying}

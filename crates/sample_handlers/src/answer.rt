@@ -1,9 +1,9 @@
 //! What sample statements are answered.
 
 ghost use Rattle.std.specs.Prelude.{◌≡◌, IfOk, map};
-ghost use Rattle.pg_portal.specs.Responses as told;
-ghost use Rattle.pg_portal.specs.Responses.{told_copy, told_response, told_responses};
-ghost use Rattle.pg_portal.specs.declared.portal.Format.TheVariants as format;
+ghost use Rattle.pg_results.specs.Responses as told;
+ghost use Rattle.pg_results.specs.Responses.{told_copy, told_response, told_responses};
+ghost use Rattle.pg_results.specs.declared.format.Format.TheVariants as format;
 ghost use Rattle.sample_handlers.specs.Told.{column_format, copy_told, data_left, pair_items, broken_items, long_items, polls_of, rows_told, response_of};
 
 use crate::columns::{column_format, columns};

@@ -1,9 +1,9 @@
 //! The columns of sample rows.
 
 ghost use Rattle.std.specs.Prelude.{◌≡◌, None, IfOk};
-ghost use Rattle.pg_portal.specs.Fields.{plain_field};
+ghost use Rattle.pg_results.specs.Fields.{plain_field};
 ghost use Rattle.pg_messages.specs.Replies.{IsEncodable};
-ghost use Rattle.pg_handlers.specs.Replies.{row_description};
+ghost use Rattle.pg_replies.specs.Replies.{row_description};
 ghost use Rattle.sample_handlers.specs.Told.{column_format, columns, columns_of};
 
 use crate::meaning::SampleStatement;

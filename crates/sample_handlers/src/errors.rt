@@ -1,8 +1,8 @@
 //! Errors of sample queries.
 
 ghost use Rattle.std.specs.Prelude.{◌≡◌, IfOk};
-ghost use Rattle.pg_portal.specs.Errors.{error};
-ghost use Rattle.pg_portal.specs.Rows.{IsItemError};
+ghost use Rattle.pg_results.specs.Errors.{error};
+ghost use Rattle.pg_results.specs.Rows.{IsItemError};
 ghost use Rattle.sample_handlers.specs.Told.{division_by_zero, not_known};
 
 use pg_messages::{ErrorInfo, PgStr};

@@ -2,7 +2,7 @@
 
 ghost use Rattle.std.specs.Prelude.{◌≡◌, ◌≤◌, ◌∷◌, ◌++◌, [], pos, Ok, Err, IfOk, OnOk, length};
 ghost use Rattle.std.specs.List.{AllByRecursion};
-ghost use Rattle.pg_portal.specs.Rows.{IsSendable};
+ghost use Rattle.pg_results.specs.Rows.{IsSendable};
 ghost use Rattle.sample_handlers.specs.Told.{division_by_zero, first_row, pair_items, broken_items, long_items};
 
 use crate::errors::division_by_zero;

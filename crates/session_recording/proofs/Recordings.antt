@@ -2,9 +2,9 @@
 use Rattle.std.proofs.Common.{◌≡◌, ℕ, ℤ, ◌≤◌, ◌<◌, ◌∙◌, min, max, Bool, true, false, List, ◌++◌, [], Option, Some, None, Result, Ok, Err, refl, append_assoc, append-nil, ap, sym, subst, length, take, drop, replicate, arith}
 use Rattle.std.specs.Prelude.{IfSome, IfOk, IfErr, ◌^◌}
 use Rattle.std.proofs.lemmas.List.{take-append-drop, append_cancel_left, append_cancel_right, length-replicate, take_all}
-use Rattle.pg_handlers.specs.declared.desk.DeskCall.{DeskCall}
-use Rattle.pg_handlers.specs.declared.ends.EndKind.{EndKind}
-use Rattle.pg_handlers.specs.State.{first_state}
+use Rattle.pg_client.specs.declared.desk.DeskCall.{DeskCall}
+use Rattle.pg_client.specs.declared.ends.EndKind.{EndKind}
+use Rattle.pg_client.specs.State.{first_state}
 use Rattle.pg_session.specs.declared.ends.ServeError.{ServeError}
 use Rattle.pg_session.specs.declared.ends.ServeError.TheVariants.{ReadFault, WriteFault, TurnLimit, NoMemory}
 use Rattle.pg_session.specs.Run.{IsRun}

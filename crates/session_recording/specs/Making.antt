@@ -1,6 +1,6 @@
 -- How a recording is made of what was kept of a session.
 use Rattle.std.specs.Prelude.{ℕ, ℤ, true, false, List, [], Result, Ok, Err, ◌≡◌, ◌≤◌, ◌<◌, max}
-use Rattle.pg_handlers.specs.declared.ends.EndKind.{EndKind}
+use Rattle.pg_client.specs.declared.ends.EndKind.{EndKind}
 use Rattle.pg_session.specs.declared.ends.ServeError.{ServeError}
 use Rattle.pg_session.specs.declared.ends.ServeError.TheVariants.{WriteFault, NoMemory}
 use Rattle.recording_text.specs.declared.recording.Recording.{Recording}

@@ -1,7 +1,7 @@
 -- What a recorder owes: the recording of a session, or why there is none.
 use Rattle.std.specs.Prelude.{ℕ, ℤ, List, ◌++◌, Option, Result, Ok, Err, ◌≡◌, ◌≤◌, ◌<◌, max, length, IfSome}
-use Rattle.pg_handlers.specs.declared.desk.DeskCall.{DeskCall}
-use Rattle.pg_handlers.specs.declared.ends.EndKind.{EndKind}
+use Rattle.pg_client.specs.declared.desk.DeskCall.{DeskCall}
+use Rattle.pg_client.specs.declared.ends.EndKind.{EndKind}
 use Rattle.pg_session.specs.declared.ends.ServeError.{ServeError}
 use Rattle.pg_session.specs.declared.ends.ServeError.TheVariants.{WriteFault, NoMemory}
 use Rattle.pg_session.specs.Streams.{GrowsBy}

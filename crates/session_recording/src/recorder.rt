@@ -1,10 +1,10 @@
 //! A session over relations is served and recorded.
 
 ghost use Rattle.std.specs.Prelude.{◌≡◌, ◌++◌, ◌<◌, ◌^◌, ◌↔◌, ℕ, Option, List, IfOk, OnOk, IfErr, IfSome, IsTrue};
-ghost use Rattle.pg_handlers.specs.Desk.{GoesOn};
+ghost use Rattle.pg_client.specs.Desk.{GoesOn};
 ghost use Rattle.pg_handlers.specs.Questions.{questions_since};
-ghost use Rattle.pg_handlers.specs.State.{first_state};
-ghost use Rattle.pg_handlers.specs.declared.desk.DeskCall.{DeskCall};
+ghost use Rattle.pg_client.specs.State.{first_state};
+ghost use Rattle.pg_client.specs.declared.desk.DeskCall.{DeskCall};
 ghost use Rattle.pg_engine.specs.Serving.{HasCause, EndsAtLast, FaultsNeverFall, IsCalm, IsRunOverTaken, ReadsGaveBytes, counts_of};
 ghost use Rattle.pg_session.specs.Session.{whole_rules};
 ghost use Rattle.relation_serving.specs.Completeness.{IsComplete};

@@ -2,12 +2,12 @@
 use Rattle.std.proofs.Common.{◌≡◌, ◌<◌, ◌+◌, ◌^◌, ◌++◌, ℕ, ℤ, Bool, true, false, arith, List, [], ◌∷◌, Option, Some, Result, Ok, Err, IfOk, inl, inr, length, refl, sym, ap, subst, ◌∙◌, ⊎_elim, drop}
 use Rattle.std.specs.Prelude.{IsErrOf, IsErr}
 use Rattle.std.proofs.lemmas.Bool.{cases_lt}
-use Rattle.pg_handlers.specs.declared.desk.DeskCall.{DeskCall}
-use Rattle.pg_handlers.specs.declared.ends.EndKind.{EndKind}
-use Rattle.pg_handlers.specs.Answer.{answers_of}
+use Rattle.pg_client.specs.declared.desk.DeskCall.{DeskCall}
+use Rattle.pg_client.specs.declared.ends.EndKind.{EndKind}
+use Rattle.pg_client.specs.Answer.{answers_of}
 use Rattle.pg_handlers.specs.Questions.{questions}
-use Rattle.pg_handlers.specs.Script.{IsScripted, scripted, origin_of}
-use Rattle.pg_handlers.specs.State.{first_state}
+use Rattle.pg_client.specs.Script.{IsScripted, scripted, origin_of}
+use Rattle.pg_client.specs.State.{first_state}
 use Rattle.pg_session.specs.declared.ends.ServeError.{ServeError}
 use Rattle.pg_session.specs.declared.ends.ServeError.TheVariants as fault
 use Rattle.pg_session.specs.Run.{IsRun}

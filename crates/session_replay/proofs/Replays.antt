@@ -1,9 +1,9 @@
 -- There is one replay of a recording, and a recorded run is it.
 use Rattle.std.proofs.Common.{◌≡◌, ◌↔◌, ℕ, List, inl, inr, refl, sym, subst}
-use Rattle.pg_handlers.specs.declared.desk.DeskCall.{DeskCall}
-use Rattle.pg_handlers.specs.declared.ends.EndKind.{EndKind}
-use Rattle.pg_handlers.specs.Answer.{answers_of}
-use Rattle.pg_handlers.specs.State.{first_state}
+use Rattle.pg_client.specs.declared.desk.DeskCall.{DeskCall}
+use Rattle.pg_client.specs.declared.ends.EndKind.{EndKind}
+use Rattle.pg_client.specs.Answer.{answers_of}
+use Rattle.pg_client.specs.State.{first_state}
 use Rattle.pg_session.specs.Run.{IsRun}
 use Rattle.pg_session.specs.Session.{whole_rules}
 use Rattle.pg_session.proofs.Answering.{whole_lawful}

@@ -1,11 +1,11 @@
 -- What calls tell, one call more.
 use Rattle.std.proofs.Common.{◌≡◌, ◌<◌, ◌+◌, ◌++◌, ◌⊎◌, inl, inr, ℕ, ℤ, suc, Bool, List, [], ◌∷◌, refl, sym, ap, ◌∙◌, arith, get_or, length, take}
 use Rattle.std.proofs.Math.Seq.{take-suc}
-use Rattle.pg_handlers.specs.declared.desk.DeskCall.{DeskCall}
-use Rattle.pg_handlers.specs.declared.desk.DeskCall.TheVariants as desk
-use Rattle.pg_handlers.specs.Answer.{answers_of}
+use Rattle.pg_client.specs.declared.desk.DeskCall.{DeskCall}
+use Rattle.pg_client.specs.declared.desk.DeskCall.TheVariants as desk
+use Rattle.pg_client.specs.Answer.{answers_of}
 use Rattle.pg_handlers.specs.Questions.{questions}
-use Rattle.pg_handlers.proofs.Scripts.{answers_of-append}
+use Rattle.pg_client.proofs.Scripts.{answers_of-append}
 use Rattle.pg_session.proofs.Spending.{questions-append}
 
 module _ (calls : List DeskCall) (n : ℕ) (call : DeskCall) (inside : n < length calls) (is : call ≡ get_or calls n call) where

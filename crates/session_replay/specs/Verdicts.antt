@@ -1,10 +1,10 @@
 -- What a replay is, and what it says of a recording.
 use Rattle.std.specs.Prelude.{ℕ, List, ◌≡◌, ◌≢◌, ◌<◌, take, length, slice_get}
-use Rattle.pg_handlers.specs.declared.desk.DeskCall.{DeskCall}
-use Rattle.pg_handlers.specs.declared.ends.EndKind.{EndKind}
-use Rattle.pg_handlers.specs.Answer.{answers_of}
-use Rattle.pg_handlers.specs.Script.{scripted}
-use Rattle.pg_handlers.specs.State.{first_state}
+use Rattle.pg_client.specs.declared.desk.DeskCall.{DeskCall}
+use Rattle.pg_client.specs.declared.ends.EndKind.{EndKind}
+use Rattle.pg_client.specs.Answer.{answers_of}
+use Rattle.pg_client.specs.Script.{scripted}
+use Rattle.pg_client.specs.State.{first_state}
 use Rattle.pg_session.specs.Run.{IsRun}
 use Rattle.pg_session.specs.Session.{whole_rules}
 use Rattle.recording_text.specs.declared.recording.Recording.{Recording}

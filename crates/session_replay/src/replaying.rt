@@ -1,10 +1,10 @@
 //! A recording is replayed, and compared with its replay.
 
 ghost use Rattle.std.specs.Prelude.{◌≡◌, ◌↔◌, ◌+◌, ◌<◌, ◌≤◌, ℕ, List, length, IfOk, IsErrOf, IsErr};
-ghost use Rattle.pg_handlers.specs.Answer.{answers_of};
+ghost use Rattle.pg_client.specs.Answer.{answers_of};
 ghost use Rattle.pg_handlers.specs.Questions.{questions};
-ghost use Rattle.pg_handlers.specs.declared.desk.DeskCall.{DeskCall};
-ghost use Rattle.pg_handlers.specs.declared.ends.EndKind.{EndKind};
+ghost use Rattle.pg_client.specs.declared.desk.DeskCall.{DeskCall};
+ghost use Rattle.pg_client.specs.declared.ends.EndKind.{EndKind};
 ghost use Rattle.replay_streams.specs.RecordedRuns.{IsRecordedRun};
 ghost use Rattle.session_replay.specs.Verdicts.{IsReplay, IsVerdict, IsVerdictOn, IsVerdictSoFar};
 

@@ -3,28 +3,28 @@ use Rattle.std.proofs.Common.{◌≡◌, ℕ, ◌≤◌, IsTrue, List, [], ◌�
 use Rattle.std.specs.Result.{IsErrAnd}
 use Rattle.std.specs.Str.{bytes_eq}
 use Rattle.pg_interval.specs.declared.pg_interval.Interval.{Interval}
-use Rattle.pg_interval.specs.declared.interval_parse.parse_error.IntError.TheVariants as integer
-use Rattle.pg_interval.specs.declared.interval_parse.parse_error.DecimalError.TheVariants as decimal
-use Rattle.pg_interval.specs.declared.interval_parse.parse_error.Reason.TheVariants as why
-use Rattle.pg_interval.specs.declared.interval_parse.parse_error.ParseError.{ParseError}
-use Rattle.pg_interval.specs.declared.interval_parse.parse_error.ParseError.TheVariants as parse
+use Rattle.interval_errors.specs.declared.IntError.TheVariants as integer
+use Rattle.interval_errors.specs.declared.DecimalError.TheVariants as decimal
+use Rattle.interval_errors.specs.declared.Reason.TheVariants as why
+use Rattle.interval_errors.specs.declared.ParseError.{ParseError}
+use Rattle.interval_errors.specs.declared.ParseError.TheVariants as parse
 use Rattle.pg_messages.specs.Replies.{HasNoZero, IsEncodable}
 use Rattle.pg_text.specs.Intervals.{read_in, read_interval}
 use Rattle.pg_text.specs.Words.{interval_style_name}
-use Rattle.pg_text.specs.declared.error.CellError.{CellError}
-use Rattle.pg_text.specs.declared.error.CellError.TheVariants as cell
-use Rattle.pg_text.specs.declared.field_format.FieldFormat.{FieldFormat}
-use Rattle.pg_text.specs.declared.field_format.FieldFormat.TheVariants as field
+use Rattle.pg_types.specs.declared.error.CellError.{CellError}
+use Rattle.pg_types.specs.declared.error.CellError.TheVariants as cell
+use Rattle.pg_types.specs.declared.field_format.FieldFormat.{FieldFormat}
+use Rattle.pg_types.specs.declared.field_format.FieldFormat.TheVariants as field
 use Rattle.pg_text.specs.declared.format.interval_style.IntervalStyle.{IntervalStyle}
-use Rattle.pg_text.specs.declared.pg_type.PgType.{PgType}
+use Rattle.pg_types.specs.declared.pg_type.PgType.{PgType}
 use Rattle.pg_text.specs.declared.format.interval_style.IntervalStyle.TheVariants as style
-use Rattle.pg_portal.specs.Rows.{IsAnswerableItem, IsItemError}
-use Rattle.pg_portal.specs.Told.{IsOutcome}
-use Rattle.pg_portal.specs.declared.error.PgWireError.{PgWireError}
-use Rattle.pg_portal.specs.declared.error.PgWireError.TheVariants as wire
-use Rattle.pg_portal.specs.declared.portal.Format.{Format}
-use Rattle.pg_handlers.specs.Replies.{row_description}
-use Rattle.pg_handlers.proofs.Encodable.{HasNoZero-append, by_test, has_no_zero}
+use Rattle.pg_results.specs.Rows.{IsAnswerableItem, IsItemError}
+use Rattle.pg_results.specs.Told.{IsOutcome}
+use Rattle.pg_results.specs.declared.error.PgWireError.{PgWireError}
+use Rattle.pg_results.specs.declared.error.PgWireError.TheVariants as wire
+use Rattle.pg_results.specs.declared.format.Format.{Format}
+use Rattle.pg_replies.specs.Replies.{row_description}
+use Rattle.pg_replies.proofs.Encodable.{HasNoZero-append, by_test, has_no_zero}
 use Rattle.pg_handlers.proofs.ErrorTexts.{tellable_error}
 use Rattle.row_handlers.specs.Answers.{format_at}
 use Rattle.styles.specs.Reading.{interval_given, interval_in, interval_of, no_interval, or_refused, reason, refused, style_of}

@@ -3,8 +3,8 @@ use Rattle.std.proofs.Common.{◌≡◌, ℕ, List, [], ◌∷◌, Result, Ok, r
 use Rattle.pg_interval.specs.Printed.{printed}
 use Rattle.pg_interval.specs.Reading.{Style, Postgres, PostgresVerbose, Iso8601, SqlStandard, StandsForOnly, reading}
 use Rattle.pg_interval.specs.declared.pg_interval.Interval.{Interval}
-use Rattle.pg_portal.specs.declared.error.PgWireError.{PgWireError}
-use Rattle.pg_portal.specs.declared.portal.Format.{Format}
+use Rattle.pg_results.specs.declared.error.PgWireError.{PgWireError}
+use Rattle.pg_results.specs.declared.format.Format.{Format}
 use Rattle.row_handlers.specs.Told.{alone, answered, simple_answer}
 use Rattle.styles.specs.Rows.{Shows, columns, row_of}
 use Rattle.styles.specs.Told.{AreAnsweredBy, IsAnsweredBy, rows_of, stated, told_styles}

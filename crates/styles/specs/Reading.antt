@@ -1,20 +1,20 @@
 -- What the text of a query stands for, and a parameter, or why it stands for no interval.
 use Rattle.std.specs.Prelude.{ℕ, List, ◌++◌, ◌==◌, Option, Some, None, Result, Ok, Err, if◌then◌else◌, codes}
 use Rattle.std.specs.List.{list_any}
-use Rattle.pg_interval.specs.ErrorText.{error_text}
+use Rattle.interval_errors.specs.ErrorText.{error_text}
 use Rattle.pg_interval.specs.Texts.{begins, is_letter}
 use Rattle.pg_interval.specs.declared.pg_interval.Interval.{Interval}
 use Rattle.pg_text.specs.Intervals.{read_in, read_interval}
 use Rattle.pg_text.specs.Words.{interval_style_name}
-use Rattle.pg_text.specs.declared.error.CellError.{CellError}
-use Rattle.pg_text.specs.declared.error.CellError.TheVariants as cell
-use Rattle.pg_text.specs.declared.field_format.FieldFormat.{FieldFormat}
-use Rattle.pg_text.specs.declared.field_format.FieldFormat.TheVariants as field
+use Rattle.pg_types.specs.declared.error.CellError.{CellError}
+use Rattle.pg_types.specs.declared.error.CellError.TheVariants as cell
+use Rattle.pg_types.specs.declared.field_format.FieldFormat.{FieldFormat}
+use Rattle.pg_types.specs.declared.field_format.FieldFormat.TheVariants as field
 use Rattle.pg_text.specs.declared.format.interval_style.IntervalStyle.{IntervalStyle}
 use Rattle.pg_text.specs.declared.format.interval_style.IntervalStyle.TheVariants as style
-use Rattle.pg_portal.specs.Errors.{error}
-use Rattle.pg_portal.specs.declared.error.PgWireError.{PgWireError}
-use Rattle.pg_portal.specs.declared.error.PgWireError.TheVariants as wire
+use Rattle.pg_results.specs.Errors.{error}
+use Rattle.pg_results.specs.declared.error.PgWireError.{PgWireError}
+use Rattle.pg_results.specs.declared.error.PgWireError.TheVariants as wire
 
 -- The style that a text is read in: `@` begins one of postgres_verbose and `P` one of iso_8601; any other with a letter is one of
 -- postgres, and one without of sql_standard.

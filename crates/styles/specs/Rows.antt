@@ -6,13 +6,13 @@ use Rattle.pg_interval.specs.Reading.{Style, Postgres, PostgresVerbose, Iso8601,
 use Rattle.pg_interval.specs.declared.pg_interval.Interval.{Interval}
 use Rattle.pg_messages.specs.declared.data.DataRow.{DataRow}
 use Rattle.pg_text.specs.Words.{interval_style_name}
-use Rattle.pg_text.specs.declared.field_format.FieldFormat.{FieldFormat}
+use Rattle.pg_types.specs.declared.field_format.FieldFormat.{FieldFormat}
 use Rattle.pg_text.specs.declared.format.interval_style.IntervalStyle.{IntervalStyle}
 use Rattle.pg_text.specs.declared.format.interval_style.IntervalStyle.TheVariants as style
-use Rattle.pg_text.specs.declared.pg_type.PgType.TheVariants as type
+use Rattle.pg_types.specs.declared.pg_type.PgType.TheVariants as type
 use Rattle.pg_portal.specs.Encoding.{cell_bytes}
-use Rattle.pg_portal.specs.Fields.{Field}
-use Rattle.pg_portal.specs.declared.portal.Format.{Format}
+use Rattle.pg_results.specs.Fields.{Field}
+use Rattle.pg_results.specs.declared.format.Format.{Format}
 use Rattle.row_handlers.specs.Answers.{column_of, format_at}
 
 -- the column of a style, of type text, whose bytes are the same in both formats

@@ -2,15 +2,15 @@
 use Rattle.std.specs.Prelude.{ℕ, List, [], ◌∷◌, Option, Some, None, Result, Ok, Err, ◌≡◌, if◌then◌else◌, slice_get, codes, bytes_eq}
 use Rattle.pg_interval.specs.declared.pg_interval.Interval.{Interval}
 use Rattle.pg_messages.specs.declared.data.DataRow.{DataRow}
-use Rattle.pg_text.specs.declared.pg_type.PgType.{PgType}
-use Rattle.pg_text.specs.declared.pg_type.PgType.TheVariants as type
-use Rattle.pg_portal.specs.Formats.{format_for}
-use Rattle.pg_portal.specs.Responses.{ToldResponse}
-use Rattle.pg_portal.specs.Rows.{RowItem}
+use Rattle.pg_types.specs.declared.pg_type.PgType.{PgType}
+use Rattle.pg_types.specs.declared.pg_type.PgType.TheVariants as type
+use Rattle.pg_results.specs.Formats.{format_for}
+use Rattle.pg_results.specs.Responses.{ToldResponse}
+use Rattle.pg_results.specs.Rows.{RowItem}
 use Rattle.pg_portal.specs.Told.{BoundPortal}
-use Rattle.pg_portal.specs.declared.error.PgWireError.{PgWireError}
-use Rattle.pg_portal.specs.declared.portal.Format.{Format}
-use Rattle.pg_portal.specs.declared.portal.Format.TheVariants as format
+use Rattle.pg_results.specs.declared.error.PgWireError.{PgWireError}
+use Rattle.pg_results.specs.declared.format.Format.{Format}
+use Rattle.pg_results.specs.declared.format.Format.TheVariants as format
 use Rattle.query_texts.specs.QueryTexts.{trimmed}
 use Rattle.row_handlers.specs.Answers.{AnswersTold}
 use Rattle.row_handlers.specs.Told.{rows_under}

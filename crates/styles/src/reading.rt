@@ -5,7 +5,7 @@ ghost use Rattle.std.specs.List.{list_any};
 ghost use Rattle.std.specs.Option.{option_copied};
 ghost use Rattle.pg_interval.specs.Texts.{is_letter};
 ghost use Rattle.pg_text.specs.Words.{interval_style_name};
-ghost use Rattle.pg_portal.specs.Told.{IsOutcome};
+ghost use Rattle.pg_results.specs.Told.{IsOutcome};
 ghost use Rattle.styles.specs.Reading.{style_of, reason, or_refused, interval_of, interval_given};
 
 use pg_interval::Interval;

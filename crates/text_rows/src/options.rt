@@ -1,6 +1,6 @@
 // Rows on options, types and formats.
 ghost use Rattle.std.specs.Prelude.{◌≡◌, ◌↔◌, IsTrue};
-ghost use Rattle.pg_text.specs.Options.{options_cmp};
+ghost use Rattle.pg_types.specs.Options.{options_cmp};
 
 use crate::told::{show_named, show_options};
 use crate::{cells, cut};

@@ -4,23 +4,23 @@ ghost use Rattle.std.specs.Prelude.{◌≡◌, None, Some, IfOk, IfErr, OnOk, On
 ghost use Rattle.std.specs.FinMap as fin;
 ghost use Rattle.pg_messages.specs.declared.frontend.PgWireFrontendMessage.TheVariants as frontend;
 ghost use Rattle.pg_messages.specs.Frames.{statement_target, portal_target};
-ghost use Rattle.pg_portal.specs.Rows.{IsAnswerable};
+ghost use Rattle.pg_results.specs.Rows.{IsAnswerable};
 ghost use Rattle.pg_portal.specs.Told.{portal_of, value_under};
-ghost use Rattle.pg_portal.specs.declared.error.PgWireError.TheVariants as wire;
-ghost use Rattle.pg_handlers.specs.Effect.{IsEffect, IsRefusedEffect, Done};
+ghost use Rattle.pg_results.specs.declared.error.PgWireError.TheVariants as wire;
+ghost use Rattle.pg_client.specs.Effect.{IsEffect, IsRefusedEffect, Done};
 ghost use Rattle.pg_handlers.specs.ExtendedRows.{on_describe};
 ghost use Rattle.pg_handlers.specs.Good.{IsGiven};
 ghost use Rattle.pg_handlers.specs.Handlers.{ExtendedTold};
-ghost use Rattle.pg_handlers.specs.State.{state_of};
+ghost use Rattle.pg_client.specs.State.{state_of};
 
-use crate::client::Client;
-use crate::query::send::send_described;
 use crate::query::statements::{missing_portal, missing_statement};
+use pg_client::Client;
 use pg_messages::Describe;
 use pg_portal::{
     DescribePortalResponse, DescribeResponse, DescribeStatementResponse, Entry, PgWireError,
     Portal, PortalStore, StoredStatement,
 };
+use pg_replies::send_described;
 use std::alloc::Global;
 use std::mem::drop;
 

@@ -4,41 +4,40 @@ ghost use Rattle.std.specs.Prelude.{◌≡◌, ◌≢◌, ◌≤◌, List, false
 ghost use Rattle.std.specs.Arc.{arc_value};
 ghost use Rattle.std.specs.FinMap as fin;
 ghost use Rattle.pg_messages.specs.Replies.{IsEncodable};
-ghost use Rattle.pg_handlers.specs.Desk.{KeepsDesk};
-ghost use Rattle.pg_handlers.specs.Replies.{row_description};
+ghost use Rattle.pg_client.specs.Desk.{KeepsDesk};
+ghost use Rattle.pg_replies.specs.Replies.{row_description};
 ghost use Rattle.pg_messages.specs.declared.frontend.PgWireFrontendMessage.TheVariants as frontend;
-ghost use Rattle.pg_portal.specs.Clients.{HasShortMetadata};
-ghost use Rattle.pg_portal.specs.Rows.{IsAnswerable};
-ghost use Rattle.pg_portal.specs.Told.{IsOutcome, bound_of, portal_of, stage_of};
-ghost use Rattle.pg_portal.specs.declared.error.PgWireError.{PgWireError};
+ghost use Rattle.pg_results.specs.Clients.{HasShortMetadata};
+ghost use Rattle.pg_results.specs.Rows.{IsAnswerable};
+ghost use Rattle.pg_results.specs.Told.{IsOutcome};
+ghost use Rattle.pg_portal.specs.Told.{bound_of, portal_of, stage_of};
+ghost use Rattle.pg_results.specs.declared.error.PgWireError.{PgWireError};
 ghost use Rattle.pg_handlers.specs.Handlers.{ExtendedTold, told_one, told_query};
-ghost use Rattle.pg_handlers.specs.State.{state_of};
-ghost use Rattle.pg_handlers.specs.Effect.{IsEffect, IsRefusedEffect, IsRow, IsRefusedRow, Done, says, when_ready};
+ghost use Rattle.pg_client.specs.State.{state_of};
+ghost use Rattle.pg_client.specs.Effect.{IsEffect, IsRefusedEffect, IsRow, IsRefusedRow, Done, says, when_ready};
 ghost use Rattle.pg_handlers.specs.ExtendedRows.{on_parse, on_bind, on_describe, on_close, on_sync};
 ghost use Rattle.pg_handlers.specs.ExecuteRow.{on_execute};
 ghost use Rattle.pg_handlers.specs.Executing.{IsLeftBehind};
-ghost use Rattle.pg_portal.specs.declared.client.PgWireConnectionState.TheVariants as phase;
-ghost use Rattle.pg_portal.specs.declared.error.PgWireError.TheVariants as wire;
-ghost use Rattle.pg_handlers.specs.declared.ends.SessionError.TheVariants as session;
+ghost use Rattle.pg_results.specs.declared.client.PgWireConnectionState.TheVariants as phase;
+ghost use Rattle.pg_results.specs.declared.error.PgWireError.TheVariants as wire;
+ghost use Rattle.pg_client.specs.declared.ends.SessionError.TheVariants as session;
 ghost use Rattle.pg_handlers.specs.Good.{IsGiven, IsSendableOutcome, IsSendableDescription, IsGoodStatement, IsGoodPortal, IsGoodState};
 ghost use Rattle.pg_handlers.specs.Questions.{IsCausedSo, HasSpent, questions_since};
-ghost use Rattle.pg_handlers.specs.Sending.{IsAnswerableError, AtTurnLimit};
+ghost use Rattle.pg_client.specs.Ends.{IsAnswerableError, AtTurnLimit};
 
-use crate::client::Client;
-use crate::desk::CancelDesk;
-use crate::ends::{SessionError, Turns, out_of_memory, query_out_of_memory};
+use crate::ends::{out_of_memory, query_out_of_memory};
 use crate::query::QueryState;
 use crate::query::describing::{
     describe_no_portal, describe_no_statement, described_portal, described_statement,
     invalid_target,
 };
 use crate::query::run::run_unstarted;
-use crate::query::send::{push_reply, send_ready_for_query, send_told};
 use crate::query::started::{execute_started, unstarted_portal};
 use crate::query::statements::{
     bind_checked, bind_no_statement, bind_statement, close, name_of, parse_by, statement_under,
     store_parsed,
 };
+use pg_client::{CancelDesk, Client, SessionError, Turns};
 use pg_messages::{
     Bind, Close, CloseComplete, Describe, Execute, Flush, Parse, PgSync, PgWireBackendMessage,
     TARGET_TYPE_BYTE_PORTAL, TARGET_TYPE_BYTE_STATEMENT,
@@ -48,6 +47,7 @@ use pg_portal::{
     PgWireConnectionState, PgWireError, Portal, PortalStore, QueryParser, Response, RowSource,
     StoredStatement,
 };
+use pg_replies::{push_reply, send_ready_for_query, send_told};
 use std::alloc::{AllocError, Global};
 use std::mem::drop;
 use std::sync::Arc;

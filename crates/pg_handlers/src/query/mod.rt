@@ -1,12 +1,11 @@
 //! Queries: how they are polled, and what is sent of what they answer.
 
 ghost use Rattle.std.specs.Prelude.{◌≡◌, ◌≤◌, false, IfErr, OnErr, List};
-ghost use Rattle.pg_handlers.specs.Desk.{KeepsDesk};
+ghost use Rattle.pg_client.specs.Desk.{KeepsDesk};
 ghost use Rattle.pg_handlers.specs.Handlers.{QueryTold, IsPolled};
 ghost use Rattle.pg_handlers.specs.Questions.{Verdict, IsAsked, IsVerdict, IsCausedSo, HasSpent, questions_since};
 
-use crate::desk::CancelDesk;
-use crate::ends::{SessionError, Turns};
+use pg_client::{CancelDesk, SessionError, Turns};
 use pg_portal::PgWireError;
 use std::alloc::AllocError;
 
@@ -14,7 +13,6 @@ mod describing;
 pub mod extended;
 mod respond;
 mod run;
-pub mod send;
 pub mod simple;
 mod started;
 mod statements;

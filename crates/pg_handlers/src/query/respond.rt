@@ -4,28 +4,25 @@ ghost use Rattle.std.specs.Prelude.{◌≡◌, ◌⊎◌, ◌++◌, ◌∷◌, [
 ghost use Rattle.std.specs.List.{AllByRecursion};
 ghost use Rattle.pg_messages.specs.Replies.{replies_bytes, IsEncodable};
 ghost use Rattle.pg_messages.specs.declared.backend.PgWireBackendMessage.TheVariants as server;
-ghost use Rattle.pg_handlers.specs.Replies.{error_reply};
-ghost use Rattle.pg_portal.specs.Fetching.{with_items};
-ghost use Rattle.pg_portal.specs.Page.{item_page, PageEnd, AtLimit, AtEnd, AtError};
-ghost use Rattle.pg_portal.specs.Responses.{told_response, told_responses};
-ghost use Rattle.pg_portal.specs.Rows.{IsAnswerableItem};
-ghost use Rattle.pg_portal.specs.Told.{Stage, stage_of, bound_of, portal_of, told_rows};
-ghost use Rattle.pg_portal.specs.declared.error.PgWireError.{PgWireError};
-ghost use Rattle.pg_handlers.specs.Effect.{IsEffect, IsRefusedEffect, Done};
+ghost use Rattle.pg_replies.specs.Replies.{error_reply};
+ghost use Rattle.pg_results.specs.Told.{with_items, told_rows};
+ghost use Rattle.pg_results.specs.Page.{item_page, PageEnd, AtLimit, AtEnd, AtError};
+ghost use Rattle.pg_results.specs.Responses.{told_response, told_responses};
+ghost use Rattle.pg_results.specs.Rows.{IsAnswerableItem};
+ghost use Rattle.pg_portal.specs.Told.{Stage, stage_of, bound_of, portal_of};
+ghost use Rattle.pg_results.specs.declared.error.PgWireError.{PgWireError};
+ghost use Rattle.pg_client.specs.Effect.{IsEffect, IsRefusedEffect, Done};
 ghost use Rattle.pg_handlers.specs.ExecuteRow.{executed_without_rows, executed_other};
 ghost use Rattle.pg_handlers.specs.Executing.{IsPageOf, HasComeTo, OnlyLosesUnnamed, page_result, has_rows, is_unstarted};
 ghost use Rattle.pg_handlers.specs.Good.{IsSendableResponse, HasGoodTag};
-ghost use Rattle.pg_handlers.specs.ResponseRows.{responded};
+ghost use Rattle.pg_replies.specs.ResponseRows.{responded};
 ghost use Rattle.pg_handlers.specs.SimpleRows.{responded_all};
-ghost use Rattle.pg_handlers.specs.Sending.{IsAllSent, behind};
-ghost use Rattle.pg_handlers.specs.State.{state_of};
+ghost use Rattle.pg_replies.specs.Sending.{IsAllSent};
+ghost use Rattle.pg_handlers.specs.Sending.{behind};
+ghost use Rattle.pg_client.specs.State.{state_of};
 
-use crate::client::Client;
 use crate::ends::out_of_memory;
-use crate::query::send::{
-    push_reply, send_copy_both_response, send_copy_in, send_copy_out_response, send_done,
-    send_execution_response, send_next_page, send_query_response,
-};
+use pg_client::Client;
 use pg_messages::{
     EmptyQueryResponse, ErrorInfo, ErrorResponse, PgList, PgWireBackendMessage, TransactionStatus,
 };
@@ -33,6 +30,10 @@ use pg_outbox::Outbox;
 use pg_portal::{
     CopySource, PgWireConnectionState, PgWireError, Portal, PortalExecutionState, PortalStore,
     Response, RowSource,
+};
+use pg_replies::{
+    push_reply, send_copy_both_response, send_copy_in, send_copy_out_response, send_done,
+    send_execution_response, send_next_page, send_query_response,
 };
 use std::alloc::{AllocError, Global};
 

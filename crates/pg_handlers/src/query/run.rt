@@ -2,25 +2,25 @@
 
 ghost use Rattle.std.specs.Prelude.{◌≡◌, ◌≤◌, false, length, take, Some, IfErr, OnOk, OnErr};
 ghost use Rattle.pg_messages.specs.declared.frontend.PgWireFrontendMessage.TheVariants as frontend;
-ghost use Rattle.pg_portal.specs.Responses.{told_response};
-ghost use Rattle.pg_portal.specs.Rows.{IsAnswerableItem};
-ghost use Rattle.pg_portal.specs.Told.{ParserTold, TablePortal, told_rows};
-ghost use Rattle.pg_handlers.specs.Desk.{KeepsDesk};
-ghost use Rattle.pg_handlers.specs.Effect.{IsEffect, IsRefusedEffect, Done};
+ghost use Rattle.pg_results.specs.Responses.{told_response};
+ghost use Rattle.pg_results.specs.Rows.{IsAnswerableItem};
+ghost use Rattle.pg_results.specs.Told.{ParserTold, told_rows};
+ghost use Rattle.pg_portal.specs.Told.{TablePortal};
+ghost use Rattle.pg_client.specs.Desk.{KeepsDesk};
+ghost use Rattle.pg_client.specs.Effect.{IsEffect, IsRefusedEffect, Done};
 ghost use Rattle.pg_handlers.specs.ExecuteRow.{executed, execute_polled, fetched};
 ghost use Rattle.pg_handlers.specs.Executing.{HasUnstarted, IsLeftBehind, portal_under};
 ghost use Rattle.pg_handlers.specs.Outcomes.{IsRunEnd};
-ghost use Rattle.pg_handlers.specs.Good.{IsGiven, IsGoodState, IsSendableOutcome, IsSendableResponse, IsTag};
+ghost use Rattle.pg_replies.specs.Replies.{IsTag};
+ghost use Rattle.pg_handlers.specs.Good.{IsGiven, IsGoodState, IsSendableOutcome, IsSendableResponse};
 ghost use Rattle.pg_handlers.specs.Handlers.{told_one};
 ghost use Rattle.pg_handlers.specs.Questions.{Verdict, IsAsked, IsCausedSo, HasSpent, questions_since};
-ghost use Rattle.pg_handlers.specs.Sending.{IsAnswerableError, AtTurnLimit};
-ghost use Rattle.pg_handlers.specs.State.{state_of};
+ghost use Rattle.pg_client.specs.Ends.{IsAnswerableError, AtTurnLimit};
+ghost use Rattle.pg_client.specs.State.{state_of};
 
-use crate::client::Client;
-use crate::desk::CancelDesk;
-use crate::ends::{SessionError, Turns};
 use crate::query::respond::{respond, send_page};
 use crate::query::{QueryState, wait_for};
+use pg_client::{CancelDesk, Client, SessionError, Turns};
 use pg_messages::Execute;
 use pg_portal::{CopySource, PgWireError, PortalStore, QueryResponse, Response};
 use std::alloc::Global;

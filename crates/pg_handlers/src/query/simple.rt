@@ -4,37 +4,36 @@ ghost use Rattle.std.specs.Prelude.{◌≡◌, ◌≢◌, ◌≤◌, ◌++◌, �
 ghost use Rattle.pg_messages.specs.Replies.{replies_bytes};
 ghost use Rattle.pg_messages.specs.declared.backend.PgWireBackendMessage.TheVariants as server;
 ghost use Rattle.pg_messages.specs.declared.frontend.PgWireFrontendMessage.TheVariants as frontend;
-ghost use Rattle.pg_portal.specs.Clients.{HasShortMetadata};
+ghost use Rattle.pg_results.specs.Clients.{HasShortMetadata};
 ghost use Rattle.std.specs.List.{AllByRecursion};
-ghost use Rattle.pg_portal.specs.Responses.{told_responses};
-ghost use Rattle.pg_portal.specs.Rows.{IsAnswerableItem};
-ghost use Rattle.pg_portal.specs.Texts.{IsShortText};
-ghost use Rattle.pg_handlers.specs.Desk.{KeepsDesk};
+ghost use Rattle.pg_results.specs.Responses.{told_responses};
+ghost use Rattle.pg_results.specs.Rows.{IsAnswerableItem};
+ghost use Rattle.pg_results.specs.Texts.{IsShortText};
+ghost use Rattle.pg_client.specs.Desk.{KeepsDesk};
 ghost use Rattle.pg_handlers.specs.Handlers.{SimpleTold, told_all, told_query};
-ghost use Rattle.pg_handlers.specs.State.{state_of};
-ghost use Rattle.pg_handlers.specs.Effect.{IsEffect, IsRefusedEffect, IsRow, IsRefusedRow, Done, when_ready};
+ghost use Rattle.pg_client.specs.State.{state_of};
+ghost use Rattle.pg_client.specs.Effect.{IsEffect, IsRefusedEffect, IsRow, IsRefusedRow, Done, when_ready};
 ghost use Rattle.pg_handlers.specs.SimpleRows.{on_query, query_polled, answered_all};
 ghost use Rattle.pg_handlers.specs.Outcomes.{IsRunEnd};
-ghost use Rattle.pg_handlers.specs.Replies.{ready};
+ghost use Rattle.pg_replies.specs.Replies.{ready};
 ghost use Rattle.pg_handlers.specs.Good.{IsGiven, AreSendable, IsSendableResponse};
 ghost use Rattle.pg_handlers.specs.Questions.{Verdict, IsAsked, IsCausedSo, HasSpent, questions_since};
-ghost use Rattle.pg_handlers.specs.Sending.{IsAnswerableError, AtTurnLimit};
-ghost use Rattle.pg_portal.specs.declared.client.PgWireConnectionState.TheVariants as phase;
-ghost use Rattle.pg_portal.specs.declared.error.PgWireError.TheVariants as wire;
-ghost use Rattle.pg_handlers.specs.declared.ends.SessionError.TheVariants as session;
+ghost use Rattle.pg_client.specs.Ends.{IsAnswerableError, AtTurnLimit};
+ghost use Rattle.pg_results.specs.declared.client.PgWireConnectionState.TheVariants as phase;
+ghost use Rattle.pg_results.specs.declared.error.PgWireError.TheVariants as wire;
+ghost use Rattle.pg_client.specs.declared.ends.SessionError.TheVariants as session;
 
-use crate::client::Client;
-use crate::desk::CancelDesk;
-use crate::ends::{SessionError, Turns, query_out_of_memory, session_outcome};
+use crate::ends::{query_out_of_memory, session_outcome};
 use crate::query::respond::{send_empty_query_response, send_responses};
-use crate::query::send::send_ready_for_query;
 use crate::query::{QueryState, wait_for};
+use pg_client::{CancelDesk, Client, SessionError, Turns};
 use pg_messages::{PgList, Query, TransactionStatus};
 use pg_outbox::Outbox;
 use pg_portal::{
     ClientInfo, CopySource, PgWireConnectionState, PgWireError, PortalStore, Response, RowSource,
     is_blank,
 };
+use pg_replies::send_ready_for_query;
 use std::alloc::{AllocError, Global};
 use std::mem::drop;
 

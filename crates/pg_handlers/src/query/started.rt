@@ -4,21 +4,21 @@ ghost use Rattle.std.specs.Prelude.{◌≡◌, false, length, take, Some, None, 
 ghost use Rattle.std.specs.FinMap as fin;
 ghost use Rattle.pg_messages.specs.declared.frontend.PgWireFrontendMessage.TheVariants as frontend;
 ghost use Rattle.pg_portal.specs.Told.{Unstarted, portal_of, stage_of, value_under};
-ghost use Rattle.pg_handlers.specs.Desk.{DeskTold};
-ghost use Rattle.pg_handlers.specs.Effect.{IsRow, IsRefusedRow, Done};
+ghost use Rattle.pg_client.specs.Desk.{DeskTold};
+ghost use Rattle.pg_client.specs.Effect.{IsRow, IsRefusedRow, Done};
 ghost use Rattle.pg_handlers.specs.ExecuteRow.{on_execute};
 ghost use Rattle.pg_handlers.specs.Executing.{IsLeftBehind, is_unstarted, portal_under};
 ghost use Rattle.pg_handlers.specs.Good.{HasGoodTag, IsGiven, IsGoodState};
 ghost use Rattle.pg_handlers.specs.Handlers.{ExtendedTold};
 ghost use Rattle.pg_handlers.specs.Questions.{IsCausedSo, HasSpent, questions_since};
-ghost use Rattle.pg_handlers.specs.Sending.{IsAnswerableError, AtTurnLimit};
-ghost use Rattle.pg_handlers.specs.State.{state_of};
-ghost use Rattle.pg_handlers.specs.declared.ends.Turns.{Turns};
+ghost use Rattle.pg_client.specs.Ends.{IsAnswerableError, AtTurnLimit};
+ghost use Rattle.pg_client.specs.State.{state_of};
+ghost use Rattle.pg_client.specs.declared.ends.Turns.{Turns};
 
-use crate::client::Client;
-use crate::ends::{SessionError, session_outcome};
+use crate::ends::session_outcome;
 use crate::query::respond::{is_unstarted, send_page};
 use crate::query::statements::execute_no_portal;
+use pg_client::{Client, SessionError};
 use pg_messages::Execute;
 use pg_portal::{Entry, Portal, PortalStore};
 use std::alloc::Global;

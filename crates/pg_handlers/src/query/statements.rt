@@ -3,32 +3,33 @@
 ghost use Rattle.std.specs.Prelude.{◌≡◌, ◌≤◌, ◌⊎◌, ◌++◌, ◌==◌, length, Some, None, Option, IsTrue, IfOk, IfErr, IfSome, OnOk, OnErr, codes, string_bytes, if◌then◌else◌};
 ghost use Rattle.std.specs.Option.{option_map};
 ghost use Rattle.pg_messages.specs.Replies.{replies_bytes};
-ghost use Rattle.pg_portal.specs.Errors.{error as error_info};
+ghost use Rattle.pg_results.specs.Errors.{error as error_info};
 ghost use Rattle.pg_portal.specs.Maps.{maps_with_statement};
-ghost use Rattle.pg_portal.specs.Told.{IsOutcome, ParserTold, Unstarted, bound_of, portal_of, stage_of, value_under};
-ghost use Rattle.pg_portal.specs.Clients.{HasShortMetadata};
-ghost use Rattle.pg_portal.specs.Statements.{prepared, bound_by};
-ghost use Rattle.pg_handlers.specs.Errors.{values_for_empty, too_few_codes};
+ghost use Rattle.pg_results.specs.Told.{IsOutcome, ParserTold};
+ghost use Rattle.pg_portal.specs.Told.{Unstarted, bound_of, portal_of, stage_of, value_under};
+ghost use Rattle.pg_results.specs.Clients.{HasShortMetadata};
+ghost use Rattle.pg_results.specs.Statements.{prepared};
+ghost use Rattle.pg_portal.specs.Statements.{bound_by};
+ghost use Rattle.pg_client.specs.Errors.{values_for_empty, too_few_codes};
 ghost use Rattle.std.specs.Arc.{arc_value};
 ghost use Rattle.std.specs.FinMap as fin;
 ghost use Rattle.pg_messages.specs.declared.frontend.PgWireFrontendMessage.TheVariants as frontend;
-ghost use Rattle.pg_portal.specs.Rows.{IsAnswerable};
-ghost use Rattle.pg_portal.specs.Texts.{IsShortText};
-ghost use Rattle.pg_portal.specs.declared.error.PgWireError.{PgWireError};
-ghost use Rattle.pg_portal.specs.declared.error.PgWireError.TheVariants as wire;
+ghost use Rattle.pg_results.specs.Rows.{IsAnswerable};
+ghost use Rattle.pg_results.specs.Texts.{IsShortText};
+ghost use Rattle.pg_results.specs.declared.error.PgWireError.{PgWireError};
+ghost use Rattle.pg_results.specs.declared.error.PgWireError.TheVariants as wire;
 ghost use Rattle.pg_portal.specs.declared.store.Entry.TheVariants as entry;
-ghost use Rattle.pg_handlers.specs.Effect.{IsEffect, IsRefusedEffect, Done};
+ghost use Rattle.pg_client.specs.Effect.{IsEffect, IsRefusedEffect, Done};
 ghost use Rattle.pg_handlers.specs.ExtendedRows.{parse_complete, bind_complete, bound_empty, bound_portal, bound_statement, on_bind, entry_of, maps_after_close, HasEnough, IsTooFew};
 ghost use Rattle.pg_handlers.specs.Handlers.{ExtendedTold};
-ghost use Rattle.pg_portal.specs.Formats.{format_of};
+ghost use Rattle.pg_results.specs.Formats.{format_of};
 ghost use Rattle.pg_handlers.specs.ExecuteRow.{executed_nothing};
 ghost use Rattle.pg_handlers.specs.Good.{IsGiven, IsGoodStatement, IsGoodState};
-ghost use Rattle.pg_handlers.specs.State.{state_of, with_portal, with_statement};
+ghost use Rattle.pg_client.specs.State.{state_of, with_portal, with_statement};
 
-use crate::client::Client;
 use crate::ends::out_of_memory;
 use crate::query::respond::send_empty_query_response;
-use crate::query::send::push_reply;
+use pg_client::Client;
 use pg_messages::{
     Bind, BindComplete, Close, ErrorInfo, Parse, ParseComplete, PgList, PgStr,
     PgWireBackendMessage, TARGET_TYPE_BYTE_PORTAL, TARGET_TYPE_BYTE_STATEMENT,
@@ -38,6 +39,7 @@ use pg_portal::{
     ClientInfo, Entry, Format, PgWireError, Portal, PortalExecutionState, PortalStore, QueryParser,
     RowSource, StoredStatement,
 };
+use pg_replies::push_reply;
 use std::alloc::{AllocError, Global};
 use std::mem::drop;
 use std::sync::Arc;

@@ -10,11 +10,11 @@ ghost use Rattle.pg_interval.specs.WordReader.{answered, rest_of};
 
 use super::iso_front::read_short;
 use super::number::{after_byte, decimal};
-use super::parse_error::{ParseError, Reason};
 use super::parts::{Items, Totals, Unit};
 use super::postgres::interval_of;
 use super::texts::{Kind, LONGEST_TEXT, cut, run_len};
 use crate::pg_interval::Interval;
+use interval_errors::{ParseError, Reason};
 
 /// The unit that the letter names, before the `T` or after it.
 #[inline(always)]

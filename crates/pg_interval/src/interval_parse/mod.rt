@@ -9,7 +9,6 @@ mod front;
 mod iso_8601;
 mod iso_front;
 mod number;
-pub mod parse_error;
 mod parts;
 mod postgres;
 mod sql;

@@ -8,9 +8,9 @@ ghost use Rattle.pg_interval.specs.Amounts.{IsWithin};
 ghost use Rattle.pg_interval.specs.Pairs.{fits_field};
 ghost use Rattle.pg_interval.specs.Reader.{capped, capped_decimal, decimal_from, fraction_after, number_held, number_read, rounded_size, size_of, time_unit};
 
-use super::parse_error::DecimalError;
 use super::parts::{Amount, Number, Unit};
 use super::texts::{Kind, cut, is_sign, run_len};
+use interval_errors::DecimalError;
 
 /// The most digits after the point.
 const MOST_PLACES: usize = 18;

@@ -2,7 +2,7 @@
 ghost use Rattle.std.specs.Prelude.{◌≤◌};
 ghost use Rattle.pg_interval.specs.Amounts.{IsWithin};
 
-use super::parse_error::ParseError;
+use interval_errors::ParseError;
 
 /// A unit of an interval's text.
 #[derive(Clone, Copy)]

@@ -10,10 +10,10 @@ ghost use Rattle.pg_interval.specs.WordReader.{answered, front_left, has, held_t
 
 use super::front::pair_front;
 use super::number::{after_byte, decimal, fraction_after, number_of, sign_of, without_sign};
-use super::parse_error::{DecimalError, ParseError, Reason};
 use super::parts::{Clock, Number, Seen, Totals, Unit, Words};
 use super::texts::{Kind, LONGEST_TEXT, cut, trim_end, trim_start};
 use crate::pg_interval::Interval;
+use interval_errors::{DecimalError, ParseError, Reason};
 
 impl Seen {
     /// Has the unit a number?

@@ -10,12 +10,12 @@ ghost use Rattle.pg_interval.specs.Reading.{SqlStandard, of_shape, reading};
 ghost use Rattle.pg_interval.specs.WordReader.{answered};
 
 use super::number::{after_byte, number_of, sign_of, without_sign};
-use super::parse_error::{IntError, ParseError, Reason};
 use super::parts::{Number, Totals, Unit};
 use super::postgres::{interval_of, is};
 use super::sql_front::{read_fewer, read_three};
 use super::texts::{Kind, LONGEST_TEXT, cut, is_sign, run_len, trim_start};
 use crate::pg_interval::Interval;
+use interval_errors::{IntError, ParseError, Reason};
 
 /// Does the text begin with a sign?
 #[inline(always)]

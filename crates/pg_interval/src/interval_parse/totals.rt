@@ -4,12 +4,12 @@ ghost use Rattle.pg_interval.specs.Amounts.{IsWithin};
 ghost use Rattle.pg_interval.specs.Pairs.{checked, fits_field, judged, nothing};
 ghost use Rattle.pg_interval.specs.Decimals.{whole_part, worth};
 ghost use Rattle.pg_interval.specs.Reader.{decimal_from, joined, number_read, so_far, tallied, time_unit, with_if};
-ghost use Rattle.pg_interval.specs.declared.interval_parse.parse_error.DecimalError.TheVariants.{OutOfRange};
-ghost use Rattle.pg_interval.specs.declared.interval_parse.parse_error.ParseError.TheVariants.{ParseFloatErr};
+ghost use Rattle.interval_errors.specs.declared.DecimalError.TheVariants.{OutOfRange};
+ghost use Rattle.interval_errors.specs.declared.ParseError.TheVariants.{ParseFloatErr};
 
-use super::parse_error::{DecimalError, ParseError, Reason};
 use super::parts::{Amount, Number, Totals, Unit};
 use crate::pg_interval::Interval;
+use interval_errors::{DecimalError, ParseError, Reason};
 
 impl Amount {
     /// The amount of these months, days and microseconds.

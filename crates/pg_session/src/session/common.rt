@@ -2,14 +2,14 @@
 //! them is moved as one of all messages.
 
 ghost use Rattle.std.specs.Prelude.{◌≡◌, ◌≢◌, ◌≤◌, true, Some, IfOk, IfErr, OnOk};
-ghost use Rattle.pg_portal.specs.declared.client.PgWireConnectionState.TheVariants as phase;
-ghost use Rattle.pg_handlers.specs.Desk.{GoesOn};
-ghost use Rattle.pg_handlers.specs.Effect.{Done, IsRefusedRow, IsRow};
+ghost use Rattle.pg_results.specs.declared.client.PgWireConnectionState.TheVariants as phase;
+ghost use Rattle.pg_client.specs.Desk.{GoesOn};
+ghost use Rattle.pg_client.specs.Effect.{Done, IsRefusedRow, IsRow};
 ghost use Rattle.pg_handlers.specs.Good.{IsGiven};
 ghost use Rattle.pg_handlers.specs.Questions.{HasSpent, questions_since};
-ghost use Rattle.pg_handlers.specs.Sending.{IsAnswerableError};
+ghost use Rattle.pg_client.specs.Ends.{IsAnswerableError};
 ghost use Rattle.pg_handlers.specs.Table.{message_row, scope_in, whole_table};
-ghost use Rattle.pg_handlers.specs.declared.ends.EndKind.TheVariants.{InputEnd};
+ghost use Rattle.pg_client.specs.declared.ends.EndKind.TheVariants.{InputEnd};
 ghost use Rattle.pg_session.specs.Messages.{next_of, scope_for};
 ghost use Rattle.pg_session.specs.Session.{goes_on};
 ghost use Rattle.pg_session.specs.Steps.{IsResponse, IsSilentlyAnswered};

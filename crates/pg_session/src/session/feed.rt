@@ -2,8 +2,8 @@
 
 ghost use Rattle.std.specs.Prelude.{◌≡◌, ◌≤◌, ◌<◌, ◌++◌, ◌∷◌, [], take, ℕ, List, true, Option, Some, None, length, IfOk, IfErr, IfNone, IfSome, OnOk, OnErr, Ok, IsErrOf};
 ghost use Rattle.pg_messages.specs.Frames.{IsFrame, IsUnfinished, IsBad};
-ghost use Rattle.pg_portal.specs.declared.client.PgWireConnectionState.TheVariants as phase;
-ghost use Rattle.pg_handlers.specs.Desk.{GoesOn};
+ghost use Rattle.pg_results.specs.declared.client.PgWireConnectionState.TheVariants as phase;
+ghost use Rattle.pg_client.specs.Desk.{GoesOn};
 ghost use Rattle.pg_handlers.specs.Questions.{questions_since};
 ghost use Rattle.pg_handlers.specs.Table.{awaits, is_startup_phase};
 ghost use Rattle.pg_session.specs.Session.{told_end, told_or_more, unread, IsUnread, whole_rules, HasFed, is_more, most_held};

@@ -2,19 +2,19 @@
 
 ghost use Rattle.std.specs.Prelude.{◌≡◌, ◌≢◌, ◌≤◌, ◌++◌, ◌⊎◌, ◌↔◌, [], Some, None, false, true, codes, IsTrue, IfOk, IfErr, OnOk};
 ghost use Rattle.pg_messages.specs.Replies.{IsEncodable, replies_bytes, reply_bytes};
-ghost use Rattle.pg_portal.specs.Errors.{info_of};
-ghost use Rattle.pg_portal.specs.Rows.{IsTellable};
-ghost use Rattle.pg_handlers.specs.Desk.{GoesOn};
-ghost use Rattle.pg_handlers.specs.Effect.{IsRow, IsRefusedRow, failed};
+ghost use Rattle.pg_results.specs.Errors.{info_of};
+ghost use Rattle.pg_results.specs.Rows.{IsTellable};
+ghost use Rattle.pg_client.specs.Desk.{GoesOn};
+ghost use Rattle.pg_client.specs.Effect.{IsRow, IsRefusedRow, failed};
 ghost use Rattle.pg_handlers.specs.Questions.{HasSpent, questions_since};
-ghost use Rattle.pg_handlers.specs.Replies.{error_reply};
-ghost use Rattle.pg_handlers.specs.Sending.{IsAnswerableError};
-ghost use Rattle.pg_handlers.specs.State.{state_of};
+ghost use Rattle.pg_replies.specs.Replies.{error_reply};
+ghost use Rattle.pg_client.specs.Ends.{IsAnswerableError, outcome_of};
+ghost use Rattle.pg_client.specs.State.{state_of};
 ghost use Rattle.pg_handlers.specs.Table.{message_row};
-ghost use Rattle.pg_handlers.specs.declared.ends.EndKind.TheVariants.{InputEnd, Fatal};
-ghost use Rattle.pg_handlers.specs.declared.ends.Turns.{Turns};
-ghost use Rattle.pg_portal.specs.declared.client.PgWireConnectionState.TheVariants as phase;
-ghost use Rattle.pg_session.specs.Messages.{IsGivenIn, outcome_of, scope_for, next_of};
+ghost use Rattle.pg_client.specs.declared.ends.EndKind.TheVariants.{InputEnd, Fatal};
+ghost use Rattle.pg_client.specs.declared.ends.Turns.{Turns};
+ghost use Rattle.pg_results.specs.declared.client.PgWireConnectionState.TheVariants as phase;
+ghost use Rattle.pg_session.specs.Messages.{IsGivenIn, scope_for, next_of};
 ghost use Rattle.pg_session.specs.Session.{stays_open, goes_on};
 
 use crate::messages::{on_ready, on_unready};

@@ -2,8 +2,8 @@ ghost use Rattle.std.specs.Prelude.{◌≡◌};
 ghost use Rattle.pg_text.specs.Cells.{IsRead};
 ghost use Rattle.pg_text.specs.Words.{or_invalid, bytea_output_of};
 
-use crate::error::CellError;
 use crate::format::words::{is_name, trimmed};
+use pg_types::CellError;
 use std::alloc::Global;
 
 pub const BYTEA_OUTPUT_HEX: &str = "hex";

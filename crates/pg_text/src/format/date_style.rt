@@ -3,8 +3,8 @@ ghost use Rattle.pg_text.specs.Cells.{IsRead};
 ghost use Rattle.pg_text.specs.Dates.{display_of, order_of, around_comma, display_before, order_behind, display_in, order_in, date_format, full_format, full_zone_format, zone_format, time_zone_format};
 ghost use Rattle.pg_text.specs.Words.{or_invalid, date_order_of, date_display_of};
 
-use crate::error::CellError;
 use crate::format::words::{is_name, trimmed};
+use pg_types::CellError;
 use std::alloc::{AllocError, Global};
 
 pub const DATE_STYLE_ORDER_DMY: &str = "dmy";

@@ -6,10 +6,10 @@ ghost use Rattle.pg_text.specs.Cells.{IsRead};
 ghost use Rattle.pg_text.specs.Intervals.{read_in};
 ghost use Rattle.pg_text.specs.Words.{or_invalid, interval_style_of, printed_style};
 
-use crate::error::CellError;
 use crate::format::words::{is_name, trimmed};
 use bytes::BytesMut;
 use pg_interval::{Interval, IntervalText, ParseError};
+use pg_types::CellError;
 use std::alloc::{AllocError, Global};
 
 pub const INTERVAL_STYLE_POSTGRES: &str = "postgres";

@@ -1,6 +1,6 @@
 use Rattle.std.proofs.Common.{[], refl, sym, append-nil}
 use Rattle.std.specs.Arc.{arc_value}
-use Rattle.pg_handlers.specs.State.{first_state}
+use Rattle.pg_client.specs.State.{first_state}
 use Rattle.pg_engine.proofs.Serving.{none_went, gave_none}
 use Rattle.cursor_table.specs.CursorTable.{cursor_rules}
 use Rattle.cursor_serving.proofs.serve.serve_by.Goals as goal

@@ -1,6 +1,6 @@
 use Rattle.std.proofs.Common.{◌≡◌, ◌<◌, ◌+◌, ◌++◌, ◌∙◌, refl, sym, ap, subst, arith, Ok, Err, [], inl}
 use Rattle.std.proofs.lemmas.List.{append_cancel_left}
-use Rattle.pg_handlers.proofs.Desks.{goes_on_none, goes_on_then}
+use Rattle.pg_client.proofs.Desks.{goes_on_none, goes_on_then}
 use Rattle.pg_handlers.specs.Questions.{questions_since}
 use Rattle.pg_session.specs.Session.{HasFed, is_more}
 use Rattle.pg_messages.specs.Frames.{IsUnfinished}

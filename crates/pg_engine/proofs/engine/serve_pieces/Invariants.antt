@@ -1,7 +1,7 @@
 use Rattle.std.proofs.Common.{◌≡◌, ◌≤◌, ◌<◌, ◌+◌, ◌-◌, ◌^◌, List, ℕ, [], true}
 use Rattle.pg_messages.specs.Frames.{IsUnfinished}
-use Rattle.pg_handlers.specs.Desk.{GoesOn}
-use Rattle.pg_handlers.specs.Answer.{Goes}
+use Rattle.pg_client.specs.Desk.{GoesOn}
+use Rattle.pg_client.specs.Answer.{Goes}
 use Rattle.pg_handlers.specs.Questions.{questions_since}
 use Rattle.pg_session.specs.Steps.{IsServed}
 use Rattle.pg_engine.specs.Serving.{TakesFrom, ReadsGaveBytes}

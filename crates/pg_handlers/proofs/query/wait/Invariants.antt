@@ -1,5 +1,5 @@
 use Rattle.std.proofs.Common.{◌≤◌}
-use Rattle.pg_handlers.specs.Desk.{KeepsDesk}
+use Rattle.pg_client.specs.Desk.{KeepsDesk}
 use Rattle.pg_handlers.proofs.Asking.{IsWaiting}
 use Rattle.pg_handlers.proofs.query.wait.Given as goal
 

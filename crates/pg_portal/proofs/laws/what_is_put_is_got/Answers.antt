@@ -1,4 +1,4 @@
-use Rattle.pg_portal.proofs.NameMaps.{get-put, get-other}
+use Rattle.named_entries.proofs.NameMaps.{get-put, get-other}
 use Rattle.pg_portal.proofs.laws.what_is_put_is_got.Goals as goal
 
 pub returns-clause-put : goal.returns-clause-put

@@ -1,6 +1,6 @@
 use Rattle.std.proofs.Common.{◌≡◌, ◌++◌, ◌∙◌, FitsSigned, w32, rules, inr, ap, sym}
 use Rattle.std.proofs.lemmas.Int.{to_z-of_z}
-use Rattle.pg_handlers.specs.Script.{origin_of}
+use Rattle.pg_client.specs.Script.{origin_of}
 use Rattle.pg_engine.specs.Serving.{counts_of}
 use Rattle.relation_serving.proofs.Complete.{cause_of_calls}
 use Rattle.replay_streams.specs.declared.sink.BytesSink.{BytesSink}

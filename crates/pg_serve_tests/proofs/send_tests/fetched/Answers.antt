@@ -1,6 +1,6 @@
 use Rattle.std.proofs.Common.{codes, refl, sym, ap, subst, arith}
-use Rattle.pg_handlers.specs.Good.{IsTag}
-use Rattle.pg_handlers.proofs.Encodable.{command_is_tag, by_test}
+use Rattle.pg_replies.specs.Replies.{IsTag}
+use Rattle.pg_replies.proofs.Encodable.{command_is_tag, by_test}
 use Rattle.pg_serve_tests.proofs.send_tests.fetched.Goals as goal
 
 fetch_is_tag : IsTag (codes "FETCH")

@@ -1,5 +1,5 @@
-use Rattle.pg_handlers.proofs.Desks.{keeps_none}
-use Rattle.pg_handlers.specs.State.{state_of}
+use Rattle.pg_client.proofs.Desks.{keeps_none}
+use Rattle.pg_client.specs.State.{state_of}
 use Rattle.pg_handlers.specs.Table.{statement_row}
 use Rattle.pg_session.proofs.Rows.{plain_row}
 use Rattle.pg_session.proofs.ToldRows.{going_refused, with_session_error_ok, with_session_error_refused, with_session_error_answerable, with_session_error_ends, with_session_error_turns}

@@ -1,4 +1,4 @@
-use Rattle.pg_handlers.specs.State.{state_of}
+use Rattle.pg_client.specs.State.{state_of}
 use Rattle.pg_session.proofs.Rows.{ended_effect}
 use Rattle.pg_session.proofs.messages.on_ready_silently.Goals as goal
 

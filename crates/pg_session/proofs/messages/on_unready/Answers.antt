@@ -1,7 +1,7 @@
 use Rattle.std.proofs.Common.{subst, sym}
 use Rattle.pg_handlers.specs.CopyRows.{copy_row}
 use Rattle.pg_handlers.specs.Good.{IsGoodStatement, IsGoodPortal}
-use Rattle.pg_handlers.specs.State.{state_of}
+use Rattle.pg_client.specs.State.{state_of}
 use Rattle.pg_handlers.specs.Table.{awaiting_sync_row}
 use Rattle.pg_handlers.proofs.GoodStores.{Each}
 use Rattle.pg_session.proofs.StartupTurns.{startup_turns}

@@ -1,7 +1,7 @@
 use Rattle.std.proofs.Common.{refl, ◌∙◌, sym, arith, ◌<◌, length, get_or, ◌≡◌, true}
 use Rattle.std.proofs.lemmas.Str.{IsCharBoundary-start, IsCharBoundary-after_ascii}
 use Rattle.query_texts.proofs.Padding.{front_step, padding_below_128}
-use Rattle.pg_portal.specs.Texts.{is_padding}
+use Rattle.pg_results.specs.Texts.{is_padding}
 use Rattle.query_texts.proofs.trimming.front_padding.Goals as goal
 
 pub loop-start-init : goal.loop-start-init

@@ -1,6 +1,6 @@
 use Rattle.std.proofs.Common.{refl, ◌∙◌, sym, arith, ◌<◌, length, get_or, ◌≡◌, true}
 use Rattle.std.proofs.lemmas.Str.{IsCharBoundary-start, IsCharBoundary-after_ascii}
-use Rattle.pg_portal.specs.Texts.{is_whitespace}
+use Rattle.pg_results.specs.Texts.{is_whitespace}
 use Rattle.query_texts.proofs.WordLemmas.{space_step, whitespace_below_128}
 use Rattle.query_texts.proofs.words.front_whitespace.Goals as goal
 

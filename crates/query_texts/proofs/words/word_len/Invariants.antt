@@ -1,6 +1,6 @@
 use Rattle.std.proofs.Common.{◌≡◌, ◌≤◌, ◌-◌, length, take, drop}
 use Rattle.std.specs.List.{slice_split}
-use Rattle.pg_portal.specs.Texts.{is_whitespace}
+use Rattle.pg_results.specs.Texts.{is_whitespace}
 use Rattle.query_texts.proofs.WordLemmas.{prepend}
 use Rattle.query_texts.proofs.words.word_len.Given as goal
 

@@ -1,7 +1,7 @@
 use Rattle.std.proofs.Common.{◌≡◌, ap, length, subst, sym, ◌∙◌}
 use Rattle.std.proofs.lemmas.Result.{IfOk-weaker}
 use Rattle.pg_messages.specs.Replies.{IsEncodable}
-use Rattle.pg_handlers.specs.Replies.{row_description}
+use Rattle.pg_replies.specs.Replies.{row_description}
 use Rattle.relation_tables.specs.declared.Relation.{Relation}
 use Rattle.relation_tables.specs.Relations.{relation_at}
 use Rattle.relation_handlers.specs.Shared.{told_columns}

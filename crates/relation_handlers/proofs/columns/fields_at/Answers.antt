@@ -1,7 +1,7 @@
 use Rattle.std.proofs.Common.{◌≡◌, ap, subst, sym, ◌∙◌}
 use Rattle.std.proofs.lemmas.Result.{IfOk-weaker}
 use Rattle.pg_messages.specs.Replies.{IsEncodable}
-use Rattle.pg_handlers.specs.Replies.{row_description}
+use Rattle.pg_replies.specs.Replies.{row_description}
 use Rattle.relation_tables.specs.RelationHandler.{columns_in}
 use Rattle.relation_handlers.proofs.ResponseLemmas.{sendable_columns}
 use Rattle.relation_handlers.proofs.columns.fields_at.Goals as goal

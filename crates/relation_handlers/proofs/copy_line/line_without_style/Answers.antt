@@ -1,5 +1,5 @@
 use Rattle.std.proofs.Common.{arith, sym}
-use Rattle.pg_portal.specs.declared.error.PgWireError.TheVariants as wire
+use Rattle.pg_results.specs.declared.error.PgWireError.TheVariants as wire
 use Rattle.relation_handlers.proofs.RefusedRows.{refused_line}
 use Rattle.relation_handlers.proofs.copy_line.line_without_style.Goals as goal
 

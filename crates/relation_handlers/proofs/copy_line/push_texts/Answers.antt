@@ -1,7 +1,7 @@
 use Rattle.std.proofs.Common.{pos, arith, map, Result, Ok}
 use Rattle.pg_interval.specs.declared.pg_interval.Interval.{Interval}
 use Rattle.pg_text.specs.declared.format.interval_style.IntervalStyle.{IntervalStyle}
-use Rattle.pg_portal.specs.declared.error.PgWireError.{PgWireError}
+use Rattle.pg_results.specs.declared.error.PgWireError.{PgWireError}
 use Rattle.relation_tables.specs.RelationHandler.{all_or_error, text_of}
 use Rattle.relation_handlers.specs.Values.{tab_joined}
 use Rattle.relation_handlers.proofs.CopyLineLemmas.{texts_step}

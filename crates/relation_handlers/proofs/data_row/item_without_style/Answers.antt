@@ -1,6 +1,6 @@
 use Rattle.std.proofs.Common.{Ok, Err, sym, ◌∙◌}
 use Rattle.pg_text.specs.declared.format.interval_style.IntervalStyle.TheVariants as style
-use Rattle.pg_portal.specs.declared.error.PgWireError.TheVariants as wire
+use Rattle.pg_results.specs.declared.error.PgWireError.TheVariants as wire
 use Rattle.relation_handlers.proofs.RefusedRows.{refused_row, row_without_text}
 use Rattle.relation_handlers.proofs.data_row.item_without_style.Goals as goal
 

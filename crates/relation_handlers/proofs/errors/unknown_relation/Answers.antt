@@ -1,6 +1,6 @@
 use Rattle.std.proofs.Common.{◌≡◌, ◌++◌, ◌∙◌, append_assoc, codes}
 use Rattle.std.proofs.lemmas.Result.{IfOk-weaker}
-use Rattle.pg_portal.specs.Errors.{error}
+use Rattle.pg_results.specs.Errors.{error}
 use Rattle.relation_tables.specs.Errors.{unknown_relation}
 use Rattle.relation_handlers.proofs.errors.unknown_relation.Goals as goal
 

@@ -2,7 +2,7 @@ use Rattle.std.proofs.Common.{◌≡◌, ◌<◌, ◌+◌, ℕ, Bool, List, Opti
 use Rattle.std.specs.Option.{is_some, option_copied}
 use Rattle.std.specs.FinMap as map
 use Rattle.std.specs.Borrow.{Bor}
-use Rattle.pg_portal.specs.Names.{NameMap}
+use Rattle.named_entries.specs.Names.{NameMap}
 use Rattle.relation_tables.specs.declared.Relation.{Relation}
 use Rattle.relation_handlers.specs.declared.table.TableError.{TableError}
 use Rattle.relation_handlers.specs.declared.table.TableError.TheVariants.{BadName, BadColumn, RaggedRow, NoMemory}

@@ -1,5 +1,5 @@
-use Rattle.pg_portal.specs.declared.error.PgWireError.TheVariants as wire
-use Rattle.pg_portal.specs.Errors.{info_of}
+use Rattle.pg_results.specs.declared.error.PgWireError.TheVariants as wire
+use Rattle.pg_results.specs.Errors.{info_of}
 use Rattle.relation_laws.proofs.Runs.{talk_is, stays_served, served_code, never_early, never_unstarted}
 use Rattle.relation_laws.proofs.laws.served_states_are_kept.Goals as goal
 

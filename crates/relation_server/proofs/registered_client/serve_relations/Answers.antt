@@ -1,5 +1,5 @@
 use Rattle.std.proofs.Common.{◌≡◌, ◌++◌, ◌∙◌, List, sym, ap, subst}
-use Rattle.pg_handlers.specs.State.{first_state}
+use Rattle.pg_client.specs.State.{first_state}
 use Rattle.relation_tables.specs.RelationHandler.{relation_handlers}
 use Rattle.pg_cancel.specs.declared.entries.Entry.{Entry}
 use Rattle.pg_cancel.specs.Connections.{calls_of}

@@ -1,6 +1,6 @@
 use Rattle.std.proofs.Common.{sym, subst}
 use Rattle.pg_handlers.specs.Good.{IsSendableResponse}
-use Rattle.pg_handlers.proofs.Encodable.{select_is_tag}
+use Rattle.pg_replies.proofs.Encodable.{select_is_tag}
 use Rattle.row_handlers.proofs.response.response.Goals as goal
 
 pub returns-clause-sendable : goal.returns-clause-sendable

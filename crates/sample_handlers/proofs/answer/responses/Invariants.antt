@@ -1,6 +1,6 @@
 use Rattle.std.proofs.Common.{◌≡◌, ◌++◌, drop, map}
-use Rattle.pg_portal.specs.declared.portal.Format.TheVariants as format
-use Rattle.pg_portal.specs.Responses.{told_responses}
+use Rattle.pg_results.specs.declared.format.Format.TheVariants as format
+use Rattle.pg_results.specs.Responses.{told_responses}
 use Rattle.sample_handlers.specs.Told.{data_left, response_of}
 use Rattle.sample_handlers.proofs.answer.responses.Given as goal
 

@@ -1,6 +1,6 @@
 use Rattle.std.proofs.Common.{◌≡◌, ◌∙◌, ◌∷◌, [], Ok, Err, ap, sym, refl, subst, arith, replicate}
 use Rattle.std.specs.List.{AllByRecursion}
-use Rattle.pg_portal.specs.Rows.{IsSendable}
+use Rattle.pg_results.specs.Rows.{IsSendable}
 use Rattle.sample_handlers.specs.Told.{first_row, second_row, division_by_zero}
 use Rattle.sample_handlers.proofs.LongRows.{row_more, long_ended}
 use Rattle.sample_handlers.proofs.rows.long_rows.Goals as goal

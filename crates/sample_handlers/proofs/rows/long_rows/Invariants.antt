@@ -1,6 +1,6 @@
 use Rattle.std.proofs.Common.{◌≡◌, Ok, replicate}
 use Rattle.std.specs.List.{AllByRecursion}
-use Rattle.pg_portal.specs.Rows.{IsSendable}
+use Rattle.pg_results.specs.Rows.{IsSendable}
 use Rattle.sample_handlers.specs.Told.{first_row}
 use Rattle.sample_handlers.proofs.rows.long_rows.Given as goal
 

@@ -1,5 +1,5 @@
 use Rattle.std.proofs.Common.{[], ◌∷◌, ◌++◌, ap, sym, ◌∙◌, append-nil}
-use Rattle.pg_handlers.specs.Answer.{answers_of}
+use Rattle.pg_client.specs.Answer.{answers_of}
 use Rattle.session_replay.proofs.Telling.{answers_further, tells_none, tells_one}
 use Rattle.session_replay.proofs.replaying.answers_of.Goals as goal
 use Rattle.session_replay.proofs.replaying.answers_of.Goals.{in-Start, in-Start-2, in-Ask+in_ok-push-in-Ask}

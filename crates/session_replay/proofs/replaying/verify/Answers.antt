@@ -1,9 +1,9 @@
 use Rattle.std.proofs.Common.{◌<◌, ◌+◌, ◌^◌, ◌++◌, ◌∙◌, Some, FitsSigned, w32, rules, refl, ap, sym, subst, length}
 use Rattle.std.proofs.lemmas.Int.{to_z-of_z}
 use Rattle.std.proofs.lemmas.Result.{IfOk-weaker}
-use Rattle.pg_handlers.specs.Answer.{answers_of}
+use Rattle.pg_client.specs.Answer.{answers_of}
 use Rattle.pg_handlers.specs.Questions.{questions}
-use Rattle.pg_handlers.specs.Script.{origin_of}
+use Rattle.pg_client.specs.Script.{origin_of}
 use Rattle.pg_engine.specs.Serving.{Counts}
 use Rattle.relation_serving.proofs.Complete.{cause_of_calls}
 use Rattle.session_replay.specs.Verdicts.{IsVerdictOn}

@@ -4,7 +4,7 @@ use Rattle.std.specs.FinMap as fin
 use Rattle.pg_portal.specs.declared.portal.Portal.{Portal}
 use Rattle.pg_portal.specs.declared.store.Entry.TheVariants as entry
 use Rattle.pg_portal.specs.Told.{portal_of}
-use Rattle.pg_handlers.specs.State.{state_of}
+use Rattle.pg_client.specs.State.{state_of}
 use Rattle.pg_handlers.proofs.Describing.{empty_portal_described}
 use Rattle.pg_handlers.proofs.GoodStores.{empty_under}
 use Rattle.pg_handlers.proofs.query.describing.describe_no_portal.Goals as goal

@@ -1,4 +1,4 @@
-use Rattle.pg_handlers.proofs.Encodable.{select_is_tag}
+use Rattle.pg_replies.proofs.Encodable.{select_is_tag}
 use Rattle.pg_handlers.proofs.query.respond.send_page.Goals as goal
 
 pub send_done-requires : goal.send_done-requires

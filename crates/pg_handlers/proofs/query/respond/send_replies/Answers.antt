@@ -2,13 +2,13 @@ use Rattle.std.proofs.Common.{◌≡◌, ◌++◌, ℕ, List, None, Result, Ok, 
 use Rattle.std.specs.Prelude.{IfErr, OnErr, OnOk}
 use Rattle.std.proofs.lemmas.Result.{err_from_is_err_and}
 use Rattle.pg_messages.specs.Replies.{replies_bytes}
-use Rattle.pg_portal.specs.declared.error.PgWireError.{PgWireError}
-use Rattle.pg_portal.specs.declared.error.PgWireError.TheVariants as wire
-use Rattle.pg_portal.specs.Responses.{told_response}
-use Rattle.pg_portal.specs.Rows.{IsAnswerableItem}
-use Rattle.pg_handlers.specs.ResponseRows.{Sent, responded}
-use Rattle.pg_handlers.specs.Sending.{IsAllSent}
-use Rattle.pg_handlers.proofs.Sent.{kept_as, kept_in_front}
+use Rattle.pg_results.specs.declared.error.PgWireError.{PgWireError}
+use Rattle.pg_results.specs.declared.error.PgWireError.TheVariants as wire
+use Rattle.pg_results.specs.Responses.{told_response}
+use Rattle.pg_results.specs.Rows.{IsAnswerableItem}
+use Rattle.pg_replies.specs.ResponseRows.{Sent, responded}
+use Rattle.pg_replies.specs.Sending.{IsAllSent}
+use Rattle.pg_replies.proofs.Sent.{kept_as, kept_in_front}
 use Rattle.pg_handlers.proofs.query.respond.send_replies.Goals as goal
 
 -- one reply was sent, or memory is wanting

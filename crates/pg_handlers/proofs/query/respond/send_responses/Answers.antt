@@ -3,12 +3,12 @@ use Rattle.std.specs.List.{AllByRecursion}
 use Rattle.std.specs.Vec.Iter.{into_iter_items}
 use Rattle.std.proofs.lemmas.List.{nil_from_length}
 use Rattle.std.proofs.lemmas.Result.{err_from_is_err_and}
-use Rattle.pg_portal.specs.Responses.{told_response, told_responses}
+use Rattle.pg_results.specs.Responses.{told_response, told_responses}
 use Rattle.pg_handlers.specs.Good.{IsSendableResponse}
-use Rattle.pg_handlers.specs.ResponseRows.{responded}
+use Rattle.pg_replies.specs.ResponseRows.{responded}
 use Rattle.pg_handlers.proofs.Answers.{IsAnswered, answering_begins, answering_goes_on, answering_refused, answering_ends, left_copying, left_next}
 use Rattle.pg_messages.specs.Replies.{replies_bytes}
-use Rattle.pg_handlers.proofs.Sent.{kept_behind, kept_in_front}
+use Rattle.pg_replies.proofs.Sent.{kept_behind, kept_in_front}
 use Rattle.pg_handlers.proofs.query.respond.send_responses.Goals as goal
 
 pub send_response-requires : goal.send_response-requires

@@ -2,18 +2,18 @@ use Rattle.std.proofs.Common.{◌≡◌, inl, inr, List, ℕ, Result, Ok, Err, r
 use Rattle.std.proofs.lemmas.List.{append-nil}
 use Rattle.std.proofs.lemmas.Result.{err_from_is_err_and}
 use Rattle.pg_messages.specs.declared.extendedquery.Execute.{Execute}
-use Rattle.pg_portal.specs.declared.error.PgWireError.{PgWireError}
-use Rattle.pg_portal.specs.Responses.{ToldResponse, told_response}
-use Rattle.pg_portal.specs.Rows.{IsAnswerableItem}
+use Rattle.pg_results.specs.declared.error.PgWireError.{PgWireError}
+use Rattle.pg_results.specs.Responses.{ToldResponse, told_response}
+use Rattle.pg_results.specs.Rows.{IsAnswerableItem}
 use Rattle.pg_portal.specs.Told.{TablePortal}
-use Rattle.pg_handlers.specs.Effect.{Done, IsEffect, IsRefusedEffect}
+use Rattle.pg_client.specs.Effect.{Done, IsEffect, IsRefusedEffect}
 use Rattle.pg_handlers.specs.ExecuteRow.{execute_polled, executed}
 use Rattle.pg_handlers.specs.Good.{IsSendableOutcome}
 use Rattle.pg_handlers.specs.Handlers.{told_one}
 use Rattle.pg_handlers.specs.Questions.{Passed, Verdict, questions_since}
-use Rattle.pg_handlers.specs.State.{State, state_of}
+use Rattle.pg_client.specs.State.{State, state_of}
 use Rattle.pg_handlers.proofs.Causes.{item_answerable, item_caused}
-use Rattle.pg_handlers.proofs.Sent.{kept_as}
+use Rattle.pg_replies.proofs.Sent.{kept_as}
 use Rattle.pg_handlers.proofs.Waits.{at_limit, spent_as, wait_answerable, wait_ran}
 use Rattle.pg_handlers.proofs.query.run.run_unstarted.Goals as goal
 

@@ -1,8 +1,9 @@
 use Rattle.std.proofs.Common.{w32, refl, ◌∙◌}
 use Rattle.std.proofs.lemmas.Int.{to_z-of_z}
-use Rattle.pg_portal.specs.Told.{portal_of, told_rows}
-use Rattle.pg_portal.proofs.NameMaps.{at_some}
-use Rattle.pg_handlers.specs.State.{state_of}
+use Rattle.pg_results.specs.Told.{told_rows}
+use Rattle.pg_portal.specs.Told.{portal_of}
+use Rattle.named_entries.proofs.NameMaps.{at_some}
+use Rattle.pg_client.specs.State.{state_of}
 use Rattle.pg_handlers.proofs.Lends.{lent}
 use Rattle.pg_handlers.proofs.Starting.{first_page}
 use Rattle.pg_handlers.proofs.query.run.start_portal.Goals as goal

@@ -1,7 +1,7 @@
 use Rattle.std.proofs.Common.{◌∷◌, []}
 use Rattle.pg_messages.specs.declared.backend.PgWireBackendMessage.TheVariants as server
-use Rattle.pg_handlers.specs.Replies.{ready}
-use Rattle.pg_handlers.proofs.Sent.{sent_behind}
+use Rattle.pg_replies.specs.Replies.{ready}
+use Rattle.pg_replies.proofs.Sent.{sent_behind}
 use Rattle.pg_handlers.proofs.query.simple.answer_blank.Goals as goal
 
 pub returns-clause-ok : goal.returns-clause-ok

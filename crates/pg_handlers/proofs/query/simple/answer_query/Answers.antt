@@ -1,18 +1,18 @@
 use Rattle.std.proofs.Common.{◌≡◌, ◌++◌, ◌∷◌, [], ℕ, ◌⊎◌, inl, inr, true, false, List, Option, None, Some, Err, refl, ap, sym, ◌∙◌}
 use Rattle.std.proofs.lemmas.Result.{err_from_is_err_and}
 use Rattle.pg_messages.specs.Replies.{replies_bytes}
-use Rattle.pg_portal.specs.declared.client.PgWireConnectionState.TheVariants as phase
-use Rattle.pg_portal.specs.declared.error.PgWireError.{PgWireError}
-use Rattle.pg_portal.specs.declared.error.PgWireError.TheVariants as wire
-use Rattle.pg_portal.specs.Responses.{told_responses}
+use Rattle.pg_results.specs.declared.client.PgWireConnectionState.TheVariants as phase
+use Rattle.pg_results.specs.declared.error.PgWireError.{PgWireError}
+use Rattle.pg_results.specs.declared.error.PgWireError.TheVariants as wire
+use Rattle.pg_results.specs.Responses.{told_responses}
 use Rattle.pg_handlers.specs.declared.query.respond.Behind.{Behind}
-use Rattle.pg_handlers.specs.Effect.{Done, IsEffect, IsRefusedEffect}
-use Rattle.pg_handlers.specs.Replies.{ready}
-use Rattle.pg_handlers.specs.ResponseRows.{Sent}
+use Rattle.pg_client.specs.Effect.{Done, IsEffect, IsRefusedEffect}
+use Rattle.pg_replies.specs.Replies.{ready}
+use Rattle.pg_replies.specs.ResponseRows.{Sent}
 use Rattle.pg_handlers.specs.Sending.{behind}
 use Rattle.pg_handlers.specs.SimpleRows.{answered, responded_all}
-use Rattle.pg_handlers.specs.State.{State, in_phase, state_of, with_status}
-use Rattle.pg_handlers.proofs.Sent.{kept_as, kept_in_front, kept_through, sent_behind}
+use Rattle.pg_client.specs.State.{State, in_phase, state_of, with_status}
+use Rattle.pg_replies.proofs.Sent.{kept_as, kept_in_front, kept_through, sent_behind}
 use Rattle.pg_handlers.proofs.query.simple.answer_query.Goals as goal
 
 module _ {S : Type 0} (s : State S) (sent : Sent) (refusal : Option PgWireError) (out : List ℕ) where

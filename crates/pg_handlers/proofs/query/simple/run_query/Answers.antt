@@ -2,24 +2,24 @@ use Rattle.std.proofs.Common.{◌≡◌, ℕ, ◌+◌, inl, inr, List, Result, O
 use Rattle.std.specs.Prelude.{IfErr, OnErr, OnOk}
 use Rattle.std.proofs.lemmas.List.{append-nil}
 use Rattle.std.proofs.lemmas.Result.{err_from_is_err_and}
-use Rattle.pg_portal.specs.declared.client.ClientInfo.{ClientInfo}
-use Rattle.pg_portal.specs.declared.error.PgWireError.{PgWireError}
-use Rattle.pg_portal.specs.Responses.{ToldResponse, told_responses}
-use Rattle.pg_portal.specs.Rows.{IsAnswerableItem}
-use Rattle.pg_handlers.specs.declared.desk.DeskCall.{DeskCall}
-use Rattle.pg_handlers.specs.declared.ends.SessionError.{SessionError}
-use Rattle.pg_handlers.specs.declared.ends.SessionError.TheVariants as session
-use Rattle.pg_handlers.specs.declared.ends.Turns.{Turns}
-use Rattle.pg_handlers.specs.Effect.{Done, Effect, IsEffect, IsRefusedEffect}
+use Rattle.pg_results.specs.declared.client.ClientInfo.{ClientInfo}
+use Rattle.pg_results.specs.declared.error.PgWireError.{PgWireError}
+use Rattle.pg_results.specs.Responses.{ToldResponse, told_responses}
+use Rattle.pg_results.specs.Rows.{IsAnswerableItem}
+use Rattle.pg_client.specs.declared.desk.DeskCall.{DeskCall}
+use Rattle.pg_client.specs.declared.ends.SessionError.{SessionError}
+use Rattle.pg_client.specs.declared.ends.SessionError.TheVariants as session
+use Rattle.pg_client.specs.declared.ends.Turns.{Turns}
+use Rattle.pg_client.specs.Effect.{Done, Effect, IsEffect, IsRefusedEffect}
 use Rattle.pg_handlers.specs.Good.{AreSendable}
 use Rattle.pg_handlers.specs.Handlers.{told_all}
 use Rattle.pg_handlers.specs.Outcomes.{IsRunEnd, session_outcome}
 use Rattle.pg_handlers.specs.Questions.{HasSpent, IsCausedSo, IsVerdict, Passed, Verdict}
-use Rattle.pg_handlers.specs.Sending.{AtTurnLimit, IsAnswerableError}
+use Rattle.pg_client.specs.Ends.{AtTurnLimit, IsAnswerableError}
 use Rattle.pg_handlers.specs.SimpleRows.{answered_all, query_polled}
-use Rattle.pg_handlers.specs.State.{State, state_of}
+use Rattle.pg_client.specs.State.{State, state_of}
 use Rattle.pg_handlers.proofs.Causes.{item_answerable, item_caused}
-use Rattle.pg_handlers.proofs.Sent.{kept_as}
+use Rattle.pg_replies.proofs.Sent.{kept_as}
 use Rattle.pg_handlers.proofs.Waits.{at_limit, spent_as, wait_answerable, wait_ran}
 use Rattle.pg_handlers.proofs.query.simple.run_query.Goals as goal
 

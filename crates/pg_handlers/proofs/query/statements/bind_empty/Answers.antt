@@ -1,6 +1,6 @@
 use Rattle.std.proofs.Common.{sym, subst}
 use Rattle.pg_handlers.specs.Good.{IsGoodState}
-use Rattle.pg_handlers.specs.State.{state_of}
+use Rattle.pg_client.specs.State.{state_of}
 use Rattle.pg_handlers.proofs.GoodStores.{good_with_empty_portal}
 use Rattle.pg_handlers.proofs.query.statements.bind_empty.Goals as goal
 

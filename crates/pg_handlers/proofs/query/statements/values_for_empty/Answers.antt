@@ -1,11 +1,11 @@
 use Rattle.std.proofs.Common.{◌≡◌, ◌++◌, ◌∷◌, ◌∙◌, List, ℕ, codes, ap, sym, subst, append_assoc, arith, inr}
 use Rattle.std.proofs.lemmas.Result.{IfOk-weaker}
 use Rattle.std.specs.Fmt.{decimal}
-use Rattle.pg_portal.specs.Rows.{IsTellable}
-use Rattle.pg_portal.specs.Errors.{error as error_info}
-use Rattle.pg_portal.specs.Texts.{quoted}
-use Rattle.pg_portal.specs.declared.error.PgWireError.TheVariants as wire
-use Rattle.pg_handlers.specs.Errors.{values_for_empty}
+use Rattle.pg_results.specs.Rows.{IsTellable}
+use Rattle.pg_results.specs.Errors.{error as error_info}
+use Rattle.pg_results.specs.Texts.{quoted}
+use Rattle.pg_results.specs.declared.error.PgWireError.TheVariants as wire
+use Rattle.pg_client.specs.Errors.{values_for_empty}
 use Rattle.pg_handlers.proofs.ErrorTexts.{tellable_values}
 use Rattle.pg_handlers.proofs.query.statements.values_for_empty.Goals as goal
 

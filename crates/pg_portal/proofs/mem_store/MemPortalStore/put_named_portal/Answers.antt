@@ -1,5 +1,5 @@
 use Rattle.std.proofs.Common.{rules}
-use Rattle.pg_portal.proofs.NameMaps.{map_values-insert}
+use Rattle.named_entries.proofs.NameMaps.{map_values-insert}
 use Rattle.pg_portal.proofs.mem_store.MemPortalStore.put_named_portal.Goals as goal
 
 pub returns-clause-ok : goal.returns-clause-ok

@@ -1,5 +1,5 @@
 use Rattle.std.proofs.Common.{rules}
-use Rattle.pg_portal.proofs.NameMaps.{get-map_values}
+use Rattle.named_entries.proofs.NameMaps.{get-map_values}
 use Rattle.pg_portal.proofs.mem_store.MemPortalStorePortalStore.get_statement.Goals as goal
 
 pub returns-in-Some-Value : goal.returns-in-Some-Value

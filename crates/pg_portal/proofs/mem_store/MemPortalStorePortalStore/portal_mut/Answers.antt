@@ -1,10 +1,10 @@
 use Rattle.std.proofs.Common.{◌∙◌, ap, sym, refl}
 use Rattle.std.specs.Arc.{arc_value}
 use Rattle.std.specs.Option.{option_map}
-use Rattle.pg_portal.specs.Names.{map_values}
+use Rattle.named_entries.specs.Names.{map_values}
 use Rattle.pg_portal.specs.declared.store.Entry.TheVariants.{Value}
 use Rattle.pg_portal.specs.Told.{entry_map, portal_of, value_under}
-use Rattle.pg_portal.proofs.NameMaps.{get-map_values, map_values-insert, insert-same, on_some, at_some}
+use Rattle.named_entries.proofs.NameMaps.{get-map_values, map_values-insert, insert-same, on_some, at_some}
 use Rattle.pg_portal.proofs.StoreMaps.{value_of-map, maps_of}
 use Rattle.pg_portal.proofs.mem_store.MemPortalStorePortalStore.portal_mut.Goals as goal
 

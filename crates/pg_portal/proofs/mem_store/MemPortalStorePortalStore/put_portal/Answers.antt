@@ -1,11 +1,11 @@
 use Rattle.std.proofs.Common.{rules, ◌≡◌, ◌==◌, ◌∙◌, true, length, ap}
 use Rattle.std.proofs.lemmas.Result.{on_ok_weaker}
 use Rattle.std.specs.Arc.{arc_value}
-use Rattle.pg_portal.specs.Names.{map_values}
+use Rattle.named_entries.specs.Names.{map_values}
 use Rattle.pg_portal.specs.declared.store.Entry.TheVariants.{Value}
 use Rattle.pg_portal.specs.Told.{entry_map, portal_of}
 use Rattle.pg_portal.proofs.StoreMaps.{maps_of}
-use Rattle.pg_portal.proofs.UnnamedEntries.{unnamed-insert}
+use Rattle.named_entries.proofs.UnnamedEntries.{unnamed-insert}
 use Rattle.pg_portal.proofs.mem_store.MemPortalStorePortalStore.put_portal.Goals as goal
 
 pub returns-then-is_empty-clause-ok : goal.returns-then-is_empty-clause-ok

@@ -1,5 +1,5 @@
 use Rattle.std.proofs.Common.{rules}
-use Rattle.pg_portal.proofs.NameMaps.{map_values-remove}
+use Rattle.named_entries.proofs.NameMaps.{map_values-remove}
 use Rattle.pg_portal.proofs.mem_store.MemPortalStorePortalStore.rm_portal.Goals as goal
 
 pub returns : goal.returns

@@ -1,5 +1,5 @@
 use Rattle.std.proofs.Common.{refl, subst}
-use Rattle.pg_handlers.specs.Sending.{IsAnswerableError}
+use Rattle.pg_client.specs.Ends.{IsAnswerableError}
 use Rattle.pg_session.specs.Messages.{scope_for}
 use Rattle.pg_session.proofs.Failing.{failed_by_told}
 use Rattle.pg_session.proofs.session.Session.fail.Goals as goal

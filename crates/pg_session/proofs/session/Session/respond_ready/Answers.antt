@@ -1,4 +1,4 @@
-use Rattle.pg_handlers.proofs.Desks.{goes_on_none}
+use Rattle.pg_client.proofs.Desks.{goes_on_none}
 use Rattle.pg_session.proofs.Silently.{never_stopped, one_of_both, silently_fed}
 use Rattle.pg_session.proofs.session.Session.respond_ready.Goals as goal
 

@@ -1,5 +1,5 @@
 use Rattle.std.proofs.Common.{Option, ◌∙◌}
-use Rattle.pg_handlers.specs.declared.ends.EndKind.{EndKind}
+use Rattle.pg_client.specs.declared.ends.EndKind.{EndKind}
 use Rattle.std.proofs.Common.{ap, sym, ◌∙◌}
 use Rattle.pg_handlers.specs.Table.{scope_in}
 use Rattle.pg_session.specs.Messages.{scope_for}

@@ -1,6 +1,6 @@
 use Rattle.std.proofs.Common.{Ok, refl, subst, ◌∙◌}
-use Rattle.pg_handlers.proofs.Desks.{goes_on_none, goes_on_then}
-use Rattle.pg_handlers.specs.Answer.{Goes}
+use Rattle.pg_client.proofs.Desks.{goes_on_none, goes_on_then}
+use Rattle.pg_client.specs.Answer.{Goes}
 use Rattle.pg_session.specs.Session.{whole_rules}
 use Rattle.pg_session.specs.Steps.{IsServed, WasFed}
 use Rattle.pg_session.specs.declared.ends.Progress.TheVariants.{More}

@@ -1,6 +1,6 @@
 use Rattle.std.proofs.Common.{◌≡◌, ◌≤◌, true, length}
-use Rattle.pg_handlers.specs.Desk.{GoesOn}
-use Rattle.pg_handlers.specs.Answer.{Goes}
+use Rattle.pg_client.specs.Desk.{GoesOn}
+use Rattle.pg_client.specs.Answer.{Goes}
 use Rattle.pg_handlers.specs.Questions.{questions_since}
 use Rattle.pg_session.specs.Session.{whole_rules}
 use Rattle.pg_session.specs.Steps.{IsServed}

@@ -1,5 +1,5 @@
 use Rattle.std.proofs.Common.{◌++◌, ℕ, Err, arith}
-use Rattle.pg_handlers.proofs.Desks.{goes_on_none}
+use Rattle.pg_client.proofs.Desks.{goes_on_none}
 use Rattle.pg_session.specs.declared.ends.ServeError.TheVariants as serve
 use Rattle.pg_session.specs.Session.{whole_rules}
 use Rattle.pg_session.specs.Streams.{HasSinkCause}

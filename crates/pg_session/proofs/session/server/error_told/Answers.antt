@@ -4,15 +4,15 @@ use Rattle.std.proofs.lemmas.Result.{err_from_is_err_and}
 use Rattle.std.proofs.lemmas.Slice.Eq.{bytes_eq-Decides}
 use Rattle.pg_messages.specs.declared.response.ErrorInfo.{ErrorInfo}
 use Rattle.pg_messages.specs.Replies.{replies_bytes, reply_bytes}
-use Rattle.pg_handlers.specs.Answer.{Ends}
-use Rattle.pg_handlers.specs.Effect.{Scope, failed}
-use Rattle.pg_handlers.specs.Errors.{is_fatal}
-use Rattle.pg_handlers.specs.Replies.{error_reply}
-use Rattle.pg_handlers.specs.State.{State}
-use Rattle.pg_handlers.specs.declared.ends.EndKind.TheVariants as end
+use Rattle.pg_client.specs.Answer.{Ends}
+use Rattle.pg_client.specs.Effect.{Scope, failed}
+use Rattle.pg_client.specs.Errors.{is_fatal}
+use Rattle.pg_replies.specs.Replies.{error_reply}
+use Rattle.pg_client.specs.State.{State}
+use Rattle.pg_client.specs.declared.ends.EndKind.TheVariants as end
 use Rattle.pg_session.specs.Messages.{scope_for}
-use Rattle.pg_portal.specs.Errors.{info_of}
-use Rattle.pg_handlers.specs.State.{state_of}
+use Rattle.pg_results.specs.Errors.{info_of}
+use Rattle.pg_client.specs.State.{state_of}
 use Rattle.pg_session.proofs.ToldErrors.{told_ready, told_waiting, next_waiting, next_ready}
 use Rattle.pg_session.proofs.session.server.error_told.Goals as goal
 

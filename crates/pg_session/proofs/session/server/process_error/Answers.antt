@@ -1,9 +1,9 @@
 use Rattle.std.proofs.Common.{◌≡◌, ◌++◌, ◌∙◌, [], ap, subst, true, IfOk, OnOk}
 use Rattle.std.specs.Arc.{arc_value}
 use Rattle.pg_messages.specs.Replies.{replies_bytes}
-use Rattle.pg_portal.specs.Errors.{info_of}
-use Rattle.pg_handlers.specs.Effect.{failed}
-use Rattle.pg_handlers.specs.State.{state_of}
+use Rattle.pg_results.specs.Errors.{info_of}
+use Rattle.pg_client.specs.Effect.{failed}
+use Rattle.pg_client.specs.State.{state_of}
 use Rattle.pg_handlers.proofs.GoodStores.{good_parts}
 use Rattle.pg_session.specs.Messages.{scope_for, next_of}
 use Rattle.pg_session.proofs.session.server.process_error.Goals as goal

@@ -2,8 +2,8 @@ use Rattle.std.proofs.Common.{◌≡◌, ℕ, List, IfOk, subst, sym, ap, codes,
 use Rattle.std.specs.FinMap as fin
 use Rattle.std.specs.Option.{unwrap_or}
 use Rattle.pg_text.specs.Words.{interval_style_of}
-use Rattle.pg_portal.specs.declared.client.ClientInfo.{ClientInfo}
-use Rattle.pg_portal.specs.Texts.{IsShortText}
+use Rattle.pg_results.specs.declared.client.ClientInfo.{ClientInfo}
+use Rattle.pg_results.specs.Texts.{IsShortText}
 use Rattle.relation_tables.specs.RelationHandler.{or_refused, style_text}
 use Rattle.relation_tables.proofs.ShortTexts.{style_short}
 use Rattle.relation_handlers.proofs.style.SessionStyle.of.Goals as goal

@@ -1,6 +1,6 @@
 use Rattle.std.proofs.Common.{◌≡◌, ℕ, List, Option, Some, subst, codes, unwrap_or, rules}
 use Rattle.std.specs.FinMap as fin
-use Rattle.pg_portal.specs.Texts.{IsShortText}
+use Rattle.pg_results.specs.Texts.{IsShortText}
 use Rattle.relation_tables.proofs.ShortTexts.{style_short}
 use Rattle.relation_handlers.proofs.table.RelationTable.settings_of.Goals as goal
 

@@ -1,7 +1,7 @@
 use Rattle.std.proofs.Common.{◌≡◌, ◌⊎◌, None, Err, codes, false, inl, inr, ◌∙◌, subst, rules}
 use Rattle.std.specs.Option.{option_copied}
 use Rattle.std.specs.Str.{bytes_eq}
-use Rattle.pg_portal.specs.Told.{IsOutcome}
+use Rattle.pg_results.specs.Told.{IsOutcome}
 use Rattle.query_texts.specs.QueryTexts.{trimmed}
 use Rattle.styles.specs.Reading.{interval_of}
 use Rattle.styles.proofs.Sendable.{text_refused}

@@ -1,8 +1,8 @@
 use Rattle.std.proofs.Common.{◌∙◌, ap, sym}
 use Rattle.pg_interval.specs.Pairs.{checked}
 use Rattle.pg_interval.specs.Reader.{decimal_from, number_read, time_unit, so_far, tallied}
-use Rattle.pg_interval.specs.declared.interval_parse.parse_error.DecimalError.TheVariants.{OutOfRange}
-use Rattle.pg_interval.specs.declared.interval_parse.parse_error.ParseError.TheVariants.{ParseFloatErr}
+use Rattle.interval_errors.specs.declared.DecimalError.TheVariants.{OutOfRange}
+use Rattle.interval_errors.specs.declared.ParseError.TheVariants.{ParseFloatErr}
 use Rattle.pg_interval.proofs.ReadSums.{tallied_fits}
 use Rattle.pg_interval.proofs.interval_parse.parts.Totals.take.Goals as goal
 

@@ -1,10 +1,10 @@
 use Rattle.std.proofs.Common.{◌≡◌, ◌∙◌, ap, subst, IfOk, OnErr}
 use Rattle.std.specs.Arc.{arc_value}
 use Rattle.pg_messages.specs.declared.frontend.PgWireFrontendMessage.TheVariants as client
-use Rattle.pg_portal.specs.declared.client.PgWireConnectionState.TheVariants as phase
-use Rattle.pg_handlers.specs.Answer.{Goes}
-use Rattle.pg_handlers.specs.Effect.{Done, IsEffect, IsRefusedEffect}
-use Rattle.pg_handlers.specs.State.{state_of}
+use Rattle.pg_results.specs.declared.client.PgWireConnectionState.TheVariants as phase
+use Rattle.pg_client.specs.Answer.{Goes}
+use Rattle.pg_client.specs.Effect.{Done, IsEffect, IsRefusedEffect}
+use Rattle.pg_client.specs.State.{state_of}
 use Rattle.pg_handlers.specs.Table.{statement_row, whole_table}
 use Rattle.pg_session.specs.Messages.{next_of}
 use Rattle.pg_session.specs.Steps.{IsAnswered, IsCutAnswer}

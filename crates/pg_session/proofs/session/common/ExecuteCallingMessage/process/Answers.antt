@@ -1,8 +1,8 @@
 use Rattle.std.proofs.Common.{OnOk, IfErr, ap, subst, ◌∙◌}
 use Rattle.std.specs.Arc.{arc_value}
 use Rattle.pg_messages.specs.declared.frontend.PgWireFrontendMessage.TheVariants as client
-use Rattle.pg_handlers.specs.Effect.{Done, IsRefusedRow, IsRow}
-use Rattle.pg_handlers.specs.State.{state_of}
+use Rattle.pg_client.specs.Effect.{Done, IsRefusedRow, IsRow}
+use Rattle.pg_client.specs.State.{state_of}
 use Rattle.pg_handlers.specs.Table.{message_row, ready_row}
 use Rattle.pg_session.proofs.Calling.{called_ok, called_refused}
 use Rattle.pg_session.proofs.Narrowed.{called_goes_on}

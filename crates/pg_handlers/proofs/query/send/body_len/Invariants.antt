@@ -1,7 +1,0 @@
--- The columns so far are counted.
-use Rattle.std.proofs.Common.{◌≡◌, ◌+◌, length, take}
-use Rattle.pg_handlers.proofs.Pieces.{told}
-use Rattle.pg_handlers.proofs.query.send.body_len.Given as goal
-
-abbrev pub invariant-loop-field : goal.invariant-loop-field
-invariant-loop-field l = l.len ≡ 2 + length (told (take l.field-index l.fields))

@@ -1,6 +1,0 @@
-use Rattle.std.proofs.Common.{◌≡◌, map, take}
-use Rattle.pg_text.specs.Types.{oid_of}
-use Rattle.pg_handlers.proofs.query.send.oids.Given as goal
-
-abbrev pub invariant-loop-ty : goal.invariant-loop-ty
-invariant-loop-ty l = l.told ≡ map oid_of (take l.ty-index l.types)

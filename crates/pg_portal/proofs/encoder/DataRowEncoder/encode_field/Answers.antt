@@ -1,0 +1,65 @@
+use Rattle.std.proofs.Common.{◌≡◌, ◌++◌, ◌+◌, ◌<◌, ℕ, zero, suc, List, [], ◌∷◌, length, get_or, Option, Some, Ok, Err, sym, ap, subst, ◌∙◌, arith}
+use Rattle.std.specs.Prelude.{slice_get, IsSomeAnd}
+use Rattle.std.proofs.lemmas.Result.{err_from_is_err_and}
+use Rattle.pg_text.specs.Cells.{Cell, AtCell}
+use Rattle.pg_portal.specs.Encoding.{RowSoFar, cell_bytes, columns_left, field_cell, with_cell, IsRefusal}
+use Rattle.pg_results.specs.Fields.{Field}
+use Rattle.pg_portal.proofs.encoder.DataRowEncoder.encode_field.Goals as goal
+
+item_at : (xs : List Field) (i : ℕ) (r : Field) → i < length xs → r ≡ get_or xs i r → slice_get xs i ≡ Some r
+item_at [] i r h e = absurd (omega arith)
+item_at (x ∷ xs) zero r h e = ap Some (sym e)
+item_at (x ∷ xs) (suc i) r h e = item_at xs i r (omega arith) e
+
+-- the next column's place in the columns
+column_at : (v row : RowSoFar) (xs ys : List Field) (i : ℕ) (r : Field) → v ≡ row → xs ≡ ys → ys ≡ v.fields → i ≡ v.cells
+    → r ≡ get_or xs i r → 0 < columns_left row → slice_get row.fields row.cells ≡ Some r
+column_at v row xs ys i r view same all at is some =
+    let fields : xs ≡ row.fields = same ∙ all ∙ ap (λ (row : RowSoFar). row.fields) view in
+    let place : i ≡ row.cells = at ∙ ap (λ (row : RowSoFar). row.cells) view in
+    item_at row.fields row.cells r (omega arith) (is ∙ ap (λ l. get_or l i r) fields ∙ ap (λ k. get_or row.fields k r) place)
+
+found : (o : Option Field) (r : Field) (P : Field → Type 0) → o ≡ Some r → P r → IsSomeAnd o P
+found o r P e h = rw e h
+
+more_at : (cell : Cell) (P Q : Option (List ℕ) → Type 0) → ((c : Option (List ℕ)) → P c → Q c) → AtCell cell P → AtCell cell Q
+more_at (Ok c) P Q more at = more c at
+more_at (Err e) P Q more at = at
+
+at_more : (cell other : Cell) (P Q : Option (List ℕ) → Type 0) → cell ≡ other → ((c : Option (List ℕ)) → P c → Q c) → AtCell cell P → AtCell other Q
+at_more cell other P Q e more at = more_at other P Q more (subst (λ (cell : Cell). AtCell cell P) e at)
+
+made : (v row : RowSoFar) (payload : List ℕ) (cell : Option (List ℕ)) → v ≡ row → payload ≡ v.payload ++ cell_bytes cell
+    → record { fields = v.fields; payload = payload; cells = v.cells + 1 } ≡ with_cell row cell
+made v row payload cell view e =
+    ap (λ (p : List ℕ). record { fields = v.fields; payload = p; cells = v.cells + 1 }) e ∙ ap (λ (r : RowSoFar). with_cell r cell) view
+
+pub returns-clause-cell : goal.returns-clause-cell
+returns-clause-cell g c =
+    let r : Field = c.index-as_slice-from.result in
+    let at = column_at _ c.args.self.now _ _ _ r c.self.view_is c.as_slice.ensures c.deref.ensures c.from.ensures c.index-as_slice-from.is c.requires in
+    let binary = g.T.ToSql.binary in
+    let text = g.T.ToSqlText.text in
+    let value = c.args.value.now in
+    let options = c.deref-2.result.now in
+    let same : field_cell binary text value c.datatype.result c.format.result options ≡ field_cell binary text value r.datatype r.format r.format_options =
+    ap (λ t. field_cell binary text value t c.format.result options) c.datatype.ensures
+    ∙ ap (λ f. field_cell binary text value r.datatype f options) c.format.ensures
+    ∙ ap (field_cell binary text value r.datatype r.format) (c.deref-2.ensures ∙ c.format_options-options.ensures) in
+    found _ r _ at
+    (at_more _ _ _ _ same (λ cell h. made _ c.args.self.now c.push_value.new.payload.items cell c.self.view_is h.0) c.in_ok-push_value.ensures.cell)
+
+pub returns-in_err-push_value-clause-refusal : goal.returns-in_err-push_value-clause-refusal
+returns-in_err-push_value-clause-refusal g c =
+    let r : Field = c.index-as_slice-from.result in
+    let at = column_at _ c.args.self.now _ _ _ r c.self.view_is c.as_slice.ensures c.deref.ensures c.from.ensures c.index-as_slice-from.is c.requires in
+    let binary = g.T.ToSql.binary in
+    let text = g.T.ToSqlText.text in
+    let value = c.args.value.now in
+    let options = c.deref-2.result.now in
+    let same : field_cell binary text value c.datatype.result c.format.result options ≡ field_cell binary text value r.datatype r.format r.format_options =
+    ap (λ t. field_cell binary text value t c.format.result options) c.datatype.ensures
+    ∙ ap (λ f. field_cell binary text value r.datatype f options) c.format.ensures
+    ∙ ap (field_cell binary text value r.datatype r.format) (c.deref-2.ensures ∙ c.format_options-options.ensures) in
+    let p = err_from_is_err_and c.from_residual.result c.from_residual.ensures.1 in
+    rw (p.1, p.2) (found _ r _ at (subst (λ (cell : Cell). IsRefusal cell c.in_err-push_value.field-0.0) same c.in_err-push_value.ensures.refusal))

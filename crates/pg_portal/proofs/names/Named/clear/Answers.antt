@@ -1,5 +1,0 @@
-use Rattle.pg_portal.proofs.UnnamedEntries.{none-left}
-use Rattle.pg_portal.proofs.names.Named.clear.Goals as goal
-
-pub returns : goal.returns
-returns g c = none-left c.clear.new.self.items c.clear-2.new.self.entries c.clear.ensures.items c.clear-2.ensures.empty

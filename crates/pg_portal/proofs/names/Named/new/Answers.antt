@@ -1,5 +1,0 @@
-use Rattle.pg_portal.proofs.UnnamedEntries.{none-left}
-use Rattle.pg_portal.proofs.names.Named.new.Goals as goal
-
-pub returns : goal.returns
-returns g c = none-left c.new.result.items c.new-2.result.entries c.new.ensures.items c.new-2.ensures.empty

@@ -1,0 +1,792 @@
+//! Replies to queries, appended to the outbox.
+
+ghost use Rattle.std.specs.Prelude.{◌≡◌, ◌≤◌, ◌<◌, ◌+◌, ◌^◌, ◌++◌, ◌⊎◌, [], ◌∷◌, Some, None, true, false, length, map, take, Bool, List, Ok, codes, IfOk, IfErr, IfSome, OnOk, OnErr};
+ghost use Rattle.pg_messages.specs.Fields.{count16, count32, int16, int32};
+ghost use Rattle.pg_messages.specs.Replies.{IsEncodable, reply_body, reply_bytes, replies_bytes, field_description};
+ghost use Rattle.std.specs.Arc.{arc_value};
+ghost use Rattle.std.proofs.Common.{ap, append-nil};
+ghost use Rattle.pg_messages.specs.declared.response.TransactionStatus.{TransactionStatus};
+ghost use Rattle.pg_types.specs.Types.{oid_of};
+ghost use Rattle.pg_messages.specs.declared.backend.PgWireBackendMessage.TheVariants as server;
+ghost use Rattle.pg_results.specs.Fields.{description_of};
+ghost use Rattle.pg_results.specs.Responses.{told_copy};
+ghost use Rattle.pg_results.specs.Copying.{IsNextCopy, IsSendableCopy};
+ghost use Rattle.pg_results.specs.Rows.{IsAnswerable, IsAnswerableItem};
+ghost use Rattle.pg_results.specs.Page.{CutsPage, EndsPage, delivered_after, item_page, before_error};
+ghost use Rattle.pg_results.specs.Tags.{tag_text};
+ghost use Rattle.pg_results.specs.Told.{IsRest, told_rows};
+ghost use Rattle.pg_results.specs.declared.error.PgWireError.{PgWireError};
+ghost use Rattle.pg_replies.specs.Replies.{IsTag, ready, done, done_with, row_description, row_replies, parameter_description};
+ghost use Rattle.pg_replies.specs.Descriptions.{columns_reply, description};
+ghost use Rattle.pg_replies.specs.PageEnd.{page_replies, page_end};
+ghost use Rattle.pg_replies.specs.ResponseRows.{sent_rows_behind, rows_front, sent_copy, copy_in_reply, copy_out_reply, copy_both_reply, copy_items, trailer_items, copy_count, copy_replies, copy_end, not_empty};
+ghost use Rattle.pg_replies.specs.Sending.{IsSentPage, IsMetError, IsSentData, IsRefusedData, IsAllSent};
+ghost use Rattle.pg_replies.specs.RowSending.{rows_behind};
+ghost use Rattle.pg_replies.specs.Telling.{IsToldSo};
+
+use itoa::Buffer;
+use pg_messages::{
+    CopyBothResponse, CopyData, CopyDone, CopyInResponse, CopyOutResponse, DataRow, NoData,
+    ParameterDescription, PgBytes, PgList, PgWireBackendMessage, PortalSuspended,
+    TransactionStatus,
+};
+use pg_outbox::Outbox;
+use pg_results::{
+    CopyResponse, CopySource, DeliveredPage, DescribeResponse, FieldInfo, PgWireError,
+    QueryResponse, RowReceiver, RowSource, Tag, deliver_page, finish_copy_binary,
+};
+use pg_types::PgType;
+use std::alloc::{AllocError, Global};
+
+/// Appends a reply, and lets it go. A reply of any kind is dropped here, and nowhere else.
+#[inline(always)]
+pub fn push_reply(outbox: &mut Outbox, reply: PgWireBackendMessage) -> Result<(), AllocError>
+    requires { IsEncodable reply }
+    ensures ok { OnOk result (outbox.new ≡ outbox.old ++ reply_bytes reply) }
+    ensures err { OnErr result (outbox.new ≡ outbox.old) }
+{
+    outbox.push(&reply)
+}
+
+/// Appends ReadyForQuery with a transaction status. After an error the outbox is as it was.
+pub fn send_ready_for_query(
+    outbox: &mut Outbox,
+    transaction_status: TransactionStatus,
+) -> Result<(), AllocError>
+    ensures ok { OnOk result
+        (outbox.new ≡ outbox.old ++ replies_bytes (ready transaction_status ∷ [])) }
+    ensures err { OnErr result (outbox.new ≡ outbox.old) }
+{
+    outbox.push_bytes(&ready_for_query(transaction_status))
+}
+
+/// The bytes of ReadyForQuery: its type byte, its length and the status.
+fn ready_for_query(transaction_status: TransactionStatus) -> [u8; 6]
+    ensures { result ≡ replies_bytes (ready transaction_status ∷ []) }
+{
+    match transaction_status {
+        TransactionStatus::Idle => [b'Z', 0, 0, 0, 5, b'I'],
+        TransactionStatus::Transaction => [b'Z', 0, 0, 0, 5, b'T'],
+        TransactionStatus::Error => [b'Z', 0, 0, 0, 5, b'E'],
+    }
+}
+
+/// Appends CommandComplete with the tag's text. After an error the outbox is as it was.
+pub fn send_execution_response(
+    alloc: Global,
+    outbox: &mut Outbox,
+    tag: Tag,
+) -> Result<(), AllocError>
+    requires { IsEncodable (done (tag_text tag)) }
+    ensures ok { OnOk result
+        (outbox.new ≡ outbox.old ++ replies_bytes (done (tag_text tag) ∷ [])) }
+    ensures err { OnErr result (outbox.new ≡ outbox.old) }
+{
+    let complete = tag.into_command_complete(alloc)?;
+    push_reply(outbox, PgWireBackendMessage::CommandComplete(complete))
+}
+
+/// Appends CommandComplete of a command with so many rows.
+pub fn send_done(
+    alloc: Global,
+    outbox: &mut Outbox,
+    command: &str,
+    rows: u64,
+) -> Result<(), AllocError>
+    requires { IsTag command.now }
+    ensures ok { OnOk result
+        (outbox.new ≡ outbox.old ++ replies_bytes (done_with command.now rows ∷ [])) }
+    ensures err { OnErr result (outbox.new ≡ outbox.old) }
+{
+    let start = outbox.len();
+    if let Err(error) = push_done(outbox, command, rows) {
+        outbox.truncate(start);
+        return Err(error);
+    }
+    Ok(())
+}
+
+/// Appends the bytes of CommandComplete of a command with so many rows. After an error some of them.
+fn push_done(outbox: &mut Outbox, command: &str, rows: u64) -> Result<(), AllocError>
+    requires { IsTag command.now }
+    ensures ok { OnOk result
+        (outbox.new ≡ outbox.old ++ replies_bytes (done_with command.now rows ∷ [])) }
+    ensures err { OnErr result (take (length outbox.old) outbox.new ≡ outbox.old) }
+{
+    if rows < 10 {
+        return push_few_done(outbox, command, rows);
+    }
+    push_many_done(outbox, command, rows)
+}
+
+/// Appends the bytes of CommandComplete of a command with less than ten rows, as most have: the
+/// digit needs no buffer. After an error some of them.
+#[inline(always)]
+fn push_few_done(outbox: &mut Outbox, command: &str, rows: u64) -> Result<(), AllocError>
+    requires tag { IsTag command.now }
+    requires few { rows < 10 }
+    ensures ok { OnOk result
+        (outbox.new ≡ outbox.old ++ replies_bytes (done_with command.now rows ∷ [])) }
+    ensures err { OnErr result (take (length outbox.old) outbox.new ≡ outbox.old) }
+{
+    outbox.push_bytes(&done_head(command.len() + 3))?;
+    outbox.push_bytes(command.as_bytes())?;
+    outbox.push_bytes(&[b' ', b'0' + rows as u8, 0])?;
+    Ok(())
+}
+
+/// Appends the bytes of CommandComplete of a command with so many rows, piece by piece, with no
+/// text of the tag. After an error some of them.
+#[inline(never)]
+fn push_many_done(outbox: &mut Outbox, command: &str, rows: u64) -> Result<(), AllocError>
+    requires { IsTag command.now }
+    ensures ok { OnOk result
+        (outbox.new ≡ outbox.old ++ replies_bytes (done_with command.now rows ∷ [])) }
+    ensures err { OnErr result (take (length outbox.old) outbox.new ≡ outbox.old) }
+{
+    let mut buffer = Buffer::new();
+    let digits = buffer.format(rows);
+    outbox.push_bytes(&done_head(command.len() + digits.len() + 2))?;
+    outbox.push_bytes(command.as_bytes())?;
+    outbox.push_bytes(b" ")?;
+    outbox.push_bytes(digits.as_bytes())?;
+    outbox.push_bytes(&[0])?;
+    Ok(())
+}
+
+/// Type byte and length of a CommandComplete with so many bytes behind them.
+fn done_head(body: usize) -> [u8; 5]
+    requires { body ≤ 1073741823 }
+    ensures { result ≡ 67 ∷ count32 (4 + body) }
+{
+    let [a, b, c, d] = (body as u32 + 4).to_be_bytes();
+    [b'C', a, b, c, d]
+}
+
+/// Appends RowDescription.
+#[inline(always)]
+fn send_row_description(
+    alloc: Global,
+    outbox: &mut Outbox,
+    fields: &[FieldInfo],
+) -> Result<(), AllocError>
+    requires { IsEncodable (row_description fields.now) }
+    ensures ok { OnOk result
+        (outbox.new ≡ outbox.old ++ replies_bytes (row_description fields.now ∷ [])) }
+    ensures err { OnErr result (outbox.new ≡ outbox.old) }
+{
+    let start = outbox.len();
+    if let Err(error) = push_row_description(outbox, fields) {
+        outbox.truncate(start);
+        return Err(error);
+    }
+    Ok(())
+}
+
+/// Appends the bytes of RowDescription, column by column. After an error some of them.
+fn push_row_description(outbox: &mut Outbox, fields: &[FieldInfo]) -> Result<(), AllocError>
+    requires { IsEncodable (row_description fields.now) }
+    ensures ok { OnOk result
+        (outbox.new ≡ outbox.old ++ replies_bytes (row_description fields.now ∷ [])) }
+    ensures err { OnErr result (take (length outbox.old) outbox.new ≡ outbox.old) }
+{
+    outbox.push_bytes(&description_head(body_len(fields), fields.len()))?;
+    for field in fields {
+        push_column(outbox, field)?;
+    }
+    Ok(())
+}
+
+/// How many bytes stand behind the length of a RowDescription: a count, and for each column its
+/// name and 19 bytes.
+fn body_len(fields: &[FieldInfo]) -> usize
+    requires { IsEncodable (row_description fields.now) }
+    ensures { result ≡ length (reply_body (row_description fields.now)) }
+{
+    let mut len = 2;
+    for field in fields {
+        len += field.name().len() + 19;
+    }
+    len
+}
+
+/// Type byte, length and count of a RowDescription with so many bytes behind the length.
+fn description_head(body: usize, count: usize) -> [u8; 7]
+    requires body { body ≤ 1073741823 }
+    requires count { count ≤ 32767 }
+    ensures { result ≡ 84 ∷ count32 (4 + body) ++ count16 count }
+{
+    let [a, b, c, d] = (body as u32 + 4).to_be_bytes();
+    let [e, f] = (count as u16).to_be_bytes();
+    [b'T', a, b, c, d, e, f]
+}
+
+/// Appends the bytes that tell of a column. After an error some of them.
+fn push_column(outbox: &mut Outbox, field: &FieldInfo) -> Result<(), AllocError>
+    ensures ok { OnOk result
+        (outbox.new ≡ outbox.old ++ field_description (description_of field.now)) }
+    ensures err { OnErr result (take (length outbox.old) outbox.new ≡ outbox.old) }
+{
+    outbox.push_bytes(field.name().as_bytes())?;
+    outbox.push_bytes(&behind_name(field))?;
+    Ok(())
+}
+
+/// What stands behind a column's name: the zero byte that ends it, and its numbers. An absent table
+/// or column is 0.
+fn behind_name(field: &FieldInfo) -> [u8; 19]
+    ensures { field_description (description_of field.now) ≡ field.now.name ++ result }
+{
+    column_bytes(
+        field.table_id().unwrap_or(0),
+        field.column_id().unwrap_or(0),
+        field.datatype().oid(),
+        field.type_size(),
+        field.type_modifier(),
+        field.format().value(),
+    )
+}
+
+/// A zero byte, Int32 table, Int16 column, Int32 type, Int16 size, Int32 modifier, Int16 format.
+fn column_bytes(
+    table: i32,
+    column: i16,
+    type_id: u32,
+    size: i16,
+    modifier: i32,
+    format: i16,
+) -> [u8; 19]
+    ensures { result ≡ 0 ∷ int32 table ++ int16 column ++ count32 type_id ++ int16 size
+        ++ int32 modifier ++ int16 format }
+{
+    let [a, b, c, d] = table.to_be_bytes();
+    let [e, f] = column.to_be_bytes();
+    let [g, h, i, j] = type_id.to_be_bytes();
+    let [k, l] = size.to_be_bytes();
+    let [m, n, o, p] = modifier.to_be_bytes();
+    let [q, r] = format.to_be_bytes();
+    [0, a, b, c, d, e, f, g, h, i, j, k, l, m, n, o, p, q, r]
+}
+
+/// The numbers of types.
+fn oids(alloc: Global, types: &[PgType]) -> Result<PgList<u32>, AllocError>
+    ensures { IfOk result (λ told. told ≡ map oid_of types.now) }
+{
+    let mut told = PgList::new(alloc);
+    for ty in types {
+        told.push(ty.oid())?;
+    }
+    Ok(told)
+}
+
+/// Appends ParameterDescription.
+fn send_parameter_description(
+    alloc: Global,
+    outbox: &mut Outbox,
+    types: &[PgType],
+) -> Result<(), AllocError>
+    requires { IsEncodable (parameter_description types.now) }
+    ensures ok { OnOk result
+        (outbox.new ≡ outbox.old ++ replies_bytes (parameter_description types.now ∷ [])) }
+    ensures err { OnErr result (outbox.new ≡ outbox.old) }
+{
+    let types = oids(alloc, types)?;
+    push_reply(
+        outbox,
+        PgWireBackendMessage::ParameterDescription(ParameterDescription { types }),
+    )
+}
+
+/// Appends what the columns of a statement or a portal are: RowDescription, or NoData where there
+/// is nothing to describe.
+fn send_columns<DR: DescribeResponse>(
+    alloc: Global,
+    outbox: &mut Outbox,
+    describe_response: &DR,
+) -> Result<(), AllocError>
+    requires { IsEncodable (row_description (DR.told describe_response.now).fields) }
+    ensures ok { OnOk result (outbox.new
+        ≡ outbox.old ++ replies_bytes (columns_reply (DR.told describe_response.now) ∷ [])) }
+    ensures err { OnErr result (outbox.new ≡ outbox.old) }
+{
+    if describe_response.is_no_data() {
+        return push_reply(outbox, PgWireBackendMessage::NoData(NoData {}));
+    }
+    send_row_description(alloc, outbox, describe_response.fields())
+}
+
+/// Appends what describes a statement or a portal: of a statement ParameterDescription, and then
+/// RowDescription, or NoData where there is nothing to describe. After an error the outbox is as it
+/// was.
+pub fn send_describe_response<DR: DescribeResponse>(
+    alloc: Global,
+    outbox: &mut Outbox,
+    describe_response: &DR,
+) -> Result<(), AllocError>
+    requires parameters { IfSome (DR.told describe_response.now).parameters
+        (λ types. IsEncodable (parameter_description types)) }
+    requires fields { IsEncodable (row_description (DR.told describe_response.now).fields) }
+    ensures ok { OnOk result (outbox.new
+        ≡ outbox.old ++ replies_bytes (description (DR.told describe_response.now))) }
+    ensures err { OnErr result (outbox.new ≡ outbox.old) }
+{
+    let start = outbox.len();
+    if let Some(types) = describe_response.parameters() {
+        send_parameter_description(alloc, outbox, types)?;
+    }
+    if let Err(error) = send_columns(alloc, outbox, describe_response) {
+        outbox.truncate(start);
+        return Err(error);
+    }
+    Ok(())
+}
+
+/// Appends what describes a statement or a portal, as `send_describe_response`, and lets it go.
+pub fn send_described<DR: DescribeResponse + Drop>(
+    alloc: Global,
+    outbox: &mut Outbox,
+    described: DR,
+) -> Result<(), AllocError>
+    requires parameters { IfSome (DR.told described).parameters
+        (λ types. IsEncodable (parameter_description types)) }
+    requires fields { IsEncodable (row_description (DR.told described).fields) }
+    ensures ok { OnOk result (outbox.new
+        ≡ outbox.old ++ replies_bytes (description (DR.told described))) }
+    ensures err { OnErr result (outbox.new ≡ outbox.old) }
+{
+    send_describe_response(alloc, outbox, &described)
+}
+
+/// Appends what describes a statement or a portal, or answers the error that was told in its place.
+/// After an error the outbox is as it was.
+pub fn send_told<DR: DescribeResponse + Drop>(
+    alloc: Global,
+    outbox: &mut Outbox,
+    told: Result<DR, PgWireError>,
+) -> Result<(), PgWireError>
+    requires parameters { IfOk told (λ d. IfSome (DR.told d).parameters
+        (λ types. IsEncodable (parameter_description types))) }
+    requires fields { IfOk told (λ d. IsEncodable (row_description (DR.told d).fields)) }
+    requires answerable { IfErr told IsAnswerable }
+    ensures sent { IsToldSo (λ d. description (DR.told d)) told outbox.old outbox.new result }
+    ensures answerable { IfErr result IsAnswerable }
+    ensures waiting { OnErr result (outbox.new ≡ outbox.old) }
+{
+    send_described(alloc, outbox, told?)?;
+    Ok(())
+}
+
+/// Sends the rows that it receives, each as a reply.
+#[derive(Drop)]
+struct RowSender<'a> {
+    outbox: &'a mut Outbox,
+}
+
+impl<'a> RowReceiver for RowSender<'a> {
+    ghost with_rows = { λ sender rows. record sender {
+      outbox = record sender.outbox {
+        now = sender.outbox.now ++ replies_bytes (row_replies rows);
+      };
+    } };
+
+    /// Appends DataRow.
+    #[inline(always)]
+    fn receive(&mut self, _alloc: Global, row: &DataRow) -> Result<(), AllocError> {
+        self.outbox.push_row(row)
+    }
+
+    ghost none = { λ sender. ap (λ now. record sender
+        { outbox = record sender.outbox { now = now } })
+        (append-nil sender.outbox.now) };
+
+    ghost more = { λ sender rows behind. ap
+        (λ now. record sender { outbox = record sender.outbox { now = now } })
+        (rows_behind sender.outbox.now rows behind) };
+}
+
+/// Appends the next page of a response, of which so many rows were delivered: at most so many
+/// DataRows, and below 1 all of them; then PortalSuspended where the limit was reached, or else
+/// CommandComplete with the tag and the number of rows delivered. The error of an item is answered
+/// as by `send_partial_query_response`.
+pub fn send_next_page<R: RowSource>(
+    alloc: Global,
+    outbox: &mut Outbox,
+    results: &mut QueryResponse<R>,
+    delivered: u64,
+    max_rows: i32,
+) -> Result<DeliveredPage, PgWireError>
+    requires { IsTag results.old.command_tag }
+    ensures page { IfOk result (λ page. IsSentPage (told_rows R.items results.old)
+        (item_page max_rows (R.items results.old.data_rows)).ending
+        page.suspended (told_rows R.items results.new)) }
+    ensures delivered { IfOk result (λ page. page.delivered ≡ delivered_after delivered
+        (length (item_page max_rows (R.items results.old.data_rows)).rows)) }
+    ensures replied { OnOk result (outbox.new ≡ outbox.old ++ replies_bytes
+        (page_replies results.old.command_tag
+        (delivered_after delivered
+        (length (item_page max_rows (R.items results.old.data_rows)).rows))
+        (item_page max_rows (R.items results.old.data_rows)).rows
+        (item_page max_rows (R.items results.old.data_rows)).ending)) }
+    ensures fewer { OnOk result
+        (length (item_page max_rows (R.items results.old.data_rows)).rows < 2 ^ 64) }
+    ensures refused { IfErr result (λ e. (e ≡ PgWireError.NoMemory)
+        ⊎ IsMetError (told_rows R.items results.old)
+        (item_page max_rows (R.items results.old.data_rows)).ending
+        e (told_rows R.items results.new) outbox.old outbox.new) }
+    ensures answerable { IfErr result IsAnswerableItem }
+    ensures tag { results.new.command_tag ≡ results.old.command_tag }
+    ensures fields { arc_value results.new.row_schema ≡ arc_value results.old.row_schema }
+    ensures left { OnErr result
+        (IsRest (told_rows R.items results.old) (told_rows R.items results.new)) }
+    ensures begins { length outbox.old ≤ length outbox.new }
+    ensures kept { take (length outbox.old) outbox.new ≡ outbox.old }
+{
+    let page = deliver_to(alloc, outbox, &mut results.data_rows, delivered, max_rows)?;
+    // A length is a usize, and the rows are no more than their bytes, so that their number doesn't
+    // stand still.
+    let _waiting = outbox.len();
+    send_page_end(alloc, outbox, results.command_tag.as_str(), page)?;
+    Ok(page)
+}
+
+/// Appends the rows of the next page, as `deliver_page` delivers them.
+fn deliver_to<R: RowSource>(
+    alloc: Global,
+    outbox: &mut Outbox,
+    rows: &mut R,
+    delivered: u64,
+    max_rows: i32,
+) -> Result<DeliveredPage, PgWireError>
+    ensures ended { IfOk result (λ page. EndsPage (item_page max_rows (R.items rows.old)).ending
+        page.suspended (R.items rows.new)) }
+    ensures delivered { IfOk result (λ page. page.delivered
+        ≡ delivered_after delivered (length (item_page max_rows (R.items rows.old)).rows)) }
+    ensures sent { OnOk result (outbox.new ≡ outbox.old
+        ++ replies_bytes (row_replies (item_page max_rows (R.items rows.old)).rows)) }
+    ensures taken { OnOk result (R.items rows.old
+        ≡ map Ok (item_page max_rows (R.items rows.old)).rows ++ R.items rows.new) }
+    ensures cut_short { IfErr result (λ error. (received : List DataRow)
+        × CutsPage max_rows (R.items rows.old) received error (R.items rows.new)
+        × (outbox.new ≡ outbox.old ++ replies_bytes (row_replies received))) }
+    ensures own { IfErr result IsAnswerableItem }
+{
+    let mut sender = RowSender { outbox };
+    let page = deliver_page(alloc, rows, &mut sender, delivered, max_rows)?;
+    Ok(page)
+}
+
+/// Appends the end of a page: PortalSuspended where its limit was reached, or else CommandComplete
+/// with the command and the number of rows delivered.
+fn send_page_end(
+    alloc: Global,
+    outbox: &mut Outbox,
+    command: &str,
+    page: DeliveredPage,
+) -> Result<(), AllocError>
+    requires { IsTag command.now }
+    ensures ok { OnOk result (outbox.new ≡ outbox.old
+        ++ replies_bytes (page_end command.now page.delivered page.suspended)) }
+    ensures err { OnErr result (outbox.new ≡ outbox.old) }
+{
+    if page.suspended {
+        let suspended = PgWireBackendMessage::PortalSuspended(PortalSuspended {});
+        return push_reply(outbox, suspended);
+    }
+    send_done(alloc, outbox, command, page.delivered)
+}
+
+/// Appends a page of rows: at most so many DataRows, and below 1 all of them; then PortalSuspended
+/// where the limit was reached, which is answered by true, or else CommandComplete with the tag and
+/// the number of these rows. The error of an item is answered and the item consumed; the rows
+/// before it stay in the outbox. After NoMemory some of the rows may stand there, and are consumed.
+/// What waited before stays in front after every answer.
+pub fn send_partial_query_response<R: RowSource>(
+    alloc: Global,
+    outbox: &mut Outbox,
+    results: &mut QueryResponse<R>,
+    max_rows: i32,
+) -> Result<bool, PgWireError>
+    requires { IsTag results.old.command_tag }
+    ensures page { IfOk result (λ suspended. IsSentPage (told_rows R.items results.old)
+        (item_page max_rows (R.items results.old.data_rows)).ending
+        suspended (told_rows R.items results.new)) }
+    ensures replied { OnOk result (outbox.new ≡ outbox.old ++ replies_bytes
+        (page_replies results.old.command_tag
+        (length (item_page max_rows (R.items results.old.data_rows)).rows)
+        (item_page max_rows (R.items results.old.data_rows)).rows
+        (item_page max_rows (R.items results.old.data_rows)).ending)) }
+    ensures refused { IfErr result (λ e. (e ≡ PgWireError.NoMemory)
+        ⊎ IsMetError (told_rows R.items results.old)
+        (item_page max_rows (R.items results.old.data_rows)).ending
+        e (told_rows R.items results.new) outbox.old outbox.new) }
+    ensures answerable { IfErr result IsAnswerableItem }
+    ensures tag { results.new.command_tag ≡ results.old.command_tag }
+    ensures fields { arc_value results.new.row_schema ≡ arc_value results.old.row_schema }
+    ensures left { OnErr result
+        (IsRest (told_rows R.items results.old) (told_rows R.items results.new)) }
+    ensures begins { length outbox.old ≤ length outbox.new }
+    ensures kept { take (length outbox.old) outbox.new ≡ outbox.old }
+{
+    Ok(send_next_page(alloc, outbox, results, 0, max_rows)?.suspended)
+}
+
+/// Appends all rows of a query: RowDescription where it is wanted, a DataRow for each row,
+/// CommandComplete with the tag and their number. The error of an item is answered, and what stands
+/// before it, RowDescription and rows, stays in the outbox. After NoMemory any part of all this may
+/// stand there. What waited before stays in front after every answer.
+pub fn send_query_response<R: RowSource>(
+    alloc: Global,
+    outbox: &mut Outbox,
+    results: QueryResponse<R>,
+    send_describe: bool,
+) -> Result<(), PgWireError>
+    requires fields { IsEncodable (row_description (arc_value results.row_schema)) }
+    requires tag { IsTag results.command_tag }
+    ensures sent { (now : TransactionStatus) → IsAllSent
+        (sent_rows_behind (rows_front send_describe (told_rows R.items results)) now
+        (told_rows R.items results)) outbox.old outbox.new result }
+    ensures answerable { IfErr result IsAnswerableItem }
+    ensures kept { take (length outbox.old) outbox.new ≡ outbox.old }
+{
+    let mut results = results;
+    if send_describe {
+        send_row_description(alloc, outbox, results.row_schema.as_slice())?;
+    }
+    send_partial_query_response(alloc, outbox, &mut results, 0)?;
+    Ok(())
+}
+
+/// The next data of a COPY, and the trailer of binary data behind them. After an error all are
+/// still to come.
+fn next_data<C: CopySource>(
+    alloc: Global,
+    resp: &mut CopyResponse<C>,
+) -> Result<Option<Result<CopyData, PgWireError>>, AllocError>
+    ensures next { IsNextCopy (copy_items (told_copy C.items resp.old)) result
+        (copy_items (told_copy C.items resp.new)) }
+    ensures sendable { IfOk result (λ found. IfSome found IsSendableCopy) }
+    ensures format { resp.new.format ≡ resp.old.format }
+    ensures columns { resp.new.columns ≡ resp.old.columns }
+{
+    match resp.data_stream.next()? {
+        Some(item) => Ok(Some(item)),
+        None => next_trailer(alloc, &mut resp.trailer_left),
+    }
+}
+
+/// The trailer of binary data where it is still to come, which it isn't then. After an error it
+/// still is.
+fn next_trailer(
+    alloc: Global,
+    trailer_left: &mut bool,
+) -> Result<Option<Result<CopyData, PgWireError>>, AllocError>
+    ensures next { IsNextCopy (trailer_items trailer_left.old) result
+        (trailer_items trailer_left.new) }
+    ensures sendable { IfOk result (λ found. IfSome found IsSendableCopy) }
+{
+    if !*trailer_left {
+        return Ok(None);
+    }
+    let trailer = finish_copy_binary(alloc)?;
+    *trailer_left = false;
+    Ok(Some(Ok(trailer)))
+}
+
+/// Appends data of a COPY and counts them: empty data are skipped, and the trailer isn't counted.
+fn push_data(outbox: &mut Outbox, copied: &CopyData, count: usize) -> Result<usize, AllocError>
+    requires encodable { IsEncodable (server.CopyData copied.now) }
+    requires fewer { count ≤ length outbox.old }
+    ensures pushed { OnOk result
+        (outbox.new ≡ outbox.old ++ replies_bytes (copy_replies (not_empty (copied.now ∷ [])))) }
+    ensures err { OnErr result (outbox.new ≡ outbox.old) }
+    ensures counted { IfOk result (λ all. all ≡ count + copy_count (not_empty (copied.now ∷ []))) }
+    ensures fewer { IfOk result (λ all. all ≤ length outbox.new) }
+{
+    let bytes = copied.payload.as_slice();
+    if bytes.is_empty() {
+        return Ok(count);
+    }
+    let is_trailer = bytes == [255, 255].as_slice();
+    outbox.push_copied(copied)?;
+    // A length is a usize, so that the count, which is no larger, doesn't wrap.
+    let _waiting = outbox.len();
+    if is_trailer {
+        return Ok(count);
+    }
+    Ok(count + 1)
+}
+
+/// Appends the data of a COPY, and answers how many count. Data that are made in the short way
+/// share their memory.
+fn send_copy_data<C: CopySource>(
+    alloc: Global,
+    outbox: &mut Outbox,
+    resp: &mut CopyResponse<C>,
+) -> Result<usize, PgWireError>
+    ensures sent { IfOk result
+        (IsSentData (copy_items (told_copy C.items resp.old)) outbox.old outbox.new) }
+    ensures refused { IfErr result (λ e. (e ≡ PgWireError.NoMemory)
+        ⊎ IsRefusedData (copy_items (told_copy C.items resp.old)) outbox.old outbox.new e) }
+    ensures answerable { IfErr result IsAnswerableItem }
+    ensures kept { take (length outbox.old) outbox.new ≡ outbox.old }
+{
+    let mut copied = CopyData {
+        payload: PgBytes::from_vec(Vec::new(alloc)),
+    };
+    send_copy_through(alloc, outbox, resp, &mut copied)
+}
+
+/// Appends the data of a COPY, as `send_copy_data`, which are lent these.
+#[inline(always)]
+fn send_copy_through<C: CopySource>(
+    alloc: Global,
+    outbox: &mut Outbox,
+    resp: &mut CopyResponse<C>,
+    lent: &mut CopyData,
+) -> Result<usize, PgWireError>
+    ensures sent { IfOk result
+        (IsSentData (copy_items (told_copy C.items resp.old)) outbox.old outbox.new) }
+    ensures refused { IfErr result (λ e. (e ≡ PgWireError.NoMemory)
+        ⊎ IsRefusedData (copy_items (told_copy C.items resp.old)) outbox.old outbox.new e) }
+    ensures answerable { IfErr result IsAnswerableItem }
+    ensures kept { take (length outbox.old) outbox.new ≡ outbox.old }
+{
+    let mut count = 0;
+    loop {
+        // Most data come in the short way.
+        if resp.data_stream.next_copied(lent)? {
+            count = push_data(outbox, lent, count)?;
+            continue;
+        }
+        match next_data(alloc, resp)? {
+            None => return Ok(count),
+            Some(Err(error)) => return Err(error),
+            Some(Ok(copied)) => count = push_data(outbox, &copied, count)?,
+        }
+    }
+}
+
+/// Appends the end of a COPY: CopyDone, and CommandComplete with the number of data.
+fn send_copy_end(alloc: Global, outbox: &mut Outbox, count: usize) -> Result<(), AllocError>
+    ensures ok { OnOk result (outbox.new ≡ outbox.old ++ replies_bytes (copy_end count)) }
+    ensures kept { take (length outbox.old) outbox.new ≡ outbox.old }
+{
+    push_reply(outbox, PgWireBackendMessage::CopyDone(CopyDone {}))?;
+    send_done(alloc, outbox, "COPY", count as u64)?;
+    Ok(())
+}
+
+/// Appends CopyInResponse. After an error the outbox is as it was.
+pub fn send_copy_in_response<C: CopySource>(
+    alloc: Global,
+    outbox: &mut Outbox,
+    resp: &CopyResponse<C>,
+) -> Result<(), AllocError>
+    requires { resp.now.columns ≤ 32767 }
+    ensures ok { OnOk result (outbox.new
+        ≡ outbox.old ++ replies_bytes (copy_in_reply (told_copy C.items resp.now) ∷ [])) }
+    ensures err { OnErr result (outbox.new ≡ outbox.old) }
+{
+    let head = CopyInResponse {
+        format: resp.format,
+        columns: resp.columns as i16,
+        column_formats: resp.column_formats(alloc)?,
+    };
+    push_reply(outbox, PgWireBackendMessage::CopyInResponse(head))
+}
+
+/// Appends CopyInResponse, as `send_copy_in_response`, and lets the COPY go.
+pub fn send_copy_in<C: CopySource>(
+    alloc: Global,
+    outbox: &mut Outbox,
+    resp: CopyResponse<C>,
+) -> Result<(), AllocError>
+    requires { resp.columns ≤ 32767 }
+    ensures ok { OnOk result (outbox.new
+        ≡ outbox.old ++ replies_bytes (copy_in_reply (told_copy C.items resp) ∷ [])) }
+    ensures err { OnErr result (outbox.new ≡ outbox.old) }
+{
+    send_copy_in_response(alloc, outbox, &resp)
+}
+
+/// Appends CopyOutResponse.
+fn send_copy_out_head<C: CopySource>(
+    alloc: Global,
+    outbox: &mut Outbox,
+    resp: &CopyResponse<C>,
+) -> Result<(), AllocError>
+    requires { resp.now.columns ≤ 32767 }
+    ensures ok { OnOk result (outbox.new
+        ≡ outbox.old ++ replies_bytes (copy_out_reply (told_copy C.items resp.now) ∷ [])) }
+    ensures err { OnErr result (outbox.new ≡ outbox.old) }
+{
+    let head = CopyOutResponse {
+        format: resp.format,
+        columns: resp.columns as i16,
+        column_formats: resp.column_formats(alloc)?,
+    };
+    push_reply(outbox, PgWireBackendMessage::CopyOutResponse(head))
+}
+
+/// Appends CopyBothResponse.
+fn send_copy_both_head<C: CopySource>(
+    alloc: Global,
+    outbox: &mut Outbox,
+    resp: &CopyResponse<C>,
+) -> Result<(), AllocError>
+    requires { resp.now.columns ≤ 32767 }
+    ensures ok { OnOk result (outbox.new
+        ≡ outbox.old ++ replies_bytes (copy_both_reply (told_copy C.items resp.now) ∷ [])) }
+    ensures err { OnErr result (outbox.new ≡ outbox.old) }
+{
+    let head = CopyBothResponse {
+        format: resp.format,
+        columns: resp.columns as i16,
+        column_formats: resp.column_formats(alloc)?,
+    };
+    push_reply(outbox, PgWireBackendMessage::CopyBothResponse(head))
+}
+
+/// Appends a COPY to the client: CopyOutResponse, CopyData for each data that isn't empty,
+/// CopyDone, and CommandComplete `COPY n` for n data without the trailer. The error of an item is
+/// answered, and what stands before it stays in the outbox. After NoMemory any part of all this may
+/// stand there. What waited before stays in front after every answer.
+pub fn send_copy_out_response<C: CopySource>(
+    alloc: Global,
+    outbox: &mut Outbox,
+    resp: CopyResponse<C>,
+) -> Result<(), PgWireError>
+    requires { resp.columns ≤ 32767 }
+    ensures sent { (now : TransactionStatus) → IsAllSent (sent_copy now false
+        (copy_out_reply (told_copy C.items resp)) (told_copy C.items resp)) outbox.old outbox.new
+        result }
+    ensures answerable { IfErr result IsAnswerableItem }
+    ensures kept { take (length outbox.old) outbox.new ≡ outbox.old }
+{
+    let mut resp = resp;
+    send_copy_out_head(alloc, outbox, &resp)?;
+    let count = send_copy_data(alloc, outbox, &mut resp)?;
+    send_copy_end(alloc, outbox, count)?;
+    Ok(())
+}
+
+/// Appends a COPY both ways: CopyBothResponse, and then as `send_copy_out_response`, with its
+/// errors.
+pub fn send_copy_both_response<C: CopySource>(
+    alloc: Global,
+    outbox: &mut Outbox,
+    resp: CopyResponse<C>,
+) -> Result<(), PgWireError>
+    requires { resp.columns ≤ 32767 }
+    ensures sent { (now : TransactionStatus) → IsAllSent (sent_copy now true
+        (copy_both_reply (told_copy C.items resp)) (told_copy C.items resp)) outbox.old outbox.new
+        result }
+    ensures answerable { IfErr result IsAnswerableItem }
+    ensures kept { take (length outbox.old) outbox.new ≡ outbox.old }
+{
+    let mut resp = resp;
+    send_copy_both_head(alloc, outbox, &resp)?;
+    let count = send_copy_data(alloc, outbox, &mut resp)?;
+    send_copy_end(alloc, outbox, count)?;
+    Ok(())
+}

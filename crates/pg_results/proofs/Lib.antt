@@ -1,0 +1,4 @@
+pub mod Paging
+pub mod Delivering
+pub mod SameColumns
+pub mod Taking

@@ -1,0 +1,16 @@
+pub mod Texts
+pub mod Errors
+pub mod Clients
+pub mod Rows
+pub mod Copying
+pub mod Formats
+pub mod Fields
+pub mod SameFields
+pub mod Tags
+pub mod Describing
+pub mod Page
+pub mod Told
+pub mod Making
+pub mod Responses
+pub mod Noop
+pub mod Statements

@@ -1,0 +1,13 @@
+//! The types of values, the formats in which they are sent, the options by which they are written,
+//! and why one isn't written or read.
+#![tactic(auto)]
+
+mod error;
+mod field_format;
+mod format;
+mod pg_type;
+
+pub use error::CellError;
+pub use field_format::FieldFormat;
+pub use format::FormatOptions;
+pub use pg_type::PgType;
