@@ -1,13 +1,16 @@
 #!/usr/bin/env python3
-"""Writes the rows of conversations with cursors, crates/cursor_serving_rows/stdin.
+"""Writes the rows of conversations with cursors: over relations, crates/cursor_serving_rows/stdin, and by the handlers of sample
+queries, crates/cursor_sample_rows/stdin.
 
     python3 tools/cursor_serving_rows.py > crates/cursor_serving_rows/stdin
+    python3 tools/cursor_serving_rows.py sample > crates/cursor_sample_rows/stdin
 
 The replies to a command are those to its messages, which stand here beside it, changed by the rule of tools/cursor_rows.py;
 those of the row "cursor life" and "cursor refusals" are compared with the replies that they are to be, written out.
 """
 import re
 import struct
+import sys
 
 from cursor_rows import BOUND, CLOSED, COLUMNS, HALF, IDLE, MONTH, NO_DATA, PARSED, SUSPENDED, TRANSACTION, YEAR
 from cursor_rows import command_of, frame, replies_of, row, tag, written
@@ -15,13 +18,16 @@ from cursor_rows import command_of, frame, replies_of, row, tag, written
 HEAD = """\
 # A row: its name | how it is served | the client's bytes | how it ends | the bytes of the replies | the registry's calls. Made
 # by tools/cursor_serving_rows.py. Bytes are hexadecimal digits; a word "N*DIGITS" stands for its bytes N times. A row is served
-# over the built-in relations, under pid 7 and key 01020304, with 1000 turns, by options that semicolons split: "reads N N ..",
+# %s, under pid 7 and key 01020304, with 1000 turns, by options that semicolons split: "reads N N ..",
 # what each read gives, or "reads single", one byte each; "sweep cuts", once for each number of bytes that the first read gives;
 # "turns N"; "answers no yes ..", the registry's, and no past their end; "read_fails N", the read of this number, from 0;
-# "write_fails N M", the write of this number after M bytes; "front", any first bytes of the replies are expected; "handlers
-# sample", by the handlers of sample queries in the place of relations (the crate sample_handlers; pair: two rows; broken: a
-# row, an error, and two rows; failed: an error in the place of rows; done: a command; in, out, both: COPY of each direction). A
-# call is start, or yes or no for a question; where a write fails, any first calls are expected.
+# "write_fails N M", the write of this number after M bytes; "front", any first bytes of the replies are expected. A call is
+# start, or yes or no for a question; where a write fails, any first calls are expected.
+"""
+
+SAMPLES = """\
+# The handlers of sample queries are those of the crate sample_handlers: pair, two rows; broken, a row, an error, and two rows;
+# failed, an error in the place of rows; done, a command; in, out, both, a COPY of each direction.
 """
 
 
@@ -372,9 +378,6 @@ def questions():
     ])
 
 
-SAMPLE = "handlers sample"
-
-
 def error_items():
     print("\n# ---- errors among the rows that a FETCH asks for")
     broken = [
@@ -391,7 +394,7 @@ def error_items():
         NAMES, B, B, tag("FETCH 2"), IDLE,
         NAMES, tag("FETCH 0"), IDLE,
     ]
-    everywhere("an error item in the middle of a FETCH", broken, SAMPLE)
+    everywhere("an error item in the middle of a FETCH", broken)
     show("an error item between a FETCH and an Execute", [
         START,
         declare("b", "broken"),
@@ -404,7 +407,7 @@ def error_items():
         sync(),
         command("FETCH ALL FROM b", [NAMES, tag("SELECT 3"), IDLE]),
         TERMINATE,
-    ], SAMPLE)
+    ])
     show("an error item before a FETCH of all", [
         START,
         declare("b", "broken"),
@@ -412,20 +415,20 @@ def error_items():
         sync(),
         command("FETCH ALL FROM b", [NAMES, B, B, tag("SELECT 2"), IDLE]),
         TERMINATE,
-    ], SAMPLE)
+    ])
     show("an error in the place of rows", [
         START,
         declare("f", "failed"),
         command("FETCH 1 FROM f", [NO_DATA, REFUSED, IDLE], "start"),
         command("FETCH ALL FROM f", [NO_DATA, REFUSED, IDLE], "start"),
         TERMINATE,
-    ], SAMPLE)
+    ])
     show("a FETCH from a portal of a command", [
         START,
         declare("d", "done"),
         command("FETCH 1 FROM d", [NO_DATA, tag("INSERT 0 1"), IDLE], "start"),
         TERMINATE,
-    ], SAMPLE)
+    ])
 
 
 def copies():
@@ -445,13 +448,13 @@ def copies():
         execute("d", 0, [error("34000", 'portal "d" does not exist')]),
         sync(),
         TERMINATE,
-    ], SAMPLE)
+    ])
     show("a command behind a COPY from the client that failed", [
         START, pair, query("in", [COPY_IN]), *dropped, copy_fail("no", IDLE), fetched, TERMINATE,
-    ], SAMPLE)
+    ])
     show("a command inside a COPY both ways", [
         START, pair, query("both", COPY_BOTH), *dropped, copy_done([IDLE]), fetched, TERMINATE,
-    ], SAMPLE)
+    ])
     everywhere("a FETCH that begins a COPY from the client", [
         START,
         declare("i", "in"),
@@ -463,21 +466,24 @@ def copies():
         command("CLOSE i", [CLOSED, IDLE]),
         command("FETCH 1 FROM i", [error("34000", 'portal "i" does not exist'), IDLE]),
         TERMINATE,
-    ], SAMPLE)
+    ])
     show("a FETCH that is a COPY to the client", [
         START, declare("o", "out"), command("FETCH 1 FROM o", [NO_DATA, *COPY_OUT, IDLE], "start"), TERMINATE,
-    ], SAMPLE)
+    ])
 
 
 def main():
-    print(HEAD)
+    if sys.argv[1:] == ["sample"]:
+        print(HEAD % "by the handlers of sample queries", SAMPLES, sep="", end="")
+        error_items()
+        copies()
+        return
+    print(HEAD % "over the built-in relations")
     lives()
     faults()
     portals()
     phases()
     questions()
-    error_items()
-    copies()
 
 
 if __name__ == "__main__":

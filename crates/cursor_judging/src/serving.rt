@@ -1,88 +1,64 @@
 //! The conversation of a row is served.
 
-use crate::handlers::serve_sample;
 use crate::row::Row;
 use crate::verdict::{Difference, first_difference};
-use cursor_serving::serve_cursors_on;
 use pg_handlers::ScriptDesk;
 use pg_messages::{PgBytes, PgList, SecretKey};
 use pg_session::{EndKind, ServeError};
 use pg_streams::{MemorySink, MemorySource};
-use relation_serving::built_in_table;
 use row_files::{Fault, numbers_of, parsed, singles, up_to_one};
 use std::alloc::{AllocError, Global};
 
 /// How a conversation ends.
 pub type Ending = Result<EndKind, ServeError>;
 
+/// Who serves a client with cursors.
+pub trait Serving: Drop {
+    /// Serves a client that has so many turns, with a registry's answers.
+    fn serve<'t>(
+        &self,
+        alloc: Global,
+        desk: &mut ScriptDesk,
+        source: &mut MemorySource,
+        sink: &mut MemorySink,
+        turns: u64,
+    ) -> Result<Ending, Fault<'t>>;
+}
+
 /// The first difference between what a row expects and what came of it, where its reads give so
 /// many bytes.
-pub fn judge_one<'t>(
+pub fn judge_one<'t, S: Serving>(
     alloc: Global,
+    serving: &S,
     row: &Row<'t>,
     pieces: Vec<usize>,
 ) -> Result<Option<Difference>, Fault<'t>> {
     let mut source = source_of(alloc, row, pieces)?;
-    judge_from(alloc, row, &mut source)
+    judge_from(alloc, serving, row, &mut source)
 }
 
-fn judge_from<'t>(
+fn judge_from<'t, S: Serving>(
     alloc: Global,
+    serving: &S,
     row: &Row<'t>,
     source: &mut MemorySource,
 ) -> Result<Option<Difference>, Fault<'t>> {
     let mut sink = sink_of(alloc, row)?;
-    judge_into(alloc, row, source, &mut sink)
+    judge_into(alloc, serving, row, source, &mut sink)
 }
 
 /// Serves a client with the registry's answers that the row tells.
-fn judge_into<'t>(
+fn judge_into<'t, S: Serving>(
     alloc: Global,
+    serving: &S,
     row: &Row<'t>,
     source: &mut MemorySource,
     sink: &mut MemorySink,
 ) -> Result<Option<Difference>, Fault<'t>> {
     let turns = turns_of(row)?;
     let mut desk = desk_of(alloc, row.option("answers").unwrap_or(""))?;
-    let end = serve_told(
-        alloc,
-        row.option("handlers"),
-        &mut desk,
-        source,
-        sink,
-        turns,
-    )?;
+    let end = serving.serve(alloc, &mut desk, source, sink, turns)?;
     Ok(first_difference(row, end, sink.bytes(), desk.calls()))
-}
-
-/// Serves a client over the built-in relations, or by the handlers of this name.
-fn serve_told<'t>(
-    alloc: Global,
-    handlers: Option<&'t str>,
-    desk: &mut ScriptDesk,
-    source: &mut MemorySource,
-    sink: &mut MemorySink,
-    turns: u64,
-) -> Result<Ending, Fault<'t>> {
-    match handlers {
-        None => serve_relations(alloc, desk, source, sink, turns),
-        Some("sample") => serve_sample(alloc, desk, source, sink, turns),
-        Some(other) => Err(Fault::Line(other)),
-    }
-}
-
-/// Serves a client over the built-in relations.
-fn serve_relations<'t>(
-    alloc: Global,
-    desk: &mut ScriptDesk,
-    source: &mut MemorySource,
-    sink: &mut MemorySink,
-    turns: u64,
-) -> Result<Ending, Fault<'t>> {
-    match built_in_table(alloc) {
-        Ok(relations) => Ok(serve_cursors_on(alloc, desk, &relations, source, sink, turns)),
-        Err(_) => Err(Fault::NoMemory),
-    }
 }
 
 /// What each read gives, as the row tells.
