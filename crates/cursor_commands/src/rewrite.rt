@@ -9,7 +9,7 @@ ghost use Rattle.cursor_commands.specs.Rewriting.{changed, AppendsReply, Appends
 use crate::command::CursorCommand;
 use bytes::BytesMut;
 use pg_messages::{CommandComplete, PgWireBackendMessage, PgWireMessageServerCodec};
-use pg_portal::Tag;
+use pg_results::Tag;
 use std::alloc::{AllocError, Global};
 
 /// What becomes of replies.

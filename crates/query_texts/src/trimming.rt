@@ -4,7 +4,7 @@ ghost use Rattle.std.specs.Prelude.{◌≡◌, take, drop};
 ghost use Rattle.std.specs.Str.{IsCharBoundary};
 ghost use Rattle.query_texts.specs.QueryTexts.{without_front_padding, without_end_padding, trimmed};
 
-use pg_portal::is_padding;
+use pg_results::is_padding;
 
 /// The query without the whitespace and semicolons at both ends.
 pub fn trimmed(query: &str) -> &str

@@ -7,7 +7,7 @@ ghost use Rattle.recording_text.specs.Judging.{AnswersUnlessNoMemory, Gives, bot
 ghost use Rattle.recording_text.specs.Text.{tag, recording_text, IsKey, IsRecordable};
 
 use crate::recording::{ReadError, Recording};
-use pg_handlers::{DeskCall, EndKind};
+use pg_client::{DeskCall, EndKind};
 use pg_messages::{KeyError, PgBytes, PgList, SecretKey};
 use std::alloc::Global;
 

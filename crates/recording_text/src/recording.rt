@@ -3,7 +3,7 @@
 ghost use Rattle.std.specs.Prelude.{◌≡◌};
 ghost use Rattle.recording_text.specs.declared.recording.ReadError.TheVariants.{NoMemory};
 
-use pg_handlers::{DeskCall, EndKind};
+use pg_client::{DeskCall, EndKind};
 use pg_messages::{PgBytes, PgList, SecretKey};
 use std::alloc::{AllocError, AllocFailed};
 

@@ -6,7 +6,7 @@ ghost use Rattle.recording_text.specs.Text.{call_text, calls_text, key_text, byt
 ghost use Rattle.pg_messages.specs.Fields.{int32};
 
 use crate::recording::Recording;
-use pg_handlers::{DeskCall, EndKind};
+use pg_client::{DeskCall, EndKind};
 use pg_messages::{PgBytes, SecretKey};
 use std::alloc::{AllocError, Global};
 
