@@ -38,7 +38,8 @@ use pg_results::{
 use pg_types::PgType;
 use std::alloc::{AllocError, Global};
 
-/// Appends a reply, and lets it go. A reply of any kind is dropped here, and nowhere else.
+/// Appends a reply, and lets it go. A reply of any kind is dropped here, and nowhere else. The only
+/// error is want of memory, after which the outbox is as it was.
 #[inline(always)]
 pub fn push_reply(outbox: &mut Outbox, reply: PgWireBackendMessage) -> Result<(), AllocError>
     requires { IsEncodable reply }
@@ -86,7 +87,8 @@ pub fn send_execution_response(
     push_reply(outbox, PgWireBackendMessage::CommandComplete(complete))
 }
 
-/// Appends CommandComplete of a command with so many rows.
+/// Appends CommandComplete of a command with so many rows. The only error is want of memory, after
+/// which the outbox is as it was.
 pub fn send_done(
     alloc: Global,
     outbox: &mut Outbox,
@@ -341,7 +343,8 @@ pub fn send_describe_response<DR: DescribeResponse>(
     Ok(())
 }
 
-/// Appends what describes a statement or a portal, as `send_describe_response`, and lets it go.
+/// Appends what describes a statement or a portal, as `send_describe_response`, and lets it go. The
+/// only error is want of memory, after which the outbox is as it was.
 pub fn send_described<DR: DescribeResponse + Drop>(
     alloc: Global,
     outbox: &mut Outbox,
@@ -695,7 +698,8 @@ pub fn send_copy_in_response<C: CopySource>(
     push_reply(outbox, PgWireBackendMessage::CopyInResponse(head))
 }
 
-/// Appends CopyInResponse, as `send_copy_in_response`, and lets the COPY go.
+/// Appends CopyInResponse, as `send_copy_in_response`, and lets the COPY go. The only error is want
+/// of memory, after which the outbox is as it was.
 pub fn send_copy_in<C: CopySource>(
     alloc: Global,
     outbox: &mut Outbox,

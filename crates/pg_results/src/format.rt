@@ -36,7 +36,8 @@ impl From<i16> for Format {
 }
 
 impl Format {
-    /// The formats of a Bind's codes: none is text, one is for all, several are one for each.
+    /// The formats of a Bind's codes: none is text, one is for all, several are one for each. The
+    /// only error is want of memory.
     pub fn from_codes(alloc: Global, codes: &[i16]) -> Result<Format, AllocError>
         ensures { IfOk result (λ format. format ≡ format_of codes.now) }
     {

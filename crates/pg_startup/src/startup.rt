@@ -33,7 +33,11 @@ use pg_portal::{Metadata, PgWireConnectionState, PgWireError, PortalStore};
 use pg_replies::send_ready_for_query;
 use std::alloc::{AllocError, Global};
 
-/// A message while the startup packet is awaited.
+/// Answers a message while the startup packet is awaited (protocol: Message Flow, Start-up). A
+/// request for encryption is answered that there is none. A request to cancel is one call of the
+/// registry, and ends the conversation. A startup packet of version 3.0 or 3.2 makes the session
+/// ready; of any other the error is 0A000 with FATAL. Every other message is let go. Where memory is
+/// wanting the error is NoMemory.
 #[cold]
 #[inline(never)]
 pub fn on_startup_phase<St: PortalStore, D: CancelDesk>(
