@@ -46,20 +46,20 @@ use Rattle.pg_client.specs.declared.desk.DeskCall.{DeskCall}
 use Rattle.pg_client.specs.declared.ends.EndKind.{EndKind}
 use Rattle.pg_client.specs.declared.ends.EndKind.TheVariants as end
 use Rattle.pg_client.specs.Answer.{Answer, Next, Goes, Ends, Stops, continued, conversation, left_by}
-use Rattle.pg_handlers.specs.CopyRows.{copy_row}
+use Rattle.conversation_table.specs.CopyRows.{copy_row}
 use Rattle.pg_client.specs.Effect.{Effect, Called, Scope, UntilSync, AnswersReady, Outcome, Done, Failed, Over, Stopped, says, refuses, silent, after_error, settle, settled}
 use Rattle.pg_client.specs.Errors.{is_fatal, too_few_codes, values_for_empty}
-use Rattle.pg_handlers.specs.ExecuteRow.{at_stage, page_effect, fetched, sent_in_execute, executed, execute_polled, executed_portal, executed_entry}
-use Rattle.pg_handlers.specs.ExtendedRows.{bind_complete, parsed, portal_bound, bound_portal, bound_with_columns, bound, described, described_statement, described_portal, statement_description, portal_description, on_describe, on_close}
-use Rattle.pg_handlers.specs.Handlers.{Handlers}
-use Rattle.pg_handlers.specs.Questions.{Verdict, Passed, Canceled, Unanswered, questioned}
+use Rattle.conversation_table.specs.ExecuteRow.{at_stage, page_effect, fetched, sent_in_execute, executed, execute_polled, executed_portal, executed_entry}
+use Rattle.conversation_table.specs.ExtendedRows.{bind_complete, parsed, portal_bound, bound_portal, bound_with_columns, bound, described, described_statement, described_portal, statement_description, portal_description, on_describe, on_close}
+use Rattle.conversation_table.specs.Handlers.{Handlers}
+use Rattle.conversation_table.specs.Questions.{Verdict, Passed, Canceled, Unanswered, questioned}
 use Rattle.pg_replies.specs.Replies.{Replies, error_reply, ready, row_replies, done_with, row_description}
 use Rattle.pg_replies.specs.ResponseRows.{Sent, responded}
-use Rattle.pg_handlers.specs.SimpleRows.{answered, responded_all, query_polled, query_run}
+use Rattle.conversation_table.specs.SimpleRows.{answered, responded_all, query_polled, query_run}
 use Rattle.pg_client.specs.State.{State, in_phase, with_status, with_portal, without_statement, without_portal, without_unnamed_portal}
-use Rattle.pg_handlers.specs.Table.{statement_row, ready_row, awaiting_sync_row, row, scope_in, whole_table, is_startup_phase, awaits}
-use Rattle.pg_handlers.proofs.Awaiting.{row_keeps}
-use Rattle.pg_handlers.proofs.GoodStores.{Each, each_after_insert, each_after_remove, none_empty, one_value}
+use Rattle.conversation_table.specs.Table.{statement_row, ready_row, awaiting_sync_row, row, scope_in, whole_table, is_startup_phase, awaits}
+use Rattle.conversation_table.proofs.Awaiting.{row_keeps}
+use Rattle.conversation_table.proofs.GoodStores.{Each, each_after_insert, each_after_remove, none_empty, one_value}
 use Rattle.relation_tables.specs.declared.Relation.{Relation}
 use Rattle.relation_tables.specs.declared.RelationStatement.{RelationStatement}
 use Rattle.relation_tables.specs.declared.RelationStatement.TheVariants as statement

@@ -13,7 +13,7 @@ use Rattle.pg_results.specs.Responses.{ToldResponse, ToldCopy}
 use Rattle.pg_results.specs.Told.{ToldRows}
 use Rattle.pg_replies.specs.Replies.{Replies, row_replies, done_with}
 use Rattle.pg_replies.specs.ResponseRows.{Sent, unless_error, sent_rows, rows_front, copy_items, copy_data, copy_count, copy_replies, copy_end, copy_out_reply, copy_both_reply, sent_copy, responded}
-use Rattle.pg_handlers.specs.SimpleRows.{followed, responded_all}
+use Rattle.conversation_table.specs.SimpleRows.{followed, responded_all}
 
 -- ---- lists
 

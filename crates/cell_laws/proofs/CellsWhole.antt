@@ -28,8 +28,8 @@ use Rattle.pg_client.specs.Errors.{unsupported_version}
 use Rattle.pg_replies.specs.Replies.{Replies, startup_replies}
 use Rattle.pg_client.specs.StartupRows.{no_encryption, accepts, told_key, narrowing, started_session}
 use Rattle.pg_client.specs.State.{first_state}
-use Rattle.pg_handlers.specs.Table.{whole_table, awaits}
-use Rattle.pg_handlers.proofs.GoodStores.{Each}
+use Rattle.conversation_table.specs.Table.{whole_table, awaits}
+use Rattle.conversation_table.proofs.GoodStores.{Each}
 use Rattle.relation_tables.specs.declared.Relation.{Relation}
 use Rattle.relation_tables.specs.Relations.{HaveEvenRows}
 use Rattle.relation_tables.specs.RelationHandler.{relation_handlers}

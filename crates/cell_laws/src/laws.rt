@@ -5,7 +5,7 @@ ghost use Rattle.std.specs.Prelude.{◌≡◌, Bool, ℕ, ℤ, List};
 ghost use Rattle.pg_messages.specs.declared.frontend.PgWireFrontendMessage.{PgWireFrontendMessage};
 ghost use Rattle.pg_client.specs.Answer.{Goes, conversation};
 ghost use Rattle.pg_client.specs.State.{State, first_state};
-ghost use Rattle.pg_handlers.specs.Table.{whole_table};
+ghost use Rattle.conversation_table.specs.Table.{whole_table};
 ghost use Rattle.relation_tables.specs.declared.RelationStatement.{RelationStatement};
 ghost use Rattle.relation_tables.specs.RelationHandler.{relation_handlers};
 ghost use Rattle.cell_laws.specs.ShownCells.{ShowInOwnFormat, ShowStored, style_of};

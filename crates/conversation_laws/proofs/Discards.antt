@@ -13,10 +13,10 @@ use Rattle.pg_client.specs.declared.ends.EndKind.TheVariants as end
 use Rattle.pg_client.specs.Answer.{Answer, Goes, Ends, conversation, continued, joined, left_by}
 use Rattle.pg_client.specs.Effect.{Called, Scope, UntilSync, Outcome, Failed, settle, settled, after_error}
 use Rattle.pg_client.specs.Errors.{is_fatal}
-use Rattle.pg_handlers.specs.Handlers.{Handlers}
+use Rattle.conversation_table.specs.Handlers.{Handlers}
 use Rattle.pg_replies.specs.Replies.{Replies, error_reply}
 use Rattle.pg_client.specs.State.{State}
-use Rattle.pg_handlers.specs.Table.{row, scope_in, whole_table, message_row}
+use Rattle.conversation_table.specs.Table.{row, scope_in, whole_table, message_row}
 use Rattle.conversation_laws.specs.Discarding.{IsDiscarded, IsOfExtendedQuery, IsOutsideCopy, EndsWithError, unchanged, synced, behind_sync}
 
 -- an error whose scope is until Sync, fatal or not as told

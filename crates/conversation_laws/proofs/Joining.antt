@@ -13,10 +13,10 @@ use Rattle.pg_results.specs.Rows.{RowItem}
 use Rattle.pg_results.specs.Told.{ToldRows}
 use Rattle.pg_portal.specs.Told.{value_under}
 use Rattle.pg_client.specs.Answer.{Next, Goes, Ends, Stops}
-use Rattle.pg_handlers.specs.Handlers.{Handlers}
+use Rattle.conversation_table.specs.Handlers.{Handlers}
 use Rattle.pg_replies.specs.Replies.{Replies}
 use Rattle.pg_client.specs.State.{State}
-use Rattle.pg_handlers.specs.Table.{whole_table}
+use Rattle.conversation_table.specs.Table.{whole_table}
 use Rattle.conversation_laws.specs.Pages.{Taken, HasStarted, IsTold, IsWithin, PagesJoin, Replaces, Starts, TakesPage, TellsPageWhere, TellsPages, is_execute_of, items_of, stage_in, stage_under}
 use Rattle.conversation_laws.proofs.Gathering.{Step, LeavesOrGone, follows, left_so, step_joins}
 use Rattle.conversation_laws.proofs.Keeping.{KeepsNext, message_keeps}

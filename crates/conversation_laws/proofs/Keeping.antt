@@ -37,20 +37,20 @@ use Rattle.named_entries.proofs.NameMaps.{get-put, get-other}
 use Rattle.pg_client.specs.declared.desk.DeskCall.{DeskCall}
 use Rattle.pg_client.specs.declared.ends.EndKind.TheVariants as end
 use Rattle.pg_client.specs.Answer.{Answer, Next, Goes, Ends, Stops}
-use Rattle.pg_handlers.specs.CopyRows.{copied, copy_row, stepped}
+use Rattle.conversation_table.specs.CopyRows.{copied, copy_row, stepped}
 use Rattle.pg_client.specs.Effect.{Effect, Called, Scope, UntilSync, AnswersReady, Outcome, Done, Failed, Over, Stopped, says, refuses, silent, settled, after_error}
 use Rattle.pg_client.specs.Errors.{is_fatal, unsupported_version, values_for_empty, too_few_codes}
-use Rattle.pg_handlers.specs.ExecuteRow.{at_stage, executed, executed_entry, executed_portal, execute_polled, fetched, page_effect, sent_in_execute}
+use Rattle.conversation_table.specs.ExecuteRow.{at_stage, executed, executed_entry, executed_portal, execute_polled, fetched, page_effect, sent_in_execute}
 use Rattle.pg_portal.specs.Fetching.{stage_after}
-use Rattle.pg_handlers.specs.ExtendedRows.{bind_complete, bound, bound_portal, bound_with_columns, described, described_portal, described_statement, on_close, on_describe, parsed, portal_description, statement_description}
-use Rattle.pg_handlers.specs.Handlers.{Handlers}
-use Rattle.pg_handlers.specs.Questions.{Verdict, Passed, Canceled, Unanswered, questioned}
+use Rattle.conversation_table.specs.ExtendedRows.{bind_complete, bound, bound_portal, bound_with_columns, described, described_portal, described_statement, on_close, on_describe, parsed, portal_description, statement_description}
+use Rattle.conversation_table.specs.Handlers.{Handlers}
+use Rattle.conversation_table.specs.Questions.{Verdict, Passed, Canceled, Unanswered, questioned}
 use Rattle.pg_replies.specs.Replies.{Replies, ready}
 use Rattle.pg_replies.specs.ResponseRows.{Sent, responded}
-use Rattle.pg_handlers.specs.SimpleRows.{answered, query_polled, query_run, responded_all}
+use Rattle.conversation_table.specs.SimpleRows.{answered, query_polled, query_run, responded_all}
 use Rattle.pg_client.specs.StartupRows.{accepts, on_cancel_request, startup_row}
 use Rattle.pg_client.specs.State.{State, in_phase, with_portal, with_status, without_portal, without_statement, without_unnamed_portal}
-use Rattle.pg_handlers.specs.Table.{awaiting_sync_row, ready_row, row, scope_in, statement_row, whole_table}
+use Rattle.conversation_table.specs.Table.{awaiting_sync_row, ready_row, row, scope_in, statement_row, whole_table}
 use Rattle.std.proofs.lemmas.Bool.Decides.{Decides-eqb}
 use Rattle.conversation_laws.specs.Pages.{EndsTransaction, IsUnstarted, KeepsPortal, Replaces, is_execute_of, stage_in}
 use Rattle.conversation_laws.proofs.Names.{are_two, get-left, get-removed, one_or_two}

@@ -34,15 +34,15 @@ use Rattle.pg_client.specs.declared.desk.DeskCall.{DeskCall}
 use Rattle.pg_client.specs.Answer.{Answer}
 use Rattle.pg_client.specs.Effect.{Effect, Scope, UntilSync, Outcome, Done, Failed, Over, Stopped, says, refuses, settle, settled}
 use Rattle.pg_client.specs.Errors.{values_for_empty, too_few_codes}
-use Rattle.pg_handlers.specs.ExecuteRow.{at_stage, executed, executed_entry, executed_portal, execute_polled, fetched, page_effect, sent_in_execute}
+use Rattle.conversation_table.specs.ExecuteRow.{at_stage, executed, executed_entry, executed_portal, execute_polled, fetched, page_effect, sent_in_execute}
 use Rattle.pg_portal.specs.Fetching.{stage_after}
-use Rattle.pg_handlers.specs.ExtendedRows.{bind_complete, bound, bound_portal, bound_with_columns, described, described_portal, described_statement, on_describe, parsed, portal_description, statement_description}
-use Rattle.pg_handlers.specs.Handlers.{Handlers}
-use Rattle.pg_handlers.specs.Questions.{Verdict, Passed, Canceled, Unanswered, questioned}
+use Rattle.conversation_table.specs.ExtendedRows.{bind_complete, bound, bound_portal, bound_with_columns, described, described_portal, described_statement, on_describe, parsed, portal_description, statement_description}
+use Rattle.conversation_table.specs.Handlers.{Handlers}
+use Rattle.conversation_table.specs.Questions.{Verdict, Passed, Canceled, Unanswered, questioned}
 use Rattle.pg_replies.specs.Replies.{Replies, done_with, row_description, row_replies}
 use Rattle.pg_replies.specs.ResponseRows.{Sent, responded, sent_copy, unless_error, copy_replies, copy_data, copy_count, copy_end, copy_items, copy_out_reply, copy_both_reply}
 use Rattle.pg_client.specs.State.{State, with_portal}
-use Rattle.pg_handlers.specs.Table.{ready_row, row, scope_in, statement_row, whole_table}
+use Rattle.conversation_table.specs.Table.{ready_row, row, scope_in, statement_row, whole_table}
 use Rattle.conversation_laws.specs.Discarding.{EndsWithError, IsOfExtendedQuery, has_error}
 use Rattle.conversation_laws.proofs.Discards.{error_ends, extended_scope}
 

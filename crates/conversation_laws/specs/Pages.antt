@@ -20,8 +20,8 @@ use Rattle.pg_results.specs.Rows.{RowItem}
 use Rattle.pg_results.specs.Told.{ToldRows}
 use Rattle.pg_portal.specs.Told.{TablePortal, Stage, Unstarted, Started, Ended, value_under}
 use Rattle.pg_client.specs.Answer.{Answer, Table, Next, Goes, Ends, Stops, left_by}
-use Rattle.pg_handlers.specs.Handlers.{Handlers}
-use Rattle.pg_handlers.specs.Questions.{Passed, started}
+use Rattle.conversation_table.specs.Handlers.{Handlers}
+use Rattle.conversation_table.specs.Questions.{Passed, started}
 use Rattle.pg_replies.specs.Replies.{Replies, error_reply}
 use Rattle.pg_client.specs.State.{State}
 

@@ -14,9 +14,9 @@ ghost use Rattle.pg_portal.specs.Fetching.{items_to_come};
 ghost use Rattle.pg_results.specs.Told.{ToldRows};
 ghost use Rattle.pg_client.specs.Answer.{Goes, conversation, joined};
 ghost use Rattle.pg_client.specs.Effect.{Failed};
-ghost use Rattle.pg_handlers.specs.Handlers.{Handlers};
+ghost use Rattle.conversation_table.specs.Handlers.{Handlers};
 ghost use Rattle.pg_client.specs.State.{State};
-ghost use Rattle.pg_handlers.specs.Table.{whole_table, message_row};
+ghost use Rattle.conversation_table.specs.Table.{whole_table, message_row};
 ghost use Rattle.conversation_laws.specs.Discarding.{
   IsDiscarded,
   IsOfExtendedQuery,

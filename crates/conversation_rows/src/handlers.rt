@@ -89,7 +89,7 @@ struct NoopHandlers {
 }
 
 impl PgWireServerHandlers for NoopHandlers {
-    ghost use Rattle.pg_handlers.specs.Noop.{noop_extended, noop_simple, noop_copy};
+    ghost use Rattle.conversation_table.specs.Noop.{noop_extended, noop_simple, noop_copy};
 
     type Simple = NoopHandler;
 

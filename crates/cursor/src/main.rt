@@ -5,10 +5,10 @@
 mod help;
 
 use crate::help::help_or_version;
+use conversation_runs::Sink;
 use opened_files::open_file;
 use pg_cursor::run_cursors;
 use pg_messages::{PgList, PgStr};
-use pg_session::Sink;
 use pg_streams::{ReaderSource, WriterSink};
 use relation_words::{file_word, listen_place};
 use std::alloc::{AllocError, Global};

@@ -2,9 +2,9 @@
 
 use crate::row::Row;
 use crate::verdict::{Difference, first_difference};
-use pg_handlers::ScriptDesk;
+use conversation_runs::ServeError;
+use pg_client::{EndKind, ScriptDesk};
 use pg_messages::{PgBytes, PgList, SecretKey};
-use pg_session::{EndKind, ServeError};
 use pg_streams::{MemorySink, MemorySource};
 use row_files::{Fault, numbers_of, parsed, singles, up_to_one};
 use std::alloc::{AllocError, Global};

@@ -2,7 +2,8 @@
 
 use crate::row::Row;
 use crate::serving::Ending;
-use pg_session::{DeskCall, EndKind, ServeError};
+use conversation_runs::ServeError;
+use pg_client::{DeskCall, EndKind};
 use row_files::common_len;
 use std::alloc::{AllocError, Global};
 

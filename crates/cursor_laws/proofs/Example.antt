@@ -20,12 +20,12 @@ use Rattle.pg_results.specs.Rows.{RowItem}
 use Rattle.pg_portal.specs.Told.{TablePortal, Stage, Started, value_under}
 use Rattle.pg_client.specs.Answer.{Answer, Goes, continued, conversation, left_by}
 use Rattle.pg_client.specs.Effect.{UntilSync, settle, silent}
-use Rattle.pg_handlers.specs.ExecuteRow.{at_stage, executed_entry, executed_portal}
-use Rattle.pg_handlers.specs.ExtendedRows.{described, described_portal, portal_description}
-use Rattle.pg_handlers.specs.Handlers.{Handlers}
+use Rattle.conversation_table.specs.ExecuteRow.{at_stage, executed_entry, executed_portal}
+use Rattle.conversation_table.specs.ExtendedRows.{described, described_portal, portal_description}
+use Rattle.conversation_table.specs.Handlers.{Handlers}
 use Rattle.pg_replies.specs.Replies.{Replies, error_reply, ready}
 use Rattle.pg_client.specs.State.{State, with_portal}
-use Rattle.pg_handlers.specs.Table.{row, scope_in, whole_table}
+use Rattle.conversation_table.specs.Table.{row, scope_in, whole_table}
 use Rattle.conversation_laws.specs.Discarding.{synced}
 use Rattle.cursor_commands.specs.declared.command.CursorCommand.TheVariants.{Fetch}
 use Rattle.cursor_commands.specs.Asking.{describing, executing, sync}

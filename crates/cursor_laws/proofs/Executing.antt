@@ -21,12 +21,12 @@ use Rattle.pg_client.specs.declared.ends.EndKind.TheVariants as end
 use Rattle.pg_client.specs.Answer.{Answer, Goes, Ends}
 use Rattle.pg_client.specs.Effect.{UntilSync, settle, after_error}
 use Rattle.pg_client.specs.Errors.{is_fatal}
-use Rattle.pg_handlers.specs.ExecuteRow.{at_stage, execute_polled, executed_entry, executed_portal, fetched, page_effect}
-use Rattle.pg_handlers.specs.Handlers.{Handlers}
-use Rattle.pg_handlers.specs.Questions.{Verdict, Passed, started}
+use Rattle.conversation_table.specs.ExecuteRow.{at_stage, execute_polled, executed_entry, executed_portal, fetched, page_effect}
+use Rattle.conversation_table.specs.Handlers.{Handlers}
+use Rattle.conversation_table.specs.Questions.{Verdict, Passed, started}
 use Rattle.pg_replies.specs.Replies.{done_with, error_reply, row_replies}
 use Rattle.pg_client.specs.State.{State, with_portal}
-use Rattle.pg_handlers.specs.Table.{row, scope_in, whole_table}
+use Rattle.conversation_table.specs.Table.{row, scope_in, whole_table}
 use Rattle.conversation_laws.specs.Pages.{HasStarted, Starts, stage_in, stage_under}
 use Rattle.cursor_laws.specs.CursorPages.{errors_among}
 

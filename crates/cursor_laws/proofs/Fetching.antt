@@ -26,11 +26,11 @@ use Rattle.pg_client.specs.declared.ends.EndKind.TheVariants as end
 use Rattle.pg_client.specs.Answer.{Answer, Next, Goes, Ends, Stops, continued, conversation, joined, left_by}
 use Rattle.pg_client.specs.Effect.{Effect, UntilSync, after_error, refuses, says, settle, silent}
 use Rattle.pg_client.specs.Errors.{is_fatal}
-use Rattle.pg_handlers.specs.ExtendedRows.{described, described_portal, portal_description}
-use Rattle.pg_handlers.specs.Handlers.{Handlers}
+use Rattle.conversation_table.specs.ExtendedRows.{described, described_portal, portal_description}
+use Rattle.conversation_table.specs.Handlers.{Handlers}
 use Rattle.pg_replies.specs.Replies.{Replies, error_reply, row_description}
 use Rattle.pg_client.specs.State.{State}
-use Rattle.pg_handlers.specs.Table.{row, scope_in, whole_table}
+use Rattle.conversation_table.specs.Table.{row, scope_in, whole_table}
 use Rattle.conversation_laws.specs.Discarding.{behind_sync}
 use Rattle.conversation_laws.specs.Pages.{Taken, SentRows, DroppedRows, HasStarted, IsTold, IsUnstarted, IsWithin, Leaves, Starts, TakesPage, items_of, joined_items, rows_among, stage_in, stage_under}
 use Rattle.conversation_laws.proofs.Gathering.{LeavesOrGone, left_so}

@@ -12,9 +12,9 @@ use Rattle.pg_portal.specs.Fetching.{items_to_come}
 use Rattle.pg_results.specs.Rows.{RowItem}
 use Rattle.pg_results.specs.Told.{ToldRows}
 use Rattle.pg_client.specs.Answer.{Goes}
-use Rattle.pg_handlers.specs.Handlers.{Handlers}
+use Rattle.conversation_table.specs.Handlers.{Handlers}
 use Rattle.pg_client.specs.State.{State}
-use Rattle.pg_handlers.specs.Table.{whole_table}
+use Rattle.conversation_table.specs.Table.{whole_table}
 use Rattle.conversation_laws.specs.Pages.{HasStarted, Starts, stage_under}
 use Rattle.conversation_laws.proofs.Gathering.{Step, follows, step_joins}
 use Rattle.conversation_laws.proofs.Joining.{kept_so, message_step, page_step}

@@ -7,9 +7,9 @@ use Rattle.pg_results.specs.declared.client.PgWireConnectionState.{PgWireConnect
 use Rattle.pg_results.specs.declared.client.PgWireConnectionState.TheVariants as phase
 use Rattle.pg_portal.specs.Told.{value_under}
 use Rattle.pg_client.specs.Answer.{Answer, Next, Goes, Ends, Stops, continued, conversation, left_by}
-use Rattle.pg_handlers.specs.Handlers.{Handlers}
+use Rattle.conversation_table.specs.Handlers.{Handlers}
 use Rattle.pg_client.specs.State.{State}
-use Rattle.pg_handlers.specs.Table.{whole_table}
+use Rattle.conversation_table.specs.Table.{whole_table}
 use Rattle.conversation_laws.specs.Pages.{IsUnstarted, Replaces, is_execute_of, stage_in}
 use Rattle.conversation_laws.proofs.Keeping.{KeepsNext, message_keeps}
 use Rattle.cursor_commands.specs.declared.command.CursorCommand.{CursorCommand}

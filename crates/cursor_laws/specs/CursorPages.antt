@@ -11,7 +11,7 @@ use Rattle.pg_results.specs.Errors.{info_of}
 use Rattle.pg_results.specs.Rows.{RowItem}
 use Rattle.pg_results.specs.Told.{ToldRows}
 use Rattle.pg_client.specs.Answer.{Answer, Table}
-use Rattle.pg_handlers.specs.Handlers.{Handlers}
+use Rattle.conversation_table.specs.Handlers.{Handlers}
 use Rattle.pg_replies.specs.Replies.{Replies, error_reply}
 use Rattle.pg_client.specs.State.{State}
 use Rattle.conversation_laws.specs.Pages.{Taken, SentRows, DroppedRows, IsUnstarted, IsWithin, Leaves, Starts, TellsInTurn, TellsPages, items_of, joined_items, rows_among, stage_under}

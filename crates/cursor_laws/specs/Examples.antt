@@ -7,7 +7,7 @@ use Rattle.pg_results.specs.declared.client.PgWireConnectionState.TheVariants as
 use Rattle.pg_portal.specs.declared.store.Entry.TheVariants as entry
 use Rattle.pg_results.specs.Told.{ToldRows}
 use Rattle.pg_portal.specs.Told.{TablePortal, Started}
-use Rattle.pg_handlers.specs.Handlers.{Handlers}
+use Rattle.conversation_table.specs.Handlers.{Handlers}
 use Rattle.pg_client.specs.State.{State}
 
 abbrev pub three_rows : DataRow → DataRow → DataRow → ToldRows

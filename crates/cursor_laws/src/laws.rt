@@ -12,10 +12,10 @@ ghost use Rattle.pg_results.specs.declared.client.PgWireConnectionState.TheVaria
 ghost use Rattle.pg_portal.specs.Fetching.{items_to_come};
 ghost use Rattle.pg_results.specs.Told.{ToldRows};
 ghost use Rattle.pg_client.specs.Answer.{Goes};
-ghost use Rattle.pg_handlers.specs.Handlers.{Handlers};
+ghost use Rattle.conversation_table.specs.Handlers.{Handlers};
 ghost use Rattle.pg_replies.specs.Replies.{ready};
 ghost use Rattle.pg_client.specs.State.{State};
-ghost use Rattle.pg_handlers.specs.Table.{whole_table};
+ghost use Rattle.conversation_table.specs.Table.{whole_table};
 ghost use Rattle.conversation_laws.specs.Pages.{HasStarted, Leaves, SentRows, Starts, stage_under};
 ghost use Rattle.cursor_commands.specs.declared.command.CursorCommand.{CursorCommand};
 ghost use Rattle.cursor_commands.specs.declared.command.CursorCommand.TheVariants.{Fetch};

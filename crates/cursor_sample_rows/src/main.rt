@@ -8,10 +8,10 @@ ghost use Rattle.cursor_session.specs.Fronts.{rest_of};
 
 use cursor_judging::{CursorRows, Ending, Serving};
 use cursor_session::CursorSession;
+use pg_client::CancelDesk;
 use pg_engine::serve_whole;
 use pg_handlers::ScriptDesk;
 use pg_portal::{ListRows, MemPortalStore};
-use pg_session::CancelDesk;
 use pg_streams::{MemorySink, MemorySource};
 use row_files::{Fault, judge_lines};
 use sample_handlers::{SampleCopying, SampleHandlers, SampleStatement};

@@ -6,9 +6,9 @@ use Rattle.std.proofs.lemmas.Nat.{mul-le}
 use Rattle.pg_messages.specs.declared.frontend.PgWireFrontendMessage.{PgWireFrontendMessage}
 use Rattle.pg_messages.specs.declared.frontend.PgWireFrontendMessage.TheVariants as client
 use Rattle.pg_client.specs.Answer.{Table, conversation}
-use Rattle.pg_handlers.specs.Questions.{questions}
+use Rattle.conversation_table.specs.Questions.{questions}
 use Rattle.pg_client.specs.State.{State}
-use Rattle.pg_handlers.specs.Table.{whole_table}
+use Rattle.conversation_table.specs.Table.{whole_table}
 use Rattle.cursor_commands.specs.declared.command.CursorCommand.{CursorCommand}
 use Rattle.cursor_commands.specs.declared.command.CursorCommand.TheVariants.{Declare, Fetch, Close}
 use Rattle.cursor_commands.specs.Commands.{command_of}

@@ -3,7 +3,7 @@ use Rattle.std.specs.Prelude.{ℕ, ℤ, List, Option, Result}
 use Rattle.pg_client.specs.declared.desk.DeskCall.{DeskCall}
 use Rattle.pg_client.specs.declared.ends.EndKind.{EndKind}
 use Rattle.pg_client.specs.State.{first_state}
-use Rattle.pg_session.specs.declared.ends.ServeError.{ServeError}
+use Rattle.conversation_runs.specs.declared.ends.ServeError.{ServeError}
 use Rattle.pg_engine.specs.Serving.{WentSo}
 use Rattle.cursor_table.specs.CursorTable.{cursor_rules}
 use Rattle.relation_tables.specs.declared.Relation.{Relation}

@@ -5,11 +5,11 @@ use Rattle.pg_messages.specs.Frames.{DividesInto}
 use Rattle.pg_client.specs.declared.desk.DeskCall.{DeskCall}
 use Rattle.pg_client.specs.declared.desk.DeskCall.TheVariants as desk
 use Rattle.pg_client.specs.Answer.{Table, Next, BeginsWith, answers_of, conversation}
-use Rattle.pg_session.specs.declared.ends.Progress.{Progress}
-use Rattle.pg_session.specs.declared.ends.ServeError.{ServeError}
-use Rattle.pg_session.specs.declared.ends.ServeError.TheVariants as serve
-use Rattle.pg_session.specs.Run.{Rules}
-use Rattle.pg_session.specs.Steps.{IsServed, IsCutOff, IsStopped, WasFed}
+use Rattle.conversation_runs.specs.declared.ends.Progress.{Progress}
+use Rattle.conversation_runs.specs.declared.ends.ServeError.{ServeError}
+use Rattle.conversation_runs.specs.declared.ends.ServeError.TheVariants as serve
+use Rattle.conversation_runs.specs.Run.{Rules}
+use Rattle.conversation_runs.specs.Steps.{IsServed, IsCutOff, IsStopped, WasFed}
 use Rattle.cursor_session.proofs.Divisions.{divides_cut}
 
 -- the rules of a table

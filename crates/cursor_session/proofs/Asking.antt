@@ -8,13 +8,13 @@ use Rattle.pg_client.specs.declared.desk.DeskCall.TheVariants as desk
 use Rattle.pg_client.specs.declared.ends.EndKind.{EndKind}
 use Rattle.pg_client.specs.declared.ends.EndKind.TheVariants as end
 use Rattle.pg_client.specs.Answer.{Answer, Table, Next, Goes, Ends, Stops, BeginsWith, answers_of, conversation}
-use Rattle.pg_handlers.specs.Lawful.{IsLawful}
-use Rattle.pg_session.specs.declared.ends.Progress.{Progress}
-use Rattle.pg_session.specs.declared.ends.Progress.TheVariants as progress
-use Rattle.pg_session.specs.Run.{IsFed, EndsWith}
-use Rattle.pg_session.specs.Steps.{IsServed, IsCutOff, IsStopped, Stands}
-use Rattle.pg_session.proofs.Flowing.{Flows-wait, cut_at_once}
-use Rattle.pg_session.proofs.Pieces.{conversation_awaits}
+use Rattle.conversation_table.specs.Lawful.{IsLawful}
+use Rattle.conversation_runs.specs.declared.ends.Progress.{Progress}
+use Rattle.conversation_runs.specs.declared.ends.Progress.TheVariants as progress
+use Rattle.conversation_runs.specs.Run.{IsFed, EndsWith}
+use Rattle.conversation_runs.specs.Steps.{IsServed, IsCutOff, IsStopped, Stands}
+use Rattle.conversation_runs.proofs.Flowing.{Flows-wait, cut_at_once}
+use Rattle.conversation_runs.proofs.Pieces.{conversation_awaits}
 use Rattle.cursor_commands.specs.declared.command.CursorCommand.{CursorCommand}
 use Rattle.cursor_commands.specs.Cursors.{Replies, messages_of, replies_of}
 use Rattle.cursor_table.specs.CursorTable.{cursor_table, command_row, asked_command}

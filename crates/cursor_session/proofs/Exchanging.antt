@@ -9,14 +9,14 @@ use Rattle.pg_messages.specs.Frames.{IsFrame, DividesInto}
 use Rattle.pg_messages.specs.Replies.{is_one_byte, reply_type, reply_body, reply_bytes, replies_bytes}
 use Rattle.pg_client.specs.declared.desk.DeskCall.{DeskCall}
 use Rattle.pg_client.specs.Answer.{Table}
-use Rattle.pg_handlers.specs.Lawful.{IsLawful}
-use Rattle.pg_session.specs.declared.ends.Progress.{Progress}
-use Rattle.pg_session.specs.declared.ends.Progress.TheVariants as progress
-use Rattle.pg_session.specs.declared.ends.ServeError.{ServeError}
-use Rattle.pg_session.specs.declared.ends.ServeError.TheVariants as serve
-use Rattle.pg_session.specs.Steps.{Flows, IsServed, IsCutOff, WasFed}
-use Rattle.pg_session.proofs.Flowing.{Flows-sent}
-use Rattle.pg_session.proofs.Stepping.{serves_flow, cut_served}
+use Rattle.conversation_table.specs.Lawful.{IsLawful}
+use Rattle.conversation_runs.specs.declared.ends.Progress.{Progress}
+use Rattle.conversation_runs.specs.declared.ends.Progress.TheVariants as progress
+use Rattle.conversation_runs.specs.declared.ends.ServeError.{ServeError}
+use Rattle.conversation_runs.specs.declared.ends.ServeError.TheVariants as serve
+use Rattle.conversation_runs.specs.Steps.{Flows, IsServed, IsCutOff, WasFed}
+use Rattle.conversation_runs.proofs.Flowing.{Flows-sent}
+use Rattle.conversation_runs.proofs.Stepping.{serves_flow, cut_served}
 use Rattle.cursor_commands.specs.declared.command.CursorCommand.{CursorCommand}
 use Rattle.cursor_commands.specs.Cursors.{Replies, messages_of, replies_of}
 use Rattle.cursor_commands.specs.Rewriting.{FitsLen}

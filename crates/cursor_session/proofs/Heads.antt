@@ -11,7 +11,7 @@ use Rattle.pg_messages.specs.Frames.{IsFrame, IsUnfinished, IsGoodHeader, header
 use Rattle.pg_messages.proofs.OneReading.{front, one_frame}
 use Rattle.pg_results.specs.declared.client.PgWireConnectionState.{PgWireConnectionState}
 use Rattle.pg_results.specs.declared.client.PgWireConnectionState.TheVariants as phase
-use Rattle.pg_handlers.specs.Table.{is_startup_phase}
+use Rattle.conversation_table.specs.Table.{is_startup_phase}
 use Rattle.cursor_commands.specs.declared.command.CursorCommand.{CursorCommand}
 use Rattle.cursor_commands.specs.Asking.{CanBeSent}
 use Rattle.cursor_commands.specs.Commands.{command_of}

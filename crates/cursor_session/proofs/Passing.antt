@@ -4,12 +4,12 @@ use Rattle.pg_messages.specs.declared.frontend.PgWireFrontendMessage.{PgWireFron
 use Rattle.pg_messages.specs.Frames.{IsFrame, IsUnfinished}
 use Rattle.pg_client.specs.declared.desk.DeskCall.{DeskCall}
 use Rattle.pg_client.specs.Answer.{Table, Next, Goes, Ends, Stops, answers_of, conversation}
-use Rattle.pg_handlers.specs.Handlers.{Handlers}
+use Rattle.conversation_table.specs.Handlers.{Handlers}
 use Rattle.pg_client.specs.State.{State}
-use Rattle.pg_handlers.specs.Table.{whole_table, awaits}
-use Rattle.pg_session.specs.Session.{whole_rules}
-use Rattle.pg_session.specs.Steps.{IsServed}
-use Rattle.pg_session.proofs.Pieces.{conversation-one}
+use Rattle.conversation_table.specs.Table.{whole_table, awaits}
+use Rattle.conversation_runs.specs.Session.{whole_rules}
+use Rattle.conversation_runs.specs.Steps.{IsServed}
+use Rattle.conversation_runs.proofs.Pieces.{conversation-one}
 use Rattle.cursor_table.specs.CursorTable.{cursor_table, row_by, asked_command, is_ready}
 use Rattle.cursor_session.specs.Fronts.{IsBegun}
 use Rattle.cursor_session.proofs.Divisions.{divides_cut, HasOne, has_one}

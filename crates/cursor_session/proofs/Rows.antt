@@ -2,7 +2,7 @@
 use Rattle.std.proofs.Common.{◌≡◌, Bool, true, if◌then◌else◌, List, [], ◌∷◌, ◌++◌, Some, refl, sym, ap, ◌∙◌, append_assoc, append-nil}
 use Rattle.pg_messages.specs.declared.frontend.PgWireFrontendMessage.{PgWireFrontendMessage}
 use Rattle.pg_client.specs.Answer.{Answer, Table, Next, Goes, Ends, Stops, BeginsWith, left_by, conversation, continued, joined}
-use Rattle.pg_session.proofs.Pieces.{conversation-one}
+use Rattle.conversation_runs.proofs.Pieces.{conversation-one}
 use Rattle.cursor_commands.specs.declared.command.CursorCommand.{CursorCommand}
 use Rattle.cursor_table.specs.CursorTable.{cursor_table, command_row, row_by, asked_command}
 

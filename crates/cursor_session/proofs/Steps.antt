@@ -5,18 +5,18 @@ use Rattle.pg_messages.specs.Frames.{IsFrame, IsUnfinished, DividesInto}
 use Rattle.pg_client.specs.declared.desk.DeskCall.{DeskCall}
 use Rattle.pg_client.specs.declared.ends.Turns.{Turns}
 use Rattle.pg_client.specs.Desk.{GoesOn}
-use Rattle.pg_handlers.specs.Handlers.{Handlers}
-use Rattle.pg_handlers.specs.Questions.{questions_since}
+use Rattle.conversation_table.specs.Handlers.{Handlers}
+use Rattle.conversation_table.specs.Questions.{questions_since}
 use Rattle.pg_client.specs.State.{State}
-use Rattle.pg_handlers.specs.Table.{whole_table, awaits}
-use Rattle.pg_session.specs.declared.ends.Progress.{Progress}
-use Rattle.pg_session.specs.declared.ends.Progress.TheVariants as progress
-use Rattle.pg_session.specs.declared.ends.ServeError.{ServeError}
-use Rattle.pg_session.specs.declared.ends.ServeError.TheVariants as serve
-use Rattle.pg_session.specs.Session.{whole_rules, HasFed}
-use Rattle.pg_session.specs.Steps.{IsCutOff, WasFed}
-use Rattle.pg_session.specs.Streams.{HasSinkCause, HasFlushed}
-use Rattle.pg_session.proofs.Answering.{whole_lawful}
+use Rattle.conversation_table.specs.Table.{whole_table, awaits}
+use Rattle.conversation_runs.specs.declared.ends.Progress.{Progress}
+use Rattle.conversation_runs.specs.declared.ends.Progress.TheVariants as progress
+use Rattle.conversation_runs.specs.declared.ends.ServeError.{ServeError}
+use Rattle.conversation_runs.specs.declared.ends.ServeError.TheVariants as serve
+use Rattle.conversation_runs.specs.Session.{whole_rules, HasFed}
+use Rattle.conversation_runs.specs.Steps.{IsCutOff, WasFed}
+use Rattle.conversation_runs.specs.Streams.{HasSinkCause, HasFlushed}
+use Rattle.conversation_runs.proofs.Answering.{whole_lawful}
 use Rattle.cursor_commands.specs.declared.command.CursorCommand.{CursorCommand}
 use Rattle.cursor_commands.specs.Cursors.{messages_of}
 use Rattle.cursor_table.specs.CursorTable.{cursor_table, cursor_rules, asked_command, is_ready}

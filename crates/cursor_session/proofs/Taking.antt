@@ -5,19 +5,19 @@ use Rattle.pg_messages.proofs.OneReading.{division_kept}
 use Rattle.pg_client.proofs.Desks.{goes_on_none, goes_on_then}
 use Rattle.pg_client.specs.declared.desk.DeskCall.{DeskCall}
 use Rattle.pg_client.specs.Answer.{Goes}
-use Rattle.pg_handlers.specs.Lawful.{IsLawful}
-use Rattle.pg_session.specs.declared.ends.Progress.{Progress}
-use Rattle.pg_session.specs.declared.ends.Progress.TheVariants as progress
-use Rattle.pg_session.specs.declared.ends.ServeError.{ServeError}
-use Rattle.pg_session.specs.declared.ends.ServeError.TheVariants as serve
-use Rattle.pg_session.specs.Run.{Rules, EndsWith}
-use Rattle.pg_session.specs.Steps.{IsServed, IsCutOff, IsStopped, WasFed}
-use Rattle.pg_session.specs.Streams.{HasSinkCause}
-use Rattle.pg_session.proofs.Feeding as feeding
-use Rattle.pg_session.proofs.Spending as spending
+use Rattle.conversation_table.specs.Lawful.{IsLawful}
+use Rattle.conversation_runs.specs.declared.ends.Progress.{Progress}
+use Rattle.conversation_runs.specs.declared.ends.Progress.TheVariants as progress
+use Rattle.conversation_runs.specs.declared.ends.ServeError.{ServeError}
+use Rattle.conversation_runs.specs.declared.ends.ServeError.TheVariants as serve
+use Rattle.conversation_runs.specs.Run.{Rules, EndsWith}
+use Rattle.conversation_runs.specs.Steps.{IsServed, IsCutOff, IsStopped, WasFed}
+use Rattle.conversation_runs.specs.Streams.{HasSinkCause}
+use Rattle.conversation_runs.proofs.Feeding as feeding
+use Rattle.conversation_runs.proofs.Spending as spending
 use Rattle.std.specs.Result.{IsErrAnd}
 use Rattle.std.proofs.lemmas.List.{take-append-drop}
-use Rattle.pg_session.proofs.Stepping.{cut_none, serves_none, serves_to, serves_more}
+use Rattle.conversation_runs.proofs.Stepping.{cut_none, serves_none, serves_to, serves_more}
 use Rattle.cursor_session.specs.Fronts.{Around, Takes}
 
 module _ {T : Type 0} (rules : Rules T) where

@@ -7,17 +7,17 @@ use Rattle.pg_messages.specs.Frames.{IsFrame, IsUnfinished, IsGoodHeader, header
 use Rattle.pg_results.specs.declared.client.PgWireConnectionState.{PgWireConnectionState}
 use Rattle.pg_client.specs.declared.ends.Turns.{Turns}
 use Rattle.pg_client.specs.Desk.{DeskTold, GoesOn}
-use Rattle.pg_handlers.specs.Handlers.{Handlers}
-use Rattle.pg_handlers.specs.Questions.{questions_since}
+use Rattle.conversation_table.specs.Handlers.{Handlers}
+use Rattle.conversation_table.specs.Questions.{questions_since}
 use Rattle.pg_client.specs.State.{State}
-use Rattle.pg_handlers.specs.Table.{is_startup_phase}
-use Rattle.pg_session.specs.declared.ends.Progress.{Progress}
-use Rattle.pg_session.specs.declared.ends.Progress.TheVariants as progress
-use Rattle.pg_session.specs.declared.ends.ServeError.{ServeError}
-use Rattle.pg_session.specs.Run.{Rules}
-use Rattle.pg_session.specs.Session.{SessionValue, HasFed}
-use Rattle.pg_session.specs.Steps.{WasFed}
-use Rattle.pg_session.specs.Streams.{GrowsBy, GrowsByFront, HasSinkCause}
+use Rattle.conversation_table.specs.Table.{is_startup_phase}
+use Rattle.conversation_runs.specs.declared.ends.Progress.{Progress}
+use Rattle.conversation_runs.specs.declared.ends.Progress.TheVariants as progress
+use Rattle.conversation_runs.specs.declared.ends.ServeError.{ServeError}
+use Rattle.conversation_runs.specs.Run.{Rules}
+use Rattle.conversation_runs.specs.Session.{SessionValue, HasFed}
+use Rattle.conversation_runs.specs.Steps.{WasFed}
+use Rattle.conversation_runs.specs.Streams.{GrowsBy, GrowsByFront, HasSinkCause}
 use Rattle.pg_engine.specs.Conversing.{Talk}
 use Rattle.cursor_commands.specs.declared.command.CursorCommand.{CursorCommand}
 use Rattle.cursor_commands.specs.Cursors.{Replies, replies_of}

@@ -1,9 +1,9 @@
 -- A front as contracts see it, whatever session it stands before.
 use Rattle.std.specs.Prelude.{List, ℕ, Result}
-use Rattle.pg_handlers.specs.Handlers.{Handlers}
-use Rattle.pg_session.specs.declared.ends.Progress.{Progress}
-use Rattle.pg_session.specs.declared.ends.ServeError.{ServeError}
-use Rattle.pg_session.specs.Session.{SessionValue}
+use Rattle.conversation_table.specs.Handlers.{Handlers}
+use Rattle.conversation_runs.specs.declared.ends.Progress.{Progress}
+use Rattle.conversation_runs.specs.declared.ends.ServeError.{ServeError}
+use Rattle.conversation_runs.specs.Session.{SessionValue}
 use Rattle.cursor_table.specs.CursorTable.{cursor_rules}
 use Rattle.cursor_session.specs.declared.parts.Front.{Front}
 use Rattle.cursor_session.specs.Fronts.{FrontValue, Around, Takes, rest_of}

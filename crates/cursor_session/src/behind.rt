@@ -2,11 +2,11 @@
 
 ghost use Rattle.std.specs.Prelude.{◌≡◌, ◌≤◌, ◌++◌, [], true, OnOk};
 ghost use Rattle.pg_client.specs.Desk.{GoesOn};
-ghost use Rattle.pg_handlers.specs.Handlers.{Handlers};
-ghost use Rattle.pg_handlers.specs.Questions.{questions_since};
-ghost use Rattle.pg_session.specs.Session.{SessionValue, whole_rules, HasFed, is_more};
-ghost use Rattle.pg_session.specs.Steps.{WasFed};
-ghost use Rattle.pg_session.specs.Streams.{HasSinkCause};
+ghost use Rattle.conversation_table.specs.Handlers.{Handlers};
+ghost use Rattle.conversation_table.specs.Questions.{questions_since};
+ghost use Rattle.conversation_runs.specs.Session.{SessionValue, whole_rules, HasFed, is_more};
+ghost use Rattle.conversation_runs.specs.Steps.{WasFed};
+ghost use Rattle.conversation_runs.specs.Streams.{HasSinkCause};
 
 use pg_portal::{PgWireConnectionState, PortalStore};
 use pg_session::{

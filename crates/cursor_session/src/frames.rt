@@ -3,7 +3,7 @@
 ghost use Rattle.std.specs.Prelude.{◌≡◌, ◌≢◌, ◌≤◌, ◌<◌, ◌++◌, ◌-◌, ◌⊎◌, ℕ, List, [], true, false, None, Some, length, take, slice_index, IfOk, IfErr, IfSome, IfNone};
 ghost use Rattle.pg_messages.specs.Frames.{IsFrame, IsUnfinished, IsGoodHeader, header_len, told_len};
 ghost use Rattle.pg_messages.specs.declared.frontend.PgWireFrontendMessage.{PgWireFrontendMessage};
-ghost use Rattle.pg_handlers.specs.Table.{is_startup_phase};
+ghost use Rattle.conversation_table.specs.Table.{is_startup_phase};
 ghost use Rattle.cursor_table.specs.CursorTable.{asked_command, is_ready_phase};
 ghost use Rattle.cursor_session.specs.Fronts.{BeginsNoCommand, FitsFrame};
 

@@ -4,7 +4,7 @@ ghost use Rattle.std.specs.Prelude.{◌≡◌, ◌≤◌, ◌++◌, [], true, fa
 ghost use Rattle.std.specs.Arc.{arc_value};
 ghost use Rattle.pg_portal.specs.Maps.{no_maps};
 ghost use Rattle.pg_client.specs.State.{first_state};
-ghost use Rattle.pg_session.specs.Session.{is_more};
+ghost use Rattle.conversation_runs.specs.Session.{is_more};
 
 use crate::parts::Front;
 use pg_engine::Conversation;

@@ -4,9 +4,9 @@ ghost use Rattle.std.specs.Prelude.{◌≡◌, ◌≢◌, ◌≤◌, ◌<◌, �
 ghost use Rattle.std.specs.List.{AllByRecursion};
 ghost use Rattle.pg_messages.specs.Frames.{IsFrame, IsGoodHeader, DividesInto, header_len, told_len};
 ghost use Rattle.pg_messages.specs.declared.frontend.PgWireFrontendMessage.{PgWireFrontendMessage};
-ghost use Rattle.pg_handlers.specs.Table.{is_startup_phase};
-ghost use Rattle.pg_session.specs.declared.ends.Progress.TheVariants.{More};
-ghost use Rattle.pg_session.specs.Streams.{HasFlushed};
+ghost use Rattle.conversation_table.specs.Table.{is_startup_phase};
+ghost use Rattle.conversation_runs.specs.declared.ends.Progress.TheVariants.{More};
+ghost use Rattle.conversation_runs.specs.Streams.{HasFlushed};
 ghost use Rattle.cursor_commands.specs.Asking.{CanBeSent};
 ghost use Rattle.cursor_commands.specs.Cursors.{messages_of};
 ghost use Rattle.cursor_table.specs.CursorTable.{asked_command, is_ready_phase};

@@ -4,7 +4,7 @@ use Rattle.pg_messages.specs.Frames.{DividesInto, IsUnfinished, IsBad, awaits_st
 use Rattle.pg_messages.proofs.OneReading.{one_division}
 use Rattle.pg_client.specs.declared.desk.DeskCall.{DeskCall}
 use Rattle.pg_client.specs.Answer.{Next, answers_of, conversation}
-use Rattle.pg_session.specs.Run.{Rules, IsFed}
+use Rattle.conversation_runs.specs.Run.{Rules, IsFed}
 use Rattle.cursor_commands.specs.declared.command.CursorCommand.{CursorCommand}
 use Rattle.cursor_commands.specs.declared.command.CursorCommand.TheVariants.{Declare, Fetch, Close}
 use Rattle.cursor_commands.specs.Cursors.{messages_of, replies_of}

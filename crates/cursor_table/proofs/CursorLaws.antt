@@ -4,11 +4,11 @@ use Rattle.pg_messages.specs.declared.frontend.PgWireFrontendMessage.{PgWireFron
 use Rattle.pg_messages.specs.declared.frontend.PgWireFrontendMessage.TheVariants as client
 use Rattle.pg_messages.specs.Frames.{awaits_startup_after, awaits_startup_after_all}
 use Rattle.pg_client.specs.Answer.{Table, Goes, answers_of, left_by}
-use Rattle.pg_handlers.specs.Handlers.{Handlers}
-use Rattle.pg_handlers.specs.Lawful.{IsMade, IsLawful}
-use Rattle.pg_session.specs.Session.{whole_rules}
-use Rattle.pg_session.proofs.Answering.{whole_lawful}
-use Rattle.pg_session.proofs.Pieces.{conversation_awaits}
+use Rattle.conversation_table.specs.Handlers.{Handlers}
+use Rattle.conversation_table.specs.Lawful.{IsMade, IsLawful}
+use Rattle.conversation_runs.specs.Session.{whole_rules}
+use Rattle.conversation_runs.proofs.Answering.{whole_lawful}
+use Rattle.conversation_runs.proofs.Pieces.{conversation_awaits}
 use Rattle.cursor_commands.specs.declared.command.CursorCommand.{CursorCommand}
 use Rattle.cursor_commands.specs.declared.command.CursorCommand.TheVariants.{Declare, Fetch, Close}
 use Rattle.cursor_commands.specs.Commands.{command_of}

@@ -4,8 +4,8 @@ use Rattle.std.proofs.Math.Seq.{drop-append_seam}
 use Rattle.pg_messages.specs.declared.frontend.PgWireFrontendMessage.{PgWireFrontendMessage}
 use Rattle.pg_client.specs.declared.desk.DeskCall.{DeskCall}
 use Rattle.pg_client.specs.Answer.{Table, Next, Goes, Ends, Stops, answers_of, left_by, conversation, continued, joined}
-use Rattle.pg_handlers.specs.Lawful.{IsMade, IsLawful}
-use Rattle.pg_session.proofs.Pieces.{answers_of-append}
+use Rattle.conversation_table.specs.Lawful.{IsMade, IsLawful}
+use Rattle.conversation_runs.proofs.Pieces.{answers_of-append}
 
 drop-further : {A : Type 0} (n k : ℕ) (xs : List A) → drop (n + k) xs ≡ drop k (drop n xs)
 drop-further zero k xs = ap (λ n. drop n xs) (let e : 0 + k ≡ k = omega arith in e)

@@ -8,10 +8,10 @@ use Rattle.pg_results.specs.declared.client.PgWireConnectionState.{PgWireConnect
 use Rattle.pg_results.specs.declared.client.PgWireConnectionState.TheVariants as phase
 use Rattle.pg_client.specs.declared.desk.DeskCall.{DeskCall}
 use Rattle.pg_client.specs.Answer.{Answer, Table, Next, answers_of, conversation}
-use Rattle.pg_handlers.specs.Handlers.{Handlers}
+use Rattle.conversation_table.specs.Handlers.{Handlers}
 use Rattle.pg_client.specs.State.{State}
-use Rattle.pg_handlers.specs.Table.{whole_table, awaits}
-use Rattle.pg_session.specs.Run.{Rules}
+use Rattle.conversation_table.specs.Table.{whole_table, awaits}
+use Rattle.conversation_runs.specs.Run.{Rules}
 use Rattle.cursor_commands.specs.declared.command.CursorCommand.{CursorCommand}
 use Rattle.cursor_commands.specs.Commands.{command_of}
 use Rattle.cursor_commands.specs.Cursors.{Replies, messages_of, replies_of}

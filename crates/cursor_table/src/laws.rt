@@ -5,8 +5,8 @@ ghost use Rattle.std.specs.Prelude.{◌≡◌, ◌⊎◌, ℕ, Bool, false, List
 ghost use Rattle.pg_messages.specs.Frames.{DividesInto, IsUnfinished, IsBad, awaits_startup_after_all};
 ghost use Rattle.pg_client.specs.declared.desk.DeskCall.{DeskCall};
 ghost use Rattle.pg_client.specs.Answer.{Table, Next};
-ghost use Rattle.pg_handlers.specs.Lawful.{IsLawful};
-ghost use Rattle.pg_session.specs.Run.{Rules, IsFed};
+ghost use Rattle.conversation_table.specs.Lawful.{IsLawful};
+ghost use Rattle.conversation_runs.specs.Run.{Rules, IsFed};
 ghost use Rattle.cursor_commands.specs.declared.command.CursorCommand.{CursorCommand};
 ghost use Rattle.cursor_commands.specs.Cursors.{messages_of};
 ghost use Rattle.cursor_table.specs.CursorTable.{cursor_table, IsCommanded};

@@ -5,8 +5,8 @@ ghost use Rattle.std.specs.Arc.{arc_value};
 ghost use Rattle.pg_client.specs.Desk.{GoesOn};
 ghost use Rattle.pg_client.specs.State.{first_state};
 ghost use Rattle.pg_client.specs.declared.desk.DeskCall.{DeskCall};
-ghost use Rattle.pg_session.specs.Session.{whole_rules};
-ghost use Rattle.pg_session.specs.Streams.{greatest_count};
+ghost use Rattle.conversation_runs.specs.Session.{whole_rules};
+ghost use Rattle.conversation_runs.specs.Streams.{greatest_count};
 ghost use Rattle.pg_serve.specs.Desk.{ConnectionGoesOn, desk_calls};
 ghost use Rattle.pg_engine.specs.Serving.{WentSo, IsServedRun};
 

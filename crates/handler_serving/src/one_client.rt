@@ -4,7 +4,7 @@ ghost use Rattle.std.specs.Prelude.{◌≡◌, List, OnOk};
 ghost use Rattle.std.specs.Arc.{arc_value};
 ghost use Rattle.pg_client.specs.State.{first_state};
 ghost use Rattle.pg_client.specs.declared.desk.DeskCall.{DeskCall};
-ghost use Rattle.pg_session.specs.Session.{whole_rules};
+ghost use Rattle.conversation_runs.specs.Session.{whole_rules};
 ghost use Rattle.pg_engine.specs.Serving.{IsCalm, WentSo, counts_of};
 
 use pg_messages::{PgList, SecretKey};

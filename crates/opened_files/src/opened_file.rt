@@ -3,7 +3,7 @@
 ghost use Rattle.std.specs.Prelude.{◌≡◌};
 ghost use Rattle.opened_files.specs.Counts.{reads_of_file, faults_of_file};
 
-use pg_session::{Source, SourceFailed};
+use conversation_runs::{Source, SourceFailed};
 use pg_streams::ReaderSource;
 use std::fs;
 use std::fs::Files;

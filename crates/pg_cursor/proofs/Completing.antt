@@ -6,9 +6,9 @@ use Rattle.pg_client.specs.declared.ends.EndKind.{EndKind}
 use Rattle.pg_client.specs.declared.ends.EndKind.TheVariants as end
 use Rattle.pg_messages.specs.declared.frontend.PgWireFrontendMessage.{PgWireFrontendMessage}
 use Rattle.pg_messages.specs.Frames.{DividesInto, IsBad, IsUnfinished, awaits_startup_after_all}
-use Rattle.pg_session.specs.declared.ends.ServeError.{ServeError}
-use Rattle.pg_session.specs.declared.ends.ServeError.TheVariants as fault
-use Rattle.pg_session.specs.Streams.{HasRisen}
+use Rattle.conversation_runs.specs.declared.ends.ServeError.{ServeError}
+use Rattle.conversation_runs.specs.declared.ends.ServeError.TheVariants as fault
+use Rattle.conversation_runs.specs.Streams.{HasRisen}
 use Rattle.relation_files.specs.declared.errors.FileError.{FileError}
 use Rattle.relation_files.specs.declared.errors.FileError.TheVariants as file
 use Rattle.relation_files.specs.Files.{IsFileCause, IsToldBy, GaveAll, file_limit}

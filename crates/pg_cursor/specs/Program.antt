@@ -6,10 +6,10 @@ use Rattle.pg_messages.specs.Frames.{DividesInto, IsBad, IsUnfinished, awaits_st
 use Rattle.pg_client.specs.declared.desk.DeskCall.{DeskCall}
 use Rattle.pg_client.specs.declared.ends.EndKind.{EndKind}
 use Rattle.pg_client.specs.Answer.{answers_of}
-use Rattle.pg_handlers.specs.Questions.{questions}
-use Rattle.pg_session.specs.declared.ends.ServeError.{ServeError}
-use Rattle.pg_session.specs.declared.ends.ServeError.TheVariants.{NoMemory}
-use Rattle.pg_session.specs.Streams.{HasRisen}
+use Rattle.conversation_table.specs.Questions.{questions}
+use Rattle.conversation_runs.specs.declared.ends.ServeError.{ServeError}
+use Rattle.conversation_runs.specs.declared.ends.ServeError.TheVariants.{NoMemory}
+use Rattle.conversation_runs.specs.Streams.{HasRisen}
 use Rattle.pg_engine.specs.Serving.{Counts, HasCause, IsCalm, ReadsGaveBytes, counts_of}
 use Rattle.relation_files.specs.Files.{IsToldBy, IsFileCause, file_limit}
 use Rattle.relation_files.specs.Lines.{lines_of}

@@ -1,6 +1,7 @@
 //! What came of the program's words.
 
-use pg_session::{EndKind, ServeError};
+use conversation_runs::ServeError;
+use pg_client::EndKind;
 use relation_files::FileError;
 
 /// What came of the program's words.

@@ -10,10 +10,11 @@ ghost use Rattle.status_lines.specs.StatusLines.{IsReported};
 
 use crate::outcome::Outcome;
 use crate::telling::tell;
+use conversation_runs::{ServeError, Sink, Source};
 use cursor_serving::serve_cursors_on;
+use pg_client::EndKind;
 use pg_handlers::ScriptDesk;
 use pg_messages::{PgList, PgStr};
-use pg_session::{EndKind, ServeError, Sink, Source};
 use relation_files::read_relations;
 use relation_handlers::RelationTable;
 use relation_words::{Command, Service, read_command};

@@ -8,25 +8,25 @@ use Rattle.pg_messages.specs.Replies.{replies_bytes}
 use Rattle.pg_client.specs.declared.desk.DeskCall.{DeskCall}
 use Rattle.pg_client.specs.declared.ends.EndKind.{EndKind}
 use Rattle.pg_client.specs.declared.ends.EndKind.TheVariants as end
-use Rattle.pg_session.specs.declared.ends.ServeError.{ServeError}
-use Rattle.pg_session.specs.declared.ends.ServeError.TheVariants as fault
+use Rattle.conversation_runs.specs.declared.ends.ServeError.{ServeError}
+use Rattle.conversation_runs.specs.declared.ends.ServeError.TheVariants as fault
 use Rattle.pg_client.specs.Answer.{BeginsWith, Next, Goes}
 use Rattle.pg_client.specs.declared.desk.DeskCall.TheVariants as desk
 use Rattle.pg_client.specs.declared.ends.Turns.{Turns}
-use Rattle.pg_handlers.specs.Questions.{questions, questions_since}
+use Rattle.conversation_table.specs.Questions.{questions, questions_since}
 use Rattle.std.proofs.Math.Seq.{drop-append_seam}
-use Rattle.pg_session.proofs.Pieces.{IsFed-none}
+use Rattle.conversation_runs.proofs.Pieces.{IsFed-none}
 use Rattle.std.proofs.Common.{true, inl, inr, IsTrue, false, length, length-drop, ◌⊎◌}
-use Rattle.pg_session.specs.Session.{HasFed}
-use Rattle.pg_session.specs.declared.ends.Progress.{Progress}
-use Rattle.pg_session.specs.Streams.{HasRisen}
-use Rattle.pg_handlers.specs.Lawful.{IsLawful}
-use Rattle.pg_session.proofs.Feeding.{fed_then}
+use Rattle.conversation_runs.specs.Session.{HasFed}
+use Rattle.conversation_runs.specs.declared.ends.Progress.{Progress}
+use Rattle.conversation_runs.specs.Streams.{HasRisen}
+use Rattle.conversation_table.specs.Lawful.{IsLawful}
+use Rattle.conversation_runs.proofs.Feeding.{fed_then}
 use Rattle.pg_engine.specs.Conversing.{Talk, TakesPiece}
 use Rattle.pg_engine.specs.Serving.{Counts, HasCause, end_turn}
-use Rattle.pg_session.specs.Run.{Rules, IsRun, IsCutRun, IsFed, EndsWith}
-use Rattle.pg_session.specs.Streams.{GrowsBy, GrowsByFront, GivesFront}
-use Rattle.pg_session.specs.Steps as steps
+use Rattle.conversation_runs.specs.Run.{Rules, IsRun, IsCutRun, IsFed, EndsWith}
+use Rattle.conversation_runs.specs.Streams.{GrowsBy, GrowsByFront, GivesFront}
+use Rattle.conversation_runs.specs.Steps as steps
 use Rattle.pg_engine.specs.Serving.{TakesFrom, ReadsGaveBytes, IsServedRun, IsRunOfTaken, IsRunOverTaken, IsCutRunOfTaken, IsStoppedRun, IsStoppedRunOfTaken, GoesOnOver, EndsAtLast, WentSo}
 
 -- what was served is a run over a text that begins with it

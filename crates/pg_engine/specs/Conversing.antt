@@ -1,11 +1,11 @@
 -- A conversation as the engine sees it: what it answers by, where it stands, and what a piece of the client's bytes does to it.
 use Rattle.std.specs.Prelude.{ℕ, Bool, List, ◌++◌, Option, Result, Ok, ◌≡◌}
 use Rattle.pg_client.specs.declared.desk.DeskCall.{DeskCall}
-use Rattle.pg_session.specs.declared.ends.Progress.{Progress}
-use Rattle.pg_session.specs.declared.ends.Progress.TheVariants as progress
-use Rattle.pg_session.specs.declared.ends.ServeError.{ServeError}
-use Rattle.pg_session.specs.Run.{Rules}
-use Rattle.pg_session.specs.Steps.{WasFed}
+use Rattle.conversation_runs.specs.declared.ends.Progress.{Progress}
+use Rattle.conversation_runs.specs.declared.ends.Progress.TheVariants as progress
+use Rattle.conversation_runs.specs.declared.ends.ServeError.{ServeError}
+use Rattle.conversation_runs.specs.Run.{Rules}
+use Rattle.conversation_runs.specs.Steps.{WasFed}
 
 -- the rules that it goes by, where it stands, the bytes of a frame that isn't whole, the replies that wait, and whether it takes more
 pub record Talk (T : Type 0) : Type 0 where

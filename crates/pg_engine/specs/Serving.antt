@@ -8,10 +8,10 @@ use Rattle.pg_client.specs.declared.desk.DeskCall.{DeskCall}
 use Rattle.pg_client.specs.declared.ends.EndKind.{EndKind}
 use Rattle.pg_client.specs.declared.ends.EndKind.TheVariants.{InputEnd}
 use Rattle.pg_client.specs.Answer.{AsksNext, BeginsWith, Stops, answers_of, conversation}
-use Rattle.pg_session.specs.declared.ends.ServeError.{ServeError}
-use Rattle.pg_session.specs.declared.ends.ServeError.TheVariants.{ReadFault, WriteFault, TurnLimit, NoMemory}
-use Rattle.pg_session.specs.Run.{Rules, IsRun, IsCutRun}
-use Rattle.pg_session.specs.Streams.{GrowsBy, HasRisen}
+use Rattle.conversation_runs.specs.declared.ends.ServeError.{ServeError}
+use Rattle.conversation_runs.specs.declared.ends.ServeError.TheVariants.{ReadFault, WriteFault, TurnLimit, NoMemory}
+use Rattle.conversation_runs.specs.Run.{Rules, IsRun, IsCutRun}
+use Rattle.conversation_runs.specs.Streams.{GrowsBy, HasRisen}
 
 -- What was written has grown by the reply bytes of a run over the client's bytes, with these registry calls and this end.
 -- The client's bytes are those that the source had to give, where it tells them.

@@ -2,10 +2,10 @@
 
 ghost use Rattle.std.specs.Prelude.{◌≡◌, ◌≤◌, [], true, OnOk};
 ghost use Rattle.pg_client.specs.Desk.{GoesOn};
-ghost use Rattle.pg_handlers.specs.Lawful.{IsLawful};
-ghost use Rattle.pg_handlers.specs.Questions.{questions_since};
-ghost use Rattle.pg_session.specs.Session.{HasFed, is_more};
-ghost use Rattle.pg_session.specs.Streams.{HasSinkCause};
+ghost use Rattle.conversation_table.specs.Lawful.{IsLawful};
+ghost use Rattle.conversation_table.specs.Questions.{questions_since};
+ghost use Rattle.conversation_runs.specs.Session.{HasFed, is_more};
+ghost use Rattle.conversation_runs.specs.Streams.{HasSinkCause};
 ghost use Rattle.pg_engine.specs.Conversing.{Talk, TakesPiece};
 
 use pg_portal::PortalStore;
@@ -65,8 +65,8 @@ impl<
     >,
 > Conversation for Session<H, St> {
     ghost use Rattle.pg_client.specs.State.{State};
-    ghost use Rattle.pg_session.specs.Session.{whole_rules};
-    ghost use Rattle.pg_session.proofs.Answering.{whole_lawful};
+    ghost use Rattle.conversation_runs.specs.Session.{whole_rules};
+    ghost use Rattle.conversation_runs.proofs.Answering.{whole_lawful};
 
     ghost At = { State H.Extended.Statement };
 

@@ -5,9 +5,9 @@ ghost use Rattle.std.specs.Arc.{arc_value};
 ghost use Rattle.pg_portal.specs.Maps.{no_maps};
 ghost use Rattle.pg_client.specs.Desk.{GoesOn};
 ghost use Rattle.pg_client.specs.declared.desk.DeskCall.{DeskCall};
-ghost use Rattle.pg_handlers.specs.Questions.{questions_since};
+ghost use Rattle.conversation_table.specs.Questions.{questions_since};
 ghost use Rattle.pg_client.specs.State.{first_state};
-ghost use Rattle.pg_session.specs.Session.{whole_rules};
+ghost use Rattle.conversation_runs.specs.Session.{whole_rules};
 ghost use Rattle.pg_engine.specs.Serving.{WentSo, HasCause, EndsAtLast, FaultsNeverFall, IsCalm, IsRunOverTaken, ReadsGaveBytes, counts_of};
 
 use crate::conversation::Conversation;

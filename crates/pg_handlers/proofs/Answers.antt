@@ -9,7 +9,7 @@ use Rattle.pg_handlers.specs.declared.query.respond.Behind.{Behind}
 use Rattle.pg_replies.specs.Replies.{Replies}
 use Rattle.pg_replies.specs.ResponseRows.{Sent, responded}
 use Rattle.pg_handlers.specs.Sending.{behind}
-use Rattle.pg_handlers.specs.SimpleRows.{responded_all, followed}
+use Rattle.conversation_table.specs.SimpleRows.{responded_all, followed}
 use Rattle.pg_replies.proofs.Sent.{sent_behind}
 
 -- what was sent behind replies, and whether a COPY had begun before

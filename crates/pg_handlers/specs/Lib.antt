@@ -1,13 +1,2 @@
-pub mod Questions
-pub mod Handlers
-pub mod ExtendedRows
+pub mod Polling
 pub mod Sending
-pub mod ExecuteRow
-pub mod Executing
-pub mod SimpleRows
-pub mod CopyRows
-pub mod Table
-pub mod Good
-pub mod Noop
-pub mod Lawful
-pub mod Outcomes

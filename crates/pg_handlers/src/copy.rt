@@ -5,11 +5,11 @@ ghost use Rattle.pg_messages.specs.declared.frontend.PgWireFrontendMessage.TheVa
 ghost use Rattle.pg_results.specs.Clients.{HasShortMetadata};
 ghost use Rattle.pg_results.specs.Rows.{IsAnswerable};
 ghost use Rattle.pg_results.specs.declared.error.PgWireError.TheVariants as wire;
-ghost use Rattle.pg_handlers.specs.CopyRows.{copy_step};
+ghost use Rattle.conversation_table.specs.CopyRows.{copy_step};
 ghost use Rattle.pg_client.specs.Effect.{IsEffect, IsRefusedEffect, Done};
 ghost use Rattle.pg_client.specs.Errors.{copy_given_up};
-ghost use Rattle.pg_handlers.specs.Good.{IsGiven};
-ghost use Rattle.pg_handlers.specs.Handlers.{CopyTold};
+ghost use Rattle.conversation_table.specs.Good.{IsGiven};
+ghost use Rattle.conversation_table.specs.Handlers.{CopyTold};
 ghost use Rattle.pg_client.specs.State.{state_of};
 
 use pg_client::Client;

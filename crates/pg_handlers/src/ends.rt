@@ -3,7 +3,7 @@
 ghost use Rattle.std.specs.Prelude.{◌≡◌, Err};
 ghost use Rattle.pg_results.specs.declared.error.PgWireError.TheVariants as wire;
 ghost use Rattle.pg_client.specs.declared.ends.SessionError.TheVariants as session;
-ghost use Rattle.pg_handlers.specs.Outcomes.{session_outcome};
+ghost use Rattle.conversation_table.specs.Outcomes.{session_outcome};
 
 use pg_client::SessionError;
 use pg_portal::PgWireError;

@@ -1,7 +1,7 @@
 //! The handlers of a server.
 
 ghost use Rattle.std.specs.Prelude.{◌≡◌};
-ghost use Rattle.pg_handlers.specs.Handlers.{Handlers};
+ghost use Rattle.conversation_table.specs.Handlers.{Handlers};
 
 use crate::copy::CopyHandler;
 use crate::query::extended::ExtendedQueryHandler;

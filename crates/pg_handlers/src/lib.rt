@@ -5,13 +5,12 @@
 mod copy;
 mod ends;
 mod handlers;
-mod laws;
 mod noop;
 mod query;
 
+pub use conversation_table::whole_table_is_lawful;
 pub use copy::{CopyHandler, copy_given_up};
 pub use handlers::PgWireServerHandlers;
-pub use laws::whole_table_is_lawful;
 pub use noop::{NoRows, NoopExtendedQuery, NoopHandler, NoopSimpleQuery};
 pub use pg_client::{CancelDesk, Client, DeskCall, EndKind, ScriptDesk, SessionError, Turns};
 pub use pg_outbox::{CHUNK, Outbox};

@@ -54,7 +54,7 @@ pub struct NoopSimpleQuery {
 }
 
 impl QueryState for NoopSimpleQuery {
-    ghost use Rattle.pg_handlers.specs.Noop.{refused_query};
+    ghost use Rattle.conversation_table.specs.Noop.{refused_query};
 
     type Out = Result<PgList<Response<NoRows, NoRows>>, PgWireError>;
 
@@ -77,7 +77,7 @@ pub struct NoopExtendedQuery {
 }
 
 impl QueryState for NoopExtendedQuery {
-    ghost use Rattle.pg_handlers.specs.Noop.{refused_query};
+    ghost use Rattle.conversation_table.specs.Noop.{refused_query};
 
     type Out = Result<Response<NoRows, NoRows>, PgWireError>;
 
@@ -104,7 +104,7 @@ fn not_implemented(alloc: Global) -> Result<ErrorInfo, AllocError>
 }
 
 impl SimpleQueryHandler for NoopHandler {
-    ghost use Rattle.pg_handlers.specs.Noop.{noop_simple};
+    ghost use Rattle.conversation_table.specs.Noop.{noop_simple};
 
     type Rows = NoRows;
 
@@ -127,7 +127,7 @@ impl SimpleQueryHandler for NoopHandler {
 }
 
 impl ExtendedQueryHandler for NoopHandler {
-    ghost use Rattle.pg_handlers.specs.Noop.{noop_extended};
+    ghost use Rattle.conversation_table.specs.Noop.{noop_extended};
 
     type Statement = PgStr;
 
@@ -177,7 +177,7 @@ impl ExtendedQueryHandler for NoopHandler {
 }
 
 impl CopyHandler for NoopHandler {
-    ghost use Rattle.pg_handlers.specs.Noop.{noop_copy};
+    ghost use Rattle.conversation_table.specs.Noop.{noop_copy};
 
     ghost told = { λ _. noop_copy };
 

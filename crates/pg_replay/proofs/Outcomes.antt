@@ -1,7 +1,7 @@
 -- What comes of an order: nothing is a front of what is written, and where the file was read it wasn't refused.
 use Rattle.std.proofs.Common.{ℕ, List, [], Option, Some, None, Result, Ok, Err, inl, inr, refl, sym, ap}
 use Rattle.std.proofs.lemmas.List.{append-nil}
-use Rattle.pg_session.specs.Streams.{GrowsByFront}
+use Rattle.conversation_runs.specs.Streams.{GrowsByFront}
 use Rattle.pg_engine.specs.Serving.{Counts}
 use Rattle.recording_text.specs.declared.recording.ReadError.{ReadError}
 use Rattle.recording_text.specs.declared.recording.Recording.{Recording}

@@ -5,7 +5,7 @@ ghost use Rattle.relation_files.specs.Files.{GaveAll};
 ghost use Rattle.pg_replay.specs.Program.{IsInputCause};
 
 use crate::outcome::Outcome;
-use pg_session::Source;
+use conversation_runs::Source;
 use std::alloc::Global;
 
 /// The most bytes that a recording may have on the input.

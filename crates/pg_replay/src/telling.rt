@@ -5,7 +5,7 @@ ghost use Rattle.pg_replay.specs.Statuses.{status_of, line_of};
 ghost use Rattle.status_lines.specs.StatusLines.{IsReported};
 
 use crate::outcome::Outcome;
-use pg_session::Sink;
+use conversation_runs::Sink;
 use status_lines::{OUT_OF_MEMORY, report_file, write_line};
 use std::alloc::Global;
 

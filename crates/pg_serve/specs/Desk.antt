@@ -11,8 +11,8 @@ use Rattle.pg_client.specs.Desk.{narrowed}
 use Rattle.pg_client.specs.declared.desk.DeskCall.{DeskCall}
 use Rattle.pg_client.specs.declared.desk.DeskCall.TheVariants as desk
 use Rattle.pg_client.specs.declared.ends.EndKind.{EndKind}
-use Rattle.pg_session.specs.declared.ends.ServeError.{ServeError}
-use Rattle.pg_session.specs.Run.{Rules}
+use Rattle.conversation_runs.specs.declared.ends.ServeError.{ServeError}
+use Rattle.conversation_runs.specs.Run.{Rules}
 use Rattle.pg_engine.specs.Serving.{WentSo}
 
 -- a call of the registry as one of a desk; a session neither registers nor ends a registration

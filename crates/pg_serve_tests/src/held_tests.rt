@@ -148,7 +148,7 @@ impl<'s, R: Wait> SimpleQueryHandler for Held<'s, R> {
 
 impl<'s, R: Wait> PgWireServerHandlers for Held<'s, R> {
     ghost use Rattle.std.specs.Prelude.{Ok, []};
-    ghost use Rattle.pg_handlers.specs.Noop.{noop_extended, noop_copy};
+    ghost use Rattle.conversation_table.specs.Noop.{noop_extended, noop_copy};
 
     type Simple = Held<'s, R>;
 

@@ -2,14 +2,12 @@
 //! error, and the session that takes the client's bytes piece by piece.
 #![tactic(auto)]
 
-mod ends;
-mod laws;
 mod messages;
 mod session;
-mod streams;
 
-pub use ends::{Progress, ServeError};
-pub use laws::pieces_join;
+pub use conversation_runs::{
+    Progress, ServeError, Sink, SinkError, Source, SourceFailed, pieces_join,
+};
 pub use pg_handlers::{
     CancelDesk, Client, CopyHandler, DeskCall, EndKind, ExtendedQueryHandler, NoopHandler, Outbox,
     PgWireServerHandlers, QueryState, ScriptDesk, SessionError, SimpleQueryHandler, Turn, Turns,
@@ -18,4 +16,3 @@ pub use pg_handlers::{
     send_ready_for_query,
 };
 pub use session::{Session, process_error, process_message};
-pub use streams::{Sink, SinkError, Source, SourceFailed};

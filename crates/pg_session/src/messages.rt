@@ -12,16 +12,16 @@ ghost use Rattle.pg_results.specs.Rows.{IsAnswerable};
 ghost use Rattle.pg_results.specs.declared.error.PgWireError.{PgWireError};
 ghost use Rattle.pg_results.specs.declared.client.PgWireConnectionState.TheVariants as phase;
 ghost use Rattle.pg_client.specs.Desk.{GoesOn, KeepsDesk};
-ghost use Rattle.pg_handlers.specs.CopyRows.{copy_row, copied};
+ghost use Rattle.conversation_table.specs.CopyRows.{copy_row, copied};
 ghost use Rattle.pg_client.specs.Effect.{IsRow, IsRefusedRow, IsEffect, IsRefusedEffect, Done};
-ghost use Rattle.pg_handlers.specs.Good.{IsGiven, IsGoodState};
-ghost use Rattle.pg_handlers.specs.Questions.{HasSpent, questions_since};
+ghost use Rattle.conversation_table.specs.Good.{IsGiven, IsGoodState};
+ghost use Rattle.conversation_table.specs.Questions.{HasSpent, questions_since};
 ghost use Rattle.pg_client.specs.Ends.{IsAnswerableError, outcome_of};
 ghost use Rattle.pg_client.specs.State.{state_of};
-ghost use Rattle.pg_handlers.specs.Table.{message_row, ready_row, statement_row, IsPlain, awaiting_sync_row};
+ghost use Rattle.conversation_table.specs.Table.{message_row, ready_row, statement_row, IsPlain, awaiting_sync_row};
 ghost use Rattle.pg_client.specs.declared.ends.EndKind.TheVariants.{InputEnd};
 ghost use Rattle.pg_client.specs.declared.ends.Turns.{Turns};
-ghost use Rattle.pg_session.specs.Messages.{going, IsGivenIn, with_session_error};
+ghost use Rattle.conversation_runs.specs.Messages.{going, IsGivenIn, with_session_error};
 
 use pg_handlers::{
     CancelDesk, Client, CopyHandler, EndKind, ExtendedQueryHandler, PgWireServerHandlers,

@@ -11,22 +11,22 @@ ghost use Rattle.pg_results.specs.declared.client.PgWireConnectionState.TheVaria
 ghost use Rattle.pg_results.specs.declared.error.PgWireError.TheVariants as wire;
 ghost use Rattle.pg_client.specs.Desk.{GoesOn};
 ghost use Rattle.pg_client.specs.Effect.{failed};
-ghost use Rattle.pg_handlers.specs.Good.{IsGiven};
-ghost use Rattle.pg_handlers.specs.Questions.{HasSpent, questions_since};
+ghost use Rattle.conversation_table.specs.Good.{IsGiven};
+ghost use Rattle.conversation_table.specs.Questions.{HasSpent, questions_since};
 ghost use Rattle.pg_client.specs.State.{first_info, first_state};
-ghost use Rattle.pg_handlers.specs.Table.{whole_table, scope_in, IsPlain};
+ghost use Rattle.conversation_table.specs.Table.{whole_table, scope_in, IsPlain};
 ghost use Rattle.pg_messages.specs.declared.frontend.PgWireFrontendMessage.{PgWireFrontendMessage};
 ghost use Rattle.pg_client.specs.declared.ends.EndKind.TheVariants.{InputEnd};
 ghost use Rattle.pg_client.specs.Ends.{IsAnswerableError};
 ghost use Rattle.pg_client.specs.declared.ends.Turns.{Turns};
-ghost use Rattle.pg_session.specs.Messages.{IsGivenIn, scope_for, next_of};
-ghost use Rattle.pg_session.specs.Session.{goes_on, stays_open, HasFed};
-ghost use Rattle.pg_session.specs.Steps.{FailedSo, IsAnswered, IsCutAnswer, IsSilentlyAnswered, IsStoppedAnswer};
-ghost use Rattle.pg_session.specs.declared.ends.ServeError.TheVariants as serve;
+ghost use Rattle.conversation_runs.specs.Messages.{IsGivenIn, scope_for, next_of};
+ghost use Rattle.conversation_runs.specs.Session.{goes_on, stays_open, HasFed};
+ghost use Rattle.conversation_runs.specs.Steps.{FailedSo, IsAnswered, IsCutAnswer, IsSilentlyAnswered, IsStoppedAnswer};
+ghost use Rattle.conversation_runs.specs.declared.ends.ServeError.TheVariants as serve;
 
-use crate::ends::ServeError;
 use crate::messages::on_statement;
 use bytes::BytesMut;
+use conversation_runs::ServeError;
 use pg_handlers::{
     CancelDesk, Client, EndKind, ExtendedQueryHandler, Outbox, PgWireServerHandlers, SessionError,
     Turns,
@@ -60,9 +60,9 @@ impl<
     ghost use Rattle.std.specs.Coded.{codes};
     ghost use Rattle.std.specs.FinMap as fin;
     ghost use Rattle.std.specs.Arc.{arc_value};
-    ghost use Rattle.pg_handlers.specs.Good.{IsGoodState};
+    ghost use Rattle.conversation_table.specs.Good.{IsGoodState};
     ghost use Rattle.pg_client.specs.State.{state_of};
-    ghost use Rattle.pg_session.specs.Session.{SessionValue};
+    ghost use Rattle.conversation_runs.specs.Session.{SessionValue};
 
     ghost Value = { SessionValue H H.Extended.Statement };
 

@@ -1,10 +1,10 @@
 -- A source and a sink in memory, which cut and fail as they are told.
 use Rattle.std.specs.Prelude.{ℕ, Bool, true, false, List, ◌++◌, Option, Some, None, Result, Ok, Err, ◌≡◌, ◌+◌, ◌==◌, if◌then◌else◌, min, max, take, length, find, slice_get}
 use Rattle.std.specs.List.{list_any}
-use Rattle.pg_session.specs.declared.streams.SourceFailed.{SourceFailed}
-use Rattle.pg_session.specs.declared.streams.SinkError.{SinkError}
-use Rattle.pg_session.specs.declared.streams.SinkError.TheVariants.{Failed, NoMemory}
-use Rattle.pg_session.specs.Streams.{greatest_count}
+use Rattle.conversation_runs.specs.declared.streams.SourceFailed.{SourceFailed}
+use Rattle.conversation_runs.specs.declared.streams.SinkError.{SinkError}
+use Rattle.conversation_runs.specs.declared.streams.SinkError.TheVariants.{Failed, NoMemory}
+use Rattle.conversation_runs.specs.Streams.{greatest_count}
 
 -- a count that has risen by one, or stands still at the greatest
 abbrev pub raised : ℕ → ℕ

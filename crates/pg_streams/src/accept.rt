@@ -1,10 +1,10 @@
 //! Where connections come from, where their jobs go, and where their keys come from.
 
 ghost use Rattle.std.specs.Prelude.{◌≡◌, ℕ, ◌+◌, ◌≤◌, ◌<◌, IfOk, OnOk, OnErr};
-ghost use Rattle.pg_session.specs.Streams.{HasRisen, greatest_count};
+ghost use Rattle.conversation_runs.specs.Streams.{HasRisen, greatest_count};
 
+use conversation_runs::{Sink, Source};
 use pg_messages::SecretKey;
-use pg_session::{Sink, Source};
 use std::alloc::AllocError;
 
 /// No connection was accepted.

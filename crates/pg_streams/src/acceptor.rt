@@ -1,7 +1,7 @@
 //! Who accepts connections over sockets.
 
 ghost use Rattle.std.specs.Prelude.{◌≡◌, ◌≤◌, ◌<◌, ◌+◌, IfOk, OnErr};
-ghost use Rattle.pg_session.specs.Streams.{HasRisen, greatest_count};
+ghost use Rattle.conversation_runs.specs.Streams.{HasRisen, greatest_count};
 ghost use Rattle.pg_streams.specs.Sockets.{reads_of};
 
 use crate::accept::{AcceptFailed, Acceptor};

@@ -3,10 +3,10 @@
 ghost use Rattle.std.specs.Prelude.{◌≡◌, None, ◌≤◌, ◌<◌, length, IfOk, OnErr, OnOk, IsErrOf, IsTrue};
 ghost use Rattle.std.specs.Io.KnownBytes.{ReadConsumes, Appends};
 ghost use Rattle.std.specs.Result.{is_err};
-ghost use Rattle.pg_session.specs.Streams.{HasRisen, reads_after};
+ghost use Rattle.conversation_runs.specs.Streams.{HasRisen, reads_after};
 ghost use Rattle.pg_streams.specs.Memory.{counted};
 
-use pg_session::{Sink, SinkError, Source, SourceFailed};
+use conversation_runs::{Sink, SinkError, Source, SourceFailed};
 use std::io::{Read, Write};
 
 /// A source over a reader, which is read once for each call. A count stands still at the greatest

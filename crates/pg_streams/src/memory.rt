@@ -2,11 +2,11 @@
 
 ghost use Rattle.std.specs.Prelude.{◌≡◌, ℕ, List, [], Some, ◌≤◌, ◌<◌, ◌++◌, ◌==◌, min, take, length, find, IfOk, IfSome, IfErr, OnErr, OnOk, IsErrOf, if◌then◌else◌};
 ghost use Rattle.std.specs.Result.{is_err};
-ghost use Rattle.pg_session.specs.Streams.{GivesFront, GrowsBy, GrowsByFront, HasRisen, reads_after};
+ghost use Rattle.conversation_runs.specs.Streams.{GivesFront, GrowsBy, GrowsByFront, HasRisen, reads_after};
 ghost use Rattle.pg_streams.specs.Memory.{received, is_told_to_fail, most_of, IsNextCall, told_to_fail, TakesAsTold, raised, counted, is_fault};
 
+use conversation_runs::{Sink, SinkError, Source, SourceFailed};
 use pg_messages::{PgBytes, PgList};
-use pg_session::{Sink, SinkError, Source, SourceFailed};
 use std::alloc::Global;
 use std::marker::Model;
 

@@ -3,12 +3,12 @@
 ghost use Rattle.std.specs.Prelude.{◌≡◌, None, ◌≤◌, ◌<◌, length, IfOk, OnOk, OnErr, IsErrOf};
 ghost use Rattle.std.specs.Io.KnownBytes.{ReadConsumes, Appends};
 ghost use Rattle.std.specs.Result.{is_err};
-ghost use Rattle.pg_session.specs.Streams.{HasRisen, reads_after};
+ghost use Rattle.conversation_runs.specs.Streams.{HasRisen, reads_after};
 ghost use Rattle.pg_streams.specs.Memory.{counted};
 ghost use Rattle.pg_streams.specs.Sockets.{reads_of, faults_of};
 
 use crate::adapters::write_whole;
-use pg_session::{Sink, SinkError, Source, SourceFailed};
+use conversation_runs::{Sink, SinkError, Source, SourceFailed};
 use std::io::{Read, Write};
 use std::net::TcpStream;
 use std::os::unix::net::UnixStream;

@@ -2,7 +2,7 @@
 use Rattle.std.specs.Prelude.{ℕ, Bool, true, false, Option, Some, None, Result, Err}
 use Rattle.pg_results.specs.declared.error.PgWireError.{PgWireError}
 use Rattle.pg_results.specs.declared.error.PgWireError.TheVariants as wire
-use Rattle.pg_handlers.specs.Handlers.{QueryTold}
+use Rattle.conversation_table.specs.Handlers.{QueryTold}
 
 -- whether the outcome was given
 abbrev pub is_given : {A : Type 0} → Option A → Bool

@@ -2,9 +2,9 @@
 
 ghost use Rattle.std.specs.Prelude.{Some};
 
+use conversation_runs::{Sink, SinkError};
 use pg_messages::PgList;
 use pg_serve::MemorySink;
-use pg_session::{Sink, SinkError};
 use row_files::{Fault, number_told, parsed, told, up_to_one};
 use std::alloc::Global;
 

@@ -4,7 +4,7 @@ use Rattle.std.specs.Prelude.{IfSome}
 use Rattle.std.proofs.lemmas.List.{take-append-drop, take_at}
 use Rattle.std.proofs.lemmas.Bool.{false≢true}
 use Rattle.std.proofs.Math.Seq.{drop-append_seam}
-use Rattle.pg_session.specs.Streams.{GivesFront, GrowsBy, GrowsByFront}
+use Rattle.conversation_runs.specs.Streams.{GivesFront, GrowsBy, GrowsByFront}
 use Rattle.recorders.specs.Kept.{IsTakenOf, IsSentTo, behind, bytes_of, counted, gone}
 
 take_front : (r : ℕ) (a b : List ℕ) → take r (take r a ++ b) ≡ take r (a ++ b)

@@ -1,7 +1,7 @@
 -- What is kept of streams and of a desk while they are recorded.
 use Rattle.std.specs.Prelude.{ℕ, Bool, false, List, [], ◌∷◌, ◌++◌, Option, Some, None, ◌≡◌, ◌-◌, min, take, drop, length}
 use Rattle.pg_client.specs.declared.desk.DeskCall.{DeskCall}
-use Rattle.pg_session.specs.Streams.{greatest_count}
+use Rattle.conversation_runs.specs.Streams.{greatest_count}
 
 -- a number of bytes, which stands still at the greatest count
 abbrev pub counted : ℕ → ℕ

@@ -5,7 +5,7 @@ ghost use Rattle.std.proofs.Props.{props};
 ghost use Rattle.recorders.specs.Kept.{IsEndOf};
 
 use crate::keeping::keep_call;
-use pg_handlers::{CancelDesk, DeskCall};
+use pg_client::{CancelDesk, DeskCall};
 use pg_messages::SecretKey;
 use std::alloc::{AllocError, Global};
 

@@ -3,7 +3,7 @@
 ghost use Rattle.std.specs.Prelude.{◌≡◌, ◌≤◌, ◌<◌, ◌+◌, ◌^◌, ◌∷◌, ◌++◌, [], take, length, vec_len, vec_capacity, IfOk, OnOk};
 ghost use Rattle.recorders.specs.Kept.{counted};
 
-use pg_handlers::DeskCall;
+use pg_client::DeskCall;
 use std::alloc::{AllocError, Global};
 
 /// The first of the bytes that passed, as many as there is room for, and the number of all.

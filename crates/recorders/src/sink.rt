@@ -5,7 +5,7 @@ ghost use Rattle.std.proofs.Props.{props};
 ghost use Rattle.recorders.specs.Kept.{IsSentTo, told_numbers};
 
 use crate::keeping::FirstBytes;
-use pg_session::{Sink, SinkError};
+use conversation_runs::{Sink, SinkError};
 use std::snapshot::Snapshot;
 
 /// A sink to which the first bytes written are kept, as many as there is room for, and all are

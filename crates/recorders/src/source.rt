@@ -5,7 +5,7 @@ ghost use Rattle.std.proofs.Props.{props};
 ghost use Rattle.recorders.specs.Kept.{IsTakenOf, told_numbers};
 
 use crate::keeping::FirstBytes;
-use pg_session::{Source, SourceFailed};
+use conversation_runs::{Source, SourceFailed};
 use std::snapshot::Snapshot;
 
 /// A source of which the first bytes are kept, as many as there is room for, and all are counted.

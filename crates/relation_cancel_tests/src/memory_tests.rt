@@ -4,10 +4,11 @@ ghost use Rattle.std.specs.Prelude.{◌≡◌};
 ghost use Rattle.std.specs.Arc.{arc_value};
 
 use crate::clients::{BEGUN, CANCELED, Registry, STARTUP};
+use conversation_runs::{Source, SourceFailed};
 use pg_cancel::{ConnectionHandle, ConnectionManager};
+use pg_client::EndKind;
 use pg_messages::{PgList, SecretKey};
 use pg_serve::MemorySink;
-use pg_session::{EndKind, Source, SourceFailed};
 use relation_server::{built_in_table, serve_relations};
 use std::alloc::Global;
 use std::sync::{Arc, Wait};

@@ -1,7 +1,7 @@
 -- The bytes that a file gave, read by read.
 use Rattle.std.proofs.Common.{◌≡◌, ℕ, List, [], ◌++◌, Option, Some, None, IfSome, take, drop, refl, sym, ap, subst, ◌∙◌, append_assoc}
 use Rattle.std.proofs.lemmas.List.{take-append-drop, append-nil}
-use Rattle.pg_session.specs.Streams.{GivesFront}
+use Rattle.conversation_runs.specs.Streams.{GivesFront}
 use Rattle.relation_files.specs.Files.{Gave, GaveAll}
 
 pub gave_none : (left : Option (List ℕ)) → Gave left left []

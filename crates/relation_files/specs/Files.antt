@@ -1,6 +1,6 @@
 -- What a relation file is answered with, by what it gave.
 use Rattle.std.specs.Prelude.{ℕ, ◌≡◌, ◌≤◌, ◌<◌, List, [], ◌++◌, Option, Some, None, IfSome, length}
-use Rattle.pg_session.specs.Streams.{HasRisen}
+use Rattle.conversation_runs.specs.Streams.{HasRisen}
 use Rattle.relation_tables.specs.declared.Relation.{Relation}
 use Rattle.relation_files.specs.declared.errors.FileError.{FileError}
 use Rattle.relation_files.specs.declared.errors.FileError.TheVariants.{BadLine, TooLong, FileFault, NoMemory}

@@ -2,7 +2,7 @@
 use Rattle.std.specs.Prelude.{ℕ, Bool, false, ◌≡◌, List, [], ◌∷◌, ◌++◌, map, Option, Some, None, length}
 use Rattle.std.specs.Borrow.{Bor}
 use Rattle.pg_interval.specs.declared.pg_interval.Interval.{Interval}
-use Rattle.pg_session.specs.Streams.{HasRisen}
+use Rattle.conversation_runs.specs.Streams.{HasRisen}
 use Rattle.relation_tables.specs.declared.Relation.{Relation}
 use Rattle.relation_files.specs.declared.errors.FileError.{FileError}
 use Rattle.relation_files.specs.declared.errors.FileError.TheVariants as file

@@ -5,7 +5,7 @@ ghost use Rattle.relation_files.specs.Files.{GaveAll};
 ghost use Rattle.relation_files.specs.Reader.{IsReadCause};
 
 use crate::errors::FileError;
-use pg_session::Source;
+use conversation_runs::Source;
 use std::alloc::Global;
 
 /// The most bytes that a relation file may have.

@@ -11,7 +11,7 @@ use Rattle.pg_results.specs.declared.error.PgWireError.{PgWireError}
 use Rattle.pg_results.specs.declared.format.Format.{Format}
 use Rattle.pg_results.specs.declared.format.Format.TheVariants as format
 use Rattle.pg_results.specs.Fields.{Field}
-use Rattle.pg_handlers.specs.Good.{HasCodes}
+use Rattle.conversation_table.specs.Good.{HasCodes}
 use Rattle.relation_tables.specs.Relations.{column}
 use Rattle.relation_tables.specs.RelationHandler.{column_formats, column_formats_from, columns_in, row_item}
 use Rattle.relation_handlers.specs.Made.{ToldMaker, GivesFormats, relation_of, row_items, style_in}

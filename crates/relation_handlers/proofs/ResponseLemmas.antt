@@ -11,7 +11,7 @@ use Rattle.pg_results.specs.declared.response.QueryResponse.{QueryResponse}
 use Rattle.pg_results.specs.Responses as response
 use Rattle.pg_results.specs.Rows.{RowItem}
 use Rattle.pg_results.specs.Told.{told_rows}
-use Rattle.pg_handlers.specs.Good.{IsSendableResponse}
+use Rattle.conversation_table.specs.Good.{IsSendableResponse}
 use Rattle.pg_replies.specs.Replies.{parameter_description, row_description}
 use Rattle.pg_replies.proofs.Encodable.{select_is_tag}
 use Rattle.relation_tables.specs.declared.Relation.{Relation}

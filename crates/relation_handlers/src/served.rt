@@ -6,7 +6,7 @@ ghost use Rattle.pg_results.specs.Clients.{HasShortMetadata};
 ghost use Rattle.pg_results.specs.Responses as response;
 ghost use Rattle.pg_results.specs.Responses.{told_copy};
 ghost use Rattle.pg_results.specs.Told.{told_rows};
-ghost use Rattle.pg_handlers.specs.Good.{IsSendableResponse};
+ghost use Rattle.conversation_table.specs.Good.{IsSendableResponse};
 ghost use Rattle.relation_tables.specs.Relations.{relation_at};
 ghost use Rattle.relation_tables.specs.RelationHandler.{column_formats, copy_response, line_item, row_item, rows_response, told_parser};
 ghost use Rattle.relation_tables.specs.declared.Relation.{Relation};

@@ -3,7 +3,7 @@
 ghost use Rattle.std.specs.Prelude.{◌≡◌, Ok, IfOk, IsTrue, length};
 ghost use Rattle.pg_results.specs.Clients.{HasShortMetadata};
 ghost use Rattle.pg_results.specs.Responses.{told_response};
-ghost use Rattle.pg_handlers.specs.Good.{IsSendableOutcome};
+ghost use Rattle.conversation_table.specs.Good.{IsSendableOutcome};
 ghost use Rattle.relation_tables.specs.Relations.{columns_of};
 ghost use Rattle.relation_tables.specs.RelationHandler.{is_statement_of, query_of};
 ghost use Rattle.relation_handlers.specs.Made.{GivesFormats};

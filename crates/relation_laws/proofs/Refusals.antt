@@ -41,17 +41,17 @@ use Rattle.pg_client.specs.declared.ends.EndKind.TheVariants as end
 use Rattle.pg_client.specs.Answer.{Answer, Goes, Ends}
 use Rattle.pg_client.specs.Effect.{Effect, Called, Scope, UntilSync, AnswersReady, Outcome, Done, Failed, Over, Stopped, says, refuses, silent, settled, after_error}
 use Rattle.pg_client.specs.Errors.{is_fatal, unsupported_version, too_few_codes, values_for_empty}
-use Rattle.pg_handlers.specs.ExecuteRow.{at_stage, page_effect, fetched, execute_polled, execute_run, executed_portal, executed_entry}
-use Rattle.pg_handlers.specs.ExtendedRows.{bind_complete, parsed, bound_portal, bound, described_statement, described_portal}
-use Rattle.pg_handlers.specs.Handlers.{Handlers}
+use Rattle.conversation_table.specs.ExecuteRow.{at_stage, page_effect, fetched, execute_polled, execute_run, executed_portal, executed_entry}
+use Rattle.conversation_table.specs.ExtendedRows.{bind_complete, parsed, bound_portal, bound, described_statement, described_portal}
+use Rattle.conversation_table.specs.Handlers.{Handlers}
 use Rattle.pg_messages.specs.declared.backend.PgWireBackendMessage.TheVariants as server
 use Rattle.pg_messages.specs.Frames.{protocol_3_0, protocol_3_2, statement_target, portal_target}
 use Rattle.pg_replies.specs.Replies.{Replies, error_reply, ready, row_description, row_replies, done_with}
 use Rattle.pg_replies.specs.ResponseRows.{sent, unless_error, copy_out_reply, copy_replies, copy_count, copy_end, not_empty}
-use Rattle.pg_handlers.specs.SimpleRows.{followed, answered, query_polled, query_run}
+use Rattle.conversation_table.specs.SimpleRows.{followed, answered, query_polled, query_run}
 use Rattle.pg_client.specs.StartupRows.{accepts}
 use Rattle.pg_client.specs.State.{with_portal}
-use Rattle.pg_handlers.specs.Table.{ready_row, row, message_row, scope_in}
+use Rattle.conversation_table.specs.Table.{ready_row, row, message_row, scope_in}
 use Rattle.relation_tables.specs.declared.Relation.{Relation}
 use Rattle.relation_tables.specs.declared.RelationStatement.{RelationStatement}
 use Rattle.relation_tables.specs.declared.RelationStatement.TheVariants as statement

@@ -50,20 +50,20 @@ use Rattle.pg_portal.specs.Told.{TablePortal, Stage, Unstarted, Started, Ended, 
 use Rattle.pg_client.specs.declared.desk.DeskCall.{DeskCall}
 use Rattle.pg_client.specs.declared.desk.DeskCall.TheVariants as desk
 use Rattle.pg_client.specs.declared.ends.EndKind.TheVariants as end
-use Rattle.pg_handlers.specs.CopyRows.{copy_row}
+use Rattle.conversation_table.specs.CopyRows.{copy_row}
 use Rattle.pg_client.specs.Effect.{Effect, Called, Outcome, Done, Failed, Over, Stopped, says, refuses, silent}
 use Rattle.pg_client.specs.Errors.{values_for_empty, too_few_codes, unsupported_version}
-use Rattle.pg_handlers.specs.ExecuteRow.{at_stage, page_effect, fetched, execute_polled, execute_run, executed_portal, executed_entry}
-use Rattle.pg_handlers.specs.ExtendedRows.{parse_complete, bind_complete, parsed, portal_bound, bound_portal, bound, described_statement, described_portal, statement_description, portal_description}
-use Rattle.pg_handlers.specs.Handlers.{Handlers}
-use Rattle.pg_handlers.specs.Questions.{Verdict, Passed, Canceled, Unanswered, questioned, started}
+use Rattle.conversation_table.specs.ExecuteRow.{at_stage, page_effect, fetched, execute_polled, execute_run, executed_portal, executed_entry}
+use Rattle.conversation_table.specs.ExtendedRows.{parse_complete, bind_complete, parsed, portal_bound, bound_portal, bound, described_statement, described_portal, statement_description, portal_description}
+use Rattle.conversation_table.specs.Handlers.{Handlers}
+use Rattle.conversation_table.specs.Questions.{Verdict, Passed, Canceled, Unanswered, questioned, started}
 use Rattle.pg_replies.specs.Replies.{Replies, ready, row_replies, done_with, row_description}
 use Rattle.pg_replies.specs.ResponseRows.{sent, unless_error, copy_replies, copy_count, copy_end, copy_out_reply, not_empty as not_empty_data}
-use Rattle.pg_handlers.specs.SimpleRows.{followed, answered, answered_all, query_polled, query_run}
+use Rattle.conversation_table.specs.SimpleRows.{followed, answered, answered_all, query_polled, query_run}
 use Rattle.pg_client.specs.StartupRows.{no_encryption, on_cancel_request, accepts, tells_less, started_session, startup_row}
 use Rattle.pg_client.specs.State.{State, in_phase, with_status, with_portal, with_statement, without_statement, without_portal, without_unnamed_portal}
-use Rattle.pg_handlers.specs.Table.{statement_row, ready_row, awaiting_sync_row, row, message_row}
-use Rattle.pg_handlers.proofs.GoodStores.{Each, each_after_insert, each_after_remove, none_empty, one_value}
+use Rattle.conversation_table.specs.Table.{statement_row, ready_row, awaiting_sync_row, row, message_row}
+use Rattle.conversation_table.proofs.GoodStores.{Each, each_after_insert, each_after_remove, none_empty, one_value}
 use Rattle.relation_tables.specs.declared.Relation.{Relation}
 use Rattle.relation_tables.specs.declared.RelationStatement.{RelationStatement}
 use Rattle.relation_tables.specs.declared.RelationStatement.TheVariants as statement

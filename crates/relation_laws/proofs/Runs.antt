@@ -19,7 +19,7 @@ use Rattle.pg_client.specs.Effect.{Scope, UntilSync, AnswersReady, Outcome, Done
 use Rattle.pg_client.specs.Errors.{is_fatal}
 use Rattle.pg_replies.specs.Replies.{Replies, error_reply}
 use Rattle.pg_client.specs.State.{first_state}
-use Rattle.pg_handlers.specs.Table.{message_row, scope_in, whole_table}
+use Rattle.conversation_table.specs.Table.{message_row, scope_in, whole_table}
 use Rattle.relation_tables.specs.declared.Relation.{Relation}
 use Rattle.relation_tables.specs.declared.RelationStatement.{RelationStatement}
 use Rattle.relation_tables.specs.RelationHandler.{relation_handlers}

@@ -19,9 +19,9 @@ use Rattle.pg_results.specs.Page.{page}
 use Rattle.pg_portal.specs.Told.{TablePortal, Stage, Unstarted, Started, Ended}
 use Rattle.pg_client.specs.declared.desk.DeskCall.TheVariants as desk
 use Rattle.pg_client.specs.Answer.{Answer, conversation}
-use Rattle.pg_handlers.specs.Questions.{Passed, started}
+use Rattle.conversation_table.specs.Questions.{Passed, started}
 use Rattle.pg_client.specs.State.{State, first_state}
-use Rattle.pg_handlers.specs.Table.{whole_table}
+use Rattle.conversation_table.specs.Table.{whole_table}
 use Rattle.relation_tables.specs.declared.Relation.{Relation}
 use Rattle.relation_tables.specs.declared.RelationStatement.{RelationStatement}
 use Rattle.relation_tables.specs.declared.RelationStatement.TheVariants as statement

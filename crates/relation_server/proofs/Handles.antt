@@ -10,7 +10,7 @@ use Rattle.pg_cancel.specs.declared.entries.RegistryAnswer.TheVariants.{Done}
 use Rattle.pg_cancel.specs.Connections.{Connection, Witness, HasEnded, calls_of, entry}
 use Rattle.pg_cancel.specs.LegalHistory.{IsLegal}
 use Rattle.pg_cancel.proofs.Prefixes.{prefix_trans}
-use Rattle.pg_handlers.specs.Questions.{questions, questions_since}
+use Rattle.conversation_table.specs.Questions.{questions, questions_since}
 use Rattle.pg_serve.specs.Desk.{ConnectionGoesOn, desk_call, desk_calls}
 use Rattle.relation_server.specs.Jobs.{IsLeftBehind}
 

@@ -9,8 +9,8 @@ use Rattle.pg_cancel.specs.LegalHistory.{HasPid}
 use Rattle.pg_client.specs.declared.ends.EndKind.{EndKind}
 use Rattle.pg_messages.specs.declared.backend.PgWireBackendMessage.{PgWireBackendMessage}
 use Rattle.pg_messages.specs.Replies.{replies_bytes}
-use Rattle.pg_session.specs.declared.ends.ServeError.{ServeError}
-use Rattle.pg_session.specs.declared.ends.ServeError.TheVariants as fault
+use Rattle.conversation_runs.specs.declared.ends.ServeError.{ServeError}
+use Rattle.conversation_runs.specs.declared.ends.ServeError.TheVariants as fault
 use Rattle.pg_engine.specs.Serving.{Counts}
 use Rattle.relation_demo.specs.Client.{demo_client}
 use Rattle.relation_demo.specs.Counting.{row_count}

@@ -10,7 +10,7 @@ use Rattle.pg_cancel.specs.Connections.{is_register, registers_of, entry, Regist
 use Rattle.relation_server.specs.declared.accept_loop.ListenError.{ListenError}
 use Rattle.relation_server.specs.declared.accept_loop.ListenError.TheVariants.{AcceptFault, SpawnFault, PidTaken, NoMemory}
 use Rattle.relation_server.specs.Listening.{pids, pid_of_call, HasRegistered, IsRefusedAt, HasAdmitted, HasRefused, IsTurnedAway, Taking, HasEndedSo, HasTakenIn, NeverFalls, HasTaken, connections_of}
-use Rattle.pg_session.specs.Streams.{HasRisen}
+use Rattle.conversation_runs.specs.Streams.{HasRisen}
 use Rattle.pg_engine.proofs.Serving.{risen_since}
 
 -- the last elements of two equal lists are equal

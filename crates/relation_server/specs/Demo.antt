@@ -7,10 +7,10 @@ use Rattle.pg_cancel.specs.Connections.{Connection, Registers, Witness, before_l
 use Rattle.pg_cancel.specs.LegalHistory.{HasPid}
 use Rattle.pg_client.specs.declared.ends.EndKind.{EndKind}
 use Rattle.pg_client.specs.State.{first_state}
-use Rattle.pg_session.specs.declared.ends.ServeError.TheVariants.{WriteFault, NoMemory}
-use Rattle.pg_session.specs.Run.{IsRun}
-use Rattle.pg_session.specs.Session.{whole_rules}
-use Rattle.pg_session.specs.Streams.{GrowsBy, GrowsByFront, HasRisen}
+use Rattle.conversation_runs.specs.declared.ends.ServeError.TheVariants.{WriteFault, NoMemory}
+use Rattle.conversation_runs.specs.Run.{IsRun}
+use Rattle.conversation_runs.specs.Session.{whole_rules}
+use Rattle.conversation_runs.specs.Streams.{GrowsBy, GrowsByFront, HasRisen}
 use Rattle.pg_serve.specs.Desk.{desk_calls}
 use Rattle.relation_demo.specs.Counting.{row_count}
 use Rattle.relation_tables.specs.declared.Relation.{Relation}

@@ -7,8 +7,8 @@ use Rattle.pg_cancel.specs.declared.entries.RegistryAnswer.TheVariants.{Register
 use Rattle.pg_cancel.specs.Connections.{Connection, Witness, calls_of, entry}
 use Rattle.pg_cancel.specs.LegalHistory.{IsLegal}
 use Rattle.pg_client.specs.declared.ends.EndKind.{EndKind}
-use Rattle.pg_handlers.specs.Questions.{questions}
-use Rattle.pg_session.specs.declared.ends.ServeError.{ServeError}
+use Rattle.conversation_table.specs.Questions.{questions}
+use Rattle.conversation_runs.specs.declared.ends.ServeError.{ServeError}
 use Rattle.pg_serve.specs.Desk.{desk_calls}
 use Rattle.pg_engine.specs.Serving.{Counts, HasCause, FaultsNeverFall, IsCalm, ReadsGaveBytes}
 use Rattle.relation_tables.specs.declared.Relation.{Relation}

@@ -7,11 +7,11 @@ use Rattle.pg_cancel.specs.Connections.{Connection, Witness, Issuer, Registers, 
 use Rattle.pg_cancel.specs.LegalHistory.{HasPid}
 use Rattle.pg_client.specs.declared.ends.EndKind.{EndKind}
 use Rattle.pg_client.specs.State.{first_state}
-use Rattle.pg_session.specs.declared.ends.ServeError.{ServeError}
-use Rattle.pg_session.specs.declared.ends.ServeError.TheVariants.{WriteFault, NoMemory}
-use Rattle.pg_session.specs.Run.{IsRun}
-use Rattle.pg_session.specs.Session.{whole_rules}
-use Rattle.pg_session.specs.Streams.{GrowsBy, GrowsByFront, HasRisen}
+use Rattle.conversation_runs.specs.declared.ends.ServeError.{ServeError}
+use Rattle.conversation_runs.specs.declared.ends.ServeError.TheVariants.{WriteFault, NoMemory}
+use Rattle.conversation_runs.specs.Run.{IsRun}
+use Rattle.conversation_runs.specs.Session.{whole_rules}
+use Rattle.conversation_runs.specs.Streams.{GrowsBy, GrowsByFront, HasRisen}
 use Rattle.pg_serve.specs.Desk.{desk_calls}
 use Rattle.pg_engine.specs.Serving.{Counts, counts_of}
 use Rattle.relation_demo.specs.Client.{demo_client}

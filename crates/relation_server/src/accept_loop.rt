@@ -5,7 +5,7 @@ ghost use Rattle.std.specs.Arc.{arc_value};
 ghost use mathlib.Core.List.{IsPrefix};
 ghost use Rattle.relation_server.specs.Jobs.{IsFresh};
 ghost use Rattle.relation_server.specs.Listening.{HasAdmitted, HasEndedSo, HasTakenIn, IsTurnedAway, NeverFalls, IsRefusedAt, connections_of, taking_of};
-ghost use Rattle.pg_session.specs.Streams.{HasRisen, greatest_count};
+ghost use Rattle.conversation_runs.specs.Streams.{HasRisen, greatest_count};
 ghost use Rattle.relation_server.specs.declared.accept_loop.ListenError.{ListenError};
 
 use crate::connection_job::ConnectionJob;

@@ -1,6 +1,7 @@
 //! What came of a command of the program.
 
-use pg_session::{EndKind, ServeError};
+use conversation_runs::ServeError;
+use pg_client::EndKind;
 use relation_files::FileError;
 
 /// What came of a command.

@@ -5,7 +5,7 @@ ghost use Rattle.relation_server.specs.Outcomes.{status_of, line_of};
 ghost use Rattle.status_lines.specs.StatusLines.{IsReported};
 
 use crate::outcome::Outcome;
-use pg_session::Sink;
+use conversation_runs::Sink;
 use status_lines::{report_conversation, report_file, write_line};
 use std::alloc::Global;
 

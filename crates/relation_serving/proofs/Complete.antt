@@ -9,12 +9,12 @@ use Rattle.pg_messages.proofs.OneReading.{division_kept, division_joined, awaits
 use Rattle.pg_client.specs.declared.desk.DeskCall.{DeskCall}
 use Rattle.pg_client.specs.declared.ends.EndKind.{EndKind}
 use Rattle.pg_client.specs.Answer.{Next, answers_of, conversation}
-use Rattle.pg_handlers.specs.Questions.{questions, questions_since}
+use Rattle.conversation_table.specs.Questions.{questions, questions_since}
 use Rattle.pg_client.specs.State.{State, first_state}
-use Rattle.pg_session.specs.declared.ends.ServeError.{ServeError}
-use Rattle.pg_session.specs.declared.ends.ServeError.TheVariants as fault
-use Rattle.pg_session.specs.Run.{Rules}
-use Rattle.pg_session.proofs.Spending.{since_grown}
+use Rattle.conversation_runs.specs.declared.ends.ServeError.{ServeError}
+use Rattle.conversation_runs.specs.declared.ends.ServeError.TheVariants as fault
+use Rattle.conversation_runs.specs.Run.{Rules}
+use Rattle.conversation_runs.proofs.Spending.{since_grown}
 use Rattle.pg_engine.specs.Serving.{Counts, HasCause, ReadsGaveBytes, WentSo, IsRunOfTaken, IsStoppedRunOfTaken}
 use Rattle.relation_tables.specs.declared.Relation.{Relation}
 use Rattle.relation_tables.specs.declared.RelationStatement.{RelationStatement}

@@ -9,11 +9,11 @@ use Rattle.pg_client.specs.declared.ends.EndKind.{EndKind}
 use Rattle.pg_client.specs.declared.ends.EndKind.TheVariants as end
 use Rattle.pg_client.specs.Answer.{Answer, Next, Goes, Ends, Stops, BeginsWith, answers_of, conversation}
 use Rattle.pg_client.specs.State.{State, first_state}
-use Rattle.pg_handlers.specs.Table.{awaits}
-use Rattle.pg_session.specs.declared.ends.ServeError.{ServeError}
-use Rattle.pg_session.specs.declared.ends.ServeError.TheVariants as fault
-use Rattle.pg_session.specs.Run.{Rules, IsRun, IsCutRun, EndsWith}
-use Rattle.pg_session.specs.Session.{whole_rules}
+use Rattle.conversation_table.specs.Table.{awaits}
+use Rattle.conversation_runs.specs.declared.ends.ServeError.{ServeError}
+use Rattle.conversation_runs.specs.declared.ends.ServeError.TheVariants as fault
+use Rattle.conversation_runs.specs.Run.{Rules, IsRun, IsCutRun, EndsWith}
+use Rattle.conversation_runs.specs.Session.{whole_rules}
 use Rattle.pg_engine.specs.Serving.{IsStoppedRun}
 use Rattle.relation_tables.specs.declared.Relation.{Relation}
 use Rattle.relation_tables.specs.declared.RelationStatement.{RelationStatement}

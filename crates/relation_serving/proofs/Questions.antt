@@ -26,14 +26,14 @@ use Rattle.pg_client.specs.Answer.{Answer, Table, Next, Goes, Ends, Stops, conve
 use Rattle.pg_client.specs.Errors.{is_fatal}
 use Rattle.pg_replies.specs.Replies.{Replies}
 use Rattle.pg_client.specs.Effect.{Called, Scope, Outcome, Done, Failed, Over, Stopped, settled}
-use Rattle.pg_handlers.specs.ExecuteRow.{executed_portal, executed_entry}
-use Rattle.pg_handlers.specs.Handlers.{Handlers}
-use Rattle.pg_handlers.specs.Questions.{questions, questioned, started}
-use Rattle.pg_handlers.specs.SimpleRows.{on_query}
+use Rattle.conversation_table.specs.ExecuteRow.{executed_portal, executed_entry}
+use Rattle.conversation_table.specs.Handlers.{Handlers}
+use Rattle.conversation_table.specs.Questions.{questions, questioned, started}
+use Rattle.conversation_table.specs.SimpleRows.{on_query}
 use Rattle.pg_client.specs.StartupRows.{on_cancel_request, tells_less, startup_row}
 use Rattle.pg_client.specs.State.{State}
-use Rattle.pg_handlers.specs.Table.{ready_row, row, scope_in, whole_table}
-use Rattle.pg_session.proofs.Spending.{questions-append}
+use Rattle.conversation_table.specs.Table.{ready_row, row, scope_in, whole_table}
+use Rattle.conversation_runs.proofs.Spending.{questions-append}
 use Rattle.relation_tables.specs.declared.Relation.{Relation}
 use Rattle.relation_tables.specs.declared.RelationStatement.{RelationStatement}
 use Rattle.relation_tables.specs.declared.RelationStatement.TheVariants as statement

@@ -4,9 +4,9 @@ use Rattle.pg_messages.specs.declared.frontend.PgWireFrontendMessage.{PgWireFron
 use Rattle.pg_messages.specs.declared.frontend.PgWireFrontendMessage.TheVariants as client
 use Rattle.pg_messages.specs.Frames.{DividesInto, IsBad, IsUnfinished, awaits_startup_after_all}
 use Rattle.pg_client.specs.declared.ends.EndKind.{EndKind}
-use Rattle.pg_session.specs.declared.ends.ServeError.{ServeError}
-use Rattle.pg_session.specs.declared.ends.ServeError.TheVariants.{NoMemory}
-use Rattle.pg_session.specs.Streams.{HasRisen}
+use Rattle.conversation_runs.specs.declared.ends.ServeError.{ServeError}
+use Rattle.conversation_runs.specs.declared.ends.ServeError.TheVariants.{NoMemory}
+use Rattle.conversation_runs.specs.Streams.{HasRisen}
 use Rattle.pg_engine.specs.Serving.{Counts}
 use Rattle.relation_tables.specs.declared.Relation.{Relation}
 

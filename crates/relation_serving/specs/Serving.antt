@@ -5,9 +5,9 @@ use Rattle.pg_messages.specs.Frames.{DividesInto}
 use Rattle.pg_client.specs.declared.desk.DeskCall.{DeskCall}
 use Rattle.pg_client.specs.declared.ends.EndKind.{EndKind}
 use Rattle.pg_client.specs.State.{first_state}
-use Rattle.pg_session.specs.declared.ends.ServeError.{ServeError}
-use Rattle.pg_session.specs.Run.{Rules}
-use Rattle.pg_session.specs.Session.{whole_rules}
+use Rattle.conversation_runs.specs.declared.ends.ServeError.{ServeError}
+use Rattle.conversation_runs.specs.Run.{Rules}
+use Rattle.conversation_runs.specs.Session.{whole_rules}
 use Rattle.pg_engine.specs.Serving.{WentSo}
 use Rattle.relation_tables.specs.declared.Relation.{Relation}
 use Rattle.relation_tables.specs.CoreTable.{Setting, CoreState, core_table, core_awaits, first_core_state}

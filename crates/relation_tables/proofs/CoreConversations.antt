@@ -17,7 +17,7 @@ use Rattle.pg_client.specs.Errors.{unsupported_version}
 use Rattle.pg_replies.specs.Replies.{error_reply}
 use Rattle.pg_client.specs.StartupRows.{accepts}
 use Rattle.pg_client.specs.State.{State, first_state}
-use Rattle.pg_handlers.specs.Table.{row, scope_in, whole_table, awaits}
+use Rattle.conversation_table.specs.Table.{row, scope_in, whole_table, awaits}
 use Rattle.relation_tables.specs.declared.RelationStatement.{RelationStatement}
 use Rattle.relation_tables.specs.Relations.{HaveEvenRows}
 use Rattle.relation_tables.specs.RelationHandler.{relation_handlers}

@@ -24,8 +24,8 @@ use Rattle.pg_client.specs.declared.ends.EndKind.TheVariants as end
 use Rattle.pg_client.specs.Answer.{Answer, Goes, Ends}
 use Rattle.pg_client.specs.Effect.{Effect, settled, Outcome, Done, Failed, Over, Stopped, UntilSync}
 use Rattle.pg_client.specs.Errors.{is_fatal}
-use Rattle.pg_handlers.specs.ExecuteRow.{page_effect, at_stage, fetched, fetched_nothing, execute_polled, execute_run, executed_portal, executed_entry, on_execute}
-use Rattle.pg_handlers.specs.Questions.{Verdict, Passed, Canceled, Unanswered, started}
+use Rattle.conversation_table.specs.ExecuteRow.{page_effect, at_stage, fetched, fetched_nothing, execute_polled, execute_run, executed_portal, executed_entry, on_execute}
+use Rattle.conversation_table.specs.Questions.{Verdict, Passed, Canceled, Unanswered, started}
 use Rattle.pg_replies.specs.Replies.{Replies, row_replies, done_with}
 use Rattle.pg_client.specs.State.{State, with_portal}
 use Rattle.relation_tables.specs.declared.RelationStatement.{RelationStatement}

@@ -19,10 +19,10 @@ use Rattle.pg_results.specs.declared.stmt.StoredStatement.{StoredStatement}
 use Rattle.pg_results.specs.Fields.{Field, description_of}
 use Rattle.pg_results.specs.Rows.{IsItemError, IsTellable}
 use Rattle.pg_results.specs.Texts.{IsShortText, quoted}
-use Rattle.pg_handlers.specs.Good.{IsSendableOutcome, AreSendable, IsSendableDescription}
+use Rattle.conversation_table.specs.Good.{IsSendableOutcome, AreSendable, IsSendableDescription}
 use Rattle.pg_replies.specs.Replies.{done, row_description, parameter_description}
 use Rattle.pg_replies.proofs.Encodable.{HasNoZero-append, by_test, select_is_tag}
-use Rattle.pg_handlers.proofs.ErrorTexts.{tellable_error}
+use Rattle.conversation_table.proofs.ErrorTexts.{tellable_error}
 use Rattle.relation_tables.specs.declared.Relation.{Relation}
 use Rattle.relation_tables.specs.declared.RelationStatement.{RelationStatement}
 use Rattle.relation_tables.specs.declared.RelationStatement.TheVariants as statement

@@ -31,7 +31,7 @@ use Rattle.pg_client.specs.Errors.{values_for_empty, too_few_codes, unsupported_
 use Rattle.pg_replies.specs.Replies.{ready, startup_replies, error_reply, row_description}
 use Rattle.pg_client.specs.State.{State, without_statement, without_portal}
 use Rattle.pg_client.specs.StartupRows.{on_startup, accepts, told_key, narrowing}
-use Rattle.pg_handlers.specs.ExtendedRows.{on_parse, parsed, parse_complete, on_bind, bound, bind_complete, bound_portal, on_describe, described_statement, described_portal, statement_description, portal_description, on_close, on_sync}
+use Rattle.conversation_table.specs.ExtendedRows.{on_parse, parsed, parse_complete, on_bind, bound, bind_complete, bound_portal, on_describe, described_statement, described_portal, statement_description, portal_description, on_close, on_sync}
 use Rattle.pg_client.specs.Effect.{says, refuses, silent}
 use Rattle.relation_tables.specs.declared.RelationStatement.{RelationStatement}
 use Rattle.relation_tables.specs.Errors.{unknown_relation}

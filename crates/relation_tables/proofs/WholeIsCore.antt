@@ -8,7 +8,7 @@ use Rattle.pg_client.specs.Answer.{Answer, Next, Goes, Ends, Stops, conversation
 use Rattle.pg_client.specs.Effect.{UntilSync, silent, settle}
 use Rattle.pg_client.specs.StartupRows.{startup_row}
 use Rattle.pg_client.specs.State.{State, first_state}
-use Rattle.pg_handlers.specs.Table.{ready_row, awaiting_sync_row, scope_of, scope_in, row, whole_table, awaits, is_startup_phase}
+use Rattle.conversation_table.specs.Table.{ready_row, awaiting_sync_row, scope_of, scope_in, row, whole_table, awaits, is_startup_phase}
 use Rattle.relation_tables.specs.declared.RelationStatement.{RelationStatement}
 use Rattle.relation_tables.specs.Relations.{HaveEvenRows}
 use Rattle.relation_tables.specs.RelationHandler.{relation_handlers}

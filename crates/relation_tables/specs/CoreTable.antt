@@ -36,7 +36,7 @@ use Rattle.pg_client.specs.declared.ends.EndKind.{EndKind}
 use Rattle.pg_client.specs.declared.ends.EndKind.TheVariants as end
 use Rattle.pg_client.specs.Answer.{Answer, Table, Goes, Ends, Stops}
 use Rattle.pg_client.specs.Errors.{values_for_empty, too_few_codes, unsupported_version}
-use Rattle.pg_handlers.specs.Questions.{Verdict, Passed, Canceled, Unanswered, started}
+use Rattle.conversation_table.specs.Questions.{Verdict, Passed, Canceled, Unanswered, started}
 use Rattle.pg_replies.specs.Replies.{Replies, error_reply, ready, startup_replies, done, done_with, row_replies, row_description}
 use Rattle.pg_client.specs.StartupRows.{told_key, narrowing}
 use Rattle.relation_tables.specs.declared.Relation.{Relation}

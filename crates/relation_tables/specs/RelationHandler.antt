@@ -27,8 +27,8 @@ use Rattle.pg_results.specs.Rows.{RowItem}
 use Rattle.pg_results.specs.Tags.{tag_of}
 use Rattle.pg_results.specs.Told.{ParserTold}
 use Rattle.pg_portal.specs.Told.{BoundPortal}
-use Rattle.pg_handlers.specs.Handlers.{ExtendedTold, SimpleTold, Handlers, ToldQuery}
-use Rattle.pg_handlers.specs.Noop.{noop_copy}
+use Rattle.conversation_table.specs.Handlers.{ExtendedTold, SimpleTold, Handlers, ToldQuery}
+use Rattle.conversation_table.specs.Noop.{noop_copy}
 use Rattle.relation_tables.specs.declared.Relation.{Relation}
 use Rattle.relation_tables.specs.declared.RelationStatement.{RelationStatement}
 use Rattle.relation_tables.specs.declared.RelationStatement.TheVariants as statement

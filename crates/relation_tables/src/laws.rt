@@ -5,7 +5,7 @@ ghost use Rattle.std.specs.Prelude.{Bool, List};
 ghost use Rattle.pg_messages.specs.declared.frontend.PgWireFrontendMessage.{PgWireFrontendMessage};
 ghost use Rattle.pg_client.specs.Answer.{conversation};
 ghost use Rattle.pg_client.specs.State.{first_state};
-ghost use Rattle.pg_handlers.specs.Table.{whole_table, awaits};
+ghost use Rattle.conversation_table.specs.Table.{whole_table, awaits};
 ghost use Rattle.relation_tables.specs.CoreTable.{Setting, core_table, first_core_state, core_awaits};
 ghost use Rattle.relation_tables.specs.Premises.{AreCore, IsCoreConversation, AreAlike};
 ghost use Rattle.relation_tables.specs.RelationHandler.{relation_handlers};

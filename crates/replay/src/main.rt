@@ -5,10 +5,10 @@
 mod help;
 
 use crate::help::help_or_version;
+use conversation_runs::Sink;
 use opened_files::open_file;
 use pg_messages::{PgList, PgStr};
 use pg_replay::{file_word, run_replay};
-use pg_session::Sink;
 use pg_streams::{ReaderSource, WriterSink};
 use std::alloc::{AllocError, Global};
 use std::process::ExitCode;

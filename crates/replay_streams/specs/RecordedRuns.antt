@@ -1,8 +1,8 @@
 -- Which recordings are those of a run.
 use Rattle.std.specs.Prelude.{List}
 use Rattle.pg_client.specs.State.{first_state}
-use Rattle.pg_session.specs.Run.{IsRun}
-use Rattle.pg_session.specs.Session.{whole_rules}
+use Rattle.conversation_runs.specs.Run.{IsRun}
+use Rattle.conversation_runs.specs.Session.{whole_rules}
 use Rattle.recording_text.specs.declared.recording.Recording.{Recording}
 use Rattle.relation_tables.specs.RelationHandler.{relation_handlers}
 use Rattle.relation_tables.specs.declared.Relation.{Relation}

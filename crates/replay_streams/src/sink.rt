@@ -2,7 +2,7 @@
 
 ghost use Rattle.std.specs.Prelude.{Some};
 
-use pg_session::{Sink, SinkError};
+use conversation_runs::{Sink, SinkError};
 
 /// A sink that keeps what is written. It never fails but for want of memory, and then takes nothing.
 #[derive(Drop)]

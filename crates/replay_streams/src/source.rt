@@ -2,7 +2,7 @@
 
 ghost use Rattle.std.specs.Prelude.{[], Some};
 
-use pg_session::{Source, SourceFailed};
+use conversation_runs::{Source, SourceFailed};
 
 /// A source of bytes that are lent to it. It gives as many as fit, and never fails.
 #[derive(Drop)]

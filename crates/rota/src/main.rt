@@ -4,9 +4,9 @@
 mod help;
 
 use crate::help::help_or_version;
+use conversation_runs::Sink;
 use opened_files::open_file;
 use pg_messages::{PgList, PgStr};
-use pg_session::Sink;
 use pg_streams::{ReaderSource, WriterSink};
 use rota_report::run_rota;
 use rota_words::file_word;

@@ -2,9 +2,9 @@
 use Rattle.std.specs.Prelude.{ℕ, ◌≡◌, ◌⊎◌, List, Option, Some, None, Result, Ok, Err}
 use Rattle.pg_interval.specs.declared.pg_interval.Interval.{Interval}
 use Rattle.pg_interval.specs.Reading.{Style}
-use Rattle.pg_session.specs.Streams.{GrowsBy, GrowsByFront, HasRisen}
-use Rattle.pg_session.specs.declared.streams.SinkError.{SinkError}
-use Rattle.pg_session.specs.declared.streams.SinkError.TheVariants as sink
+use Rattle.conversation_runs.specs.Streams.{GrowsBy, GrowsByFront, HasRisen}
+use Rattle.conversation_runs.specs.declared.streams.SinkError.{SinkError}
+use Rattle.conversation_runs.specs.declared.streams.SinkError.TheVariants as sink
 use Rattle.rota_moments.specs.declared.moment.Moment.{Moment}
 use Rattle.rota_moments.specs.declared.rotas.RotaError.{RotaError}
 use Rattle.rota_moments.specs.declared.rotas.RotaError.TheVariants as rota

@@ -5,8 +5,8 @@ ghost use Rattle.rota_moments.specs.Moments.{IsMoment};
 ghost use Rattle.rota_report.specs.Outcomes.{HasCompared};
 
 use crate::failure::Failure;
+use conversation_runs::Sink;
 use pg_interval::Interval;
-use pg_session::Sink;
 use rota_clashes::clashes;
 use rota_moments::{Moment, rota};
 use rota_writing::write_clashes;

@@ -2,7 +2,7 @@
 
 ghost use Rattle.std.specs.Prelude.{◌≡◌};
 
-use pg_session::SinkError;
+use conversation_runs::SinkError;
 use relation_files::FileError;
 use rota_moments::RotaError;
 use rota_writing::ReportError;

@@ -6,8 +6,8 @@ ghost use Rattle.rota_moments.specs.Moments.{IsMoment};
 ghost use Rattle.rota_report.specs.Outcomes.{HasListed};
 
 use crate::failure::Failure;
+use conversation_runs::Sink;
 use pg_interval::Interval;
-use pg_session::Sink;
 use pg_text::IntervalStyle;
 use rota_moments::Moment;
 use rota_writing::report;

@@ -6,9 +6,9 @@ ghost use Rattle.rota_report.specs.Reading.{HasReadColumn, HasReadColumns};
 
 use crate::columns::named_column;
 use crate::failure::Failure;
+use conversation_runs::Source;
 use pg_interval::Interval;
 use pg_messages::PgList;
-use pg_session::Source;
 use relation_files::read_relations;
 use rota_words::RotaWords;
 use std::alloc::Global;

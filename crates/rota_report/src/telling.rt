@@ -5,7 +5,7 @@ ghost use Rattle.status_lines.specs.StatusLines.{IsReported};
 ghost use Rattle.rota_report.specs.Statuses.{status_of, line_of};
 
 use crate::failure::Failure;
-use pg_session::Sink;
+use conversation_runs::Sink;
 use status_lines::{OUT_OF_MEMORY, report_file, write_line};
 use std::alloc::Global;
 

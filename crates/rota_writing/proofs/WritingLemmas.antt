@@ -1,8 +1,8 @@
 -- A text that is on its way to a sink.
 use Rattle.std.proofs.Common.{◌≡◌, ℕ, List, [], ◌++◌, Option, Some, None, refl, sym, ap, subst, ◌∙◌, append_assoc, append-nil}
 use Rattle.std.proofs.Common.{Result, Ok, Err, OnOk}
-use Rattle.pg_session.specs.declared.streams.SinkError.{SinkError}
-use Rattle.pg_session.specs.Streams.{GrowsBy, GrowsByFront}
+use Rattle.conversation_runs.specs.declared.streams.SinkError.{SinkError}
+use Rattle.conversation_runs.specs.Streams.{GrowsBy, GrowsByFront}
 use Rattle.rota_writing.specs.Writing.{IsOnItsWay, IsSinkCause, HasWritten, GoesOn}
 
 grows_on : (a b c : Option (List ℕ)) (x y : List ℕ) → GrowsBy a b x → GrowsBy b c y → GrowsBy a c (x ++ y)

@@ -2,7 +2,7 @@
 use Rattle.std.specs.Prelude.{ℕ, ◌≡◌, ◌⊎◌, List, Option, Result, Ok, Err}
 use Rattle.pg_interval.specs.declared.pg_interval.Interval.{Interval}
 use Rattle.pg_interval.specs.Reading.{Style}
-use Rattle.pg_session.specs.Streams.{GrowsBy, GrowsByFront, HasRisen}
+use Rattle.conversation_runs.specs.Streams.{GrowsBy, GrowsByFront, HasRisen}
 use Rattle.rota_moments.specs.declared.moment.Moment.{Moment}
 use Rattle.rota_moments.specs.declared.rotas.RotaError.TheVariants as rota
 use Rattle.rota_moments.specs.Rotas.{moments_of, IsTotal}

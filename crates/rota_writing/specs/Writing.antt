@@ -1,8 +1,8 @@
 -- What comes of a text that is written to a sink.
 use Rattle.std.specs.Prelude.{ℕ, ◌≡◌, List, ◌++◌, Option, Result, Ok, Err}
-use Rattle.pg_session.specs.Streams.{GrowsBy, GrowsByFront, HasRisen}
-use Rattle.pg_session.specs.declared.streams.SinkError.{SinkError}
-use Rattle.pg_session.specs.declared.streams.SinkError.TheVariants.{Failed, NoMemory}
+use Rattle.conversation_runs.specs.Streams.{GrowsBy, GrowsByFront, HasRisen}
+use Rattle.conversation_runs.specs.declared.streams.SinkError.{SinkError}
+use Rattle.conversation_runs.specs.declared.streams.SinkError.TheVariants.{Failed, NoMemory}
 
 -- What was written has grown by a front of a text, whose rest waits.
 pub record IsOnItsWay (old new : Option (List ℕ)) (text waiting : List ℕ) : Type 0 where

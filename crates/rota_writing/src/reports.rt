@@ -9,8 +9,8 @@ ghost use Rattle.pg_interval.specs.declared.pg_interval.Interval.{Interval};
 ghost use Rattle.rota_writing.specs.Report.{HasReported};
 
 use crate::writing::write_rota;
+use conversation_runs::{Sink, SinkError};
 use pg_interval::Interval;
-use pg_session::{Sink, SinkError};
 use pg_text::IntervalStyle;
 use rota_moments::{Moment, RotaError, rota, total};
 use std::alloc::Global;

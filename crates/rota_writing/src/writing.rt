@@ -6,8 +6,8 @@ ghost use Rattle.rota_moments.specs.Moments.{IsMoment};
 ghost use Rattle.rota_lines.specs.Lines.{line, clash_line, rota_text, clash_text, Stands};
 ghost use Rattle.rota_writing.specs.Writing.{IsOnItsWay, HasWritten, GoesOn};
 
+use conversation_runs::{Sink, SinkError};
 use pg_interval::Interval;
-use pg_session::{Sink, SinkError};
 use pg_text::IntervalStyle;
 use rota_lines::{put_clash, put_end, put_step};
 use rota_moments::Moment;

@@ -8,8 +8,8 @@ use Rattle.pg_results.specs.Told.{ParserTold}
 use Rattle.pg_results.specs.declared.error.PgWireError.{PgWireError}
 use Rattle.pg_results.specs.declared.format.Format.{Format}
 use Rattle.pg_results.specs.declared.format.Format.TheVariants as format
-use Rattle.pg_handlers.specs.Handlers.{ExtendedTold, Handlers, SimpleTold, ToldQuery, handlers_of}
-use Rattle.pg_handlers.specs.Noop.{noop_copy}
+use Rattle.conversation_table.specs.Handlers.{ExtendedTold, Handlers, SimpleTold, ToldQuery, handlers_of}
+use Rattle.conversation_table.specs.Noop.{noop_copy}
 use Rattle.row_handlers.specs.Answers.{AnswersTold}
 
 -- a query that owes no poll

@@ -6,8 +6,8 @@ ghost use Rattle.pg_results.specs.Responses.{told_responses};
 ghost use Rattle.pg_results.specs.Rows.{IsAnswerableItem};
 ghost use Rattle.pg_results.specs.Texts.{IsShortText};
 ghost use Rattle.pg_results.specs.Told.{IsOutcome};
-ghost use Rattle.pg_handlers.specs.Good.{IsSendableResponse};
-ghost use Rattle.pg_handlers.specs.Handlers.{told_all};
+ghost use Rattle.conversation_table.specs.Good.{IsSendableResponse};
+ghost use Rattle.conversation_table.specs.Handlers.{told_all};
 
 use crate::answers::RowAnswers;
 use crate::parser::RowParser;

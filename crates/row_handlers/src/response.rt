@@ -1,8 +1,8 @@
 //! Statements are answered with their rows.
 
 ghost use Rattle.std.specs.Prelude.{◌≡◌, ◌↔◌, [], Some, Err, IfOk, IfErr, IsErr};
-ghost use Rattle.pg_handlers.specs.Good.{IsSendableResponse};
-ghost use Rattle.pg_handlers.specs.Handlers.{told_one};
+ghost use Rattle.conversation_table.specs.Good.{IsSendableResponse};
+ghost use Rattle.conversation_table.specs.Handlers.{told_one};
 ghost use Rattle.pg_results.specs.Responses as response;
 ghost use Rattle.pg_results.specs.Responses.{told_response};
 ghost use Rattle.pg_results.specs.Rows.{IsAnswerableItem};

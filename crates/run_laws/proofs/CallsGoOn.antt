@@ -6,8 +6,8 @@ use Rattle.pg_messages.proofs.OneReading.{one_frame, division_kept}
 use Rattle.pg_client.specs.declared.desk.DeskCall.{DeskCall}
 use Rattle.pg_client.specs.declared.ends.EndKind.{EndKind}
 use Rattle.pg_client.specs.Answer.{Answer, Next, Goes, Ends, Stops, BeginsWith, answers_of, left_by, conversation, continued, joined}
-use Rattle.pg_handlers.specs.Lawful.{IsMade, IsLawful}
-use Rattle.pg_session.specs.Run.{Rules, IsRun, EndsWith}
+use Rattle.conversation_table.specs.Lawful.{IsMade, IsLawful}
+use Rattle.conversation_runs.specs.Run.{Rules, IsRun, EndsWith}
 use Rattle.run_laws.specs.Steady.{IsSteady, IsCalledSoFar, AgreeAsFar}
 use Rattle.run_laws.proofs.OneRun.{left_with_more, is_made, rest_of, no_frame, unchanged}
 

@@ -9,8 +9,8 @@ use Rattle.pg_client.specs.declared.desk.DeskCall.{DeskCall}
 use Rattle.pg_client.specs.declared.ends.EndKind.{EndKind}
 use Rattle.pg_client.specs.declared.ends.EndKind.TheVariants.{Terminate, InputEnd, BadFrame, Fatal, CancelServed}
 use Rattle.pg_client.specs.Answer.{Answer, Next, Goes, Ends, Stops, answers_of, left_by, conversation, continued, joined}
-use Rattle.pg_handlers.specs.Lawful.{IsMade, IsLawful}
-use Rattle.pg_session.specs.Run.{Rules, IsRun, EndsWith}
+use Rattle.conversation_table.specs.Lawful.{IsMade, IsLawful}
+use Rattle.conversation_runs.specs.Run.{Rules, IsRun, EndsWith}
 
 pub left_with_more : (calls : List DeskCall) (answers more : List Bool) → answers ≡ answers_of calls ++ left_by calls answers
     → left_by calls (answers ++ more) ≡ left_by calls answers ++ more

@@ -33,19 +33,19 @@ use Rattle.pg_results.specs.Told.{ToldRows}
 use Rattle.pg_portal.specs.Told.{TablePortal, Stage, Unstarted, Started, Ended}
 use Rattle.pg_client.specs.declared.desk.DeskCall.TheVariants as desk
 use Rattle.pg_client.specs.Answer.{BeginsWith, answers_of}
-use Rattle.pg_handlers.specs.CopyRows.{stepped, copied, copy_row}
+use Rattle.conversation_table.specs.CopyRows.{stepped, copied, copy_row}
 use Rattle.pg_client.specs.Effect.{Effect, Called, Row, Outcome, Stopped, says, refuses, silent}
 use Rattle.pg_client.specs.Errors.{unsupported_version, too_few_codes, values_for_empty}
-use Rattle.pg_handlers.specs.ExecuteRow.{at_stage, page_effect, sent_in_execute, fetched, fetched_nothing, executed, execute_polled, executed_nothing, executed_portal, executed_entry}
-use Rattle.pg_handlers.specs.ExtendedRows.{bind_complete, parsed, bound_portal, bound_with_columns, bound, described, described_statement, described_portal, statement_description, portal_description, on_describe}
-use Rattle.pg_handlers.specs.Handlers.{Handlers}
-use Rattle.pg_handlers.specs.Questions.{Verdict, Passed, Canceled, Unanswered, Questioned, questioned, started, after_call}
+use Rattle.conversation_table.specs.ExecuteRow.{at_stage, page_effect, sent_in_execute, fetched, fetched_nothing, executed, execute_polled, executed_nothing, executed_portal, executed_entry}
+use Rattle.conversation_table.specs.ExtendedRows.{bind_complete, parsed, bound_portal, bound_with_columns, bound, described, described_statement, described_portal, statement_description, portal_description, on_describe}
+use Rattle.conversation_table.specs.Handlers.{Handlers}
+use Rattle.conversation_table.specs.Questions.{Verdict, Passed, Canceled, Unanswered, Questioned, questioned, started, after_call}
 use Rattle.pg_replies.specs.Replies.{Replies, ready}
 use Rattle.pg_replies.specs.ResponseRows.{Sent, responded}
-use Rattle.pg_handlers.specs.SimpleRows.{answered, responded_all, query_polled, query_run}
+use Rattle.conversation_table.specs.SimpleRows.{answered, responded_all, query_polled, query_run}
 use Rattle.pg_client.specs.StartupRows.{accepts, startup_row, on_startup, on_cancel_request}
 use Rattle.pg_client.specs.State.{State, in_phase, with_portal}
-use Rattle.pg_handlers.specs.Table.{statement_row, ready_row, awaiting_sync_row, row}
+use Rattle.conversation_table.specs.Table.{statement_row, ready_row, awaiting_sync_row, row}
 
 -- ---- questions
 

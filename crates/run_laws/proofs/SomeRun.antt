@@ -9,10 +9,10 @@ use Rattle.pg_messages.proofs.OneReading.{has_division}
 use Rattle.pg_client.specs.declared.ends.EndKind.{EndKind}
 use Rattle.pg_client.specs.declared.ends.EndKind.TheVariants.{InputEnd, BadFrame}
 use Rattle.pg_client.specs.Answer.{Answer, Next, Goes, Ends, Stops, answers_of, left_by, conversation, continued, joined}
-use Rattle.pg_handlers.specs.Lawful.{IsMade, IsLawful}
+use Rattle.conversation_table.specs.Lawful.{IsMade, IsLawful}
 use Rattle.pg_client.specs.Script.{scripted}
 use Rattle.pg_client.proofs.Scripts.{answers_of-append}
-use Rattle.pg_session.specs.Run.{Rules, EndsWith}
+use Rattle.conversation_runs.specs.Run.{Rules, EndsWith}
 use Rattle.run_laws.specs.Steady.{IsSteady, HasScriptedRun}
 use Rattle.run_laws.proofs.Scripted.{scripted_more, scripted_front, length_scripted}
 

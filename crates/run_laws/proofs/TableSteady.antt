@@ -6,11 +6,11 @@ use Rattle.pg_client.specs.declared.ends.EndKind.TheVariants as end
 use Rattle.pg_client.specs.Answer.{Answer, Goes, Ends, BeginsWith, answers_of}
 use Rattle.pg_client.specs.Effect.{Called, Row, Scope, Outcome, Done, Failed, Over, Stopped, settle, settled, after_error}
 use Rattle.pg_client.specs.Errors.{is_fatal}
-use Rattle.pg_handlers.specs.Handlers.{Handlers}
-use Rattle.pg_handlers.specs.Lawful.{IsMade}
+use Rattle.conversation_table.specs.Handlers.{Handlers}
+use Rattle.conversation_table.specs.Lawful.{IsMade}
 use Rattle.pg_replies.specs.Replies.{Replies}
 use Rattle.pg_client.specs.State.{State}
-use Rattle.pg_handlers.specs.Table.{row, scope_in, whole_table}
+use Rattle.conversation_table.specs.Table.{row, scope_in, whole_table}
 use Rattle.run_laws.specs.Steady.{IsSteady}
 use Rattle.run_laws.proofs.RowsSteady.{HasCome, IsSteadyRow, row_steady}
 

@@ -5,9 +5,9 @@ use Rattle.pg_messages.specs.Frames.{DividesInto}
 use Rattle.pg_client.specs.declared.desk.DeskCall.{DeskCall}
 use Rattle.pg_client.specs.declared.ends.EndKind.{EndKind}
 use Rattle.pg_client.specs.Answer.{Table, BeginsWith, answers_of, conversation}
-use Rattle.pg_handlers.specs.Lawful.{IsMade}
+use Rattle.conversation_table.specs.Lawful.{IsMade}
 use Rattle.pg_client.specs.Script.{scripted}
-use Rattle.pg_session.specs.Run.{Rules, IsRun}
+use Rattle.conversation_runs.specs.Run.{Rules, IsRun}
 
 -- More answers add calls only behind those that there are. A message is answered the same under the very answers that its calls tell, and
 -- so many answers are always enough for it.

@@ -2,12 +2,12 @@
 
 ghost use Rattle.std.specs.Prelude.{◌≡◌, ◌++◌, ℕ, Bool, List};
 ghost use Rattle.pg_client.specs.Answer.{BeginsWith, answers_of};
-ghost use Rattle.pg_handlers.specs.Handlers.{Handlers};
-ghost use Rattle.pg_handlers.specs.Lawful.{IsLawful};
-ghost use Rattle.pg_handlers.specs.Table.{whole_table};
+ghost use Rattle.conversation_table.specs.Handlers.{Handlers};
+ghost use Rattle.conversation_table.specs.Lawful.{IsLawful};
+ghost use Rattle.conversation_table.specs.Table.{whole_table};
 ghost use Rattle.pg_client.specs.declared.desk.DeskCall.{DeskCall};
 ghost use Rattle.pg_client.specs.declared.ends.EndKind.{EndKind};
-ghost use Rattle.pg_session.specs.Run.{Rules, IsRun};
+ghost use Rattle.conversation_runs.specs.Run.{Rules, IsRun};
 ghost use Rattle.run_laws.specs.Steady.{IsSteady, IsCalledSoFar, AgreeAsFar, HasScriptedRun};
 
 /// Over the same bytes there is one run, under answers that are alike as far as both go: its

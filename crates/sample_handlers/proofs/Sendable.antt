@@ -9,10 +9,10 @@ use Rattle.pg_results.specs.declared.format.Format.{Format}
 use Rattle.pg_results.specs.declared.format.Format.TheVariants as format
 use Rattle.pg_results.specs.Rows.{IsItemError}
 use Rattle.pg_results.specs.Tags.{spaced, tag_text}
-use Rattle.pg_handlers.specs.Good.{IsSendableResponse}
+use Rattle.conversation_table.specs.Good.{IsSendableResponse}
 use Rattle.pg_replies.specs.Replies.{done, row_description}
 use Rattle.pg_replies.proofs.Encodable.{HasNoZero-append, HasNoZero-decimal, by_test, select_is_tag}
-use Rattle.pg_handlers.proofs.ErrorTexts.{tellable_error}
+use Rattle.conversation_table.proofs.ErrorTexts.{tellable_error}
 use Rattle.sample_handlers.specs.declared.meaning.SampleStatement.{SampleStatement}
 use Rattle.sample_handlers.specs.declared.meaning.SampleStatement.TheVariants as statement
 use Rattle.sample_handlers.specs.Told.{name_column, span_column, columns, column_format, division_by_zero, done_tag, not_known, response_of}

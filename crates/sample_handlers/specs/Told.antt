@@ -24,8 +24,8 @@ use Rattle.pg_results.specs.Rows.{RowItem}
 use Rattle.pg_results.specs.Tags.{tag_of, tag_with_oid, tag_with_rows}
 use Rattle.pg_results.specs.Told.{ParserTold, ToldRows}
 use Rattle.pg_client.specs.Errors.{copy_given_up}
-use Rattle.pg_handlers.specs.Handlers.{CopyStep, CopyTold, ExtendedTold, Handlers, SimpleTold, ToldQuery, handlers_of}
-use Rattle.pg_handlers.specs.Noop.{noop_copy}
+use Rattle.conversation_table.specs.Handlers.{CopyStep, CopyTold, ExtendedTold, Handlers, SimpleTold, ToldQuery, handlers_of}
+use Rattle.conversation_table.specs.Noop.{noop_copy}
 use Rattle.sample_handlers.specs.declared.copying.SampleCopying.{SampleCopying}
 use Rattle.sample_handlers.specs.declared.copying.SampleCopying.TheVariants as copying
 use Rattle.sample_handlers.specs.declared.meaning.SampleStatement.{SampleStatement}

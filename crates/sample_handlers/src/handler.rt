@@ -1,8 +1,8 @@
 //! The handler of sample queries.
 
 ghost use Rattle.std.specs.Prelude.{◌≡◌, false, None, IfOk};
-ghost use Rattle.pg_handlers.specs.Good.{AreSendable};
-ghost use Rattle.pg_handlers.specs.Handlers.{told_all, told_query};
+ghost use Rattle.conversation_table.specs.Good.{AreSendable};
+ghost use Rattle.conversation_table.specs.Handlers.{told_all, told_query};
 ghost use Rattle.polled_queries.specs.Queries.{is_given, query_told};
 ghost use Rattle.sample_handlers.specs.Told.{alone_or_not_known, data_left, listed, version_statement};
 

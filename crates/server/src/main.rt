@@ -11,11 +11,11 @@ mod places;
 
 use crate::help::help_or_version;
 use crate::places::{BoundPlace, bind_place, leave_place};
+use conversation_runs::{Sink, Source};
 use opened_files::open_file;
 use pg_cancel::{ConnectionManager, Door};
 use pg_messages::{PgList, PgStr};
 use pg_serve::{KeySource, MaybeTls, RandomKeys, ReaderSource, Spawner, WriterSink};
-use pg_session::{Sink, Source};
 use relation_server::{
     ConnectionJob, JobThreads, ListenPlace, ThreadSpawner, listen_place, run, run_listen,
 };

@@ -5,11 +5,11 @@ use Rattle.std.proofs.lemmas.List.{take-append-drop, append_cancel_left, append_
 use Rattle.pg_client.specs.declared.desk.DeskCall.{DeskCall}
 use Rattle.pg_client.specs.declared.ends.EndKind.{EndKind}
 use Rattle.pg_client.specs.State.{first_state}
-use Rattle.pg_session.specs.declared.ends.ServeError.{ServeError}
-use Rattle.pg_session.specs.declared.ends.ServeError.TheVariants.{ReadFault, WriteFault, TurnLimit, NoMemory}
-use Rattle.pg_session.specs.Run.{IsRun}
-use Rattle.pg_session.specs.Session.{whole_rules}
-use Rattle.pg_session.specs.Streams.{GrowsBy}
+use Rattle.conversation_runs.specs.declared.ends.ServeError.{ServeError}
+use Rattle.conversation_runs.specs.declared.ends.ServeError.TheVariants.{ReadFault, WriteFault, TurnLimit, NoMemory}
+use Rattle.conversation_runs.specs.Run.{IsRun}
+use Rattle.conversation_runs.specs.Session.{whole_rules}
+use Rattle.conversation_runs.specs.Streams.{GrowsBy}
 use Rattle.pg_engine.specs.Serving.{TakesFrom, IsRunOverTaken}
 use Rattle.recorders.specs.Kept.{IsTakenOf, IsSentTo, behind, bytes_of, counted, gone}
 use Rattle.recording_text.specs.declared.recording.Recording.{Recording}

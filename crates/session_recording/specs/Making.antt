@@ -1,8 +1,8 @@
 -- How a recording is made of what was kept of a session.
 use Rattle.std.specs.Prelude.{ℕ, ℤ, true, false, List, [], Result, Ok, Err, ◌≡◌, ◌≤◌, ◌<◌, max}
 use Rattle.pg_client.specs.declared.ends.EndKind.{EndKind}
-use Rattle.pg_session.specs.declared.ends.ServeError.{ServeError}
-use Rattle.pg_session.specs.declared.ends.ServeError.TheVariants.{WriteFault, NoMemory}
+use Rattle.conversation_runs.specs.declared.ends.ServeError.{ServeError}
+use Rattle.conversation_runs.specs.declared.ends.ServeError.TheVariants.{WriteFault, NoMemory}
 use Rattle.recording_text.specs.declared.recording.Recording.{Recording}
 use Rattle.recorders.specs.declared.keeping.FirstBytes.{FirstBytes}
 use Rattle.session_recording.specs.declared.error.RecordError.{RecordError}

@@ -2,11 +2,11 @@
 
 ghost use Rattle.std.specs.Prelude.{◌≡◌, ◌++◌, ◌<◌, ◌^◌, ◌↔◌, ℕ, Option, List, IfOk, OnOk, IfErr, IfSome, IsTrue};
 ghost use Rattle.pg_client.specs.Desk.{GoesOn};
-ghost use Rattle.pg_handlers.specs.Questions.{questions_since};
+ghost use Rattle.conversation_table.specs.Questions.{questions_since};
 ghost use Rattle.pg_client.specs.State.{first_state};
 ghost use Rattle.pg_client.specs.declared.desk.DeskCall.{DeskCall};
 ghost use Rattle.pg_engine.specs.Serving.{HasCause, EndsAtLast, FaultsNeverFall, IsCalm, IsRunOverTaken, ReadsGaveBytes, counts_of};
-ghost use Rattle.pg_session.specs.Session.{whole_rules};
+ghost use Rattle.conversation_runs.specs.Session.{whole_rules};
 ghost use Rattle.relation_serving.specs.Completeness.{IsComplete};
 ghost use Rattle.relation_serving.specs.Serving.{WentByTables};
 ghost use Rattle.relation_tables.specs.RelationHandler.{relation_handlers};
@@ -15,9 +15,9 @@ ghost use Rattle.session_recording.specs.Making.{IsMadeOf, IsRefusedOf, IsUnused
 ghost use Rattle.session_recording.specs.Recorded.{IsRecorded, IsFaithful, passage};
 
 use crate::error::RecordError;
+use conversation_runs::{ServeError, Sink, Source};
 use pg_handlers::{CancelDesk, DeskCall, EndKind};
 use pg_messages::{PgBytes, PgList, SecretKey};
-use pg_session::{ServeError, Sink, Source};
 use recorders::{FirstBytes, RecordingDesk, RecordingSink, RecordingSource};
 use recording_text::Recording;
 use relation_handlers::RelationTable;

@@ -5,15 +5,15 @@ use Rattle.std.proofs.lemmas.Bool.{cases_lt}
 use Rattle.pg_client.specs.declared.desk.DeskCall.{DeskCall}
 use Rattle.pg_client.specs.declared.ends.EndKind.{EndKind}
 use Rattle.pg_client.specs.Answer.{answers_of}
-use Rattle.pg_handlers.specs.Questions.{questions}
+use Rattle.conversation_table.specs.Questions.{questions}
 use Rattle.pg_client.specs.Script.{IsScripted, scripted, origin_of}
 use Rattle.pg_client.specs.State.{first_state}
-use Rattle.pg_session.specs.declared.ends.ServeError.{ServeError}
-use Rattle.pg_session.specs.declared.ends.ServeError.TheVariants as fault
-use Rattle.pg_session.specs.Run.{IsRun}
-use Rattle.pg_session.specs.Session.{whole_rules}
-use Rattle.pg_session.proofs.Answering.{whole_lawful}
-use Rattle.pg_session.proofs.Spending.{questions-append}
+use Rattle.conversation_runs.specs.declared.ends.ServeError.{ServeError}
+use Rattle.conversation_runs.specs.declared.ends.ServeError.TheVariants as fault
+use Rattle.conversation_runs.specs.Run.{IsRun}
+use Rattle.conversation_runs.specs.Session.{whole_rules}
+use Rattle.conversation_runs.proofs.Answering.{whole_lawful}
+use Rattle.conversation_runs.proofs.Spending.{questions-append}
 use Rattle.pg_engine.specs.Serving.{Counts, HasCause, ReadsGaveBytes}
 use Rattle.relation_serving.specs.Serving.{WentByWhole}
 use Rattle.recording_text.specs.declared.recording.Recording.{Recording}

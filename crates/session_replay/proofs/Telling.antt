@@ -4,9 +4,9 @@ use Rattle.std.proofs.Math.Seq.{take-suc}
 use Rattle.pg_client.specs.declared.desk.DeskCall.{DeskCall}
 use Rattle.pg_client.specs.declared.desk.DeskCall.TheVariants as desk
 use Rattle.pg_client.specs.Answer.{answers_of}
-use Rattle.pg_handlers.specs.Questions.{questions}
+use Rattle.conversation_table.specs.Questions.{questions}
 use Rattle.pg_client.proofs.Scripts.{answers_of-append}
-use Rattle.pg_session.proofs.Spending.{questions-append}
+use Rattle.conversation_runs.proofs.Spending.{questions-append}
 
 module _ (calls : List DeskCall) (n : ℕ) (call : DeskCall) (inside : n < length calls) (is : call ≡ get_or calls n call) where
   one_more : take (n + 1) calls ≡ take n calls ++ call ∷ []

@@ -2,7 +2,7 @@
 
 ghost use Rattle.std.specs.Prelude.{◌≡◌, ◌↔◌, ◌+◌, ◌<◌, ◌≤◌, ℕ, List, length, IfOk, IsErrOf, IsErr};
 ghost use Rattle.pg_client.specs.Answer.{answers_of};
-ghost use Rattle.pg_handlers.specs.Questions.{questions};
+ghost use Rattle.conversation_table.specs.Questions.{questions};
 ghost use Rattle.pg_client.specs.declared.desk.DeskCall.{DeskCall};
 ghost use Rattle.pg_client.specs.declared.ends.EndKind.{EndKind};
 ghost use Rattle.replay_streams.specs.RecordedRuns.{IsRecordedRun};
@@ -10,9 +10,9 @@ ghost use Rattle.session_replay.specs.Verdicts.{IsReplay, IsVerdict, IsVerdictOn
 
 use crate::comparing::{is_same_end, other_byte, other_call};
 use crate::verdict::Verdict;
+use conversation_runs::ServeError;
 use pg_handlers::{DeskCall, EndKind, ScriptDesk};
 use pg_messages::PgList;
-use pg_session::ServeError;
 use recording_text::Recording;
 use relation_handlers::RelationTable;
 use relation_serving::serve_relations_on;

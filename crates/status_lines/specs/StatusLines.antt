@@ -2,9 +2,9 @@
 use Rattle.std.specs.Prelude.{ℕ, List, [], ◌++◌, ◌∷◌, ◌≡◌, ◌≢◌, ◌⊎◌, Option, Result, Ok, Err, codes, decimal}
 use Rattle.pg_client.specs.declared.ends.EndKind.{EndKind}
 use Rattle.pg_client.specs.declared.ends.EndKind.TheVariants.{Terminate, InputEnd, BadFrame, Fatal, CancelServed}
-use Rattle.pg_session.specs.declared.ends.ServeError.{ServeError}
-use Rattle.pg_session.specs.declared.ends.ServeError.TheVariants.{ReadFault, WriteFault, TurnLimit, NoMemory}
-use Rattle.pg_session.specs.Streams.{GrowsBy, GrowsByFront, HasRisen}
+use Rattle.conversation_runs.specs.declared.ends.ServeError.{ServeError}
+use Rattle.conversation_runs.specs.declared.ends.ServeError.TheVariants.{ReadFault, WriteFault, TurnLimit, NoMemory}
+use Rattle.conversation_runs.specs.Streams.{GrowsBy, GrowsByFront, HasRisen}
 use Rattle.relation_files.specs.declared.errors.FileError.{FileError}
 use Rattle.relation_files.specs.declared.errors.FileError.TheVariants as file
 use Rattle.relation_files.specs.declared.errors.LineReason.{LineReason}

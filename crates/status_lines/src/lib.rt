@@ -4,7 +4,8 @@
 ghost use Rattle.std.specs.Prelude.{◌≡◌, ◌≢◌, ◌≤◌, [], string_bytes, IfOk};
 ghost use Rattle.status_lines.specs.StatusLines.{status_of_conversation, status_of_file, line_of_conversation, line_of_file, bad_line, reason_text, IsReported};
 
-use pg_session::{EndKind, ServeError, Sink, SinkError};
+use conversation_runs::{ServeError, Sink, SinkError};
+use pg_client::EndKind;
 use relation_files::{FileError, LineReason};
 use std::alloc::{AllocError, Global};
 

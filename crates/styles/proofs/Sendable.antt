@@ -25,7 +25,7 @@ use Rattle.pg_results.specs.declared.error.PgWireError.TheVariants as wire
 use Rattle.pg_results.specs.declared.format.Format.{Format}
 use Rattle.pg_replies.specs.Replies.{row_description}
 use Rattle.pg_replies.proofs.Encodable.{HasNoZero-append, by_test, has_no_zero}
-use Rattle.pg_handlers.proofs.ErrorTexts.{tellable_error}
+use Rattle.conversation_table.proofs.ErrorTexts.{tellable_error}
 use Rattle.row_handlers.specs.Answers.{format_at}
 use Rattle.styles.specs.Reading.{interval_given, interval_in, interval_of, no_interval, or_refused, reason, refused, style_of}
 use Rattle.styles.specs.Rows.{column, columns}

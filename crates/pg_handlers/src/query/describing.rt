@@ -8,9 +8,9 @@ ghost use Rattle.pg_results.specs.Rows.{IsAnswerable};
 ghost use Rattle.pg_portal.specs.Told.{portal_of, value_under};
 ghost use Rattle.pg_results.specs.declared.error.PgWireError.TheVariants as wire;
 ghost use Rattle.pg_client.specs.Effect.{IsEffect, IsRefusedEffect, Done};
-ghost use Rattle.pg_handlers.specs.ExtendedRows.{on_describe};
-ghost use Rattle.pg_handlers.specs.Good.{IsGiven};
-ghost use Rattle.pg_handlers.specs.Handlers.{ExtendedTold};
+ghost use Rattle.conversation_table.specs.ExtendedRows.{on_describe};
+ghost use Rattle.conversation_table.specs.Good.{IsGiven};
+ghost use Rattle.conversation_table.specs.Handlers.{ExtendedTold};
 ghost use Rattle.pg_client.specs.State.{state_of};
 
 use crate::query::statements::{missing_portal, missing_statement};

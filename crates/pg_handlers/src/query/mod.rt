@@ -2,8 +2,9 @@
 
 ghost use Rattle.std.specs.Prelude.{◌≡◌, ◌≤◌, false, IfErr, OnErr, List};
 ghost use Rattle.pg_client.specs.Desk.{KeepsDesk};
-ghost use Rattle.pg_handlers.specs.Handlers.{QueryTold, IsPolled};
-ghost use Rattle.pg_handlers.specs.Questions.{Verdict, IsAsked, IsVerdict, IsCausedSo, HasSpent, questions_since};
+ghost use Rattle.conversation_table.specs.Handlers.{QueryTold};
+ghost use Rattle.pg_handlers.specs.Polling.{IsPolled};
+ghost use Rattle.conversation_table.specs.Questions.{Verdict, IsAsked, IsVerdict, IsCausedSo, HasSpent, questions_since};
 
 use pg_client::{CancelDesk, SessionError, Turns};
 use pg_portal::PgWireError;

@@ -6,11 +6,11 @@ ghost use Rattle.pg_messages.specs.declared.frontend.PgWireFrontendMessage.TheVa
 ghost use Rattle.pg_portal.specs.Told.{Unstarted, portal_of, stage_of, value_under};
 ghost use Rattle.pg_client.specs.Desk.{DeskTold};
 ghost use Rattle.pg_client.specs.Effect.{IsRow, IsRefusedRow, Done};
-ghost use Rattle.pg_handlers.specs.ExecuteRow.{on_execute};
-ghost use Rattle.pg_handlers.specs.Executing.{IsLeftBehind, is_unstarted, portal_under};
-ghost use Rattle.pg_handlers.specs.Good.{HasGoodTag, IsGiven, IsGoodState};
-ghost use Rattle.pg_handlers.specs.Handlers.{ExtendedTold};
-ghost use Rattle.pg_handlers.specs.Questions.{IsCausedSo, HasSpent, questions_since};
+ghost use Rattle.conversation_table.specs.ExecuteRow.{on_execute};
+ghost use Rattle.conversation_table.specs.Executing.{IsLeftBehind, is_unstarted, portal_under};
+ghost use Rattle.conversation_table.specs.Good.{HasGoodTag, IsGiven, IsGoodState};
+ghost use Rattle.conversation_table.specs.Handlers.{ExtendedTold};
+ghost use Rattle.conversation_table.specs.Questions.{IsCausedSo, HasSpent, questions_since};
 ghost use Rattle.pg_client.specs.Ends.{IsAnswerableError, AtTurnLimit};
 ghost use Rattle.pg_client.specs.State.{state_of};
 ghost use Rattle.pg_client.specs.declared.ends.Turns.{Turns};

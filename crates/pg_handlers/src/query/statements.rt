@@ -20,11 +20,11 @@ ghost use Rattle.pg_results.specs.declared.error.PgWireError.{PgWireError};
 ghost use Rattle.pg_results.specs.declared.error.PgWireError.TheVariants as wire;
 ghost use Rattle.pg_portal.specs.declared.store.Entry.TheVariants as entry;
 ghost use Rattle.pg_client.specs.Effect.{IsEffect, IsRefusedEffect, Done};
-ghost use Rattle.pg_handlers.specs.ExtendedRows.{parse_complete, bind_complete, bound_empty, bound_portal, bound_statement, on_bind, entry_of, maps_after_close, HasEnough, IsTooFew};
-ghost use Rattle.pg_handlers.specs.Handlers.{ExtendedTold};
+ghost use Rattle.conversation_table.specs.ExtendedRows.{parse_complete, bind_complete, bound_empty, bound_portal, bound_statement, on_bind, entry_of, maps_after_close, HasEnough, IsTooFew};
+ghost use Rattle.conversation_table.specs.Handlers.{ExtendedTold};
 ghost use Rattle.pg_results.specs.Formats.{format_of};
-ghost use Rattle.pg_handlers.specs.ExecuteRow.{executed_nothing};
-ghost use Rattle.pg_handlers.specs.Good.{IsGiven, IsGoodStatement, IsGoodState};
+ghost use Rattle.conversation_table.specs.ExecuteRow.{executed_nothing};
+ghost use Rattle.conversation_table.specs.Good.{IsGiven, IsGoodStatement, IsGoodState};
 ghost use Rattle.pg_client.specs.State.{state_of, with_portal, with_statement};
 
 use crate::ends::out_of_memory;

@@ -5,19 +5,19 @@ ghost use Rattle.std.specs.Prelude.{◌≡◌, ◌≢◌, ◌≤◌, true, Some,
 ghost use Rattle.pg_results.specs.declared.client.PgWireConnectionState.TheVariants as phase;
 ghost use Rattle.pg_client.specs.Desk.{GoesOn};
 ghost use Rattle.pg_client.specs.Effect.{Done, IsRefusedRow, IsRow};
-ghost use Rattle.pg_handlers.specs.Good.{IsGiven};
-ghost use Rattle.pg_handlers.specs.Questions.{HasSpent, questions_since};
+ghost use Rattle.conversation_table.specs.Good.{IsGiven};
+ghost use Rattle.conversation_table.specs.Questions.{HasSpent, questions_since};
 ghost use Rattle.pg_client.specs.Ends.{IsAnswerableError};
-ghost use Rattle.pg_handlers.specs.Table.{message_row, scope_in, whole_table};
+ghost use Rattle.conversation_table.specs.Table.{message_row, scope_in, whole_table};
 ghost use Rattle.pg_client.specs.declared.ends.EndKind.TheVariants.{InputEnd};
-ghost use Rattle.pg_session.specs.Messages.{next_of, scope_for};
-ghost use Rattle.pg_session.specs.Session.{goes_on};
-ghost use Rattle.pg_session.specs.Steps.{IsResponse, IsSilentlyAnswered};
-ghost use Rattle.pg_session.specs.declared.ends.ServeError.TheVariants as serve;
+ghost use Rattle.conversation_runs.specs.Messages.{next_of, scope_for};
+ghost use Rattle.conversation_runs.specs.Session.{goes_on};
+ghost use Rattle.conversation_runs.specs.Steps.{IsResponse, IsSilentlyAnswered};
+ghost use Rattle.conversation_runs.specs.declared.ends.ServeError.TheVariants as serve;
 
-use crate::ends::ServeError;
 use crate::messages::{on_execute, on_query};
 use crate::session::Session;
+use conversation_runs::ServeError;
 use pg_handlers::{
     CancelDesk, EndKind, ExtendedQueryHandler, PgWireServerHandlers, SessionError, Turns,
 };

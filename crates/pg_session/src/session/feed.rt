@@ -4,17 +4,16 @@ ghost use Rattle.std.specs.Prelude.{◌≡◌, ◌≤◌, ◌<◌, ◌++◌, ◌
 ghost use Rattle.pg_messages.specs.Frames.{IsFrame, IsUnfinished, IsBad};
 ghost use Rattle.pg_results.specs.declared.client.PgWireConnectionState.TheVariants as phase;
 ghost use Rattle.pg_client.specs.Desk.{GoesOn};
-ghost use Rattle.pg_handlers.specs.Questions.{questions_since};
-ghost use Rattle.pg_handlers.specs.Table.{awaits, is_startup_phase};
-ghost use Rattle.pg_session.specs.Session.{told_end, told_or_more, unread, IsUnread, whole_rules, HasFed, is_more, most_held};
-ghost use Rattle.pg_session.specs.Steps.{Flows, IsSilentStep, IsStep, RoundSo, SentBehind, WasFed};
-ghost use Rattle.pg_session.specs.Streams.{HasSentCause, GrowsBy, GrowsByFront, HasSinkCause, HasFlushed};
-ghost use Rattle.pg_session.specs.declared.ends.Progress.TheVariants.{More};
+ghost use Rattle.conversation_table.specs.Questions.{questions_since};
+ghost use Rattle.conversation_table.specs.Table.{awaits, is_startup_phase};
+ghost use Rattle.conversation_runs.specs.Session.{told_end, told_or_more, unread, IsUnread, whole_rules, HasFed, is_more, most_held};
+ghost use Rattle.conversation_runs.specs.Steps.{Flows, IsSilentStep, IsStep, RoundSo, SentBehind, WasFed};
+ghost use Rattle.conversation_runs.specs.Streams.{HasSentCause, GrowsBy, GrowsByFront, HasSinkCause, HasFlushed};
+ghost use Rattle.conversation_runs.specs.declared.ends.Progress.TheVariants.{More};
 
-use crate::ends::{Progress, ServeError};
 use crate::session::Session;
 use crate::session::common::{CallingMessage, SilentMessage};
-use crate::streams::Sink;
+use conversation_runs::{Progress, ServeError, Sink};
 use pg_handlers::{
     CHUNK, CancelDesk, EndKind, ExtendedQueryHandler, Outbox, PgWireServerHandlers, Turns,
 };

@@ -1,7 +1,7 @@
 use Rattle.std.proofs.Common.{[], sym, ap, subst, append-nil, refl}
 use Rattle.std.specs.Prelude.{IfOk}
 use Rattle.pg_client.specs.State.{first_state}
-use Rattle.pg_session.specs.declared.ends.ServeError.TheVariants as fault
+use Rattle.conversation_runs.specs.declared.ends.ServeError.TheVariants as fault
 use Rattle.relation_tables.specs.RelationHandler.{relation_handlers}
 use Rattle.pg_engine.specs.Serving.{WentSo, IsRunOverTaken, EndsAtLast, counts_of}
 use Rattle.pg_engine.proofs.Serving.{none_went}

@@ -1,7 +1,7 @@
 use Rattle.std.proofs.Common.{[], refl, sym, append-nil}
 use Rattle.std.specs.Arc.{arc_value}
 use Rattle.pg_client.specs.State.{first_state}
-use Rattle.pg_session.specs.Session.{whole_rules}
+use Rattle.conversation_runs.specs.Session.{whole_rules}
 use Rattle.pg_engine.proofs.Serving.{none_went}
 use Rattle.handler_serving.proofs.clients.serve_on.Goals as goal
 

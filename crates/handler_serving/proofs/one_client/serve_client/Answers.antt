@@ -2,7 +2,7 @@ use Rattle.std.proofs.Common.{rules, ◌∙◌, subst, w32, FitsSigned}
 use Rattle.std.proofs.lemmas.Int.{to_z-of_z}
 use Rattle.std.specs.Arc.{arc_value}
 use Rattle.pg_client.specs.State.{first_state}
-use Rattle.pg_session.specs.Session.{whole_rules}
+use Rattle.conversation_runs.specs.Session.{whole_rules}
 use Rattle.pg_engine.specs.Serving.{WentSo}
 use Rattle.handler_serving.proofs.one_client.serve_client.Goals as goal
 

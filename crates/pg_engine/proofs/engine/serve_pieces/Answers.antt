@@ -1,12 +1,12 @@
 use Rattle.std.proofs.Common.{◌≡◌, ◌<◌, ◌+◌, ◌++◌, ◌∙◌, refl, sym, ap, subst, arith, Ok, Err, [], inl}
 use Rattle.std.proofs.lemmas.List.{append_cancel_left}
 use Rattle.pg_client.proofs.Desks.{goes_on_none, goes_on_then}
-use Rattle.pg_handlers.specs.Questions.{questions_since}
-use Rattle.pg_session.specs.Session.{HasFed, is_more}
+use Rattle.conversation_table.specs.Questions.{questions_since}
+use Rattle.conversation_runs.specs.Session.{HasFed, is_more}
 use Rattle.pg_messages.specs.Frames.{IsUnfinished}
-use Rattle.pg_session.specs.Steps.{IsServed, Stands, WasFed}
-use Rattle.pg_session.proofs.Feeding.{cut_by_error}
-use Rattle.pg_session.specs.declared.ends.Progress.{Progress}
+use Rattle.conversation_runs.specs.Steps.{IsServed, Stands, WasFed}
+use Rattle.conversation_runs.proofs.Feeding.{cut_by_error}
+use Rattle.conversation_runs.specs.declared.ends.Progress.{Progress}
 use Rattle.pg_engine.specs.Serving.{TakesFrom, IsStoppedRunOfTaken, counts_of}
 use Rattle.pg_engine.proofs.Serving.{run_of_taken, served_run, ended_run, takes_more, takes_none, served_none, short_none, none_asked, cut_run_of_taken, stopped_run_of_taken, went_by_error, caused_by, conversed, goes_to, counted_more, questions_over, gave_none, gave_more, gave_unread, risen_since, all_spent, no_end_turn, ends_with_input, ends_at_last, run_over_taken, run_over_input}
 use Rattle.pg_engine.proofs.engine.serve_pieces.Goals as goal

@@ -2,8 +2,8 @@ use Rattle.std.proofs.Common.{◌≡◌, ◌≤◌, ◌<◌, ◌+◌, ◌-◌, �
 use Rattle.pg_messages.specs.Frames.{IsUnfinished}
 use Rattle.pg_client.specs.Desk.{GoesOn}
 use Rattle.pg_client.specs.Answer.{Goes}
-use Rattle.pg_handlers.specs.Questions.{questions_since}
-use Rattle.pg_session.specs.Steps.{IsServed}
+use Rattle.conversation_table.specs.Questions.{questions_since}
+use Rattle.conversation_runs.specs.Steps.{IsServed}
 use Rattle.pg_engine.specs.Serving.{TakesFrom, ReadsGaveBytes}
 use Rattle.pg_engine.proofs.engine.serve_pieces.Given as goal
 

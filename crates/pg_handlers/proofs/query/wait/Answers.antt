@@ -1,8 +1,8 @@
 use Rattle.std.proofs.Common.{rules, arith, ◌≡◌, ◌+◌, ◌≤◌, inl, inr, refl, ap, sym, subst, ◌∙◌}
 use Rattle.std.proofs.lemmas.Result.{err_from_is_err_and}
-use Rattle.pg_handlers.specs.Questions.{Passed, Canceled, Unanswered, IsAsked, questions_since}
+use Rattle.conversation_table.specs.Questions.{Passed, Canceled, Unanswered, IsAsked, questions_since}
 use Rattle.pg_client.proofs.Desks.{keeps_none, keeps_after, keeps_then}
-use Rattle.pg_handlers.proofs.Asking.{verdict_at, begins_waiting, asked_so_far, passed, unanswered, canceled, spent_so_far, spent_in_vain, spent_at_yes, waits_on, turns_are, ends_with_yes}
+use Rattle.conversation_table.proofs.Asking.{verdict_at, begins_waiting, asked_so_far, passed, unanswered, canceled, spent_so_far, spent_in_vain, spent_at_yes, waits_on, turns_are, ends_with_yes}
 use Rattle.pg_handlers.proofs.query.wait.Goals as goal
 
 pub loop-out-init : goal.loop-out-init

@@ -1,6 +1,6 @@
 use Rattle.std.proofs.Common.{◌≤◌}
 use Rattle.pg_client.specs.Desk.{KeepsDesk}
-use Rattle.pg_handlers.proofs.Asking.{IsWaiting}
+use Rattle.conversation_table.proofs.Asking.{IsWaiting}
 use Rattle.pg_handlers.proofs.query.wait.Given as goal
 
 abbrev pub invariant-loop-out : goal.invariant-loop-out

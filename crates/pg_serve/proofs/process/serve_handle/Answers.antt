@@ -2,7 +2,7 @@ use Rattle.std.proofs.Common.{◌≡◌, ◌∙◌, sym, ap, subst}
 use Rattle.std.specs.Arc.{arc_value}
 use Rattle.pg_cancel.specs.Connections.{calls_of}
 use Rattle.pg_client.specs.State.{first_state}
-use Rattle.pg_session.specs.Session.{whole_rules}
+use Rattle.conversation_runs.specs.Session.{whole_rules}
 use Rattle.pg_serve.specs.Desk.{ConnectionGoesOn, WentByCalls, desk_calls}
 use Rattle.pg_engine.specs.Serving.{WentSo}
 use Rattle.pg_serve.proofs.Calls.{calls_made, goes_on_as}

@@ -1,6 +1,6 @@
 use Rattle.std.proofs.Common.{ap, ◌∙◌}
 use Rattle.pg_client.specs.State.{state_of}
-use Rattle.pg_handlers.proofs.GoodStores.{good_parts}
+use Rattle.conversation_table.proofs.GoodStores.{good_parts}
 use Rattle.pg_session.proofs.messages.copy_done.Goals as goal
 
 pub returns-in_err-end_copy-clause-good : goal.returns-in_err-end_copy-clause-good

@@ -1,8 +1,8 @@
 use Rattle.pg_client.proofs.Desks.{keeps_none}
 use Rattle.pg_client.specs.State.{state_of}
-use Rattle.pg_handlers.specs.Table.{statement_row}
-use Rattle.pg_session.proofs.Rows.{plain_row}
-use Rattle.pg_session.proofs.ToldRows.{going_refused, with_session_error_ok, with_session_error_refused, with_session_error_answerable, with_session_error_ends, with_session_error_turns}
+use Rattle.conversation_table.specs.Table.{statement_row}
+use Rattle.conversation_runs.proofs.Rows.{plain_row}
+use Rattle.conversation_runs.proofs.ToldRows.{going_refused, with_session_error_ok, with_session_error_refused, with_session_error_answerable, with_session_error_ends, with_session_error_turns}
 use Rattle.pg_session.proofs.messages.on_ready.Goals as goal
 
 pub returns-in_default : goal.returns-in_default

@@ -1,5 +1,5 @@
 use Rattle.pg_client.specs.State.{state_of}
-use Rattle.pg_session.proofs.Rows.{ended_effect}
+use Rattle.conversation_runs.proofs.Rows.{ended_effect}
 use Rattle.pg_session.proofs.messages.on_ready_silently.Goals as goal
 
 pub returns-in-Terminate-clause-ok : goal.returns-in-Terminate-clause-ok

@@ -1,11 +1,11 @@
 use Rattle.std.proofs.Common.{subst, sym}
-use Rattle.pg_handlers.specs.CopyRows.{copy_row}
-use Rattle.pg_handlers.specs.Good.{IsGoodStatement, IsGoodPortal}
+use Rattle.conversation_table.specs.CopyRows.{copy_row}
+use Rattle.conversation_table.specs.Good.{IsGoodStatement, IsGoodPortal}
 use Rattle.pg_client.specs.State.{state_of}
-use Rattle.pg_handlers.specs.Table.{awaiting_sync_row}
-use Rattle.pg_handlers.proofs.GoodStores.{Each}
-use Rattle.pg_session.proofs.StartupTurns.{startup_turns}
-use Rattle.pg_session.proofs.ToldRows.{with_session_error_ok, with_session_error_refused, startup_refused, sync_row, copy_phase_row, last_phase}
+use Rattle.conversation_table.specs.Table.{awaiting_sync_row}
+use Rattle.conversation_table.proofs.GoodStores.{Each}
+use Rattle.conversation_runs.proofs.StartupTurns.{startup_turns}
+use Rattle.conversation_runs.proofs.ToldRows.{with_session_error_ok, with_session_error_refused, startup_refused, sync_row, copy_phase_row, last_phase}
 use Rattle.pg_session.proofs.messages.on_unready.Goals as goal
 
 pub returns-in-AwaitingStartup-clause-good : goal.returns-in-AwaitingStartup-clause-good

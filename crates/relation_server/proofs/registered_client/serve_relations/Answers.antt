@@ -4,7 +4,7 @@ use Rattle.relation_tables.specs.RelationHandler.{relation_handlers}
 use Rattle.pg_cancel.specs.declared.entries.Entry.{Entry}
 use Rattle.pg_cancel.specs.Connections.{calls_of}
 use Rattle.std.specs.Prelude.{IfOk}
-use Rattle.pg_session.specs.Session.{whole_rules}
+use Rattle.conversation_runs.specs.Session.{whole_rules}
 use Rattle.pg_engine.specs.Serving.{EndsAtLast}
 use Rattle.pg_serve.specs.Desk.{ConnectionGoesOn, desk_calls}
 use Rattle.relation_serving.specs.Serving.{WentByTables}

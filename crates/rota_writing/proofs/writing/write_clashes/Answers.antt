@@ -1,6 +1,6 @@
 -- A clash more.
 use Rattle.std.proofs.Common.{◌∙◌, ◌+◌, ℕ, List, sym, subst, drop, take, string_bytes}
-use Rattle.pg_session.specs.Streams.{GrowsByFront}
+use Rattle.conversation_runs.specs.Streams.{GrowsByFront}
 use Rattle.rota_lines.specs.Lines.{clash_text}
 use Rattle.rota_writing.specs.Writing.{IsOnItsWay}
 use Rattle.rota_writing.proofs.LineLemmas.{clash_more, clash_split}

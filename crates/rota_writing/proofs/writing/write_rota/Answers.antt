@@ -2,7 +2,7 @@
 use Rattle.std.proofs.Common.{◌≡◌, ◌∙◌, ℕ, List, ◌++◌, sym, ap, subst, drop, length, All, ◌≤◌, append_assoc, arith}
 use Rattle.pg_interval.specs.declared.pg_interval.Interval.{Interval}
 use Rattle.pg_text.specs.Words.{printed_style}
-use Rattle.pg_session.specs.Streams.{GrowsByFront}
+use Rattle.conversation_runs.specs.Streams.{GrowsByFront}
 use Rattle.rota_lines.specs.Lines.{rota_text, lines_from, Stands}
 use Rattle.std.proofs.lemmas.List.{take_all}
 use Rattle.std.proofs.lemmas.List.Elements.{All-more}

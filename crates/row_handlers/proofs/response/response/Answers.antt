@@ -1,5 +1,5 @@
 use Rattle.std.proofs.Common.{sym, subst}
-use Rattle.pg_handlers.specs.Good.{IsSendableResponse}
+use Rattle.conversation_table.specs.Good.{IsSendableResponse}
 use Rattle.pg_replies.proofs.Encodable.{select_is_tag}
 use Rattle.row_handlers.proofs.response.response.Goals as goal
 

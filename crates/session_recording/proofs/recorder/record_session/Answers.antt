@@ -1,8 +1,8 @@
 use Rattle.std.proofs.Common.{◌∙◌, ◌<◌, ◌≤◌, ◌^◌, FitsSigned, length, [], IfOk, append-nil, refl, rules, subst, sym, w32}
 use Rattle.std.proofs.lemmas.Int.{to_z-of_z}
 use Rattle.pg_client.specs.State.{first_state}
-use Rattle.pg_session.specs.Session.{whole_rules}
-use Rattle.pg_session.specs.declared.ends.ServeError.TheVariants as fault
+use Rattle.conversation_runs.specs.Session.{whole_rules}
+use Rattle.conversation_runs.specs.declared.ends.ServeError.TheVariants as fault
 use Rattle.relation_tables.specs.RelationHandler.{relation_handlers}
 use Rattle.relation_handlers.proofs.EvenRows.{even}
 use Rattle.pg_engine.specs.Serving.{counts_of}

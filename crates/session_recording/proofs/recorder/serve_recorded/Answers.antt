@@ -2,7 +2,7 @@ use Rattle.std.proofs.Common.{◌≡◌, ◌∙◌, IfOk, ap, subst, sym}
 use Rattle.pg_client.specs.Desk.{DeskTold}
 use Rattle.pg_client.specs.State.{first_state}
 use Rattle.pg_engine.specs.Serving.{EndsAtLast, IsRunOverTaken}
-use Rattle.pg_session.specs.Session.{whole_rules}
+use Rattle.conversation_runs.specs.Session.{whole_rules}
 use Rattle.relation_serving.specs.Serving.{WentByTables}
 use Rattle.relation_tables.specs.RelationHandler.{relation_handlers}
 use Rattle.recorders.specs.declared.keeping.FirstBytes.{FirstBytes}

@@ -1,5 +1,5 @@
 use Rattle.std.proofs.Common.{◌≡◌, [], ◌∷◌, ap, arith}
-use Rattle.pg_handlers.specs.Questions.{questions}
+use Rattle.conversation_table.specs.Questions.{questions}
 use Rattle.session_replay.proofs.Telling.{questions_further, asks_nothing}
 use Rattle.session_replay.proofs.replaying.questions_in.Goals as goal
 use Rattle.session_replay.proofs.replaying.questions_in.Goals.{in-Ask, in_default}

@@ -1,5 +1,5 @@
 use Rattle.std.proofs.Common.{◌≡◌, ◌≤◌, take}
-use Rattle.pg_handlers.specs.Questions.{questions}
+use Rattle.conversation_table.specs.Questions.{questions}
 use Rattle.session_replay.proofs.replaying.questions_in.Given as goal
 
 abbrev pub invariant-loop-call : goal.invariant-loop-call

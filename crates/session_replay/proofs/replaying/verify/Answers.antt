@@ -2,7 +2,7 @@ use Rattle.std.proofs.Common.{◌<◌, ◌+◌, ◌^◌, ◌++◌, ◌∙◌, So
 use Rattle.std.proofs.lemmas.Int.{to_z-of_z}
 use Rattle.std.proofs.lemmas.Result.{IfOk-weaker}
 use Rattle.pg_client.specs.Answer.{answers_of}
-use Rattle.pg_handlers.specs.Questions.{questions}
+use Rattle.conversation_table.specs.Questions.{questions}
 use Rattle.pg_client.specs.Script.{origin_of}
 use Rattle.pg_engine.specs.Serving.{Counts}
 use Rattle.relation_serving.proofs.Complete.{cause_of_calls}

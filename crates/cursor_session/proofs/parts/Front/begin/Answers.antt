@@ -1,6 +1,6 @@
 use Rattle.std.proofs.Common.{◌≡◌, ◌++◌, ◌-◌, ap, sym, subst, ◌∙◌, length}
 use Rattle.pg_messages.specs.Frames.{told_len}
-use Rattle.pg_handlers.specs.Table.{is_startup_phase}
+use Rattle.conversation_table.specs.Table.{is_startup_phase}
 use Rattle.cursor_session.specs.Fronts.{BeginsNoCommand, IsBegun}
 use Rattle.cursor_session.proofs.Taking.{no_memory_told}
 use Rattle.cursor_session.proofs.Heads.{asked_can_be_sent, asked_some, if_none, begins_so, owed_so}

@@ -1,6 +1,6 @@
 use Rattle.std.proofs.Common.{◌≤◌, ◌^◌, ◌++◌, [], ap, subst, ◌∙◌, refl, length, Ok, Err, Some}
-use Rattle.pg_session.specs.Session.{whole_rules, is_more}
-use Rattle.pg_session.specs.Steps.{WasFed}
+use Rattle.conversation_runs.specs.Session.{whole_rules, is_more}
+use Rattle.conversation_runs.specs.Steps.{WasFed}
 use Rattle.cursor_session.specs.Fronts.{SendsReplies, SendsFront, around}
 use Rattle.cursor_session.proofs.Steps.{exchange_takes, exchange_takes_cut, exchange_takes_lost, exchange_left, stands_between, told_more}
 use Rattle.cursor_session.proofs.parts.Front.exchange.Goals as goal

@@ -1,7 +1,7 @@
 use Rattle.std.proofs.Common.{◌≡◌, ◌++◌, sym, subst, Ok}
-use Rattle.pg_session.specs.declared.ends.Progress.TheVariants as progress
+use Rattle.conversation_runs.specs.declared.ends.Progress.TheVariants as progress
 use Rattle.pg_messages.specs.Frames.{IsUnfinished}
-use Rattle.pg_handlers.specs.Table.{is_startup_phase}
+use Rattle.conversation_table.specs.Table.{is_startup_phase}
 use Rattle.cursor_table.specs.CursorTable.{cursor_rules}
 use Rattle.cursor_session.specs.Fronts.{Takes, around}
 use Rattle.cursor_session.proofs.Taking.{no_memory_taken, takes_none}

@@ -1,6 +1,6 @@
 use Rattle.std.proofs.Common.{◌≡◌, ◌++◌, [], ap, subst, ◌∙◌, append-nil, OnOk}
-use Rattle.pg_session.specs.Session.{whole_rules, is_more}
-use Rattle.pg_session.specs.Steps.{WasFed}
+use Rattle.conversation_runs.specs.Session.{whole_rules, is_more}
+use Rattle.conversation_runs.specs.Steps.{WasFed}
 use Rattle.cursor_session.specs.Fronts.{around}
 use Rattle.cursor_session.proofs.Steps.{pass_takes, pass_stands}
 use Rattle.cursor_session.proofs.parts.Front.pass.Goals as goal

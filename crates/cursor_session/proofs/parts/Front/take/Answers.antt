@@ -1,7 +1,7 @@
 use Rattle.std.proofs.Common.{◌≡◌, ◌≢◌, ◌++◌, [], refl, ap, sym, subst, ◌∙◌, append-nil, append_assoc, Result, Ok, Err}
-use Rattle.pg_session.specs.declared.ends.Progress.{Progress}
-use Rattle.pg_session.specs.declared.ends.Progress.TheVariants as progress
-use Rattle.pg_session.specs.declared.ends.ServeError.{ServeError}
+use Rattle.conversation_runs.specs.declared.ends.Progress.{Progress}
+use Rattle.conversation_runs.specs.declared.ends.Progress.TheVariants as progress
+use Rattle.conversation_runs.specs.declared.ends.ServeError.{ServeError}
 use Rattle.cursor_table.specs.CursorTable.{cursor_rules}
 use Rattle.cursor_table.proofs.CursorLaws.{rules_lawful}
 use Rattle.cursor_session.specs.Fronts.{Takes, around, rest_of}

@@ -1,5 +1,5 @@
 use Rattle.std.proofs.Common.{◌≡◌, ◌++◌, List, ℕ, Ok, length}
-use Rattle.pg_session.specs.declared.ends.Progress.TheVariants.{More}
+use Rattle.conversation_runs.specs.declared.ends.Progress.TheVariants.{More}
 use Rattle.cursor_session.specs.Fronts.{IsStanding, around, rest_of}
 use Rattle.cursor_session.specs.Seen.{FrontTakes, front_seen}
 use Rattle.cursor_session.proofs.parts.Front.take.Given as goal

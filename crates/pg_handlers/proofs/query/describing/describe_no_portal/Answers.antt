@@ -5,8 +5,8 @@ use Rattle.pg_portal.specs.declared.portal.Portal.{Portal}
 use Rattle.pg_portal.specs.declared.store.Entry.TheVariants as entry
 use Rattle.pg_portal.specs.Told.{portal_of}
 use Rattle.pg_client.specs.State.{state_of}
-use Rattle.pg_handlers.proofs.Describing.{empty_portal_described}
-use Rattle.pg_handlers.proofs.GoodStores.{empty_under}
+use Rattle.conversation_table.proofs.Describing.{empty_portal_described}
+use Rattle.conversation_table.proofs.GoodStores.{empty_under}
 use Rattle.pg_handlers.proofs.query.describing.describe_no_portal.Goals as goal
 
 pub returns-clause-ok : goal.returns-clause-ok

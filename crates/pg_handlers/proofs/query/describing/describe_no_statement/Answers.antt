@@ -6,8 +6,8 @@ use Rattle.std.specs.declared.sync.Arc.{Arc}
 use Rattle.pg_results.specs.declared.stmt.StoredStatement.{StoredStatement}
 use Rattle.pg_portal.specs.declared.store.Entry.TheVariants as entry
 use Rattle.pg_client.specs.State.{state_of}
-use Rattle.pg_handlers.proofs.Describing.{empty_described}
-use Rattle.pg_handlers.proofs.GoodStores.{empty_under}
+use Rattle.conversation_table.proofs.Describing.{empty_described}
+use Rattle.conversation_table.proofs.GoodStores.{empty_under}
 use Rattle.pg_handlers.proofs.query.describing.describe_no_statement.Goals as goal
 
 pub returns-clause-ok : goal.returns-clause-ok

@@ -1,5 +1,5 @@
 use Rattle.std.proofs.Common.{inr, arith}
-use Rattle.pg_handlers.proofs.ErrorTexts.{tellable_target}
+use Rattle.conversation_table.proofs.ErrorTexts.{tellable_target}
 use Rattle.pg_handlers.proofs.query.describing.invalid_target.Goals as goal
 
 pub returns-clause-answerable : goal.returns-clause-answerable

@@ -4,7 +4,7 @@ use Rattle.std.specs.Vec.Iter.{into_iter_items}
 use Rattle.std.proofs.lemmas.List.{nil_from_length}
 use Rattle.std.proofs.lemmas.Result.{err_from_is_err_and}
 use Rattle.pg_results.specs.Responses.{told_response, told_responses}
-use Rattle.pg_handlers.specs.Good.{IsSendableResponse}
+use Rattle.conversation_table.specs.Good.{IsSendableResponse}
 use Rattle.pg_replies.specs.ResponseRows.{responded}
 use Rattle.pg_handlers.proofs.Answers.{IsAnswered, answering_begins, answering_goes_on, answering_refused, answering_ends, left_copying, left_next}
 use Rattle.pg_messages.specs.Replies.{replies_bytes}

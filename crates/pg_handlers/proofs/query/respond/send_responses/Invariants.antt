@@ -2,7 +2,7 @@ use Rattle.std.proofs.Common.{◌≡◌, ◌++◌}
 use Rattle.std.specs.List.{AllByRecursion}
 use Rattle.std.specs.Vec.Iter.{into_iter_items}
 use Rattle.pg_results.specs.Responses.{told_responses}
-use Rattle.pg_handlers.specs.Good.{IsSendableResponse}
+use Rattle.conversation_table.specs.Good.{IsSendableResponse}
 use Rattle.pg_handlers.proofs.Answers.{IsAnswered}
 use Rattle.pg_handlers.proofs.query.respond.send_responses.Given as goal
 

@@ -2,10 +2,10 @@ use Rattle.std.proofs.Common.{rules, ◌≡◌, false, sym, subst}
 use Rattle.std.specs.Prelude.{IfErr, OnOk}
 use Rattle.pg_results.specs.Responses.{told_response}
 use Rattle.pg_client.specs.Effect.{Done, IsEffect, IsRefusedEffect}
-use Rattle.pg_handlers.specs.Executing.{has_rows}
+use Rattle.conversation_table.specs.Executing.{has_rows}
 use Rattle.pg_client.specs.State.{state_of}
-use Rattle.pg_handlers.proofs.Lends.{good_responded}
-use Rattle.pg_handlers.proofs.Starting.{executed_plain, left_same}
+use Rattle.conversation_table.proofs.Lends.{good_responded}
+use Rattle.conversation_table.proofs.Starting.{executed_plain, left_same}
 use Rattle.pg_handlers.proofs.query.run.answer.Goals as goal
 
 pub returns-in_default : goal.returns-in_default

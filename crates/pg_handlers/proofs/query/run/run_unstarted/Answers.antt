@@ -7,14 +7,14 @@ use Rattle.pg_results.specs.Responses.{ToldResponse, told_response}
 use Rattle.pg_results.specs.Rows.{IsAnswerableItem}
 use Rattle.pg_portal.specs.Told.{TablePortal}
 use Rattle.pg_client.specs.Effect.{Done, IsEffect, IsRefusedEffect}
-use Rattle.pg_handlers.specs.ExecuteRow.{execute_polled, executed}
-use Rattle.pg_handlers.specs.Good.{IsSendableOutcome}
-use Rattle.pg_handlers.specs.Handlers.{told_one}
-use Rattle.pg_handlers.specs.Questions.{Passed, Verdict, questions_since}
+use Rattle.conversation_table.specs.ExecuteRow.{execute_polled, executed}
+use Rattle.conversation_table.specs.Good.{IsSendableOutcome}
+use Rattle.conversation_table.specs.Handlers.{told_one}
+use Rattle.conversation_table.specs.Questions.{Passed, Verdict, questions_since}
 use Rattle.pg_client.specs.State.{State, state_of}
-use Rattle.pg_handlers.proofs.Causes.{item_answerable, item_caused}
+use Rattle.conversation_table.proofs.Causes.{item_answerable, item_caused}
 use Rattle.pg_replies.proofs.Sent.{kept_as}
-use Rattle.pg_handlers.proofs.Waits.{at_limit, spent_as, wait_answerable, wait_ran}
+use Rattle.conversation_table.proofs.Waits.{at_limit, spent_as, wait_answerable, wait_ran}
 use Rattle.pg_handlers.proofs.query.run.run_unstarted.Goals as goal
 
 module _ {S : Type 0} (s : State S) (m : Execute) (p : TablePortal S) (verdict : Verdict) (told : Result ToldResponse PgWireError)

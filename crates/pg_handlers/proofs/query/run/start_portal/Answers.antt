@@ -4,8 +4,8 @@ use Rattle.pg_results.specs.Told.{told_rows}
 use Rattle.pg_portal.specs.Told.{portal_of}
 use Rattle.named_entries.proofs.NameMaps.{at_some}
 use Rattle.pg_client.specs.State.{state_of}
-use Rattle.pg_handlers.proofs.Lends.{lent}
-use Rattle.pg_handlers.proofs.Starting.{first_page}
+use Rattle.conversation_table.proofs.Lends.{lent}
+use Rattle.conversation_table.proofs.Starting.{first_page}
 use Rattle.pg_handlers.proofs.query.run.start_portal.Goals as goal
 
 pub returns : goal.returns

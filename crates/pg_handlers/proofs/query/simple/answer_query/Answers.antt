@@ -10,7 +10,7 @@ use Rattle.pg_client.specs.Effect.{Done, IsEffect, IsRefusedEffect}
 use Rattle.pg_replies.specs.Replies.{ready}
 use Rattle.pg_replies.specs.ResponseRows.{Sent}
 use Rattle.pg_handlers.specs.Sending.{behind}
-use Rattle.pg_handlers.specs.SimpleRows.{answered, responded_all}
+use Rattle.conversation_table.specs.SimpleRows.{answered, responded_all}
 use Rattle.pg_client.specs.State.{State, in_phase, state_of, with_status}
 use Rattle.pg_replies.proofs.Sent.{kept_as, kept_in_front, kept_through, sent_behind}
 use Rattle.pg_handlers.proofs.query.simple.answer_query.Goals as goal

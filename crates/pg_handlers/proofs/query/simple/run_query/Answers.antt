@@ -11,16 +11,16 @@ use Rattle.pg_client.specs.declared.ends.SessionError.{SessionError}
 use Rattle.pg_client.specs.declared.ends.SessionError.TheVariants as session
 use Rattle.pg_client.specs.declared.ends.Turns.{Turns}
 use Rattle.pg_client.specs.Effect.{Done, Effect, IsEffect, IsRefusedEffect}
-use Rattle.pg_handlers.specs.Good.{AreSendable}
-use Rattle.pg_handlers.specs.Handlers.{told_all}
-use Rattle.pg_handlers.specs.Outcomes.{IsRunEnd, session_outcome}
-use Rattle.pg_handlers.specs.Questions.{HasSpent, IsCausedSo, IsVerdict, Passed, Verdict}
+use Rattle.conversation_table.specs.Good.{AreSendable}
+use Rattle.conversation_table.specs.Handlers.{told_all}
+use Rattle.conversation_table.specs.Outcomes.{IsRunEnd, session_outcome}
+use Rattle.conversation_table.specs.Questions.{HasSpent, IsCausedSo, IsVerdict, Passed, Verdict}
 use Rattle.pg_client.specs.Ends.{AtTurnLimit, IsAnswerableError}
-use Rattle.pg_handlers.specs.SimpleRows.{answered_all, query_polled}
+use Rattle.conversation_table.specs.SimpleRows.{answered_all, query_polled}
 use Rattle.pg_client.specs.State.{State, state_of}
-use Rattle.pg_handlers.proofs.Causes.{item_answerable, item_caused}
+use Rattle.conversation_table.proofs.Causes.{item_answerable, item_caused}
 use Rattle.pg_replies.proofs.Sent.{kept_as}
-use Rattle.pg_handlers.proofs.Waits.{at_limit, spent_as, wait_answerable, wait_ran}
+use Rattle.conversation_table.proofs.Waits.{at_limit, spent_as, wait_answerable, wait_ran}
 use Rattle.pg_handlers.proofs.query.simple.run_query.Goals as goal
 
 -- A query ended: its effect, and what is known of the error.

@@ -3,11 +3,11 @@ use Rattle.std.specs.FinMap as fin
 use Rattle.std.proofs.lemmas.Int.{to_z-of_z}
 use Rattle.pg_portal.specs.Told.{portal_of, value_under}
 use Rattle.named_entries.proofs.NameMaps.{at_some}
-use Rattle.pg_handlers.specs.Executing.{is_unstarted}
-use Rattle.pg_handlers.specs.Good.{HasGoodTag}
+use Rattle.conversation_table.specs.Executing.{is_unstarted}
+use Rattle.conversation_table.specs.Good.{HasGoodTag}
 use Rattle.pg_client.specs.State.{state_in, state_of}
-use Rattle.pg_handlers.proofs.Executed.{nothing_lent, page_executed, returned}
-use Rattle.pg_handlers.proofs.Lends.{lent}
+use Rattle.conversation_table.proofs.Executed.{nothing_lent, page_executed, returned}
+use Rattle.conversation_table.proofs.Lends.{lent}
 use Rattle.pg_handlers.proofs.query.started.execute_started.Goals as goal
 
 pub returns-in_default : goal.returns-in_default

@@ -2,9 +2,9 @@ use Rattle.std.proofs.Common.{ap, subst}
 use Rattle.std.specs.Arc.{arc_value}
 use Rattle.std.proofs.lemmas.Result.{err_from_is_err_and}
 use Rattle.pg_client.specs.Effect.{IsRefusedEffect}
-use Rattle.pg_handlers.specs.ExtendedRows.{bound_statement}
+use Rattle.conversation_table.specs.ExtendedRows.{bound_statement}
 use Rattle.pg_client.specs.State.{state_of}
-use Rattle.pg_handlers.proofs.Binds.{few_refused}
+use Rattle.conversation_table.proofs.Binds.{few_refused}
 use Rattle.pg_handlers.proofs.query.statements.bind_checked.Goals as goal
 
 pub returns-in_err-checked-clause-refused : goal.returns-in_err-checked-clause-refused

@@ -1,7 +1,7 @@
 use Rattle.std.proofs.Common.{sym, subst}
-use Rattle.pg_handlers.specs.Good.{IsGoodState}
+use Rattle.conversation_table.specs.Good.{IsGoodState}
 use Rattle.pg_client.specs.State.{state_of}
-use Rattle.pg_handlers.proofs.GoodStores.{good_with_empty_portal}
+use Rattle.conversation_table.proofs.GoodStores.{good_with_empty_portal}
 use Rattle.pg_handlers.proofs.query.statements.bind_empty.Goals as goal
 
 pub returns-in_err-store_empty_portal-clause-good : goal.returns-in_err-store_empty_portal-clause-good

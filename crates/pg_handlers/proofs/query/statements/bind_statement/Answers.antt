@@ -2,10 +2,10 @@ use Rattle.std.proofs.Common.{refl}
 use Rattle.std.specs.Arc.{arc_value}
 use Rattle.pg_portal.specs.Told.{portal_of}
 use Rattle.pg_portal.specs.declared.store.Entry.TheVariants as entry
-use Rattle.pg_handlers.specs.Good.{IsGoodPortal, IsGoodState}
+use Rattle.conversation_table.specs.Good.{IsGoodPortal, IsGoodState}
 use Rattle.pg_client.specs.State.{state_of}
-use Rattle.pg_handlers.proofs.Binds.{bound_is_good}
-use Rattle.pg_handlers.proofs.GoodStores.{good_with_portal, one_value, put_or_kept}
+use Rattle.conversation_table.proofs.Binds.{bound_is_good}
+use Rattle.conversation_table.proofs.GoodStores.{good_with_portal, one_value, put_or_kept}
 use Rattle.pg_handlers.proofs.query.statements.bind_statement.Goals as goal
 
 pub returns-clause-good : goal.returns-clause-good

@@ -5,7 +5,7 @@ use Rattle.pg_results.specs.Rows.{IsTellable}
 use Rattle.pg_results.specs.Errors.{error as error_info}
 use Rattle.pg_results.specs.declared.error.PgWireError.TheVariants as wire
 use Rattle.pg_client.specs.Errors.{too_few_codes}
-use Rattle.pg_handlers.proofs.ErrorTexts.{tellable_too_few}
+use Rattle.conversation_table.proofs.ErrorTexts.{tellable_too_few}
 use Rattle.pg_handlers.proofs.query.statements.too_few_codes.Goals as goal
 
 -- the text, bracketed as it is written

@@ -6,7 +6,7 @@ use Rattle.pg_results.specs.Errors.{error as error_info}
 use Rattle.pg_results.specs.Texts.{quoted}
 use Rattle.pg_results.specs.declared.error.PgWireError.TheVariants as wire
 use Rattle.pg_client.specs.Errors.{values_for_empty}
-use Rattle.pg_handlers.proofs.ErrorTexts.{tellable_values}
+use Rattle.conversation_table.proofs.ErrorTexts.{tellable_values}
 use Rattle.pg_handlers.proofs.query.statements.values_for_empty.Goals as goal
 
 -- the text, bracketed as it is written

@@ -1,7 +1,7 @@
 use Rattle.std.proofs.Common.{◌<◌, length, IfNone, sym, subst, ◌∙◌}
-use Rattle.pg_session.specs.Session.{whole_rules}
-use Rattle.pg_session.specs.Steps.{RoundSo}
-use Rattle.pg_session.proofs.Behind.{round_behind, nothing_waits, shorter_behind, open_behind, caused_behind, spent_behind}
+use Rattle.conversation_runs.specs.Session.{whole_rules}
+use Rattle.conversation_runs.specs.Steps.{RoundSo}
+use Rattle.conversation_runs.proofs.Behind.{round_behind, nothing_waits, shorter_behind, open_behind, caused_behind, spent_behind}
 use Rattle.pg_session.proofs.session.Session.advance.Goals as goal
 
 pub returns-clause-round : goal.returns-clause-round

@@ -1,7 +1,7 @@
 use Rattle.std.proofs.Common.{refl, subst}
 use Rattle.pg_client.specs.Ends.{IsAnswerableError}
-use Rattle.pg_session.specs.Messages.{scope_for}
-use Rattle.pg_session.proofs.Failing.{failed_by_told}
+use Rattle.conversation_runs.specs.Messages.{scope_for}
+use Rattle.conversation_runs.proofs.Failing.{failed_by_told}
 use Rattle.pg_session.proofs.session.Session.fail.Goals as goal
 
 pub returns-in-TurnLimit-clause-failed : goal.returns-in-TurnLimit-clause-failed

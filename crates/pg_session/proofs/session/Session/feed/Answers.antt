@@ -1,9 +1,9 @@
 use Rattle.std.proofs.Common.{◌++◌, ◌≤◌, length, sym, subst}
-use Rattle.pg_handlers.specs.Table.{awaits}
-use Rattle.pg_session.specs.Session.{whole_rules, most_held}
-use Rattle.pg_session.specs.Steps.{WasFed}
-use Rattle.pg_session.proofs.Held.{held_after}
-use Rattle.pg_session.proofs.Rounds.{served_if_fed}
+use Rattle.conversation_table.specs.Table.{awaits}
+use Rattle.conversation_runs.specs.Session.{whole_rules, most_held}
+use Rattle.conversation_runs.specs.Steps.{WasFed}
+use Rattle.conversation_runs.proofs.Held.{held_after}
+use Rattle.conversation_runs.proofs.Rounds.{served_if_fed}
 use Rattle.pg_session.proofs.session.Session.feed.Goals as goal
 
 pub returns-clause-fed : goal.returns-clause-fed

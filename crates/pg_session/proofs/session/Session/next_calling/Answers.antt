@@ -1,7 +1,7 @@
 use Rattle.std.proofs.Common.{Err, ap, sym, subst}
-use Rattle.pg_handlers.specs.Table.{awaits}
-use Rattle.pg_session.specs.Session.{IsUnread}
-use Rattle.pg_session.proofs.Unread.{unread_as}
+use Rattle.conversation_table.specs.Table.{awaits}
+use Rattle.conversation_runs.specs.Session.{IsUnread}
+use Rattle.conversation_runs.proofs.Unread.{unread_as}
 use Rattle.pg_session.proofs.session.Session.next_calling.Goals as goal
 
 pub returns-in-Ok-Some-clause-found : goal.returns-in-Ok-Some-clause-found

@@ -1,8 +1,8 @@
 use Rattle.std.proofs.Common.{Err, ap, sym, subst}
 use Rattle.pg_messages.specs.Frames.{IsUnfinished, IsBad}
-use Rattle.pg_handlers.specs.Table.{awaits, is_startup_phase}
-use Rattle.pg_session.specs.Session.{IsUnread}
-use Rattle.pg_session.proofs.Unread.{unread_as}
+use Rattle.conversation_table.specs.Table.{awaits, is_startup_phase}
+use Rattle.conversation_runs.specs.Session.{IsUnread}
+use Rattle.conversation_runs.proofs.Unread.{unread_as}
 use Rattle.pg_session.proofs.session.Session.next_message.Goals as goal
 use Rattle.pg_session.proofs.session.Session.next_message.Goals.{in-Ok-Some, in-Ok-None, in-Err}
 

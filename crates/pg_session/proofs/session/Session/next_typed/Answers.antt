@@ -1,7 +1,7 @@
 use Rattle.std.proofs.Common.{◌≡◌, ◌∙◌, ap, sym, subst}
 use Rattle.pg_messages.specs.Frames.{IsBad}
 use Rattle.pg_results.specs.declared.client.PgWireConnectionState.TheVariants as phase
-use Rattle.pg_handlers.specs.Table.{awaits, is_startup_phase}
+use Rattle.conversation_table.specs.Table.{awaits, is_startup_phase}
 use Rattle.pg_session.proofs.session.Session.next_typed.Goals as goal
 
 pub returns-clause-bad : goal.returns-clause-bad

@@ -1,4 +1,4 @@
-use Rattle.pg_session.proofs.Silently.{never_stopped, one_of_both}
+use Rattle.conversation_runs.proofs.Silently.{never_stopped, one_of_both}
 use Rattle.pg_session.proofs.session.Session.respond.Goals as goal
 
 pub returns-in_default : goal.returns-in_default

@@ -1,12 +1,12 @@
 use Rattle.std.proofs.Common.{◌≡◌, ◌≢◌, Option, Some, None, Result, Ok, Err, ap, sym, ◌∙◌}
-use Rattle.pg_handlers.specs.Table.{scope_in}
+use Rattle.conversation_table.specs.Table.{scope_in}
 use Rattle.pg_client.specs.declared.ends.EndKind.{EndKind}
 use Rattle.pg_client.specs.declared.ends.EndKind.TheVariants as end
-use Rattle.pg_session.specs.declared.ends.ServeError.{ServeError}
-use Rattle.pg_session.specs.declared.ends.ServeError.TheVariants as serve
-use Rattle.pg_session.specs.Messages.{scope_for}
-use Rattle.pg_session.proofs.Answering.{answered_by_row}
-use Rattle.pg_session.proofs.Failing.{failed_answer, failed_cut, failed_stopped, failed_only, failed_turns}
+use Rattle.conversation_runs.specs.declared.ends.ServeError.{ServeError}
+use Rattle.conversation_runs.specs.declared.ends.ServeError.TheVariants as serve
+use Rattle.conversation_runs.specs.Messages.{scope_for}
+use Rattle.conversation_runs.proofs.Answering.{answered_by_row}
+use Rattle.conversation_runs.proofs.Failing.{failed_answer, failed_cut, failed_stopped, failed_only, failed_turns}
 use Rattle.pg_session.proofs.session.Session.respond_calling.Goals as goal
 
 -- an answer without an error stops at no limit

@@ -1,5 +1,5 @@
 use Rattle.pg_client.proofs.Desks.{goes_on_none}
-use Rattle.pg_session.proofs.Silently.{never_stopped, one_of_both, silently_fed}
+use Rattle.conversation_runs.proofs.Silently.{never_stopped, one_of_both, silently_fed}
 use Rattle.pg_session.proofs.session.Session.respond_ready.Goals as goal
 
 pub returns-in_default : goal.returns-in_default

@@ -1,8 +1,8 @@
 use Rattle.std.proofs.Common.{Option, ap, ◌∙◌}
-use Rattle.pg_handlers.specs.Table.{scope_in}
+use Rattle.conversation_table.specs.Table.{scope_in}
 use Rattle.pg_client.specs.declared.ends.EndKind.{EndKind}
-use Rattle.pg_session.specs.Messages.{scope_for}
-use Rattle.pg_session.proofs.Failing.{failed_answer, failed_cut, failed_turns, failed_memory, never_limited}
+use Rattle.conversation_runs.specs.Messages.{scope_for}
+use Rattle.conversation_runs.proofs.Failing.{failed_answer, failed_cut, failed_turns, failed_memory, never_limited}
 use Rattle.pg_session.proofs.session.Session.respond_unready.Goals as goal
 
 pub returns-in-Err-clause-answer : goal.returns-in-Err-clause-answer

@@ -1,9 +1,9 @@
 use Rattle.std.proofs.Common.{Option, ◌∙◌}
 use Rattle.pg_client.specs.declared.ends.EndKind.{EndKind}
 use Rattle.std.proofs.Common.{ap, sym, ◌∙◌}
-use Rattle.pg_handlers.specs.Table.{scope_in}
-use Rattle.pg_session.specs.Messages.{scope_for}
-use Rattle.pg_session.proofs.Failing.{failed_answer, failed_cut, failed_stopped, failed_only, failed_turns}
+use Rattle.conversation_table.specs.Table.{scope_in}
+use Rattle.conversation_runs.specs.Messages.{scope_for}
+use Rattle.conversation_runs.proofs.Failing.{failed_answer, failed_cut, failed_stopped, failed_only, failed_turns}
 use Rattle.pg_session.proofs.session.Session.respond_with_calls.Goals as goal
 
 pub returns-in-Err-clause-answer : goal.returns-in-Err-clause-answer

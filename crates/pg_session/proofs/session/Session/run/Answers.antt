@@ -1,13 +1,13 @@
 use Rattle.std.proofs.Common.{Ok, refl, subst, ◌∙◌}
 use Rattle.pg_client.proofs.Desks.{goes_on_none, goes_on_then}
 use Rattle.pg_client.specs.Answer.{Goes}
-use Rattle.pg_session.specs.Session.{whole_rules}
-use Rattle.pg_session.specs.Steps.{IsServed, WasFed}
-use Rattle.pg_session.specs.declared.ends.Progress.TheVariants.{More}
-use Rattle.pg_session.proofs.Answering.{whole_lawful}
-use Rattle.pg_session.proofs.Rounds.{told_then, turns_then}
-use Rattle.pg_session.proofs.Spending.{no_turn, fed_then}
-use Rattle.pg_session.proofs.Stepping.{serves_none, serves_then}
+use Rattle.conversation_runs.specs.Session.{whole_rules}
+use Rattle.conversation_runs.specs.Steps.{IsServed, WasFed}
+use Rattle.conversation_runs.specs.declared.ends.Progress.TheVariants.{More}
+use Rattle.conversation_runs.proofs.Answering.{whole_lawful}
+use Rattle.conversation_runs.proofs.Rounds.{told_then, turns_then}
+use Rattle.conversation_runs.proofs.Spending.{no_turn, fed_then}
+use Rattle.conversation_runs.proofs.Stepping.{serves_none, serves_then}
 use Rattle.pg_session.proofs.session.Session.run.Goals as goal
 
 pub messages-init : goal.messages-init

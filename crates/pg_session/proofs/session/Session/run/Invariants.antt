@@ -1,10 +1,10 @@
 use Rattle.std.proofs.Common.{◌≡◌, ◌≤◌, true, length}
 use Rattle.pg_client.specs.Desk.{GoesOn}
 use Rattle.pg_client.specs.Answer.{Goes}
-use Rattle.pg_handlers.specs.Questions.{questions_since}
-use Rattle.pg_session.specs.Session.{whole_rules}
-use Rattle.pg_session.specs.Steps.{IsServed}
-use Rattle.pg_session.proofs.Spending.{spent_more}
+use Rattle.conversation_table.specs.Questions.{questions_since}
+use Rattle.conversation_runs.specs.Session.{whole_rules}
+use Rattle.conversation_runs.specs.Steps.{IsServed}
+use Rattle.conversation_runs.proofs.Spending.{spent_more}
 use Rattle.pg_session.proofs.session.Session.run.Given as goal
 
 -- what was served so far, and what a step asks of the session

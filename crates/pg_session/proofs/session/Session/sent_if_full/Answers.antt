@@ -1,7 +1,7 @@
 use Rattle.std.proofs.Common.{None, Ok, Some, Err, subst}
-use Rattle.pg_session.specs.declared.ends.Progress.{Progress}
-use Rattle.pg_session.specs.Steps.{SentBehind}
-use Rattle.pg_session.proofs.Behind.{flushed_as}
+use Rattle.conversation_runs.specs.declared.ends.Progress.{Progress}
+use Rattle.conversation_runs.specs.Steps.{SentBehind}
+use Rattle.conversation_runs.proofs.Behind.{flushed_as}
 use Rattle.pg_session.proofs.session.Session.sent_if_full.Goals as goal
 use Rattle.pg_session.proofs.session.Session.sent_if_full.Goals.{in-Ok, in-Err}
 

@@ -1,5 +1,5 @@
 use Rattle.std.proofs.Common.{subst}
-use Rattle.pg_session.specs.Steps.{IsStep}
+use Rattle.conversation_runs.specs.Steps.{IsStep}
 use Rattle.pg_session.proofs.session.Session.step.Goals as goal
 
 pub returns-in-Some : goal.returns-in-Some

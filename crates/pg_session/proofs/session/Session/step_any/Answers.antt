@@ -1,6 +1,6 @@
 use Rattle.std.proofs.Common.{sym, subst}
-use Rattle.pg_session.specs.Steps.{IsResponse, IsStep}
-use Rattle.pg_session.proofs.Stepped.{step_answered, step_unread}
+use Rattle.conversation_runs.specs.Steps.{IsResponse, IsStep}
+use Rattle.conversation_runs.proofs.Stepped.{step_answered, step_unread}
 use Rattle.pg_session.proofs.session.Session.step_any.Goals as goal
 
 pub returns-in-Ok : goal.returns-in-Ok

@@ -1,8 +1,8 @@
 use Rattle.std.proofs.Common.{sym, subst}
 use Rattle.pg_messages.specs.Frames.{IsFrame}
-use Rattle.pg_handlers.specs.Table.{is_startup_phase}
-use Rattle.pg_session.specs.Steps.{IsStep}
-use Rattle.pg_session.proofs.Stepped.{step_answered, step_unread}
+use Rattle.conversation_table.specs.Table.{is_startup_phase}
+use Rattle.conversation_runs.specs.Steps.{IsStep}
+use Rattle.conversation_runs.proofs.Stepped.{step_answered, step_unread}
 use Rattle.pg_session.proofs.session.Session.step_calling.Goals as goal
 
 pub respond_calling-requires-clause-given : goal.respond_calling-requires-clause-given

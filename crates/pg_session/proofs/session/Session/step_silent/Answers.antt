@@ -1,11 +1,11 @@
 use Rattle.std.proofs.Common.{Ok, Err, Some, ap, sym, subst}
 use Rattle.pg_messages.specs.Frames.{IsFrame}
-use Rattle.pg_handlers.specs.Table.{awaits, is_startup_phase}
-use Rattle.pg_session.specs.Session.{IsUnread}
-use Rattle.pg_session.specs.Steps.{IsStep}
-use Rattle.pg_session.specs.declared.ends.Progress.TheVariants as progress
-use Rattle.pg_session.proofs.Stepped.{silent_response, step_answered, step_unread}
-use Rattle.pg_session.proofs.Unread.{unread_as}
+use Rattle.conversation_table.specs.Table.{awaits, is_startup_phase}
+use Rattle.conversation_runs.specs.Session.{IsUnread}
+use Rattle.conversation_runs.specs.Steps.{IsStep}
+use Rattle.conversation_runs.specs.declared.ends.Progress.TheVariants as progress
+use Rattle.conversation_runs.proofs.Stepped.{silent_response, step_answered, step_unread}
+use Rattle.conversation_runs.proofs.Unread.{unread_as}
 use Rattle.pg_session.proofs.session.Session.step_silent.Goals as goal
 
 pub respond-requires-clause-given : goal.respond-requires-clause-given

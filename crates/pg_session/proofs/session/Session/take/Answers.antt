@@ -1,9 +1,9 @@
 use Rattle.std.proofs.Common.{◌++◌, ℕ, Err, arith}
 use Rattle.pg_client.proofs.Desks.{goes_on_none}
-use Rattle.pg_session.specs.declared.ends.ServeError.TheVariants as serve
-use Rattle.pg_session.specs.Session.{whole_rules}
-use Rattle.pg_session.specs.Streams.{HasSinkCause}
-use Rattle.pg_session.proofs.Stepping.{cut_none}
+use Rattle.conversation_runs.specs.declared.ends.ServeError.TheVariants as serve
+use Rattle.conversation_runs.specs.Session.{whole_rules}
+use Rattle.conversation_runs.specs.Streams.{HasSinkCause}
+use Rattle.conversation_runs.proofs.Stepping.{cut_none}
 use Rattle.pg_session.proofs.session.Session.take.Goals as goal
 
 pub returns-in-Err-clause-fed : goal.returns-in-Err-clause-fed

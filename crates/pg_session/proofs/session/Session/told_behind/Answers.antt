@@ -1,7 +1,7 @@
 use Rattle.std.proofs.Common.{Some, Ok, sym, subst}
-use Rattle.pg_session.specs.Steps.{SentBehind}
-use Rattle.pg_session.specs.Streams.{HasSentCause}
-use Rattle.pg_session.proofs.Behind.{sent_behind}
+use Rattle.conversation_runs.specs.Steps.{SentBehind}
+use Rattle.conversation_runs.specs.Streams.{HasSentCause}
+use Rattle.conversation_runs.proofs.Behind.{sent_behind}
 use Rattle.pg_session.proofs.session.Session.told_behind.Goals as goal
 
 pub returns-in-Some-clause-sent : goal.returns-in-Some-clause-sent

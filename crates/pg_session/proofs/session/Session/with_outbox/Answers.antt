@@ -1,6 +1,6 @@
 use Rattle.std.proofs.Common.{ap}
 use Rattle.std.specs.Arc.{arc_value}
-use Rattle.pg_session.proofs.GoodStates.{good_new}
+use Rattle.conversation_runs.proofs.GoodStates.{good_new}
 use Rattle.pg_session.proofs.session.Session.with_outbox.Goals as goal
 
 pub invariant_of-result : goal.invariant_of-result

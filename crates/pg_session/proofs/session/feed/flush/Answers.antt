@@ -1,13 +1,13 @@
 -- Each chunk goes behind what was sent before.
 use Rattle.std.proofs.Common.{arith, length-drop, subst, ◌∙◌, ◌≡◌, ◌≤◌, ℕ, Result, Ok, Err, refl, ap}
 use Rattle.std.specs.Result.{IsErrAnd}
-use Rattle.pg_session.specs.declared.ends.ServeError.{ServeError}
-use Rattle.pg_session.specs.declared.ends.ServeError.TheVariants as serve
-use Rattle.pg_session.specs.declared.streams.SinkError.{SinkError}
-use Rattle.pg_session.specs.declared.streams.SinkError.TheVariants as sink
-use Rattle.pg_session.specs.Streams.{GrowsBy, GrowsByFront, HasFlushed, HasRisen, told_of_sink}
-use Rattle.pg_session.proofs.Flowing.{Flows-none, Flows-chunk, Flows-then, all_sent, cut_in_chunk}
-use Rattle.pg_session.proofs.Stepping.{on_err_always}
+use Rattle.conversation_runs.specs.declared.ends.ServeError.{ServeError}
+use Rattle.conversation_runs.specs.declared.ends.ServeError.TheVariants as serve
+use Rattle.conversation_runs.specs.declared.streams.SinkError.{SinkError}
+use Rattle.conversation_runs.specs.declared.streams.SinkError.TheVariants as sink
+use Rattle.conversation_runs.specs.Streams.{GrowsBy, GrowsByFront, HasFlushed, HasRisen, told_of_sink}
+use Rattle.conversation_runs.proofs.Flowing.{Flows-none, Flows-chunk, Flows-then, all_sent, cut_in_chunk}
+use Rattle.conversation_runs.proofs.Stepping.{on_err_always}
 use Rattle.pg_session.proofs.session.feed.flush.Goals as goal
 
 -- the cause of a flush's error is that of the sink's

@@ -1,6 +1,6 @@
 -- what was sent, and what still waits
 use Rattle.std.proofs.Common.{◌≡◌, [], length}
-use Rattle.pg_session.specs.Steps.{Flows}
+use Rattle.conversation_runs.specs.Steps.{Flows}
 use Rattle.pg_session.proofs.session.feed.flush.Given as goal
 
 abbrev pub invariant-chunks : goal.invariant-chunks

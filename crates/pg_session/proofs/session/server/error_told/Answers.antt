@@ -10,10 +10,10 @@ use Rattle.pg_client.specs.Errors.{is_fatal}
 use Rattle.pg_replies.specs.Replies.{error_reply}
 use Rattle.pg_client.specs.State.{State}
 use Rattle.pg_client.specs.declared.ends.EndKind.TheVariants as end
-use Rattle.pg_session.specs.Messages.{scope_for}
+use Rattle.conversation_runs.specs.Messages.{scope_for}
 use Rattle.pg_results.specs.Errors.{info_of}
 use Rattle.pg_client.specs.State.{state_of}
-use Rattle.pg_session.proofs.ToldErrors.{told_ready, told_waiting, next_waiting, next_ready}
+use Rattle.conversation_runs.proofs.ToldErrors.{told_ready, told_waiting, next_waiting, next_ready}
 use Rattle.pg_session.proofs.session.server.error_told.Goals as goal
 
 -- ---- an error whose severity is FATAL

@@ -4,8 +4,8 @@ use Rattle.pg_messages.specs.Replies.{replies_bytes}
 use Rattle.pg_results.specs.Errors.{info_of}
 use Rattle.pg_client.specs.Effect.{failed}
 use Rattle.pg_client.specs.State.{state_of}
-use Rattle.pg_handlers.proofs.GoodStores.{good_parts}
-use Rattle.pg_session.specs.Messages.{scope_for, next_of}
+use Rattle.conversation_table.proofs.GoodStores.{good_parts}
+use Rattle.conversation_runs.specs.Messages.{scope_for, next_of}
 use Rattle.pg_session.proofs.session.server.process_error.Goals as goal
 
 pub invariant_of-session : goal.invariant_of-session

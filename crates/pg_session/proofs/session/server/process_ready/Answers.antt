@@ -1,11 +1,11 @@
 use Rattle.std.proofs.Common.{IfOk, IfErr, subst, ap, ◌∙◌}
 use Rattle.pg_client.specs.Effect.{IsRow, IsRefusedRow}
 use Rattle.pg_client.specs.State.{state_of}
-use Rattle.pg_handlers.specs.Table.{ready_row}
+use Rattle.conversation_table.specs.Table.{ready_row}
 use Rattle.pg_client.specs.Ends.{outcome_of}
-use Rattle.pg_session.proofs.Narrowed.{ready_goes_on}
-use Rattle.pg_session.proofs.Rows.{row_as, refused_as}
-use Rattle.pg_session.proofs.ToldRows.{ready_ok, ready_refused}
+use Rattle.conversation_runs.proofs.Narrowed.{ready_goes_on}
+use Rattle.conversation_runs.proofs.Rows.{row_as, refused_as}
+use Rattle.conversation_runs.proofs.ToldRows.{ready_ok, ready_refused}
 use Rattle.pg_session.proofs.session.server.process_ready.Goals as goal
 
 pub invariant_of-session : goal.invariant_of-session

@@ -1,9 +1,9 @@
 use Rattle.std.proofs.Common.{IfOk, IfErr, subst}
 use Rattle.pg_client.specs.Effect.{IsRow, IsRefusedRow}
 use Rattle.pg_client.specs.State.{state_of}
-use Rattle.pg_handlers.specs.Table.{message_row}
+use Rattle.conversation_table.specs.Table.{message_row}
 use Rattle.pg_client.specs.Ends.{outcome_of}
-use Rattle.pg_session.proofs.Rows.{row_as, refused_as}
+use Rattle.conversation_runs.proofs.Rows.{row_as, refused_as}
 use Rattle.pg_session.proofs.session.server.process_unready.Goals as goal
 
 pub invariant_of-session : goal.invariant_of-session

@@ -1,5 +1,5 @@
 use Rattle.std.proofs.Common.{sym, subst}
-use Rattle.pg_handlers.specs.Good.{IsSendableDescription}
+use Rattle.conversation_table.specs.Good.{IsSendableDescription}
 use Rattle.row_handlers.proofs.Sendable.{types_sendable}
 use Rattle.row_handlers.proofs.handlers.RowHandlersExtendedQueryHandler.do_describe_statement.Goals as goal
 

@@ -2,9 +2,9 @@ use Rattle.std.proofs.Common.{subst}
 use Rattle.std.specs.Prelude.{OnOk, IfErr}
 use Rattle.pg_portal.specs.Told.{portal_of}
 use Rattle.pg_client.specs.Effect.{Done, Effect, IsEffect, IsRefusedEffect}
-use Rattle.pg_handlers.specs.ExtendedRows.{statement_description, portal_description}
+use Rattle.conversation_table.specs.ExtendedRows.{statement_description, portal_description}
 use Rattle.pg_client.specs.State.{state_of}
-use Rattle.pg_handlers.proofs.Telling.{describes_statement, describes_portal, told_ok, told_refused}
+use Rattle.conversation_table.proofs.Telling.{describes_statement, describes_portal, told_ok, told_refused}
 use Rattle.pg_handlers.proofs.query.extended.ExtendedQueryHandler._on_describe.Goals as goal
 
 pub do_describe_statement-told-requires-clause-good : goal.do_describe_statement-told-requires-clause-good

@@ -2,12 +2,12 @@ use Rattle.std.proofs.Common.{◌≡◌, false, w32, IfSome, Some, refl, ap, sym
 use Rattle.std.specs.FinMap as fin
 use Rattle.std.proofs.lemmas.Int.{to_z-of_z}
 use Rattle.pg_portal.specs.Told.{portal_of, value_under}
-use Rattle.pg_handlers.specs.Executing.{is_unstarted}
-use Rattle.pg_handlers.specs.Good.{HasGoodTag}
+use Rattle.conversation_table.specs.Executing.{is_unstarted}
+use Rattle.conversation_table.specs.Good.{HasGoodTag}
 use Rattle.pg_client.specs.State.{state_of}
 use Rattle.pg_client.proofs.Desks.{keeps_none}
-use Rattle.pg_handlers.proofs.Executed.{none_begun, none_started, query_executed, returned}
-use Rattle.pg_handlers.proofs.Starting.{started_there, unstarted_under}
+use Rattle.conversation_table.proofs.Executed.{none_begun, none_started, query_executed, returned}
+use Rattle.conversation_table.proofs.Starting.{started_there, unstarted_under}
 use Rattle.pg_handlers.proofs.query.extended.ExtendedQueryHandler._on_execute.Goals as goal
 
 pub execute_started-requires-clause-started : goal.execute_started-requires-clause-started

@@ -4,9 +4,9 @@ use Rattle.std.specs.Arc.{arc_value}
 use Rattle.std.specs.FinMap as fin
 use Rattle.pg_portal.specs.Told.{value_under}
 use Rattle.pg_client.specs.Effect.{Done, Effect, IsEffect, IsRefusedEffect}
-use Rattle.pg_handlers.specs.Good.{IsGoodStatement}
+use Rattle.conversation_table.specs.Good.{IsGoodStatement}
 use Rattle.pg_client.specs.State.{state_of}
-use Rattle.pg_handlers.proofs.Binds.{binds, binds_few, few_are_enough}
+use Rattle.conversation_table.proofs.Binds.{binds, binds_few, few_are_enough}
 use Rattle.pg_handlers.proofs.query.extended.ExtendedQueryHandler.on_bind.Goals as goal
 
 pub returns-in_default-clause-ok : goal.returns-in_default-clause-ok

@@ -1,4 +1,4 @@
-use Rattle.pg_handlers.proofs.GoodStores.{good_closed}
+use Rattle.conversation_table.proofs.GoodStores.{good_closed}
 use Rattle.pg_handlers.proofs.query.extended.ExtendedQueryHandler.on_close.Goals as goal
 
 pub returns-clause-good : goal.returns-clause-good

@@ -1,10 +1,10 @@
 use Rattle.std.proofs.Common.{◌≡◌, IfSome, sym, subst}
 use Rattle.std.specs.Arc.{arc_value}
-use Rattle.pg_handlers.specs.ExtendedRows.{entry_of}
-use Rattle.pg_handlers.specs.Good.{IsGoodState}
+use Rattle.conversation_table.specs.ExtendedRows.{entry_of}
+use Rattle.conversation_table.specs.Good.{IsGoodState}
 use Rattle.pg_client.specs.State.{state_of}
-use Rattle.pg_handlers.proofs.GoodStores.{good_with_statement, put_or_kept}
-use Rattle.pg_handlers.proofs.Parsing.{parsed_is_good, parsed_named}
+use Rattle.conversation_table.proofs.GoodStores.{good_with_statement, put_or_kept}
+use Rattle.conversation_table.proofs.Parsing.{parsed_is_good, parsed_named}
 use Rattle.pg_handlers.proofs.query.extended.ExtendedQueryHandler.on_parse.Goals as goal
 
 pub returns-in-Ok-found-clause-good : goal.returns-in-Ok-found-clause-good

@@ -1,7 +1,7 @@
 use Rattle.std.proofs.Common.{ap}
 use Rattle.std.proofs.Common.{refl}
 use Rattle.pg_client.specs.State.{state_of, without_portal}
-use Rattle.pg_handlers.proofs.GoodStores.{good_parts, good_without_portal}
+use Rattle.conversation_table.proofs.GoodStores.{good_parts, good_without_portal}
 use Rattle.pg_handlers.proofs.query.extended.ExtendedQueryHandler.on_sync.Goals as goal
 
 pub returns-clause-good : goal.returns-clause-good

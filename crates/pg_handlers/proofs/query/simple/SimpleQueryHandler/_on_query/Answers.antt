@@ -2,8 +2,8 @@ use Rattle.std.proofs.Common.{◌≡◌, false, true, Err, refl, ap, sym, subst,
 use Rattle.std.proofs.lemmas.Result.{err_from_is_err_and}
 use Rattle.pg_results.specs.Texts.{is_blank}
 use Rattle.pg_client.specs.State.{state_of}
-use Rattle.pg_handlers.specs.Good.{AreSendable}
-use Rattle.pg_handlers.proofs.Queried.{blank_queried, none_begun, none_started, query_ran, returned}
+use Rattle.conversation_table.specs.Good.{AreSendable}
+use Rattle.conversation_table.proofs.Queried.{blank_queried, none_begun, none_started, query_ran, returned}
 use Rattle.pg_handlers.proofs.query.simple.SimpleQueryHandler._on_query.Goals as goal
 
 pub returns-then-is_blank : goal.returns-then-is_blank

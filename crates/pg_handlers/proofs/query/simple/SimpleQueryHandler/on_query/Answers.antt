@@ -1,8 +1,8 @@
 use Rattle.std.proofs.Common.{inl, inr, refl}
 use Rattle.pg_client.proofs.Desks.{keeps_none}
 use Rattle.pg_replies.proofs.Sent.{kept_as}
-use Rattle.pg_handlers.proofs.Rows.{ready_refused, refused_unready, no_turn, not_ready_told}
-use Rattle.pg_handlers.specs.SimpleRows.{on_query}
+use Rattle.conversation_table.proofs.Rows.{ready_refused, refused_unready, no_turn, not_ready_told}
+use Rattle.conversation_table.specs.SimpleRows.{on_query}
 use Rattle.pg_client.specs.State.{state_of}
 use Rattle.pg_handlers.proofs.query.simple.SimpleQueryHandler.on_query.Goals as goal
 

@@ -3,9 +3,9 @@ use Rattle.std.specs.Arc.{arc_value}
 use Rattle.pg_messages.specs.declared.frontend.PgWireFrontendMessage.TheVariants as client
 use Rattle.pg_client.specs.Effect.{Done, IsRefusedRow, IsRow}
 use Rattle.pg_client.specs.State.{state_of}
-use Rattle.pg_handlers.specs.Table.{message_row, ready_row}
-use Rattle.pg_session.proofs.Calling.{called_ok, called_refused}
-use Rattle.pg_session.proofs.Narrowed.{called_goes_on}
+use Rattle.conversation_table.specs.Table.{message_row, ready_row}
+use Rattle.conversation_runs.proofs.Calling.{called_ok, called_refused}
+use Rattle.conversation_runs.proofs.Narrowed.{called_goes_on}
 use Rattle.pg_session.proofs.session.common.ExecuteCallingMessage.process.Goals as goal
 
 pub invariant_of-session : goal.invariant_of-session

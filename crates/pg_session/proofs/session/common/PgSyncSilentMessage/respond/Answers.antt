@@ -5,10 +5,10 @@ use Rattle.pg_results.specs.declared.client.PgWireConnectionState.TheVariants as
 use Rattle.pg_client.specs.Answer.{Goes}
 use Rattle.pg_client.specs.Effect.{Done, IsEffect, IsRefusedEffect}
 use Rattle.pg_client.specs.State.{state_of}
-use Rattle.pg_handlers.specs.Table.{statement_row, whole_table}
-use Rattle.pg_session.specs.Messages.{next_of}
-use Rattle.pg_session.specs.Steps.{IsAnswered, IsCutAnswer}
-use Rattle.pg_session.proofs.Silently.{silently_done, silently_told}
+use Rattle.conversation_table.specs.Table.{statement_row, whole_table}
+use Rattle.conversation_runs.specs.Messages.{next_of}
+use Rattle.conversation_runs.specs.Steps.{IsAnswered, IsCutAnswer}
+use Rattle.conversation_runs.proofs.Silently.{silently_done, silently_told}
 use Rattle.pg_session.proofs.session.common.PgSyncSilentMessage.respond.Goals as goal
 
 pub returns-in-Ok-clause-answer : goal.returns-in-Ok-clause-answer

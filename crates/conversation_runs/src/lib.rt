@@ -1,0 +1,13 @@
+//! What a run of the conversation is, however the client's bytes are cut: the sources that they come
+//! from, the sinks that the replies go to, why a conversation is given up, and the law that pieces
+//! join. The session's steps are defined here, over any table, and their lemmas stand beside the
+//! handlers.
+#![tactic(auto)]
+
+mod ends;
+mod laws;
+mod streams;
+
+pub use ends::{Progress, ServeError};
+pub use laws::pieces_join;
+pub use streams::{Sink, SinkError, Source, SourceFailed};

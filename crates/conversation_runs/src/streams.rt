@@ -1,0 +1,66 @@
+//! What is outside: where a client's bytes come from, and where the replies go.
+
+ghost use Rattle.std.specs.Prelude.{◌≡◌, ℕ, List, [], Option, ◌≤◌, ◌<◌, length, IfOk, IfSome, OnOk, OnErr, IsErrOf};
+ghost use Rattle.conversation_runs.specs.Streams.{GivesFront, GrowsBy, GrowsByFront, HasRisen, reads_after};
+
+/// A read failed.
+#[derive(Clone, Copy, Debug, PartialEq, Eq)]
+pub struct SourceFailed {}
+
+/// Where the bytes of a client come from.
+pub trait Source {
+    // the bytes still to come, where they are known
+    ghost left: { Self → Option (List ℕ) };
+    // the number of reads that gave at least one byte
+    ghost reads: { Self → ℕ };
+    // the number of reads that failed
+    ghost faults: { Self → ℕ };
+    // what it was made over, as numbers, so that a caller who lent something to it knows it again
+    ghost origin: { Self → List ℕ } = { λ _. [] };
+
+    /// Reads at least one byte and at most as many as fit, or answers 0 where no byte is left for
+    /// ever. SourceFailed comes only where the count of faults rose; then nothing was taken. An Ok
+    /// leaves the count.
+    fn receive(&mut self, into: &mut [u8]) -> Result<usize, SourceFailed>
+        requires { 0 < length into.old }
+        ensures fits { IfOk result (λ n. n ≤ length into.old) }
+        ensures bytes { IfOk result (λ n. IfSome (left self.old)
+            (λ bytes. GivesFront n into.new bytes (left self.new))) }
+        ensures counts { reads self.new ≡ reads_after result (reads self.old) }
+        ensures failed { OnErr result (HasRisen (faults self.old) (faults self.new)) }
+        ensures untouched { OnErr result (left self.new ≡ left self.old) }
+        ensures calm { OnOk result (faults self.new ≡ faults self.old) }
+        ensures never_falls { faults self.old ≤ faults self.new }
+        ensures origin { origin self.new ≡ origin self.old };
+}
+
+/// Why bytes were not all written.
+#[derive(Clone, Copy, Debug, PartialEq, Eq)]
+pub enum SinkError {
+    /// The write failed.
+    Failed,
+    /// Memory ran out.
+    NoMemory,
+}
+
+/// Where the replies go.
+pub trait Sink {
+    // all bytes that were written, where they are known
+    ghost written: { Self → Option (List ℕ) };
+    // the number of writes that failed
+    ghost faults: { Self → ℕ };
+    // what it was made over, as numbers, so that a caller who lent something to it knows it again
+    ghost origin: { Self → List ℕ } = { λ _. [] };
+
+    /// Writes all bytes. Failed comes only where the count of faults rose; Ok and NoMemory leave
+    /// it. After an error a front of the bytes was written.
+    fn send(&mut self, bytes: &[u8]) -> Result<(), SinkError>
+        ensures ok { OnOk result (GrowsBy (written self.old) (written self.new) bytes.now) }
+        ensures err { OnErr result (GrowsByFront (written self.old) (written self.new) bytes.now) }
+        ensures failed { IsErrOf result SinkError.Failed
+            → HasRisen (faults self.old) (faults self.new) }
+        ensures no_memory { IsErrOf result SinkError.NoMemory → faults self.new ≡ faults self.old }
+        ensures calm { OnOk result (faults self.new ≡ faults self.old) }
+        ensures never_falls { faults self.old ≤ faults self.new }
+        ensures origin { origin self.new ≡ origin self.old };
+}

@@ -1,0 +1,12 @@
+pub mod Questions
+pub mod Handlers
+pub mod ExtendedRows
+pub mod ExecuteRow
+pub mod Executing
+pub mod SimpleRows
+pub mod CopyRows
+pub mod Table
+pub mod Good
+pub mod Noop
+pub mod Lawful
+pub mod Outcomes
