@@ -31,6 +31,7 @@ use pg_messages::{CopyDone, Execute, PgWireFrontendMessage, Query};
 use pg_portal::{PgWireConnectionState, PgWireError, PortalStore};
 use pg_startup::on_startup_phase;
 use std::alloc::Global;
+use std::mem::drop;
 
 /// The same answer, with an error of a message as one of a session.
 #[inline(always)]
@@ -362,7 +363,7 @@ fn on_rarer_statement<
         PgWireFrontendMessage::Close(m) => handlers.extended_query_handler().on_close(client, m),
         PgWireFrontendMessage::Flush(m) => handlers.extended_query_handler().on_flush(client, m),
         other => {
-            let_go(other);
+            drop(other);
             Ok(())
         }
     }
@@ -401,7 +402,7 @@ fn on_awaiting_sync<
             Ok(None)
         }
         other => {
-            let_go(other);
+            drop(other);
             Ok(None)
         }
     }
@@ -480,7 +481,7 @@ fn on_copied<
             Err(handlers.copy_handler().on_copy_fail(alloc, client, m))
         }
         other => {
-            let_go(other);
+            drop(other);
             Ok(())
         }
     }
@@ -539,6 +540,3 @@ fn end_copy<St: PortalStore>(client: &mut Client<St>, is_extended: bool) -> Resu
     client.info.state = PgWireConnectionState::ReadyForQuery;
     Ok(())
 }
-
-/// Lets a message go in one place.
-fn let_go(_message: PgWireFrontendMessage) {}

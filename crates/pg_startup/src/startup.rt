@@ -32,6 +32,7 @@ use pg_outbox::Outbox;
 use pg_portal::{Metadata, PgWireConnectionState, PgWireError, PortalStore};
 use pg_replies::send_ready_for_query;
 use std::alloc::{AllocError, Global};
+use std::mem::drop;
 
 /// Answers a message while the startup packet is awaited (protocol: Message Flow, Start-up). A
 /// request for encryption is answered that there is none. A request to cancel is one call of the
@@ -73,14 +74,11 @@ pub fn on_startup_phase<St: PortalStore, D: CancelDesk>(
             Ok(None)
         }
         other => {
-            let_go(other);
+            drop(other);
             Ok(None)
         }
     }
 }
-
-/// Lets a message go in one place.
-fn let_go(_message: PgWireFrontendMessage) {}
 
 /// Cancels the query of the session that a client names: one call of the registry, and the end.
 fn cancel<D: CancelDesk>(

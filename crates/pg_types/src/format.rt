@@ -9,9 +9,11 @@ use std::collections::BTreeMap;
 
 const DEFAULT_DATE_STYLE: &str = "ISO, YMD";
 
-const DEFAULT_INTERVAL_STYLE: &str = "postgres";
+/// The name of the interval style that is the default.
+pub const INTERVAL_STYLE_POSTGRES: &str = "postgres";
 
-const DEFAULT_BYTEA_OUTPUT: &str = "hex";
+/// The name of the output of byte strings that is the default.
+pub const BYTEA_OUTPUT_HEX: &str = "hex";
 
 const DEFAULT_TIME_ZONE: &str = "Etc/UTC";
 
@@ -40,8 +42,8 @@ impl FormatOptions {
     {
         Ok(FormatOptions {
             date_style: PgStr::copy_of(alloc, DEFAULT_DATE_STYLE)?,
-            interval_style: PgStr::copy_of(alloc, DEFAULT_INTERVAL_STYLE)?,
-            bytea_output: PgStr::copy_of(alloc, DEFAULT_BYTEA_OUTPUT)?,
+            interval_style: PgStr::copy_of(alloc, INTERVAL_STYLE_POSTGRES)?,
+            bytea_output: PgStr::copy_of(alloc, BYTEA_OUTPUT_HEX)?,
             time_zone: PgStr::copy_of(alloc, DEFAULT_TIME_ZONE)?,
             extra_float_digits: DEFAULT_FLOAT_DIGITS,
         })
@@ -73,9 +75,9 @@ impl FormatOptions {
                 alloc,
                 metadata_map,
                 "intervalstyle",
-                DEFAULT_INTERVAL_STYLE,
+                INTERVAL_STYLE_POSTGRES,
             )?,
-            bytea_output: setting_or(alloc, metadata_map, "bytea_output", DEFAULT_BYTEA_OUTPUT)?,
+            bytea_output: setting_or(alloc, metadata_map, "bytea_output", BYTEA_OUTPUT_HEX)?,
             time_zone: PgStr::copy_of(alloc, DEFAULT_TIME_ZONE)?,
         })
     }

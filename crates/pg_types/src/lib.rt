@@ -9,5 +9,5 @@ mod pg_type;
 
 pub use error::CellError;
 pub use field_format::FieldFormat;
-pub use format::FormatOptions;
+pub use format::{BYTEA_OUTPUT_HEX, FormatOptions, INTERVAL_STYLE_POSTGRES};
 pub use pg_type::PgType;

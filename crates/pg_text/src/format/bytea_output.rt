@@ -3,10 +3,8 @@ ghost use Rattle.pg_text.specs.Cells.{IsRead};
 ghost use Rattle.pg_text.specs.Words.{or_invalid, bytea_output_of};
 
 use crate::format::words::{is_name, trimmed};
-use pg_types::CellError;
+use pg_types::{BYTEA_OUTPUT_HEX, CellError};
 use std::alloc::Global;
-
-pub const BYTEA_OUTPUT_HEX: &str = "hex";
 
 pub const BYTEA_OUTPUT_ESCAPE: &str = "escape";
 

@@ -9,10 +9,8 @@ ghost use Rattle.pg_text.specs.Words.{or_invalid, interval_style_of, printed_sty
 use crate::format::words::{is_name, trimmed};
 use bytes::BytesMut;
 use pg_interval::{Interval, IntervalText, ParseError};
-use pg_types::CellError;
+use pg_types::{CellError, INTERVAL_STYLE_POSTGRES};
 use std::alloc::{AllocError, Global};
-
-pub const INTERVAL_STYLE_POSTGRES: &str = "postgres";
 
 pub const INTERVAL_STYLE_ISO_8601: &str = "iso_8601";
 
