@@ -8,6 +8,7 @@ pub mod MessageLaws
 pub mod KindLaws
 pub mod FrameLaws
 pub mod OneReading
+pub mod Readings
 pub mod Texts
 pub mod RowBytes
 pub mod SameBytes

@@ -14,10 +14,20 @@ regroup : {X : Type 0} (front : List X) (x : X) (read : Option (List X × List �
 regroup {X} front x (Some xs) = ap (λ (ys : List X). Some (ys, xs.1)) (simp append_assoc)
 regroup front x None = refl
 
+-- nothing was read before
+front_of_none : {X : Type 0} (front : List X) (read : Option (List X × List ℕ)) → front ≡ [] → with_front front read ≡ read
+front_of_none front (Some xs) none = rw none refl
+front_of_none front None none = refl
+
 -- the cause of an error is what reading gives
 abbrev pub Fails : {Y : Type 0} → FrameError → Option Y → Type 0
 Fails errors.Bad read = read ≡ None
 Fails errors.NoMemory read = Unit {0}
+
+pub begins : {X : Type 0} (field : List ℕ → Option (X × List ℕ)) (front : List X) (count : ℕ) (bytes : List ℕ) → front ≡ []
+    → with_front front (items_at field (count - 0) bytes) ≡ items_at field count bytes
+begins field front count bytes none =
+    let k : count - 0 ≡ count = omega arith in rw k (front_of_none front (items_at field count bytes) none)
 
 pub goes_on : {X : Type 0} (field : List ℕ → Option (X
     × List ℕ)) (front : List X) (count i : ℕ) (bytes : List ℕ) (x : X) (after : List ℕ) (total : Option (List X × List ℕ)) → i < count
