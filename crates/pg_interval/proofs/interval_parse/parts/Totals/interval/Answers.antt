@@ -1,4 +1,4 @@
-use Rattle.std.proofs.Common.{◌≡◌, ◌∙◌, ℕ, ◌*◌, ◌^◌, ◌<◌, ◌≤◌, Bool, true, false, None, Ok, Err, ℤ, pos, negsuc, ◌-ℤ◌, ap, sym, subst, refl, arith, FitsSigned, w32, w64, to_z, of_z}
+use Rattle.std.proofs.Common.{◌≡◌, ◌∙◌, ℕ, ◌*◌, ◌^◌, ◌<◌, ◌≤◌, true, false, None, Ok, Err, ℤ, pos, negsuc, ap, sym, subst, refl, arith, FitsSigned, w32, w64, to_z, of_z}
 use Rattle.std.specs.Int.{Width, w128}
 use Rattle.std.specs.Int.Signed.{mag}
 use mir.Val.{hbits}
