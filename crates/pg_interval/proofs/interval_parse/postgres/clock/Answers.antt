@@ -1,8 +1,9 @@
-use Rattle.std.proofs.Common.{◌++◌, ◌∙◌, ap, sym, arith}
+use Rattle.std.proofs.Common.{◌++◌, ◌∙◌, ap, sym}
 use Rattle.pg_interval.specs.Texts.{begins, is_minus}
 use Rattle.pg_interval.specs.Reader.{capped_decimal}
 use Rattle.pg_interval.specs.Decimals.{number_of}
 use Rattle.pg_interval.proofs.ReadTimes.{no_time, times_no_hours, times_no_minutes, times_are, no_fraction, empty_hours, empty_minutes, empty_seconds, good_time}
+use Rattle.pg_interval.proofs.ReadTokens.{len_zero, len_some}
 use Rattle.pg_interval.proofs.interval_parse.postgres.clock.Goals as goal
 
 pub returns-in_default : goal.returns-in_default
@@ -48,7 +49,7 @@ returns-then-is_empty c =
     c.cut-3.ensures.back in
     let f = c.in-Some-fraction_after.fraction.now in
     let some = c.in-Some-fraction_after.ensures in
-    empty_hours c.args.turn m0 text h m s r3 f e some (grind arith)
+    empty_hours c.args.turn m0 text h m s r3 f e some (len_zero h c.is_empty.result c.is_empty.ensures c.if-is_empty.true)
 
 pub returns-then-is_empty-2 : goal.returns-then-is_empty-2
 returns-then-is_empty-2 c =
@@ -64,7 +65,7 @@ returns-then-is_empty-2 c =
     c.cut-3.ensures.back in
     let f = c.in-Some-fraction_after.fraction.now in
     let some = c.in-Some-fraction_after.ensures in
-    empty_minutes c.args.turn m0 text h m s r3 f e some (grind arith)
+    empty_minutes c.args.turn m0 text h m s r3 f e some (len_zero m c.is_empty-2.result c.is_empty-2.ensures c.if-is_empty-2.true)
 
 pub returns-then-is_empty-3 : goal.returns-then-is_empty-3
 returns-then-is_empty-3 c =
@@ -80,7 +81,7 @@ returns-then-is_empty-3 c =
     c.cut-3.ensures.back in
     let f = c.in-Some-fraction_after.fraction.now in
     let some = c.in-Some-fraction_after.ensures in
-    empty_seconds c.args.turn m0 text h m s r3 f e some (grind arith)
+    empty_seconds c.args.turn m0 text h m s r3 f e some (len_zero s c.is_empty-3.result c.is_empty-3.ensures c.if-is_empty-3.true)
 
 pub returns : goal.returns
 returns c =
@@ -97,5 +98,7 @@ returns c =
     let f = c.in-Some-fraction_after.fraction.now in
     let some = c.in-Some-fraction_after.ensures in
     good_time c.args.turn m0 c.sign_of-minus.result text h m s r3 f _ _ _ e some c.cut.ensures.front c.cut-2.ensures.front
-    c.cut-3.ensures.front (grind arith) (grind arith) (grind arith) c.sign_of-minus.ensures c.number_of.ensures c.number_of-2.ensures
+    c.cut-3.ensures.front (len_some h c.is_empty.result c.is_empty.ensures c.if-is_empty.false)
+    (len_some m c.is_empty-2.result c.is_empty-2.ensures c.if-is_empty-2.false)
+    (len_some s c.is_empty-3.result c.is_empty-3.ensures c.if-is_empty-3.false) c.sign_of-minus.ensures c.number_of.ensures c.number_of-2.ensures
     (c.number_of-3.ensures ∙ ap (λ x. capped_decimal (number_of c.sign_of-minus.result s x)) c.first_six.ensures)
