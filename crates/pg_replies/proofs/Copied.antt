@@ -1,5 +1,5 @@
 -- The data of a COPY, as it is sent item by item.
-use Rattle.std.proofs.Common.{arith, ◌≡◌, ◌++◌, ◌≤◌, ◌+◌, List, [], ◌∷◌, ℕ, Bool, None, Ok, Err, map, length, refl, sym, ap, ◌∙◌, append_assoc}
+use Rattle.std.proofs.Common.{arith, ◌≡◌, ◌++◌, ◌≤◌, ◌+◌, ◌⊎◌, inl, inr, List, [], ◌∷◌, ℕ, Bool, None, Some, Ok, Err, map, length, refl, sym, ap, ◌∙◌, append_assoc}
 use Rattle.std.proofs.lemmas.List.{length-append, append-nil, map-append}
 use Rattle.std.proofs.lemmas.List.Elements.{filter-append}
 use Rattle.std.specs.Prelude.{not}
@@ -9,6 +9,7 @@ use Rattle.pg_messages.specs.declared.backend.PgWireBackendMessage.TheVariants a
 use Rattle.pg_messages.specs.declared.response.TransactionStatus.{TransactionStatus}
 use Rattle.pg_messages.specs.Replies.{replies_bytes}
 use Rattle.pg_results.specs.declared.error.PgWireError.{PgWireError}
+use Rattle.pg_results.specs.declared.error.PgWireError.TheVariants as wire
 use Rattle.pg_results.specs.Copying.{CopyItem}
 use Rattle.pg_results.specs.Describing.{is_empty_list}
 use Rattle.pg_results.specs.Page.{before_error, first_error}
@@ -104,4 +105,20 @@ module _ (status : TransactionStatus) (copying : Bool) (head : PgWireBackendMess
         ap (λ first. (unless_error status copying (head ∷ copy_replies copied) (copy_end (copy_count copied)) first).refusal) h.whole,
         all ∙ ap (λ first. out ++ replies_bytes (unless_error status copying (head ∷ copy_replies copied) (copy_end (copy_count copied))
             first).replies) (sym h.whole),
+      )
+
+-- an error stood in the place of data behind a head
+module _ (status : TransactionStatus) (copying : Bool) (head : PgWireBackendMessage) (c : ToldCopy) (out mid new : List ℕ)
+    (begun : mid ≡ out ++ replies_bytes (head ∷ [])) where
+  pub copy_is_refused : (e : PgWireError) → (e ≡ wire.NoMemory) ⊎ IsRefusedData (copy_items c) mid new e
+      → (e ≡ wire.NoMemory)
+      ⊎ (((sent_copy status copying head c).refusal ≡ Some e) × (new ≡ out ++ replies_bytes (sent_copy status copying head c).replies))
+  copy_is_refused e (inl none) = inl none
+  copy_is_refused e (inr h) =
+      let copied = not_empty (before_error (copy_items c)) in
+      inr (
+        ap (λ first. (unless_error status copying (head ∷ copy_replies copied) (copy_end (copy_count copied)) first).refusal) h.met,
+        sent_behind out mid new (head ∷ []) (copy_replies copied) begun h.replied
+            ∙ ap (λ first. out ++ replies_bytes (unless_error status copying (head ∷ copy_replies copied) (copy_end (copy_count copied))
+            first).replies) (sym h.met),
       )

@@ -1,6 +1,7 @@
--- A RowDescription, and a CommandComplete of few rows, that are appended piece by piece.
-use Rattle.std.proofs.Common.{◌≡◌, ℕ, ℤ, pos, ◌+◌, ◌<◌, ◌≤◌, List, [], ◌∷◌, ◌++◌, length, get_or, Result, Ok, Err, OnErr, FitsSigned, w16, w32, to_z, of_z, map, take, drop, sym, ap, ◌∙◌, append_assoc, arith}
+-- A RowDescription, and a CommandComplete, that are appended piece by piece.
+use Rattle.std.proofs.Common.{◌≡◌, ℕ, ℤ, pos, ◌+◌, ◌^◌, ◌<◌, ◌≤◌, List, [], ◌∷◌, ◌++◌, length, get_or, Result, Ok, Err, OnOk, OnErr, IsErr, FitsSigned, w16, w32, to_z, of_z, map, take, drop, sym, ap, ◌∙◌, append_assoc, arith}
 use Rattle.std.specs.Prelude.{unwrap_or}
+use Rattle.std.specs.Fmt.{decimal}
 use Rattle.std.specs.List.{flat_map}
 use Rattle.std.proofs.lemmas.Fmt.{decimal_digit}
 use Rattle.std.proofs.lemmas.Int.{ints, to_z-of_z}
@@ -124,6 +125,10 @@ pub on_err : {A E P : Type 0} (r : Result A E) → P → OnErr r P
 on_err (Ok a) p = tt
 on_err (Err e) p = p
 
+pub no_ok : {A E : Type 0} (r : Result A E) (P : Type 0) → IsErr r → OnOk r P
+no_ok (Ok a) P h = cc
+no_ok (Err e) P h = tt
+
 -- a number of one digit behind its space
 spaced_digit : (n : ℕ) → n < 10 → spaced n ≡ 32 ∷ (48 + n) ∷ []
 spaced_digit n lt = ap (λ (l : List ℕ). 32 ∷ l) (decimal_digit n lt)
@@ -152,5 +157,40 @@ few_appended command n out head begun named new lt h p q e =
     ap (λ (l : List ℕ). l ++ (command ++ (32 ∷ (48 + n) ∷ 0 ∷ []))) h
     ∙ ap (λ (m : ℕ). (67 ∷ count32 (4 + m)) ++ (command ++ (32 ∷ (48 + n) ∷ 0 ∷ []))) (sym (few_length command n lt))
     ∙ ap (λ (l : List ℕ). (67 ∷ count32 (4 + length (reply_body (done_with command n)))) ++ l) (sym (few_body command n lt))
+    ∙ one_reply (done_with command n)
+    )
+
+-- the body of a CommandComplete of so many rows: the command, a space, the digits and a zero byte
+many_body : (command digits : List ℕ) (n : ℕ) → digits ≡ decimal n
+    → reply_body (done_with command n) ≡ command ++ (32 ∷ (digits ++ 0 ∷ []))
+many_body command digits n is =
+    append_assoc command (spaced n) (0 ∷ []) ∙ ap (λ (l : List ℕ). command ++ (32 ∷ (l ++ 0 ∷ []))) (sym is)
+
+many_length : (command digits : List ℕ) (n : ℕ) → digits ≡ decimal n
+    → length (reply_body (done_with command n)) ≡ length command + length digits + 2
+many_length command digits n is =
+    let whole = ap length (many_body command digits n is) ∙ length-append command (32 ∷ (digits ++ 0 ∷ [])) in
+    omega (arith, whole, length-append digits (0 ∷ []))
+
+pub many_fit : (command digits : List ℕ) (n : ℕ) → n < 2 ^ 64 → digits ≡ decimal n → IsTag command
+    → length command + length digits + 2 ≤ 1073741823
+many_fit command digits n lt is tag =
+    let good = tag n lt in
+    let body = good.body in
+    omega (arith, body, many_length command digits n is)
+
+-- the head, the command, a space, the digits and a zero byte
+pub many_appended : (command digits : List ℕ) (n : ℕ) (out head begun named apart counted new : List ℕ) → digits ≡ decimal n
+    → head ≡ 67 ∷ count32 (4 + (length command + length digits + 2)) → begun ≡ out ++ head → named ≡ begun ++ command
+    → apart ≡ named ++ (32 ∷ []) → counted ≡ apart ++ digits → new ≡ counted ++ (0 ∷ [])
+    → new ≡ out ++ replies_bytes (done_with command n ∷ [])
+many_appended command digits n out head begun named apart counted new is h p q r s e =
+    let rest = command ++ (32 ∷ (digits ++ 0 ∷ [])) in
+    let late = behind named apart new (32 ∷ []) (digits ++ 0 ∷ []) r (behind apart counted new digits (0 ∷ []) s e) in
+    behind out begun new head rest p (behind begun named new command (32 ∷ (digits ++ 0 ∷ [])) q late)
+    ∙ ap (λ (l : List ℕ). out ++ l) (
+    ap (λ (l : List ℕ). l ++ rest) h
+    ∙ ap (λ (m : ℕ). (67 ∷ count32 (4 + m)) ++ rest) (sym (many_length command digits n is))
+    ∙ ap (λ (l : List ℕ). (67 ∷ count32 (4 + length (reply_body (done_with command n)))) ++ l) (sym (many_body command digits n is))
     ∙ one_reply (done_with command n)
     )
