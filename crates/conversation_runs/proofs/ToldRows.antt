@@ -71,6 +71,14 @@ pub startup_refused : {S : Type 0} (h : Handlers S) (s : State S) (m : PgWireFro
 startup_refused h s m out new_out calls new_calls n answer is x = subst (λ p. IfErr answer (IsRefusedRow
     (λ answers. row h answers s m p) out new_out calls new_calls n)) (sym is) x
 
+pub startup_ok : {S : Type 0} (h : Handlers S) (s : State S) (m : PgWireFrontendMessage) (out new_out : List ℕ)
+    (calls new_calls : List DeskCall) (n : State S) (answer : Result (Option EndKind) SessionError)
+    → s.info.state ≡ phase.AwaitingStartup
+    → IfOk answer (λ end. IsRow (λ answers. startup_row answers s m) out new_out calls new_calls (outcome_of end n))
+    → IfOk answer (λ end. IsRow (λ answers. message_row h answers s m) out new_out calls new_calls (outcome_of end n))
+startup_ok h s m out new_out calls new_calls n answer is x = subst (λ p. IfOk answer (λ end. IsRow
+    (λ answers. row h answers s m p) out new_out calls new_calls (outcome_of end n))) (sym is) x
+
 pub ready_ok : {S : Type 0} (h : Handlers S) (s : State S) (m : PgWireFrontendMessage) (out new_out : List ℕ)
     (calls new_calls : List DeskCall) (n : State S) (answer : Result (Option EndKind) SessionError)
     → s.info.state ≡ phase.ReadyForQuery
