@@ -1,13 +1,18 @@
-use Rattle.std.proofs.Common.{◌≡◌, ◌≢◌, ◌++◌, [], refl, ap, sym, subst, ◌∙◌, append-nil, append_assoc, Result, Ok, Err}
+use Rattle.std.proofs.Common.{◌≡◌, ◌≢◌, ◌==◌, ℕ, List, ◌++◌, [], arith, length, length-append, true, refl, ap, sym, subst, ◌∙◌, append-nil, append_assoc, Result, Ok, Err}
+use Rattle.std.proofs.lemmas.Bool.Decides.{nat_tests}
+use Rattle.std.proofs.lemmas.List.{nil_from_length}
 use Rattle.conversation_runs.specs.declared.ends.Progress.{Progress}
 use Rattle.conversation_runs.specs.declared.ends.Progress.TheVariants as progress
 use Rattle.conversation_runs.specs.declared.ends.ServeError.{ServeError}
 use Rattle.cursor_table.specs.CursorTable.{cursor_rules}
 use Rattle.cursor_table.proofs.CursorLaws.{rules_lawful}
-use Rattle.cursor_session.specs.Fronts.{Takes, around, rest_of}
+use Rattle.cursor_session.specs.Fronts.{IsPart, Takes, around, rest_of}
 use Rattle.cursor_session.specs.Seen.{front_seen}
 use Rattle.cursor_session.proofs.Taking.{takes_none, takes_next, takes_last, split_again}
 use Rattle.cursor_session.proofs.parts.Front.take.Goals as goal
+
+nothing_left : (rest : List ℕ) → true ≡ (length rest == 0) → rest ≡ []
+nothing_left rest e = nil_from_length rest (grind (arith, nat_tests))
 
 pub parts-init : goal.parts-init
 parts-init g c =
@@ -86,3 +91,46 @@ parts-preserved g c =
       stands = c.in-Ok-More.ensures.stands (ap Ok c.in-Ok-More.field-0-is);
       handlers = c.in-Ok-More.ensures.handlers ∙ i.handlers;
     }
+
+pub returns-in-Ok-Ended-clause-stands : goal.returns-in-Ok-Ended-clause-stands
+returns-in-Ok-Ended-clause-stands g c = λ more. absurd (let k = more in cc)
+
+pub returns-in-Ok-Ended-clause-handlers : goal.returns-in-Ok-Ended-clause-handlers
+returns-in-Ok-Ended-clause-handlers g c = c.in-Ok-Ended.ensures.handlers ∙ c.parts.invariant.handlers
+
+pub returns-in-Err-clause-stands : goal.returns-in-Err-clause-stands
+returns-in-Err-clause-stands g c = λ more. absurd (let k = more in cc)
+
+pub returns-in-Err-clause-handlers : goal.returns-in-Err-clause-handlers
+returns-in-Err-clause-handlers g c = c.in-Err.ensures.handlers ∙ c.parts.invariant.handlers
+
+pub returns : goal.returns
+returns g c =
+    let i = c.parts.invariant in
+    let none : c.parts.rest.now ≡ [] = nothing_left c.parts.rest.now c.parts-test.ensures in
+    record {
+      took = rw (i.split ∙ ap (λ l. i.taken ++ l) none ∙ append-nil i.taken) i.took;
+      stands = λ more. i.stands;
+      handlers = i.handlers;
+    }
+
+pub part_len-requires-clause-stands : goal.part_len-requires-clause-stands
+part_len-requires-clause-stands g c = c.parts.invariant.stands
+
+pub split_at-requires : goal.split_at-requires
+split_at-requires g c = c.part_len.ensures.within
+
+pub step-requires : goal.step-requires
+step-requires g c = record {
+  stands = c.parts.invariant.stands;
+  part = rw c.split_at.ensures.front c.part_len.ensures.part;
+}
+
+pub parts-smaller : goal.parts-smaller
+parts-smaller g c =
+    let part = c.split_at.result.0.now in let behind = c.split_at.result.1.now in
+    let own : IsPart (front_seen g.C.FrontedSession.seen c.parts.self) part = rw c.split_at.ensures.front c.part_len.ensures.part in
+    let some = own.some in
+    let all = ap length (split_again c.parts.rest.now part behind c.part_len.result c.split_at.ensures.front c.split_at.ensures.back)
+    ∙ length-append part behind in
+    omega (arith, all, some)
