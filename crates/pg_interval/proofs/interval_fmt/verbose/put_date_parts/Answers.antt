@@ -37,7 +37,8 @@ dates_put n ago y m d all two one end years months days e f g = rw (e, f, g, yea
 pub put_verbose_part-days-requires-clause-room : goal.put_verbose_part-days-requires-clause-room
 put_verbose_part-days-requires-clause-room c =
     let n = c.args.fields.now in
-    room_for 10 47 _ _ (omega arith) (passed_long 10 n.days c.from.result (search rules) c.from.ensures c.requires.widths.days) c.requires.room
+    let days = passed_long 10 n.days c.from.result (search rules) c.from.ensures c.requires.widths.days in
+    room_for 10 47 _ _ (omega arith) days c.requires.room
 
 pub put_verbose_part-months-requires-clause-room : goal.put_verbose_part-months-requires-clause-room
 put_verbose_part-months-requires-clause-room c =

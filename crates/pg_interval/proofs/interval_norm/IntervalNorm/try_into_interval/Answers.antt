@@ -1,4 +1,4 @@
-use Rattle.std.proofs.Common.{◌≡◌, ◌∙◌, ap, sym, subst, refl, ℤ, FitsSigned, rules, w32, w64, to_z, of_z, Result, Ok, Err}
+use Rattle.std.proofs.Common.{◌≡◌, ◌∙◌, ap, sym, subst, refl, false, true, ℤ, FitsSigned, rules, w32, w64, to_z, of_z, Result, Ok, Err}
 use Rattle.std.specs.Int.{Width, w128}
 use Rattle.std.proofs.lemmas.Int.{to_z-of_z}
 use Rattle.pg_interval.specs.declared.pg_interval.Interval.{Interval}
@@ -23,6 +23,12 @@ outside w r z within e not_fit fits = not_fit (subst (FitsSigned w) (sym (passed
 no_time : (e : ParseError) → e ≡ InvalidYearMonth Overflow → e ≡ InvalidTime Overflow → ⊥
 no_time e is other = cc
 
+false_true : false ≡ true → ⊥
+false_true e = cc
+
+ok_err : (i : Interval) (a : ParseError) (r : Result Interval ParseError) → r ≡ Ok i → r ≡ Err a → ⊥
+ok_err i a r e f = cc
+
 from_err : (a b : ParseError) (r : Result Interval ParseError) → r ≡ Err a → r ≡ Err b → a ≡ b
 from_err a b r e f = cc
 
@@ -30,7 +36,7 @@ pub returns-in_default-clause-succeeds : goal.returns-in_default-clause-succeeds
 returns-in_default-clause-succeeds c =
     let whole : FitsSigned w128 c.total_months.result = record { sfits = c.total_months.type_inv } in
     let no = outside w32 _ _ whole c.total_months.ensures c.in_default.ensures in
-    (λ e. absurd (cc), λ fits. absurd (no fits.months))
+    (λ e. absurd (false_true e), λ fits. absurd (no fits.months))
 
 pub returns-in_default-clause-year_month : goal.returns-in_default-clause-year_month
 returns-in_default-clause-year_month c =
@@ -47,7 +53,7 @@ pub returns-in_default-try_from-clause-succeeds : goal.returns-in_default-try_fr
 returns-in_default-try_from-clause-succeeds c =
     let whole : FitsSigned w128 c.total_microseconds.result = record { sfits = c.total_microseconds.type_inv } in
     let no = outside w64 _ _ whole c.total_microseconds.ensures c.in_default-try_from.ensures in
-    (λ e. absurd (cc), λ fits. absurd (no fits.microseconds))
+    (λ e. absurd (false_true e), λ fits. absurd (no fits.microseconds))
 
 pub returns-in_default-try_from-clause-year_month : goal.returns-in_default-try_from-clause-year_month
 returns-in_default-try_from-clause-year_month c =
@@ -67,13 +73,13 @@ pub returns-clause-year_month : goal.returns-clause-year_month
 returns-clause-year_month c =
     let whole : FitsSigned w128 c.total_months.result = record { sfits = c.total_months.type_inv } in
     let fits = inside w32 _ _ whole c.total_months.ensures c.in-Ok.ensures.0 in
-    (λ e. absurd (cc), λ no. absurd (no fits))
+    (λ e. absurd (ok_err _ _ _ refl e), λ no. absurd (no fits))
 
 pub returns-clause-time : goal.returns-clause-time
 returns-clause-time c =
     let whole : FitsSigned w128 c.total_microseconds.result = record { sfits = c.total_microseconds.type_inv } in
     let fits = inside w64 _ _ whole c.total_microseconds.ensures c.in-Ok-try_from.ensures.0 in
-    (λ e. absurd (cc), λ no. absurd (no.1 fits))
+    (λ e. absurd (ok_err _ _ _ refl e), λ no. absurd (no.1 fits))
 
 pub returns-in_default-clause-inverse : goal.returns-in_default-clause-inverse
 returns-in_default-clause-inverse c i fits form =

@@ -100,5 +100,6 @@ returns c =
     good_time c.args.turn m0 c.sign_of-minus.result text h m s r3 f _ _ _ e some c.cut.ensures.front c.cut-2.ensures.front
     c.cut-3.ensures.front (len_some h c.is_empty.result c.is_empty.ensures c.if-is_empty.false)
     (len_some m c.is_empty-2.result c.is_empty-2.ensures c.if-is_empty-2.false)
-    (len_some s c.is_empty-3.result c.is_empty-3.ensures c.if-is_empty-3.false) c.sign_of-minus.ensures c.number_of.ensures c.number_of-2.ensures
+    (len_some s c.is_empty-3.result c.is_empty-3.ensures c.if-is_empty-3.false) c.sign_of-minus.ensures
+    c.number_of.ensures c.number_of-2.ensures
     (c.number_of-3.ensures ∙ ap (λ x. capped_decimal (number_of c.sign_of-minus.result s x)) c.first_six.ensures)

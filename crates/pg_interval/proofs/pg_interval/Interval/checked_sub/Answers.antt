@@ -10,19 +10,22 @@ pub returns-in_err-months : goal.returns-in_err-months
 returns-in_err-months c =
     let a : FitsSigned w32 c.args.self.months = search rules in
     let b : FitsSigned w32 c.args.other_interval.months = search rules in
-    SomeIff-none _ _ _ c.from_residual.ensures (λ difference. c.in_err-months.ensures (simp to_z-of_z difference.months))
+    SomeIff-none _ _ _ c.from_residual.ensures
+    (λ difference. c.in_err-months.ensures (simp to_z-of_z difference.months))
 
 pub returns-in_err-days : goal.returns-in_err-days
 returns-in_err-days c =
     let a : FitsSigned w32 c.args.self.days = search rules in
     let b : FitsSigned w32 c.args.other_interval.days = search rules in
-    SomeIff-none _ _ _ c.from_residual-in_err-days.ensures (λ difference. c.in_err-days.ensures (simp to_z-of_z difference.days))
+    SomeIff-none _ _ _ c.from_residual-in_err-days.ensures
+    (λ difference. c.in_err-days.ensures (simp to_z-of_z difference.days))
 
 pub returns-in_err-microseconds : goal.returns-in_err-microseconds
 returns-in_err-microseconds c =
     let a : FitsSigned w64 c.args.self.microseconds = search rules in
     let b : FitsSigned w64 c.args.other_interval.microseconds = search rules in
-    SomeIff-none _ _ _ c.from_residual-in_err-microseconds.ensures (λ difference. c.in_err-microseconds.ensures (simp to_z-of_z difference.microseconds))
+    SomeIff-none _ _ _ c.from_residual-in_err-microseconds.ensures
+    (λ difference. c.in_err-microseconds.ensures (simp to_z-of_z difference.microseconds))
 
 pub returns : goal.returns
 returns c =
@@ -39,6 +42,8 @@ returns c =
     let microseconds_a : FitsSigned w64 a.microseconds = search rules in
     let microseconds_b : FitsSigned w64 b.microseconds = search rules in
     let microseconds_fit : FitsSigned w64 (a.microseconds -ℤ b.microseconds) = simp to_z-of_z at c.in_ok-microseconds.ensures.0 in
-    let microseconds_is : c.in_ok-microseconds.microseconds ≡ a.microseconds -ℤ b.microseconds = simp to_z-of_z at c.in_ok-microseconds.ensures.1 in
-    let fits : IsInterval (interval_difference a b) = record { months = months_fit; days = days_fit; microseconds = microseconds_fit } in
+    let microseconds_is : c.in_ok-microseconds.microseconds ≡ a.microseconds -ℤ b.microseconds =
+    simp to_z-of_z at c.in_ok-microseconds.ensures.1 in
+    let fits : IsInterval (interval_difference a b) =
+    record { months = months_fit; days = days_fit; microseconds = microseconds_fit } in
     (fits, same_interval _ _ (simp (months_is, to_z-of_z)) (simp (days_is, to_z-of_z)) (simp (microseconds_is, to_z-of_z)))

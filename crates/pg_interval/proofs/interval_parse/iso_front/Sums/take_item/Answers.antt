@@ -78,7 +78,8 @@ returns-then-letter-eq46-clause-left c =
     let rest = c.in-Some-fraction_front.rest.now in
     let n = c.in-Some.whole in
     let f = c.in-Some-fraction_front.fraction in
-    let more : to_z w64 (of_z w64 c.signed.result) ≡ _ = to_z-of_z {w = w64} {z = c.signed.result} (record { sfits = c.signed.type_inv }) ∙ c.signed.ensures
+    let more : to_z w64 (of_z w64 c.signed.result) ≡ _ = to_z-of_z {w = w64} {z = c.signed.result} (record { sfits = c.signed.type_inv })
+    ∙ c.signed.ensures
     ∙ ap (λ b. with_sign b (1000000 * n + f)) c.sign_of-minus.ensures in
     ap (λ b. left b (Ok (sums_of s)) text) c.if-not-self.false
     ∙ second_read (sums_of s) (sums_of t) text c.without_minus.result.now c.in-Some.behind.now rest n f c.without_minus.ensures
