@@ -1,6 +1,6 @@
-use Rattle.std.proofs.Common.{◌≡◌, ◌++◌, ◌+◌, ◌<◌, ℕ, zero, suc, List, [], ◌∷◌, length, get_or, Option, Some, Ok, Err, sym, ap, subst, ◌∙◌, arith}
+use Rattle.std.proofs.Common.{◌≡◌, ◌++◌, ◌+◌, ◌*◌, ◌^◌, ◌<◌, ◌≤◌, ℕ, zero, suc, List, [], ◌∷◌, length, get_or, Option, Some, Ok, Err, sym, ap, subst, ◌∙◌, arith}
 use Rattle.std.specs.Prelude.{slice_get, IsSomeAnd}
-use Rattle.std.proofs.lemmas.Result.{err_from_is_err_and}
+use Rattle.std.proofs.lemmas.Result.{err_from_is_err_and, IfOk-from_err}
 use Rattle.pg_text.specs.Cells.{Cell, AtCell}
 use Rattle.pg_portal.specs.Encoding.{RowSoFar, cell_bytes, columns_left, field_cell, with_cell, IsRefusal}
 use Rattle.pg_results.specs.Fields.{Field}
@@ -33,6 +33,37 @@ made : (v row : RowSoFar) (payload : List ℕ) (cell : Option (List ℕ)) → v 
     → record { fields = v.fields; payload = payload; cells = v.cells + 1 } ≡ with_cell row cell
 made v row payload cell view e =
     ap (λ (p : List ℕ). record { fields = v.fields; payload = p; cells = v.cells + 1 }) e ∙ ap (λ (r : RowSoFar). with_cell r cell) view
+
+as_it_was : (v row : RowSoFar) (payload : List ℕ) → v ≡ row → payload ≡ v.payload
+    → record { fields = v.fields; payload = payload; cells = v.cells } ≡ row
+as_it_was v row payload view e = ap (λ (p : List ℕ). record { fields = v.fields; payload = p; cells = v.cells }) e ∙ view
+
+one_more : (n : ℕ) → n ≤ 32767 → n + 1 < 2 ^ 16
+one_more n few = omega (arith, few)
+
+pub overflow_add-self : goal.overflow_add-self
+overflow_add-self g c = record { fits = one_more c.self.inside.cells c.self.invariant.0 }
+
+pub invariant_of-self : goal.invariant_of-self
+invariant_of-self g c = (
+  c.self.invariant.0,
+  subst (λ (l : List ℕ). length l ≤ c.self.inside.cells * 32004) (sym c.in_err-push_value.ensures.unchanged) c.self.invariant.1,
+  c.self.invariant.2,
+)
+
+pub returns-in_err-push_value-clause-cell : goal.returns-in_err-push_value-clause-cell
+returns-in_err-push_value-clause-cell g c = IfOk-from_err c.from_residual.result _ c.from_residual.ensures.0
+
+pub returns-in_err-push_value-clause-unchanged : goal.returns-in_err-push_value-clause-unchanged
+returns-in_err-push_value-clause-unchanged g c =
+    let p = err_from_is_err_and c.from_residual.result c.from_residual.ensures.1 in
+    rw p.1 (as_it_was _ c.args.self.now c.push_value.new.payload.items c.self.view_is c.in_err-push_value.ensures.unchanged)
+
+pub returns-clause-unchanged : goal.returns-clause-unchanged
+returns-clause-unchanged g c = tt
+
+pub returns-clause-refusal : goal.returns-clause-refusal
+returns-clause-refusal g c = tt
 
 pub returns-clause-cell : goal.returns-clause-cell
 returns-clause-cell g c =
