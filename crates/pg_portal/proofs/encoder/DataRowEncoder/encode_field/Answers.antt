@@ -1,8 +1,9 @@
-use Rattle.std.proofs.Common.{◌≡◌, ◌++◌, ◌+◌, ◌*◌, ◌^◌, ◌<◌, ◌≤◌, ℕ, zero, suc, List, [], ◌∷◌, length, get_or, Option, Some, Ok, Err, sym, ap, subst, ◌∙◌, arith}
+use Rattle.std.proofs.Common.{◌≡◌, ◌++◌, ◌+◌, ◌*◌, ◌^◌, ◌<◌, ◌≤◌, ℕ, zero, suc, List, [], ◌∷◌, length, get_or, Option, None, Some, Ok, Err, refl, sym, ap, subst, ◌∙◌, arith}
 use Rattle.std.specs.Prelude.{slice_get, IsSomeAnd}
+use Rattle.std.proofs.lemmas.List.{length-append}
 use Rattle.std.proofs.lemmas.Result.{err_from_is_err_and, IfOk-from_err}
-use Rattle.pg_text.specs.Cells.{Cell, AtCell}
-use Rattle.pg_portal.specs.Encoding.{RowSoFar, cell_bytes, columns_left, field_cell, with_cell, IsRefusal}
+use Rattle.pg_text.specs.Cells.{Cell, AtCell, IsShort}
+use Rattle.pg_portal.specs.Encoding.{RowSoFar, cell_bytes, columns_left, field_cell, frame, with_cell, IsRefusal}
 use Rattle.pg_results.specs.Fields.{Field}
 use Rattle.pg_portal.proofs.encoder.DataRowEncoder.encode_field.Goals as goal
 
@@ -40,6 +41,44 @@ as_it_was v row payload view e = ap (λ (p : List ℕ). record { fields = v.fiel
 
 one_more : (n : ℕ) → n ≤ 32767 → n + 1 < 2 ^ 16
 one_more n few = omega (arith, few)
+
+within_columns : (v row : RowSoFar) (xs ys : List Field) (i : ℕ) → v ≡ row → xs ≡ ys → ys ≡ v.fields → i ≡ v.cells
+    → 0 < columns_left row → i < length xs
+within_columns v row xs ys i view same all at some =
+    omega (arith, ap length (same ∙ all), ap (λ (r : RowSoFar). columns_left r) view, at, some)
+
+next_fits : (v row : RowSoFar) → v ≡ row → 0 < columns_left row → length v.fields ≤ 32767 → v.cells + 1 ≤ 32767
+next_fits v row view some few = omega (arith, ap (λ (r : RowSoFar). columns_left r) view, some, few)
+
+grows : (cell : Cell) (old new : List ℕ) (n : ℕ) → AtCell cell (λ c. (new ≡ old ++ cell_bytes c) × IsShort c)
+    → length old ≤ n * 32004 → length new ≤ (n + 1) * 32004
+grows (Ok None) old new n h few =
+    let four : length (frame None) ≡ 4 = refl in
+    omega (arith, ap length h.0 ∙ length-append old (frame None), four, few)
+grows (Ok (Some bytes)) old new n h few =
+    let four : length (frame (Some (length bytes))) ≡ 4 = refl in
+    let short = h.1 in
+    omega (
+      arith,
+      ap length h.0 ∙ length-append old (cell_bytes (Some bytes)),
+      length-append (frame (Some (length bytes))) bytes,
+      four,
+      short,
+      few,
+    )
+grows (Err e) old new n h few = absurd h
+
+pub bounds-as_slice-from : goal.bounds-as_slice-from
+bounds-as_slice-from g c =
+    within_columns _ c.args.self.now _ _ _ c.self.view_is c.as_slice.ensures c.deref.ensures c.from.ensures c.requires
+
+pub invariant_of-self-2 : goal.invariant_of-self-2
+invariant_of-self-2 g c = (
+  next_fits _ c.args.self.now c.self.view_is c.requires c.self.invariant.2,
+  grows _ c.self.inside.payload.items c.push_value.new.payload.items c.self.inside.cells c.in_ok-push_value.ensures.cell
+      c.self.invariant.1,
+  c.self.invariant.2,
+)
 
 pub overflow_add-self : goal.overflow_add-self
 overflow_add-self g c = record { fits = one_more c.self.inside.cells c.self.invariant.0 }
