@@ -1,6 +1,7 @@
 use Rattle.pg_client.specs.State.{State, state_of}
 use Rattle.conversation_table.proofs.GoodStores.{good_parts}
-use Rattle.std.proofs.Common.{◌≡◌, ◌++◌, ◌∙◌, ⊎_elim, ℕ, List, [], Bool, Option, Some, None, ap, sym, subst, inl, append-nil, append_assoc}
+use Rattle.std.proofs.Common.{◌≡◌, ◌++◌, ◌∙◌, ⊎_elim, ℕ, List, [], Bool, Option, Some, None, ap, sym, subst, inl}
+use Rattle.std.proofs.Common.{append-nil, append_assoc}
 use Rattle.std.proofs.lemmas.Result.{err_from_is_err_and}
 use Rattle.pg_messages.specs.Replies.{replies_bytes}
 use Rattle.pg_replies.specs.Replies.{Replies}
@@ -19,8 +20,8 @@ two_replied out mid new a b first last =
     ∙ ap (λ w. out ++ w) (sym (replies_bytes-append a b))
 
 -- what the handler refuses is the same, whatever would follow
-step_refused : {S : Type 0} (s t : State S) (replies : Replies) (refusal : Option PgWireError) (others : Effect S) (out new : List ℕ)
-    (e : PgWireError) → IsRefusedEffect (stepped s replies refusal (says [] s)) out new t e
+step_refused : {S : Type 0} (s t : State S) (replies : Replies) (refusal : Option PgWireError) (others : Effect S)
+    (out new : List ℕ) (e : PgWireError) → IsRefusedEffect (stepped s replies refusal (says [] s)) out new t e
     → IsRefusedEffect (stepped s replies refusal others) out new t e
 step_refused s t replies None others out new e x = ⊎_elim (λ none. inl none) (λ told. absurd (let k = told.came in cc)) x
 step_refused s t replies (Some w) others out new e x = x
@@ -107,8 +108,8 @@ returns-clause-ok g c =
     let step = (g.H.Copying.CopyHandler.told c.copy_handler.result.now).on_done s.info in
     let mid = c.on_copy_done.new.client in
     let last = c.end_copy.new.client in
-    rw (← c.copy_handler.ensures) (step_done s (state_of g.St.PortalStore.maps mid) (state_of g.St.PortalStore.maps last) step.replies
-    step.refusal c.args.is_extended c.args.client.now.outbox mid.outbox last.outbox c.in_ok-on_copy_done.ensures.ok
+    rw (← c.copy_handler.ensures) (step_done s (state_of g.St.PortalStore.maps mid) (state_of g.St.PortalStore.maps last)
+    step.replies step.refusal c.args.is_extended c.args.client.now.outbox mid.outbox last.outbox c.in_ok-on_copy_done.ensures.ok
     c.in_ok-end_copy.ensures.ok)
 
 pub returns-clause-refused : goal.returns-clause-refused

@@ -66,7 +66,8 @@ returns-in-CopyFail-clause-ok g c = tt
 pub returns-in-CopyFail-clause-refused : goal.returns-in-CopyFail-clause-refused
 returns-in-CopyFail-clause-refused g c =
     rw c.in-CopyFail.is (rw (← c.copy_handler-in-CopyFail.ensures) (rw c.on_copy_fail.ensures.same
-    (given_up (state_of g.St.PortalStore.maps c.args.client.now) _ c.on_copy_fail.result c.args.client.now.outbox c.on_copy_fail.ensures.error)))
+    (given_up (state_of g.St.PortalStore.maps c.args.client.now) _ c.on_copy_fail.result c.args.client.now.outbox
+    c.on_copy_fail.ensures.error)))
 
 pub returns-in-CopyFail-clause-answerable : goal.returns-in-CopyFail-clause-answerable
 returns-in-CopyFail-clause-answerable g c = c.on_copy_fail.ensures.answerable

@@ -51,7 +51,8 @@ pub returns-in-Describe-clause-ok : goal.returns-in-Describe-clause-ok
 returns-in-Describe-clause-ok g c = rw c.in-Describe.is (rw (← c.extended_query_handler.ensures) c.on_describe.ensures.ok)
 
 pub returns-in-Describe-clause-refused : goal.returns-in-Describe-clause-refused
-returns-in-Describe-clause-refused g c = rw c.in-Describe.is (rw (← c.extended_query_handler.ensures) c.on_describe.ensures.refused)
+returns-in-Describe-clause-refused g c =
+    rw c.in-Describe.is (rw (← c.extended_query_handler.ensures) c.on_describe.ensures.refused)
 
 pub returns-in-Describe-clause-answerable : goal.returns-in-Describe-clause-answerable
 returns-in-Describe-clause-answerable g c = c.on_describe.ensures.answerable
@@ -84,12 +85,15 @@ pub on_close-requires-clause-good : goal.on_close-requires-clause-good
 on_close-requires-clause-good g c = rw c.extended_query_handler-in-Close.ensures c.requires.good
 
 pub returns-in-Flush-clause-ok : goal.returns-in-Flush-clause-ok
-returns-in-Flush-clause-ok g c = rw c.in-Flush.is (rw c.on_flush.ensures.same (nothing_said (state_of g.St.PortalStore.maps c.args.client.now) c.args.client.now.outbox c.on_flush.result))
+returns-in-Flush-clause-ok g c =
+    rw c.in-Flush.is (rw c.on_flush.ensures.same (nothing_said (state_of g.St.PortalStore.maps c.args.client.now)
+    c.args.client.now.outbox c.on_flush.result))
 
 pub returns-in-Flush-clause-refused : goal.returns-in-Flush-clause-refused
 returns-in-Flush-clause-refused g c =
     let s = state_of g.St.PortalStore.maps c.args.client.now in
-    memory_refused (statement_row (g.H.PgWireServerHandlers.told c.args.handlers.now).extended s c.args.message) c.args.client.now.outbox c.on_flush.new.client.outbox
+    memory_refused (statement_row (g.H.PgWireServerHandlers.told c.args.handlers.now).extended s c.args.message)
+    c.args.client.now.outbox c.on_flush.new.client.outbox
     (state_of g.St.PortalStore.maps c.on_flush.new.client) c.on_flush.result c.on_flush.ensures.refused
 
 pub returns-in-Flush-clause-answerable : goal.returns-in-Flush-clause-answerable
@@ -107,8 +111,8 @@ on_flush-requires-clause-good g c = rw c.extended_query_handler-in-Flush.ensures
 pub returns-in_default : goal.returns-in_default
 returns-in_default g c =
     record {
-      ok = nothing_rarer (g.H.PgWireServerHandlers.told c.args.handlers.now).extended (state_of g.St.PortalStore.maps c.args.client.now)
-          c.args.message c.args.client.now.outbox c.requires.plain c.requires.no_parse c.requires.no_bind c.requires.no_sync
+      ok = nothing_rarer (g.H.PgWireServerHandlers.told c.args.handlers.now).extended
+          (state_of g.St.PortalStore.maps c.args.client.now) c.args.message c.args.client.now.outbox c.requires.plain c.requires.no_parse c.requires.no_bind c.requires.no_sync
           c.in_default.not-Describe c.in_default.not-Close;
       refused = tt;
       answerable = tt;

@@ -17,8 +17,8 @@ use Rattle.conversation_runs.specs.Messages.{going}
 use Rattle.pg_session.proofs.messages.on_ready.Goals as goal
 
 -- a message that doesn't end the conversation
-going_ok : {S A : Type 0} (row : Row S) (out new : List ℕ) (calls new_calls : List DeskCall) (t : State S) (answer : Result A SessionError)
-    → OnOk answer (IsRow row out new calls new_calls (Done t))
+going_ok : {S A : Type 0} (row : Row S) (out new : List ℕ) (calls new_calls : List DeskCall) (t : State S)
+    (answer : Result A SessionError) → OnOk answer (IsRow row out new calls new_calls (Done t))
     → IfOk (going answer) (λ end. IsRow row out new calls new_calls (outcome_of end t))
 going_ok row out new calls new_calls t (Ok done) x = x
 going_ok row out new calls new_calls t (Err error) x = tt
@@ -60,10 +60,12 @@ returns-in_default g c =
     }
 
 pub returns-in-Query-clause-refused : goal.returns-in-Query-clause-refused
-returns-in-Query-clause-refused g c = rw c.in-Query.is (rw c.going.ensures (going_refused _ c.on_query.result c.on_query.ensures.refused))
+returns-in-Query-clause-refused g c =
+    rw c.in-Query.is (rw c.going.ensures (going_refused _ c.on_query.result c.on_query.ensures.refused))
 
 pub returns-in-Execute-clause-refused : goal.returns-in-Execute-clause-refused
-returns-in-Execute-clause-refused g c = rw c.in-Execute.is (rw c.going-in-Execute.ensures (going_refused _ c.on_execute.result c.on_execute.ensures.refused))
+returns-in-Execute-clause-refused g c =
+    rw c.in-Execute.is (rw c.going-in-Execute.ensures (going_refused _ c.on_execute.result c.on_execute.ensures.refused))
 
 pub returns-in-Query-clause-good : goal.returns-in-Query-clause-good
 returns-in-Query-clause-good g c = c.on_query.ensures.good
@@ -89,8 +91,8 @@ returns-in-Query-clause-ok g c =
     let s = state_of g.St.PortalStore.maps c.args.client.now in
     let answered = c.on_query in
     let m = c.args.message in
-    rw c.going.ensures (going_ok (λ answers. ready_row h answers s m) c.args.client.now.outbox answered.new.client.outbox
-    (g.D.CancelDesk.told c.args.desk.now).calls (g.D.CancelDesk.told answered.new.desk).calls
+    rw c.going.ensures (going_ok (λ answers. ready_row h answers s m) c.args.client.now.outbox
+    answered.new.client.outbox (g.D.CancelDesk.told c.args.desk.now).calls (g.D.CancelDesk.told answered.new.desk).calls
     (state_of g.St.PortalStore.maps answered.new.client) answered.result (rw c.in-Query.is answered.ensures.ok))
 
 pub returns-in-Query-clause-answerable : goal.returns-in-Query-clause-answerable
@@ -100,7 +102,8 @@ pub returns-in-Query-clause-ends : goal.returns-in-Query-clause-ends
 returns-in-Query-clause-ends g c = rw c.going.ensures (going_ends c.on_query.result)
 
 pub returns-in-Query-clause-turns : goal.returns-in-Query-clause-turns
-returns-in-Query-clause-turns g c = rw c.going.ensures (going_turns c.args.turns.now c.on_query.new.turns _ c.on_query.result c.on_query.ensures.turns)
+returns-in-Query-clause-turns g c =
+    rw c.going.ensures (going_turns c.args.turns.now c.on_query.new.turns _ c.on_query.result c.on_query.ensures.turns)
 
 pub on_query-requires-clause-given : goal.on_query-requires-clause-given
 on_query-requires-clause-given g c = rw c.in-Query.is at c.requires.given
@@ -117,18 +120,21 @@ returns-in-Execute-clause-ok g c =
     let s = state_of g.St.PortalStore.maps c.args.client.now in
     let answered = c.on_execute in
     let m = c.args.message in
-    rw c.going-in-Execute.ensures (going_ok (λ answers. ready_row h answers s m) c.args.client.now.outbox answered.new.client.outbox
-    (g.D.CancelDesk.told c.args.desk.now).calls (g.D.CancelDesk.told answered.new.desk).calls
+    rw c.going-in-Execute.ensures (going_ok (λ answers. ready_row h answers s m) c.args.client.now.outbox
+    answered.new.client.outbox (g.D.CancelDesk.told c.args.desk.now).calls (g.D.CancelDesk.told answered.new.desk).calls
     (state_of g.St.PortalStore.maps answered.new.client) answered.result (rw c.in-Execute.is answered.ensures.ok))
 
 pub returns-in-Execute-clause-answerable : goal.returns-in-Execute-clause-answerable
-returns-in-Execute-clause-answerable g c = rw c.going-in-Execute.ensures (going_refused _ c.on_execute.result c.on_execute.ensures.answerable)
+returns-in-Execute-clause-answerable g c =
+    rw c.going-in-Execute.ensures (going_refused _ c.on_execute.result c.on_execute.ensures.answerable)
 
 pub returns-in-Execute-clause-ends : goal.returns-in-Execute-clause-ends
 returns-in-Execute-clause-ends g c = rw c.going-in-Execute.ensures (going_ends c.on_execute.result)
 
 pub returns-in-Execute-clause-turns : goal.returns-in-Execute-clause-turns
-returns-in-Execute-clause-turns g c = rw c.going-in-Execute.ensures (going_turns c.args.turns.now c.on_execute.new.turns _ c.on_execute.result c.on_execute.ensures.turns)
+returns-in-Execute-clause-turns g c =
+    rw c.going-in-Execute.ensures (going_turns c.args.turns.now c.on_execute.new.turns _ c.on_execute.result
+    c.on_execute.ensures.turns)
 
 pub on_execute-requires-clause-given : goal.on_execute-requires-clause-given
 on_execute-requires-clause-given g c = rw c.in-Execute.is at c.requires.given

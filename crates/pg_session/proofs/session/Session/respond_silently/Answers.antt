@@ -90,7 +90,8 @@ pub on_statement-requires-clause-given : goal.on_statement-requires-clause-given
 on_statement-requires-clause-given g c = c.requires.given
 
 pub on_statement-requires-clause-good : goal.on_statement-requires-clause-good
-on_statement-requires-clause-good g c = rw c.deref-handlers.ensures (c.self.invariant (ap (λ v. v.is_open) c.self.view_is ∙ c.requires.«open»))
+on_statement-requires-clause-good g c =
+    rw c.deref-handlers.ensures (c.self.invariant (ap (λ v. v.is_open) c.self.view_is ∙ c.requires.«open»))
 
 pub tell-requires-clause-open : goal.tell-requires-clause-open
 tell-requires-clause-open g c = λ known. ap (λ v. v.is_open) c.self.view_is ∙ c.requires.«open»

@@ -79,13 +79,15 @@ pub on_describe-requires-clause-given : goal.on_describe-requires-clause-given
 on_describe-requires-clause-given g c = c.requires.given
 
 pub on_describe-requires-clause-good : goal.on_describe-requires-clause-good
-on_describe-requires-clause-good g c = rw c.extended_query_handler.ensures (rw c.deref-handlers.ensures (c.session.invariant (ap (λ v. v.is_open) c.session.view_is ∙ c.requires.«open»)))
+on_describe-requires-clause-good g c =
+    rw c.extended_query_handler.ensures (rw c.deref-handlers.ensures (c.session.invariant (ap (λ v. v.is_open) c.session.view_is ∙ c.requires.«open»)))
 
 pub tell-requires-clause-open : goal.tell-requires-clause-open
 tell-requires-clause-open g c = λ known. ap (λ v. v.is_open) c.session.view_is ∙ c.requires.«open»
 
 pub invariant_of-session : goal.invariant_of-session
-invariant_of-session g c = λ stays. rw (← c.deref-handlers.ensures) (rw (← c.extended_query_handler.ensures) c.on_describe.ensures.good)
+invariant_of-session g c = λ stays.
+    rw (← c.deref-handlers.ensures) (rw (← c.extended_query_handler.ensures) c.on_describe.ensures.good)
 
 pub returns-in-Err-clause-only : goal.returns-in-Err-clause-only
 returns-in-Err-clause-only g c = c.tell.ensures.only
