@@ -1,4 +1,4 @@
-use Rattle.std.proofs.Common.{◌≡◌, ◌∙◌, ap, subst, IfOk, OnErr}
+use Rattle.std.proofs.Common.{◌≡◌, ◌≢◌, ◌∙◌, Option, Some, None, ap, subst, IfOk, OnErr}
 use Rattle.std.specs.Arc.{arc_value}
 use Rattle.pg_results.specs.declared.client.PgWireConnectionState.TheVariants as phase
 use Rattle.pg_client.specs.Answer.{Goes}
@@ -8,7 +8,13 @@ use Rattle.conversation_table.specs.Table.{statement_row, whole_table}
 use Rattle.conversation_runs.specs.Messages.{next_of}
 use Rattle.conversation_runs.specs.Steps.{IsAnswered, IsCutAnswer}
 use Rattle.conversation_runs.proofs.Silently.{silently_done, silently_told}
+use Rattle.pg_client.specs.declared.ends.EndKind.{EndKind}
+use Rattle.pg_client.specs.declared.ends.EndKind.TheVariants as end
 use Rattle.pg_session.proofs.session.Session.respond_silently.Goals as goal
+
+-- what goes on doesn't end
+no_end : ◌≢◌ {A = Option EndKind} None (Some end.InputEnd)
+no_end is = cc
 
 pub returns-in-Ok-clause-answer : goal.returns-in-Ok-clause-answer
 returns-in-Ok-clause-answer g c = λ calls.
@@ -58,3 +64,40 @@ returns-in-Err-clause-open g c = c.tell.ensures.«open»
 
 pub tell-requires-clause-answerable : goal.tell-requires-clause-answerable
 tell-requires-clause-answerable g c = c.in-Err.ensures.answerable
+
+pub returns-in-Ok-clause-only : goal.returns-in-Ok-clause-only
+returns-in-Ok-clause-only g c = tt
+
+pub returns-in-Ok-clause-ends : goal.returns-in-Ok-clause-ends
+returns-in-Ok-clause-ends g c = no_end
+
+pub returns-in-Ok-clause-open : goal.returns-in-Ok-clause-open
+returns-in-Ok-clause-open g c = ap (λ v. v.is_open) c.self.view_is ∙ c.requires.«open»
+
+pub returns-in-Ok-clause-handlers : goal.returns-in-Ok-clause-handlers
+returns-in-Ok-clause-handlers g c = ap (λ v. v.handlers) c.self.view_is
+
+pub returns-in-Ok-clause-rest : goal.returns-in-Ok-clause-rest
+returns-in-Ok-clause-rest g c = ap (λ v. v.rest) c.self.view_is
+
+pub returns-in-Err-clause-handlers : goal.returns-in-Err-clause-handlers
+returns-in-Err-clause-handlers g c = c.tell.ensures.handlers ∙ ap (λ v. v.handlers) c.self.view_is
+
+pub returns-in-Err-clause-rest : goal.returns-in-Err-clause-rest
+returns-in-Err-clause-rest g c = c.tell.ensures.rest ∙ ap (λ v. v.rest) c.self.view_is
+
+pub on_statement-requires-clause-given : goal.on_statement-requires-clause-given
+on_statement-requires-clause-given g c = c.requires.given
+
+pub on_statement-requires-clause-good : goal.on_statement-requires-clause-good
+on_statement-requires-clause-good g c =
+    rw c.deref-handlers.ensures (c.self.invariant (ap (λ v. v.is_open) c.self.view_is ∙ c.requires.«open»))
+
+pub tell-requires-clause-open : goal.tell-requires-clause-open
+tell-requires-clause-open g c = λ known. ap (λ v. v.is_open) c.self.view_is ∙ c.requires.«open»
+
+pub invariant_of-self : goal.invariant_of-self
+invariant_of-self g c = λ stays. rw c.deref-handlers.ensures at c.on_statement.ensures.good
+
+pub on_statement-requires-clause-plain : goal.on_statement-requires-clause-plain
+on_statement-requires-clause-plain g c = c.requires.plain
