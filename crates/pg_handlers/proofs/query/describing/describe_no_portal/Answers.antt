@@ -1,20 +1,84 @@
-use Rattle.std.proofs.Common.{rules, ◌≡◌, false, ◌∙◌, ap, Bor, Some}
-use Rattle.std.specs.Prelude.{is_none}
+use Rattle.std.proofs.Common.{◌≡◌, ℕ, List, false, true, ◌∙◌, inl, inr, refl, sym, ap, Bor, Option, None, Some}
+use Rattle.std.specs.Prelude.{Bool, is_none, is_some, not}
 use Rattle.std.specs.FinMap as fin
+use Rattle.std.specs.Option.{option_map}
+use Rattle.std.proofs.lemmas.List.{append-nil}
+use Rattle.std.proofs.lemmas.Result.{err_from_is_err_and}
+use Rattle.pg_messages.specs.declared.extendedquery.Describe.{Describe}
+use Rattle.pg_messages.specs.Frames.{portal_target}
+use Rattle.pg_results.specs.declared.error.PgWireError.{PgWireError}
+use Rattle.pg_results.specs.declared.error.PgWireError.TheVariants as wire
 use Rattle.pg_portal.specs.declared.portal.Portal.{Portal}
+use Rattle.pg_portal.specs.declared.store.Entry.{Entry}
 use Rattle.pg_portal.specs.declared.store.Entry.TheVariants as entry
-use Rattle.pg_portal.specs.Told.{portal_of}
-use Rattle.pg_client.specs.State.{state_of}
+use Rattle.pg_portal.specs.Told.{entry_map, portal_of}
+use Rattle.pg_client.specs.Effect.{IsRefusedEffect}
+use Rattle.pg_client.specs.State.{State, state_of}
+use Rattle.conversation_table.specs.ExtendedRows.{on_describe}
+use Rattle.conversation_table.specs.Handlers.{ExtendedTold}
 use Rattle.conversation_table.proofs.Describing.{empty_portal_described}
 use Rattle.conversation_table.proofs.GoodStores.{empty_under}
 use Rattle.pg_handlers.proofs.query.describing.describe_no_portal.Goals as goal
 
+-- no portal has this name
+none_described : {S : Type 0} (h : ExtendedTold S) (s : State S) (m : Describe) (out : List ℕ) (e : PgWireError)
+    → m.target_type ≡ portal_target → fin.get s.portals m.name ≡ None → e ≡ wire.PortalNotFound m.name
+    → IsRefusedEffect (on_describe h s m) out out s e
+none_described h s m out e i j is = rw (is, i, j) (inr (record { replied = sym (append-nil out); came = refl }))
+
+none_under : {X Y : Type 0} (f : X → Y) (found : Option (Entry X)) (told : Option (Entry Y)) (none : Bool)
+    → option_map (entry_map f) found ≡ told → is_some found ≡ not none → none ≡ true → told ≡ None
+none_under f None told none e i is = sym e
+none_under f (Some x) told none e i is = absurd (let k : true ≡ false = i ∙ ap not is in cc)
+
+some_under : {X : Type 0} (found : Option X) (none : Bool) → is_some found ≡ not none → none ≡ false → is_none found ≡ false
+some_under None none i is = absurd (let k : false ≡ true = i ∙ ap not is in cc)
+some_under (Some x) none i is = refl
+
 pub returns-clause-ok : goal.returns-clause-ok
 returns-clause-ok g c = λ h.
     let s = state_of g.St.PortalStore.maps c.args.client.now in
-    let some : is_none c.get_portal.result ≡ false = search rules in
+    let some = some_under c.get_portal.result _ c.is_none.ensures c.if-is_none.false in
     let found : fin.get s.portals c.args.message.name ≡ Some entry.Empty =
     empty_under (λ (p : Bor (Portal g.row.St-Statement.Denot g.row.St-Rows.Denot)). portal_of g.St.Rows.RowSource.items p.now) c.get_portal.result _
     (c.get_portal.ensures ∙ ap (fin.get s.portals) c.as_str.ensures) some c.requires.none in
     empty_portal_described h s c.args.message c.args.client.now.outbox c.send_described.new.outbox _ c.requires.target found
     c.no_data-described.ensures c.in_ok-send_described.ensures.ok
+
+pub returns-then-is_none : goal.returns-then-is_none
+returns-then-is_none g c =
+    let s = state_of g.St.PortalStore.maps c.args.client.now in
+    let none : fin.get s.portals c.args.message.name ≡ None =
+    none_under (λ (p : Bor (Portal g.row.St-Statement.Denot g.row.St-Rows.Denot)). portal_of g.St.Rows.RowSource.items p.now) c.get_portal.result _ _
+    (c.get_portal.ensures ∙ ap (fin.get s.portals) c.as_str.ensures) c.is_none.ensures c.if-is_none.true in
+    record {
+      ok = λ h. tt;
+      refused = λ h. none_described h s c.args.message c.args.client.now.outbox c.missing_portal.result c.requires.target none
+          c.missing_portal.ensures.error;
+      answerable = c.missing_portal.ensures.answerable;
+      same = refl;
+      waiting = refl;
+    }
+
+pub returns-in_err-send_described : goal.returns-in_err-send_described
+returns-in_err-send_described g c =
+    let p = err_from_is_err_and c.from_residual.result c.from_residual.ensures.1 in
+    rw p.1 (record {
+      ok = λ h. tt;
+      refused = λ h. inl p.2;
+      answerable = inl p.2;
+      same = refl;
+      waiting = c.in_err-send_described.ensures.err;
+    })
+
+pub returns-clause-refused : goal.returns-clause-refused
+returns-clause-refused g c = λ h. tt
+
+pub returns-clause-answerable : goal.returns-clause-answerable
+returns-clause-answerable g c = tt
+
+pub returns-clause-same : goal.returns-clause-same
+returns-clause-same g c = refl
+
+pub returns-clause-waiting : goal.returns-clause-waiting
+returns-clause-waiting g c = tt

@@ -1,13 +1,23 @@
-use Rattle.std.proofs.Common.{rules, ◌≡◌, ◌<◌, ◌∙◌, length, ap, sym, subst, Some}
+use Rattle.std.proofs.Common.{rules, ◌≡◌, ◌<◌, ◌∙◌, ◌⊎◌, length, inl, ap, sym, subst, Result, Ok, Err, Some}
 use Rattle.std.specs.Prelude.{IfErr, OnOk}
 use Rattle.std.specs.Arc.{arc_value}
 use Rattle.std.specs.FinMap as fin
+use Rattle.pg_results.specs.declared.error.PgWireError.{PgWireError}
+use Rattle.pg_results.specs.declared.error.PgWireError.TheVariants as wire
+use Rattle.pg_results.specs.Rows.{IsTellable}
 use Rattle.pg_portal.specs.Told.{value_under}
-use Rattle.pg_client.specs.Effect.{Done, Effect, IsEffect, IsRefusedEffect}
-use Rattle.conversation_table.specs.Good.{IsGoodStatement}
+use Rattle.pg_client.specs.Effect.{Done, Effect, Failed, IsEffect, IsRefusedEffect}
+use Rattle.conversation_table.specs.Good.{IsGoodState, IsGoodStatement}
 use Rattle.pg_client.specs.State.{state_of}
+use Rattle.conversation_table.specs.ExtendedRows.{on_bind}
 use Rattle.conversation_table.proofs.Binds.{binds, binds_few, few_are_enough}
 use Rattle.pg_handlers.proofs.query.extended.ExtendedQueryHandler.on_bind.Goals as goal
+
+-- the only error is want of memory
+wanting : {A : Type 0} (P : PgWireError → Type 0) (r : Result A PgWireError) → IfErr r (λ e. e ≡ wire.NoMemory)
+    → IfErr r (λ e. (e ≡ wire.NoMemory) ⊎ P e)
+wanting P (Ok x) none = tt
+wanting P (Err e) none = inl none
 
 pub returns-in_default-clause-ok : goal.returns-in_default-clause-ok
 returns-in_default-clause-ok g c = c.bind_no_statement.ensures.ok (g.Self.ExtendedQueryHandler.told c.args.self.now)
@@ -64,3 +74,42 @@ returns-clause-refused g c =
     c.bind_checked.new.client.outbox (state_of g.St.PortalStore.maps c.bind_checked.new.client)))
     (binds (g.Self.ExtendedQueryHandler.told c.args.self.now) s c.args.message _ found _ (arc_value c.in-Ok.statement)
     c.in-Ok-query_parser.ensures c.in-Ok.ensures.cases) c.bind_checked.ensures.refused
+
+pub returns-in_default-clause-answerable : goal.returns-in_default-clause-answerable
+returns-in_default-clause-answerable g c = c.bind_no_statement.ensures.answerable
+
+pub returns-in_default-clause-kept : goal.returns-in_default-clause-kept
+returns-in_default-clause-kept g c = c.bind_no_statement.ensures.kept
+
+pub returns-in_default-clause-waiting : goal.returns-in_default-clause-waiting
+returns-in_default-clause-waiting g c = c.bind_no_statement.ensures.waiting
+
+pub returns-then-len-lt2-clause-kept : goal.returns-then-len-lt2-clause-kept
+returns-then-len-lt2-clause-kept g c = c.bind_statement.ensures.kept
+
+pub returns-then-len-lt2-clause-waiting : goal.returns-then-len-lt2-clause-waiting
+returns-then-len-lt2-clause-waiting g c = c.bind_statement.ensures.waiting
+
+pub returns-clause-answerable : goal.returns-clause-answerable
+returns-clause-answerable g c = c.bind_checked.ensures.answerable
+
+pub returns-clause-kept : goal.returns-clause-kept
+returns-clause-kept g c = c.bind_checked.ensures.kept
+
+pub returns-clause-waiting : goal.returns-clause-waiting
+returns-clause-waiting g c = c.bind_checked.ensures.waiting
+
+pub returns-then-len-lt2-clause-refused : goal.returns-then-len-lt2-clause-refused
+returns-then-len-lt2-clause-refused g c =
+    let maps = g.St.PortalStore.maps in let s = state_of maps c.args.client.now in let r = c.bind_statement in
+    wanting (λ e. IsEffect (on_bind (g.Self.ExtendedQueryHandler.told c.args.self.now) s c.args.message) c.args.client.now.outbox
+    r.new.client.outbox (Failed (state_of maps r.new.client) e)) r.result r.ensures.refused
+
+pub returns-then-len-lt2-clause-answerable : goal.returns-then-len-lt2-clause-answerable
+returns-then-len-lt2-clause-answerable g c = wanting IsTellable c.bind_statement.result c.bind_statement.ensures.refused
+
+pub returns-clause-good : goal.returns-clause-good
+returns-clause-good g c =
+    let s = state_of g.St.PortalStore.maps c.args.client.now in
+    subst (λ p. IsGoodState p (state_of g.St.PortalStore.maps c.bind_checked.new.client)) c.in-Ok-query_parser.ensures
+    (c.bind_checked.ensures.good (subst (λ p. IsGoodState p s) (sym c.in-Ok-query_parser.ensures) c.requires.good))
