@@ -179,3 +179,9 @@ returns-in_default-clause-waiting g c = refl
 
 pub returns-in_default-clause-good : goal.returns-in_default-clause-good
 returns-in_default-clause-good g c = c.requires.good
+
+pub do_describe_statement-told-requires-clause-short_metadata : goal.do_describe_statement-told-requires-clause-short_metadata
+do_describe_statement-told-requires-clause-short_metadata g c = c.requires.good.metadata
+
+pub do_describe_portal-told-requires-clause-short_metadata : goal.do_describe_portal-told-requires-clause-short_metadata
+do_describe_portal-told-requires-clause-short_metadata g c = c.requires.good.metadata

@@ -1,4 +1,4 @@
-use Rattle.std.proofs.Common.{rules, ◌≡◌, ◌<◌, ◌∙◌, ◌⊎◌, length, inl, ap, sym, subst, Result, Ok, Err, Some}
+use Rattle.std.proofs.Common.{rules, ◌≡◌, ◌<◌, ◌∙◌, ◌⊎◌, length, inl, refl, ap, sym, subst, Result, Ok, Err, Some}
 use Rattle.std.specs.Prelude.{IfErr, OnOk}
 use Rattle.std.specs.Arc.{arc_value}
 use Rattle.std.specs.FinMap as fin
@@ -113,3 +113,34 @@ returns-clause-good g c =
     let s = state_of g.St.PortalStore.maps c.args.client.now in
     subst (λ p. IsGoodState p (state_of g.St.PortalStore.maps c.bind_checked.new.client)) c.in-Ok-query_parser.ensures
     (c.bind_checked.ensures.good (subst (λ p. IsGoodState p s) (sym c.in-Ok-query_parser.ensures) c.requires.good))
+
+pub returns-in_default-clone : goal.returns-in_default-clone
+returns-in_default-clone g c = rw c.out_of_memory.ensures (record {
+  ok = tt;
+  refused = inl refl;
+  answerable = inl refl;
+  kept = refl;
+  waiting = refl;
+  good = c.requires.good;
+})
+
+pub returns-in_default-query_parser : goal.returns-in_default-query_parser
+returns-in_default-query_parser g c = rw c.out_of_memory-in_default-query_parser.ensures (record {
+  ok = tt;
+  refused = inl refl;
+  answerable = inl refl;
+  kept = refl;
+  waiting = refl;
+  good = c.requires.good;
+})
+
+pub bind_no_statement-requires : goal.bind_no_statement-requires
+bind_no_statement-requires g c =
+    let s = state_of g.St.PortalStore.maps c.args.client.now in
+    record {
+      given = c.requires.given;
+      none = ap (λ name. value_under (fin.get s.statements name)) (sym c.as_str.ensures) ∙ sym c.in_default.ensures;
+    }
+
+pub bind_checked-requires-clause-given : goal.bind_checked-requires-clause-given
+bind_checked-requires-clause-given g c = c.requires.given
