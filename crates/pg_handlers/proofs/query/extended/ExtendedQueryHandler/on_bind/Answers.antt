@@ -1,4 +1,4 @@
-use Rattle.std.proofs.Common.{rules, ◌≡◌, ◌<◌, ◌∙◌, ◌⊎◌, length, inl, refl, ap, sym, subst, Result, Ok, Err, Some}
+use Rattle.std.proofs.Common.{◌≡◌, ◌<◌, ◌∙◌, ◌⊎◌, length, inl, refl, ap, sym, subst, Result, Ok, Err, Some}
 use Rattle.std.specs.Prelude.{IfErr, OnOk}
 use Rattle.std.specs.Arc.{arc_value}
 use Rattle.std.specs.FinMap as fin
@@ -34,7 +34,7 @@ returns-then-len-lt2-clause-ok g c =
     let s = state_of g.St.PortalStore.maps c.args.client.now in
     let found : value_under (fin.get s.statements c.args.message.statement_name) ≡ Some (arc_value c.in-Some.statement.now) =
     ap (λ n. value_under (fin.get s.statements n)) (sym c.as_str.ensures) ∙ sym c.in-Some.ensures in
-    let few : length c.args.message.result_column_format_codes < 2 = search rules in
+    let few : length c.args.message.result_column_format_codes < 2 = subst (λ n. n < 2) c.len.ensures c.if-len-lt2.true in
     subst (λ (effect : Effect g.row.Self-Statement.Denot). OnOk c.bind_statement.result (IsEffect effect c.args.client.now.outbox
     c.bind_statement.new.client.outbox (Done (state_of g.St.PortalStore.maps c.bind_statement.new.client))))
     (binds_few (g.Self.ExtendedQueryHandler.told c.args.self.now) s c.args.message _ found (arc_value c.in-Ok.statement) few
@@ -44,7 +44,7 @@ pub returns-then-len-lt2-clause-good : goal.returns-then-len-lt2-clause-good
 returns-then-len-lt2-clause-good g c =
     let parser = (g.Self.ExtendedQueryHandler.told c.args.self.now).parser in
     let good = c.requires.good.statements c.as_str.result.now (arc_value c.in-Some.statement.now) (sym c.in-Some.ensures) in
-    let few : length c.args.message.result_column_format_codes < 2 = search rules in
+    let few : length c.args.message.result_column_format_codes < 2 = subst (λ n. n < 2) c.len.ensures c.if-len-lt2.true in
     c.bind_statement.ensures.good parser (subst (IsGoodStatement parser) (sym c.in-Ok.ensures.cases) good) (few_are_enough _ _ few)
     c.requires.good
 
