@@ -1,10 +1,11 @@
-use Rattle.std.proofs.Common.{◌≡◌, ℕ, List, false, true, ◌∙◌, inl, inr, refl, sym, ap, Bor, Option, None, Some}
+use Rattle.std.proofs.Common.{rules, [], subst, IfSome, ◌≡◌, ℕ, List, false, true, ◌∙◌, inl, inr, refl, sym, ap, Bor, Option, None, Some}
 use Rattle.std.specs.Prelude.{Bool, is_none, is_some, not}
 use Rattle.std.specs.FinMap as fin
 use Rattle.std.specs.Option.{option_map}
 use Rattle.std.proofs.lemmas.List.{append-nil}
 use Rattle.std.proofs.lemmas.Result.{err_from_is_err_and}
 use Rattle.pg_messages.specs.declared.extendedquery.Describe.{Describe}
+use Rattle.pg_messages.specs.Replies.{IsEncodable}
 use Rattle.pg_messages.specs.Frames.{portal_target}
 use Rattle.pg_results.specs.declared.error.PgWireError.{PgWireError}
 use Rattle.pg_results.specs.declared.error.PgWireError.TheVariants as wire
@@ -14,11 +15,15 @@ use Rattle.pg_portal.specs.declared.store.Entry.TheVariants as entry
 use Rattle.pg_portal.specs.Told.{entry_map, portal_of}
 use Rattle.pg_client.specs.Effect.{IsRefusedEffect}
 use Rattle.pg_client.specs.State.{State, state_of}
+use Rattle.pg_replies.specs.Replies.{parameter_description, row_description}
 use Rattle.conversation_table.specs.ExtendedRows.{on_describe}
 use Rattle.conversation_table.specs.Handlers.{ExtendedTold}
 use Rattle.conversation_table.proofs.Describing.{empty_portal_described}
 use Rattle.conversation_table.proofs.GoodStores.{empty_under}
 use Rattle.pg_handlers.proofs.query.describing.describe_no_portal.Goals as goal
+
+no_columns : IsEncodable (row_description [])
+no_columns = search rules
 
 -- no portal has this name
 none_described : {S : Type 0} (h : ExtendedTold S) (s : State S) (m : Describe) (out : List ℕ) (e : PgWireError)
@@ -82,3 +87,10 @@ returns-clause-same g c = refl
 
 pub returns-clause-waiting : goal.returns-clause-waiting
 returns-clause-waiting g c = tt
+
+pub send_described-requires : goal.send_described-requires
+send_described-requires g c = record {
+  parameters = subst (λ d. IfSome d.parameters (λ types. IsEncodable (parameter_description types))) (sym c.no_data-described.ensures)
+      tt;
+  fields = subst (λ d. IsEncodable (row_description d.fields)) (sym c.no_data-described.ensures) no_columns;
+}

@@ -3,6 +3,7 @@ use Rattle.std.specs.Prelude.{OnOk, OnErr, IfErr}
 use Rattle.std.specs.FinMap as fin
 use Rattle.std.proofs.lemmas.Bool.{ne_eqb}
 use Rattle.std.proofs.lemmas.List.{append-nil}
+use Rattle.std.proofs.lemmas.Result.{IfOk-weaker}
 use Rattle.pg_messages.specs.declared.extendedquery.Describe.{Describe}
 use Rattle.pg_messages.specs.declared.frontend.PgWireFrontendMessage.TheVariants as frontend
 use Rattle.pg_messages.specs.Frames.{statement_target, portal_target}
@@ -12,7 +13,7 @@ use Rattle.pg_portal.specs.Told.{portal_of, value_under}
 use Rattle.pg_client.specs.Effect.{Done, Effect, IsEffect, IsRefusedEffect}
 use Rattle.pg_client.specs.State.{State, state_of}
 use Rattle.conversation_table.specs.ExtendedRows.{on_describe, statement_description, portal_description}
-use Rattle.conversation_table.specs.Good.{IsGiven, IsGoodState}
+use Rattle.conversation_table.specs.Good.{IsGiven, IsGoodState, IsSendableDescription}
 use Rattle.conversation_table.specs.Handlers.{ExtendedTold}
 use Rattle.conversation_table.proofs.Telling.{describes_statement, describes_portal, told_ok, told_refused}
 use Rattle.pg_handlers.proofs.query.extended.ExtendedQueryHandler._on_describe.Goals as goal
@@ -179,3 +180,27 @@ returns-in_default-clause-waiting g c = refl
 
 pub returns-in_default-clause-good : goal.returns-in_default-clause-good
 returns-in_default-clause-good g c = c.requires.good
+
+pub do_describe_statement-told-requires-clause-short_metadata : goal.do_describe_statement-told-requires-clause-short_metadata
+do_describe_statement-told-requires-clause-short_metadata g c = c.requires.good.metadata
+
+pub do_describe_portal-told-requires-clause-short_metadata : goal.do_describe_portal-told-requires-clause-short_metadata
+do_describe_portal-told-requires-clause-short_metadata g c = c.requires.good.metadata
+
+pub send_told-requires : goal.send_told-requires
+send_told-requires g c =
+    let r = c.do_describe_statement-told in
+    record {
+      parameters = IfOk-weaker r.result IsSendableDescription _ (λ d x. x.parameters) r.ensures.sendable;
+      fields = IfOk-weaker r.result IsSendableDescription _ (λ d x. x.fields) r.ensures.sendable;
+      answerable = r.ensures.answerable;
+    }
+
+pub send_told-requires-in-Ok-described_portal : goal.send_told-requires-in-Ok-described_portal
+send_told-requires-in-Ok-described_portal g c =
+    let r = c.do_describe_portal-told in
+    record {
+      parameters = IfOk-weaker r.result _ _ (λ d x. tt) r.ensures.sendable;
+      fields = r.ensures.sendable;
+      answerable = r.ensures.answerable;
+    }

@@ -1,4 +1,4 @@
-use Rattle.std.proofs.Common.{rules, ◌≡◌, ◌<◌, ◌∙◌, ◌⊎◌, length, inl, ap, sym, subst, Result, Ok, Err, Some}
+use Rattle.std.proofs.Common.{◌≡◌, ◌<◌, ◌∙◌, ◌⊎◌, length, inl, refl, ap, sym, subst, Result, Ok, Err, Some}
 use Rattle.std.specs.Prelude.{IfErr, OnOk}
 use Rattle.std.specs.Arc.{arc_value}
 use Rattle.std.specs.FinMap as fin
@@ -34,7 +34,7 @@ returns-then-len-lt2-clause-ok g c =
     let s = state_of g.St.PortalStore.maps c.args.client.now in
     let found : value_under (fin.get s.statements c.args.message.statement_name) ≡ Some (arc_value c.in-Some.statement.now) =
     ap (λ n. value_under (fin.get s.statements n)) (sym c.as_str.ensures) ∙ sym c.in-Some.ensures in
-    let few : length c.args.message.result_column_format_codes < 2 = search rules in
+    let few : length c.args.message.result_column_format_codes < 2 = subst (λ n. n < 2) c.len.ensures c.if-len-lt2.true in
     subst (λ (effect : Effect g.row.Self-Statement.Denot). OnOk c.bind_statement.result (IsEffect effect c.args.client.now.outbox
     c.bind_statement.new.client.outbox (Done (state_of g.St.PortalStore.maps c.bind_statement.new.client))))
     (binds_few (g.Self.ExtendedQueryHandler.told c.args.self.now) s c.args.message _ found (arc_value c.in-Ok.statement) few
@@ -44,7 +44,7 @@ pub returns-then-len-lt2-clause-good : goal.returns-then-len-lt2-clause-good
 returns-then-len-lt2-clause-good g c =
     let parser = (g.Self.ExtendedQueryHandler.told c.args.self.now).parser in
     let good = c.requires.good.statements c.as_str.result.now (arc_value c.in-Some.statement.now) (sym c.in-Some.ensures) in
-    let few : length c.args.message.result_column_format_codes < 2 = search rules in
+    let few : length c.args.message.result_column_format_codes < 2 = subst (λ n. n < 2) c.len.ensures c.if-len-lt2.true in
     c.bind_statement.ensures.good parser (subst (IsGoodStatement parser) (sym c.in-Ok.ensures.cases) good) (few_are_enough _ _ few)
     c.requires.good
 
@@ -113,3 +113,34 @@ returns-clause-good g c =
     let s = state_of g.St.PortalStore.maps c.args.client.now in
     subst (λ p. IsGoodState p (state_of g.St.PortalStore.maps c.bind_checked.new.client)) c.in-Ok-query_parser.ensures
     (c.bind_checked.ensures.good (subst (λ p. IsGoodState p s) (sym c.in-Ok-query_parser.ensures) c.requires.good))
+
+pub returns-in_default-clone : goal.returns-in_default-clone
+returns-in_default-clone g c = rw c.out_of_memory.ensures (record {
+  ok = tt;
+  refused = inl refl;
+  answerable = inl refl;
+  kept = refl;
+  waiting = refl;
+  good = c.requires.good;
+})
+
+pub returns-in_default-query_parser : goal.returns-in_default-query_parser
+returns-in_default-query_parser g c = rw c.out_of_memory-in_default-query_parser.ensures (record {
+  ok = tt;
+  refused = inl refl;
+  answerable = inl refl;
+  kept = refl;
+  waiting = refl;
+  good = c.requires.good;
+})
+
+pub bind_no_statement-requires : goal.bind_no_statement-requires
+bind_no_statement-requires g c =
+    let s = state_of g.St.PortalStore.maps c.args.client.now in
+    record {
+      given = c.requires.given;
+      none = ap (λ name. value_under (fin.get s.statements name)) (sym c.as_str.ensures) ∙ sym c.in_default.ensures;
+    }
+
+pub bind_checked-requires-clause-given : goal.bind_checked-requires-clause-given
+bind_checked-requires-clause-given g c = c.requires.given

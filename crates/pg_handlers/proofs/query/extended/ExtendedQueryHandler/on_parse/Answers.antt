@@ -118,3 +118,6 @@ returns-in-Err g c =
       waiting = refl;
       good = c.requires.good;
     }
+
+pub parse_by-found-requires-clause-short_metadata : goal.parse_by-found-requires-clause-short_metadata
+parse_by-found-requires-clause-short_metadata g c = c.requires.good.metadata
