@@ -27,7 +27,8 @@ push_one (Ok b) old new (Ok vs) h = ap (λ l. Ok l) (sym (append_assoc old b (co
 push_one (Ok b) old new (Err e) h = refl
 push_one (Err e) old new rest h = absurd h
 
-step : {X Y : Type 0} (g : X × Y → Result (List ℕ) PgWireError) (xs : List X) (ys : List Y) (i : ℕ) (x : X) (y : Y) (old new : List ℕ)
+step : {X Y : Type 0} (g : X × Y → Result (List ℕ) PgWireError) (xs : List X) (ys : List Y) (i : ℕ) (x : X) (y : Y)
+    (old new : List ℕ)
     (whole : Result (List ℕ) PgWireError) → i < length xs → i < length ys → finish old (from g xs ys i) ≡ whole
     → IsPushed (g (get_or xs i x, get_or ys i y)) old new → finish new (from g xs ys (i + 1)) ≡ whole
 step g xs ys i x y old new whole in_xs in_ys e h =
@@ -40,7 +41,8 @@ loop-index-preserved c =
     let formats = c.args.formats.now in let row = c.args.row.now in
     let none : Interval = record { months = pos 0; days = pos 0; microseconds = pos 0 } in
     record {
-      whole = step (λ p. value (Ok c.args.style) p.0 p.1) formats row c.loop-index.index field.Text none c.loop-index.payload.items
+      whole = step (λ p. value (Ok c.args.style) p.0 p.1) formats row c.loop-index.index field.Text none
+          c.loop-index.payload.items
           c.push_value.new.payload.items (joined (all_or_error (map (λ p. value (Ok c.args.style) p.0 p.1) (zip formats row))))
           (omega (arith, c.requires.same)) (omega arith) c.loop-index.invariant.whole c.in_ok-push_value.ensures.pushed;
       short = omega (arith, c.in_ok-push_value.ensures.short);
@@ -50,7 +52,8 @@ pub loop-index-init : goal.loop-index-init
 loop-index-init c =
     let none = c.in_ok-reserve.ensures.items ∙ c.requires.empty in
     record {
-      whole = begun c.reserve.new.self.items (from (λ p. value (Ok c.args.style) p.0 p.1) c.args.formats.now c.args.row.now 0) none;
+      whole = begun c.reserve.new.self.items (from (λ p. value (Ok c.args.style) p.0 p.1) c.args.formats.now c.args.row.now 0)
+          none;
       short = omega (arith, ap length none);
     }
 
@@ -61,7 +64,8 @@ returns c =
     (ap (λ l. zip l (drop i row)) (drop_all i formats (omega (arith, c.requires.same, c.loop-index-test.false)))) in
     record {
       values = ended c.loop-index.payload.items (from (λ p. value (Ok c.args.style) p.0 p.1) formats row i)
-          (joined (all_or_error (map (λ p. value (Ok c.args.style) p.0 p.1) (zip formats row)))) none c.loop-index.invariant.whole;
+          (joined (all_or_error (map (λ p. value (Ok c.args.style) p.0 p.1) (zip formats row)))) none
+          c.loop-index.invariant.whole;
       short = omega (arith, c.loop-index.invariant.short, c.requires.narrow, c.loop-index.auto.index-end);
     }
 

@@ -27,9 +27,11 @@ read_at : (relations table named : List Relation) (place : ℕ) (r : Relation) �
 read_at relations table named place r e f g = g ∙ ap (λ l. relation_at l place) (f ∙ e)
 
 -- a query of the lines of a relation
-told_lines : {R C : Type 0} (rows : R → List RowItem) (items : C → List CopyItem) (relations : List Relation) (client : ClientInfo)
+told_lines : {R C : Type 0} (rows : R → List RowItem) (items : C → List CopyItem) (relations : List Relation)
+    (client : ClientInfo)
     (name : List ℕ) (place unready : ℕ) (r : Relation) (made : Option (Result (List (Response R C)) PgWireError))
-    (responses : List (Response R C)) → place_of relations name ≡ Some place → r ≡ relation_at relations place → unready ≡ r.unready
+    (responses : List (Response R C)) → place_of relations name ≡ Some place → r ≡ relation_at relations place
+    → unready ≡ r.unready
     → made ≡ Some (Ok responses) → told_responses rows items responses ≡ copy_response client (relation_at relations place) ∷ []
     → told_query (told_all rows items) (query_told unready made) ≡ copy_of relations client name (place_of relations name)
 told_lines rows items relations client name place unready r made responses some e owes is told = rw (some, owes, e, is, told) refl
@@ -49,7 +51,8 @@ unspent made outcome e = rw e refl
 pub copy_responses-requires-clause-place : goal.copy_responses-requires-clause-place
 copy_responses-requires-clause-place g c =
     place_inside (g.B.ServedRelations.told c.args.served.now) c.args.name.now c.in-Some.place
-    (found_at (g.B.ServedRelations.told c.args.served.now) c.table.result.now c.named-relations.result.now c.args.name.now c.find.result
+    (found_at (g.B.ServedRelations.told c.args.served.now) c.table.result.now c.named-relations.result.now c.args.name.now
+    c.find.result
     (Some c.in-Some.place) c.table.ensures c.named-relations.ensures c.find.ensures c.in-Some.is)
 
 pub at-requires : goal.at-requires
@@ -68,7 +71,8 @@ returns-in_ok-responses-in-Some g c =
       unspent = unspent c.new.result.outcome (Ok c.in_ok-responses-in-Some.responses) c.new.ensures.outcome;
       told = told_lines g.B.Rows.RowSource.items g.B.Lines.CopySource.items (g.B.ServedRelations.told c.args.served.now)
           c.args.client.now c.args.name.now c.in-Some.place c.new.result.unready c.at.result.now c.new.result.outcome
-          c.in_ok-responses-in-Some.responses some read c.new.ensures.unready c.new.ensures.outcome c.in_ok-responses-in-Some.ensures;
+          c.in_ok-responses-in-Some.responses some read c.new.ensures.unready c.new.ensures.outcome
+          c.in_ok-responses-in-Some.ensures;
       sendable = sendable_lines (g.B.ServedRelations.told c.args.served.now) c.args.client.now c.args.name.now c.in-Some.place
           c.at.result.now some read c.at.ensures.sound;
     }

@@ -24,7 +24,8 @@ owed relations client statement.Begin = refl
 owed relations client statement.Commit = refl
 owed relations client (statement.Relation place) = refl
 
-polls_owed : (relations table named : List Relation) (client : ClientInfo) (means : RelationStatement) (polls : ℕ) → table ≡ relations
+polls_owed : (relations table named : List Relation) (client : ClientInfo) (means : RelationStatement) (polls : ℕ)
+    → table ≡ relations
     → named ≡ table → polls ≡ polls_of named means → polls ≡ (query_of relations client format.UnifiedText means).owes
 polls_owed relations table named client means polls e f g =
     g ∙ ap (λ r. polls_of r means) (f ∙ e) ∙ owed relations client means
@@ -48,10 +49,12 @@ sendable_alone (Err e) h = h
 pub returns : goal.returns
 returns g c = record {
   unspent = unspent c.new.result.outcome (Ok c.in_ok-responses.responses) c.new.ensures.outcome;
-  told = told_alone g.B.Rows.RowSource.items g.B.Lines.CopySource.items c.polls_of.result c.new.result.unready c.new.result.outcome
+  told = told_alone g.B.Rows.RowSource.items g.B.Lines.CopySource.items c.polls_of.result c.new.result.unready
+      c.new.result.outcome
       c.in_ok-responses.responses c.in_ok-response.response
       (query_of (g.B.ServedRelations.told c.args.served.now) c.args.client.now format.UnifiedText c.args.means)
-      (polls_owed (g.B.ServedRelations.told c.args.served.now) c.table.result.now c.named.result.now c.args.client.now c.args.means
+      (polls_owed (g.B.ServedRelations.told c.args.served.now) c.table.result.now c.named.result.now c.args.client.now
+      c.args.means
       c.polls_of.result c.table.ensures c.named.ensures c.polls_of.ensures)
       c.new.ensures.unready c.new.ensures.outcome c.in_ok-responses.ensures c.in_ok-response.ensures.told;
   sendable = sendable_alone

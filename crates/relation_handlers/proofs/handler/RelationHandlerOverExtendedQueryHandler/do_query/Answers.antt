@@ -32,7 +32,8 @@ module _ (relations : List Relation) (client : ClientInfo) (formats : Format) wh
   polls_owed table named means polls e f g = g ∙ ap (λ r. polls_of r means) (f ∙ e) ∙ owed means
 
   -- a query of a statement that was read out of the portal
-  told_once : {R C : Type 0} (rows : R → List RowItem) (items : C → List CopyItem) (read means : RelationStatement) (polls unready : ℕ)
+  told_once : {R C : Type 0} (rows : R → List RowItem) (items : C → List CopyItem) (read means : RelationStatement)
+      (polls unready : ℕ)
       (made : Option (Result (Response R C) PgWireError)) (response : Response R C) → read ≡ means
       → polls ≡ (query_of relations client formats read).owes → unready ≡ polls → made ≡ Some (Ok response)
       → Ok (told_response rows items response) ≡ (query_of relations client formats read).outcome
@@ -40,7 +41,8 @@ module _ (relations : List Relation) (client : ClientInfo) (formats : Format) wh
   told_once rows items read means polls unready made response same e owes is told =
       rw (sym same, owes, e, is) (ap (λ o. record { owes = (query_of relations client formats read).owes; outcome = o }) told)
 
-  sendable_once : (read means : RelationStatement) → read ≡ means → IsSendableOutcome (query_of relations client formats read).outcome
+  sendable_once : (read means : RelationStatement) → read ≡ means → IsSendableOutcome
+      (query_of relations client formats read).outcome
       → IsSendableOutcome (query_of relations client formats means).outcome
   sendable_once read means same h = subst (λ m. IsSendableOutcome (query_of relations client formats m).outcome) same h
 
@@ -68,16 +70,19 @@ returns g c =
     let same : c.deref.result.now.statement ≡ (arc_value c.args.portal.now.statement).statement = rw c.deref.ensures refl in
     record {
       unspent = unspent c.new.result.outcome (Ok c.in_ok-response.response) c.new.ensures.outcome;
-      told = told_once (g.B.ServedRelations.told c.args.self.now.relations) c.args.client.now c.args.portal.now.result_column_format
+      told = told_once (g.B.ServedRelations.told c.args.self.now.relations) c.args.client.now
+          c.args.portal.now.result_column_format
           g.B.Rows.RowSource.items g.B.Lines.CopySource.items c.deref.result.now.statement
           (arc_value c.args.portal.now.statement).statement c.polls_of.result c.new.result.unready c.new.result.outcome
           c.in_ok-response.response same
-          (polls_owed (g.B.ServedRelations.told c.args.self.now.relations) c.args.client.now c.args.portal.now.result_column_format
+          (polls_owed (g.B.ServedRelations.told c.args.self.now.relations) c.args.client.now
+          c.args.portal.now.result_column_format
           c.table.result.now c.named.result.now c.deref.result.now.statement c.polls_of.result c.table.ensures c.named.ensures
           c.polls_of.ensures)
           c.new.ensures.unready c.new.ensures.outcome c.in_ok-response.ensures.told;
       sendable = sendable_once (g.B.ServedRelations.told c.args.self.now.relations) c.args.client.now
-          c.args.portal.now.result_column_format c.deref.result.now.statement (arc_value c.args.portal.now.statement).statement same
+          c.args.portal.now.result_column_format c.deref.result.now.statement (arc_value c.args.portal.now.statement).statement
+          same
           c.in_ok-response.ensures.sendable;
     }
 
