@@ -135,11 +135,18 @@ fn deliver_through<R: RowSource, T: RowReceiver>(
 {
     let mut count = 0;
     while !is_reached(max_rows, count) {
-        if !deliver_one(alloc, rows, receiver, lent)? {
-            return Ok(DeliveredPage {
-                suspended: false,
-                delivered: delivered_after(delivered, count),
-            });
+        // Most rows come in the short way.
+        match rows.next_row(lent) {
+            Ok(true) => receiver.receive(alloc, lent)?,
+            Ok(false) => {
+                if !deliver_next(alloc, rows, receiver)? {
+                    return Ok(DeliveredPage {
+                        suspended: false,
+                        delivered: delivered_after(delivered, count),
+                    });
+                }
+            }
+            Err(_) => return Err(PgWireError::NoMemory),
         }
         // No list is so long that the count stands still; a receiver that counts rows alone may see
         // it.
@@ -149,33 +156,6 @@ fn deliver_through<R: RowSource, T: RowReceiver>(
         suspended: true,
         delivered: delivered_after(delivered, count),
     })
-}
-
-/// Delivers the next item where it is a row, and answers whether there was an item. Where it is an
-/// error, that is answered.
-#[inline(always)]
-fn deliver_one<R: RowSource, T: RowReceiver>(
-    alloc: Global,
-    rows: &mut R,
-    receiver: &mut T,
-    lent: &mut DataRow,
-) -> Result<bool, PgWireError>
-    ensures row { result ≡ Ok true → (row : DataRow) × (R.items rows.old ≡ Ok row ∷ R.items rows.new)
-        × (receiver.new ≡ T.with_rows receiver.old (row ∷ [])) }
-    ensures end { result ≡ Ok false → (R.items rows.old ≡ []) × (R.items rows.new ≡ [])
-        × (receiver.new ≡ receiver.old) }
-    ensures cut_short { IfErr result (λ error.
-        CutsPage (pos 1) (R.items rows.old) [] error (R.items rows.new)) }
-    ensures kept { OnErr result (receiver.new ≡ receiver.old) }
-    ensures own { IfErr result IsAnswerableItem }
-{
-    // Most rows come in the short way.
-    match rows.next_row(lent) {
-        Ok(true) => receiver.receive(alloc, lent)?,
-        Ok(false) => return deliver_next(alloc, rows, receiver),
-        Err(_) => return Err(PgWireError::NoMemory),
-    }
-    Ok(true)
 }
 
 /// Delivers the next item, which doesn't come in the short way, where it is a row, and answers
