@@ -133,23 +133,21 @@ fn deliver_through<R: RowSource, T: RowReceiver>(
         × (receiver.new ≡ T.with_rows receiver.old received)) }
     ensures own { IfErr result IsAnswerableItem }
 {
+    // No list is so long that the count stands still; a receiver that counts rows alone may see it.
     let mut count = 0;
     while !is_reached(max_rows, count) {
         // Most rows come in the short way.
-        match rows.next_row(lent) {
-            Ok(true) => receiver.receive(alloc, lent)?,
-            Ok(false) => {
-                if !deliver_next(alloc, rows, receiver)? {
-                    return Ok(DeliveredPage {
-                        suspended: false,
-                        delivered: delivered_after(delivered, count),
-                    });
-                }
-            }
-            Err(_) => return Err(PgWireError::NoMemory),
+        if rows.next_row(lent)? {
+            receiver.receive(alloc, lent)?;
+            count = count.saturating_add(1);
+            continue;
         }
-        // No list is so long that the count stands still; a receiver that counts rows alone may see
-        // it.
+        if !deliver_next(alloc, rows, receiver)? {
+            return Ok(DeliveredPage {
+                suspended: false,
+                delivered: delivered_after(delivered, count),
+            });
+        }
         count = count.saturating_add(1);
     }
     Ok(DeliveredPage {
