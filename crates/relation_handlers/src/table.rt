@@ -81,11 +81,9 @@ impl RelationTable {
         ensures valid { OnOk result (IsValid relations) }
         ensures refused { IfErr result (λ error. IsCause relations error) }
     {
-        let places = places_of(alloc, relations.as_slice())?;
-        let columns = shared_columns(alloc, relations.as_slice())?;
+        let named = judged(alloc, relations)?;
         let style_name = PgStr::copy_of(alloc, "intervalstyle")?;
         let options = SharedOptions::new(alloc)?;
-        let named = NamedRelations::shared(alloc, relations, places, columns)?;
         Ok(RelationTable {
             named,
             style_name,
@@ -149,6 +147,18 @@ impl RelationTable {
     {
         self.named.relations()
     }
+}
+
+/// The relations under their names, where they keep the rules.
+fn judged(alloc: Global, relations: PgList<Relation>) -> Result<Arc<NamedRelations>, TableError>
+    requires { length relations < 2 ^ 32 }
+    ensures ok { IfOk result (λ named. arc_value named ≡ relations) }
+    ensures valid { OnOk result (IsValid relations) }
+    ensures refused { IfErr result (λ error. IsCause relations error) }
+{
+    let places = places_of(alloc, relations.as_slice())?;
+    let columns = shared_columns(alloc, relations.as_slice())?;
+    Ok(NamedRelations::shared(alloc, relations, places, columns)?)
 }
 
 /// Where each name stands among relations that keep the rules.
