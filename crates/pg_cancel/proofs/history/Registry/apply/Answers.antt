@@ -57,6 +57,9 @@ pub invariant_of-self-2 : goal.invariant_of-self-2
 invariant_of-self-2 c =
     (legal c, subst (λ h. IsIndexOf h c.answer.new.self) (sym (items c)) (notes c).noted)
 
+pub returns-clause-entry : goal.returns-clause-entry
+returns-clause-entry c = items c
+
 pub returns-clause-legal : goal.returns-clause-legal
 returns-clause-legal c = legal c
 
