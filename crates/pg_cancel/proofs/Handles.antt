@@ -1,20 +1,21 @@
 -- What a call leaves of the handle that makes it, and what a registration leaves of the door.
-use Rattle.std.proofs.Common.{◌≡◌, ℕ, ℤ, false, List, [], take, Result, Err, sym, refl, ap, ◌∙◌, subst}
+use Rattle.std.proofs.Common.{◌≡◌, ℕ, ℤ, false, List, [], take, Result, Ok, Err, sym, refl, ap, ◌∙◌, subst}
 use Rattle.atomic_table.specs.Table.{Me}
 use Rattle.pg_cancel.specs.declared.entries.Entry.{Entry}
 use Rattle.pg_cancel.specs.declared.entries.RegistryCall.{RegistryCall}
 use Rattle.pg_cancel.specs.declared.entries.RegistryCall.TheVariants.{Register, Cancel, Narrow}
 use Rattle.pg_cancel.specs.declared.entries.RegistryAnswer.{RegistryAnswer}
+use Rattle.pg_cancel.specs.declared.entries.RegistryAnswer.TheVariants.{Taken}
 use Rattle.pg_cancel.specs.declared.roster.Roster.{Roster}
 use Rattle.pg_cancel.specs.declared.seat.View.{View}
 use Rattle.pg_cancel.specs.declared.manager.RegisterError.{RegisterError}
 use Rattle.pg_cancel.specs.declared.manager.RegisterError.TheVariants.{PidTaken, NoMemory}
 use Rattle.pg_cancel.specs.LegalHistory.{is_narrow}
-use Rattle.pg_cancel.specs.Connections.{Issuer, Connection, Witness, Made, Registers, Begins, IsNamed, entry}
+use Rattle.pg_cancel.specs.Connections.{Issuer, Connection, Witness, Made, Registers, Begins, IsNamed, calls_of, entry}
 use Rattle.pg_cancel.specs.RosterTable.{IsHandle, IsDoor, IsOpening, without_number, handle}
 use Rattle.pg_cancel.proofs.Events.{made_as, registers_as, named_more, named_short, named_first}
 
-abbrev Sat : Type 0
+abbrev pub Sat : Type 0
 Sat = Me Roster View
 
 -- the connection of a handle with this seat
@@ -37,8 +38,8 @@ pub kept : (m m' : Sat) (n : ℕ) (pid : ℤ) (key : List ℕ) → m' ≡ m → 
     → IsHandle m' n × IsNamed m'.0.mine n pid key
 kept m m' n pid key is x = subst (λ (z : Sat). IsHandle z n × IsNamed z.0.mine n pid key) (sym is) x
 
-pub still_seen : (issuer issuer' : Issuer) (m m' : Sat) (n : ℕ) (pid : ℤ) (key : List ℕ) (v : Connection) → issuer' ≡ issuer → m' ≡ m
-    → seen_by issuer m n pid key ≡ v → seen_by issuer' m' n pid key ≡ v
+pub still_seen : (issuer issuer' : Issuer) (m m' : Sat) (n : ℕ) (pid : ℤ) (key : List ℕ) (v : Connection)
+    → issuer' ≡ issuer → m' ≡ m → seen_by issuer m n pid key ≡ v → seen_by issuer' m' n pid key ≡ v
 still_seen issuer issuer' m m' n pid key v same is view = (λ i. seen_by (same i) (is i) n pid key) ∙ view
 
 -- the calls are one more, which is no Narrow, or is one
@@ -91,12 +92,46 @@ passed_handle m m' n pid key own is copied o =
     (subst (λ (z : Sat). IsHandle z n × IsNamed z.0.mine n pid key) (sym is)
     (((refl, refl), o.1, o.3, refl, o.5), named_first m.0.mine n pid key o.4))
 
-pub refused_door : (e : RegisterError) (r : Result ℕ RegisterError) (m m' : Sat) → r ≡ Err e → ((k : ℕ) → r ≡ Err (PidTaken k) → IsDoor m')
-    → (r ≡ Err NoMemory → m' ≡ m) → IsDoor m → IsDoor m'
-refused_door (PidTaken k) r m m' is taken none was = taken k is
-refused_door NoMemory r m m' is taken none was = subst IsDoor (sym (none is)) was
-
-pub registers_for : (n : ℕ) (p q : ℤ) (key : List ℕ) (d v : Witness) (x y : List Entry) (a : RegistryAnswer) → d ≡ v → p ≡ q → x ≡ y
-    → Registers n (Register p key) d.seen x a → Registers n (Register q key) v.seen y a
+pub registers_for : (n : ℕ) (p q : ℤ) (key : List ℕ) (d v : Witness) (x y : List Entry) (a : RegistryAnswer)
+    → d ≡ v → p ≡ q → x ≡ y → Registers n (Register p key) d.seen x a → Registers n (Register q key) v.seen y a
 registers_for n p q key d v x y a view pid goes made =
     subst (λ (w : Witness). Registers n (Register q key) w.seen y a) view (registers_as n p q key d.seen x y a pid goes made)
+
+pub passed_own : (m m' : Sat) (n : ℕ) (c : RegistryCall) → m' ≡ (handle m.0, []) → IsOpening m n c
+    → calls_of n m'.0.seen ≡ m'.0.mine
+passed_own m m' n c is o = subst (λ (z : Sat). calls_of n z.0.seen ≡ z.0.mine) (sym is) o.5.1
+
+-- the door and the handle have seen as much
+pub passed_seen : (m d m' : Sat) → d ≡ (without_number m.0, m.1) → m' ≡ (handle m.0, []) → m'.0.seen ≡ d.0.seen
+passed_seen m d m' door is = ap (λ (z : Sat). z.0.seen) is ∙ sym (ap (λ (z : Sat). z.0.seen) door)
+
+-- which results are not which errors
+pub ok_is_no_err : {A : Type 0} (h : A) (e : RegisterError) → ◌≡◌ {A = Result A RegisterError} (Ok h) (Err e) → ⊥
+ok_is_no_err {A} h e same = cc (same)
+
+pub no_pid : {A : Type 0} (k : ℕ) → ◌≡◌ {A = Result A RegisterError} (Err NoMemory) (Err (PidTaken k)) → ⊥
+no_pid {A} k same = cc (same)
+
+pub refused_taken : {A : Type 0} (e : RegisterError) (r : Result ℕ RegisterError) (p q : ℤ) (key : List ℕ) (d v : Witness)
+    (seen : List Entry)
+    → r ≡ Err e → d ≡ v → p ≡ q
+    → ((k : ℕ) → r ≡ Err (PidTaken k) → (n : ℕ) × Registers n (Register p key) d.seen seen (Taken k))
+    → (m : ℕ) → ◌≡◌ {A = Result A RegisterError} (Err e) (Err (PidTaken m))
+    → (n : ℕ) × Registers n (Register q key) v.seen seen (Taken m)
+refused_taken {A} e r p q key d v seen is view pid told m same =
+    let who : e ≡ PidTaken m = cc (same) in
+    let at : r ≡ Err (PidTaken m) = cc (is, who) in
+    let t = told m at in (t.0, registers_for t.0 p q key d v seen seen (Taken m) view pid refl t.1)
+
+-- the door with this seat
+abbrev pub witness : Issuer → Sat → Witness
+witness issuer m = record { issuer = issuer; seen = m.0.seen }
+
+pub refused_none : {A : Type 0} (e : RegisterError) (r : Result ℕ RegisterError) (issuer issuer' : Issuer) (m m' : Sat)
+    (v : Witness)
+    → r ≡ Err e → (r ≡ Err NoMemory → m' ≡ m) → issuer' ≡ issuer → witness issuer m ≡ v
+    → ◌≡◌ {A = Result A RegisterError} (Err e) (Err NoMemory) → witness issuer' m' ≡ v
+refused_none {A} e r issuer issuer' m m' v is none goes view same =
+    let which : e ≡ NoMemory = cc (same) in
+    let at : r ≡ Err NoMemory = cc (is, which) in
+    let back = none at in (λ i. witness (goes i) (back i)) ∙ view

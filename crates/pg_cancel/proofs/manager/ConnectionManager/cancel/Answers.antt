@@ -22,7 +22,8 @@ is_yes-requires g c = c.in_ok-answer.ensures.told
 
 pub invariant_of-handle : goal.invariant_of-handle
 invariant_of-handle g c =
-    let h = c.handle.inside in kept h.seat.me c.make_call.new.seat.me h.number h.pid h.key c.in_err-answer.ensures.err c.handle.invariant
+    let h = c.handle.inside in
+    kept h.seat.me c.make_call.new.seat.me h.number h.pid h.key c.in_err-answer.ensures.err c.handle.invariant
 
 pub invariant_of-handle-2 : goal.invariant_of-handle-2
 invariant_of-handle-2 g c =
@@ -38,12 +39,13 @@ returns-in_err-copy_of g c =
 pub returns-in_err-answer : goal.returns-in_err-answer
 returns-in_err-answer g c =
     let h = c.handle.inside in
+    let new = c.make_call.new.seat in
     let p = err_from_is_err_and c.from_residual-in_err-answer.result c.from_residual-in_err-answer.ensures.1 in
     rw p.1 (record {
       same = viewed _ c.args.handle.now _ c.handle.view_is c.make_call.ensures.same.0;
       ok = tt;
       exactly = tt;
-      err = still_seen _ _ h.seat.me c.make_call.new.seat.me _ _ _ _ c.make_call.ensures.same.0 c.in_err-answer.ensures.err c.handle.view_is;
+      err = still_seen _ _ h.seat.me new.me _ _ _ _ c.make_call.ensures.same.0 c.in_err-answer.ensures.err c.handle.view_is;
     })
 
 pub returns-clause-same : goal.returns-clause-same
@@ -53,7 +55,8 @@ pub returns-clause-ok : goal.returns-clause-ok
 returns-clause-ok g c =
     let pid : to_z w32 (of_z w32 c.args.pid) ≡ c.args.pid = search rules in
     let copied : c.in_ok-copy_of.field-0 ≡ c.args.key.now = c.in_ok-copy_of.ensures in
-    made_for _ c.args.handle.now _ _ _ _ _ _ c.handle.view_is (canceling _ _ _ _ pid copied) c.is_yes.ensures c.in_ok-answer.ensures.ok.1
+    made_for _ c.args.handle.now _ _ _ _ _ _
+    c.handle.view_is (canceling _ _ _ _ pid copied) c.is_yes.ensures c.in_ok-answer.ensures.ok.1
 
 pub returns-clause-exactly : goal.returns-clause-exactly
 returns-clause-exactly g c =

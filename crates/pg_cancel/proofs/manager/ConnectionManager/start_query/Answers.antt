@@ -18,7 +18,8 @@ make_call-requires g c =
 
 pub invariant_of-handle : goal.invariant_of-handle
 invariant_of-handle g c =
-    let h = c.handle.inside in kept h.seat.me c.make_call.new.seat.me h.number h.pid h.key c.in_err-make_call.ensures.err c.handle.invariant
+    let h = c.handle.inside in
+    kept h.seat.me c.make_call.new.seat.me h.number h.pid h.key c.in_err-make_call.ensures.err c.handle.invariant
 
 pub invariant_of-handle-2 : goal.invariant_of-handle-2
 invariant_of-handle-2 g c =
@@ -29,11 +30,12 @@ invariant_of-handle-2 g c =
 pub returns-in_err-make_call : goal.returns-in_err-make_call
 returns-in_err-make_call g c =
     let h = c.handle.inside in
+    let new = c.make_call.new.seat in
     let p = err_from_is_err_and c.from_residual.result c.from_residual.ensures.1 in
     rw p.1 (record {
       same = viewed _ c.args.handle.now _ c.handle.view_is c.make_call.ensures.same.0;
       ok = tt;
-      err = still_seen _ _ h.seat.me c.make_call.new.seat.me _ _ _ _ c.make_call.ensures.same.0 c.in_err-make_call.ensures.err c.handle.view_is;
+      err = still_seen _ _ h.seat.me new.me _ _ _ _ c.make_call.ensures.same.0 c.in_err-make_call.ensures.err c.handle.view_is;
     })
 
 pub returns-clause-same : goal.returns-clause-same
