@@ -8,3 +8,4 @@ pub mod Beginnings
 pub mod Views
 pub mod Turning
 pub mod Events
+pub mod Handles

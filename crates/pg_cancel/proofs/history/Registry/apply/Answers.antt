@@ -1,5 +1,6 @@
 use Rattle.std.proofs.Common.{◌≡◌, ◌∷◌, [], ◌++◌, length, ⊎_elim, w32, rules, ap, subst, sym, ◌∙◌}
 use mir.Val.{to_z, of_z}
+use Rattle.std.proofs.lemmas.Result.{err_from_is_err_and}
 use Rattle.pg_cancel.specs.declared.entries.RegistryCall.TheVariants.{Register, Start, Ask, Cancel, Narrow, Unregister}
 use Rattle.pg_cancel.specs.declared.entries.RegistryAnswer.TheVariants.{Registered, Taken, Done, Yes, No}
 use Rattle.pg_cancel.specs.LegalHistory.{IsLegal, IsLive, IsAnswer, entry_number, entry_of}
@@ -56,6 +57,56 @@ answer-requires c =
 pub invariant_of-self-2 : goal.invariant_of-self-2
 invariant_of-self-2 c =
     (legal c, subst (λ h. IsIndexOf h c.answer.new.self) (sym (items c)) (notes c).noted)
+
+pub invariant_of-self : goal.invariant_of-self
+invariant_of-self c =
+    let same = sym c.reserve.ensures.items in
+    (subst IsLegal same c.self.invariant.0, subst (λ h. IsIndexOf h c.self.inside.holders) same c.self.invariant.1)
+
+pub returns-in_err-reserve : goal.returns-in_err-reserve
+returns-in_err-reserve c =
+    let p = err_from_is_err_and c.from_residual.result c.from_residual.ensures.1 in
+    let same : c.reserve.new.self.items ≡ c.args.self.now = c.reserve.ensures.items ∙ c.self.view_is in
+    rw p.1 (record {
+      entry = tt;
+      legal = subst IsLegal (sym c.reserve.ensures.items) c.self.invariant.0;
+      err = same;
+      answer = tt;
+      determined = tt;
+      registered = λ pid key is. tt;
+      taken = λ pid key m is. tt;
+      ask_yes = λ is. tt;
+      ask_no = λ is. tt;
+      cancel_yes = λ pid key is. tt;
+      cancel_no = λ pid key is. tt;
+      done = λ either. tt;
+      lives = λ no. absurd (cc (no));
+      stays = λ n live other. subst (λ h. IsLive h n) (sym same) live;
+    })
+
+pub returns-in_err-answer : goal.returns-in_err-answer
+returns-in_err-answer c =
+    let p = err_from_is_err_and c.from_residual-in_err-answer.result c.from_residual-in_err-answer.ensures.1 in
+    let same : c.reserve.new.self.items ≡ c.args.self.now = c.reserve.ensures.items ∙ c.self.view_is in
+    rw p.1 (record {
+      entry = tt;
+      legal = subst IsLegal (sym c.reserve.ensures.items) c.self.invariant.0;
+      err = same;
+      answer = tt;
+      determined = tt;
+      registered = λ pid key is. tt;
+      taken = λ pid key m is. tt;
+      ask_yes = λ is. tt;
+      ask_no = λ is. tt;
+      cancel_yes = λ pid key is. tt;
+      cancel_no = λ pid key is. tt;
+      done = λ either. tt;
+      lives = λ no. absurd (cc (no));
+      stays = λ n live other. subst (λ h. IsLive h n) (sym same) live;
+    })
+
+pub returns-clause-entry : goal.returns-clause-entry
+returns-clause-entry c = items c
 
 pub returns-clause-legal : goal.returns-clause-legal
 returns-clause-legal c = legal c

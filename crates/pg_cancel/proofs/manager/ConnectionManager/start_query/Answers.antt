@@ -1,11 +1,45 @@
-use Rattle.std.proofs.Common.{rules, ◌≡◌, w32, sym, subst}
+use Rattle.std.proofs.Common.{rules, ◌≡◌, w32, refl, ap, ◌∙◌}
 use mir.Val.{to_z, of_z}
-use Rattle.pg_cancel.specs.Connections.{Begins}
+use Rattle.std.proofs.lemmas.Result.{err_from_is_err_and}
+use Rattle.pg_cancel.specs.declared.entries.RegistryCall.TheVariants.{Start}
+use Rattle.pg_cancel.specs.Connections.{Connection}
+use Rattle.pg_cancel.proofs.Handles.{begins_named, kept, still_seen, made_more, viewed, made_for}
 use Rattle.pg_cancel.proofs.manager.ConnectionManager.start_query.Goals as goal
 
-pub make_call-requires-clause-begins : goal.make_call-requires-clause-begins
-make_call-requires-clause-begins g c =
+pub make_call-requires : goal.make_call-requires
+make_call-requires g c =
     let h = c.handle.inside in
-    let pid : to_z w32 (of_z w32 h.pid) ≡ h.pid = search rules in
-    let x = c.handle.invariant.1 in
-    (x.0, subst (λ p. Begins h.seat.me.0.mine h.number p x.0) (sym pid) x.1)
+    let pid : to_z w32 (of_z w32 h.pid) ≡ h.pid = search rules in record {
+      issued = ap (λ (v : Connection). v.issuer) c.handle.view_is ∙ c.requires.issued;
+      handle = c.handle.invariant.0;
+      begins = begins_named _ _ _ _ _ pid c.handle.invariant.1;
+      call = refl;
+    }
+
+pub invariant_of-handle : goal.invariant_of-handle
+invariant_of-handle g c =
+    let h = c.handle.inside in
+    kept h.seat.me c.make_call.new.seat.me h.number h.pid h.key c.in_err-make_call.ensures.err c.handle.invariant
+
+pub invariant_of-handle-2 : goal.invariant_of-handle-2
+invariant_of-handle-2 g c =
+    let h = c.handle.inside in
+    let made = c.in_ok-make_call.ensures.ok in
+    made_more h.seat.me c.make_call.new.seat.me h.number h.pid h.key Start _ refl made.0 made.1 c.handle.invariant.1
+
+pub returns-in_err-make_call : goal.returns-in_err-make_call
+returns-in_err-make_call g c =
+    let h = c.handle.inside in
+    let new = c.make_call.new.seat in
+    let p = err_from_is_err_and c.from_residual.result c.from_residual.ensures.1 in
+    rw p.1 (record {
+      same = viewed _ c.args.handle.now _ c.handle.view_is c.make_call.ensures.same.0;
+      ok = tt;
+      err = still_seen _ _ h.seat.me new.me _ _ _ _ c.make_call.ensures.same.0 c.in_err-make_call.ensures.err c.handle.view_is;
+    })
+
+pub returns-clause-same : goal.returns-clause-same
+returns-clause-same g c = viewed _ c.args.handle.now _ c.handle.view_is c.make_call.ensures.same.0
+
+pub returns-clause-ok : goal.returns-clause-ok
+returns-clause-ok g c = made_for _ c.args.handle.now _ _ _ _ _ _ c.handle.view_is refl c.in-Done.is c.in_ok-make_call.ensures.ok.1
