@@ -104,55 +104,72 @@ extend_reserved-requires c =
 
 pub put-requires : goal.put-requires
 put-requires c =
-    first_fits (string c.in-ParameterStatus.m.name) (string c.in-ParameterStatus.m.value) _ (fits c.args.item.now _ _ (ap reply_body c.in-ParameterStatus.is) c.requires.room)
+    first_fits (string c.in-ParameterStatus.m.name) (string c.in-ParameterStatus.m.value) _
+    (fits c.args.item.now _ _ (ap reply_body c.in-ParameterStatus.is) c.requires.room)
 
 pub put-requires-in-ParameterStatus : goal.put-requires-in-ParameterStatus
 put-requires-in-ParameterStatus c =
-    rest_fits (string c.in-ParameterStatus.m.name) (string c.in-ParameterStatus.m.value) _ _ (fits c.args.item.now _ _ (ap reply_body c.in-ParameterStatus.is) c.requires.room)
+    rest_fits (string c.in-ParameterStatus.m.name) (string c.in-ParameterStatus.m.value) _ _
+    (fits c.args.item.now _ _ (ap reply_body c.in-ParameterStatus.is) c.requires.room)
     c.put.ensures.spare
 
 pub put-requires-in-BackendKeyData : goal.put-requires-in-BackendKeyData
 put-requires-in-BackendKeyData c =
-    first_fits (int32 c.in-BackendKeyData.m.pid) c.in-BackendKeyData.m.secret_key _ (fits c.args.item.now _ _ (ap reply_body c.in-BackendKeyData.is) c.requires.room)
+    first_fits (int32 c.in-BackendKeyData.m.pid) c.in-BackendKeyData.m.secret_key _
+    (fits c.args.item.now _ _ (ap reply_body c.in-BackendKeyData.is) c.requires.room)
 
 pub extend_reserved-requires-in-BackendKeyData : goal.extend_reserved-requires-in-BackendKeyData
 extend_reserved-requires-in-BackendKeyData c =
-    let is : reply_body c.args.item.now ≡ int32 c.in-BackendKeyData.m.pid ++ c.as_slice.result.now = ap reply_body c.in-BackendKeyData.is ∙ ap (λ l. int32 c.in-BackendKeyData.m.pid ++ l) (sym c.as_slice.ensures.bytes) in
-    rest_fits (int32 c.in-BackendKeyData.m.pid) c.as_slice.result.now _ _ (fits c.args.item.now _ _ is c.requires.room) c.put-in-BackendKeyData.ensures.spare
+    let is : reply_body c.args.item.now ≡ int32 c.in-BackendKeyData.m.pid ++ c.as_slice.result.now =
+    ap reply_body c.in-BackendKeyData.is ∙ ap (λ l. int32 c.in-BackendKeyData.m.pid ++ l) (sym c.as_slice.ensures.bytes) in
+    rest_fits (int32 c.in-BackendKeyData.m.pid) c.as_slice.result.now _ _
+    (fits c.args.item.now _ _ is c.requires.room) c.put-in-BackendKeyData.ensures.spare
 
 pub extend_reserved-requires-in-ReadyForQuery : goal.extend_reserved-requires-in-ReadyForQuery
 extend_reserved-requires-in-ReadyForQuery c =
-    let is : reply_body c.args.item.now ≡ c.status_byte.result ∷ [] = ap reply_body c.in-ReadyForQuery.is ∙ ap (λ b. b ∷ []) (sym c.status_byte.ensures) in
+    let is : reply_body c.args.item.now ≡ c.status_byte.result ∷ [] =
+    ap reply_body c.in-ReadyForQuery.is ∙ ap (λ b. b ∷ []) (sym c.status_byte.ensures) in
     fits c.args.item.now _ _ is c.requires.room
 
 pub put_list-requires-clause-count : goal.put_list-requires-clause-count
 put_list-requires-clause-count c =
-    few _ (columns_fit c.args.item.now (pos (length c.as_slice-in-ParameterDescription.result.now)) (ap reply_counts c.in-ParameterDescription.is
+    few _ (columns_fit c.args.item.now (pos (length c.as_slice-in-ParameterDescription.result.now))
+    (ap reply_counts c.in-ParameterDescription.is
     ∙ ap (λ (l : List ℕ). pos (length l) ∷ []) (sym c.as_slice-in-ParameterDescription.ensures)) c.requires.fits.counts)
 
 pub put_list-requires-clause-room : goal.put_list-requires-clause-room
 put_list-requires-clause-room c =
-    let is : reply_body c.args.item.now ≡ count16 (length c.as_slice-in-ParameterDescription.result.now) ++ flat_map count32 c.as_slice-in-ParameterDescription.result.now = ap reply_body c.in-ParameterDescription.is ∙ ap (λ l. count16 (length l) ++ flat_map count32 l) (sym c.as_slice-in-ParameterDescription.ensures) in
+    let is : reply_body c.args.item.now ≡ count16 (length c.as_slice-in-ParameterDescription.result.now) ++ flat_map count32
+    c.as_slice-in-ParameterDescription.result.now =
+    ap reply_body c.in-ParameterDescription.is
+    ∙ ap (λ l. count16 (length l) ++ flat_map count32 l) (sym c.as_slice-in-ParameterDescription.ensures) in
     fits c.args.item.now _ _ is c.requires.room
 
 pub put_list-requires-in-RowDescription-clause-count : goal.put_list-requires-in-RowDescription-clause-count
 put_list-requires-in-RowDescription-clause-count c =
-    few _ (columns_fit c.args.item.now (pos (length c.as_slice-in-RowDescription.result.now)) (ap reply_counts c.in-RowDescription.is
+    few _ (columns_fit c.args.item.now (pos (length c.as_slice-in-RowDescription.result.now))
+    (ap reply_counts c.in-RowDescription.is
     ∙ ap (λ (l : List FieldDescription). pos (length l) ∷ []) (sym c.as_slice-in-RowDescription.ensures)) c.requires.fits.counts)
 
 pub put_list-requires-in-RowDescription-clause-room : goal.put_list-requires-in-RowDescription-clause-room
 put_list-requires-in-RowDescription-clause-room c =
-    let is : reply_body c.args.item.now ≡ count16 (length c.as_slice-in-RowDescription.result.now) ++ flat_map field_description c.as_slice-in-RowDescription.result.now = ap reply_body c.in-RowDescription.is ∙ ap (λ l. count16 (length l) ++ flat_map field_description l) (sym c.as_slice-in-RowDescription.ensures) in
+    let is : reply_body c.args.item.now ≡ count16 (length
+    c.as_slice-in-RowDescription.result.now) ++ flat_map field_description c.as_slice-in-RowDescription.result.now =
+    ap reply_body c.in-RowDescription.is
+    ∙ ap (λ l. count16 (length l) ++ flat_map field_description l) (sym c.as_slice-in-RowDescription.ensures) in
     fits c.args.item.now _ _ is c.requires.room
 
 pub put-requires-in-DataRow : goal.put-requires-in-DataRow
 put-requires-in-DataRow c =
-    first_fits (int16 c.in-DataRow.m.field_count) c.in-DataRow.m.payload _ (fits c.args.item.now _ _ (ap reply_body c.in-DataRow.is) c.requires.room)
+    first_fits (int16 c.in-DataRow.m.field_count) c.in-DataRow.m.payload _
+    (fits c.args.item.now _ _ (ap reply_body c.in-DataRow.is) c.requires.room)
 
 pub extend_reserved-requires-in-DataRow : goal.extend_reserved-requires-in-DataRow
 extend_reserved-requires-in-DataRow c =
-    let is : reply_body c.args.item.now ≡ int16 c.in-DataRow.m.field_count ++ c.as_slice-in-DataRow.result.now = ap reply_body c.in-DataRow.is ∙ ap (λ l. int16 c.in-DataRow.m.field_count ++ l) (sym c.as_slice-in-DataRow.ensures) in
-    rest_fits (int16 c.in-DataRow.m.field_count) c.as_slice-in-DataRow.result.now _ _ (fits c.args.item.now _ _ is c.requires.room) c.put-in-DataRow.ensures.spare
+    let is : reply_body c.args.item.now ≡ int16 c.in-DataRow.m.field_count ++ c.as_slice-in-DataRow.result.now =
+    ap reply_body c.in-DataRow.is ∙ ap (λ l. int16 c.in-DataRow.m.field_count ++ l) (sym c.as_slice-in-DataRow.ensures) in
+    rest_fits (int16 c.in-DataRow.m.field_count) c.as_slice-in-DataRow.result.now _ _
+    (fits c.args.item.now _ _ is c.requires.room) c.put-in-DataRow.ensures.spare
 
 pub put-requires-in-CommandComplete : goal.put-requires-in-CommandComplete
 put-requires-in-CommandComplete c =
@@ -166,83 +183,137 @@ put-requires-in-ErrorResponse c =
 
 pub put_columns-requires : goal.put_columns-requires
 put_columns-requires c =
-    let is : reply_body c.args.item.now ≡ copy_columns c.in-CopyInResponse.m.format c.in-CopyInResponse.m.columns c.as_slice-in-CopyInResponse.result.now = ap reply_body c.in-CopyInResponse.is ∙ ap (λ l. copy_columns c.in-CopyInResponse.m.format c.in-CopyInResponse.m.columns l) (sym c.as_slice-in-CopyInResponse.ensures) in
+    let is : reply_body c.args.item.now ≡ copy_columns c.in-CopyInResponse.m.format c.in-CopyInResponse.m.columns
+    c.as_slice-in-CopyInResponse.result.now =
+    ap reply_body c.in-CopyInResponse.is
+    ∙ ap (λ l. copy_columns c.in-CopyInResponse.m.format c.in-CopyInResponse.m.columns l) (sym
+    c.as_slice-in-CopyInResponse.ensures) in
     fits c.args.item.now _ _ is c.requires.room
 
 pub put_columns-requires-in-CopyOutResponse : goal.put_columns-requires-in-CopyOutResponse
 put_columns-requires-in-CopyOutResponse c =
-    let is : reply_body c.args.item.now ≡ copy_columns c.in-CopyOutResponse.m.format c.in-CopyOutResponse.m.columns c.as_slice-in-CopyOutResponse.result.now = ap reply_body c.in-CopyOutResponse.is ∙ ap (λ l. copy_columns c.in-CopyOutResponse.m.format c.in-CopyOutResponse.m.columns l) (sym c.as_slice-in-CopyOutResponse.ensures) in
+    let is : reply_body c.args.item.now ≡ copy_columns c.in-CopyOutResponse.m.format c.in-CopyOutResponse.m.columns
+    c.as_slice-in-CopyOutResponse.result.now =
+    ap reply_body c.in-CopyOutResponse.is
+    ∙ ap (λ l. copy_columns c.in-CopyOutResponse.m.format c.in-CopyOutResponse.m.columns l) (sym
+    c.as_slice-in-CopyOutResponse.ensures) in
     fits c.args.item.now _ _ is c.requires.room
 
 pub put_columns-requires-in-CopyBothResponse : goal.put_columns-requires-in-CopyBothResponse
 put_columns-requires-in-CopyBothResponse c =
-    let is : reply_body c.args.item.now ≡ copy_columns c.in-CopyBothResponse.m.format c.in-CopyBothResponse.m.columns c.as_slice-in-CopyBothResponse.result.now = ap reply_body c.in-CopyBothResponse.is ∙ ap (λ l. copy_columns c.in-CopyBothResponse.m.format c.in-CopyBothResponse.m.columns l) (sym c.as_slice-in-CopyBothResponse.ensures) in
+    let is : reply_body c.args.item.now ≡ copy_columns c.in-CopyBothResponse.m.format c.in-CopyBothResponse.m.columns
+    c.as_slice-in-CopyBothResponse.result.now =
+    ap reply_body c.in-CopyBothResponse.is
+    ∙ ap (λ l. copy_columns c.in-CopyBothResponse.m.format c.in-CopyBothResponse.m.columns l) (sym
+    c.as_slice-in-CopyBothResponse.ensures) in
     fits c.args.item.now _ _ is c.requires.room
 
 pub extend_reserved-requires-in-CopyData : goal.extend_reserved-requires-in-CopyData
 extend_reserved-requires-in-CopyData c =
-    let is : reply_body c.args.item.now ≡ c.as_slice-in-CopyData.result.now = ap reply_body c.in-CopyData.is ∙ sym c.as_slice-in-CopyData.ensures in
+    let is : reply_body c.args.item.now ≡ c.as_slice-in-CopyData.result.now =
+    ap reply_body c.in-CopyData.is ∙ sym c.as_slice-in-CopyData.ensures in
     fits c.args.item.now _ _ is c.requires.room
 
 pub returns-in-AuthenticationOk : goal.returns-in-AuthenticationOk
 returns-in-AuthenticationOk c =
     let is : reply_body c.args.item.now ≡ count32 0 = ap reply_body c.in-AuthenticationOk.is in
-    record { items = written c.args.item.now _ _ _ is c.extend_reserved.ensures.items; spare = left_over c.args.item.now _ _ _ is c.extend_reserved.ensures.spare }
+    record {
+      items = written c.args.item.now _ _ _ is c.extend_reserved.ensures.items;
+      spare = left_over c.args.item.now _ _ _ is c.extend_reserved.ensures.spare;
+    }
 
 pub returns-in-ParameterStatus : goal.returns-in-ParameterStatus
 returns-in-ParameterStatus c =
-    let is : reply_body c.args.item.now ≡ string c.in-ParameterStatus.m.name ++ string c.in-ParameterStatus.m.value = ap reply_body c.in-ParameterStatus.is in
+    let is : reply_body c.args.item.now ≡ string c.in-ParameterStatus.m.name ++ string c.in-ParameterStatus.m.value =
+    ap reply_body c.in-ParameterStatus.is in
     record {
-      items = written c.args.item.now _ _ _ is (both (string c.in-ParameterStatus.m.name) (string c.in-ParameterStatus.m.value) _ _ _ c.put.ensures.items c.put-in-ParameterStatus.ensures.items);
-      spare = left_over c.args.item.now _ _ _ is (both_left (string c.in-ParameterStatus.m.name) (string c.in-ParameterStatus.m.value) _ _ _ c.put.ensures.spare c.put-in-ParameterStatus.ensures.spare);
+      items = written c.args.item.now _ _ _ is
+          (both (string c.in-ParameterStatus.m.name) (string c.in-ParameterStatus.m.value) _ _ _ c.put.ensures.items
+          c.put-in-ParameterStatus.ensures.items);
+      spare = left_over c.args.item.now _ _ _ is
+          (both_left (string c.in-ParameterStatus.m.name) (string c.in-ParameterStatus.m.value) _ _ _ c.put.ensures.spare
+          c.put-in-ParameterStatus.ensures.spare);
     }
 
 pub returns-in-BackendKeyData : goal.returns-in-BackendKeyData
 returns-in-BackendKeyData c =
-    let is : reply_body c.args.item.now ≡ int32 c.in-BackendKeyData.m.pid ++ c.as_slice.result.now = ap reply_body c.in-BackendKeyData.is ∙ ap (λ l. int32 c.in-BackendKeyData.m.pid ++ l) (sym c.as_slice.ensures.bytes) in
+    let is : reply_body c.args.item.now ≡ int32 c.in-BackendKeyData.m.pid ++ c.as_slice.result.now =
+    ap reply_body c.in-BackendKeyData.is ∙ ap (λ l. int32 c.in-BackendKeyData.m.pid ++ l) (sym c.as_slice.ensures.bytes) in
     record {
-      items = written c.args.item.now _ _ _ is (both (int32 c.in-BackendKeyData.m.pid) (c.as_slice.result.now) _ _ _ c.put-in-BackendKeyData.ensures.items c.extend_reserved-in-BackendKeyData.ensures.items);
-      spare = left_over c.args.item.now _ _ _ is (both_left (int32 c.in-BackendKeyData.m.pid) (c.as_slice.result.now) _ _ _ c.put-in-BackendKeyData.ensures.spare c.extend_reserved-in-BackendKeyData.ensures.spare);
+      items = written c.args.item.now _ _ _ is
+          (both (int32 c.in-BackendKeyData.m.pid) (c.as_slice.result.now) _ _ _ c.put-in-BackendKeyData.ensures.items
+          c.extend_reserved-in-BackendKeyData.ensures.items);
+      spare = left_over c.args.item.now _ _ _ is
+          (both_left (int32 c.in-BackendKeyData.m.pid) (c.as_slice.result.now) _ _ _ c.put-in-BackendKeyData.ensures.spare
+          c.extend_reserved-in-BackendKeyData.ensures.spare);
     }
 
 pub returns-in-ReadyForQuery : goal.returns-in-ReadyForQuery
 returns-in-ReadyForQuery c =
-    let is : reply_body c.args.item.now ≡ c.status_byte.result ∷ [] = ap reply_body c.in-ReadyForQuery.is ∙ ap (λ b. b ∷ []) (sym c.status_byte.ensures) in
-    record { items = written c.args.item.now _ _ _ is c.extend_reserved-in-ReadyForQuery.ensures.items; spare = left_over c.args.item.now _ _ _ is c.extend_reserved-in-ReadyForQuery.ensures.spare }
+    let is : reply_body c.args.item.now ≡ c.status_byte.result ∷ [] =
+    ap reply_body c.in-ReadyForQuery.is ∙ ap (λ b. b ∷ []) (sym c.status_byte.ensures) in
+    record {
+      items = written c.args.item.now _ _ _ is c.extend_reserved-in-ReadyForQuery.ensures.items;
+      spare = left_over c.args.item.now _ _ _ is c.extend_reserved-in-ReadyForQuery.ensures.spare;
+    }
 
 pub returns-in-ParameterDescription : goal.returns-in-ParameterDescription
 returns-in-ParameterDescription c =
-    let is : reply_body c.args.item.now ≡ count16 (length c.as_slice-in-ParameterDescription.result.now) ++ flat_map count32 c.as_slice-in-ParameterDescription.result.now = ap reply_body c.in-ParameterDescription.is ∙ ap (λ l. count16 (length l) ++ flat_map count32 l) (sym c.as_slice-in-ParameterDescription.ensures) in
-    record { items = written c.args.item.now _ _ _ is c.put_list.ensures.items; spare = left_over c.args.item.now _ _ _ is c.put_list.ensures.spare }
+    let is : reply_body c.args.item.now ≡ count16 (length c.as_slice-in-ParameterDescription.result.now) ++ flat_map count32
+    c.as_slice-in-ParameterDescription.result.now =
+    ap reply_body c.in-ParameterDescription.is
+    ∙ ap (λ l. count16 (length l) ++ flat_map count32 l) (sym c.as_slice-in-ParameterDescription.ensures) in
+    record {
+      items = written c.args.item.now _ _ _ is c.put_list.ensures.items;
+      spare = left_over c.args.item.now _ _ _ is c.put_list.ensures.spare;
+    }
 
 pub returns-in-RowDescription : goal.returns-in-RowDescription
 returns-in-RowDescription c =
-    let is : reply_body c.args.item.now ≡ count16 (length c.as_slice-in-RowDescription.result.now) ++ flat_map field_description c.as_slice-in-RowDescription.result.now = ap reply_body c.in-RowDescription.is ∙ ap (λ l. count16 (length l) ++ flat_map field_description l) (sym c.as_slice-in-RowDescription.ensures) in
-    record { items = written c.args.item.now _ _ _ is c.put_list-in-RowDescription.ensures.items; spare = left_over c.args.item.now _ _ _ is c.put_list-in-RowDescription.ensures.spare }
+    let is : reply_body c.args.item.now ≡ count16 (length
+    c.as_slice-in-RowDescription.result.now) ++ flat_map field_description c.as_slice-in-RowDescription.result.now =
+    ap reply_body c.in-RowDescription.is
+    ∙ ap (λ l. count16 (length l) ++ flat_map field_description l) (sym c.as_slice-in-RowDescription.ensures) in
+    record {
+      items = written c.args.item.now _ _ _ is c.put_list-in-RowDescription.ensures.items;
+      spare = left_over c.args.item.now _ _ _ is c.put_list-in-RowDescription.ensures.spare;
+    }
 
 pub returns-in-DataRow : goal.returns-in-DataRow
 returns-in-DataRow c =
-    let is : reply_body c.args.item.now ≡ int16 c.in-DataRow.m.field_count ++ c.as_slice-in-DataRow.result.now = ap reply_body c.in-DataRow.is ∙ ap (λ l. int16 c.in-DataRow.m.field_count ++ l) (sym c.as_slice-in-DataRow.ensures) in
+    let is : reply_body c.args.item.now ≡ int16 c.in-DataRow.m.field_count ++ c.as_slice-in-DataRow.result.now =
+    ap reply_body c.in-DataRow.is ∙ ap (λ l. int16 c.in-DataRow.m.field_count ++ l) (sym c.as_slice-in-DataRow.ensures) in
     record {
-      items = written c.args.item.now _ _ _ is (both (int16 c.in-DataRow.m.field_count) (c.as_slice-in-DataRow.result.now) _ _ _ c.put-in-DataRow.ensures.items c.extend_reserved-in-DataRow.ensures.items);
-      spare = left_over c.args.item.now _ _ _ is (both_left (int16 c.in-DataRow.m.field_count) (c.as_slice-in-DataRow.result.now) _ _ _ c.put-in-DataRow.ensures.spare c.extend_reserved-in-DataRow.ensures.spare);
+      items = written c.args.item.now _ _ _ is
+          (both (int16 c.in-DataRow.m.field_count) (c.as_slice-in-DataRow.result.now) _ _ _ c.put-in-DataRow.ensures.items
+          c.extend_reserved-in-DataRow.ensures.items);
+      spare = left_over c.args.item.now _ _ _ is
+          (both_left (int16 c.in-DataRow.m.field_count) (c.as_slice-in-DataRow.result.now) _ _ _ c.put-in-DataRow.ensures.spare
+          c.extend_reserved-in-DataRow.ensures.spare);
     }
 
 pub returns-in-CommandComplete : goal.returns-in-CommandComplete
 returns-in-CommandComplete c =
     let is : reply_body c.args.item.now ≡ string c.in-CommandComplete.m.tag = ap reply_body c.in-CommandComplete.is in
-    record { items = written c.args.item.now _ _ _ is c.put-in-CommandComplete.ensures.items; spare = left_over c.args.item.now _ _ _ is c.put-in-CommandComplete.ensures.spare }
+    record {
+      items = written c.args.item.now _ _ _ is c.put-in-CommandComplete.ensures.items;
+      spare = left_over c.args.item.now _ _ _ is c.put-in-CommandComplete.ensures.spare;
+    }
 
 pub returns-in-ErrorResponse : goal.returns-in-ErrorResponse
 returns-in-ErrorResponse c =
     let is : reply_body c.args.item.now ≡ error_fields c.in-ErrorResponse.m.info = ap reply_body c.in-ErrorResponse.is in
-    record { items = written c.args.item.now _ _ _ is c.put-in-ErrorResponse.ensures.items; spare = left_over c.args.item.now _ _ _ is c.put-in-ErrorResponse.ensures.spare }
+    record {
+      items = written c.args.item.now _ _ _ is c.put-in-ErrorResponse.ensures.items;
+      spare = left_over c.args.item.now _ _ _ is c.put-in-ErrorResponse.ensures.spare;
+    }
 
 pub returns-in-CopyInResponse : goal.returns-in-CopyInResponse
 returns-in-CopyInResponse c =
     let m = c.in-CopyInResponse.m in
     let is : reply_body c.args.item.now ≡ copy_columns m.format m.columns c.as_slice-in-CopyInResponse.result.now =
-    ap reply_body c.in-CopyInResponse.is ∙ ap (λ l. copy_columns m.format m.columns l) (sym c.as_slice-in-CopyInResponse.ensures) in
+    ap reply_body c.in-CopyInResponse.is
+    ∙ ap (λ l. copy_columns m.format m.columns l) (sym c.as_slice-in-CopyInResponse.ensures) in
     let small : FitsSigned w8 m.format = search rules in
     let short = columns_fit c.args.item.now m.columns (ap reply_counts c.in-CopyInResponse.is) c.requires.fits.counts in
     record {
@@ -255,7 +326,8 @@ pub returns-in-CopyOutResponse : goal.returns-in-CopyOutResponse
 returns-in-CopyOutResponse c =
     let m = c.in-CopyOutResponse.m in
     let is : reply_body c.args.item.now ≡ copy_columns m.format m.columns c.as_slice-in-CopyOutResponse.result.now =
-    ap reply_body c.in-CopyOutResponse.is ∙ ap (λ l. copy_columns m.format m.columns l) (sym c.as_slice-in-CopyOutResponse.ensures) in
+    ap reply_body c.in-CopyOutResponse.is
+    ∙ ap (λ l. copy_columns m.format m.columns l) (sym c.as_slice-in-CopyOutResponse.ensures) in
     let small : FitsSigned w8 m.format = search rules in
     let short = columns_fit c.args.item.now m.columns (ap reply_counts c.in-CopyOutResponse.is) c.requires.fits.counts in
     record {
@@ -268,7 +340,8 @@ pub returns-in-CopyBothResponse : goal.returns-in-CopyBothResponse
 returns-in-CopyBothResponse c =
     let m = c.in-CopyBothResponse.m in
     let is : reply_body c.args.item.now ≡ copy_columns m.format m.columns c.as_slice-in-CopyBothResponse.result.now =
-    ap reply_body c.in-CopyBothResponse.is ∙ ap (λ l. copy_columns m.format m.columns l) (sym c.as_slice-in-CopyBothResponse.ensures) in
+    ap reply_body c.in-CopyBothResponse.is
+    ∙ ap (λ l. copy_columns m.format m.columns l) (sym c.as_slice-in-CopyBothResponse.ensures) in
     let small : FitsSigned w8 m.format = search rules in
     let short = columns_fit c.args.item.now m.columns (ap reply_counts c.in-CopyBothResponse.is) c.requires.fits.counts in
     record {
@@ -279,12 +352,21 @@ returns-in-CopyBothResponse c =
 
 pub returns-in-CopyData : goal.returns-in-CopyData
 returns-in-CopyData c =
-    let is : reply_body c.args.item.now ≡ c.as_slice-in-CopyData.result.now = ap reply_body c.in-CopyData.is ∙ sym c.as_slice-in-CopyData.ensures in
-    record { items = written c.args.item.now _ _ _ is c.extend_reserved-in-CopyData.ensures.items; spare = left_over c.args.item.now _ _ _ is c.extend_reserved-in-CopyData.ensures.spare }
+    let is : reply_body c.args.item.now ≡ c.as_slice-in-CopyData.result.now =
+    ap reply_body c.in-CopyData.is ∙ sym c.as_slice-in-CopyData.ensures in
+    record {
+      items = written c.args.item.now _ _ _ is c.extend_reserved-in-CopyData.ensures.items;
+      spare = left_over c.args.item.now _ _ _ is c.extend_reserved-in-CopyData.ensures.spare;
+    }
 
 pub returns-in_default : goal.returns-in_default
 returns-in_default c =
-    let is : reply_body c.args.item.now ≡ [] = no_body c.args.item.now c.in_default.not-AuthenticationOk c.in_default.not-ParameterStatus c.in_default.not-BackendKeyData c.in_default.not-ReadyForQuery c.in_default.not-ParameterDescription c.in_default.not-RowDescription c.in_default.not-DataRow c.in_default.not-CommandComplete c.in_default.not-ErrorResponse c.in_default.not-CopyInResponse c.in_default.not-CopyOutResponse c.in_default.not-CopyBothResponse c.in_default.not-CopyData in
+    let is : reply_body c.args.item.now ≡ [] =
+    no_body c.args.item.now c.in_default.not-AuthenticationOk c.in_default.not-ParameterStatus
+    c.in_default.not-BackendKeyData c.in_default.not-ReadyForQuery c.in_default.not-ParameterDescription
+    c.in_default.not-RowDescription c.in_default.not-DataRow c.in_default.not-CommandComplete c.in_default.not-ErrorResponse
+    c.in_default.not-CopyInResponse c.in_default.not-CopyOutResponse c.in_default.not-CopyBothResponse
+    c.in_default.not-CopyData in
     record {
       items = written c.args.item.now [] c.args.dst.now.items c.args.dst.now.items is (sym (append-nil c.args.dst.now.items));
       spare = left_over c.args.item.now [] c.args.dst.now.spare c.args.dst.now.spare is (omega arith);
