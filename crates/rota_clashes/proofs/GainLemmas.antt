@@ -1,8 +1,8 @@
 -- What a list gains, and the pairs of two lists that were joined so far.
-use Rattle.std.proofs.Common.{◌≡◌, ℕ, zero, suc, ◌+◌, ◌<◌, ◌⊎◌, inl, inr, List, [], ◌∷◌, ◌++◌, length, map, take, get_or, refl, sym, ap, subst, ◌∙◌, arith}
+use Rattle.std.proofs.Common.{◌≡◌, ℕ, zero, suc, ◌+◌, ◌<◌, ◌≤◌, ◌⊎◌, inl, inr, List, [], ◌∷◌, ◌++◌, length, map, take, get_or, refl, sym, ap, subst, ◌∙◌, arith}
 use Rattle.std.specs.List.{All, Contains}
 use Rattle.std.proofs.Math.Seq.{take-suc}
-use Rattle.std.proofs.lemmas.List.{append_assoc}
+use Rattle.std.proofs.lemmas.List.{append_assoc, map_more, take_all}
 use Rattle.std.proofs.lemmas.List.Elements.{Contains-append_left, Contains-append_right, Contains-append_cases, Contains-push, Contains-push_cases}
 use Rattle.rota_clashes.specs.declared.shifts.Shift.{Shift}
 use Rattle.rota_clashes.specs.Gains.{Gains}
@@ -89,3 +89,15 @@ joined_more R pair shifts others between i d h each all old cur new g e =
           inr (subst (λ p. Contains (map (pair a) between) p) (ap (λ x. pair x b) same ∙ sym j.1.4) here)
     ]) in
     rw t goal
+
+-- ---- a list that gains the images of another's elements, one by one
+
+pub images_more : {X Y : Type 0} (f : X → Y) (xs : List X) (i : ℕ) (d : X) (old cur new : List Y) → i < length xs
+    → cur ≡ old ++ map f (take i xs) → new ≡ cur ++ f (get_or xs i d) ∷ [] → new ≡ old ++ map f (take (i + 1) xs)
+images_more f xs i d old cur new h is e =
+    e ∙ ap (λ l. l ++ f (get_or xs i d) ∷ []) is ∙ append_assoc old (map f (take i xs)) (f (get_or xs i d) ∷ [])
+    ∙ ap (λ l. old ++ l) (sym (map_more f xs i d h))
+
+pub images_all : {X Y : Type 0} (f : X → Y) (xs : List X) (i : ℕ) (old new : List Y) → length xs ≤ i → new ≡ old ++ map f (take i xs)
+    → new ≡ old ++ map f xs
+images_all f xs i old new h is = is ∙ ap (λ l. old ++ map f l) (take_all i xs h)

@@ -1,11 +1,12 @@
 -- Words of a command line.
-use Rattle.std.proofs.Common.{◌≡◌, inl, inr, ℕ, ◌≤◌, ◌<◌, List, [], ◌∷◌, length, get_or, Option, Some, None, Ok, Err, refl, ap, arith}
+use Rattle.std.proofs.Common.{◌≡◌, inl, inr, ℕ, ◌≤◌, ◌<◌, List, [], ◌∷◌, length, get_or, Option, Some, None, Ok, Err, refl, sym, ap, subst, ◌∙◌, arith}
 use Rattle.pg_text.specs.Cells.{IsRead}
 use Rattle.std.specs.Prelude.{codes}
 use Rattle.pg_text.specs.Words.{or_invalid, interval_style_of}
 use Rattle.pg_text.specs.declared.format.interval_style.IntervalStyle.{IntervalStyle}
+use Rattle.rota_moments.specs.declared.moment.Moment.{Moment}
 use Rattle.rota_moments.specs.Texts.{IsReading}
-use Rattle.rota_words.specs.Orders.{Named, OrderLines, OrderClashes}
+use Rattle.rota_words.specs.Orders.{Named, Ordered, lines, clashes, OrderLines, OrderClashes, Orders}
 use Rattle.pg_types.specs.declared.error.CellError.{CellError}
 
 -- an answer of a reader that is Ok is the value that is named
@@ -71,3 +72,34 @@ order_clashes ws n m command relation column start other its_column its_start d0
       start_is = t;
       its_start_is = u;
     }
+
+-- Words whose start or style isn't read are no order.
+unread : (text its : List ℕ) (m : Moment) → text ≡ its → ((m : Moment) → ¬ IsReading text (Ok m)) → IsReading its (Ok m) → ⊥
+unread text its m e none h = none m (subst (λ t. IsReading t (Ok m)) (sym e) h)
+
+unnamed : (text its : List ℕ) (s : IntervalStyle) → text ≡ its → None ≡ interval_style_of text → interval_style_of its ≡ Some s → ⊥
+unnamed text its s e none h = let named : interval_style_of text ≡ Some s = ap interval_style_of e ∙ h in cc
+
+pub no_lines_start : (ws : List (List ℕ)) (start d : List ℕ) → length ws < 7 → start ≡ get_or ws 4 d
+    → ((m : Moment) → ¬ IsReading start (Ok m)) → (o : Ordered) → ¬ Orders ws o
+no_lines_start ws start d below e none (lines n s) h =
+    unread start h.start n.start (e ∙ ap (λ l. get_or l 4 d) h.words_are) none h.start_is
+no_lines_start ws start d below e none (clashes n m) h = absurd (omega (arith, ap length h.words_are))
+
+pub no_lines_style : (ws : List (List ℕ)) (style d : List ℕ) → length ws < 7 → style ≡ get_or ws 5 d
+    → None ≡ interval_style_of style → (o : Ordered) → ¬ Orders ws o
+no_lines_style ws style d below e none (lines n s) h =
+    unnamed style h.style s (e ∙ ap (λ l. get_or l 5 d) h.words_are) none h.style_is
+no_lines_style ws style d below e none (clashes n m) h = absurd (omega (arith, ap length h.words_are))
+
+pub no_clashes_start : (ws : List (List ℕ)) (start d : List ℕ) → 8 ≤ length ws → start ≡ get_or ws 4 d
+    → ((m : Moment) → ¬ IsReading start (Ok m)) → (o : Ordered) → ¬ Orders ws o
+no_clashes_start ws start d least e none (lines n s) h = absurd (omega (arith, ap length h.words_are))
+no_clashes_start ws start d least e none (clashes n m) h =
+    unread start h.start n.start (e ∙ ap (λ l. get_or l 4 d) h.words_are) none h.start_is
+
+pub no_clashes_its_start : (ws : List (List ℕ)) (start d : List ℕ) → 8 ≤ length ws → start ≡ get_or ws 7 d
+    → ((m : Moment) → ¬ IsReading start (Ok m)) → (o : Ordered) → ¬ Orders ws o
+no_clashes_its_start ws start d least e none (lines n s) h = absurd (omega (arith, ap length h.words_are))
+no_clashes_its_start ws start d least e none (clashes n m) h =
+    unread start h.its_start m.start (e ∙ ap (λ l. get_or l 7 d) h.words_are) none h.its_start_is

@@ -1,8 +1,9 @@
 -- A text that is on its way to a sink.
 use Rattle.std.proofs.Common.{◌≡◌, ℕ, List, [], ◌++◌, Option, Some, None, refl, sym, ap, subst, ◌∙◌, append_assoc, append-nil}
-use Rattle.std.proofs.Common.{Result, Ok, Err, OnOk}
+use Rattle.std.proofs.Common.{Result, Ok, Err, OnOk, IsErrOf}
 use Rattle.conversation_runs.specs.declared.streams.SinkError.{SinkError}
-use Rattle.conversation_runs.specs.Streams.{GrowsBy, GrowsByFront}
+use Rattle.conversation_runs.specs.declared.streams.SinkError.TheVariants.{Failed, NoMemory}
+use Rattle.conversation_runs.specs.Streams.{GrowsBy, GrowsByFront, HasRisen}
 use Rattle.rota_writing.specs.Writing.{IsOnItsWay, IsSinkCause, HasWritten, GoesOn}
 
 grows_on : (a b c : Option (List ℕ)) (x y : List ℕ) → GrowsBy a b x → GrowsBy b c y → GrowsBy a c (x ++ y)
@@ -108,3 +109,9 @@ cause_as error first faults new_faults same h =
 pub is_ok_with : {P : Type 0} (r : Result (Unit {0}) SinkError) → P → OnOk r P
 is_ok_with (Ok done) p = p
 is_ok_with (Err e) p = tt
+
+-- the cause of an error, by what a sink ensures of it
+pub cause_of : (error : SinkError) (faults new_faults : ℕ) → (IsErrOf {T = Unit {0}} (Err error) Failed → HasRisen faults new_faults)
+    → (IsErrOf {T = Unit {0}} (Err error) NoMemory → new_faults ≡ faults) → IsSinkCause error faults new_faults
+cause_of Failed faults new_faults failed no_memory = failed refl
+cause_of NoMemory faults new_faults failed no_memory = no_memory refl

@@ -1,10 +1,11 @@
 -- A clash more.
-use Rattle.std.proofs.Common.{◌∙◌, ◌+◌, ℕ, List, sym, subst, drop, take, string_bytes}
+use Rattle.std.proofs.Common.{◌∙◌, ◌+◌, ◌≤◌, ℕ, List, [], refl, sym, ap, subst, drop, take, string_bytes}
+use Rattle.std.proofs.lemmas.List.{take_all}
 use Rattle.conversation_runs.specs.Streams.{GrowsByFront}
 use Rattle.rota_lines.specs.Lines.{clash_text}
 use Rattle.rota_writing.specs.Writing.{IsOnItsWay}
 use Rattle.rota_writing.proofs.LineLemmas.{clash_more, clash_split}
-use Rattle.rota_writing.proofs.WritingLemmas.{front_more, cause_as}
+use Rattle.rota_writing.proofs.WritingLemmas.{at_first, front_more, cause_as, written_as}
 use Rattle.rota_writing.proofs.writing.write_clashes.Goals as goal
 
 pub loop-pair-preserved : goal.loop-pair-preserved
@@ -32,3 +33,28 @@ returns-in-Err-clause-written g c =
           (front_more first new _ rest (on.0 first (clash_text (take i c.args.pairs.now)) way.0)),
       cause_as c.in-Err.error _ _ _ way.1 on.1,
     )
+
+pub loop-pair-init : goal.loop-pair-init
+loop-pair-init g c =
+    let first = g.K.Sink.written c.args.sink.now in
+    let P : List ℕ → Type 0 = λ t. IsOnItsWay first first [] t in
+    (subst P (sym c.new-text.ensures.bytes) (at_first first), refl)
+
+pub returns-in-Err-clause-never_falls : goal.returns-in-Err-clause-never_falls
+returns-in-Err-clause-never_falls g c =
+    let P : ℕ → Type 0 = λ k. k ≤ g.K.Sink.faults c.write_clash.new.sink in
+    subst P c.loop-pair.invariant.1 c.write_clash.ensures.never_falls
+
+pub returns-clause-written : goal.returns-clause-written
+returns-clause-written g c =
+    let way = c.loop-pair.invariant in
+    let pairs = c.args.pairs.now in
+    let i = c.loop-pair.pair-index in
+    written_as c.write_rest.result (clash_text (take i pairs)) (clash_text pairs) _ _ _ _ _
+    (ap clash_text (sym (take_all i pairs c.loop-pair-test.false))) way.1
+    (c.write_rest.ensures.written (g.K.Sink.written c.args.sink.now) (clash_text (take i pairs)) way.0)
+
+pub returns-clause-never_falls : goal.returns-clause-never_falls
+returns-clause-never_falls g c =
+    let P : ℕ → Type 0 = λ k. k ≤ g.K.Sink.faults c.write_rest.new.sink in
+    subst P c.loop-pair.invariant.1 c.write_rest.ensures.never_falls
