@@ -1,10 +1,13 @@
-use Rattle.std.proofs.Common.{◌≡◌, ◌<◌, ◌+◌, ◌++◌, ◌∙◌, refl, sym, ap, subst, arith, Ok, Err, [], inl}
+use Rattle.std.proofs.Common.{◌≡◌, ◌≤◌, ◌<◌, ◌+◌, ◌-◌, ◌++◌, ◌∙◌, ℕ, true, false, min, refl, sym, ap, subst, arith, Ok, Err, [], inl, ⊎_elim, true≢false}
+use Rattle.std.specs.Prelude.{◌==◌, if◌then◌else◌}
+use Rattle.std.proofs.lemmas.Bool.{cases_lt}
 use Rattle.std.proofs.lemmas.List.{append_cancel_left}
 use Rattle.pg_client.proofs.Desks.{goes_on_none, goes_on_then}
 use Rattle.conversation_table.specs.Questions.{questions_since}
 use Rattle.conversation_runs.specs.Session.{HasFed, is_more}
 use Rattle.pg_messages.specs.Frames.{IsUnfinished}
 use Rattle.conversation_runs.specs.Steps.{IsServed, Stands, WasFed}
+use Rattle.conversation_runs.specs.Streams.{HasRisen}
 use Rattle.conversation_runs.proofs.Feeding.{cut_by_error}
 use Rattle.conversation_runs.specs.declared.ends.Progress.{Progress}
 use Rattle.pg_engine.specs.Serving.{TakesFrom, IsStoppedRunOfTaken, counts_of}
@@ -305,3 +308,176 @@ returns-in-Ok-Ended-clause-registration g c = goes_on_then _ _ _ c.turns.invaria
 
 pub returns-in-Err-clause-registration : goal.returns-in-Err-clause-registration
 returns-in-Err-clause-registration g c = goes_on_then _ _ _ c.turns.invariant.registration c.in-Err.ensures.registration
+
+-- ---- counts and turns
+
+not_fallen : (old new : ℕ) → new ≡ old → old ≤ new
+not_fallen old new e = omega (arith, e)
+
+fallen_not : (old mid new : ℕ) → mid ≡ old → mid ≤ new → old ≤ new
+fallen_not old mid new e h = omega (arith, e, h)
+
+none_left : (spent limit : ℕ) → (spent < limit → false ≡ true) → limit ≤ spent
+none_left spent limit f = ⊎_elim (λ h. absurd (true≢false (sym (f h)))) (λ h. h) (cases_lt spent limit)
+
+all_counted : (spent limit turns r asked first : ℕ) → limit ≤ spent → spent ≤ limit → limit ≡ turns → r + asked ≡ first + spent
+    → r + asked ≡ first + turns
+all_counted spent limit turns r asked first low high same e = omega (arith, low, high, same, e)
+
+end_counted : (n r new_r asked first spent limit turns : ℕ) → new_r ≡ (if n == 0 then r else min (r + 1) 18446744073709551615) → n ≡ 0
+    → r + asked ≡ first + spent → spent < limit → limit ≡ turns → new_r + asked + 1 ≤ first + turns
+end_counted n r new_r asked first spent limit turns e z counted below same =
+    let is : new_r ≡ r = e ∙ ap (λ k. if k == 0 then r else min (r + 1) 18446744073709551615) z in
+    omega (arith, is, counted, below, same)
+
+turns_go_down : (spent limit asked new_spent new_limit : ℕ) → spent < limit → new_spent ≡ spent + 1 + asked → new_limit ≡ limit
+    → new_limit - new_spent < limit - spent
+turns_go_down spent limit asked new_spent new_limit below s l = omega (arith, below, s, l)
+
+pub turns-smaller : goal.turns-smaller
+turns-smaller g c =
+    let asked = questions_since (g.D.CancelDesk.told c.turns.desk).calls (g.D.CancelDesk.told c.feed.new.desk).calls in
+    let spent_is : c.feed.new.turns.spent ≡ c.turns.turns.spent + 1 + asked = ap (λ t. t.spent) c.in-Ok-More.ensures.turns
+    ∙ ap (λ n. n + asked) c.if-not-spend.ensures.spent in
+    let limit_is : c.feed.new.turns.limit ≡ c.turns.turns.limit = ap (λ t. t.limit) c.in-Ok-More.ensures.turns
+    ∙ c.if-not-spend.ensures.limit in
+    turns_go_down c.turns.turns.spent c.turns.turns.limit asked c.feed.new.turns.spent c.feed.new.turns.limit
+    (c.if-not-spend.ensures.left.0 refl) spent_is limit_is
+
+-- ---- the turns are spent
+
+pub returns-then-not-spend-clause-cause : goal.returns-then-not-spend-clause-cause
+returns-then-not-spend-clause-cause g c = λ fits.
+    let i = c.turns.invariant in
+    all_counted c.turns.turns.spent c.turns.turns.limit c.args.turns.now.limit (g.S.Source.reads c.turns.source)
+    (questions_since (g.D.CancelDesk.told c.args.desk.now).calls (g.D.CancelDesk.told c.turns.desk).calls)
+    (g.S.Source.reads c.args.source.now)
+    (none_left c.turns.turns.spent c.turns.turns.limit c.if-not-spend.ensures.left.1) i.spent i.limit (i.counted fits)
+
+pub returns-then-not-spend-clause-never_falls : goal.returns-then-not-spend-clause-never_falls
+returns-then-not-spend-clause-never_falls g c = record {
+  read_faults = not_fallen _ _ c.turns.invariant.read_faults;
+  write_faults = not_fallen _ _ c.turns.invariant.write_faults;
+}
+
+pub returns-then-not-spend-clause-last : goal.returns-then-not-spend-clause-last
+returns-then-not-spend-clause-last g c = tt
+
+pub returns-then-not-spend-clause-taken : goal.returns-then-not-spend-clause-taken
+returns-then-not-spend-clause-taken g c = tt
+
+pub returns-then-not-spend-clause-calm : goal.returns-then-not-spend-clause-calm
+returns-then-not-spend-clause-calm g c = tt
+
+pub returns-then-not-spend-clause-registration : goal.returns-then-not-spend-clause-registration
+returns-then-not-spend-clause-registration g c = c.turns.invariant.registration
+
+pub returns-then-not-spend-clause-source : goal.returns-then-not-spend-clause-source
+returns-then-not-spend-clause-source g c = c.turns.invariant.source
+
+pub returns-then-not-spend-clause-sink : goal.returns-then-not-spend-clause-sink
+returns-then-not-spend-clause-sink g c = c.turns.invariant.sink
+
+-- ---- a read failed
+
+pub returns-in_default-clause-cause : goal.returns-in_default-clause-cause
+returns-in_default-clause-cause g c =
+    subst (λ n. HasRisen n (g.S.Source.faults c.receive.new.self)) c.turns.invariant.read_faults c.in_default.ensures.failed
+
+pub returns-in_default-clause-never_falls : goal.returns-in_default-clause-never_falls
+returns-in_default-clause-never_falls g c = record {
+  read_faults = fallen_not _ _ _ c.turns.invariant.read_faults c.in_default.ensures.never_falls;
+  write_faults = not_fallen _ _ c.turns.invariant.write_faults;
+}
+
+pub returns-in_default-clause-last : goal.returns-in_default-clause-last
+returns-in_default-clause-last g c = tt
+
+pub returns-in_default-clause-taken : goal.returns-in_default-clause-taken
+returns-in_default-clause-taken g c = tt
+
+pub returns-in_default-clause-calm : goal.returns-in_default-clause-calm
+returns-in_default-clause-calm g c = tt
+
+pub returns-in_default-clause-registration : goal.returns-in_default-clause-registration
+returns-in_default-clause-registration g c = c.turns.invariant.registration
+
+pub returns-in_default-clause-source : goal.returns-in_default-clause-source
+returns-in_default-clause-source g c = c.in_default.ensures.origin ∙ c.turns.invariant.source
+
+pub returns-in_default-clause-sink : goal.returns-in_default-clause-sink
+returns-in_default-clause-sink g c = c.turns.invariant.sink
+
+-- ---- the input has ended
+
+pub returns-then-n-eq0-clause-cause : goal.returns-then-n-eq0-clause-cause
+returns-then-n-eq0-clause-cause g c = λ fits.
+    let i = c.turns.invariant in
+    end_counted c.in-Ok.n (g.S.Source.reads c.turns.source) (g.S.Source.reads c.receive.new.self)
+    (questions_since (g.D.CancelDesk.told c.args.desk.now).calls (g.D.CancelDesk.told c.turns.desk).calls)
+    (g.S.Source.reads c.args.source.now) c.turns.turns.spent c.turns.turns.limit c.args.turns.now.limit c.in-Ok.ensures.counts
+    c.if-n-eq0.true (i.counted fits) (c.if-not-spend.ensures.left.0 refl) i.limit
+
+pub returns-then-n-eq0-clause-calm : goal.returns-then-n-eq0-clause-calm
+returns-then-n-eq0-clause-calm g c = record {
+  read_faults = c.in-Ok.ensures.calm ∙ c.turns.invariant.read_faults;
+  write_faults = c.turns.invariant.write_faults;
+}
+
+pub returns-then-n-eq0-clause-never_falls : goal.returns-then-n-eq0-clause-never_falls
+returns-then-n-eq0-clause-never_falls g c = record {
+  read_faults = not_fallen _ _ (c.in-Ok.ensures.calm ∙ c.turns.invariant.read_faults);
+  write_faults = not_fallen _ _ c.turns.invariant.write_faults;
+}
+
+pub returns-then-n-eq0-clause-registration : goal.returns-then-n-eq0-clause-registration
+returns-then-n-eq0-clause-registration g c = c.turns.invariant.registration
+
+pub returns-then-n-eq0-clause-source : goal.returns-then-n-eq0-clause-source
+returns-then-n-eq0-clause-source g c = c.in-Ok.ensures.origin ∙ c.turns.invariant.source
+
+pub returns-then-n-eq0-clause-sink : goal.returns-then-n-eq0-clause-sink
+returns-then-n-eq0-clause-sink g c = c.turns.invariant.sink
+
+-- ---- the conversation has ended
+
+pub returns-in-Ok-Ended-clause-calm : goal.returns-in-Ok-Ended-clause-calm
+returns-in-Ok-Ended-clause-calm g c = record {
+  read_faults = c.in-Ok.ensures.calm ∙ c.turns.invariant.read_faults;
+  write_faults = c.in-Ok-Ended.ensures.cause.calm ∙ c.turns.invariant.write_faults;
+}
+
+pub returns-in-Ok-Ended-clause-never_falls : goal.returns-in-Ok-Ended-clause-never_falls
+returns-in-Ok-Ended-clause-never_falls g c = record {
+  read_faults = not_fallen _ _ (c.in-Ok.ensures.calm ∙ c.turns.invariant.read_faults);
+  write_faults = not_fallen _ _ (c.in-Ok-Ended.ensures.cause.calm ∙ c.turns.invariant.write_faults);
+}
+
+pub returns-in-Ok-Ended-clause-source : goal.returns-in-Ok-Ended-clause-source
+returns-in-Ok-Ended-clause-source g c = c.in-Ok.ensures.origin ∙ c.turns.invariant.source
+
+pub returns-in-Ok-Ended-clause-sink : goal.returns-in-Ok-Ended-clause-sink
+returns-in-Ok-Ended-clause-sink g c = c.in-Ok-Ended.ensures.sink ∙ c.turns.invariant.sink
+
+-- ---- the conversation was given up
+
+pub returns-in-Err-clause-never_falls : goal.returns-in-Err-clause-never_falls
+returns-in-Err-clause-never_falls g c = record {
+  read_faults = not_fallen _ _ (c.in-Ok.ensures.calm ∙ c.turns.invariant.read_faults);
+  write_faults = fallen_not _ _ _ c.turns.invariant.write_faults c.in-Err.ensures.cause.never_falls;
+}
+
+pub returns-in-Err-clause-last : goal.returns-in-Err-clause-last
+returns-in-Err-clause-last g c = tt
+
+pub returns-in-Err-clause-taken : goal.returns-in-Err-clause-taken
+returns-in-Err-clause-taken g c = tt
+
+pub returns-in-Err-clause-calm : goal.returns-in-Err-clause-calm
+returns-in-Err-clause-calm g c = tt
+
+pub returns-in-Err-clause-source : goal.returns-in-Err-clause-source
+returns-in-Err-clause-source g c = c.in-Ok.ensures.origin ∙ c.turns.invariant.source
+
+pub returns-in-Err-clause-sink : goal.returns-in-Err-clause-sink
+returns-in-Err-clause-sink g c = c.in-Err.ensures.sink ∙ c.turns.invariant.sink
