@@ -16,3 +16,19 @@ returns-in_default-clause-went g c = (
 
 pub returns-in_default-clause-reads : goal.returns-in_default-clause-reads
 returns-in_default-clause-reads g c = gave_none (g.S.Source.left c.args.source.now) (g.S.Source.reads c.args.source.now)
+
+pub returns : goal.returns
+returns g c =
+    let e = c.serve_whole.ensures in
+    record {
+      went = rw c.in-Ok.ensures at e.went;
+      cause = e.cause;
+      last = rw c.in-Ok.ensures at e.last;
+      taken = rw c.in-Ok.ensures at e.taken;
+      calm = e.calm;
+      never_falls = e.never_falls;
+      reads = e.reads;
+      registration = e.registration;
+      source = e.source;
+      sink = e.sink;
+    }

@@ -1,6 +1,7 @@
 use Rattle.std.proofs.Common.{◌≡◌, ◌≢◌, ◌==◌, ℕ, List, ◌++◌, [], arith, length, length-append, true, refl, ap, sym, subst, ◌∙◌, append-nil, append_assoc, Result, Ok, Err}
 use Rattle.std.proofs.lemmas.Bool.Decides.{nat_tests}
 use Rattle.std.proofs.lemmas.List.{nil_from_length}
+use Rattle.pg_client.specs.declared.ends.EndKind.{EndKind}
 use Rattle.conversation_runs.specs.declared.ends.Progress.{Progress}
 use Rattle.conversation_runs.specs.declared.ends.Progress.TheVariants as progress
 use Rattle.conversation_runs.specs.declared.ends.ServeError.{ServeError}
@@ -13,6 +14,12 @@ use Rattle.cursor_session.proofs.parts.Front.take.Goals as goal
 
 nothing_left : (rest : List ℕ) → true ≡ (length rest == 0) → rest ≡ []
 nothing_left rest e = nil_from_length rest (grind (arith, nat_tests))
+
+ended_is_not_more : (kind : EndKind) → ◌≢◌ {A = Result Progress ServeError} (Ok (progress.Ended kind)) (Ok progress.More)
+ended_is_not_more kind e = absurd (let k = e in cc)
+
+error_is_not_more : (error : ServeError) → ◌≢◌ {A = Result Progress ServeError} (Err error) (Ok progress.More)
+error_is_not_more error e = absurd (let k = e in cc)
 
 pub parts-init : goal.parts-init
 parts-init g c =
@@ -40,10 +47,8 @@ returns-in-Ok-Ended-clause-took g c =
     let part = c.split_at.result.0.now in let behind = c.split_at.result.1.now in
     let split : c.args.piece.now ≡ i.taken ++ (part ++ behind) = i.split ∙ ap (λ l. i.taken ++ l)
     (split_again c.parts.rest.now part behind c.part_len.result c.split_at.ensures.front c.split_at.ensures.back) in
-    let ended : ◌≢◌ {A = Result Progress ServeError} (Ok (progress.Ended c.in-Ok-Ended.kind)) (Ok progress.More) =
-    λ e. absurd (let k = e in cc) in
     takes_last (cursor_rules h) (rules_lawful h) old.inner.state now.inner.state new.inner.state (rest_of old) i.taken part behind
-    c.args.piece.now (rest_of now) (rest_of new) a b d (Ok (progress.Ended c.in-Ok-Ended.kind)) split ended i.took
+    c.args.piece.now (rest_of now) (rest_of new) a b d (Ok (progress.Ended c.in-Ok-Ended.kind)) split (ended_is_not_more c.in-Ok-Ended.kind) i.took
     (subst (λ v. Takes (cursor_rules (g.C.FrontedSession.told v)) now.inner.state (rest_of now ++ part) new.inner.state
     (rest_of new) b d (Ok (progress.Ended c.in-Ok-Ended.kind))) i.handlers
     (subst (λ p. Takes (cursor_rules (g.C.FrontedSession.told now.inner.handlers)) now.inner.state (rest_of now ++ part)
@@ -61,9 +66,8 @@ returns-in-Err-clause-took g c =
     let part = c.split_at.result.0.now in let behind = c.split_at.result.1.now in
     let split : c.args.piece.now ≡ i.taken ++ (part ++ behind) = i.split ∙ ap (λ l. i.taken ++ l)
     (split_again c.parts.rest.now part behind c.part_len.result c.split_at.ensures.front c.split_at.ensures.back) in
-    let ended : ◌≢◌ {A = Result Progress ServeError} (Err c.in-Err.error) (Ok progress.More) = λ e. absurd (let k = e in cc) in
     takes_last (cursor_rules h) (rules_lawful h) old.inner.state now.inner.state new.inner.state (rest_of old) i.taken part behind
-    c.args.piece.now (rest_of now) (rest_of new) a b d (Err c.in-Err.error) split ended i.took
+    c.args.piece.now (rest_of now) (rest_of new) a b d (Err c.in-Err.error) split (error_is_not_more c.in-Err.error) i.took
     (subst (λ v. Takes (cursor_rules (g.C.FrontedSession.told v)) now.inner.state (rest_of now ++ part) new.inner.state
     (rest_of new) b d (Err c.in-Err.error)) i.handlers c.in-Err.ensures.took)
 
@@ -93,13 +97,13 @@ parts-preserved g c =
     }
 
 pub returns-in-Ok-Ended-clause-stands : goal.returns-in-Ok-Ended-clause-stands
-returns-in-Ok-Ended-clause-stands g c = λ more. absurd (let k = more in cc)
+returns-in-Ok-Ended-clause-stands g c = λ more. absurd (ended_is_not_more c.in-Ok-Ended.kind more)
 
 pub returns-in-Ok-Ended-clause-handlers : goal.returns-in-Ok-Ended-clause-handlers
 returns-in-Ok-Ended-clause-handlers g c = c.in-Ok-Ended.ensures.handlers ∙ c.parts.invariant.handlers
 
 pub returns-in-Err-clause-stands : goal.returns-in-Err-clause-stands
-returns-in-Err-clause-stands g c = λ more. absurd (let k = more in cc)
+returns-in-Err-clause-stands g c = λ more. absurd (error_is_not_more c.in-Err.error more)
 
 pub returns-in-Err-clause-handlers : goal.returns-in-Err-clause-handlers
 returns-in-Err-clause-handlers g c = c.in-Err.ensures.handlers ∙ c.parts.invariant.handlers
