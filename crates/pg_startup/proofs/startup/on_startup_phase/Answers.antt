@@ -1,4 +1,4 @@
-use Rattle.std.proofs.Common.{◌≡◌, ◌≢◌, List, ℕ, [], ◌∷◌, Bool, inl, refl, sym, ap, subst, ◌∙◌}
+use Rattle.std.proofs.Common.{◌≡◌, ◌≢◌, List, ℕ, [], ◌∷◌, Bool, Option, None, Some, inl, refl, sym, ap, subst, ◌∙◌}
 use Rattle.std.proofs.lemmas.List.{append-nil}
 use Rattle.std.proofs.lemmas.Result.{err_from_is_err_and}
 use Rattle.pg_messages.specs.declared.frontend.PgWireFrontendMessage.{PgWireFrontendMessage}
@@ -6,6 +6,8 @@ use Rattle.pg_results.specs.Rows.{IsAnswerable}
 use Rattle.pg_results.specs.declared.error.PgWireError.{PgWireError}
 use Rattle.pg_results.specs.declared.error.PgWireError.TheVariants as wire
 use Rattle.pg_client.specs.declared.desk.DeskCall.{DeskCall}
+use Rattle.pg_client.specs.declared.ends.EndKind.{EndKind}
+use Rattle.pg_client.specs.declared.ends.EndKind.TheVariants.{InputEnd}
 use Rattle.pg_client.specs.declared.ends.SessionError.{SessionError}
 use Rattle.pg_client.specs.declared.ends.SessionError.TheVariants as session
 use Rattle.pg_client.specs.Answer.{answers_of}
@@ -34,6 +36,9 @@ answerable_as e w is x = subst IsAnswerableError (sym is) x
 no_limit : (e : SessionError) (w : PgWireError) → e ≡ session.Wire w → e ≢ session.TurnLimit
 no_limit e w is = λ limit. absurd (let k = sym is ∙ limit in cc)
 
+no_end_yet : ◌≢◌ {A = Option EndKind} None (Some InputEnd)
+no_end_yet = λ end. absurd (let k = end in cc)
+
 pub returns-in_err-push_no_encryption-in-SslNegotiation : goal.returns-in_err-push_no_encryption-in-SslNegotiation
 returns-in_err-push_no_encryption-in-SslNegotiation g c =
     let p = err_from_is_err_and c.from_residual.result c.from_residual.ensures.1 in
@@ -60,7 +65,7 @@ returns-in_ok-push_no_encryption-in-SslNegotiation g c =
       refused = tt;
       answerable = tt;
       unlimited = tt;
-      ends = λ end. absurd (let k = end in cc);
+      ends = no_end_yet;
       store = refl;
       metadata = λ short. short;
       registration = goes_on_none _;
@@ -113,7 +118,7 @@ returns-in_ok-on_startup-in-Startup g c =
       refused = tt;
       answerable = tt;
       unlimited = tt;
-      ends = λ end. absurd (let k = end in cc);
+      ends = no_end_yet;
       store = e.store;
       metadata = e.metadata;
       registration = e.registration;
@@ -136,3 +141,6 @@ returns-in_ok-cancel-in-CancelRequest-clause-metadata g c = λ short. short
 
 pub returns-in_ok-cancel-in-CancelRequest-clause-registration : goal.returns-in_ok-cancel-in-CancelRequest-clause-registration
 returns-in_ok-cancel-in-CancelRequest-clause-registration g c = c.in_ok-cancel-in-CancelRequest.ensures.registration
+
+pub returns-in_default-clause-ends : goal.returns-in_default-clause-ends
+returns-in_default-clause-ends g c = no_end_yet
