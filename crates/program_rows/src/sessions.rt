@@ -183,7 +183,20 @@ fn is_served_behind<'t, R: Wait>(
     first: &mut Client,
 ) -> Result<bool, Fault<'t>> {
     let mut second = client_of(alloc, example.client.as_slice(), false, 1000, None, None)?;
-    let ends = ends_of(rt, alloc, &example.table, first, &mut second)?;
+    are_served_in_turn(rt, alloc, example, failing, first, &mut second)
+}
+
+/// Whether the first of two clients fails so, and the second one on the same connection is served
+/// whole.
+fn are_served_in_turn<'t, R: Wait>(
+    rt: &R,
+    alloc: Global,
+    example: &Example,
+    failing: Failing,
+    first: &mut Client,
+    second: &mut Client,
+) -> Result<bool, Fault<'t>> {
+    let ends = ends_of(rt, alloc, &example.table, first, second)?;
     Ok(
         are_ends(ends, error_of(failing))
             && are_replies(
