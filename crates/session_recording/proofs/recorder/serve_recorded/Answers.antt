@@ -1,8 +1,10 @@
-use Rattle.std.proofs.Common.{◌≡◌, ◌∙◌, IfOk, ap, subst, sym}
-use Rattle.pg_client.specs.Desk.{DeskTold}
+use Rattle.std.proofs.Common.{◌≡◌, ◌∙◌, ◌∷◌, ◌++◌, ℕ, IfOk, OnOk, ap, drop, subst, sym}
+use Rattle.pg_client.specs.Desk.{DeskTold, GoesOn, narrowed}
 use Rattle.pg_client.specs.State.{first_state}
-use Rattle.pg_engine.specs.Serving.{EndsAtLast, IsRunOverTaken}
+use Rattle.conversation_table.specs.Questions.{questions_since}
+use Rattle.pg_engine.specs.Serving.{EndsAtLast, FaultsNeverFall, HasCause, IsCalm, IsRunOverTaken, ReadsGaveBytes, counts_of}
 use Rattle.conversation_runs.specs.Session.{whole_rules}
+use Rattle.relation_serving.specs.Completeness.{IsComplete}
 use Rattle.relation_serving.specs.Serving.{WentByTables}
 use Rattle.relation_tables.specs.RelationHandler.{relation_handlers}
 use Rattle.recorders.specs.declared.keeping.FirstBytes.{FirstBytes}
@@ -10,6 +12,22 @@ use Rattle.recorders.proofs.Origins.{IsSameRecorder, known_again, made_are_kept,
 use Rattle.session_recording.proofs.Recordings.{of_same, sent_again, taken_again}
 use Rattle.session_recording.proofs.recorder.serve_recorded.Given.{Over}
 use Rattle.session_recording.proofs.recorder.serve_recorded.Goals as goal
+
+-- what a recorded desk tells goes on as what the desk under it tells does
+goes_on_under : (old new : DeskTold) (name new_name n new_n : ℕ)
+    → GoesOn (record { registration = old.registration; calls = old.calls; origin = name ∷ n ∷ old.origin })
+    (record { registration = new.registration; calls = new.calls; origin = new_name ∷ new_n ∷ new.origin })
+    → GoesOn old new
+goes_on_under old new name new_name n new_n over =
+    let made = over.made in
+    let registration = ap (λ (d : DeskTold). d.registration) over.grown in
+    let calls = ap (λ (d : DeskTold). d.calls) over.grown in
+    let origin = ap (λ (d : DeskTold). drop 2 d.origin) over.grown in record {
+      made = made;
+      grown = ap (λ r. record { registration = r; calls = new.calls; origin = new.origin }) registration
+          ∙ ap (λ k. record { registration = narrowed old.registration made; calls = k; origin = new.origin }) calls
+          ∙ ap (λ o. record { registration = narrowed old.registration made; calls = old.calls ++ made; origin = o }) origin;
+    }
 
 -- the source's recorder is known again
 source_known : (g : Over) (c : goal.After-sink-2-1 g) → let new = c.serve_relations_on-answer.new.source in
@@ -114,3 +132,83 @@ returns-clause-source g c =
 
 pub returns-clause-sink : goal.returns-clause-sink
 returns-clause-sink g c = ap g.K.Sink.origin (sink_left g c) ∙ (sink_known g c).same_origin ∙ ap g.K.Sink.origin c.new-sink.ensures.sink
+
+pub returns-clause-client_room : goal.returns-clause-client_room
+returns-clause-client_room g c = (source_known g c).same_room ∙ ap (λ (b : FirstBytes). b.room) c.new-source.ensures.kept
+
+pub returns-clause-replies_room : goal.returns-clause-replies_room
+returns-clause-replies_room g c = (sink_known g c).same_room ∙ ap (λ (b : FirstBytes). b.room) c.new-sink.ensures.kept
+
+pub returns-clause-cause : goal.returns-clause-cause
+returns-clause-cause g c =
+    of_same (λ d e s t k l. HasCause c.serve_relations_on-answer.result c.args.turn_limit
+    (questions_since (g.D.CancelDesk.told d).calls (g.D.CancelDesk.told e).calls)
+    (counts_of g.S.Source.reads g.S.Source.faults g.K.Sink.faults s k)
+    (counts_of g.S.Source.reads g.S.Source.faults g.K.Sink.faults t l)) c.new-desk.result.desk.now c.args.desk.now
+    c.serve_relations_on-answer.new.desk.desk.now c.desk-2-1.given.0 c.new-source.result.source.now c.args.source.now
+    c.serve_relations_on-answer.new.source.source.now c.source-2-1.given.0 c.new-sink.result.sink.now c.args.sink.now
+    c.serve_relations_on-answer.new.sink.sink.now c.sink-2-1.given.0 c.new-desk.ensures.desk (sym (desk_left g c))
+    c.new-source.ensures.source (sym (source_left g c)) c.new-sink.ensures.sink (sym (sink_left g c))
+    c.serve_relations_on-answer.ensures.cause
+
+pub returns-clause-complete : goal.returns-clause-complete
+returns-clause-complete g c =
+    of_same (λ d e s t k l. IsComplete c.args.relations.now c.args.turn_limit c.serve_relations_on-answer.result
+    (g.S.Source.left s) (counts_of g.S.Source.reads g.S.Source.faults g.K.Sink.faults s k)
+    (counts_of g.S.Source.reads g.S.Source.faults g.K.Sink.faults t l)) c.new-desk.result.desk.now c.args.desk.now
+    c.serve_relations_on-answer.new.desk.desk.now c.desk-2-1.given.0 c.new-source.result.source.now c.args.source.now
+    c.serve_relations_on-answer.new.source.source.now c.source-2-1.given.0 c.new-sink.result.sink.now c.args.sink.now
+    c.serve_relations_on-answer.new.sink.sink.now c.sink-2-1.given.0 c.new-desk.ensures.desk (sym (desk_left g c))
+    c.new-source.ensures.source (sym (source_left g c)) c.new-sink.ensures.sink (sym (sink_left g c))
+    c.serve_relations_on-answer.ensures.complete
+
+pub returns-clause-calm : goal.returns-clause-calm
+returns-clause-calm g c =
+    of_same (λ d e s t k l. OnOk c.serve_relations_on-answer.result (IsCalm (counts_of g.S.Source.reads g.S.Source.faults g.K.Sink.faults s k)
+    (counts_of g.S.Source.reads g.S.Source.faults g.K.Sink.faults t l))) c.new-desk.result.desk.now c.args.desk.now
+    c.serve_relations_on-answer.new.desk.desk.now c.desk-2-1.given.0 c.new-source.result.source.now c.args.source.now
+    c.serve_relations_on-answer.new.source.source.now c.source-2-1.given.0 c.new-sink.result.sink.now c.args.sink.now
+    c.serve_relations_on-answer.new.sink.sink.now c.sink-2-1.given.0 c.new-desk.ensures.desk (sym (desk_left g c))
+    c.new-source.ensures.source (sym (source_left g c)) c.new-sink.ensures.sink (sym (sink_left g c))
+    c.serve_relations_on-answer.ensures.calm
+
+pub returns-clause-never_falls : goal.returns-clause-never_falls
+returns-clause-never_falls g c =
+    of_same (λ d e s t k l. FaultsNeverFall (counts_of g.S.Source.reads g.S.Source.faults g.K.Sink.faults s k)
+    (counts_of g.S.Source.reads g.S.Source.faults g.K.Sink.faults t l)) c.new-desk.result.desk.now c.args.desk.now
+    c.serve_relations_on-answer.new.desk.desk.now c.desk-2-1.given.0 c.new-source.result.source.now c.args.source.now
+    c.serve_relations_on-answer.new.source.source.now c.source-2-1.given.0 c.new-sink.result.sink.now c.args.sink.now
+    c.serve_relations_on-answer.new.sink.sink.now c.sink-2-1.given.0 c.new-desk.ensures.desk (sym (desk_left g c))
+    c.new-source.ensures.source (sym (source_left g c)) c.new-sink.ensures.sink (sym (sink_left g c))
+    c.serve_relations_on-answer.ensures.never_falls
+
+pub returns-clause-reads : goal.returns-clause-reads
+returns-clause-reads g c =
+    of_same (λ d e s t k l. ReadsGaveBytes (g.S.Source.left s) (g.S.Source.left t)
+    (g.S.Source.reads s) (g.S.Source.reads t)) c.new-desk.result.desk.now c.args.desk.now
+    c.serve_relations_on-answer.new.desk.desk.now c.desk-2-1.given.0 c.new-source.result.source.now c.args.source.now
+    c.serve_relations_on-answer.new.source.source.now c.source-2-1.given.0 c.new-sink.result.sink.now c.args.sink.now
+    c.serve_relations_on-answer.new.sink.sink.now c.sink-2-1.given.0 c.new-desk.ensures.desk (sym (desk_left g c))
+    c.new-source.ensures.source (sym (source_left g c)) c.new-sink.ensures.sink (sym (sink_left g c))
+    c.serve_relations_on-answer.ensures.reads
+
+pub returns-clause-registration : goal.returns-clause-registration
+returns-clause-registration g c =
+    of_same (λ d e s t k l. GoesOn (g.D.CancelDesk.told d) (g.D.CancelDesk.told e)) c.new-desk.result.desk.now c.args.desk.now
+    c.serve_relations_on-answer.new.desk.desk.now c.desk-2-1.given.0 c.new-source.result.source.now c.args.source.now
+    c.serve_relations_on-answer.new.source.source.now c.source-2-1.given.0 c.new-sink.result.sink.now c.args.sink.now
+    c.serve_relations_on-answer.new.sink.sink.now c.sink-2-1.given.0 c.new-desk.ensures.desk (sym (desk_left g c))
+    c.new-source.ensures.source (sym (source_left g c)) c.new-sink.ensures.sink (sym (sink_left g c))
+    (goes_on_under _ _ _ _ _ _ c.serve_relations_on-answer.ensures.registration)
+
+pub returns-clause-calls : goal.returns-clause-calls
+returns-clause-calls g c =
+    let new = c.serve_relations_on-answer.new.desk in
+    let old = c.new-desk.result in
+    let went = c.serve_relations_on-answer.ensures.went in
+    let origins = ap (λ (d : DeskTold). d.origin) c.serve_relations_on-answer.ensures.registration.grown in
+    let kept = made_are_kept _ _ _ _ (g.D.CancelDesk.told old.desk.now).calls (g.D.CancelDesk.told new.desk.now).calls went.0
+    old.kept.items new.kept.items origins c.new-desk.ensures.kept went.1 new.recorded in
+    ap (λ d. (g.D.CancelDesk.told d).calls) (desk_left g c) ∙ went.1
+    ∙ ap (λ d. (g.D.CancelDesk.told d).calls ++ went.0) c.new-desk.ensures.desk
+    ∙ ap (λ k. (g.D.CancelDesk.told c.args.desk.now).calls ++ k) kept
