@@ -30,6 +30,7 @@ use Rattle.row_handlers.specs.Answers.{format_at}
 use Rattle.styles.specs.Reading.{interval_given, interval_in, interval_of, no_interval, or_refused, reason, refused, style_of}
 use Rattle.styles.specs.Rows.{column, columns}
 use Rattle.styles.specs.Told.{meaning_of, stated}
+use Rattle.styles.specs.declared.answers.StylesStatement.TheVariants as statement
 
 -- ---- columns
 
@@ -167,3 +168,18 @@ text_refused text None e apart (inr none) = inr (cc)
 text_refused text (Some types) e (inl none) given = cc
 text_refused text (Some types) e (inr other) (inl told) = inl (rw other (subst (λ r. Err e ≡ stated r) told refl))
 text_refused text (Some types) e (inr other) (inr none) = inr (cc)
+
+-- the interval of a text that is no `$1`, or may have no parameter, is what it means
+pub text_read : (text : List ℕ) (types : Option (List (Option PgType))) (i : Interval)
+    → (types ≡ None) ⊎ (bytes_eq text (codes "$1") ≡ false) → IsOutcome (interval_of text) (Ok i)
+    → IsOutcome (meaning_of text types) (Ok (statement.Interval i))
+text_read text None i apart (inl told) = inl (subst (λ r. Ok (statement.Interval i) ≡ stated r) told refl)
+text_read text None i apart (inr none) = cc
+text_read text (Some types) i (inl none) given = cc
+text_read text (Some types) i (inr other) (inl told) = inl (rw other (subst (λ r. Ok (statement.Interval i) ≡ stated r) told refl))
+text_read text (Some types) i (inr other) (inr none) = cc
+
+-- the error of a text, or want of memory
+pub text_error : (text : List ℕ) (e : PgWireError) → IsOutcome (interval_of text) (Err e) → IsAnswerableItem e
+text_error text e (inl told) = text_answerable text e (sym told)
+text_error text e (inr none) = inl (cc)
