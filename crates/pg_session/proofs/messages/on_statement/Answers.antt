@@ -65,13 +65,3 @@ on_sync-requires-clause-given g c = rw c.in-PgSync.is at c.requires.given
 
 pub on_sync-requires-clause-good : goal.on_sync-requires-clause-good
 on_sync-requires-clause-good g c = rw c.extended_query_handler-in-PgSync.ensures c.requires.good
-
-pub on_rarer_statement-requires : goal.on_rarer_statement-requires
-on_rarer_statement-requires g c = record {
-  given = c.requires.given;
-  plain = c.requires.plain;
-  no_parse = c.in_default.not-Parse;
-  no_bind = c.in_default.not-Bind;
-  no_sync = c.in_default.not-PgSync;
-  good = c.requires.good;
-}
