@@ -72,7 +72,7 @@ pub returns-clause-ends : goal.returns-clause-ends
 returns-clause-ends g c = c.on_ready-outcome.ensures.ends
 
 pub returns-clause-open : goal.returns-clause-open
-returns-clause-open g c = c.stays_open.ensures
+returns-clause-open g c = c.stays_open-session-inside.ensures
 
 pub returns-clause-handlers : goal.returns-clause-handlers
 returns-clause-handlers g c = ap (λ v. v.handlers) c.session.view_is
