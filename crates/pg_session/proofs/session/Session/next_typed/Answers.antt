@@ -29,7 +29,7 @@ module _ {H S M : Type 0} (inside now : SessionValue H S) (same : inside ≡ now
   err_as x = subst (λ v. OnErr answer (rest ≡ v.rest)) same x
 
 pub decode_typed-requires : goal.decode_typed-requires
-decode_typed-requires g c = ap (λ v. take 1 v.rest) c.self.view_is ∙ c.requires.kind
+decode_typed-requires g c = record { kind = ap (λ v. take 1 v.rest) c.self.view_is ∙ c.requires.kind }
 
 pub invariant_of-self : goal.invariant_of-self
 invariant_of-self g c = c.self.invariant
