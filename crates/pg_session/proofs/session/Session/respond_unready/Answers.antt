@@ -13,8 +13,8 @@ closes : (end : Option EndKind) → stays_open (Ok end) ≡ goes_on {E = ServeEr
 closes None = refl
 closes (Some kind) = refl
 
-pub waits_when_unready-requires : goal.waits_when_unready-requires
-waits_when_unready-requires g c = λ ready. c.requires.unready (sym c.state.ensures ∙ ready)
+pub waits_when_unready-wait_for_sync-requires : goal.waits_when_unready-wait_for_sync-requires
+waits_when_unready-wait_for_sync-requires g c = λ ready. c.requires.unready (sym c.state.ensures ∙ ready)
 
 pub process_unready-requires-clause-open : goal.process_unready-requires-clause-open
 process_unready-requires-clause-open g c = c.requires.«open»
