@@ -47,3 +47,21 @@ returns-in_default-clause-answerable g c = c.on_rarer_statement.ensures.answerab
 
 pub returns-in_default-clause-good : goal.returns-in_default-clause-good
 returns-in_default-clause-good g c = c.on_rarer_statement.ensures.good
+
+pub on_parse-requires-clause-given : goal.on_parse-requires-clause-given
+on_parse-requires-clause-given g c = rw c.in-Parse.is at c.requires.given
+
+pub on_parse-requires-clause-good : goal.on_parse-requires-clause-good
+on_parse-requires-clause-good g c = rw c.extended_query_handler.ensures c.requires.good
+
+pub on_bind-requires-clause-given : goal.on_bind-requires-clause-given
+on_bind-requires-clause-given g c = rw c.in-Bind.is at c.requires.given
+
+pub on_bind-requires-clause-good : goal.on_bind-requires-clause-good
+on_bind-requires-clause-good g c = rw c.extended_query_handler-in-Bind.ensures c.requires.good
+
+pub on_sync-requires-clause-given : goal.on_sync-requires-clause-given
+on_sync-requires-clause-given g c = rw c.in-PgSync.is at c.requires.given
+
+pub on_sync-requires-clause-good : goal.on_sync-requires-clause-good
+on_sync-requires-clause-good g c = rw c.extended_query_handler-in-PgSync.ensures c.requires.good

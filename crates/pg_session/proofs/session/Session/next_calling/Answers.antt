@@ -4,17 +4,49 @@ use Rattle.conversation_runs.specs.Session.{IsUnread}
 use Rattle.conversation_runs.proofs.Unread.{unread_as}
 use Rattle.pg_session.proofs.session.Session.next_calling.Goals as goal
 
-pub returns-in-Ok-Some-clause-found : goal.returns-in-Ok-Some-clause-found
-returns-in-Ok-Some-clause-found g c = rw c.in-Ok-Some.field-0-is at c.in-Ok-Some.ensures.found
+pub next_typed-requires-clause-ready : goal.next_typed-requires-clause-ready
+next_typed-requires-clause-ready g c = c.requires.ready
 
-pub returns-in-Ok-None-clause-unread : goal.returns-in-Ok-None-clause-unread
-returns-in-Ok-None-clause-unread g c = rw c.in-Ok-None.field-0-is at c.in-Ok-None.ensures.none
+pub next_typed-requires-clause-kind : goal.next_typed-requires-clause-kind
+next_typed-requires-clause-kind g c = c.requires.kind
 
-pub returns-in-Ok-None-clause-kept : goal.returns-in-Ok-None-clause-kept
-returns-in-Ok-None-clause-kept g c = rw c.in-Ok-None.field-0-is at c.in-Ok-None.ensures.kept
+pub returns-in-Ok-Some : goal.returns-in-Ok-Some
+returns-in-Ok-Some g c =
+    let kept = c.next_typed.ensures in
+    record {
+      found = rw c.in-Ok-Some.field-0-is at c.in-Ok-Some.ensures.found;
+      unread = tt;
+      kept = tt;
+      state = kept.state;
+      handlers = kept.handlers;
+      unsent = kept.unsent;
+      «open» = kept.«open»;
+    }
 
-pub returns-in-Err-clause-unread : goal.returns-in-Err-clause-unread
-returns-in-Err-clause-unread g c =
+pub returns-in-Ok-None : goal.returns-in-Ok-None
+returns-in-Ok-None g c =
+    let kept = c.next_typed.ensures in
+    record {
+      found = tt;
+      unread = rw c.in-Ok-None.field-0-is at c.in-Ok-None.ensures.none;
+      kept = rw c.in-Ok-None.field-0-is at c.in-Ok-None.ensures.kept;
+      state = kept.state;
+      handlers = kept.handlers;
+      unsent = kept.unsent;
+      «open» = kept.«open»;
+    }
+
+pub returns-in-Err : goal.returns-in-Err
+returns-in-Err g c =
     let s = c.args.self.now in
-    subst (λ t. IsUnread (awaits s.state) s.rest t) (sym c.unread.ensures)
-    (unread_as (awaits s.state) s.rest c.in-Err.error (λ e. c.in-Err.ensures.bad (ap Err e)))
+    let kept = c.next_typed.ensures in
+    record {
+      found = tt;
+      unread = subst (λ t. IsUnread (awaits s.state) s.rest t) (sym c.unread.ensures)
+          (unread_as (awaits s.state) s.rest c.in-Err.error (λ e. c.in-Err.ensures.bad (ap Err e)));
+      kept = c.in-Err.ensures.err;
+      state = kept.state;
+      handlers = kept.handlers;
+      unsent = kept.unsent;
+      «open» = kept.«open»;
+    }

@@ -1,9 +1,52 @@
-use Rattle.std.proofs.Common.{Option, ap, ◌∙◌}
+use Rattle.std.proofs.Common.{◌≡◌, Option, Some, None, Ok, refl, ap, sym, ◌∙◌}
 use Rattle.conversation_table.specs.Table.{scope_in}
 use Rattle.pg_client.specs.declared.ends.EndKind.{EndKind}
 use Rattle.conversation_runs.specs.Messages.{scope_for}
+use Rattle.conversation_runs.specs.Session.{goes_on, stays_open}
+use Rattle.conversation_runs.specs.declared.ends.ServeError.{ServeError}
+use Rattle.conversation_runs.proofs.Answering.{answered_by_row}
 use Rattle.conversation_runs.proofs.Failing.{failed_answer, failed_cut, failed_turns, failed_memory, never_limited}
 use Rattle.pg_session.proofs.session.Session.respond_unready.Goals as goal
+
+-- an end closes the session
+closes : (end : Option EndKind) → stays_open (Ok end) ≡ goes_on {E = ServeError} (Ok end)
+closes None = refl
+closes (Some kind) = refl
+
+pub waits_when_unready-wait_for_sync-requires : goal.waits_when_unready-wait_for_sync-requires
+waits_when_unready-wait_for_sync-requires g c = λ ready. c.requires.unready (sym c.state.ensures ∙ ready)
+
+pub process_unready-requires-clause-open : goal.process_unready-requires-clause-open
+process_unready-requires-clause-open g c = c.requires.«open»
+
+pub process_unready-requires-clause-unready : goal.process_unready-requires-clause-unready
+process_unready-requires-clause-unready g c = c.requires.unready
+
+pub process_unready-requires-clause-given : goal.process_unready-requires-clause-given
+process_unready-requires-clause-given g c = c.requires.given
+
+pub fail-requires-clause-open : goal.fail-requires-clause-open
+fail-requires-clause-open g c = λ stays. c.in-Err.ensures.«open» ∙ stays
+
+pub returns-in-Ok-clause-answer : goal.returns-in-Ok-clause-answer
+returns-in-Ok-clause-answer g c =
+    let session = c.args.self.now in
+    let done = c.process_unready.new.session in
+    answered_by_row (g.H.PgWireServerHandlers.told session.handlers) session.state c.args.message
+    (g.D.CancelDesk.told c.args.desk.now).calls (g.D.CancelDesk.told c.process_unready.new.desk).calls session.unsent done.unsent
+    c.in-Ok.end done.state c.in-Ok.ensures.ok
+
+pub returns-in-Ok-clause-err : goal.returns-in-Ok-clause-err
+returns-in-Ok-clause-err g c = tt
+
+pub returns-in-Ok-clause-only : goal.returns-in-Ok-clause-only
+returns-in-Ok-clause-only g c = tt
+
+pub returns-in-Ok-clause-open : goal.returns-in-Ok-clause-open
+returns-in-Ok-clause-open g c = c.in-Ok.ensures.«open» ∙ closes c.in-Ok.end
+
+pub returns-in-Ok-clause-turns : goal.returns-in-Ok-clause-turns
+returns-in-Ok-clause-turns g c = c.in-Ok.ensures.turns
 
 pub returns-in-Err-clause-answer : goal.returns-in-Err-clause-answer
 returns-in-Err-clause-answer g c =

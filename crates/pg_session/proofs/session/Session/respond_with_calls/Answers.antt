@@ -1,10 +1,54 @@
-use Rattle.std.proofs.Common.{Option, ◌∙◌}
+use Rattle.std.proofs.Common.{◌≡◌, Option, Some, None, Result, Ok, Err, refl, ap, sym, ◌∙◌}
 use Rattle.pg_client.specs.declared.ends.EndKind.{EndKind}
-use Rattle.std.proofs.Common.{ap, sym, ◌∙◌}
 use Rattle.conversation_table.specs.Table.{scope_in}
 use Rattle.conversation_runs.specs.Messages.{scope_for}
+use Rattle.conversation_runs.specs.Session.{goes_on, stays_open}
+use Rattle.conversation_runs.specs.declared.ends.ServeError.{ServeError}
+use Rattle.conversation_runs.specs.declared.ends.ServeError.TheVariants as serve
+use Rattle.conversation_runs.proofs.Answering.{answered_by_row}
 use Rattle.conversation_runs.proofs.Failing.{failed_answer, failed_cut, failed_stopped, failed_only, failed_turns}
 use Rattle.pg_session.proofs.session.Session.respond_with_calls.Goals as goal
+
+-- an answer without an error stops at no limit
+no_limit : {P : Type 0} (end : Option EndKind) → ◌≡◌ {A = Result (Option EndKind) ServeError} (Ok end) (Err serve.TurnLimit) → P
+no_limit end is = cc
+
+-- an end closes the session
+closes : (end : Option EndKind) → stays_open (Ok end) ≡ goes_on {E = ServeError} (Ok end)
+closes None = refl
+closes (Some kind) = refl
+
+pub process_ready-requires-clause-open : goal.process_ready-requires-clause-open
+process_ready-requires-clause-open g c = c.requires.«open»
+
+pub process_ready-requires-clause-ready : goal.process_ready-requires-clause-ready
+process_ready-requires-clause-ready g c = c.requires.ready
+
+pub process_ready-requires-clause-given : goal.process_ready-requires-clause-given
+process_ready-requires-clause-given g c = c.requires.given
+
+pub fail-requires-clause-open : goal.fail-requires-clause-open
+fail-requires-clause-open g c = λ stays. c.in-Err.ensures.«open» ∙ stays
+
+pub returns-in-Ok-clause-answer : goal.returns-in-Ok-clause-answer
+returns-in-Ok-clause-answer g c =
+    let session = c.args.self.now in
+    let done = c.process_ready.new.session in
+    answered_by_row (g.H.PgWireServerHandlers.told session.handlers) session.state c.args.message
+    (g.D.CancelDesk.told c.args.desk.now).calls (g.D.CancelDesk.told c.process_ready.new.desk).calls session.unsent done.unsent
+    c.in-Ok.end done.state c.in-Ok.ensures.ok
+
+pub returns-in-Ok-clause-err : goal.returns-in-Ok-clause-err
+returns-in-Ok-clause-err g c = tt
+
+pub returns-in-Ok-clause-stopped : goal.returns-in-Ok-clause-stopped
+returns-in-Ok-clause-stopped g c = no_limit c.in-Ok.end
+
+pub returns-in-Ok-clause-only : goal.returns-in-Ok-clause-only
+returns-in-Ok-clause-only g c = tt
+
+pub returns-in-Ok-clause-open : goal.returns-in-Ok-clause-open
+returns-in-Ok-clause-open g c = c.in-Ok.ensures.«open» ∙ closes c.in-Ok.end
 
 pub returns-in-Err-clause-answer : goal.returns-in-Err-clause-answer
 returns-in-Err-clause-answer g c =

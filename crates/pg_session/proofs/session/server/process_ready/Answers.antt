@@ -1,7 +1,8 @@
 use Rattle.std.proofs.Common.{IfOk, IfErr, subst, ap, ◌∙◌}
+use Rattle.pg_messages.specs.Frames.{IsFrame}
 use Rattle.pg_client.specs.Effect.{IsRow, IsRefusedRow}
 use Rattle.pg_client.specs.State.{state_of}
-use Rattle.conversation_table.specs.Table.{ready_row}
+use Rattle.conversation_table.specs.Table.{is_startup_phase, ready_row}
 use Rattle.pg_client.specs.Ends.{outcome_of}
 use Rattle.conversation_runs.proofs.Narrowed.{ready_goes_on}
 use Rattle.conversation_runs.proofs.Rows.{row_as, refused_as}
@@ -51,3 +52,36 @@ returns-clause-registration g c =
     (g.D.CancelDesk.told c.args.desk.now) (g.D.CancelDesk.told answered.new.desk) answered.ensures.keeps old.outbox
     answered.new.client.outbox (state_of g.St.PortalStore.maps answered.new.client) answered.result answered.ensures.ok
     answered.ensures.refused
+
+pub on_ready-outcome-requires-clause-given : goal.on_ready-outcome-requires-clause-given
+on_ready-outcome-requires-clause-given g c =
+    let given = c.requires.given in
+    (given.0, subst (λ p. IsFrame (is_startup_phase p) given.0 c.args.message) c.requires.ready given.1)
+
+pub on_ready-outcome-requires-clause-ready : goal.on_ready-outcome-requires-clause-ready
+on_ready-outcome-requires-clause-ready g c = ap (λ v. v.state.info.state) c.session.view_is ∙ c.requires.ready
+
+pub on_ready-outcome-requires-clause-good : goal.on_ready-outcome-requires-clause-good
+on_ready-outcome-requires-clause-good g c =
+    rw c.deref-handlers.ensures (c.session.invariant (ap (λ v. v.is_open) c.session.view_is ∙ c.requires.«open»))
+
+pub returns-clause-answerable : goal.returns-clause-answerable
+returns-clause-answerable g c = c.on_ready-outcome.ensures.answerable
+
+pub returns-clause-ends : goal.returns-clause-ends
+returns-clause-ends g c = c.on_ready-outcome.ensures.ends
+
+pub returns-clause-open : goal.returns-clause-open
+returns-clause-open g c = c.stays_open-session-inside.ensures
+
+pub returns-clause-handlers : goal.returns-clause-handlers
+returns-clause-handlers g c = ap (λ v. v.handlers) c.session.view_is
+
+pub returns-clause-rest : goal.returns-clause-rest
+returns-clause-rest g c = ap (λ v. v.rest) c.session.view_is
+
+pub returns-clause-turns : goal.returns-clause-turns
+returns-clause-turns g c = c.on_ready-outcome.ensures.turns
+
+pub returns-clause-bounded : goal.returns-clause-bounded
+returns-clause-bounded g c = c.on_ready-outcome.ensures.bounded

@@ -1,8 +1,9 @@
-use Rattle.std.proofs.Common.{IfOk, IfErr, subst}
+use Rattle.std.proofs.Common.{IfOk, IfErr, ap, subst, sym, ◌∙◌}
 use Rattle.pg_client.specs.Effect.{IsRow, IsRefusedRow}
 use Rattle.pg_client.specs.State.{state_of}
 use Rattle.conversation_table.specs.Table.{message_row}
 use Rattle.pg_client.specs.Ends.{outcome_of}
+use Rattle.conversation_runs.specs.Messages.{IsGivenIn}
 use Rattle.conversation_runs.proofs.Rows.{row_as, refused_as}
 use Rattle.pg_session.proofs.session.server.process_unready.Goals as goal
 
@@ -36,3 +37,36 @@ returns-clause-refused g c =
     (subst (λ (x : g.row.H.Denot). IfErr answered.result (IsRefusedRow
     (λ answers. message_row (g.H.PgWireServerHandlers.told x) answers s c.args.message) old.outbox answered.new.client.outbox
     calls new_calls new)) c.deref-handlers.ensures answered.ensures.refused)
+
+pub on_unready-outcome-requires-clause-given : goal.on_unready-outcome-requires-clause-given
+on_unready-outcome-requires-clause-given g c =
+    subst (λ v. IsGivenIn v.state c.args.message) (sym c.session.view_is) c.requires.given
+
+pub on_unready-outcome-requires-clause-unready : goal.on_unready-outcome-requires-clause-unready
+on_unready-outcome-requires-clause-unready g c =
+    λ ready. c.requires.unready (sym (ap (λ v. v.state.info.state) c.session.view_is) ∙ ready)
+
+pub on_unready-outcome-requires-clause-good : goal.on_unready-outcome-requires-clause-good
+on_unready-outcome-requires-clause-good g c =
+    rw c.deref-handlers.ensures (c.session.invariant (ap (λ v. v.is_open) c.session.view_is ∙ c.requires.«open»))
+
+pub returns-clause-answerable : goal.returns-clause-answerable
+returns-clause-answerable g c = c.on_unready-outcome.ensures.answerable
+
+pub returns-clause-ends : goal.returns-clause-ends
+returns-clause-ends g c = c.on_unready-outcome.ensures.ends
+
+pub returns-clause-open : goal.returns-clause-open
+returns-clause-open g c = c.stays_open-session-inside.ensures
+
+pub returns-clause-handlers : goal.returns-clause-handlers
+returns-clause-handlers g c = ap (λ v. v.handlers) c.session.view_is
+
+pub returns-clause-rest : goal.returns-clause-rest
+returns-clause-rest g c = ap (λ v. v.rest) c.session.view_is
+
+pub returns-clause-turns : goal.returns-clause-turns
+returns-clause-turns g c = c.on_unready-outcome.ensures.turns
+
+pub returns-clause-registration : goal.returns-clause-registration
+returns-clause-registration g c = c.on_unready-outcome.ensures.registration
