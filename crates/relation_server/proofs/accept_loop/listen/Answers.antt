@@ -1,9 +1,14 @@
-use Rattle.std.proofs.Common.{◌∙◌, ◌+◌, arith, add-one, refl}
+use Rattle.std.proofs.Common.{◌≢◌, ◌∙◌, ◌+◌, ℕ, Result, Ok, Err, arith, add-one, refl}
 use Rattle.std.proofs.lemmas.Result.{err_from_is_err_and}
 use Rattle.pg_cancel.proofs.Prefixes.{prefix_self, prefix_trans}
+use Rattle.relation_server.specs.declared.accept_loop.ListenError.{ListenError}
+use Rattle.relation_server.specs.declared.accept_loop.ListenError.TheVariants.{PidTaken}
 use Rattle.relation_server.specs.Listening.{taking_of}
 use Rattle.relation_server.proofs.Taking.{exactly_refused, gives_up, none_registered, one_more, refused_never}
 use Rattle.relation_server.proofs.accept_loop.listen.Goals as goal
+
+no_refusal : (count m : ℕ) → ◌≢◌ {A = Result ℕ ListenError} (Ok count) (Err (PidTaken m))
+no_refusal count m is = absurd (let k = is in cc)
 
 pub connections-init : goal.connections-init
 connections-init g c = record {
@@ -62,7 +67,7 @@ returns-in_err-take_in-clause-seen g c =
 
 pub returns-clause-exactly : goal.returns-clause-exactly
 returns-clause-exactly g c m = (
-  λ is. absurd (cc (is)),
+  λ is. absurd (no_refusal _ m is),
   λ f. absurd (refused_never m c.connections.pid c.args.door.now.seen c.connections.door.seen c.connections.invariant.registered f),
 )
 
