@@ -40,13 +40,13 @@ clients:
 
 # Proves the program and all that it stands on, builds it, and shows the same frames from what was built.
 build:
-	@echo "The program is proved and built: from nothing some 40 minutes of processor time, later only what changed."
+	@echo "The program is proved and built: from nothing 40 to 70 minutes of processor time, later only what changed."
 	@$(call QUIETLY,crates/server,rt run -- --version)
 	@python3 tools/show_frames.py $(CLIENT) crates/server/out/server $(WORDS)
 
-# Proves everything from nothing, tries the must-fail edits that are not held, runs every test and program. As many checks run side by side as there are
-# processors, each in one job: a check that is given a second one repeats a tenth to a third of its work. They take up to 5 GB each; where
-# memory is short, `rt ci` alone has as many as fit.
+# Proves everything from nothing, tries the must-fail edits that are not held, runs every test and program. As many checks run
+# side by side as there are processors, each in one job: a check that is given a second one repeats a tenth to a third of its
+# work. They take up to 5 GB each; where memory is short, `rt ci` alone has as many as fit.
 test:
 	RT_JOBS=$$(nproc) rt ci
 
