@@ -7,12 +7,13 @@ pub mod Feeding
 pub mod Flowing
 pub mod GoodStates
 pub mod Held
+pub mod MessageRows
 pub mod Narrowed
 pub mod Pieces
 pub mod ReplyBytes
+pub mod Responses
 pub mod Rounds
 pub mod Rows
-pub mod Silently
 pub mod Spending
 pub mod StartupTurns
 pub mod Stepped

@@ -1,5 +1,5 @@
 -- A step, by what its reading did, and by what the answer to its message did.
-use Rattle.std.proofs.Common.{◌≡◌, ◌≢◌, ◌<◌, ◌++◌, ◌⊎◌, ℕ, Bool, true, false, List, length, Option, Some, None, Result, Ok, Err, IfOk, IfErr, IfNone, IsErrOf, OnErr, refl, sym, ap, subst, ◌∙◌, arith, length-append}
+use Rattle.std.proofs.Common.{◌≡◌, ◌≢◌, ◌<◌, ◌++◌, ◌⊎◌, ℕ, Bool, true, false, List, length, Option, Some, None, Result, Ok, Err, IfOk, IfErr, IfNone, IsErrOf, OnErr, refl, sym, ap, subst, inl, ◌∙◌, arith, length-append}
 use Rattle.std.specs.Option.{option_map}
 use Rattle.std.proofs.lemmas.Bool.{false≢true}
 use Rattle.pg_messages.specs.declared.frontend.PgWireFrontendMessage.{PgWireFrontendMessage}
@@ -11,6 +11,7 @@ use Rattle.pg_client.specs.declared.desk.DeskCall.{DeskCall}
 use Rattle.pg_client.specs.Answer.{Next}
 use Rattle.pg_client.specs.Desk.{DeskTold}
 use Rattle.conversation_table.specs.Handlers.{Handlers}
+use Rattle.conversation_table.specs.Questions.{questions_since}
 use Rattle.pg_client.specs.State.{State}
 use Rattle.conversation_table.specs.Table.{awaits, whole_table}
 use Rattle.pg_client.proofs.Desks.{goes_on_none}
@@ -20,9 +21,8 @@ use Rattle.conversation_runs.specs.declared.ends.ServeError.{ServeError}
 use Rattle.conversation_runs.specs.declared.ends.ServeError.TheVariants as serve
 use Rattle.conversation_runs.specs.Messages.{next_of}
 use Rattle.conversation_runs.specs.Session.{SessionValue, HasFed, IsUnread, goes_on, is_going, told_end, whole_rules}
-use Rattle.conversation_runs.specs.Steps.{IsAnswered, IsCutAnswer, IsStoppedAnswer, IsSilentlyAnswered, IsServed, IsCutOff, IsStopped, StandsAfterStep, IsResponse, IsStep}
-use Rattle.conversation_runs.proofs.Silently.{silently_fed, never_stopped, one_of_both}
-use Rattle.conversation_runs.proofs.Spending.{fed_err}
+use Rattle.conversation_runs.specs.Steps.{IsAnswered, IsCutAnswer, IsStoppedAnswer, IsServed, IsCutOff, IsStopped, StandsAfterStep, IsResponse, IsStep}
+use Rattle.conversation_runs.proofs.Spending.{fed_err, no_turn}
 use Rattle.conversation_runs.proofs.Stepping.{serves_one, cut_one, stop_one, stands_by, err_told}
 use Rattle.conversation_runs.proofs.Unread.{unread_served, unread_cut, unread_only}
 
@@ -35,6 +35,25 @@ shorter_behind : (text frame rest : List ℕ) → text ≡ frame ++ rest → 0 <
 shorter_behind text frame rest e some = omega (arith, ap length e, length-append frame rest)
 
 -- ---- nothing could be read
+
+-- no turn is spent where nothing is asked
+silently_fed : {A : Type 0} (turns : Turns) (calls : List DeskCall) (result : Result A ServeError)
+    → IfErr result (λ e. e ≡ serve.NoMemory) → HasFed turns turns (questions_since calls calls) result
+silently_fed turns calls (Ok x) only = no_turn turns calls
+silently_fed turns calls (Err serve.NoMemory) only = inl (no_turn turns calls)
+silently_fed turns calls (Err serve.TurnLimit) only = cc
+silently_fed turns calls (Err serve.ReadFault) only = cc
+silently_fed turns calls (Err serve.WriteFault) only = cc
+
+-- no turn limit is met, and memory alone is wanting
+never_stopped : {A : Type 0} (result : Result A ServeError) → IfErr result (λ e. e ≡ serve.NoMemory) → IsErrOf result serve.TurnLimit → ⊥
+never_stopped (Ok x) only limit = cc
+never_stopped (Err e) only limit = cc
+
+one_of_both : {A : Type 0} (result : Result A ServeError) → IfErr result (λ e. e ≡ serve.NoMemory)
+    → IfErr result (λ e. (e ≡ serve.NoMemory) ⊎ (e ≡ serve.TurnLimit))
+one_of_both (Ok x) only = tt
+one_of_both (Err e) only = inl only
 
 opened_always : {P : Type 0} (step : Result (Option Progress) ServeError) → P → IfOk step (λ p. is_going p ≡ true → P)
 opened_always (Ok p) x = λ _. x
@@ -71,27 +90,6 @@ module _ {H S : Type 0} (told : H → Handlers S) where
   step_unread old new desk turns step h s r u o is_open x =
       let same : new ≡ old = λ i. record { handlers = h i; state = s i; rest = r i; unsent = u i; is_open = o i } in
       subst (λ n. IsStep told old.rest old n desk desk turns turns step) (sym same) (step_at_once old desk turns step is_open x)
-
-  -- ---- a message that calls nothing
-
-  pub silent_response : (m : PgWireFrontendMessage) (old new : SessionValue H S) (desk : DeskTold) (turns : Turns)
-      (result : Result (Option EndKind) ServeError)
-      → IsSilentlyAnswered (whole_table (told old.handlers)) old.state m old.unsent new.unsent (λ e. next_of e new.state) result
-      → IfErr result (λ e. e ≡ serve.NoMemory) → IfOk result (λ e. e ≢ Some end.InputEnd) → new.is_open ≡ goes_on result
-      → new.handlers ≡ old.handlers → new.rest ≡ old.rest → IsResponse told m old new desk desk turns turns result
-  silent_response m old new desk turns result answer only ends is_open handlers rest = record {
-    answer = (answer desk.calls).0;
-    err = (answer desk.calls).1;
-    stopped = λ limit. absurd (never_stopped result only limit);
-    only = one_of_both result only;
-    ends = ends;
-    opened = is_open;
-    handlers = handlers;
-    rest = rest;
-    turns = silently_fed turns desk.calls result only;
-    bounded = λ within. within;
-    registration = goes_on_none desk;
-  }
 
   -- ---- the answer to a message
 

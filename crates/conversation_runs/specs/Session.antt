@@ -28,6 +28,20 @@ pub record SessionValue (H S : Type 0) : Type 0 where
   pub unsent : List ℕ
   pub is_open : Bool
 
+-- nothing has changed but the replies that wait
+pub record ChangesUnsent {H S : Type 0} (old new : SessionValue H S) : Type 0 where
+  pub state : new.state ≡ old.state
+  pub handlers : new.handlers ≡ old.handlers
+  pub rest : new.rest ≡ old.rest
+  pub opened : new.is_open ≡ old.is_open
+
+-- nothing has changed but the bytes of a frame that isn't whole
+pub record ChangesRest {H S : Type 0} (old new : SessionValue H S) : Type 0 where
+  pub state : new.state ≡ old.state
+  pub handlers : new.handlers ≡ old.handlers
+  pub unsent : new.unsent ≡ old.unsent
+  pub opened : new.is_open ≡ old.is_open
+
 -- the most bytes of a frame that isn't whole: one less than a frame may have while the startup packet is awaited, and afterwards
 abbrev pub most_held : Bool → ℕ
 most_held true = 9999

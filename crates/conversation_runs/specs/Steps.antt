@@ -11,11 +11,13 @@ use Rattle.pg_client.specs.declared.ends.SessionError.{SessionError}
 use Rattle.pg_client.specs.declared.ends.SessionError.TheVariants as session
 use Rattle.pg_client.specs.declared.ends.Turns.{Turns}
 use Rattle.pg_client.specs.Desk.{DeskTold, GoesOn}
-use Rattle.pg_client.specs.Effect.{Scope, failed}
+use Rattle.pg_client.specs.Ends.{IsAnswerableError, outcome_of}
+use Rattle.pg_client.specs.Effect.{Scope, failed, IsRow, IsRefusedRow}
 use Rattle.conversation_table.specs.Handlers.{Handlers}
-use Rattle.conversation_table.specs.Questions.{questions_since}
+use Rattle.conversation_table.specs.Good.{IsGoodState}
+use Rattle.conversation_table.specs.Questions.{HasSpent, questions_since}
 use Rattle.pg_client.specs.State.{State}
-use Rattle.conversation_table.specs.Table.{whole_table, awaits}
+use Rattle.conversation_table.specs.Table.{message_row, whole_table, awaits}
 use Rattle.pg_results.specs.Errors.{info_of}
 use Rattle.pg_results.specs.declared.error.PgWireError.{PgWireError}
 use Rattle.pg_results.specs.declared.error.PgWireError.TheVariants as wire
@@ -54,12 +56,6 @@ pub record IsCutAnswer {T : Type 0} (table : Table T) (s : T) (m : PgWireFronten
   pub made : List DeskCall
   pub front : BeginsWith (table (answers_of made) s m).calls made
   pub grown : new_calls ≡ calls ++ made
-
--- A message was answered without a call, or its answer was cut off, whatever was called before; where it was answered, this comes next.
-abbrev pub IsSilentlyAnswered : {T : Type 0} → Table T → T → PgWireFrontendMessage → List ℕ → List ℕ → (Option EndKind → Next T)
-    → Result (Option EndKind) ServeError → Type 0
-IsSilentlyAnswered table s m out new_out next result = (calls : List DeskCall)
-    → IfOk result (λ end. IsAnswered table s m out new_out calls calls (next end)) × OnErr result (IsCutAnswer table s m calls calls)
 
 -- The answer to a message stops at a question: all calls were made, and the next one is a question, whose answer isn't there.
 pub record IsStoppedAnswer {T : Type 0} (table : Table T) (s : T) (m : PgWireFrontendMessage)
@@ -172,6 +168,19 @@ SentBehind written new_written out new_out _ _ = ⊥
 
 -- ---- a session
 
+-- What a message did to a client, before what follows an error: its row was carried out or refused, each error can be answered, the store
+-- is as good as it was, turns were spent on questions and on nothing else, and of the desk nothing but calls was asked.
+pub record IsMessageRow {S : Type 0} (h : Handlers S) (m : PgWireFrontendMessage) (s t : State S) (out new_out : List ℕ)
+    (desk new_desk : DeskTold) (before after : Turns) (result : Result (Option EndKind) SessionError) : Type 0 where
+  pub ok : IfOk result (λ kind. IsRow (λ answers. message_row h answers s m) out new_out desk.calls new_desk.calls (outcome_of kind t))
+  pub refused : IfErr result (IsRefusedRow (λ answers. message_row h answers s m) out new_out desk.calls new_desk.calls t)
+  pub answerable : IfErr result IsAnswerableError
+  pub ends : IfOk result (λ kind. kind ≢ Some end.InputEnd)
+  pub good : IsGoodState h.extended.parser t
+  pub turns : HasSpent before after (questions_since desk.calls new_desk.calls) result
+  pub bounded : before.spent ≤ before.limit → after.spent ≤ after.limit
+  pub registration : GoesOn desk new_desk
+
 -- What a message did to a session: it was answered as the whole table says, or its answer was cut off, which for want of a turn is a stop
 -- at a question. The session is open where the conversation goes on, and the bytes behind the message are left as they were.
 pub record IsResponse {H S : Type 0} (told : H → Handlers S) (m : PgWireFrontendMessage) (old new : SessionValue H S)
@@ -188,6 +197,14 @@ pub record IsResponse {H S : Type 0} (told : H → Handlers S) (m : PgWireFronte
   pub turns : HasFed before after (questions_since desk.calls new_desk.calls) result
   pub bounded : before.spent ≤ before.limit → after.spent ≤ after.limit
   pub registration : GoesOn desk new_desk
+
+-- What follows an error of a message: the session is open where the conversation goes on, and nothing has changed but where it stands and
+-- the replies that wait.
+pub record FollowsError {H S E : Type 0} (old new : SessionValue H S) (result : Result (Option EndKind) E) : Type 0 where
+  pub ends : IfOk result (λ kind. kind ≢ Some end.InputEnd)
+  pub opened : new.is_open ≡ goes_on result
+  pub handlers : new.handlers ≡ old.handlers
+  pub rest : new.rest ≡ old.rest
 
 -- What a step made of a text and of the session that holds it, whatever was written before, since a step sends nothing: the text was served
 -- as far as it goes, and the conversation stands so; or its serving was cut off, which for want of a turn is a stop at a question. A step
@@ -208,8 +225,3 @@ pub record IsStep {H S : Type 0} (told : H → Handlers S) (text : List ℕ) (ol
   pub turns : HasFed before after (questions_since desk.calls new_desk.calls) step
   pub bounded : before.spent ≤ before.limit → after.spent ≤ after.limit
   pub registration : GoesOn desk new_desk
-
--- What a step did that calls nothing: it is the same whatever the desk has told, and whatever turns were spent.
-pub record IsSilentStep {H S : Type 0} (told : H → Handlers S) (text : List ℕ) (old new : SessionValue H S)
-    (step : Result (Option Progress) ServeError) : Type 0 where
-  pub whatever : (desk : DeskTold) (turns : Turns) → IsStep told text old new desk desk turns turns step

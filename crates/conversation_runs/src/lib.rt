@@ -1,7 +1,6 @@
 //! What a run of the conversation is, however the client's bytes are cut: the sources that they come
 //! from, the sinks that the replies go to, why a conversation is given up, and the law that pieces
-//! join. The session's steps are defined here, over any table, and their lemmas stand beside the
-//! handlers.
+//! join. What a step of a session does is defined here, over any table.
 #![tactic(auto)]
 
 mod ends;

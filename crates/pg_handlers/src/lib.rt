@@ -1,11 +1,13 @@
-//! What the messages of a client are answered: the handlers of extended and simple queries and of
-//! COPY, their rules as default bodies, and the replies that they send.
+//! What the messages of a client are answered while the session is ready: the handlers of extended
+//! and simple queries and of COPY, with the rules of the protocol as default bodies; and a query
+//! that owes polls before it gives its outcome.
 #![tactic(auto)]
 
 mod copy;
 mod ends;
 mod handlers;
 mod noop;
+mod polled;
 mod query;
 
 pub use conversation_table::whole_table_is_lawful;
@@ -19,6 +21,7 @@ pub use pg_replies::{
     send_execution_response, send_partial_query_response, send_query_response,
     send_ready_for_query,
 };
+pub use polled::PolledQuery;
 pub use query::extended::ExtendedQueryHandler;
 pub use query::simple::SimpleQueryHandler;
 pub use query::{QueryState, Turn};

@@ -12,3 +12,5 @@ pub mod Readings
 pub mod Texts
 pub mod RowBytes
 pub mod SameBytes
+pub mod ZeroBytes
+pub mod QueryLaws

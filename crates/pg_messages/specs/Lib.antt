@@ -1,5 +1,6 @@
 pub mod Fields
 pub mod Frames
+pub mod QueryHeaders
 pub mod Reading
 pub mod Replies
 pub mod Status

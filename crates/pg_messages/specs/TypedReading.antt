@@ -1,7 +1,7 @@
 -- What a body behind the type byte of a message that is read as its own type is: that message, or none.
 use Rattle.std.specs.Prelude.{◌≡◌, ℕ, Bool, true, false, List, length, Some, None, ◌==◌, if◌then◌else◌, refl}
 use Rattle.pg_messages.specs.declared.frontend.PgWireFrontendMessage.TheVariants as client
-use Rattle.pg_messages.specs.Reading.{message_at, told_as, whole, query_at, parse_at, bind_at, describe_at, execute_at, sync_at}
+use Rattle.pg_messages.specs.Reading.{message_at, told_as, whole, query_at, parse_at, bind_at, describe_at, execute_at, close_at, sync_at}
 
 -- behind Q, a Query
 pub query_read : (body : List ℕ) → message_at false 81 body ≡ told_as client.Query (whole (query_at body))
@@ -27,6 +27,11 @@ describe_read body = refl
 pub execute_read : (body : List ℕ) → message_at false 69 body ≡ told_as client.Execute (whole (execute_at body))
 unfolding message_at
 execute_read body = refl
+
+-- behind C, a Close
+pub close_read : (body : List ℕ) → message_at false 67 body ≡ told_as client.Close (whole (close_at body))
+unfolding message_at
+close_read body = refl
 
 -- behind S, a Sync, which has no body
 pub sync_read : (body : List ℕ) → message_at false 83 body ≡ told_as client.PgSync (whole (sync_at body))

@@ -1,11 +1,50 @@
-//! The headers of frames, judged as soon as they are whole.
+//! The headers of frames, judged as soon as they are whole. While the startup packet is awaited a
+//! header is Int32 length, which counts itself; afterwards Byte1 type and Int32 length, which counts
+//! itself and not the type byte (protocol, "Message Formats").
 
 ghost use Rattle.std.specs.Prelude.{◌≡◌, ◌≤◌, ◌↔◌, true, false, length, IsTrue, Contains, IfOk, IfSome, IfNone, OnErr};
-ghost use Rattle.pg_messages.specs.Frames.{IsUnfinished, IsGoodHeader, told_len, type_bytes};
+ghost use Rattle.pg_messages.specs.Frames.{IsUnfinished, IsGoodHeader, header_len, told_len, type_bytes};
 
 use crate::codec::FrameError;
 
-/// How many bytes the startup packet in front has, once it is whole.
+/// The least length of a startup packet, which holds its length and a code.
+const LEAST_STARTUP: u32 = 8;
+
+/// The greatest length of a startup packet. PostgreSQL takes no longer one either.
+const MOST_STARTUP: u32 = 10_000;
+
+/// The least length of a typed frame, which holds its length.
+const LEAST_TYPED: u32 = 4;
+
+/// The greatest length of a typed frame, so that a client can't make a session hold more.
+const MOST_TYPED: u32 = 1_048_576;
+
+/// How many bytes the header of a frame has: 4 while the startup packet is awaited, since it has no
+/// type byte, and 5 afterwards.
+pub fn header_len(awaiting: bool) -> usize
+    ensures { result ≡ header_len awaiting }
+{
+    if awaiting { 4 } else { 5 }
+}
+
+/// How many bytes the frame in front has by its header: the length of a startup packet, and one more
+/// than that of a typed frame, whose type byte it doesn't count. The header may be a bad one.
+pub fn told_len(awaiting: bool, bytes: &[u8]) -> usize
+    requires { header_len awaiting ≤ length bytes.now }
+    ensures { result ≡ told_len awaiting bytes.now }
+{
+    if awaiting {
+        u32::from_be_bytes([bytes[0], bytes[1], bytes[2], bytes[3]]) as usize
+    } else {
+        u32::from_be_bytes([bytes[1], bytes[2], bytes[3], bytes[4]]) as usize + 1
+    }
+}
+
+/// How many bytes the startup packet in front has, once it is whole: Int32 length, which counts
+/// itself, 8 to 10,000, and a body.
+///
+/// None: the header isn't whole, or it is good and tells more bytes than there are. `Bad`: the
+/// header is whole and has another length.
 pub fn startup_len(bytes: &[u8]) -> Result<Option<usize>, FrameError>
     ensures told { IfOk result (λ found. IfSome found (λ n. (n ≡ told_len true bytes.now)
         × (n ≤ length bytes.now) × IsGoodHeader true bytes.now)) }
@@ -16,7 +55,7 @@ pub fn startup_len(bytes: &[u8]) -> Result<Option<usize>, FrameError>
         return Ok(None);
     }
     let len = u32::from_be_bytes([bytes[0], bytes[1], bytes[2], bytes[3]]);
-    if len < 8 || len > 10_000 {
+    if len < LEAST_STARTUP || len > MOST_STARTUP {
         return Err(FrameError::Bad);
     }
     let len = len as usize;
@@ -26,7 +65,12 @@ pub fn startup_len(bytes: &[u8]) -> Result<Option<usize>, FrameError>
     Ok(Some(len))
 }
 
-/// How many bytes the typed frame in front has, once it is whole.
+/// How many bytes the typed frame in front has, once it is whole: Byte1 type, Int32 length, which
+/// counts itself and not the type byte, 4 to 1,048,576, and a body (protocol, "Message Formats").
+///
+/// None: the header isn't whole, or it is good and tells more bytes than there are. `Bad`: the
+/// header is whole and has another length or an unknown type byte. No other error comes, and
+/// nothing of the body is looked at.
 pub fn typed_len(bytes: &[u8]) -> Result<Option<usize>, FrameError>
     ensures told { IfOk result (λ found. IfSome found (λ n. (n ≡ told_len false bytes.now)
         × (n ≤ length bytes.now) × IsGoodHeader false bytes.now)) }
@@ -37,7 +81,7 @@ pub fn typed_len(bytes: &[u8]) -> Result<Option<usize>, FrameError>
         return Ok(None);
     }
     let len = u32::from_be_bytes([bytes[1], bytes[2], bytes[3], bytes[4]]);
-    if !is_type(bytes[0]) || len < 4 || len > 1_048_576 {
+    if !is_type(bytes[0]) || len < LEAST_TYPED || len > MOST_TYPED {
         return Err(FrameError::Bad);
     }
     let len = len as usize + 1;

@@ -39,12 +39,13 @@ pub use extendedquery::{
     PgSync, PortalSuspended, TARGET_TYPE_BYTE_PORTAL, TARGET_TYPE_BYTE_STATEMENT,
 };
 pub use frontend::PgWireFrontendMessage;
+pub use headers::{header_len, told_len, typed_len};
 pub use response::{
     CommandComplete, EmptyQueryResponse, ErrorInfo, ErrorResponse, GssEncResponse, ReadyForQuery,
     SslResponse, TransactionStatus,
 };
 pub use secret_key::{KeyError, SecretKey};
-pub use simplequery::Query;
+pub use simplequery::{Query, query_text};
 pub use startup::{
     AuthenticationOk, BackendKeyData, CancelRequest, PROTOCOL_3_0, PROTOCOL_3_2, ParameterStatus,
     SslNegotiationKind, Startup, Terminate,

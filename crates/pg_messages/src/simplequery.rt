@@ -1,7 +1,14 @@
-//! The simple query.
+//! The simple query, and its text, read where it stands.
+
+ghost use Rattle.std.specs.Prelude.{◌≡◌, List, ℕ, false, drop, IfSome, IfNone};
+ghost use Rattle.pg_messages.specs.declared.frontend.PgWireFrontendMessage.TheVariants as client;
+ghost use Rattle.pg_messages.specs.Fields.{string, IsText};
+ghost use Rattle.pg_messages.specs.Frames.{IsFrame};
+ghost use Rattle.pg_messages.specs.QueryHeaders.{HasQueryHeader};
 
 use crate::codec::FrameError;
 use crate::fields::Field;
+use crate::headers::typed_len;
 use crate::values::PgStr;
 use std::alloc::Global;
 
@@ -22,4 +29,45 @@ impl Field for Query {
         let (query, rest) = PgStr::read(alloc, bytes)?;
         Ok((Query { query }, rest))
     }
+}
+
+/// The text of the Query that a frame is, where it stands: Byte1 `Q`, Int32 length, itself
+/// included and the type byte not, and the text, as a String, which ends with a zero byte. None
+/// comes exactly where the bytes are no Query frame: another type byte, another length than there
+/// are bytes or one past 1,048,577 bytes in all, no zero byte at the end, one before it, or a text
+/// that isn't UTF-8. (Protocol, Message Formats: Query.) It takes no memory.
+pub fn query_text(frame: &[u8]) -> Option<&str>
+    ensures some { IfSome result (λ text.
+        IsFrame false frame.now (client.Query (record { query = text.now }))) }
+    ensures none { IfNone result ((m : Query) → ¬ IsFrame false frame.now (client.Query m)) }
+{
+    text_of_string(query_body(frame)?)
+}
+
+/// What stands behind the header of a Query frame; None where the header isn't one that tells all
+/// of the bytes.
+fn query_body(frame: &[u8]) -> Option<&[u8]>
+    ensures some { IfSome result (λ body.
+        HasQueryHeader frame.now × (body.now ≡ drop 5 frame.now)) }
+    ensures none { IfNone result (¬ HasQueryHeader frame.now) }
+{
+    let Ok(Some(len)) = typed_len(frame) else {
+        return None;
+    };
+    if len != frame.len() || frame[0] != b'Q' {
+        return None;
+    }
+    Some(&frame[5..])
+}
+
+/// The text of a String that is all of the bytes.
+fn text_of_string(bytes: &[u8]) -> Option<&str>
+    ensures some { IfSome result (λ text. (bytes.now ≡ string text.now) × IsText text.now) }
+    ensures none { IfNone result ((text : List ℕ) → bytes.now ≡ string text → ¬ IsText text) }
+{
+    let (last, text) = bytes.split_last()?;
+    if *last != 0 || text.contains(&0) {
+        return None;
+    }
+    str::from_utf8(text).ok()
 }

@@ -6,7 +6,7 @@ ghost use Rattle.pg_messages.specs.Reading.{message_at, told_as, whole};
 ghost use Rattle.pg_messages.specs.declared.frontend.PgWireFrontendMessage.{PgWireFrontendMessage};
 
 use crate::codec::FrameError;
-use crate::extendedquery::{Bind, Describe, Execute, Parse, PgSync};
+use crate::extendedquery::{Bind, Close, Describe, Execute, Parse, PgSync};
 use crate::fields::{Field, whole};
 use crate::headers::typed_len;
 use crate::simplequery::Query;
@@ -14,8 +14,8 @@ use bytes::BytesMut;
 use std::alloc::Global;
 
 /// A message that is read as its own type, and not as one of all messages, where its type byte
-/// stands in front: Query, Parse, Bind, Describe, Execute and Sync, of which most of a conversation
-/// consists.
+/// stands in front: Query, Parse, Bind, Describe, Execute, Close and Sync, of which most of a
+/// conversation consists.
 pub trait TypedMessage: Field + Drop {
     // the type byte
     ghost kind: { ℕ };
@@ -81,6 +81,17 @@ impl TypedMessage for Describe {
     ghost message = { λ m. client.Describe m };
 
     ghost is_read = { describe_read };
+}
+
+impl TypedMessage for Close {
+    ghost use Rattle.pg_messages.specs.declared.frontend.PgWireFrontendMessage.TheVariants as client;
+    ghost use Rattle.pg_messages.specs.TypedReading.{close_read};
+
+    ghost kind = { 67 };
+
+    ghost message = { λ m. client.Close m };
+
+    ghost is_read = { close_read };
 }
 
 impl TypedMessage for PgSync {

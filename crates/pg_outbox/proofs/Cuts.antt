@@ -1,9 +1,10 @@
 -- Bytes that are cut into chunks.
-use Rattle.std.proofs.Common.{◌≡◌, ℕ, zero, suc, ◌+◌, ◌-◌, ◌*◌, ◌<◌, ◌≤◌, List, [], ◌∷◌, ◌++◌, length, get_or, take, drop, refl, sym, ap, ◌∙◌, append_assoc, arith, length-append}
-use Rattle.std.proofs.lemmas.List.{take-append-le, take_all, drop_all, get_or-take}
-use Rattle.std.proofs.Math.Seq.{take-append-add, take-append_seam, drop-append_seam}
+use Rattle.std.proofs.Common.{◌≡◌, ℕ, zero, suc, ◌+◌, ◌-◌, ◌*◌, ◌/◌, ◌%◌, ◌<◌, ◌≤◌, List, [], ◌∷◌, ◌++◌, length, get_or, take, drop, refl, sym, ap, ◌∙◌, append_assoc, arith, length-append}
+use Rattle.std.proofs.lemmas.List.{take-append-le, drop-append-le, take_all, drop_all, get_or-take}
+use Rattle.std.proofs.Math.Nat.{div-add-mod}
+use Rattle.std.proofs.Math.Seq.{take-append-add, take-append_seam, drop-append_seam, drop-append-add}
 use Rattle.bytes.specs.Filled.{Filled}
-use Rattle.pg_outbox.specs.Chunks.{chunk_bytes, AreWhole}
+use Rattle.pg_outbox.specs.Chunks.{chunk_bytes, AreWhole, IsCut}
 
 pub length_whole : (cs : List Filled) → AreWhole cs → length (chunk_bytes cs) ≡ 65536 * length cs
 length_whole [] w = refl
@@ -92,3 +93,32 @@ take_back n q r j k cs ds es l m d w h b e u v f g i o =
     ∙ get_or-take (suc q) cs q d (omega arith) in
     ap (λ t. chunk_bytes t ++ m) front ∙ ap (λ t. chunk_bytes (take q cs) ++ t) (o ∙ ap (λ t. take r t.items) chunk)
     ∙ sym (take_cut q r cs l d w h b) ∙ ap (λ t. take t (chunk_bytes cs ++ l)) (sym e)
+
+-- what stands behind a place in the chunk at place q: the rest of that chunk in front
+pub drop_cut : (q r : ℕ) (cs : List Filled) (l : List ℕ) (d : Filled) → AreWhole cs → q < length cs → r ≤ 65536
+    → drop (65536 * q + r) (chunk_bytes cs ++ l) ≡ drop r (get_or cs q d).items ++ (chunk_bytes (drop (suc q) cs) ++ l)
+drop_cut q r [] l d w h e = absurd (omega arith)
+drop_cut zero r (c ∷ cs) l d w h e =
+    let fits : r ≤ length c.items = omega (arith, w.0) in
+    let count : 65536 * 0 + r ≡ r = omega arith in
+    rw (count, append_assoc) (drop-append-le r c.items (chunk_bytes cs ++ l) fits)
+drop_cut (suc q) r (c ∷ cs) l d w h e =
+    let count : 65536 * suc q + r ≡ length c.items + (65536 * q + r) = omega (arith, w.0) in
+    rw (count, append_assoc (c.items) (chunk_bytes cs) l)
+    (drop-append-add c.items (chunk_bytes cs ++ l) (65536 * q + r) ∙ drop_cut q r cs l d w.1 (omega arith) e)
+
+-- what stands behind a place in the last chunk
+pub drop_end : (n r : ℕ) (cs : List Filled) (l : List ℕ) → AreWhole cs → n ≡ 65536 * length cs + r
+    → drop n (chunk_bytes cs ++ l) ≡ drop r l
+drop_end n r cs l w e =
+    let count : n ≡ length (chunk_bytes cs) + r = omega (arith, length_whole cs w, e) in
+    ap (λ t. drop t (chunk_bytes cs ++ l)) count ∙ drop-append-add (chunk_bytes cs) l r
+
+-- a place that stands in no chunk before the last stands in the last
+pub place_in_last : (n : ℕ) (cs : List Filled) (l bytes : List ℕ) → IsCut cs l → chunk_bytes cs ++ l ≡ bytes → n < length bytes
+    → length cs ≤ n / 65536 → (n ≡ 65536 * length cs + n % 65536) × (n % 65536 < length l)
+place_in_last n cs l bytes cut e some far =
+    let size = length_cut cs l cut.whole in
+    let all = ap length e in
+    let parts : 65536 * (n / 65536) + n % 65536 ≡ n = div-add-mod n 65536 in
+    (omega (arith, size, all, parts, cut.last, some, far), omega (arith, size, all, parts, cut.last, some, far))

@@ -1,6 +1,6 @@
 //! The outbox, seen as its bytes.
 
-ghost use Rattle.std.specs.Prelude.{◌≡◌, ◌≤◌, ◌<◌, ◌++◌, [], length, take, drop, IfOk, OnOk, OnErr, IfSome, IfNone, OnSome};
+ghost use Rattle.std.specs.Prelude.{◌≡◌, ◌≤◌, ◌<◌, ◌++◌, ℕ, List, [], length, take, drop, IfOk, OnOk, OnErr, IfSome, IfNone, OnSome};
 ghost use Rattle.pg_messages.specs.Replies.{IsEncodable, reply_bytes};
 ghost use Rattle.pg_messages.specs.declared.backend.PgWireBackendMessage.TheVariants as server;
 
@@ -127,6 +127,25 @@ impl Outbox {
             return None;
         }
         Some(self.last.as_slice())
+    }
+
+    /// The bytes from a place to the end of their chunk. Replies that wait are walked by their
+    /// headers with it, where they lie: a header or a reply may reach into the next chunk, which
+    /// begins behind this piece.
+    #[inline(always)]
+    pub fn piece_at(&self, at: usize) -> &[u8]
+        requires { at < length self.now }
+        ensures some { 0 < length result.now }
+        ensures piece { (behind : List ℕ) × (drop at self.now ≡ result.now ++ behind) }
+    {
+        let place = at / CHUNK;
+        let within = at % CHUNK;
+        if place < self.whole.len() {
+            let (_, piece) = self.whole[place].as_slice().split_at(within);
+            return piece;
+        }
+        let (_, piece) = self.last.as_slice().split_at(within);
+        piece
     }
 
     /// Forgets the first chunk, which was sent. Its memory is kept, and is that of the next chunk

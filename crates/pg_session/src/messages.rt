@@ -1,65 +1,39 @@
 //! What each message of a client is answered, by the phase of the conversation.
 
-ghost use Rattle.std.specs.Prelude.{◌≡◌, ◌≢◌, ◌≤◌, Some, IfOk, IfErr, OnOk};
-ghost use Rattle.pg_messages.specs.declared.extendedquery.Bind.{Bind};
-ghost use Rattle.pg_messages.specs.declared.extendedquery.Execute.{Execute};
-ghost use Rattle.pg_messages.specs.declared.extendedquery.Parse.{Parse};
-ghost use Rattle.pg_messages.specs.declared.extendedquery.PgSync.{PgSync};
-ghost use Rattle.pg_messages.specs.declared.frontend.PgWireFrontendMessage.TheVariants as frontend;
-ghost use Rattle.pg_messages.specs.declared.simplequery.Query.{Query};
-ghost use Rattle.pg_messages.specs.declared.startup.Terminate.{Terminate};
-ghost use Rattle.pg_results.specs.Rows.{IsAnswerable};
-ghost use Rattle.pg_results.specs.declared.error.PgWireError.{PgWireError};
-ghost use Rattle.pg_results.specs.declared.client.PgWireConnectionState.TheVariants as phase;
-ghost use Rattle.pg_client.specs.Desk.{GoesOn, KeepsDesk};
-ghost use Rattle.conversation_table.specs.CopyRows.{copy_row, copied};
-ghost use Rattle.pg_client.specs.Effect.{IsRow, IsRefusedRow, IsEffect, IsRefusedEffect, Done};
-ghost use Rattle.conversation_table.specs.Good.{IsGiven, IsGoodState};
-ghost use Rattle.conversation_table.specs.Questions.{HasSpent, questions_since};
-ghost use Rattle.pg_client.specs.Ends.{IsAnswerableError, outcome_of};
+ghost use Rattle.std.specs.Prelude.{◌≡◌};
 ghost use Rattle.pg_client.specs.State.{state_of};
-ghost use Rattle.conversation_table.specs.Table.{message_row, ready_row, statement_row, IsPlain, awaiting_sync_row};
-ghost use Rattle.pg_client.specs.declared.ends.EndKind.TheVariants.{InputEnd};
-ghost use Rattle.pg_client.specs.declared.ends.Turns.{Turns};
-ghost use Rattle.conversation_runs.specs.Messages.{going, IsGivenIn, with_session_error};
+ghost use Rattle.conversation_table.specs.Good.{IsGoodState};
+ghost use Rattle.conversation_runs.specs.Messages.{IsGivenIn, with_session_error};
+ghost use Rattle.conversation_runs.specs.Steps.{IsMessageRow};
 
 use pg_handlers::{
-    CancelDesk, Client, CopyHandler, EndKind, ExtendedQueryHandler, PgWireServerHandlers,
-    SessionError, SimpleQueryHandler, Turns, send_ready_for_query,
+    CancelDesk, Client, EndKind, ExtendedQueryHandler, PgWireServerHandlers, SessionError, Turns,
 };
-use pg_messages::{CopyDone, Execute, PgWireFrontendMessage, Query};
+use pg_messages::PgWireFrontendMessage;
 use pg_portal::{PgWireConnectionState, PgWireError, PortalStore};
-use pg_startup::on_startup_phase;
 use std::alloc::Global;
-use std::mem::drop;
+
+mod ready;
+mod unready;
+
+pub(crate) use ready::ReadyMessage;
+use ready::on_ready;
+use unready::on_unready;
 
 /// The same answer, with an error of a message as one of a session.
 #[inline(always)]
-fn with_session_error(
-    answer: Result<Option<EndKind>, PgWireError>,
-) -> Result<Option<EndKind>, SessionError>
+fn of_session(answer: Result<(), PgWireError>) -> Result<(), SessionError>
     ensures { result ≡ with_session_error answer }
 {
     match answer {
-        Ok(end) => Ok(end),
+        Ok(()) => Ok(()),
         Err(error) => Err(SessionError::Wire(error)),
     }
 }
 
-/// The same answer, of a message that doesn't end the conversation.
+/// Answers a message, but for what follows an error.
 #[inline(always)]
-fn going(answer: Result<(), SessionError>) -> Result<Option<EndKind>, SessionError>
-    ensures { result ≡ going answer }
-{
-    match answer {
-        Ok(()) => Ok(None),
-        Err(error) => Err(error),
-    }
-}
-
-/// A message of a session that isn't ready. It spends no turns.
-#[inline(never)]
-pub(crate) fn on_unready<
+pub(crate) fn on_message<
     H: PgWireServerHandlers,
     St: PortalStore<
         Statement = <H::Extended as ExtendedQueryHandler>::Statement,
@@ -71,472 +45,21 @@ pub(crate) fn on_unready<
     handlers: &H,
     client: &mut Client<St>,
     desk: &mut D,
+    turns: &mut Turns,
     message: PgWireFrontendMessage,
 ) -> Result<Option<EndKind>, SessionError>
     requires given { IsGivenIn (state_of St.maps client.old) message }
-    requires unready { client.old.info.state ≢ phase.ReadyForQuery }
     requires good { IsGoodState (H.told handlers.now).extended.parser
         (state_of St.maps client.old) }
-    ensures ok { IfOk result (λ end. IsRow
-        (λ answers. message_row
+    ensures { IsMessageRow
         (H.told handlers.now)
-        answers (state_of St.maps client.old) message)
-        client.old.outbox client.new.outbox (D.told desk.old).calls (D.told desk.new).calls
-        (outcome_of end (state_of St.maps client.new))) }
-    ensures refused { IfErr result (IsRefusedRow
-        (λ answers. message_row
-        (H.told handlers.now)
-        answers (state_of St.maps client.old) message)
-        client.old.outbox client.new.outbox (D.told desk.old).calls (D.told desk.new).calls
-        (state_of St.maps client.new)) }
-    ensures answerable { IfErr result IsAnswerableError }
-    ensures ends { IfOk result (λ end. end ≢ Some InputEnd) }
-    ensures good { IsGoodState (H.told handlers.now).extended.parser (state_of St.maps client.new) }
-    ensures turns { (turns : Turns) → HasSpent turns turns
-        (questions_since (D.told desk.old).calls (D.told desk.new).calls) result }
-    ensures registration { GoesOn (D.told desk.old) (D.told desk.new) }
+        message (state_of St.maps client.old) (state_of St.maps client.new) client.old.outbox
+        client.new.outbox (D.told desk.old) (D.told desk.new) turns.old turns.new result }
 {
     match client.info.state {
-        PgWireConnectionState::AwaitingStartup => on_startup_phase(alloc, client, desk, message),
-        PgWireConnectionState::CopyInProgress(is_extended) => with_session_error(on_copy(
-            alloc,
-            handlers,
-            client,
-            is_extended,
-            message,
-        )),
-        _ => with_session_error(on_awaiting_sync(handlers, client, message)),
-    }
-}
-
-/// A message of a session that is ready.
-#[inline(always)]
-pub(crate) fn on_ready<
-    H: PgWireServerHandlers,
-    St: PortalStore<
-        Statement = <H::Extended as ExtendedQueryHandler>::Statement,
-        Rows = <H::Extended as ExtendedQueryHandler>::Rows,
-    >,
-    D: CancelDesk,
->(
-    alloc: Global,
-    handlers: &H,
-    client: &mut Client<St>,
-    desk: &mut D,
-    turns: &mut Turns,
-    message: PgWireFrontendMessage,
-) -> Result<Option<EndKind>, SessionError>
-    requires given { IsGiven message }
-    requires ready { client.old.info.state ≡ phase.ReadyForQuery }
-    requires good { IsGoodState (H.told handlers.now).extended.parser
-        (state_of St.maps client.old) }
-    ensures ok { IfOk result (λ end. IsRow
-        (λ answers. ready_row
-        (H.told handlers.now)
-        answers (state_of St.maps client.old) message)
-        client.old.outbox client.new.outbox (D.told desk.old).calls (D.told desk.new).calls
-        (outcome_of end (state_of St.maps client.new))) }
-    ensures refused { IfErr result (IsRefusedRow
-        (λ answers. ready_row
-        (H.told handlers.now)
-        answers (state_of St.maps client.old) message)
-        client.old.outbox client.new.outbox (D.told desk.old).calls (D.told desk.new).calls
-        (state_of St.maps client.new)) }
-    ensures answerable { IfErr result IsAnswerableError }
-    ensures ends { IfOk result (λ end. end ≢ Some InputEnd) }
-    ensures good { IsGoodState (H.told handlers.now).extended.parser (state_of St.maps client.new) }
-    ensures turns { HasSpent turns.old turns.new
-        (questions_since (D.told desk.old).calls (D.told desk.new).calls) result }
-    ensures bounded { turns.old.spent ≤ turns.old.limit → turns.new.spent ≤ turns.new.limit }
-    ensures keeps { KeepsDesk (D.told desk.old) (D.told desk.new) }
-{
-    match message {
-        PgWireFrontendMessage::Query(m) => going(on_query(alloc, handlers, client, desk, turns, m)),
-        PgWireFrontendMessage::Execute(m) => {
-            going(on_execute(alloc, handlers, client, desk, turns, m))
+        PgWireConnectionState::ReadyForQuery => {
+            on_ready(alloc, handlers, client, desk, turns, message)
         }
-        other => with_session_error(on_ready_silently(alloc, handlers, client, other)),
+        _ => on_unready(alloc, handlers, client, desk, message),
     }
-}
-
-/// A message of a session that is ready, which calls nothing.
-#[inline(always)]
-fn on_ready_silently<
-    H: PgWireServerHandlers,
-    St: PortalStore<
-        Statement = <H::Extended as ExtendedQueryHandler>::Statement,
-        Rows = <H::Extended as ExtendedQueryHandler>::Rows,
-    >,
->(
-    alloc: Global,
-    handlers: &H,
-    client: &mut Client<St>,
-    message: PgWireFrontendMessage,
-) -> Result<Option<EndKind>, PgWireError>
-    requires given { IsGiven message }
-    requires no_query { (m : Query) → message ≢ frontend.Query m }
-    requires no_execute { (m : Execute) → message ≢ frontend.Execute m }
-    requires good { IsGoodState (H.told handlers.now).extended.parser
-        (state_of St.maps client.old) }
-    ensures ok { IfOk result (λ end. IsEffect
-        (statement_row (H.told handlers.now).extended (state_of St.maps client.old) message)
-        client.old.outbox client.new.outbox (outcome_of end (state_of St.maps client.new))) }
-    ensures refused { IfErr result (IsRefusedEffect
-        (statement_row (H.told handlers.now).extended (state_of St.maps client.old) message)
-        client.old.outbox client.new.outbox (state_of St.maps client.new)) }
-    ensures answerable { IfErr result IsAnswerable }
-    ensures ends { IfOk result (λ end. end ≢ Some InputEnd) }
-    ensures good { IsGoodState (H.told handlers.now).extended.parser (state_of St.maps client.new) }
-{
-    match message {
-        PgWireFrontendMessage::Terminate(_) => Ok(Some(EndKind::Terminate)),
-        other => match on_statement(alloc, handlers, client, other) {
-            Ok(()) => Ok(None),
-            Err(error) => Err(error),
-        },
-    }
-}
-
-/// A Query of a session that is ready.
-#[inline(always)]
-pub(crate) fn on_query<
-    H: PgWireServerHandlers,
-    St: PortalStore<
-        Statement = <H::Extended as ExtendedQueryHandler>::Statement,
-        Rows = <H::Extended as ExtendedQueryHandler>::Rows,
-    >,
-    D: CancelDesk,
->(
-    alloc: Global,
-    handlers: &H,
-    client: &mut Client<St>,
-    desk: &mut D,
-    turns: &mut Turns,
-    message: Query,
-) -> Result<(), SessionError>
-    requires given { IsGiven (frontend.Query message) }
-    requires ready { client.old.info.state ≡ phase.ReadyForQuery }
-    requires good { IsGoodState (H.told handlers.now).extended.parser
-        (state_of St.maps client.old) }
-    ensures ok { OnOk result (IsRow
-        (λ answers. ready_row
-        (H.told handlers.now)
-        answers (state_of St.maps client.old) (frontend.Query message))
-        client.old.outbox client.new.outbox (D.told desk.old).calls (D.told desk.new).calls
-        (Done (state_of St.maps client.new))) }
-    ensures refused { IfErr result (IsRefusedRow
-        (λ answers. ready_row
-        (H.told handlers.now)
-        answers (state_of St.maps client.old) (frontend.Query message))
-        client.old.outbox client.new.outbox (D.told desk.old).calls (D.told desk.new).calls
-        (state_of St.maps client.new)) }
-    ensures answerable { IfErr result IsAnswerableError }
-    ensures good { IsGoodState (H.told handlers.now).extended.parser (state_of St.maps client.new) }
-    ensures turns { HasSpent turns.old turns.new
-        (questions_since (D.told desk.old).calls (D.told desk.new).calls) result }
-    ensures bounded { turns.old.spent ≤ turns.old.limit → turns.new.spent ≤ turns.new.limit }
-    ensures keeps { KeepsDesk (D.told desk.old) (D.told desk.new) }
-{
-    handlers
-        .simple_query_handler()
-        .on_query(alloc, client, desk, turns, message)
-}
-
-/// An Execute of a session that is ready.
-#[inline(always)]
-pub(crate) fn on_execute<
-    H: PgWireServerHandlers,
-    St: PortalStore<
-        Statement = <H::Extended as ExtendedQueryHandler>::Statement,
-        Rows = <H::Extended as ExtendedQueryHandler>::Rows,
-    >,
-    D: CancelDesk,
->(
-    alloc: Global,
-    handlers: &H,
-    client: &mut Client<St>,
-    desk: &mut D,
-    turns: &mut Turns,
-    message: Execute,
-) -> Result<(), SessionError>
-    requires given { IsGiven (frontend.Execute message) }
-    requires ready { client.old.info.state ≡ phase.ReadyForQuery }
-    requires good { IsGoodState (H.told handlers.now).extended.parser
-        (state_of St.maps client.old) }
-    ensures ok { OnOk result (IsRow
-        (λ answers. ready_row
-        (H.told handlers.now)
-        answers (state_of St.maps client.old) (frontend.Execute message))
-        client.old.outbox client.new.outbox (D.told desk.old).calls (D.told desk.new).calls
-        (Done (state_of St.maps client.new))) }
-    ensures refused { IfErr result (IsRefusedRow
-        (λ answers. ready_row
-        (H.told handlers.now)
-        answers (state_of St.maps client.old) (frontend.Execute message))
-        client.old.outbox client.new.outbox (D.told desk.old).calls (D.told desk.new).calls
-        (state_of St.maps client.new)) }
-    ensures answerable { IfErr result IsAnswerableError }
-    ensures good { IsGoodState (H.told handlers.now).extended.parser (state_of St.maps client.new) }
-    ensures turns { HasSpent turns.old turns.new
-        (questions_since (D.told desk.old).calls (D.told desk.new).calls) result }
-    ensures bounded { turns.old.spent ≤ turns.old.limit → turns.new.spent ≤ turns.new.limit }
-    ensures keeps { KeepsDesk (D.told desk.old) (D.told desk.new) }
-{
-    handlers
-        .extended_query_handler()
-        .on_execute(alloc, client, desk, turns, message)
-}
-
-/// A message of a session that is ready, which calls nothing and doesn't end the conversation.
-#[inline(always)]
-pub(crate) fn on_statement<
-    H: PgWireServerHandlers,
-    St: PortalStore<
-        Statement = <H::Extended as ExtendedQueryHandler>::Statement,
-        Rows = <H::Extended as ExtendedQueryHandler>::Rows,
-    >,
->(
-    alloc: Global,
-    handlers: &H,
-    client: &mut Client<St>,
-    message: PgWireFrontendMessage,
-) -> Result<(), PgWireError>
-    requires given { IsGiven message }
-    requires plain { IsPlain message }
-    requires good { IsGoodState (H.told handlers.now).extended.parser
-        (state_of St.maps client.old) }
-    ensures ok { OnOk result (IsEffect
-        (statement_row (H.told handlers.now).extended (state_of St.maps client.old) message)
-        client.old.outbox client.new.outbox (Done (state_of St.maps client.new))) }
-    ensures refused { IfErr result (IsRefusedEffect
-        (statement_row (H.told handlers.now).extended (state_of St.maps client.old) message)
-        client.old.outbox client.new.outbox (state_of St.maps client.new)) }
-    ensures answerable { IfErr result IsAnswerable }
-    ensures good { IsGoodState (H.told handlers.now).extended.parser (state_of St.maps client.new) }
-{
-    match message {
-        PgWireFrontendMessage::Parse(m) => handlers
-            .extended_query_handler()
-            .on_parse(alloc, client, m),
-        PgWireFrontendMessage::Bind(m) => handlers
-            .extended_query_handler()
-            .on_bind(alloc, client, m),
-        PgWireFrontendMessage::PgSync(m) => handlers.extended_query_handler().on_sync(client, m),
-        other => on_rarer_statement(alloc, handlers, client, other),
-    }
-}
-
-/// One of these messages that is neither Parse, Bind nor Sync.
-#[inline(never)]
-fn on_rarer_statement<
-    H: PgWireServerHandlers,
-    St: PortalStore<
-        Statement = <H::Extended as ExtendedQueryHandler>::Statement,
-        Rows = <H::Extended as ExtendedQueryHandler>::Rows,
-    >,
->(
-    alloc: Global,
-    handlers: &H,
-    client: &mut Client<St>,
-    message: PgWireFrontendMessage,
-) -> Result<(), PgWireError>
-    requires given { IsGiven message }
-    requires plain { IsPlain message }
-    requires no_parse { (m : Parse) → message ≢ frontend.Parse m }
-    requires no_bind { (m : Bind) → message ≢ frontend.Bind m }
-    requires no_sync { (m : PgSync) → message ≢ frontend.PgSync m }
-    requires good { IsGoodState (H.told handlers.now).extended.parser
-        (state_of St.maps client.old) }
-    ensures ok { OnOk result (IsEffect
-        (statement_row (H.told handlers.now).extended (state_of St.maps client.old) message)
-        client.old.outbox client.new.outbox (Done (state_of St.maps client.new))) }
-    ensures refused { IfErr result (IsRefusedEffect
-        (statement_row (H.told handlers.now).extended (state_of St.maps client.old) message)
-        client.old.outbox client.new.outbox (state_of St.maps client.new)) }
-    ensures answerable { IfErr result IsAnswerable }
-    ensures good { IsGoodState (H.told handlers.now).extended.parser (state_of St.maps client.new) }
-{
-    match message {
-        PgWireFrontendMessage::Describe(m) => handlers
-            .extended_query_handler()
-            .on_describe(alloc, client, m),
-        PgWireFrontendMessage::Close(m) => handlers.extended_query_handler().on_close(client, m),
-        PgWireFrontendMessage::Flush(m) => handlers.extended_query_handler().on_flush(client, m),
-        other => {
-            drop(other);
-            Ok(())
-        }
-    }
-}
-
-/// A message after an error: all but Sync and Terminate is dropped.
-#[inline(never)]
-fn on_awaiting_sync<
-    H: PgWireServerHandlers,
-    St: PortalStore<
-        Statement = <H::Extended as ExtendedQueryHandler>::Statement,
-        Rows = <H::Extended as ExtendedQueryHandler>::Rows,
-    >,
->(
-    handlers: &H,
-    client: &mut Client<St>,
-    message: PgWireFrontendMessage,
-) -> Result<Option<EndKind>, PgWireError>
-    requires given { IsGiven message }
-    requires good { IsGoodState (H.told handlers.now).extended.parser
-        (state_of St.maps client.old) }
-    ensures ok { IfOk result (λ end. IsEffect
-        (awaiting_sync_row (state_of St.maps client.old) message)
-        client.old.outbox client.new.outbox (outcome_of end (state_of St.maps client.new))) }
-    ensures refused { IfErr result (IsRefusedEffect
-        (awaiting_sync_row (state_of St.maps client.old) message)
-        client.old.outbox client.new.outbox (state_of St.maps client.new)) }
-    ensures answerable { IfErr result IsAnswerable }
-    ensures ends { IfOk result (λ end. end ≢ Some InputEnd) }
-    ensures good { IsGoodState (H.told handlers.now).extended.parser (state_of St.maps client.new) }
-{
-    match message {
-        PgWireFrontendMessage::Terminate(_) => Ok(Some(EndKind::Terminate)),
-        PgWireFrontendMessage::PgSync(m) => {
-            handlers.extended_query_handler().on_sync(client, m)?;
-            Ok(None)
-        }
-        other => {
-            drop(other);
-            Ok(None)
-        }
-    }
-}
-
-/// A message of a COPY from the client: all but those of the COPY and Terminate are dropped.
-#[inline(never)]
-fn on_copy<
-    H: PgWireServerHandlers,
-    St: PortalStore<
-        Statement = <H::Extended as ExtendedQueryHandler>::Statement,
-        Rows = <H::Extended as ExtendedQueryHandler>::Rows,
-    >,
->(
-    alloc: Global,
-    handlers: &H,
-    client: &mut Client<St>,
-    is_extended: bool,
-    message: PgWireFrontendMessage,
-) -> Result<Option<EndKind>, PgWireError>
-    requires given { IsGiven message }
-    requires good { IsGoodState (H.told handlers.now).extended.parser
-        (state_of St.maps client.old) }
-    ensures ok { IfOk result (λ end. IsEffect
-        (copy_row (H.told handlers.now).copying is_extended (state_of St.maps client.old) message)
-        client.old.outbox client.new.outbox (outcome_of end (state_of St.maps client.new))) }
-    ensures refused { IfErr result (IsRefusedEffect
-        (copy_row (H.told handlers.now).copying is_extended (state_of St.maps client.old) message)
-        client.old.outbox client.new.outbox (state_of St.maps client.new)) }
-    ensures answerable { IfErr result IsAnswerable }
-    ensures ends { IfOk result (λ end. end ≢ Some InputEnd) }
-    ensures good { IsGoodState (H.told handlers.now).extended.parser (state_of St.maps client.new) }
-{
-    match message {
-        PgWireFrontendMessage::Terminate(_) => Ok(Some(EndKind::Terminate)),
-        other => match on_copied(alloc, handlers, client, is_extended, other) {
-            Ok(()) => Ok(None),
-            Err(error) => Err(error),
-        },
-    }
-}
-
-/// A message of a COPY from the client that doesn't end the conversation.
-fn on_copied<
-    H: PgWireServerHandlers,
-    St: PortalStore<
-        Statement = <H::Extended as ExtendedQueryHandler>::Statement,
-        Rows = <H::Extended as ExtendedQueryHandler>::Rows,
-    >,
->(
-    alloc: Global,
-    handlers: &H,
-    client: &mut Client<St>,
-    is_extended: bool,
-    message: PgWireFrontendMessage,
-) -> Result<(), PgWireError>
-    requires given { IsGiven message }
-    requires goes_on { (m : Terminate) → message ≢ frontend.Terminate m }
-    requires good { IsGoodState (H.told handlers.now).extended.parser
-        (state_of St.maps client.old) }
-    ensures ok { OnOk result (IsEffect
-        (copy_row (H.told handlers.now).copying is_extended (state_of St.maps client.old) message)
-        client.old.outbox client.new.outbox (Done (state_of St.maps client.new))) }
-    ensures refused { IfErr result (IsRefusedEffect
-        (copy_row (H.told handlers.now).copying is_extended (state_of St.maps client.old) message)
-        client.old.outbox client.new.outbox (state_of St.maps client.new)) }
-    ensures answerable { IfErr result IsAnswerable }
-    ensures good { IsGoodState (H.told handlers.now).extended.parser (state_of St.maps client.new) }
-{
-    match message {
-        PgWireFrontendMessage::CopyData(m) => {
-            handlers.copy_handler().on_copy_data(alloc, client, m)
-        }
-        PgWireFrontendMessage::CopyDone(m) => copy_done(alloc, handlers, client, is_extended, m),
-        PgWireFrontendMessage::CopyFail(m) => {
-            Err(handlers.copy_handler().on_copy_fail(alloc, client, m))
-        }
-        other => {
-            drop(other);
-            Ok(())
-        }
-    }
-}
-
-/// All data of a COPY have come.
-fn copy_done<
-    H: PgWireServerHandlers,
-    St: PortalStore<
-        Statement = <H::Extended as ExtendedQueryHandler>::Statement,
-        Rows = <H::Extended as ExtendedQueryHandler>::Rows,
-    >,
->(
-    alloc: Global,
-    handlers: &H,
-    client: &mut Client<St>,
-    is_extended: bool,
-    message: CopyDone,
-) -> Result<(), PgWireError>
-    requires given { IsGiven (frontend.CopyDone message) }
-    requires good { IsGoodState (H.told handlers.now).extended.parser
-        (state_of St.maps client.old) }
-    ensures ok { OnOk result (IsEffect
-        (copy_row
-        (H.told handlers.now).copying
-        is_extended (state_of St.maps client.old) (frontend.CopyDone message))
-        client.old.outbox client.new.outbox (Done (state_of St.maps client.new))) }
-    ensures refused { IfErr result (IsRefusedEffect
-        (copy_row
-        (H.told handlers.now).copying
-        is_extended (state_of St.maps client.old) (frontend.CopyDone message))
-        client.old.outbox client.new.outbox (state_of St.maps client.new)) }
-    ensures answerable { IfErr result IsAnswerable }
-    ensures good { IsGoodState (H.told handlers.now).extended.parser (state_of St.maps client.new) }
-{
-    handlers
-        .copy_handler()
-        .on_copy_done(alloc, client, message)?;
-    end_copy(client, is_extended)?;
-    Ok(())
-}
-
-/// The COPY is done: in a Query ReadyForQuery with the status that was kept, in an extended query
-/// nothing is said.
-fn end_copy<St: PortalStore>(client: &mut Client<St>, is_extended: bool) -> Result<(), PgWireError>
-    ensures ok { OnOk result (IsEffect
-        (copied is_extended (state_of St.maps client.old))
-        client.old.outbox client.new.outbox (Done (state_of St.maps client.new))) }
-    ensures refused { IfErr result (λ e. e ≡ PgWireError.NoMemory) }
-    ensures store { client.new.store ≡ client.old.store }
-    ensures metadata { client.new.info.metadata ≡ client.old.info.metadata }
-{
-    if !is_extended {
-        send_ready_for_query(&mut client.outbox, client.info.status)?;
-    }
-    client.info.state = PgWireConnectionState::ReadyForQuery;
-    Ok(())
 }

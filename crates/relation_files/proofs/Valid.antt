@@ -14,7 +14,8 @@ use Rattle.relation_tables.specs.declared.Relation.{Relation}
 use Rattle.relation_tables.specs.Relations.{place_of, are_even}
 use Rattle.relation_handlers.specs.declared.table.TableError.{TableError}
 use Rattle.relation_handlers.specs.declared.table.TableError.TheVariants.{BadName, BadColumn, RaggedRow}
-use Rattle.relation_handlers.specs.Tables.{IsValid, is_name, are_columns, refusal_at, or_else}
+use Rattle.relation_tables.specs.Names.{is_name, are_columns}
+use Rattle.relation_handlers.specs.Tables.{IsValid, refusal_at, or_else}
 use Rattle.relation_handlers.specs.Tables as table
 use Rattle.relation_files.specs.declared.errors.LineReason.{LineReason}
 use Rattle.relation_files.specs.declared.errors.LineReason.TheVariants.{Text, Header, Name, Column, Width}

@@ -6,7 +6,7 @@ use Rattle.std.specs.Str.{is_utf8}
 use Rattle.pg_interval.specs.Reading.{reading, Postgres}
 use Rattle.pg_interval.specs.declared.pg_interval.Interval.{Interval}
 use Rattle.interval_errors.specs.declared.ParseError.{ParseError}
-use Rattle.relation_handlers.specs.Tables.{is_name, are_columns}
+use Rattle.relation_tables.specs.Names.{is_name, are_columns}
 use Rattle.relation_files.specs.declared.errors.LineReason.{LineReason}
 use Rattle.relation_files.specs.declared.errors.LineReason.TheVariants.{Text, Header, Name, Column, Width, Cell}
 use Rattle.relation_files.specs.Lines.{fields_of}

@@ -1,10 +1,10 @@
 //! Headers.
 
-ghost use Rattle.std.specs.Prelude.{◌≡◌, ◌∷◌, ◌==◌, not, nat_le, None, IfOk, IfErr, length};
+ghost use Rattle.std.specs.Prelude.{◌≡◌, ◌∷◌, nat_le, None, IfOk, IfErr, length};
 ghost use Rattle.std.specs.Option.{is_some};
 ghost use Rattle.std.specs.FinMap as map;
 ghost use Rattle.std.specs.List.{list_all};
-ghost use Rattle.relation_handlers.specs.Tables.{is_transaction_word, is_foreign_to_names, is_name, is_column_name, are_columns};
+ghost use Rattle.relation_tables.specs.Names.{is_column_name, are_columns};
 ghost use Rattle.pg_interval.specs.Texts.{are_digits, is_digit};
 ghost use Rattle.relation_files.specs.Lines.{fields_of};
 ghost use Rattle.relation_files.specs.Told.{header_of, polls_of};
@@ -15,7 +15,7 @@ use crate::errors::{LineError, LineReason};
 use crate::lines::{field_count, first_field};
 use pg_messages::{PgList, PgStr};
 use pg_portal::Named;
-use relation_tables::Relation;
+use relation_tables::{MOST_COLUMNS, Relation, is_column_name, is_name};
 use std::alloc::{AllocError, Global};
 
 /// The relation of a header, which has no row yet. Names of earlier headers are taken.
@@ -60,7 +60,7 @@ fn read_fields(
     let Some(unready) = read_polls(polls) else {
         return Err(LineError::Refused(LineReason::Header));
     };
-    if taken.get(name).is_some() || !is_good_name(name) {
+    if taken.get(name).is_some() || !is_name(name) {
         return Err(LineError::Refused(LineReason::Name));
     }
     if !are_good_columns(columns) {
@@ -98,35 +98,6 @@ fn has_digits(bytes: &[u8]) -> bool
     bytes.iter().all(|byte| b'0' <= *byte && *byte <= b'9')
 }
 
-/// Whether a query can say this name.
-fn is_good_name(name: &str) -> bool
-    ensures { result ≡ is_name name.now }
-{
-    let len = name.len();
-    len >= 1 && len <= 63 && has_no_foreign(name.as_bytes()) && !says_transaction(name)
-}
-
-/// Whether a name may hold each of these bytes.
-fn has_no_foreign(bytes: &[u8]) -> bool
-    ensures { result ≡ list_all (λ byte. not (is_foreign_to_names byte)) bytes.now }
-{
-    bytes.iter().all(|byte| !is_foreign(*byte))
-}
-
-/// Whether a name may not hold this byte: whitespace, a semicolon or zero.
-fn is_foreign(byte: u8) -> bool
-    ensures { result ≡ is_foreign_to_names byte }
-{
-    (byte >= 9 && byte <= 13) || byte == b' ' || byte == b';' || byte == 0
-}
-
-/// Whether a text is BEGIN or COMMIT, in any ASCII case.
-fn says_transaction(text: &str) -> bool
-    ensures { result ≡ is_transaction_word text.now }
-{
-    text.eq_ignore_ascii_case("BEGIN") || text.eq_ignore_ascii_case("COMMIT")
-}
-
 /// Whether these fields, if there are any, are at most 1,600 names of columns.
 fn are_good_columns(columns: Option<&str>) -> bool
     ensures { result ≡ are_columns (fields_behind columns.entry) }
@@ -141,28 +112,14 @@ fn are_good_columns(columns: Option<&str>) -> bool
 fn has_few_fields(text: &str) -> bool
     ensures { result ≡ nat_le (length (fields_of text.now)) 1600 }
 {
-    field_count(text) <= 1600
+    field_count(text) <= MOST_COLUMNS
 }
 
 /// Whether each field is a column's name.
 fn has_good_fields(text: &str) -> bool
     ensures { result ≡ list_all is_column_name (fields_of text.now) }
 {
-    text.split('\t').all(|column| is_good_column(column))
-}
-
-/// Whether a column's name has at most 63 bytes, none of them zero.
-fn is_good_column(name: &str) -> bool
-    ensures { result ≡ is_column_name name.now }
-{
-    name.len() <= 63 && has_no_zero(name.as_bytes())
-}
-
-/// Whether no byte is zero.
-fn has_no_zero(bytes: &[u8]) -> bool
-    ensures { result ≡ list_all (λ byte. not (byte == 0)) bytes.now }
-{
-    bytes.iter().all(|byte| *byte != 0)
+    text.split('\t').all(|column| is_column_name(column))
 }
 
 /// Copies of these fields, if there are any.

@@ -13,7 +13,8 @@ use Rattle.relation_tables.specs.declared.Relation.{Relation}
 use Rattle.relation_handlers.specs.declared.table.TableError.{TableError}
 use Rattle.relation_handlers.specs.declared.table.TableError.TheVariants.{BadName, BadColumn, RaggedRow}
 use Rattle.relation_tables.specs.Relations.{are_even, place_of}
-use Rattle.relation_handlers.specs.Tables.{IsSound, IsValid, is_name, are_columns, refusal_at, refusal_after, or_else}
+use Rattle.relation_tables.specs.Names.{is_name, are_columns}
+use Rattle.relation_handlers.specs.Tables.{IsSound, IsValid, refusal_at, refusal_after, or_else}
 
 -- a place in a list, or in what stands behind it
 abbrev or_at : Option ℕ → Option ℕ → Option ℕ

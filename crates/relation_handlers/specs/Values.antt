@@ -1,8 +1,15 @@
 -- What becomes of values that are appended one after another.
-use Rattle.std.specs.Prelude.{ℕ, List, ◌++◌, Result, Ok, Err, ◌≡◌}
+use Rattle.std.specs.Prelude.{ℕ, List, ◌++◌, Result, Ok, Err, ◌≡◌, ◌≤◌, length}
 use Rattle.std.specs.List.{concat, join_with_byte}
+use Rattle.pg_interval.specs.declared.pg_interval.Interval.{Interval}
+use Rattle.pg_types.specs.declared.field_format.FieldFormat.{FieldFormat}
 use Rattle.pg_results.specs.declared.error.PgWireError.{PgWireError}
 use Rattle.pg_portal.specs.Encoding.{line_cell}
+
+-- a row and its formats: one for each of its values, of which there are at most 1,600
+pub record HasFormats (row : List Interval) (formats : List FieldFormat) : Type 0 where
+  pub same : length formats ≡ length row
+  pub narrow : length row ≤ 1600
 
 -- the bytes were appended
 abbrev pub IsPushed : Result (List ℕ) PgWireError → List ℕ → List ℕ → Type 0

@@ -12,7 +12,7 @@ ghost use Rattle.pg_results.specs.Rows.{IsSendable, IsSendableRow};
 ghost use Rattle.pg_results.specs.Texts.{IsShortText};
 ghost use Rattle.pg_results.specs.declared.error.PgWireError.TheVariants as wire;
 ghost use Rattle.relation_tables.specs.RelationHandler.{all_or_error, value, row_item};
-ghost use Rattle.relation_handlers.specs.Values.{IsPushed, joined};
+ghost use Rattle.relation_handlers.specs.Values.{HasFormats, IsPushed, joined};
 
 use crate::style::{SessionStyle, refusal};
 use pg_interval::Interval;
@@ -31,8 +31,7 @@ pub(crate) fn row_item(
     formats: &[FieldFormat],
     row: &[Interval],
 ) -> Result<Result<DataRow, PgWireError>, AllocError>
-    requires same { length formats.now ≡ length row.now }
-    requires narrow { length row.now ≤ 1600 }
+    requires { HasFormats row.now formats.now }
     ensures item { IfOk result (λ item. item ≡ row_item style.now formats.now row.now) }
     ensures sendable { IfOk result IsSendable }
 {
@@ -55,8 +54,7 @@ pub(crate) fn write_in_style(
     row: &[Interval],
     made: &mut DataRow,
 ) -> Result<bool, AllocError>
-    requires same { length formats.now ≡ length row.now }
-    requires narrow { length row.now ≤ 1600 }
+    requires { HasFormats row.now formats.now }
     ensures item { result ≡ Ok true → Ok made.new ≡ row_item style.now formats.now row.now }
     ensures sendable { result ≡ Ok true → IsSendableRow made.new }
 {
@@ -79,8 +77,7 @@ fn item_without_style(
     formats: &[FieldFormat],
     row: &[Interval],
 ) -> Result<Result<DataRow, PgWireError>, AllocError>
-    requires same { length formats.now ≡ length row.now }
-    requires narrow { length row.now ≤ 1600 }
+    requires formats { HasFormats row.now formats.now }
     requires short { IsShortText text.now }
     ensures item { IfOk result (λ item.
         item ≡ row_item (Err (wire.InvalidOptionValue text.now)) formats.now row.now) }
@@ -100,8 +97,7 @@ fn data_row_of(
     formats: &[FieldFormat],
     row: &[Interval],
 ) -> Result<DataRow, AllocError>
-    requires same { length formats.now ≡ length row.now }
-    requires narrow { length row.now ≤ 1600 }
+    requires { HasFormats row.now formats.now }
     ensures item { IfOk result (λ made. Ok made ≡ row_item (Ok style) formats.now row.now) }
     ensures encodable { IfOk result (λ made. IsEncodable (server.DataRow made)) }
 {
@@ -122,8 +118,7 @@ fn write_row(
     row: &[Interval],
     made: &mut DataRow,
 ) -> Result<(), AllocError>
-    requires same { length formats.now ≡ length row.now }
-    requires narrow { length row.now ≤ 1600 }
+    requires { HasFormats row.now formats.now }
     ensures item { OnOk result (Ok made.new ≡ row_item (Ok style) formats.now row.now) }
     ensures encodable { OnOk result (IsEncodable (server.DataRow made.new)) }
 {
@@ -154,8 +149,7 @@ fn push_values(
     row: &[Interval],
 ) -> Result<(), AllocError>
     requires empty { payload.old.items ≡ [] }
-    requires same { length formats.now ≡ length row.now }
-    requires narrow { length row.now ≤ 1600 }
+    requires formats { HasFormats row.now formats.now }
     ensures values { OnOk result (Ok payload.new.items
         ≡ joined (all_or_error (map (λ p. value (Ok style) p.0 p.1) (zip formats.now row.now)))) }
     ensures short { OnOk result (length payload.new.items ≤ 6560000) }

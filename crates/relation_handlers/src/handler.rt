@@ -12,14 +12,15 @@ use crate::simple::{other_query, statement_query};
 use crate::statement_lookup::find_trimmed_statement;
 use crate::statement_response::{polls_of, response_of};
 use crate::table::RelationTable;
-use pg_handlers::{ExtendedQueryHandler, NoopHandler, PgWireServerHandlers, SimpleQueryHandler};
+use pg_handlers::{
+    ExtendedQueryHandler, NoopHandler, PgWireServerHandlers, PolledQuery, SimpleQueryHandler,
+};
 use pg_messages::PgList;
 use pg_portal::{
     ClientInfo, DescribePortalResponse, DescribeStatementResponse, Format, PgWireError, Portal,
     StoredStatement,
 };
 use pg_text::PgType;
-use polled_queries::PolledQuery;
 use query_texts::trimmed;
 use relation_tables::RelationStatement;
 use std::alloc::{AllocError, Global};

@@ -1,9 +1,9 @@
 //! What is answered of relations, and the queries that give it.
 
 use crate::served::ServedRelations;
+use pg_handlers::PolledQuery;
 use pg_messages::PgList;
 use pg_portal::Response;
-use polled_queries::PolledQuery;
 
 /// What is answered of relations.
 pub(crate) type RelationResponse<B> = Response<

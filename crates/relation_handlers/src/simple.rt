@@ -1,7 +1,7 @@
 //! Simple queries of relations.
 
 ghost use Rattle.std.specs.Prelude.{◌≡◌, ◌<◌, [], ◌∷◌, false, Ok, Some, IfOk, IsTrue, length};
-ghost use Rattle.polled_queries.specs.Queries.{is_given, query_told};
+ghost use Rattle.pg_handlers.specs.PolledQueries.{is_given, query_told};
 ghost use Rattle.pg_results.specs.Clients.{HasShortMetadata};
 ghost use Rattle.pg_results.specs.Responses.{told_response, told_responses};
 ghost use Rattle.pg_results.specs.Texts.{IsShortText};
@@ -16,9 +16,9 @@ use crate::query::{RelationResponse, SimpleQuery};
 use crate::served::ServedRelations;
 use crate::statement_response::{polls_of, response_of};
 use crate::words::copied_name;
+use pg_handlers::PolledQuery;
 use pg_messages::PgList;
 use pg_portal::{ClientInfo, CopySource, Format, PgWireError, Response, RowSource};
-use polled_queries::PolledQuery;
 use relation_tables::RelationStatement;
 use std::alloc::{AllocError, Global};
 

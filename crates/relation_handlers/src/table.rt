@@ -1,14 +1,15 @@
 //! A table of relations: its rules, and the look-up of a name.
 
-ghost use Rattle.std.specs.Prelude.{◌≡◌, ℕ, List, [], ◌^◌, ◌<◌, ◌++◌, ◌||◌, ◌==◌, not, Option, Some, None, length, IfOk, IfErr, OnOk};
+ghost use Rattle.std.specs.Prelude.{◌≡◌, ℕ, List, [], ◌^◌, ◌<◌, ◌++◌, ◌||◌, Option, Some, None, length, IfOk, IfErr, OnOk};
 ghost use Rattle.std.specs.Arc.{arc_value};
 ghost use Rattle.std.specs.FinMap as map;
 ghost use Rattle.std.specs.List.{list_all};
 ghost use Rattle.pg_types.specs.Options.{default_options};
 ghost use Rattle.pg_results.specs.Clients.{HasShortMetadata};
+ghost use Rattle.relation_tables.specs.Names.{is_column_name, are_columns};
 ghost use Rattle.relation_tables.specs.Relations.{are_even, place_of};
 ghost use Rattle.relation_handlers.specs.Made.{session_options};
-ghost use Rattle.relation_handlers.specs.Tables.{is_transaction_word, is_foreign_to_names, is_name, is_column_name, are_columns, refusal_at, refusal, HoldIntervals, IsValid, IsCause};
+ghost use Rattle.relation_handlers.specs.Tables.{refusal_at, refusal, HoldIntervals, IsValid, IsCause};
 
 use crate::named_relations::NamedRelations;
 use crate::options::{Settings, SharedOptions};
@@ -16,7 +17,7 @@ use crate::shared::shared_columns;
 use pg_interval::Interval;
 use pg_messages::{PgList, PgStr};
 use pg_portal::{ClientInfo, Named};
-use relation_tables::Relation;
+use relation_tables::{MOST_COLUMNS, Relation, is_column_name, is_name};
 use std::alloc::{AllocError, Global};
 use std::marker::Model;
 use std::sync::Arc;
@@ -186,7 +187,7 @@ fn places_of(alloc: Global, relations: &[Relation]) -> Result<Named<u32>, TableE
 fn judge(place: u32, is_taken: bool, relation: &Relation) -> Option<TableError>
     ensures { result ≡ refusal_at place is_taken relation.now }
 {
-    if is_taken || !is_good_name(relation.name.as_str()) {
+    if is_taken || !is_name(relation.name.as_str()) {
         Some(TableError::BadName(place))
     } else if !has_good_columns(relation.columns.as_slice()) {
         Some(TableError::BadColumn(place))
@@ -197,61 +198,18 @@ fn judge(place: u32, is_taken: bool, relation: &Relation) -> Option<TableError>
     }
 }
 
-/// Whether a query can say this name.
-fn is_good_name(name: &str) -> bool
-    ensures { result ≡ is_name name.now }
-{
-    let len = name.len();
-    len >= 1 && len <= 63 && has_no_foreign(name.as_bytes()) && !says_transaction(name)
-}
-
-/// Whether a name may hold each of these bytes.
-fn has_no_foreign(bytes: &[u8]) -> bool
-    ensures { result ≡ list_all (λ byte. not (is_foreign_to_names byte)) bytes.now }
-{
-    bytes.iter().all(|byte| !is_foreign(*byte))
-}
-
-/// Whether a name may not hold this byte: whitespace, a semicolon or zero.
-fn is_foreign(byte: u8) -> bool
-    ensures { result ≡ is_foreign_to_names byte }
-{
-    (byte >= 9 && byte <= 13) || byte == b' ' || byte == b';' || byte == 0
-}
-
-/// Whether a text is BEGIN or COMMIT, in any ASCII case.
-fn says_transaction(text: &str) -> bool
-    ensures { result ≡ is_transaction_word text.now }
-{
-    text.eq_ignore_ascii_case("BEGIN") || text.eq_ignore_ascii_case("COMMIT")
-}
-
 /// Whether there are at most 1,600 columns, each of a good name.
 fn has_good_columns(columns: &[PgStr]) -> bool
     ensures { result ≡ are_columns columns.now }
 {
-    columns.len() <= 1600 && are_good_columns(columns)
+    columns.len() <= MOST_COLUMNS && are_good_columns(columns)
 }
 
 /// Whether each column's name is good.
 fn are_good_columns(columns: &[PgStr]) -> bool
     ensures { result ≡ list_all is_column_name columns.now }
 {
-    columns.iter().all(|column| is_good_column(column.as_str()))
-}
-
-/// Whether a column's name has at most 63 bytes, none of them zero.
-fn is_good_column(name: &str) -> bool
-    ensures { result ≡ is_column_name name.now }
-{
-    name.len() <= 63 && has_no_zero(name.as_bytes())
-}
-
-/// Whether no byte is zero.
-fn has_no_zero(bytes: &[u8]) -> bool
-    ensures { result ≡ list_all (λ byte. not (byte == 0)) bytes.now }
-{
-    bytes.iter().all(|byte| *byte != 0)
+    columns.iter().all(|column| is_column_name(column.as_str()))
 }
 
 /// Whether each row is as wide as the columns.

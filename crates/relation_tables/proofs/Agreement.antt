@@ -25,7 +25,7 @@ use Rattle.relation_tables.specs.declared.RelationStatement.TheVariants as state
 use Rattle.relation_tables.specs.Relations.{relation_at, columns_of, binary_row}
 use Rattle.relation_tables.specs.RelationHandler.{column_formats, given_types}
 use Rattle.relation_tables.specs.CoreTable.{Setting, CoreState, CorePhase, NotStarted, Ready, AwaitingSync, CoreStatement, CorePortal, core_says, core_refuses}
-use Rattle.relation_tables.proofs.Names.{AgreeEntry, AgreeNames, agree_with, agree_without}
+use Rattle.relation_tables.proofs.NameMaps.{AgreeEntry, AgreeNames, agree_with, agree_without}
 use Rattle.relation_tables.proofs.Runs.{Agree}
 
 -- the same phase, which is that before the startup packet only where that may still be awaited

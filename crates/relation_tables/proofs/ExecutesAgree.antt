@@ -33,7 +33,7 @@ use Rattle.relation_tables.specs.declared.RelationStatement.TheVariants as state
 use Rattle.relation_tables.specs.Relations.{relation_at, binary_row, columns_of, HaveEvenRows}
 use Rattle.relation_tables.specs.RelationHandler.{told_extended, query_of, rows_response, session_style, column_formats, row_item}
 use Rattle.relation_tables.specs.CoreTable.{Setting, CoreState, CorePortal, calling, core_portal_after, core_paged, core_fetched, core_polled, core_run, core_executed_started, core_executed, core_execute}
-use Rattle.relation_tables.proofs.Names.{AgreeEntry, AgreeNames}
+use Rattle.relation_tables.proofs.NameMaps.{AgreeEntry, AgreeNames}
 use Rattle.relation_tables.proofs.Agreement.{Agrees, AgreeRow, AgreeCall, StageAgrees, PortalAgrees, IsBinaryIn, binary_item, refuses_agree, with_portal_agrees, without_portal_agrees}
 use Rattle.relation_tables.proofs.ItemsAgree.{even_at, binary_items, items_of_page, binary_page, drop-further, page_to_the_end}
 use Rattle.relation_tables.proofs.Runs.{Agree}

@@ -1,5 +1,5 @@
 pub mod Runs
-pub mod Names
+pub mod NameMaps
 pub mod Agreement
 pub mod Columns
 pub mod StatementsAgree

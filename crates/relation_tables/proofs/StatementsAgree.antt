@@ -40,7 +40,7 @@ use Rattle.relation_tables.specs.Relations.{meaning, column, columns_of}
 use Rattle.relation_tables.specs.RelationHandler.{told_extended, fields_of, or_unknown, given_types}
 use Rattle.relation_tables.specs.CoreTable.{Setting, CoreState, NotStarted, CoreStatement, CorePortal, core_says, core_refuses, core_ends, core_accepts, core_startup, core_parse, core_parsed, core_stored, core_bind, core_bound, core_put, core_describe, core_described_statement, core_described_portal, core_statement_told, core_portal_told, core_close, core_sync}
 use Rattle.relation_tables.specs.Premises.{AreBinary}
-use Rattle.relation_tables.proofs.Names.{AgreeEntry}
+use Rattle.relation_tables.proofs.NameMaps.{AgreeEntry}
 use Rattle.relation_tables.proofs.Agreement.{Agrees, AgreeRow, AgreeCall, StatementAgrees, PortalAgrees, says_agree, refuses_agree, either_row, with_statement_agrees, with_portal_agrees, without_statement_agrees, without_portal_agrees, IsBinaryIn}
 use Rattle.relation_tables.proofs.Columns.{is_empty-map, text_fields, binary_fields, binary_formats, told_oids}
 

@@ -16,7 +16,7 @@ use Rattle.relation_tables.specs.CoreTable.{Setting, CoreState, CorePhase, NotSt
 use Rattle.relation_tables.specs.Premises.{IsCore, AreCore, AreAlike, IsSameNext}
 use Rattle.relation_tables.proofs.Agreement.{Agrees, AgreePhase, StatementAgrees, PortalAgrees, says_agree}
 use Rattle.relation_tables.proofs.ExecutesAgree.{execute_agrees}
-use Rattle.relation_tables.proofs.Names.{agree_empty}
+use Rattle.relation_tables.proofs.NameMaps.{agree_empty}
 use Rattle.relation_tables.proofs.Runs.{Agree, AgreeNext, TablesAgree, runs_agree}
 use Rattle.relation_tables.proofs.StatementsAgree.{startup_agrees, parse_agrees, bind_agrees, describe_agrees, close_agrees, sync_agrees}
 

@@ -1,3 +1,4 @@
+pub mod Names
 pub mod Errors
 pub mod Queries
 pub mod Relations

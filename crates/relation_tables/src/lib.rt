@@ -1,10 +1,12 @@
-//! Relations of intervals: what queries of them mean, what their handlers tell, and the core
-//! conversation table.
+//! Relations of intervals: their names, what queries of them mean, what their handlers tell, and the
+//! core conversation table.
 #![tactic(auto)]
 
 mod laws;
+mod names;
 
 pub use laws::whole_is_core;
+pub use names::{MOST_COLUMNS, is_column_name, is_name};
 use pg_interval::Interval;
 use pg_messages::{PgList, PgStr};
 

@@ -1,7 +1,7 @@
 use Rattle.std.proofs.Common.{lit<, rules, tests}
 use Rattle.std.proofs.lemmas.Iterator.Search.{all_from_yields_List}
 use Rattle.std.proofs.lemmas.Iterator.Splits.{YieldsList-from_str_split}
-use Rattle.relation_handlers.specs.Tables.{is_column_name}
+use Rattle.relation_tables.specs.Names.{is_column_name}
 use Rattle.relation_files.proofs.header.has_good_fields.Goals as goal
 
 pub returns : goal.returns

@@ -6,7 +6,7 @@ use Rattle.relation_handlers.proofs.data_row.item_without_style.Goals as goal
 
 pub returns-then-have_text-clause-item : goal.returns-then-have_text-clause-item
 returns-then-have_text-clause-item c =
-    rw c.in_ok-refusal.ensures (sym (refused_row (wire.InvalidOptionValue c.args.text.now) c.args.formats.now c.args.row.now c.requires.same
+    rw c.in_ok-refusal.ensures (sym (refused_row (wire.InvalidOptionValue c.args.text.now) c.args.formats.now c.args.row.now c.requires.formats.same
     (sym c.have_text.ensures ∙ c.if-have_text.true)))
 
 pub returns-clause-item : goal.returns-clause-item

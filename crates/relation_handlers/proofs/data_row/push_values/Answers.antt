@@ -44,7 +44,7 @@ loop-index-preserved c =
       whole = step (λ p. value (Ok c.args.style) p.0 p.1) formats row c.loop-index.index field.Text none
           c.loop-index.payload.items
           c.push_value.new.payload.items (joined (all_or_error (map (λ p. value (Ok c.args.style) p.0 p.1) (zip formats row))))
-          (omega (arith, c.requires.same)) (omega arith) c.loop-index.invariant.whole c.in_ok-push_value.ensures.pushed;
+          (omega (arith, c.requires.formats.same)) (omega arith) c.loop-index.invariant.whole c.in_ok-push_value.ensures.pushed;
       short = omega (arith, c.in_ok-push_value.ensures.short);
     }
 
@@ -61,12 +61,12 @@ pub returns : goal.returns
 returns c =
     let formats = c.args.formats.now in let row = c.args.row.now in let i = c.loop-index.index in
     let none = ap (λ l. all_or_error (map (λ p. value (Ok c.args.style) p.0 p.1) l))
-    (ap (λ l. zip l (drop i row)) (drop_all i formats (omega (arith, c.requires.same, c.loop-index-test.false)))) in
+    (ap (λ l. zip l (drop i row)) (drop_all i formats (omega (arith, c.requires.formats.same, c.loop-index-test.false)))) in
     record {
       values = ended c.loop-index.payload.items (from (λ p. value (Ok c.args.style) p.0 p.1) formats row i)
           (joined (all_or_error (map (λ p. value (Ok c.args.style) p.0 p.1) (zip formats row)))) none
           c.loop-index.invariant.whole;
-      short = omega (arith, c.loop-index.invariant.short, c.requires.narrow, c.loop-index.auto.index-end);
+      short = omega (arith, c.loop-index.invariant.short, c.requires.formats.narrow, c.loop-index.auto.index-end);
     }
 
 pub returns-in_err-push_value : goal.returns-in_err-push_value
@@ -81,7 +81,7 @@ returns-in_err-reserve c =
     rw p.1 (record { values = tt; short = tt })
 
 pub room_for-requires : goal.room_for-requires
-room_for-requires c = omega (arith, c.requires.same, c.requires.narrow)
+room_for-requires c = omega (arith, c.requires.formats.same, c.requires.formats.narrow)
 
 pub bounds-row-index : goal.bounds-row-index
 bounds-row-index c = c.loop-index-test.true

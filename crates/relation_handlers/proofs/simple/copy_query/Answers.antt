@@ -1,6 +1,6 @@
 use Rattle.std.proofs.Common.{◌≡◌, ℕ, ◌≤◌, false, List, [], ◌∷◌, Option, Some, None, Result, Ok, length, subst, refl, sym, ap, ◌∙◌, arith}
 use Rattle.std.proofs.lemmas.Result.{err_from_is_err_and}
-use Rattle.polled_queries.specs.Queries.{is_given, query_told}
+use Rattle.pg_handlers.specs.PolledQueries.{is_given, query_told}
 use Rattle.pg_results.specs.declared.client.ClientInfo.{ClientInfo}
 use Rattle.pg_results.specs.declared.error.PgWireError.{PgWireError}
 use Rattle.pg_results.specs.declared.response.Response.{Response}

@@ -1,6 +1,6 @@
 use Rattle.std.proofs.Common.{◌≡◌, ℕ, false, List, [], ◌∷◌, Option, Some, Result, Ok, Err, refl, ap, ◌∙◌}
 use Rattle.std.proofs.lemmas.Result.{err_from_is_err_and}
-use Rattle.polled_queries.specs.Queries.{is_given, query_told}
+use Rattle.pg_handlers.specs.PolledQueries.{is_given, query_told}
 use Rattle.pg_results.specs.declared.client.ClientInfo.{ClientInfo}
 use Rattle.pg_results.specs.declared.error.PgWireError.{PgWireError}
 use Rattle.pg_results.specs.declared.format.Format.TheVariants as format

@@ -14,8 +14,8 @@ returns-clause-round g c =
     let u = g.K.Sink.written c.told_behind.new.sink in
     let k = (g.D.CancelDesk.told c.args.desk.now).calls in
     let l = (g.D.CancelDesk.told c.step-step.new.desk).calls in
-    subst (λ t. RoundSo rules s.state s.rest t last.rest w u s.unsent last.unsent k l c.told_behind.result) (sym c.told_behind.ensures.state)
-    (subst (λ r. RoundSo rules s.state s.rest n.state r w u s.unsent last.unsent k l c.told_behind.result) (sym c.told_behind.ensures.rest)
+    subst (λ t. RoundSo rules s.state s.rest t last.rest w u s.unsent last.unsent k l c.told_behind.result) (sym c.told_behind.ensures.same.state)
+    (subst (λ r. RoundSo rules s.state s.rest n.state r w u s.unsent last.unsent k l c.told_behind.result) (sym c.told_behind.ensures.same.rest)
     (round_behind rules s.state n.state s.rest n.rest w u s.unsent n.unsent last.unsent k l
     c.step-step.result c.told_behind.result (g.K.Sink.faults c.args.sink.now) (g.K.Sink.faults c.told_behind.new.sink)
     c.step-step.ensures.served c.step-step.ensures.cut_off c.step-step.ensures.stopped c.told_behind.ensures.sent
@@ -26,11 +26,11 @@ returns-clause-sent g c = nothing_waits _ _ _ _ c.step-step.result c.told_behind
 
 pub returns-clause-shorter : goal.returns-clause-shorter
 returns-clause-shorter g c =
-    subst (λ r. IfNone c.told_behind.result (length r < length c.args.self.now.rest)) (sym c.told_behind.ensures.rest)
+    subst (λ r. IfNone c.told_behind.result (length r < length c.args.self.now.rest)) (sym c.told_behind.ensures.same.rest)
     (shorter_behind _ _ _ _ _ c.step-step.result c.told_behind.result c.told_behind.ensures.sent c.step-step.ensures.shorter)
 
 pub returns-clause-handlers : goal.returns-clause-handlers
-returns-clause-handlers g c = c.told_behind.ensures.handlers ∙ c.step-step.ensures.handlers
+returns-clause-handlers g c = c.told_behind.ensures.same.handlers ∙ c.step-step.ensures.handlers
 
 pub returns-clause-cause : goal.returns-clause-cause
 returns-clause-cause g c = caused_behind _ _ _ _ c.step-step.result c.told_behind.result _ _ c.told_behind.ensures.sent
@@ -47,5 +47,5 @@ pub returns-clause-registration : goal.returns-clause-registration
 returns-clause-registration g c = c.step-step.ensures.registration
 
 pub returns-clause-open : goal.returns-clause-open
-returns-clause-open g c = λ more. c.told_behind.ensures.«open»
+returns-clause-open g c = λ more. c.told_behind.ensures.same.opened
     ∙ open_behind _ _ _ _ c.step-step.result c.told_behind.result c.told_behind.ensures.sent c.step-step.ensures.opened more

@@ -16,14 +16,5 @@ returns-in-Wire-clause-failed g c =
 pub tell-requires-clause-answerable : goal.tell-requires-clause-answerable
 tell-requires-clause-answerable g c = subst IsAnswerableError c.in-Wire.is c.requires.answerable
 
-pub returns-in-Wire-clause-ends : goal.returns-in-Wire-clause-ends
-returns-in-Wire-clause-ends g c = c.tell.ensures.ends
-
-pub returns-in-Wire-clause-open : goal.returns-in-Wire-clause-open
-returns-in-Wire-clause-open g c = c.tell.ensures.«open»
-
-pub returns-in-Wire-clause-handlers : goal.returns-in-Wire-clause-handlers
-returns-in-Wire-clause-handlers g c = c.tell.ensures.handlers
-
-pub returns-in-Wire-clause-rest : goal.returns-in-Wire-clause-rest
-returns-in-Wire-clause-rest g c = c.tell.ensures.rest
+pub returns-in-Wire-clause-behind : goal.returns-in-Wire-clause-behind
+returns-in-Wire-clause-behind g c = c.tell.ensures.behind

@@ -1,4 +1,4 @@
-use Rattle.std.proofs.Common.{◌≡◌, ◌++◌, ◌∙◌, ◌∷◌, [], ℕ, List, false, Option, Result, IfOk, IfNone, IfSome, OnErr, ap, sym, subst, take}
+use Rattle.std.proofs.Common.{◌≡◌, ◌++◌, ◌∙◌, ℕ, List, false, Option, Result, IfOk, IfNone, IfSome, OnErr, ap, sym, subst, take}
 use Rattle.pg_messages.specs.Frames.{IsBad, IsFrame, IsUnfinished}
 use Rattle.pg_messages.specs.declared.codec.FrameError.{FrameError}
 use Rattle.pg_messages.specs.declared.frontend.PgWireFrontendMessage.{PgWireFrontendMessage}
@@ -57,14 +57,10 @@ pub returns-clause-err : goal.returns-clause-err
 returns-clause-err g c = err_as _ c.args.self.now c.self.view_is c.requires.ready c.decode_typed.new.src.items c.decode_typed.result
     c.decode_typed.ensures.err
 
-pub returns-clause-state : goal.returns-clause-state
-returns-clause-state g c = ap (λ v. v.state) c.self.view_is
-
-pub returns-clause-handlers : goal.returns-clause-handlers
-returns-clause-handlers g c = ap (λ v. v.handlers) c.self.view_is
-
-pub returns-clause-unsent : goal.returns-clause-unsent
-returns-clause-unsent g c = ap (λ v. v.unsent) c.self.view_is
-
-pub returns-clause-open : goal.returns-clause-open
-returns-clause-open g c = ap (λ v. v.is_open) c.self.view_is
+pub returns-clause-same : goal.returns-clause-same
+returns-clause-same g c = record {
+  state = ap (λ v. v.state) c.self.view_is;
+  handlers = ap (λ v. v.handlers) c.self.view_is;
+  unsent = ap (λ v. v.unsent) c.self.view_is;
+  opened = ap (λ v. v.is_open) c.self.view_is;
+}

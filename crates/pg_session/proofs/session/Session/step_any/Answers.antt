@@ -1,5 +1,5 @@
 use Rattle.std.proofs.Common.{sym, subst}
-use Rattle.conversation_runs.specs.Steps.{IsResponse, IsStep}
+use Rattle.conversation_runs.specs.Steps.{IsStep}
 use Rattle.conversation_runs.proofs.Stepped.{step_answered, step_unread}
 use Rattle.pg_session.proofs.session.Session.step_any.Goals as goal
 
@@ -8,32 +8,18 @@ returns-in-Ok g c =
     let told = g.H.PgWireServerHandlers.told in
     let s = c.args.self.now in
     let n = c.next_message.new.self in
-    let last = c.respond.new.self in
+    let last = c.answer.new.self in
     let desk = g.D.CancelDesk.told c.args.desk.now in
-    let new_desk = g.D.CancelDesk.told c.respond.new.desk in
+    let new_desk = g.D.CancelDesk.told c.answer.new.desk in
     let before = c.args.turns.now in
-    let after = c.respond.new.turns in
+    let after = c.answer.new.turns in
     let kept = c.in-Ok.ensures in
-    let r = c.respond.ensures in
-    let response : IsResponse told c.in-Ok.message n last desk new_desk before after c.respond.result = record {
-      answer = r.answer;
-      err = r.err;
-      stopped = r.stopped;
-      only = r.only;
-      ends = r.ends;
-      opened = r.«open»;
-      handlers = r.handlers;
-      rest = r.rest;
-      turns = r.turns;
-      bounded = r.bounded;
-      registration = r.registration;
-    } in
     subst (λ step. IsStep told s.rest s last desk new_desk before after step) (sym c.told_end.ensures)
-    (step_answered told s n last kept.found.0 c.in-Ok.message desk new_desk before after c.respond.result kept.handlers kept.state
-    kept.unsent kept.found.1 kept.found.2 response)
+    (step_answered told s n last kept.found.0 c.in-Ok.message desk new_desk before after c.answer.result kept.same.handlers kept.same.state
+    kept.same.unsent kept.found.1 kept.found.2 c.answer.ensures)
 
 pub returns-in-Err : goal.returns-in-Err
 returns-in-Err g c =
     let kept = c.in-Err.ensures in
     step_unread g.H.PgWireServerHandlers.told c.args.self.now c.next_message.new.self (g.D.CancelDesk.told c.args.desk.now)
-    c.args.turns.now c.in-Err.told kept.handlers kept.state kept.kept kept.unsent kept.«open» c.requires kept.unread
+    c.args.turns.now c.in-Err.told kept.same.handlers kept.same.state kept.kept kept.same.unsent kept.same.opened c.requires kept.unread

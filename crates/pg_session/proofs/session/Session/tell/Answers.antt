@@ -14,11 +14,13 @@ returns-in-Ok g c = record {
   known = c.in_default.not-NoMemory;
   replied = c.in-Ok.ensures.replied;
   next = c.in-Ok.ensures.next;
-  ends = no_end_of_input c.in-Ok.end c.in-Ok.ensures.ends;
   only = tt;
-  «open» = c.in-Ok.ensures.«open»;
-  handlers = c.in-Ok.ensures.handlers;
-  rest = c.in-Ok.ensures.rest;
+  behind = record {
+    ends = no_end_of_input c.in-Ok.end c.in-Ok.ensures.ends;
+    opened = c.in-Ok.ensures.«open»;
+    handlers = c.in-Ok.ensures.handlers;
+    rest = c.in-Ok.ensures.rest;
+  };
 }
 
 pub returns-in-Err : goal.returns-in-Err
@@ -26,9 +28,11 @@ returns-in-Err g c = record {
   known = tt;
   replied = tt;
   next = tt;
-  ends = tt;
   only = refl;
-  «open» = c.in-Err.ensures.«open»;
-  handlers = c.in-Err.ensures.handlers;
-  rest = c.in-Err.ensures.rest;
+  behind = record {
+    ends = tt;
+    opened = c.in-Err.ensures.«open»;
+    handlers = c.in-Err.ensures.handlers;
+    rest = c.in-Err.ensures.rest;
+  };
 }

@@ -1,7 +1,7 @@
 use Rattle.std.proofs.Common.{◌≡◌, ℕ, false, List, Option, Some, Result, Ok, subst, refl, sym, ap, ◌∙◌}
 use Rattle.std.specs.Arc.{arc_value}
 use Rattle.std.proofs.lemmas.Result.{err_from_is_err_and}
-use Rattle.polled_queries.specs.Queries.{is_given, query_told}
+use Rattle.pg_handlers.specs.PolledQueries.{is_given, query_told}
 use Rattle.pg_results.specs.declared.client.ClientInfo.{ClientInfo}
 use Rattle.pg_results.specs.declared.error.PgWireError.{PgWireError}
 use Rattle.pg_results.specs.declared.format.Format.{Format}

@@ -4,12 +4,14 @@ use Rattle.relation_handlers.specs.Made.{relation_of, style_in}
 use Rattle.relation_handlers.proofs.MadeLemmas.{as_many, row_made}
 use Rattle.relation_handlers.proofs.row_source.RelationRowsRowMaker.make_row.Goals as goal
 
-pub write_in_style-requires-clause-same : goal.write_in_style-requires-clause-same
-write_in_style-requires-clause-same c =
-    as_many c.args.self.now c.as_slice-formats.result.now c.row.result.now
-    (c.as_slice-formats.ensures ∙ c.deref.ensures ∙ c.self.invariant.each_format
-    ∙ ap (λ m. column_formats m.formats (relation_of m).columns) c.self.view_is)
-    c.row.ensures.wide
+pub write_in_style-requires : goal.write_in_style-requires
+write_in_style-requires c = record {
+  same = as_many c.args.self.now c.as_slice-formats.result.now c.row.result.now
+      (c.as_slice-formats.ensures ∙ c.deref.ensures ∙ c.self.invariant.each_format
+      ∙ ap (λ m. column_formats m.formats (relation_of m).columns) c.self.view_is)
+      c.row.ensures.wide;
+  narrow = c.row.ensures.narrow;
+}
 
 pub returns-clause-item : goal.returns-clause-item
 returns-clause-item c =

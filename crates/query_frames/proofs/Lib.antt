@@ -1,2 +1,0 @@
-mod QueryFrameLaws
-mod ZeroBytes
