@@ -1,5 +1,5 @@
 pub mod CountLemmas
-pub mod FrameLemmas
+pub mod PageLemmas
 pub mod ReplyLemmas
 pub mod SendLemmas
 pub mod TagLemmas

@@ -94,7 +94,7 @@ error_by_type : (m : PgWireBackendMessage) → is_error m ≡ (reply_type m == 6
 error_by_type (server.ErrorResponse m) = refl
 error_by_type _ = refl
 
-row_by_type : (m : PgWireBackendMessage) → is_row m ≡ (reply_type m == 68)
+pub row_by_type : (m : PgWireBackendMessage) → is_row m ≡ (reply_type m == 68)
 row_by_type (server.DataRow m) = refl
 row_by_type _ = refl
 

@@ -23,8 +23,17 @@ use Rattle.cursor_commands.specs.Commands.{command_of, command_in}
 use Rattle.cursor_commands.specs.Cursors.{messages_of}
 use Rattle.cursor_commands.specs.Limits.{is_count, count_of, limit_of}
 use Rattle.cursor_commands.proofs.CountLemmas.{and_left, and_right}
-use Rattle.cursor_commands.proofs.FrameLemmas.{sync_frame}
 use Rattle.cursor_commands.proofs.WordLemmas.{words_keep, words_total, word_len, total}
+
+sync_frame : IsFrame false (83 ∷ 0 ∷ 0 ∷ 0 ∷ 4 ∷ []) sync
+sync_frame = record {
+  kind = 83;
+  body = [];
+  bytes = refl;
+  each = (omega arith, (omega arith, (omega arith, (omega arith, (omega arith, tt)))));
+  limit = omega arith;
+  carries = (refl, refl);
+}
 
 -- ---- texts that frames carry
 

@@ -1,5 +1,5 @@
 -- What becomes of replies, one after another.
-use Rattle.std.proofs.Common.{◌≡◌, ◌≢◌, ℕ, ℤ, ◌<◌, ◌==◌, Bool, true, false, ◌||◌, if◌then◌else◌, List, [], ◌∷◌, ◌++◌, length, take, drop, slice_index, nat_eq, eq-eqb, Result, Ok, Err, OnOk, sym, ap, ◌∙◌, refl, arith, filter, codes, append_assoc, append-nil, length-append}
+use Rattle.std.proofs.Common.{◌≡◌, ◌≢◌, ℕ, ℤ, ◌+◌, ◌<◌, ◌==◌, Bool, true, false, ◌||◌, if◌then◌else◌, List, [], ◌∷◌, ◌++◌, length, take, drop, slice_index, nat_eq, eq-eqb, Result, Ok, Err, OnOk, sym, ap, ◌∙◌, refl, arith, filter, count_by, codes, append_assoc, append-nil, length-append}
 use Rattle.std.specs.List.{AllByRecursion, list_any, flat_map, starts_with}
 use Rattle.std.proofs.lemmas.Grind.{flat_map-append}
 use Rattle.pg_messages.specs.declared.backend.PgWireBackendMessage.{PgWireBackendMessage}
@@ -11,8 +11,8 @@ use Rattle.pg_results.specs.Tags.{spaced, tag_of, tag_with_rows, tag_text}
 use Rattle.cursor_commands.specs.declared.command.CursorCommand.{CursorCommand}
 use Rattle.cursor_commands.specs.declared.command.CursorCommand.TheVariants.{Declare, Fetch, Close}
 use Rattle.cursor_commands.specs.declared.rewrite.Change.TheVariants.{Ready, Failed, Fetched}
-use Rattle.cursor_commands.specs.Cursors.{Replies, done, fetched, is_error, is_ready, is_left_by_error, fetch_reply, success_replies, replies_of}
-use Rattle.cursor_commands.specs.Rewriting.{FitsLen, TellsLen, IsSurvey, AppendsReply, AppendsReplies, kept, changed, ends_rows}
+use Rattle.cursor_commands.specs.Cursors.{Replies, done, fetched, is_error, is_ready, is_row, is_left_by_error, fetch_reply, success_replies, replies_of}
+use Rattle.cursor_commands.specs.Rewriting.{FitsLen, TellsLen, IsSurvey, AppendsReply, AppendsReplies, Becomes, HasPage, counted_replies, kept, changed, ends_rows}
 use Rattle.cursor_commands.proofs.ReplyLemmas.{front}
 
 abbrev pub Change' : Type 0
@@ -80,56 +80,73 @@ pub filter_kept : (p : PgWireBackendMessage → Bool) (replies : Replies) → fi
 filter_kept p [] = refl
 filter_kept p (m ∷ replies) = kept_onto (p m) m (filter p replies) ∙ ap (λ l. kept (p m) m ++ l) (filter_kept p replies)
 
-pub failed_replies : (command : CursorCommand) (bytes old new : List ℕ) (failed : Bool) (rows : ℕ) → IsSurvey bytes failed rows
-    → failed ≡ true
-    → AppendsReplies (λ replies. flat_map (changed Failed) replies) bytes old new → AppendsReplies (replies_of command) bytes old new
-failed_replies command bytes old new failed rows survey is appends replies can e =
-    let any : list_any is_error replies ≡ true = sym (survey replies can e).0 ∙ is in
-    appends replies can e ∙ ap (λ l. old ++ replies_bytes l) (sym (filter_kept is_left_by_error replies)
-    ∙ sym (ap (λ b. if b then filter is_left_by_error replies else success_replies command replies) any))
+counted_is : (command : CursorCommand) (replies : Replies)
+    → success_replies command replies ≡ counted_replies command (count_by is_row replies) replies
+counted_is (Declare name relation) replies = refl
+counted_is (Fetch limit name) replies = refl
+counted_is (Close name) replies = refl
 
-pub good_replies : (command : CursorCommand) (bytes old new : List ℕ) (failed : Bool) (rows : ℕ) → IsSurvey bytes failed rows
-    → failed ≡ false
-    → AppendsReplies (success_replies command) bytes old new → AppendsReplies (replies_of command) bytes old new
-good_replies command bytes old new failed rows survey is appends replies can e =
-    let any : list_any is_error replies ≡ false = sym (survey replies can e).0 ∙ is in
-    appends replies can e ∙ ap (λ l. old ++ replies_bytes l)
-    (sym (ap (λ b. if b then filter is_left_by_error replies else success_replies command replies) any))
+abbrev by_error : CursorCommand → Replies → Bool → Replies
+by_error command replies failed = if failed then filter is_left_by_error replies else success_replies command replies
 
-pub failed_on_ok : {E : Type 0} (command : CursorCommand) (bytes old new : List ℕ) (failed : Bool) (rows : ℕ) (r : Result (Unit {0}) E)
-    → IsSurvey bytes failed rows → failed ≡ true → OnOk r (AppendsReplies (λ replies. flat_map (changed Failed) replies) bytes old new)
-    → OnOk r (AppendsReplies (replies_of command) bytes old new)
-failed_on_ok command bytes old new failed rows (Ok u) survey is appends = failed_replies command bytes old new failed rows survey is appends
-failed_on_ok command bytes old new failed rows (Err x) survey is appends = appends
+-- the replies of a command that failed: the columns, and what becomes of what stands behind the page
+pub becomes_failed : (command : CursorCommand) (bytes told old behind : List ℕ) (columns len rows : ℕ) (failed : Bool) (n : ℕ)
+    → HasPage (counted_replies command) bytes columns len rows → told ≡ drop len bytes → IsSurvey told failed n → failed ≡ true → old ≡ []
+    → AppendsReplies (λ replies. flat_map (changed Failed) replies) told old behind
+    → Becomes (replies_of command) bytes (take columns bytes ++ behind)
+becomes_failed command bytes told old behind columns len rows failed n page same survey is none appends replies can e =
+    let p = page replies can e in
+    let mine : told ≡ replies_bytes p.left = same ∙ p.bytes in
+    let any : list_any is_error replies ≡ true = p.errors ∙ (sym (survey p.left p.fits mine).0 ∙ is) in
+    let grown : behind ≡ replies_bytes (flat_map (changed Failed) p.left) =
+    appends p.left p.fits mine ∙ ap (λ l. l ++ replies_bytes (flat_map (changed Failed) p.left)) none in
+    ap (λ b. take columns bytes ++ b) grown ∙ (sym p.failed ∙ ap (λ l. replies_bytes l)
+    (sym (filter_kept is_left_by_error replies) ∙ sym (ap (λ b. by_error command replies b) any)))
 
-pub done_on_ok : {E : Type 0} (command : CursorCommand) (tag bytes old new : List ℕ) (failed : Bool) (rows : ℕ) (r : Result (Unit {0}) E)
-    → ((replies : Replies) → success_replies command replies ≡ done tag ∷ filter is_ready replies) → IsSurvey bytes failed rows
-    → failed ≡ false
+-- the replies of a command that succeeded: its page, and what becomes of what stands behind it
+pub becomes_good : (command : CursorCommand) (bytes told old behind : List ℕ) (columns len rows : ℕ) (failed : Bool) (n all : ℕ)
+    → HasPage (counted_replies command) bytes columns len rows → told ≡ drop len bytes → IsSurvey told failed n → failed ≡ false → old ≡ []
+    → all ≡ rows + n → AppendsReplies (counted_replies command all) told old behind
+    → Becomes (replies_of command) bytes (take len bytes ++ behind)
+becomes_good command bytes told old behind columns len rows failed n all page same survey is none count appends replies can e =
+    let p = page replies can e in
+    let mine : told ≡ replies_bytes p.left = same ∙ p.bytes in
+    let s = survey p.left p.fits mine in
+    let any : list_any is_error replies ≡ false = p.errors ∙ (sym s.0 ∙ is) in
+    let every : all ≡ count_by is_row replies = let a = s.1 in let b = p.counted in omega (arith, count, a, b) in
+    let grown : behind ≡ replies_bytes (counted_replies command all p.left) =
+    appends p.left p.fits mine ∙ ap (λ l. l ++ replies_bytes (counted_replies command all p.left)) none in
+    ap (λ b. take len bytes ++ b) grown ∙ (sym (p.same all) ∙ ap (λ l. replies_bytes l)
+    (ap (λ k. counted_replies command k replies) every ∙ (sym (counted_is command replies)
+    ∙ sym (ap (λ b. by_error command replies b) any))))
+
+pub done_on_ok : {E : Type 0} (command : CursorCommand) (tag bytes old new : List ℕ) (rows : ℕ) (r : Result (Unit {0}) E)
+    → ((replies : Replies) → counted_replies command rows replies ≡ done tag ∷ filter is_ready replies)
     → OnOk r (AppendsReplies (λ replies. done tag ∷ flat_map (changed Ready) replies) bytes old new)
-    → OnOk r (AppendsReplies (replies_of command) bytes old new)
-done_on_ok command tag bytes old new failed rows (Ok u) told survey is appends =
-    good_replies command bytes old new failed rows survey is (λ replies can e. appends replies can e
-    ∙ ap (λ l. old ++ replies_bytes l) (ap (λ l. done tag ∷ l) (sym (filter_kept is_ready replies)) ∙ sym (told replies)))
-done_on_ok command tag bytes old new failed rows (Err x) told survey is appends = appends
+    → OnOk r (AppendsReplies (counted_replies command rows) bytes old new)
+done_on_ok command tag bytes old new rows (Ok u) told appends = λ replies can e. appends replies can e
+    ∙ ap (λ l. old ++ replies_bytes l) (ap (λ l. done tag ∷ l) (sym (filter_kept is_ready replies)) ∙ sym (told replies))
+done_on_ok command tag bytes old new rows (Err x) told appends = appends
 
-pub declare_told : (command : CursorCommand) (name relation : List ℕ) (replies : Replies) → command ≡ Declare name relation
-    → success_replies command replies ≡ done (codes "DECLARE CURSOR") ∷ filter is_ready replies
-declare_told command name relation replies is = ap (λ k. success_replies k replies) is
+pub declare_told : (command : CursorCommand) (name relation : List ℕ) (rows : ℕ) (replies : Replies) → command ≡ Declare name relation
+    → counted_replies command rows replies ≡ done (codes "DECLARE CURSOR") ∷ filter is_ready replies
+declare_told command name relation rows replies is = ap (λ k. counted_replies k rows replies) is
 
-pub close_told : (command : CursorCommand) (name : List ℕ) (replies : Replies) → command ≡ Close name
-    → success_replies command replies ≡ done (codes "CLOSE CURSOR") ∷ filter is_ready replies
-close_told command name replies is = ap (λ k. success_replies k replies) is
+pub close_told : (command : CursorCommand) (name : List ℕ) (rows : ℕ) (replies : Replies) → command ≡ Close name
+    → counted_replies command rows replies ≡ done (codes "CLOSE CURSOR") ∷ filter is_ready replies
+close_told command name rows replies is = ap (λ k. counted_replies k rows replies) is
 
-pub fetch_on_ok : {E : Type 0} (command : CursorCommand) (limit : ℤ) (name bytes old new : List ℕ) (failed : Bool) (rows : ℕ)
-    (r : Result (Unit {0}) E)
-    → command ≡ Fetch limit name → IsSurvey bytes failed rows → failed ≡ false
+pub rows_told : (command : CursorCommand) (limit : ℤ) (name : List ℕ) (rows : ℕ) (replies : Replies) → command ≡ Fetch limit name
+    → counted_replies command rows replies ≡ flat_map (fetch_reply rows) replies
+rows_told command limit name rows replies is = ap (λ k. counted_replies k rows replies) is
+
+pub fetch_on_ok : {E : Type 0} (command : CursorCommand) (bytes old new : List ℕ) (rows : ℕ) (r : Result (Unit {0}) E)
+    → ((replies : Replies) → counted_replies command rows replies ≡ flat_map (fetch_reply rows) replies)
     → OnOk r (AppendsReplies (λ replies. flat_map (changed (Fetched rows)) replies) bytes old new)
-    → OnOk r (AppendsReplies (replies_of command) bytes old new)
-fetch_on_ok command limit name bytes old new failed rows (Ok u) cmd survey is appends =
-    good_replies command bytes old new failed rows survey is (λ replies can e. appends replies can e
-    ∙ ap (λ l. old ++ replies_bytes l) (ap (λ n. flat_map (fetch_reply n) replies) (survey replies can e).1
-    ∙ ap (λ k. success_replies k replies) (sym cmd)))
-fetch_on_ok command limit name bytes old new failed rows (Err x) cmd survey is appends = appends
+    → OnOk r (AppendsReplies (counted_replies command rows) bytes old new)
+fetch_on_ok command bytes old new rows (Ok u) told appends = λ replies can e. appends replies can e
+    ∙ ap (λ l. old ++ replies_bytes l) (sym (told replies))
+fetch_on_ok command bytes old new rows (Err x) told appends = appends
 
 -- ---- one reply
 

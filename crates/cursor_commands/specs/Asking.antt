@@ -1,5 +1,5 @@
--- The messages that commands ask of the session, and their frames.
-use Rattle.std.specs.Prelude.{ℕ, ℤ, List, [], ◌++◌, ◌≡◌, false}
+-- The messages that commands ask of the session, and that frames can carry.
+use Rattle.std.specs.Prelude.{ℕ, ℤ, List, [], false}
 use Rattle.pg_messages.specs.declared.frontend.PgWireFrontendMessage.{PgWireFrontendMessage}
 use Rattle.pg_messages.specs.declared.frontend.PgWireFrontendMessage.TheVariants as client
 use Rattle.pg_messages.specs.Frames.{IsFrame}
@@ -34,9 +34,3 @@ sync = client.PgSync (record {})
 -- a good frame carries the message
 abbrev pub CanBeSent : PgWireFrontendMessage → Type 0
 CanBeSent m = (frame : List ℕ) × IsFrame false frame m
-
--- Bytes have grown by a frame of this message.
-pub record AppendsFrame (old new : List ℕ) (m : PgWireFrontendMessage) : Type 0 where
-  pub frame : List ℕ
-  pub grown : new ≡ old ++ frame
-  pub carries : IsFrame false frame m

@@ -3,12 +3,13 @@
 #![tactic(auto)]
 
 mod command;
-mod frames;
 mod laws;
 mod limit;
+mod messages;
+mod page;
 mod rewrite;
 
 pub use command::{CursorCommand, read_cursor};
-pub use frames::command_frames;
 pub use laws::commands_can_be_sent;
-pub use rewrite::put_replies;
+pub use messages::command_messages;
+pub use rewrite::{NewReplies, new_replies};

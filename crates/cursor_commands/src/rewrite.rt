@@ -1,16 +1,27 @@
 //! The replies to a command, made of those to the messages that it asked of the session.
 
-ghost use Rattle.std.specs.Prelude.{◌≡◌, ◌++◌, ◌+◌, ◌-◌, ◌^◌, ◌<◌, ◌≤◌, ◌==◌, ◌||◌, [], ◌∷◌, if◌then◌else◌, length, slice_index, OnOk};
+ghost use Rattle.std.specs.Prelude.{◌≡◌, ◌++◌, ◌+◌, ◌-◌, ◌^◌, ◌<◌, ◌≤◌, ◌==◌, ◌||◌, [], ◌∷◌, if◌then◌else◌, length, slice_index, take, IfOk, OnOk};
 ghost use Rattle.std.specs.List.{flat_map};
 ghost use Rattle.pg_messages.specs.Replies.{IsEncodable, reply_bytes};
 ghost use Rattle.cursor_commands.specs.Cursors.{done, fetch_reply, replies_of};
-ghost use Rattle.cursor_commands.specs.Rewriting.{changed, AppendsReply, AppendsReplies, TellsLen, IsSurvey, is_select, ends_rows};
+ghost use Rattle.cursor_commands.specs.Rewriting.{changed, AppendsReply, AppendsReplies, Becomes, HasPage, TellsLen, IsSurvey, counted_replies, is_select, ends_rows};
 
 use crate::command::CursorCommand;
+use crate::page::{Page, copy_from, len_of, page_of};
 use bytes::BytesMut;
 use pg_messages::{CommandComplete, PgWireBackendMessage, PgWireMessageServerCodec};
+use pg_outbox::Outbox;
 use pg_results::Tag;
 use std::alloc::{AllocError, Global};
+
+/// What becomes of replies that wait.
+#[derive(Drop)]
+pub struct NewReplies {
+    /// So many bytes in front of them stay.
+    pub kept: usize,
+    /// What is to stand behind those.
+    pub behind: BytesMut,
+}
 
 /// What becomes of replies.
 #[derive(Clone, Copy, Debug, PartialEq, Eq)]
@@ -32,28 +43,69 @@ struct Survey {
     rows: usize,
 }
 
-/// Appends the replies to a command, made of the bytes of those to its messages.
-pub fn put_replies(
+/// Makes of the replies to a command's messages, which wait, those to the command. The columns and
+/// the rows in front of a FETCH's stay where they are, but for the rows of one that failed.
+pub fn new_replies(
     alloc: Global,
     command: &CursorCommand,
+    replies: &Outbox,
+) -> Result<NewReplies, AllocError>
+    ensures { IfOk result (λ new. Becomes (replies_of command.now) replies.now
+        (take new.kept replies.now ++ new.behind.items)) }
+{
+    let all = len_of(replies);
+    let page = page_before(command, replies, all);
+    let told = copy_from(alloc, replies, page.len)?;
+    let survey = survey_of(told.as_slice());
+    let mut behind = BytesMut::new(alloc);
+    if survey.failed {
+        put_changed(alloc, Change::Failed, told.as_slice(), &mut behind)?;
+        return Ok(NewReplies {
+            kept: page.columns,
+            behind,
+        });
+    }
+    let rows = page.rows + survey.rows;
+    put_counted(alloc, command, rows, told.as_slice(), &mut behind)?;
+    Ok(NewReplies {
+        kept: page.len,
+        behind,
+    })
+}
+
+/// The columns and the rows in front of the replies to a command's messages, where they are left as
+/// they are.
+fn page_before(command: &CursorCommand, replies: &Outbox, all: usize) -> Page
+    requires { all ≡ length replies.now }
+    ensures within { result.len ≤ length replies.now }
+    ensures few { result.rows ≤ result.len }
+    ensures page { HasPage (counted_replies command.now) replies.now result.columns result.len
+        result.rows }
+{
+    match command {
+        CursorCommand::Fetch(_, _) => page_of(replies, all),
+        _ => Page {
+            columns: 0,
+            len: 0,
+            rows: 0,
+        },
+    }
+}
+
+/// Appends what becomes of the replies to a command that succeeded, of which so many are rows.
+fn put_counted(
+    alloc: Global,
+    command: &CursorCommand,
+    rows: usize,
     replies: &[u8],
     out: &mut BytesMut,
 ) -> Result<(), AllocError>
-    ensures { OnOk result (AppendsReplies (replies_of command.now) replies.now
+    ensures { OnOk result (AppendsReplies (counted_replies command.now rows) replies.now
         out.old.items out.new.items) }
 {
-    let survey = survey_of(replies);
-    if survey.failed {
-        return put_changed(alloc, Change::Failed, replies, out);
-    }
     match command {
         CursorCommand::Declare(_, _) => put_done(alloc, "DECLARE CURSOR", replies, out),
-        CursorCommand::Fetch(_, _) => put_changed(
-            alloc,
-            Change::Fetched(survey.rows),
-            replies,
-            out,
-        ),
+        CursorCommand::Fetch(_, _) => put_changed(alloc, Change::Fetched(rows), replies, out),
         CursorCommand::Close(_) => put_done(alloc, "CLOSE CURSOR", replies, out),
     }
 }
@@ -171,7 +223,8 @@ fn is_select(reply: &[u8]) -> bool
 
 /// What the replies tell.
 fn survey_of(replies: &[u8]) -> Survey
-    ensures { IsSurvey replies.now result.failed result.rows }
+    ensures few { result.rows ≤ length replies.now }
+    ensures survey { IsSurvey replies.now result.failed result.rows }
 {
     let mut survey = Survey {
         failed: false,

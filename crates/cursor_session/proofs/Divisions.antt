@@ -3,7 +3,7 @@ use Rattle.std.proofs.Common.{◌≡◌, ℕ, ◌+◌, ◌≤◌, Bool, true, fa
 use Rattle.std.proofs.lemmas.List.{append_cancel_right, nil_from_length}
 use Rattle.pg_messages.specs.declared.frontend.PgWireFrontendMessage.{PgWireFrontendMessage}
 use Rattle.pg_messages.specs.Frames.{IsFrame, IsGoodHeader, DividesInto, awaits_startup_after, header_len, told_len}
-use Rattle.pg_messages.proofs.OneReading.{front, one_frame}
+use Rattle.pg_messages.proofs.OneReading.{front}
 
 header_some : (b : Bool) → 1 ≤ header_len b
 header_some true = omega arith
@@ -34,7 +34,7 @@ divides_cut (m ∷ ms) b text rest more d =
     )
 
 -- no bytes hold no frame
-pub no_frames : (ms : List PgWireFrontendMessage) (b : Bool) (rest : List ℕ) → DividesInto b [] ms rest → (ms ≡ []) × (rest ≡ [])
+no_frames : (ms : List PgWireFrontendMessage) (b : Bool) (rest : List ℕ) → DividesInto b [] ms rest → (ms ≡ []) × (rest ≡ [])
 no_frames [] b rest d = (refl, sym d)
 no_frames (m ∷ ms) b rest d =
     let f = front b d.0 d.1 m d.3 in
@@ -60,17 +60,3 @@ has_one b text owed (m ∷ ms) rest told d =
     let whole : text ≡ d.0 = d.2 ∙ ap (λ l. d.0 ++ l) none ∙ append-nil d.0 in
     let last = no_frames ms (awaits_startup_after m b) rest (subst (λ l. DividesInto (awaits_startup_after m b) l ms rest) none d.4) in
     inr (m, ap (λ l. m ∷ l) last.0, subst (λ l. IsFrame b l m) (sym whole) d.3, last.1, owes)
-
--- frames that are there begin those of the whole division
-pub division_begins : (ms ns : List PgWireFrontendMessage) (b : Bool) (text rest : List ℕ) → DividesInto b text ms rest
-    → DividesInto b text ns [] → (os : List PgWireFrontendMessage) × (ns ≡ ms ++ os)
-division_begins [] ns b text rest d e = (ns, refl)
-division_begins (m ∷ ms) [] b text rest d e =
-    let none = no_frames (m ∷ ms) b rest (subst (λ l. DividesInto b l (m ∷ ms) rest) e d) in absurd (let n = none.0 in cc)
-division_begins (m ∷ ms) (n ∷ ns) b text rest d e =
-    let one = one_frame b d.0 e.0 d.1 e.1 m n d.3 e.3 (sym d.2 ∙ e.2) in
-    let after : Bool = awaits_startup_after m b in
-    let same : awaits_startup_after n b ≡ after = ap (λ k. awaits_startup_after k b) (sym one.2) in
-    let behind : DividesInto after d.1 ns [] = subst (λ l. DividesInto after l ns []) (sym one.1)
-    (subst (λ a. DividesInto a e.1 ns []) same e.4) in
-    let i = division_begins ms ns after d.1 rest d.4 behind in (i.0, ap (λ k. k ∷ ns) (sym one.2) ∙ ap (λ l. m ∷ l) i.1)

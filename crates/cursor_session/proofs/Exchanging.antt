@@ -1,29 +1,31 @@
--- What the exchange of a command with the session comes to.
-use Rattle.std.proofs.Common.{◌≡◌, ℕ, ◌+◌, ◌≤◌, ◌^◌, Bool, true, false, if◌then◌else◌, List, [], ◌∷◌, ◌++◌, Option, Some, None, Ok, Err, refl, sym, ap, ◌∙◌, append-nil, length, length-append, arith}
+-- What a command is answered: its messages were handed to the session, and of the replies to them those to the command were made.
+use Rattle.std.proofs.Common.{◌≡◌, ◌≢◌, ℕ, ◌+◌, ◌≤◌, ◌^◌, Bool, true, false, if◌then◌else◌, List, [], ◌∷◌, ◌++◌, inl, Option, Some, None, Result, Ok, Err, OnOk, OnErr, refl, sym, ap, subst, ◌∙◌, append-nil, length, length-append, take, arith}
 use Rattle.std.specs.List.{AllByRecursion}
 use Rattle.pg_messages.specs.Fields.{count32}
 use Rattle.pg_messages.specs.declared.frontend.PgWireFrontendMessage.{PgWireFrontendMessage}
 use Rattle.pg_messages.specs.declared.backend.PgWireBackendMessage.{PgWireBackendMessage}
 use Rattle.pg_messages.specs.declared.backend.PgWireBackendMessage.TheVariants as server
-use Rattle.pg_messages.specs.Frames.{IsFrame, DividesInto}
+use Rattle.pg_messages.specs.Frames.{IsFrame, IsUnfinished}
 use Rattle.pg_messages.specs.Replies.{is_one_byte, reply_type, reply_body, reply_bytes, replies_bytes}
 use Rattle.pg_client.specs.declared.desk.DeskCall.{DeskCall}
-use Rattle.pg_client.specs.Answer.{Table}
-use Rattle.conversation_table.specs.Lawful.{IsLawful}
-use Rattle.conversation_runs.specs.declared.ends.Progress.{Progress}
-use Rattle.conversation_runs.specs.declared.ends.Progress.TheVariants as progress
-use Rattle.conversation_runs.specs.declared.ends.ServeError.{ServeError}
-use Rattle.conversation_runs.specs.declared.ends.ServeError.TheVariants as serve
-use Rattle.conversation_runs.specs.Steps.{Flows, IsServed, IsCutOff, WasFed}
-use Rattle.conversation_runs.proofs.Flowing.{Flows-sent}
+use Rattle.pg_client.specs.declared.desk.DeskCall.TheVariants as desk
+use Rattle.pg_client.specs.declared.ends.EndKind.{EndKind}
+use Rattle.pg_client.specs.declared.ends.EndKind.TheVariants as end
+use Rattle.pg_client.specs.Answer.{Answer, Table, Next, Stops, answers_of, conversation, BeginsWith}
+use Rattle.conversation_runs.specs.Messages.{next_of}
+use Rattle.conversation_runs.specs.Session.{SessionValue, ChangesUnsent}
+use Rattle.conversation_runs.specs.Streams.{GrowsBy, GrowsByFront}
+use Rattle.conversation_runs.specs.Steps.{IsServed, IsCutOff, IsStopped, WasFed, Stands}
+use Rattle.conversation_runs.proofs.Flowing.{Flows-sent, Flows-wait, cut_at_once}
 use Rattle.conversation_runs.proofs.Stepping.{serves_flow, cut_served}
 use Rattle.cursor_commands.specs.declared.command.CursorCommand.{CursorCommand}
 use Rattle.cursor_commands.specs.Cursors.{Replies, messages_of, replies_of}
-use Rattle.cursor_commands.specs.Rewriting.{FitsLen}
+use Rattle.cursor_commands.specs.Rewriting.{FitsLen, Becomes}
 use Rattle.cursor_table.specs.CursorTable.{cursor_table, asked_command}
-use Rattle.cursor_session.specs.Fronts.{SendsReplies, SendsFront}
+use Rattle.cursor_session.specs.Asking.{AreAnswered, AreCutOff, AreStopped}
+use Rattle.cursor_session.specs.Fronts.{SendsReplies, SendsFront, told_by}
 use Rattle.cursor_session.proofs.Alike.{by_table}
-use Rattle.cursor_session.proofs.Asking.{Asked, fed_is, was_asked, command_served, command_cut, command_stopped}
+use Rattle.cursor_session.proofs.Rows.{one_command}
 
 -- ---- the lengths of replies within 2 GiB
 
@@ -46,81 +48,129 @@ fits_all (m ∷ replies) le =
     let both = length-append (reply_bytes m) (replies_bytes replies) in
     (fits_by m (is_one_byte m) refl (omega (arith, le, both)), fits_all replies (omega (arith, le, both)))
 
--- ---- what was sent to the sink in memory
+-- ---- the replies that are made and sent
 
-abbrev value_or : Option (List ℕ) → List ℕ
-value_or None = []
-value_or (Some bytes) = bytes
+-- what waits was made of the replies that waited
+made_of : (command : CursorCommand) (old new : List ℕ) → length old ≤ 2 ^ 31 → Becomes (replies_of command) old new
+    → (replies : Replies) → old ≡ replies_bytes replies → new ≡ replies_bytes (replies_of command replies)
+made_of command old new le becomes replies e = becomes replies (fits_all replies (subst (λ l. length l ≤ 2 ^ 31) e le)) e
 
-sent_is : (b bytes : List ℕ) → Flows (Some []) (Some b) [] [] bytes → b ≡ bytes
-sent_is b bytes x = ap value_or x.grown ∙ (sym (append-nil x.sent) ∙ x.same)
+-- what waits in the end was made of what waited
+pub becomes_by : (command : CursorCommand) (old told mid behind bytes : List ℕ) (kept : ℕ) → told ≡ old → bytes ≡ behind
+    → Becomes (replies_of command) told (take kept told ++ behind) → mid ≡ take kept old ++ bytes → Becomes (replies_of command) old mid
+becomes_by command old told mid behind bytes kept same copy becomes put =
+    subst (λ l. Becomes (replies_of command) old l) (sym (put ∙ ap (λ l. take kept old ++ l) copy))
+    (subst (λ l. Becomes (replies_of command) l (take kept l ++ behind)) same becomes)
 
--- what is left of the frames of a command where the conversation goes on
-pub none_left : {T : Type 0} (awaits : T → Bool) (table : Table T) → IsLawful table awaits → (s : T) → awaits s ≡ false
-    → (command : CursorCommand) (frames : List ℕ) → DividesInto false frames (messages_of command) []
-    → (t : T) (rest : List ℕ) (w v : Option (List ℕ)) (o : List ℕ) (k l : List DeskCall)
-    → WasFed (by_table awaits table) s frames t rest w v o k l (Ok progress.More) → rest ≡ []
-none_left awaits table lawful s is_typed command frames asks t rest w v o k l x =
-    (was_asked awaits table lawful s is_typed command frames asks t rest x.1.bytes x.1.called x.0 progress.More
-    (fed_is awaits table lawful s is_typed command frames asks rest x.1.bytes x.1.called x.0 (x.1.fed [])) x.2).none refl
+pub sends_on_ok : {A E : Type 0} (r : Result A E) (command : CursorCommand) (old new : List ℕ) (w v : Option (List ℕ))
+    → length old ≤ 2 ^ 31 → Becomes (replies_of command) old new → OnOk r (GrowsBy w v new) → OnOk r (SendsReplies command old w v)
+sends_on_ok (Ok u) command old new w v le becomes grown = λ replies e.
+    subst (λ l. GrowsBy w v l) (made_of command old new le becomes replies e) grown
+sends_on_ok (Err e) command old new w v le becomes grown = tt
 
-module _ {T : Type 0} (ready awaits : T → Bool) (table : Table T) (lawful : IsLawful table awaits)
-    (s : T) (is_ready : ready s ≡ true) (is_typed : awaits s ≡ false)
-    (command : CursorCommand) (frames : List ℕ) (asks : DividesInto false frames (messages_of command) [])
-    (frame : List ℕ) (m : PgWireFrontendMessage) (carries : IsFrame false frame m) (asked : asked_command m ≡ Some command)
-    (t : T) (rest b : List ℕ) (w v : Option (List ℕ)) (k l : List DeskCall) where
-  asked_by : (told : Progress) (x : WasFed (by_table awaits table) s frames t rest (Some []) (Some b) [] k l (Ok told))
-      → Asked awaits table s command t rest x.1.bytes x.1.called x.0 told
-  asked_by told x =
-      was_asked awaits table lawful s is_typed command frames asks t rest x.1.bytes x.1.called x.0 told
-      (fed_is awaits table lawful s is_typed command frames asks rest x.1.bytes x.1.called x.0 (x.1.fed [])) x.2
+pub sends_on_err : {A E : Type 0} (r : Result A E) (command : CursorCommand) (old new : List ℕ) (w v : Option (List ℕ))
+    → length old ≤ 2 ^ 31 → Becomes (replies_of command) old new → OnErr r (GrowsByFront w v new) → OnErr r (SendsFront command old w v)
+sends_on_err (Ok u) command old new w v le becomes grown = tt
+sends_on_err (Err e) command old new w v le becomes grown = λ replies e.
+    subst (λ l. GrowsByFront w v l) (made_of command old new le becomes replies e) grown
 
-  served_by : (told : Progress) (x : WasFed (by_table awaits table) s frames t rest (Some []) (Some b) [] k l (Ok told))
-      → IsServed (by_table awaits (cursor_table ready table)) s frame [] x.0 w w []
-      (replies_bytes (replies_of command (asked_by told x).replies)) k l
-  served_by told x =
-      command_served ready awaits table lawful s is_ready is_typed command frames asks frame m carries asked t rest x.1.bytes x.1.called
-      x.0 told (asked_by told x) w k l x.1.grown
+pub sends_none : (command : CursorCommand) (old : List ℕ) (w : Option (List ℕ)) → SendsFront command old w w
+sends_none command old w replies e = cut_at_once w (replies_bytes (replies_of command replies))
 
-  replied_by : (told : Progress) (x : WasFed (by_table awaits table) s frames t rest (Some []) (Some b) [] k l (Ok told))
-      → b ≡ replies_bytes (asked_by told x).replies
-  replied_by told x = sent_is b x.1.bytes x.1.flows ∙ (asked_by told x).replied
+pub changes_then : {H S : Type 0} (a b c : SessionValue H S) → ChangesUnsent a b → ChangesUnsent b c → ChangesUnsent a c
+changes_then a b c x y = record {
+  state = y.state ∙ x.state;
+  handlers = y.handlers ∙ x.handlers;
+  rest = y.rest ∙ x.rest;
+  opened = y.opened ∙ x.opened;
+}
 
-  fits_by_bytes : (told : Progress) (x : WasFed (by_table awaits table) s frames t rest (Some []) (Some b) [] k l (Ok told))
-      → length b ≤ 2 ^ 31 → AllByRecursion FitsLen (asked_by told x).replies
-  fits_by_bytes told x le = fits_all (asked_by told x).replies (omega (arith, le, ap length (replied_by told x)))
+-- ---- the answer to the command
 
-  -- all was sent
-  pub exchanged : (told : Progress) → WasFed (by_table awaits table) s frames t rest (Some []) (Some b) [] k l (Ok told)
-      → length b ≤ 2 ^ 31 → SendsReplies command b w v
-      → WasFed (by_table awaits (cursor_table ready table)) s frame t [] w v [] k l (Ok told)
-  exchanged told x le sends =
-      let a = asked_by told x in
-      let bytes = replies_bytes (replies_of command a.replies) in
-      let sent = sends a.replies (fits_by_bytes told x le) (replied_by told x) in (
-        x.0,
-        serves_flow (by_table awaits (cursor_table ready table)) v [] (served_by told x) (Flows-sent w v bytes [] sent refl),
-        a.stands,
+-- the answer to a command by that to its messages
+abbrev row_of : {T : Type 0} → CursorCommand → Answer T → Answer T
+row_of command a = record { replies = replies_of command a.replies; calls = a.calls; next = a.next }
+
+pub short_of_none : (awaiting : Bool) → IsUnfinished awaiting []
+short_of_none true = inl (omega arith)
+short_of_none false = inl (omega arith)
+
+-- where the conversation stands behind the messages
+stands_told : {T : Type 0} (awaits : T → Bool) (kind : Option EndKind) (t : T) → kind ≢ Some end.InputEnd
+    → Stands awaits (next_of kind t) t [] (told_by kind)
+stands_told awaits None t apart = (refl, short_of_none (awaits t))
+stands_told awaits (Some kind) t apart = (λ e. apart (ap Some e), λ more. refl)
+
+module _ {T : Type 0} (ready awaits : T → Bool) (table : Table T) (s : T) (is_ready : ready s ≡ true) (is_typed : awaits s ≡ false)
+    (command : CursorCommand) (frame : List ℕ) (m : PgWireFrontendMessage) (carries : IsFrame false frame m)
+    (asked : asked_command m ≡ Some command) (w : Option (List ℕ)) (k l : List DeskCall) where
+  -- the command was answered, and the replies to it wait
+  command_served : (o : List ℕ) (next : Next T) → (x : AreAnswered table s (messages_of command) [] o k l next)
+      → IsServed (by_table awaits (cursor_table ready table)) s frame [] next w w [] (replies_bytes (replies_of command x.replies)) k l
+  command_served o next x =
+      let bytes = replies_bytes (replies_of command x.replies) in
+      record {
+        bytes = bytes;
+        called = x.made;
+        fed = λ more. record {
+          messages = m ∷ [];
+          replies = replies_of command x.replies;
+          division = (frame, more, refl, subst (λ a. IsFrame a frame m) (sym is_typed) carries, refl);
+          answered = one_command table ready (answers_of x.made) s m command is_ready asked ∙ ap (λ a. row_of command a) x.answered;
+          replied = refl;
+        };
+        flows = Flows-wait w [] bytes bytes refl;
+        grown = x.grown;
+      }
+
+  -- all of the replies were sent
+  pub exchanged : (v : Option (List ℕ)) (o : List ℕ) (kind : Option EndKind) (t : T)
+      → AreAnswered table s (messages_of command) [] o k l (next_of kind t) → kind ≢ Some end.InputEnd → SendsReplies command o w v
+      → WasFed (by_table awaits (cursor_table ready table)) s frame t [] w v [] k l (Ok (told_by kind))
+  exchanged v o kind t x apart sends =
+      let bytes = replies_bytes (replies_of command x.replies) in (
+        next_of kind t,
+        serves_flow (by_table awaits (cursor_table ready table)) v [] (command_served o (next_of kind t) x)
+            (Flows-sent w v bytes [] (sends x.replies x.replied) refl),
+        stands_told awaits kind t apart,
       )
 
   -- the sending was cut off
-  pub exchange_cut : (told : Progress) → WasFed (by_table awaits table) s frames t rest (Some []) (Some b) [] k l (Ok told)
-      → length b ≤ 2 ^ 31 → SendsFront command b w v
+  pub exchange_cut : (v : Option (List ℕ)) (o : List ℕ) (next : Next T) → AreAnswered table s (messages_of command) [] o k l next
+      → SendsFront command o w v
       → IsCutOff (by_table awaits (cursor_table ready table)) s frame w v [] k l
-  exchange_cut told x le sends =
-      let a = asked_by told x in
-      cut_served (by_table awaits (cursor_table ready table)) v (served_by told x)
-      (sends a.replies (fits_by_bytes told x le) (replied_by told x))
+  exchange_cut v o next x sends =
+      cut_served (by_table awaits (cursor_table ready table)) v (command_served o next x) (sends x.replies x.replied)
 
-  -- the session gave up
-  pub exchange_lost : (after : T) (left : List ℕ) (e : ServeError)
-      → WasFed (by_table awaits table) s frames t rest (Some []) v [] k l (Err e)
-      → WasFed (by_table awaits (cursor_table ready table)) s frame after left w w [] k l (Err e)
-  exchange_lost after left serve.TurnLimit x =
-      command_stopped ready awaits table lawful s is_ready is_typed command frames asks frame m carries asked v w k l x
-  exchange_lost after left serve.ReadFault x =
-      command_cut ready awaits table lawful s is_ready is_typed command frames asks frame m carries asked v w k l x
-  exchange_lost after left serve.WriteFault x =
-      command_cut ready awaits table lawful s is_ready is_typed command frames asks frame m carries asked v w k l x
-  exchange_lost after left serve.NoMemory x =
-      command_cut ready awaits table lawful s is_ready is_typed command frames asks frame m carries asked v w k l x
+  -- the answer to the command was cut off, and none of it was sent
+  pub command_cut : AreCutOff table s (messages_of command) k l
+      → IsCutOff (by_table awaits (cursor_table ready table)) s frame w w [] k l
+  command_cut x =
+      let given = row_of command (conversation table (answers_of x.made) s (messages_of command)) in
+      record {
+        messages = m ∷ [];
+        rest = [];
+        made = x.made;
+        given = given;
+        division = (frame, [], sym (append-nil frame), subst (λ a. IsFrame a frame m) (sym is_typed) carries, refl);
+        answered = one_command table ready (answers_of x.made) s m command is_ready asked;
+        cut = cut_at_once w ([] ++ replies_bytes given.replies);
+        front = x.front;
+        grown = x.grown;
+      }
+
+  -- the answer to the command stops at a question, and none of it was sent
+  pub command_stopped : AreStopped table s (messages_of command) k l
+      → IsStopped (by_table awaits (cursor_table ready table)) s frame w w [] k l
+  command_stopped x = record {
+    messages = m ∷ [];
+    rest = [];
+    made = x.made;
+    replies = replies_of command x.replies;
+    division = (frame, [], sym (append-nil frame), subst (λ a. IsFrame a frame m) (sym is_typed) carries, refl);
+    answered = one_command table ready (answers_of x.made) s m command is_ready asked ∙ ap (λ a. row_of command a) x.answered;
+    asks = λ yes. subst (λ a. BeginsWith a.calls (x.made ++ desk.Ask yes ∷ []))
+        (sym (one_command table ready (answers_of x.made ++ yes ∷ []) s m command is_ready asked)) (x.asks yes);
+    cut = cut_at_once w ([] ++ replies_bytes (replies_of command x.replies));
+    grown = x.grown;
+  }

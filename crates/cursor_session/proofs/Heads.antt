@@ -1,5 +1,5 @@
 -- The header of a frame of which there are some bytes, and which commands may begin so.
-use Rattle.std.proofs.Common.{◌≡◌, ◌≢◌, ℕ, ◌+◌, ◌-◌, ◌≤◌, ◌<◌, Bool, true, false, List, [], ◌∷◌, ◌++◌, ◌⊎◌, inl, inr, Option, Some, None, Result, Ok, Err, IfOk, IfSome, IfNone, length, take, drop, slice_index, Contains, refl, sym, ap, subst, ◌∙◌, append-nil, append_assoc, length-append, arith}
+use Rattle.std.proofs.Common.{◌≡◌, ◌≢◌, ℕ, ◌+◌, ◌-◌, ◌≤◌, Bool, true, false, List, [], ◌∷◌, ◌++◌, ◌⊎◌, inl, inr, Option, Some, None, Result, Ok, Err, IfOk, IfSome, IfNone, length, take, drop, slice_index, Contains, refl, sym, ap, subst, ◌∙◌, append-nil, append_assoc, length-append, arith}
 use Rattle.std.specs.Int.{w32, from_be_bytes}
 use Rattle.std.specs.List.{AllByRecursion}
 use Rattle.std.proofs.lemmas.Bool.{cases_lt}
@@ -7,7 +7,7 @@ use Rattle.std.proofs.lemmas.List.{take-append-le, take-append-drop, length-take
 use Rattle.pg_messages.specs.declared.frontend.PgWireFrontendMessage.{PgWireFrontendMessage}
 use Rattle.pg_messages.specs.declared.frontend.PgWireFrontendMessage.TheVariants as client
 use Rattle.pg_messages.specs.declared.simplequery.Query.{Query}
-use Rattle.pg_messages.specs.Frames.{IsFrame, IsUnfinished, IsGoodHeader, header_len, told_len, type_bytes}
+use Rattle.pg_messages.specs.Frames.{IsFrame, IsGoodHeader, header_len, told_len, type_bytes}
 use Rattle.pg_messages.proofs.OneReading.{front, one_frame}
 use Rattle.pg_results.specs.declared.client.PgWireConnectionState.{PgWireConnectionState}
 use Rattle.pg_results.specs.declared.client.PgWireConnectionState.TheVariants as phase
@@ -152,16 +152,6 @@ begun_more state rest bytes owed left x e =
       plain = λ more m f ready. x.plain (bytes ++ more) m
           (subst (λ l. IsFrame (is_startup_phase state) l m) (append_assoc rest bytes more) f) ready;
     }
-
--- ---- a Query frame that isn't whole
-
-query_is_type : Contains type_bytes 81
-query_is_type = (0, omega arith, refl)
-
-pub query_begun : (bytes : List ℕ) → 5 ≤ length bytes → slice_index bytes 0 ≡ 81 → 5 ≤ told_len false bytes
-    → told_len false bytes ≤ 1048577 → length bytes < told_len false bytes → IsUnfinished false bytes
-query_begun bytes header query low high far =
-    inr (header, (subst (λ n. Contains type_bytes n) (sym query) query_is_type, low, high), far)
 
 -- ---- what is to come of a frame by its header
 

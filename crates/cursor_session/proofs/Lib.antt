@@ -3,7 +3,7 @@ pub mod Alike
 pub mod Passing
 pub mod Taking
 pub mod Rows
-pub mod Asking
+pub mod InTurn
 pub mod Exchanging
 pub mod Heads
 pub mod Steps

@@ -18,7 +18,11 @@ use Rattle.conversation_runs.proofs.Spending as spending
 use Rattle.std.specs.Result.{IsErrAnd}
 use Rattle.std.proofs.lemmas.List.{take-append-drop}
 use Rattle.conversation_runs.proofs.Stepping.{cut_none, serves_none, serves_to, serves_more}
-use Rattle.cursor_session.specs.Fronts.{Around, Takes}
+use Rattle.conversation_table.specs.Handlers.{Handlers}
+use Rattle.cursor_table.specs.CursorTable.{cursor_rules}
+use Rattle.cursor_table.proofs.CursorLaws.{rules_lawful}
+use Rattle.cursor_session.specs.Fronts.{Around, Takes, FrontValue, rest_of}
+use Rattle.cursor_session.specs.Seen.{FrontTakes}
 
 module _ {T : Type 0} (rules : Rules T) where
   -- the calls have grown
@@ -190,16 +194,11 @@ no_memory_taken (Ok told) is = absurd is
 no_memory_taken {rules = rules} {s = s} {text = text} {t = t} {rest = rest} {a = a} (Err e) is =
     subst (λ k. Takes rules s text t rest a a (Err k)) (sym is) (no_memory rules s text t rest a)
 
-pub no_memory_told : {T : Type 0} {rules : Rules T} {s : T} {text : List ℕ} {t : T} {rest : List ℕ} {a : Around}
-    (r : Result Progress ServeError) (e : ServeError) → IsErrAnd r (λ k. k ≡ e) → e ≡ serve.NoMemory → Takes rules s text t rest a a r
-no_memory_told (Ok told) e is wanting = absurd is
-no_memory_told (Err k) e is wanting = no_memory_taken (Err k) (is ∙ wanting)
-
 -- ---- a piece, part by part
 
 module _ {T : Type 0} (rules : Rules T) (lawful : IsLawful rules.table rules.awaits) where
   -- one more part was taken
-  pub takes_next : (s t u : T) (start taken part mid rest : List ℕ) (a b c : Around) (result : Result Progress ServeError)
+  takes_next : (s t u : T) (start taken part mid rest : List ℕ) (a b c : Around) (result : Result Progress ServeError)
       → Takes rules s (start ++ taken) t mid a b (Ok progress.More) → Takes rules t (mid ++ part) u rest b c result
       → Takes rules s (start ++ (taken ++ part)) u rest a c result
   takes_next s t u start taken part mid rest a b c result x y =
@@ -207,7 +206,7 @@ module _ {T : Type 0} (rules : Rules T) (lawful : IsLawful rules.table rules.awa
       (takes_then rules lawful s t u (start ++ taken) mid part rest a b c result x y)
 
   -- the part that was taken last
-  pub takes_last : (s t u : T) (start taken part behind piece mid rest : List ℕ) (a b c : Around) (result : Result Progress ServeError)
+  takes_last : (s t u : T) (start taken part behind piece mid rest : List ℕ) (a b c : Around) (result : Result Progress ServeError)
       → piece ≡ taken ++ (part ++ behind) → result ≢ Ok progress.More
       → Takes rules s (start ++ taken) t mid a b (Ok progress.More) → Takes rules t (mid ++ part) u rest b c result
       → Takes rules s (start ++ piece) u rest a c result
@@ -216,6 +215,34 @@ module _ {T : Type 0} (rules : Rules T) (lawful : IsLawful rules.table rules.awa
       (append_assoc start (taken ++ part) behind ∙ ap (λ l. start ++ l) (append_assoc taken part behind ∙ sym split))
       (takes_all rules lawful s (start ++ (taken ++ part)) u rest behind rest a c result ended
       (takes_next s t u start taken part mid rest a b c result x y))
+
+-- ---- a front, part by part
+
+module _ {H S : Type 0} (told : H → Handlers S) (v w u : FrontValue H S) (taken part : List ℕ) (a b c : Around)
+    (result : Result Progress ServeError) (x : FrontTakes told v (rest_of v ++ taken) w a b (Ok progress.More))
+    (y : FrontTakes told w (rest_of w ++ part) u b c result) where
+  -- what the part took, by the handlers from before
+  by_same : Takes (cursor_rules (told v.inner.handlers)) w.inner.state (rest_of w ++ part) u.inner.state (rest_of u) b c result
+  by_same = subst (λ h. Takes (cursor_rules (told h)) w.inner.state (rest_of w ++ part) u.inner.state (rest_of u) b c result) x.handlers y.took
+
+  -- one more part was taken
+  pub front_next : FrontTakes told v (rest_of v ++ (taken ++ part)) u a c result
+  front_next = record {
+    took = takes_next (cursor_rules (told v.inner.handlers)) (rules_lawful (told v.inner.handlers)) v.inner.state w.inner.state u.inner.state
+        (rest_of v) taken part (rest_of w) (rest_of u) a b c result x.took by_same;
+    stands = y.stands;
+    handlers = y.handlers ∙ x.handlers;
+  }
+
+  -- the part that was taken last
+  pub front_last : (behind piece : List ℕ) → piece ≡ taken ++ (part ++ behind) → result ≢ Ok progress.More
+      → FrontTakes told v (rest_of v ++ piece) u a c result
+  front_last behind piece split ended = record {
+    took = takes_last (cursor_rules (told v.inner.handlers)) (rules_lawful (told v.inner.handlers)) v.inner.state w.inner.state u.inner.state
+        (rest_of v) taken part behind piece (rest_of w) (rest_of u) a b c result split ended x.took by_same;
+    stands = λ more. absurd (ended more);
+    handlers = y.handlers ∙ x.handlers;
+  }
 
 -- two parts of a list are the list
 pub split_again : (all front behind : List ℕ) (n : ℕ) → front ≡ take n all → behind ≡ drop n all → all ≡ front ++ behind

@@ -1,10 +1,10 @@
 -- The front of a session: what it holds before the session, and what a step of it does.
-use Rattle.std.specs.Prelude.{ℕ, Bool, true, List, [], ◌++◌, ◌+◌, ◌≡◌, ◌≢◌, ◌≤◌, ◌<◌, ◌⊎◌, Option, None, Result, Ok, length}
+use Rattle.std.specs.Prelude.{ℕ, Bool, true, List, [], ◌++◌, ◌+◌, ◌≡◌, ◌≢◌, ◌≤◌, ◌<◌, ◌⊎◌, Option, Some, None, Result, Ok, length}
 use Rattle.pg_messages.specs.declared.frontend.PgWireFrontendMessage.{PgWireFrontendMessage}
-use Rattle.std.specs.List.{AllByRecursion}
 use Rattle.pg_messages.specs.Replies.{replies_bytes}
 use Rattle.pg_messages.specs.Frames.{IsFrame, IsUnfinished, IsGoodHeader, header_len, told_len}
 use Rattle.pg_results.specs.declared.client.PgWireConnectionState.{PgWireConnectionState}
+use Rattle.pg_client.specs.declared.ends.EndKind.{EndKind}
 use Rattle.pg_client.specs.declared.ends.Turns.{Turns}
 use Rattle.pg_client.specs.Desk.{DeskTold, GoesOn}
 use Rattle.conversation_table.specs.Handlers.{Handlers}
@@ -21,7 +21,6 @@ use Rattle.conversation_runs.specs.Streams.{GrowsBy, GrowsByFront, HasSinkCause}
 use Rattle.pg_engine.specs.Conversing.{Talk}
 use Rattle.cursor_commands.specs.declared.command.CursorCommand.{CursorCommand}
 use Rattle.cursor_commands.specs.Cursors.{Replies, replies_of}
-use Rattle.cursor_commands.specs.Rewriting.{FitsLen}
 use Rattle.cursor_table.specs.CursorTable.{asked_command, cursor_rules, is_ready_phase}
 
 -- the session behind, the bytes that are held in front of it, and how many bytes of the frame that it has begun are to come
@@ -119,9 +118,14 @@ pub record Takes {T : Type 0} (rules : Rules T) (s : T) (text : List ℕ) (new_s
 
 -- What was written has grown by the replies to a command, where these bytes are those to its messages; or by a front of them.
 abbrev pub SendsReplies : CursorCommand → List ℕ → Option (List ℕ) → Option (List ℕ) → Type 0
-SendsReplies command bytes written new_written = (replies : Replies) → AllByRecursion FitsLen replies → bytes ≡ replies_bytes replies
+SendsReplies command bytes written new_written = (replies : Replies) → bytes ≡ replies_bytes replies
     → GrowsBy written new_written (replies_bytes (replies_of command replies))
 
 abbrev pub SendsFront : CursorCommand → List ℕ → Option (List ℕ) → Option (List ℕ) → Type 0
-SendsFront command bytes written new_written = (replies : Replies) → AllByRecursion FitsLen replies → bytes ≡ replies_bytes replies
+SendsFront command bytes written new_written = (replies : Replies) → bytes ≡ replies_bytes replies
     → GrowsByFront written new_written (replies_bytes (replies_of command replies))
+
+-- what a front tells of the end that the messages of a command came to
+abbrev pub told_by : Option EndKind → Progress
+told_by None = progress.More
+told_by (Some kind) = progress.Ended kind

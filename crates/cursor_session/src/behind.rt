@@ -1,22 +1,26 @@
 //! The session behind a front.
 
-ghost use Rattle.std.specs.Prelude.{◌≡◌, ◌≤◌, ◌++◌, [], true, OnOk};
+ghost use Rattle.std.specs.Prelude.{◌≡◌, ◌≤◌, ◌++◌, [], true, take, OnOk, OnErr};
 ghost use Rattle.pg_client.specs.Desk.{GoesOn};
 ghost use Rattle.conversation_table.specs.Handlers.{Handlers};
 ghost use Rattle.conversation_table.specs.Questions.{questions_since};
-ghost use Rattle.conversation_runs.specs.Session.{SessionValue, whole_rules, HasFed, is_more};
-ghost use Rattle.conversation_runs.specs.Steps.{WasFed};
-ghost use Rattle.conversation_runs.specs.Streams.{HasSinkCause};
+ghost use Rattle.conversation_runs.specs.Messages.{IsGivenIn};
+ghost use Rattle.conversation_runs.specs.Session.{SessionValue, ChangesUnsent, whole_rules, HasFed, is_more};
+ghost use Rattle.conversation_runs.specs.Steps.{IsResponse, WasFed};
+ghost use Rattle.conversation_runs.specs.Streams.{GrowsBy, GrowsByFront, HasFlushed, HasSinkCause};
 
+use pg_messages::PgWireFrontendMessage;
+use pg_outbox::Outbox;
 use pg_portal::{PgWireConnectionState, PortalStore};
 use pg_session::{
-    CancelDesk, ExtendedQueryHandler, PgWireServerHandlers, Progress, ServeError, Session, Sink,
-    Turns,
+    CancelDesk, EndKind, ExtendedQueryHandler, PgWireServerHandlers, Progress, ServeError, Session,
+    Sink, Turns,
 };
-use std::alloc::Global;
+use std::alloc::{AllocError, Global};
 
-/// A session as its front knows it: by its phase, and by what becomes of bytes. A front knows
-/// nothing else of it, nor of its handlers and its store, so that the front's proofs stay short.
+/// A session as its front knows it: by its phase, by what becomes of bytes and of messages, and by
+/// the replies that wait. A front knows nothing else of it, nor of its handlers and its store, so
+/// that the front's proofs stay short.
 pub(crate) trait FrontedSession: Drop {
     // what statements mean
     ghost Statement: { Type 0 };
@@ -56,6 +60,40 @@ pub(crate) trait FrontedSession: Drop {
         ensures bounded { turns.old.spent ≤ turns.old.limit → turns.new.spent ≤ turns.new.limit }
         ensures registration { GoesOn (D.told desk.old) (D.told desk.new) }
         ensures sink { K.origin sink.new ≡ K.origin sink.old };
+
+    /// Answers a message, as [`Session::answer`] does.
+    fn answer<D: CancelDesk>(
+        &mut self,
+        alloc: Global,
+        desk: &mut D,
+        turns: &mut Turns,
+        message: PgWireFrontendMessage,
+    ) -> Result<Option<EndKind>, ServeError>
+        requires open { (seen self.old).is_open ≡ true }
+        requires given { IsGivenIn (seen self.old).state message }
+        ensures { IsResponse told message (seen self.old) (seen self.new) (D.told desk.old)
+            (D.told desk.new) turns.old turns.new result };
+
+    /// The replies that wait.
+    fn unsent(&self) -> &Outbox
+        ensures { result.now ≡ (seen self.now).unsent };
+
+    /// Keeps so many bytes of the replies that wait, and puts these behind them.
+    fn replace_unsent(&mut self, len: usize, bytes: &[u8]) -> Result<(), AllocError>
+        ensures ok { OnOk result
+            ((seen self.new).unsent ≡ take len (seen self.old).unsent ++ bytes.now) }
+        ensures same { ChangesUnsent (seen self.old) (seen self.new) };
+
+    /// Sends the replies that wait.
+    fn flush<K: Sink>(&mut self, sink: &mut K) -> Result<(), ServeError>
+        ensures empty { OnOk result ((seen self.new).unsent ≡ []) }
+        ensures ok { OnOk result
+            (GrowsBy (K.written sink.old) (K.written sink.new) (seen self.old).unsent) }
+        ensures err { OnErr result
+            (GrowsByFront (K.written sink.old) (K.written sink.new) (seen self.old).unsent) }
+        ensures cause { HasFlushed (K.faults sink.old) (K.faults sink.new) result }
+        ensures same { ChangesUnsent (seen self.old) (seen self.new) }
+        ensures sink { K.origin sink.new ≡ K.origin sink.old };
 }
 
 impl<
@@ -86,5 +124,27 @@ impl<
         turns: &mut Turns,
     ) -> Result<Progress, ServeError> {
         Session::feed(self, alloc, desk, piece, sink, turns)
+    }
+
+    fn answer<D: CancelDesk>(
+        &mut self,
+        alloc: Global,
+        desk: &mut D,
+        turns: &mut Turns,
+        message: PgWireFrontendMessage,
+    ) -> Result<Option<EndKind>, ServeError> {
+        Session::answer(self, alloc, desk, turns, message)
+    }
+
+    fn unsent(&self) -> &Outbox {
+        Session::unsent(self)
+    }
+
+    fn replace_unsent(&mut self, len: usize, bytes: &[u8]) -> Result<(), AllocError> {
+        Session::replace_unsent(self, len, bytes)
+    }
+
+    fn flush<K: Sink>(&mut self, sink: &mut K) -> Result<(), ServeError> {
+        Session::flush(self, sink)
     }
 }

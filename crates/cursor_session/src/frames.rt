@@ -8,9 +8,9 @@ ghost use Rattle.cursor_table.specs.CursorTable.{asked_command, is_ready_phase};
 ghost use Rattle.cursor_session.specs.Fronts.{BeginsNoCommand, FitsFrame};
 
 use cursor_commands::{CursorCommand, read_cursor};
+use pg_messages::{header_len, query_text, told_len, typed_len};
 use pg_portal::PgWireConnectionState;
 use pg_session::ServeError;
-use query_frames::query_text;
 use std::alloc::Global;
 
 /// Whether the startup packet is still awaited.
@@ -25,25 +25,6 @@ pub(crate) fn is_ready(state: PgWireConnectionState) -> bool
     ensures { result ≡ is_ready_phase state }
 {
     matches!(state, PgWireConnectionState::ReadyForQuery)
-}
-
-/// How many bytes the header of a frame has.
-pub(crate) fn header_len(awaiting: bool) -> usize
-    ensures { result ≡ header_len awaiting }
-{
-    if awaiting { 4 } else { 5 }
-}
-
-/// How many bytes the frame in front has by its header.
-pub(crate) fn told_len(awaiting: bool, bytes: &[u8]) -> usize
-    requires { header_len awaiting ≤ length bytes.now }
-    ensures { result ≡ told_len awaiting bytes.now }
-{
-    if awaiting {
-        u32::from_be_bytes([bytes[0], bytes[1], bytes[2], bytes[3]]) as usize
-    } else {
-        u32::from_be_bytes([bytes[1], bytes[2], bytes[3], bytes[4]]) as usize + 1
-    }
 }
 
 /// How many of the bytes belong to the frame that they begin with; of a header that isn't whole all
@@ -106,8 +87,7 @@ fn is_query_begun(bytes: &[u8]) -> bool
     ensures query { result ≡ false → slice_index bytes.now 0 ≡ 81 → IsGoodHeader false bytes.now
         → told_len false bytes.now ≤ length bytes.now }
 {
-    let len = told_len(false, bytes);
-    bytes[0] == b'Q' && 5 <= len && len <= 1_048_577 && bytes.len() < len
+    bytes[0] == b'Q' && matches!(typed_len(bytes), Ok(None))
 }
 
 /// The command that these bytes are, which begin no more than one frame and aren't short. None

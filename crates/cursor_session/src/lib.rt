@@ -2,10 +2,10 @@
 //! answered as the messages are that it asks of the session.
 #![tactic(auto)]
 
+mod asking;
 mod behind;
 mod frames;
 mod front;
-mod kept;
 mod parts;
 
 pub use front::CursorSession;

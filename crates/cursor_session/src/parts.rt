@@ -1,24 +1,22 @@
 //! What the front makes of the client's bytes, frame by frame.
 
-ghost use Rattle.std.specs.Prelude.{◌≡◌, ◌≢◌, ◌≤◌, ◌<◌, ◌++◌, ◌+◌, ◌^◌, List, ℕ, [], true, false, length, take, slice_index, Some, IfOk, IfErr, OnOk, OnErr, Ok, Err};
+ghost use Rattle.std.specs.Prelude.{◌≡◌, ◌≤◌, ◌<◌, ◌++◌, List, ℕ, [], true, false, length, take, slice_index, Some};
 ghost use Rattle.std.specs.List.{AllByRecursion};
-ghost use Rattle.pg_messages.specs.Frames.{IsFrame, IsGoodHeader, DividesInto, header_len, told_len};
+ghost use Rattle.pg_messages.specs.Frames.{IsFrame, IsGoodHeader, header_len, told_len};
 ghost use Rattle.pg_messages.specs.declared.frontend.PgWireFrontendMessage.{PgWireFrontendMessage};
 ghost use Rattle.conversation_table.specs.Table.{is_startup_phase};
-ghost use Rattle.conversation_runs.specs.declared.ends.Progress.TheVariants.{More};
-ghost use Rattle.conversation_runs.specs.Streams.{HasFlushed};
 ghost use Rattle.cursor_commands.specs.Asking.{CanBeSent};
 ghost use Rattle.cursor_commands.specs.Cursors.{messages_of};
 ghost use Rattle.cursor_table.specs.CursorTable.{asked_command, is_ready_phase};
-ghost use Rattle.cursor_session.specs.Fronts.{SendsReplies, SendsFront, around, rest_of, IsStanding, IsQuiet, IsPart, IsBegun, FitsFrame};
+ghost use Rattle.cursor_session.specs.Fronts.{around, rest_of, told_by, IsStanding, IsQuiet, IsPart, IsBegun, FitsFrame};
 ghost use Rattle.cursor_session.specs.Seen.{FrontTakes, front_seen};
 
+use crate::asking::{ask, send_replies};
 use crate::behind::FrontedSession;
 use crate::frames::{awaits_startup, behind_len, command_asked, front_len, is_short, owed_by};
-use crate::kept::Kept;
 use bytes::BytesMut;
-use cursor_commands::{CursorCommand, command_frames, put_replies};
-use pg_session::{CancelDesk, Progress, ServeError, Sink, Turns};
+use cursor_commands::{CursorCommand, command_messages};
+use pg_session::{CancelDesk, EndKind, Progress, ServeError, Sink, Turns};
 use std::alloc::Global;
 use std::mem;
 
@@ -53,12 +51,10 @@ impl<C: FrontedSession> Front<C> {
         turns: &mut Turns,
     ) -> Result<Progress, ServeError>
         requires { IsStanding (front_seen C.seen self.old) }
-        ensures took { FrontTakes C.told (front_seen C.seen self.old)
+        ensures { FrontTakes C.told (front_seen C.seen self.old)
             (rest_of (front_seen C.seen self.old) ++ piece.now) (front_seen C.seen self.new)
             (around K.written K.faults K.origin D.told sink.old desk.old turns.old)
             (around K.written K.faults K.origin D.told sink.new desk.new turns.new) result }
-        ensures stands { result ≡ Ok More → IsStanding (front_seen C.seen self.new) }
-        ensures handlers { (C.seen self.new.inner).handlers ≡ (C.seen self.old.inner).handlers }
     {
         let mut rest = piece;
         'parts: while !rest.is_empty() {
@@ -101,12 +97,10 @@ impl<C: FrontedSession> Front<C> {
     ) -> Result<Progress, ServeError>
         requires stands { IsStanding (front_seen C.seen self.old) }
         requires part { IsPart (front_seen C.seen self.old) part.now }
-        ensures took { FrontTakes C.told (front_seen C.seen self.old)
+        ensures { FrontTakes C.told (front_seen C.seen self.old)
             (rest_of (front_seen C.seen self.old) ++ part.now) (front_seen C.seen self.new)
             (around K.written K.faults K.origin D.told sink.old desk.old turns.old)
             (around K.written K.faults K.origin D.told sink.new desk.new turns.new) result }
-        ensures stands { result ≡ Ok More → IsStanding (front_seen C.seen self.new) }
-        ensures handlers { (C.seen self.new.inner).handlers ≡ (C.seen self.old.inner).handlers }
     {
         if self.owed > 0 {
             let owed = self.owed - part.len();
@@ -132,12 +126,10 @@ impl<C: FrontedSession> Front<C> {
         requires owed { self.old.owed ≡ 0 }
         requires fits { FitsFrame (is_startup_phase (C.seen self.old.inner).state.info.state)
             (self.old.held.items ++ part.now) }
-        ensures took { FrontTakes C.told (front_seen C.seen self.old)
+        ensures { FrontTakes C.told (front_seen C.seen self.old)
             (self.old.held.items ++ part.now) (front_seen C.seen self.new)
             (around K.written K.faults K.origin D.told sink.old desk.old turns.old)
             (around K.written K.faults K.origin D.told sink.new desk.new turns.new) result }
-        ensures stands { result ≡ Ok More → IsStanding (front_seen C.seen self.new) }
-        ensures handlers { (C.seen self.new.inner).handlers ≡ (C.seen self.old.inner).handlers }
     {
         self.held.extend_from_slice(part)?;
         if is_short(self.inner.state(), self.held.as_slice()) {
@@ -167,12 +159,10 @@ impl<C: FrontedSession> Front<C> {
         requires query { is_ready_phase (C.seen self.old.inner).state.info.state ≡ true
             → slice_index bytes.now 0 ≡ 81 → IsGoodHeader false bytes.now
             → told_len false bytes.now ≤ length bytes.now }
-        ensures took { FrontTakes C.told (front_seen C.seen self.old) bytes.now
+        ensures { FrontTakes C.told (front_seen C.seen self.old) bytes.now
             (front_seen C.seen self.new)
             (around K.written K.faults K.origin D.told sink.old desk.old turns.old)
             (around K.written K.faults K.origin D.told sink.new desk.new turns.new) result }
-        ensures stands { result ≡ Ok More → IsStanding (front_seen C.seen self.new) }
-        ensures handlers { (C.seen self.new.inner).handlers ≡ (C.seen self.old.inner).handlers }
     {
         let state = self.inner.state();
         match command_asked(alloc, state, bytes)? {
@@ -198,18 +188,17 @@ impl<C: FrontedSession> Front<C> {
         requires held { self.old.held.items ≡ [] }
         requires begun { IsBegun (C.seen self.old.inner).state.info.state
             ((C.seen self.old.inner).rest ++ bytes.now) owed }
-        ensures took { FrontTakes C.told (front_seen C.seen self.old)
+        ensures { FrontTakes C.told (front_seen C.seen self.old)
             ((C.seen self.old.inner).rest ++ bytes.now) (front_seen C.seen self.new)
             (around K.written K.faults K.origin D.told sink.old desk.old turns.old)
             (around K.written K.faults K.origin D.told sink.new desk.new turns.new) result }
-        ensures stands { result ≡ Ok More → IsStanding (front_seen C.seen self.new) }
-        ensures handlers { (C.seen self.new.inner).handlers ≡ (C.seen self.old.inner).handlers }
     {
         self.owed = owed;
         self.inner.feed(alloc, desk, bytes, sink, turns)
     }
 
-    /// Answers a command.
+    /// Answers a command: its messages are handed to the session, whose replies to them are changed
+    /// and sent.
     fn answer<D: CancelDesk, K: Sink>(
         &mut self,
         alloc: Global,
@@ -224,46 +213,16 @@ impl<C: FrontedSession> Front<C> {
         requires held { self.old.held.items ≡ [] }
         requires ready { is_ready_phase (C.seen self.old.inner).state.info.state ≡ true }
         requires sent { AllByRecursion CanBeSent (messages_of command.now) }
-        ensures took { (frame : List ℕ) (m : PgWireFrontendMessage) → IsFrame false frame m
+        ensures { (frame : List ℕ) (m : PgWireFrontendMessage) → IsFrame false frame m
             → asked_command m ≡ Some command.now
             → FrontTakes C.told (front_seen C.seen self.old) frame (front_seen C.seen self.new)
             (around K.written K.faults K.origin D.told sink.old desk.old turns.old)
             (around K.written K.faults K.origin D.told sink.new desk.new turns.new) result }
-        ensures stands { result ≡ Ok More → IsStanding (front_seen C.seen self.new) }
-        ensures handlers { (C.seen self.new.inner).handlers ≡ (C.seen self.old.inner).handlers }
     {
-        let frames = command_frames(alloc, command)?;
-        self.exchange(alloc, desk, command, frames.as_slice(), sink, turns)
-    }
-
-    /// Feeds the session with the frames of a command, and sends what becomes of the replies.
-    fn exchange<D: CancelDesk, K: Sink>(
-        &mut self,
-        alloc: Global,
-        desk: &mut D,
-        command: &CursorCommand,
-        frames: &[u8],
-        sink: &mut K,
-        turns: &mut Turns,
-    ) -> Result<Progress, ServeError>
-        requires quiet { IsQuiet (C.seen self.old.inner) }
-        requires none { (C.seen self.old.inner).rest ≡ [] }
-        requires owed { self.old.owed ≡ 0 }
-        requires held { self.old.held.items ≡ [] }
-        requires ready { is_ready_phase (C.seen self.old.inner).state.info.state ≡ true }
-        requires asks { DividesInto false frames.now (messages_of command.now) [] }
-        ensures took { (frame : List ℕ) (m : PgWireFrontendMessage) → IsFrame false frame m
-            → asked_command m ≡ Some command.now
-            → FrontTakes C.told (front_seen C.seen self.old) frame (front_seen C.seen self.new)
-            (around K.written K.faults K.origin D.told sink.old desk.old turns.old)
-            (around K.written K.faults K.origin D.told sink.new desk.new turns.new) result }
-        ensures stands { result ≡ Ok More → IsStanding (front_seen C.seen self.new) }
-        ensures handlers { (C.seen self.new.inner).handlers ≡ (C.seen self.old.inner).handlers }
-    {
-        let mut kept = Kept::new(alloc);
-        match self.inner.feed(alloc, desk, frames, &mut kept, turns) {
-            Ok(progress) => match send_replies(alloc, command, kept.bytes(), sink) {
-                Ok(()) => Ok(progress),
+        let messages = command_messages(alloc, command)?;
+        match ask(alloc, desk, turns, &mut self.inner, messages) {
+            Ok(end) => match send_replies(alloc, command, &mut self.inner, sink) {
+                Ok(()) => Ok(told_by(end)),
                 Err(error) => Err(error),
             },
             Err(error) => Err(error),
@@ -271,22 +230,12 @@ impl<C: FrontedSession> Front<C> {
     }
 }
 
-/// Sends what becomes of the replies to a command's messages.
-fn send_replies<K: Sink>(
-    alloc: Global,
-    command: &CursorCommand,
-    replies: &[u8],
-    sink: &mut K,
-) -> Result<(), ServeError>
-    ensures ok { OnOk result (SendsReplies command.now replies.now (K.written sink.old)
-        (K.written sink.new)) }
-    ensures err { OnErr result (SendsFront command.now replies.now (K.written sink.old)
-        (K.written sink.new)) }
-    ensures cause { HasFlushed (K.faults sink.old) (K.faults sink.new) result }
-    ensures sink { K.origin sink.new ≡ K.origin sink.old }
+/// What a front tells of the end that the messages of a command came to.
+fn told_by(end: Option<EndKind>) -> Progress
+    ensures { result ≡ told_by end }
 {
-    let mut out = BytesMut::new(alloc);
-    put_replies(alloc, command, replies, &mut out)?;
-    sink.send(out.as_slice())?;
-    Ok(())
+    match end {
+        None => Progress::More,
+        Some(kind) => Progress::Ended(kind),
+    }
 }

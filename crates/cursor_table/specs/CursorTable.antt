@@ -1,20 +1,18 @@
 -- Cursor table: a conversation table in which a Query that is a cursor command is answered as a few extended messages are, with their
 -- replies changed (protocol: Message Flow, Extended Query). Every other message is answered as before.
-use Rattle.std.specs.Prelude.{ℕ, Bool, true, false, List, [], ◌≡◌, Option, Some, None, if◌then◌else◌}
+use Rattle.std.specs.Prelude.{Bool, true, false, List, Option, Some, None, if◌then◌else◌}
 use Rattle.pg_messages.specs.declared.frontend.PgWireFrontendMessage.{PgWireFrontendMessage}
 use Rattle.pg_messages.specs.declared.frontend.PgWireFrontendMessage.TheVariants as client
-use Rattle.pg_messages.specs.Replies.{replies_bytes}
 use Rattle.pg_results.specs.declared.client.PgWireConnectionState.{PgWireConnectionState}
 use Rattle.pg_results.specs.declared.client.PgWireConnectionState.TheVariants as phase
-use Rattle.pg_client.specs.declared.desk.DeskCall.{DeskCall}
-use Rattle.pg_client.specs.Answer.{Answer, Table, Next, answers_of, conversation}
+use Rattle.pg_client.specs.Answer.{Answer, Table, conversation}
 use Rattle.conversation_table.specs.Handlers.{Handlers}
 use Rattle.pg_client.specs.State.{State}
 use Rattle.conversation_table.specs.Table.{whole_table, awaits}
 use Rattle.conversation_runs.specs.Run.{Rules}
 use Rattle.cursor_commands.specs.declared.command.CursorCommand.{CursorCommand}
 use Rattle.cursor_commands.specs.Commands.{command_of}
-use Rattle.cursor_commands.specs.Cursors.{Replies, messages_of, replies_of}
+use Rattle.cursor_commands.specs.Cursors.{messages_of, replies_of}
 
 -- The answer to a command: that to its messages in turn, with its replies changed. State and registry calls are theirs.
 abbrev pub command_row : {T : Type 0} → Table T → List Bool → T → CursorCommand → Answer T
@@ -46,12 +44,3 @@ is_ready s = is_ready_phase s.info.state
 -- the conversation with cursors by what handlers tell
 abbrev pub cursor_rules : {S : Type 0} → Handlers S → Rules (State S)
 cursor_rules h = record { table = cursor_table is_ready (whole_table h); awaits = awaits }
-
--- What the frames of a command were answered: none of their bytes is left, these are the bytes of the replies to its messages, and with
--- those changed the answer is the row of the command, under the very answers that the calls tell.
-pub record IsCommanded {T : Type 0} (table : Table T) (s : T) (command : CursorCommand) (rest bytes : List ℕ) (calls : List DeskCall)
-    (next : Next T) : Type 0 where
-  pub replies : Replies
-  pub whole : rest ≡ []
-  pub replied : bytes ≡ replies_bytes replies
-  pub row : command_row table (answers_of calls) s command ≡ record { replies = replies_of command replies; calls = calls; next = next }

@@ -11,7 +11,7 @@ loop-rest-preserved c =
       grind (arith, c.loop-rest.invariant.1, c.reply_len.ensures.some, c.split_at.ensures.back_len, c.with_reply-survey.ensures.rows),
     )
 
-pub returns : goal.returns
-returns c =
+pub returns-clause-survey : goal.returns-clause-survey
+returns-clause-survey c =
     all_seen c.args.replies.now c.loop-rest.rest.now c.loop-rest.survey.failed c.loop-rest.survey.rows c.loop-rest.invariant.0
     (none_left c.loop-rest.rest.now c.is_empty.result c.is_empty.ensures c.loop-rest-test.false)

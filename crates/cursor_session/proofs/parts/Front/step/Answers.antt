@@ -1,8 +1,8 @@
-use Rattle.std.proofs.Common.{◌≡◌, ℕ, ◌<◌, ◌≤◌, List, ◌++◌, [], ◌⊎◌, ◌==◌, length, inl, inr, true, refl, append-nil, arith}
+use Rattle.std.proofs.Common.{◌≡◌, ℕ, ◌<◌, ◌≤◌, List, ◌++◌, [], ◌⊎◌, ◌==◌, length, inl, inr, true, refl, sym, ap, subst, ◌∙◌, append-nil, arith}
 use Rattle.std.proofs.lemmas.Bool.Decides.{nat_tests}
 use Rattle.std.proofs.lemmas.List.{nil_from_length}
-use Rattle.cursor_session.specs.Fronts.{FrontValue, IsBegun, IsPlaced}
-use Rattle.cursor_session.specs.Seen.{front_seen}
+use Rattle.cursor_session.specs.Fronts.{FrontValue, IsBegun, IsPlaced, around}
+use Rattle.cursor_session.specs.Seen.{FrontTakes, front_seen}
 use Rattle.cursor_session.proofs.Heads.{begun_more}
 use Rattle.cursor_session.proofs.parts.Front.step.Goals as goal
 
@@ -36,12 +36,12 @@ pass-requires g c =
 pub returns-then-self-gt0 : goal.returns-then-self-gt0
 returns-then-self-gt0 g c =
     let v = front_seen g.C.FrontedSession.seen c.args.self.now in
+    let w = front_seen g.C.FrontedSession.seen c.pass.new.self in
+    let a = around g.K.Sink.written g.K.Sink.faults g.K.Sink.origin g.D.CancelDesk.told c.args.sink.now c.args.desk.now c.args.turns.now in
+    let b = around g.K.Sink.written g.K.Sink.faults g.K.Sink.origin g.D.CancelDesk.told c.pass.new.sink c.pass.new.desk c.pass.new.turns in
     let x = within_frame v c.requires.stands.placed c.if-self-gt0.true in
-    record {
-      took = rw x.0 (rw (append-nil v.inner.rest) c.pass.ensures.took);
-      stands = c.pass.ensures.stands;
-      handlers = c.pass.ensures.handlers;
-    }
+    subst (λ l. FrontTakes g.C.FrontedSession.told v l w a b c.pass.result)
+    (ap (λ l. l ++ c.args.part.now) (sym (ap (λ l. v.inner.rest ++ l) x.0 ∙ append-nil v.inner.rest))) c.pass.ensures
 
 pub begin-requires-clause-quiet : goal.begin-requires-clause-quiet
 begin-requires-clause-quiet g c = c.requires.stands.quiet
@@ -60,16 +60,16 @@ begin-requires-clause-header g c = let x = c.if-not-is_short.ensures.header refl
 pub begin-requires-clause-query : goal.begin-requires-clause-query
 begin-requires-clause-query g c = let x = c.if-not-is_short.ensures.query refl in rw c.state.ensures at x
 
-pub returns-then-not-is_short-clause-stands : goal.returns-then-not-is_short-clause-stands
-returns-then-not-is_short-clause-stands g c = c.begin.ensures.stands
-
-pub returns-then-not-is_short-clause-handlers : goal.returns-then-not-is_short-clause-handlers
-returns-then-not-is_short-clause-handlers g c = c.begin.ensures.handlers
-
-pub returns-then-not-is_short-clause-took : goal.returns-then-not-is_short-clause-took
-returns-then-not-is_short-clause-took g c =
-    let x = between_frames (front_seen g.C.FrontedSession.seen c.args.self.now) c.requires.stands.placed c.if-self-gt0.false in
-    rw x.1 (rw (none_held c.args.self.now.held.items c.if-is_empty.ensures) c.begin.ensures.took)
+pub returns-then-not-is_short : goal.returns-then-not-is_short
+returns-then-not-is_short g c =
+    let v = front_seen g.C.FrontedSession.seen c.args.self.now in
+    let w = front_seen g.C.FrontedSession.seen c.begin.new.self in
+    let a = around g.K.Sink.written g.K.Sink.faults g.K.Sink.origin g.D.CancelDesk.told c.args.sink.now c.args.desk.now c.args.turns.now in
+    let b = around g.K.Sink.written g.K.Sink.faults g.K.Sink.origin g.D.CancelDesk.told c.begin.new.sink c.begin.new.desk c.begin.new.turns in
+    let x = between_frames v c.requires.stands.placed c.if-self-gt0.false in
+    let held = none_held c.args.self.now.held.items c.if-is_empty.ensures in
+    subst (λ l. FrontTakes g.C.FrontedSession.told v l w a b c.begin.result)
+    (ap (λ l. l ++ c.args.part.now) (sym ((λ i. x.1 i ++ held i)))) c.begin.ensures
 
 pub begin-requires-clause-held : goal.begin-requires-clause-held
 begin-requires-clause-held g c = none_held c.args.self.now.held.items c.if-is_empty.ensures
@@ -86,9 +86,10 @@ hold-requires g c =
 
 pub returns : goal.returns
 returns g c =
-    let x = between_frames (front_seen g.C.FrontedSession.seen c.args.self.now) c.requires.stands.placed c.if-self-gt0.false in
-    record {
-      took = rw x.1 c.hold.ensures.took;
-      stands = c.hold.ensures.stands;
-      handlers = c.hold.ensures.handlers;
-    }
+    let v = front_seen g.C.FrontedSession.seen c.args.self.now in
+    let w = front_seen g.C.FrontedSession.seen c.hold.new.self in
+    let a = around g.K.Sink.written g.K.Sink.faults g.K.Sink.origin g.D.CancelDesk.told c.args.sink.now c.args.desk.now c.args.turns.now in
+    let b = around g.K.Sink.written g.K.Sink.faults g.K.Sink.origin g.D.CancelDesk.told c.hold.new.sink c.hold.new.desk c.hold.new.turns in
+    let x = between_frames v c.requires.stands.placed c.if-self-gt0.false in
+    subst (λ l. FrontTakes g.C.FrontedSession.told v l w a b c.hold.result)
+    (ap (λ l. (l ++ v.held) ++ c.args.part.now) (sym x.1)) c.hold.ensures

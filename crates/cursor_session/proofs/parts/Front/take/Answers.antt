@@ -6,10 +6,9 @@ use Rattle.conversation_runs.specs.declared.ends.Progress.{Progress}
 use Rattle.conversation_runs.specs.declared.ends.Progress.TheVariants as progress
 use Rattle.conversation_runs.specs.declared.ends.ServeError.{ServeError}
 use Rattle.cursor_table.specs.CursorTable.{cursor_rules}
-use Rattle.cursor_table.proofs.CursorLaws.{rules_lawful}
 use Rattle.cursor_session.specs.Fronts.{IsPart, Takes, around, rest_of}
-use Rattle.cursor_session.specs.Seen.{front_seen}
-use Rattle.cursor_session.proofs.Taking.{takes_none, takes_next, takes_last, split_again}
+use Rattle.cursor_session.specs.Seen.{FrontTakes, front_seen}
+use Rattle.cursor_session.proofs.Taking.{takes_none, front_next, front_last, split_again}
 use Rattle.cursor_session.proofs.parts.Front.take.Goals as goal
 
 nothing_left : (rest : List ℕ) → true ≡ (length rest == 0) → rest ≡ []
@@ -29,54 +28,49 @@ parts-init g c =
     record {
       taken = [];
       split = refl;
-      took = subst (λ l. Takes rules old.inner.state l old.inner.state (rest_of old) a a (Ok progress.More))
-          (sym (append-nil (rest_of old))) (takes_none rules old.inner.state (rest_of old) a c.requires.short);
-      stands = c.requires;
-      handlers = refl;
+      took = record {
+        took = subst (λ l. Takes rules old.inner.state l old.inner.state (rest_of old) a a (Ok progress.More))
+            (sym (append-nil (rest_of old))) (takes_none rules old.inner.state (rest_of old) a c.requires.short);
+        stands = λ more. c.requires;
+        handlers = refl;
+      };
     }
 
-pub returns-in-Ok-Ended-clause-took : goal.returns-in-Ok-Ended-clause-took
-returns-in-Ok-Ended-clause-took g c =
+pub returns-in-Ok-Ended : goal.returns-in-Ok-Ended
+returns-in-Ok-Ended g c =
     let i = c.parts.invariant in
     let old = front_seen g.C.FrontedSession.seen c.args.self.now in let now = front_seen g.C.FrontedSession.seen c.parts.self in
     let new = front_seen g.C.FrontedSession.seen c.step.new.self in
-    let h = g.C.FrontedSession.told old.inner.handlers in
     let a = around g.K.Sink.written g.K.Sink.faults g.K.Sink.origin g.D.CancelDesk.told c.args.sink.now c.args.desk.now c.args.turns.now in
     let b = around g.K.Sink.written g.K.Sink.faults g.K.Sink.origin g.D.CancelDesk.told c.parts.sink c.parts.desk c.parts.turns in
     let d = around g.K.Sink.written g.K.Sink.faults g.K.Sink.origin g.D.CancelDesk.told c.step.new.sink c.step.new.desk c.step.new.turns in
     let part = c.split_at.result.0.now in let behind = c.split_at.result.1.now in
     let split : c.args.piece.now ≡ i.taken ++ (part ++ behind) = i.split ∙ ap (λ l. i.taken ++ l)
     (split_again c.parts.rest.now part behind c.part_len.result c.split_at.ensures.front c.split_at.ensures.back) in
-    takes_last (cursor_rules h) (rules_lawful h) old.inner.state now.inner.state new.inner.state (rest_of old) i.taken part behind
-    c.args.piece.now (rest_of now) (rest_of new) a b d (Ok (progress.Ended c.in-Ok-Ended.kind)) split (ended_is_not_more c.in-Ok-Ended.kind) i.took
-    (subst (λ v. Takes (cursor_rules (g.C.FrontedSession.told v)) now.inner.state (rest_of now ++ part) new.inner.state
-    (rest_of new) b d (Ok (progress.Ended c.in-Ok-Ended.kind))) i.handlers
-    (subst (λ p. Takes (cursor_rules (g.C.FrontedSession.told now.inner.handlers)) now.inner.state (rest_of now ++ part)
-    new.inner.state (rest_of new) b d (Ok p)) c.in-Ok-Ended.field-0-is c.in-Ok-Ended.ensures.took))
+    front_last g.C.FrontedSession.told old now new i.taken part a b d (Ok (progress.Ended c.in-Ok-Ended.kind)) i.took
+    (subst (λ p. FrontTakes g.C.FrontedSession.told now (rest_of now ++ part) new b d (Ok p)) c.in-Ok-Ended.field-0-is
+    c.in-Ok-Ended.ensures)
+    behind c.args.piece.now split (ended_is_not_more c.in-Ok-Ended.kind)
 
-pub returns-in-Err-clause-took : goal.returns-in-Err-clause-took
-returns-in-Err-clause-took g c =
+pub returns-in-Err : goal.returns-in-Err
+returns-in-Err g c =
     let i = c.parts.invariant in
     let old = front_seen g.C.FrontedSession.seen c.args.self.now in let now = front_seen g.C.FrontedSession.seen c.parts.self in
     let new = front_seen g.C.FrontedSession.seen c.step.new.self in
-    let h = g.C.FrontedSession.told old.inner.handlers in
     let a = around g.K.Sink.written g.K.Sink.faults g.K.Sink.origin g.D.CancelDesk.told c.args.sink.now c.args.desk.now c.args.turns.now in
     let b = around g.K.Sink.written g.K.Sink.faults g.K.Sink.origin g.D.CancelDesk.told c.parts.sink c.parts.desk c.parts.turns in
     let d = around g.K.Sink.written g.K.Sink.faults g.K.Sink.origin g.D.CancelDesk.told c.step.new.sink c.step.new.desk c.step.new.turns in
     let part = c.split_at.result.0.now in let behind = c.split_at.result.1.now in
     let split : c.args.piece.now ≡ i.taken ++ (part ++ behind) = i.split ∙ ap (λ l. i.taken ++ l)
     (split_again c.parts.rest.now part behind c.part_len.result c.split_at.ensures.front c.split_at.ensures.back) in
-    takes_last (cursor_rules h) (rules_lawful h) old.inner.state now.inner.state new.inner.state (rest_of old) i.taken part behind
-    c.args.piece.now (rest_of now) (rest_of new) a b d (Err c.in-Err.error) split (error_is_not_more c.in-Err.error) i.took
-    (subst (λ v. Takes (cursor_rules (g.C.FrontedSession.told v)) now.inner.state (rest_of now ++ part) new.inner.state
-    (rest_of new) b d (Err c.in-Err.error)) i.handlers c.in-Err.ensures.took)
+    front_last g.C.FrontedSession.told old now new i.taken part a b d (Err c.in-Err.error) i.took c.in-Err.ensures
+    behind c.args.piece.now split (error_is_not_more c.in-Err.error)
 
 pub parts-preserved : goal.parts-preserved
 parts-preserved g c =
     let i = c.parts.invariant in
     let old = front_seen g.C.FrontedSession.seen c.args.self.now in let now = front_seen g.C.FrontedSession.seen c.parts.self in
     let new = front_seen g.C.FrontedSession.seen c.step.new.self in
-    let h = g.C.FrontedSession.told old.inner.handlers in
     let a = around g.K.Sink.written g.K.Sink.faults g.K.Sink.origin g.D.CancelDesk.told c.args.sink.now c.args.desk.now c.args.turns.now in
     let b = around g.K.Sink.written g.K.Sink.faults g.K.Sink.origin g.D.CancelDesk.told c.parts.sink c.parts.desk c.parts.turns in
     let d = around g.K.Sink.written g.K.Sink.faults g.K.Sink.origin g.D.CancelDesk.told c.step.new.sink c.step.new.desk c.step.new.turns in
@@ -86,47 +80,30 @@ parts-preserved g c =
       split = i.split ∙ ap (λ l. i.taken ++ l)
           (split_again c.parts.rest.now part behind c.part_len.result c.split_at.ensures.front c.split_at.ensures.back)
           ∙ sym (append_assoc i.taken part behind);
-      took = takes_next (cursor_rules h) (rules_lawful h) old.inner.state now.inner.state new.inner.state (rest_of old) i.taken part
-          (rest_of now) (rest_of new) a b d (Ok progress.More) i.took
-          (subst (λ v. Takes (cursor_rules (g.C.FrontedSession.told v)) now.inner.state (rest_of now ++ part) new.inner.state
-          (rest_of new) b d (Ok progress.More)) i.handlers
-          (subst (λ p. Takes (cursor_rules (g.C.FrontedSession.told now.inner.handlers)) now.inner.state (rest_of now ++ part)
-          new.inner.state (rest_of new) b d (Ok p)) c.in-Ok-More.field-0-is c.in-Ok-More.ensures.took));
-      stands = c.in-Ok-More.ensures.stands (ap Ok c.in-Ok-More.field-0-is);
-      handlers = c.in-Ok-More.ensures.handlers ∙ i.handlers;
+      took = front_next g.C.FrontedSession.told old now new i.taken part a b d (Ok progress.More) i.took
+          (subst (λ p. FrontTakes g.C.FrontedSession.told now (rest_of now ++ part) new b d (Ok p)) c.in-Ok-More.field-0-is
+          c.in-Ok-More.ensures);
     }
-
-pub returns-in-Ok-Ended-clause-stands : goal.returns-in-Ok-Ended-clause-stands
-returns-in-Ok-Ended-clause-stands g c = λ more. absurd (ended_is_not_more c.in-Ok-Ended.kind more)
-
-pub returns-in-Ok-Ended-clause-handlers : goal.returns-in-Ok-Ended-clause-handlers
-returns-in-Ok-Ended-clause-handlers g c = c.in-Ok-Ended.ensures.handlers ∙ c.parts.invariant.handlers
-
-pub returns-in-Err-clause-stands : goal.returns-in-Err-clause-stands
-returns-in-Err-clause-stands g c = λ more. absurd (error_is_not_more c.in-Err.error more)
-
-pub returns-in-Err-clause-handlers : goal.returns-in-Err-clause-handlers
-returns-in-Err-clause-handlers g c = c.in-Err.ensures.handlers ∙ c.parts.invariant.handlers
 
 pub returns : goal.returns
 returns g c =
     let i = c.parts.invariant in
+    let old = front_seen g.C.FrontedSession.seen c.args.self.now in let now = front_seen g.C.FrontedSession.seen c.parts.self in
+    let a = around g.K.Sink.written g.K.Sink.faults g.K.Sink.origin g.D.CancelDesk.told c.args.sink.now c.args.desk.now c.args.turns.now in
+    let b = around g.K.Sink.written g.K.Sink.faults g.K.Sink.origin g.D.CancelDesk.told c.parts.sink c.parts.desk c.parts.turns in
     let none : c.parts.rest.now ≡ [] = nothing_left c.parts.rest.now c.parts-test.ensures in
-    record {
-      took = rw (i.split ∙ ap (λ l. i.taken ++ l) none ∙ append-nil i.taken) i.took;
-      stands = λ more. i.stands;
-      handlers = i.handlers;
-    }
+    subst (λ l. FrontTakes g.C.FrontedSession.told old (rest_of old ++ l) now a b (Ok progress.More))
+    (sym (i.split ∙ ap (λ l. i.taken ++ l) none ∙ append-nil i.taken)) i.took
 
 pub part_len-requires-clause-stands : goal.part_len-requires-clause-stands
-part_len-requires-clause-stands g c = c.parts.invariant.stands
+part_len-requires-clause-stands g c = c.parts.invariant.took.stands refl
 
 pub split_at-requires : goal.split_at-requires
 split_at-requires g c = c.part_len.ensures.within
 
 pub step-requires : goal.step-requires
 step-requires g c = record {
-  stands = c.parts.invariant.stands;
+  stands = c.parts.invariant.took.stands refl;
   part = rw c.split_at.ensures.front c.part_len.ensures.part;
 }
 

@@ -1,6 +1,6 @@
 use Rattle.std.proofs.Common.{◌≡◌, ◌++◌, List, ℕ, Ok, length}
 use Rattle.conversation_runs.specs.declared.ends.Progress.TheVariants.{More}
-use Rattle.cursor_session.specs.Fronts.{IsStanding, around, rest_of}
+use Rattle.cursor_session.specs.Fronts.{around, rest_of}
 use Rattle.cursor_session.specs.Seen.{FrontTakes, front_seen}
 use Rattle.cursor_session.proofs.parts.Front.take.Given as goal
 
@@ -13,8 +13,6 @@ invariant-parts g l = record {
       (rest_of (front_seen g.C.FrontedSession.seen l.fn.self) ++ taken) (front_seen g.C.FrontedSession.seen l.self)
       (around g.K.Sink.written g.K.Sink.faults g.K.Sink.origin g.D.CancelDesk.told l.fn.sink l.fn.desk l.fn.turns)
       (around g.K.Sink.written g.K.Sink.faults g.K.Sink.origin g.D.CancelDesk.told l.sink l.desk l.turns) (Ok More);
-  stands : IsStanding (front_seen g.C.FrontedSession.seen l.self);
-  handlers : (g.C.FrontedSession.seen l.self.inner).handlers ≡ (g.C.FrontedSession.seen l.fn.self.inner).handlers;
 }
 
 abbrev pub decreases-parts : goal.decreases-parts
