@@ -1,9 +1,10 @@
 -- What callers see of a shared registry: who issued a handle, which part of the one history it has seen, and its own calls there.
-use Rattle.std.specs.Prelude.{◌≡◌, ◌↔◌, ◌-◌, ◌==◌, ℕ, ℤ, Bool, true, false, List, [], ◌∷◌, ◌++◌, length, filter, take}
+use Rattle.std.specs.Prelude.{◌≡◌, ◌↔◌, ◌-◌, ◌==◌, ℕ, ℤ, Bool, true, false, List, [], ◌∷◌, ◌++◌, length, filter, take, Result, OnOk, OnErr}
+use mathlib.Core.List.{IsPrefix}
 use Rattle.atomic_table.specs.Seated.{TableId}
 use Rattle.pg_cancel.specs.declared.entries.Entry.{Entry}
 use Rattle.pg_cancel.specs.declared.entries.RegistryCall.{RegistryCall}
-use Rattle.pg_cancel.specs.declared.entries.RegistryCall.TheVariants.{Register, Unregister}
+use Rattle.pg_cancel.specs.declared.entries.RegistryCall.TheVariants.{Register, Narrow, Unregister}
 use Rattle.pg_cancel.specs.declared.entries.RegistryAnswer.{RegistryAnswer}
 use Rattle.pg_cancel.specs.declared.entries.RegistryAnswer.TheVariants.{Registered, Done, Yes, No}
 use Rattle.pg_cancel.specs.LegalHistory.{IsLegal, IsAnswer, key_after}
@@ -86,6 +87,21 @@ IsSameConnection h h' = (h'.issuer ≡ h.issuer) × (h'.number ≡ h.number) × 
 -- what a Narrow leaves: the key's first four bytes
 abbrev pub IsNarrowed : Connection → Connection → Type 0
 IsNarrowed h h' = (h'.issuer ≡ h.issuer) × (h'.number ≡ h.number) × (h'.pid ≡ h.pid) × (h'.key ≡ take 4 h.key)
+
+-- a Narrow was made, or nothing at all
+pub record HasNarrowed {E : Type 0} (h h' : Connection) (result : Result (Unit {0}) E) : Type 0 where
+  pub same : OnOk result (IsNarrowed h h')
+  pub ok : OnOk result (HasMade h Narrow h' Done)
+  pub err : OnErr result (h' ≡ h)
+
+-- The connection has seen all that the note's giver had seen, and all that it had seen. That is legal, and it has made no call.
+pub record HasTakenIn (h : Connection) (note : Witness) (h' : Connection) : Type 0 where
+  pub same : IsSameConnection h h'
+  pub mine : h'.mine ≡ h.mine
+  pub seen : IsPrefix h.seen h'.seen
+  pub told : IsPrefix note.seen h'.seen
+  pub legal : IsLegal h'.seen
+  pub own : calls_of h'.number h'.seen ≡ h'.mine
 
 -- what was seen is legal, and a number's calls there are `mine`
 abbrev pub Knows : ℕ → List Entry → List Entry → Type 0

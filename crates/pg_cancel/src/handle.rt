@@ -1,9 +1,8 @@
 ghost use Rattle.std.specs.Prelude.{◌≡◌, ◌↔◌, ◌⊎◌, ℕ, List, [], ◌∷◌, ◌++◌, IfOk, IfErr, OnOk, OnErr, true, false};
-ghost use mathlib.Core.List.{IsPrefix};
 ghost use Rattle.pg_cancel.specs.LegalHistory.{IsLegal, IsCanceled, IsConnected};
 ghost use Rattle.pg_cancel.specs.declared.entries.RegistryCall.{RegistryCall};
 ghost use Rattle.pg_cancel.specs.declared.entries.RegistryAnswer.{RegistryAnswer};
-ghost use Rattle.pg_cancel.specs.Connections.{HasMade, HasEnded, Made, Begins, IsNamed, IsSameConnection, IsNarrowed, before_last, calls_of, is_register, yes_if};
+ghost use Rattle.pg_cancel.specs.Connections.{HasMade, HasEnded, Made, Begins, IsNamed, IsSameConnection, HasNarrowed, HasTakenIn, before_last, calls_of, is_register, yes_if};
 ghost use Rattle.pg_cancel.specs.RosterTable.{IsHandle, IsLeft, IsToldTo};
 
 use crate::entries::{RegistryAnswer, RegistryCall};
@@ -170,10 +169,7 @@ impl ConnectionManager {
     #[tactic(auto, using(crate::proofs::Events::named_short))]
     pub fn narrow<R: Wait>(&self, rt: &R, handle: &mut ConnectionHandle) -> Result<(), AllocError>
         requires issued { handle.old.issuer ≡ self.now }
-        ensures same { OnOk result (IsNarrowed handle.old handle.new) }
-        ensures ok { OnOk result
-            (HasMade handle.old RegistryCall.Narrow handle.new RegistryAnswer.Done) }
-        ensures err { OnErr result (handle.new ≡ handle.old) }
+        ensures { HasNarrowed handle.old handle.new result }
     {
         let number = handle.number;
         let pid = handle.pid;
@@ -238,12 +234,7 @@ impl ConnectionManager {
     /// giver had. It waits for nobody, takes no memory and makes no event.
     pub fn take_in(&self, handle: &mut ConnectionHandle, note: Note)
         requires issued { (handle.old.issuer ≡ self.now) × (note.issuer ≡ self.now) }
-        ensures same { IsSameConnection handle.old handle.new }
-        ensures mine { handle.new.mine ≡ handle.old.mine }
-        ensures seen { IsPrefix handle.old.seen handle.new.seen }
-        ensures told { IsPrefix note.seen handle.new.seen }
-        ensures legal { IsLegal handle.new.seen }
-        ensures own { calls_of handle.new.number handle.new.seen ≡ handle.new.mine }
+        ensures { HasTakenIn handle.old note handle.new }
     {
         let Note { seat } = note;
         let shared = &self.table.shared;

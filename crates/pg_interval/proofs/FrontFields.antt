@@ -11,7 +11,7 @@ use Rattle.pg_interval.specs.Texts.{◌>>=◌, is_whitespace, is_sign, is_point,
 use Rattle.pg_interval.specs.Decimals.{Decimal, TimeUnit, Year, Month, Day, Hour, Minute, Second, number_of, with_sign, worth, whole_part}
 use Rattle.pg_interval.specs.Pairs.{Pair, pair, total_of, sum_of, plus, nothing, fits_field, fits_above, interval_of_sums, judged}
 use Rattle.pg_interval.specs.Reader.{joined}
-use Rattle.pg_interval.specs.Reading.{reading, of_shape, SqlStandard}
+use Rattle.pg_interval.specs.Reading.{of_shape, SqlStandard}
 use Rattle.pg_interval.specs.SqlText.{field_pair, fraction_pair, is_field, fields, year_month_pairs, day_pairs, second_pairs, clock_pairs, sql_time_pairs, pairs_of_sql_tokens, sql_pairs}
 use Rattle.pg_interval.specs.FieldReader.{int_out_of_range}
 use Rattle.pg_interval.specs.FrontReader.{IsNumberFront, IsAmount, IsAmountFront, IsSeconds, only_months, only_days, only_time}
@@ -22,7 +22,6 @@ use Rattle.interval_errors.specs.declared.IntError.TheVariants.{InvalidDigit}
 use Rattle.pg_interval.proofs.DigitTexts.{digit_no_space, digit_no_colon, digit_no_point, all_digits, filled_digits, split_none, split_at, tokens_append, tokens_whole}
 use Rattle.pg_interval.proofs.PartTexts.{whole_number, unit_worth, worth_whole, whole_worth, zero_sign}
 use Rattle.pg_interval.proofs.ReadSums.{total_more}
-use Rattle.pg_interval.proofs.ReadWhole.{short_text}
 use Rattle.pg_interval.proofs.TimeTexts.{rounded_six}
 use Rattle.pg_interval.proofs.NormalFacts.{same_interval}
 use Rattle.pg_interval.proofs.FrontSigns.{signed_front}
@@ -290,10 +289,10 @@ three_totals range ps qs rs i j k a b c =
 
 pub three_read : (text r1 second r2 third : List ℕ) (m d u : ℤ) → IsAmountFront year_month_pairs (only_months m) text r1
     → r1 ≡ 32 ∷ second → IsAmountFront day_pairs (only_days d) second r2 → r2 ≡ 32 ∷ third
-    → IsAmount (sql_time_pairs (begins is_minus third)) (only_time u) third → length text ≤ 4096
-    → reading SqlStandard text ≡ interval_of_sums (record { months = m; days = d; microseconds = u })
+    → IsAmount (sql_time_pairs (begins is_minus third)) (only_time u) third
+    → of_shape SqlStandard (sql_pairs text) ≡ interval_of_sums (record { months = m; days = d; microseconds = u })
 unfolding sql_pairs
-three_read text r1 second r2 third m d u f space g other t short =
+three_read text r1 second r2 third m d u f space g other t =
     let a = f.token in
     let b = g.token in
     let x = f.amount in
@@ -315,9 +314,7 @@ three_read text r1 second r2 third m d u f space g other t short =
     ∙ ap (λ o. o >>= λ time. Some (x.all ++ y.all ++ time)) t.read in
     let total : total_of int_out_of_range (x.all ++ y.all ++ t.all) ≡ Ok i = three_totals int_out_of_range x.all y.all t.all
     (only_months m) (only_days d) (only_time u) x.total y.total t.total ∙ ap Ok (three_sum m d u) in
-    short_text SqlStandard text short
-    ∙ ap (of_shape SqlStandard) read
-    ∙ ap judged total
+    ap (of_shape SqlStandard) read ∙ ap judged total
 
 -- ---- days and a time, and a time alone
 
@@ -334,15 +331,15 @@ time_colon text bare r1 r2 h e f colon =
     ap (list_any is_colon) split.parts ∙ time_colon_by split.sign f.digits r2
 
 -- what pairs come to is the sum where the text is these pairs
-sum_read : (text : List ℕ) (ps : List Pair) (i : Interval) → length text ≤ 4096 → sql_pairs text ≡ Some ps
-    → total_of int_out_of_range ps ≡ Ok i → reading SqlStandard text ≡ interval_of_sums i
-sum_read text ps i short read total = short_text SqlStandard text short ∙ ap (of_shape SqlStandard) read ∙ ap judged total
+sum_read : (text : List ℕ) (ps : List Pair) (i : Interval) → sql_pairs text ≡ Some ps
+    → total_of int_out_of_range ps ≡ Ok i → of_shape SqlStandard (sql_pairs text) ≡ interval_of_sums i
+sum_read text ps i read total = ap (of_shape SqlStandard) read ∙ ap judged total
 
 pub alone_read : (text : List ℕ) (u : ℤ) → IsAmount (sql_time_pairs (begins is_minus text)) (only_time u) text
-    → list_any is_colon text ≡ true → length text ≤ 4096 → reading SqlStandard text ≡ interval_of_sums (only_time u)
+    → list_any is_colon text ≡ true → of_shape SqlStandard (sql_pairs text) ≡ interval_of_sums (only_time u)
 unfolding sql_pairs
-alone_read text u t colon short =
-    sum_read text t.all (only_time u) short
+alone_read text u t colon =
+    sum_read text t.all (only_time u)
     (ap pairs_of_sql_tokens (tokens_whole text t.filled t.bare)
     ∙ ap (λ b. if b then Some []
     else (if list_any is_colon text then sql_time_pairs (begins is_minus text) text else year_month_pairs text))
@@ -365,16 +362,16 @@ two_sum d u = same_interval _ _ (omega (arith, ints)) (omega (arith, ints)) (ome
 
 pub two_read : (text r1 second : List ℕ) (d u : ℤ) → IsAmountFront day_pairs (only_days d) text r1 → r1 ≡ 32 ∷ second
     → IsAmount (sql_time_pairs (begins is_minus (if begins is_sign second then second else text))) (only_time u) second
-    → length text ≤ 4096 → reading SqlStandard text ≡ interval_of_sums (record { months = pos 0; days = d; microseconds = u })
+    → of_shape SqlStandard (sql_pairs text) ≡ interval_of_sums (record { months = pos 0; days = d; microseconds = u })
 unfolding sql_pairs
-two_read text r1 second d u f space t short =
+two_read text r1 second d u f space t =
     let a = f.token in
     let x = f.amount in
     let whole : text ≡ a ++ 32 ∷ second = f.parts ∙ ap (λ r. a ++ r) space in
     let minus : begins is_minus (if begins is_sign second then second else a) ≡ begins is_minus
     (if begins is_sign second then second else text) = choice (begins is_sign second) second a text
     (sym (ap (begins is_minus) f.parts ∙ front_begins is_minus a r1 x.filled)) in
-    sum_read text (x.all ++ t.all) _ short
+    sum_read text (x.all ++ t.all) _
     (ap pairs_of_sql_tokens
     (ap tokens whole ∙ tokens_append a second ∙ ap (λ ts. ts ++ tokens second) (tokens_whole a x.filled x.bare)
     ∙ ap (λ ts. a ∷ ts) (tokens_whole second t.filled t.bare))

@@ -33,3 +33,4 @@ mod ReadSums
 mod ReadTimes
 mod ReadTokens
 mod ReadWhole
+pub mod SeenUnits

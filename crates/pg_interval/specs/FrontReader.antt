@@ -4,7 +4,7 @@ use Rattle.std.specs.List.{list_all, list_any, slice_split}
 use Rattle.std.specs.Str.Parse.{digits_value}
 use Rattle.pg_interval.specs.Texts.{is_whitespace, is_letter, is_colon, is_point, is_minus, is_empty, are_digits, begins}
 use Rattle.pg_interval.specs.Decimals.{Decimal, decimal_of, TimeUnit, Year, Month, Day, Hour, Minute, Second, with_sign}
-use Rattle.pg_interval.specs.Pairs.{Pair, total_of}
+use Rattle.pg_interval.specs.Pairs.{Pair, sum_of, total_of}
 use Rattle.pg_interval.specs.SqlText.{second_pairs}
 use Rattle.pg_interval.specs.FieldReader.{int_out_of_range}
 use Rattle.pg_interval.specs.PostgresText.{is_number_byte}
@@ -99,6 +99,10 @@ pub record IsFraction (n : ℕ) (text rest : List ℕ) : Type 0 where
 
 abbrev pub sums_of : Sums → Interval
 sums_of s = record { months = s.months; days = s.days; microseconds = s.microseconds }
+
+-- the amount was added if `done` says so, and the `T` stands where it stood
+abbrev pub HasAdded : Bool → Interval → Sums → Sums → Type 0
+HasAdded done more old new = (done ≡ true → sums_of new ≡ sum_of (sums_of old) more) × (new.in_time ≡ old.in_time)
 
 -- what the rest of a text comes to after these sums
 abbrev pub left_of : Sums → List ℕ → Option (Result Interval ParseError)

@@ -11,6 +11,7 @@ pub mod Printed
 pub mod Reader
 pub mod Reading
 pub mod SqlText
+pub mod TextOf
 pub mod Texts
 pub mod WordReader
 pub mod ItemReader

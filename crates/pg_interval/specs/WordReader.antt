@@ -1,8 +1,8 @@
 -- What a reader of words and times keeps on its way, and what it answers from there.
-use Rattle.std.specs.Prelude.{ℕ, Bool, true, false, ◌&&◌, if◌then◌else◌, List, [], ◌∷◌, map, codes, bytes_eq, Option, None, Some, option_map, Result, Ok, Err}
+use Rattle.std.specs.Prelude.{◌≡◌, ℕ, ◌<◌, Bool, true, false, ◌&&◌, if◌then◌else◌, List, [], ◌∷◌, length, map, codes, bytes_eq, Option, None, Some, option_map, Result, Ok, Err}
 use Rattle.std.specs.Borrow.{Bor}
 use Rattle.std.specs.List.{slice_split}
-use Rattle.pg_interval.specs.Texts.{◌>>=◌, is_colon, is_point, is_minus, are_digits, begins, without_sign, tokens}
+use Rattle.pg_interval.specs.Texts.{◌>>=◌, is_whitespace, is_colon, is_point, is_minus, are_digits, begins, without_sign, tokens}
 use Rattle.pg_interval.specs.Decimals.{Decimal, TimeUnit, Year, Month, Day, Hour, Minute, Second, number_of, decimal_of, is_zero_decimal}
 use Rattle.pg_interval.specs.Pairs.{Pair, turned_number, checked, judged, nothing}
 use Rattle.pg_interval.specs.PostgresText.{token_of, pairs_of_tokens, seconds_of, unit_of_word, unit_of_verbose_word}
@@ -92,6 +92,10 @@ rest_of (Some rest) = Some rest.now
 abbrev pub front_left : Bool → Bool → State → Option (List ℕ) → Option (Result Interval ParseError)
 front_left verbose turn s None = None
 front_left verbose turn s (Some rest) = left verbose turn s rest
+
+-- the rest of a text from its next token on, of fewer bytes than so many
+abbrev pub IsNextToken : ℕ → List ℕ → Type 0
+IsNextToken bound next = (length next < bound) × (begins is_whitespace next ≡ false)
 
 -- the answer that sums come to, where the shape isn't broken
 abbrev pub answered : Option (Result Interval ParseError) → Result Interval ParseError

@@ -1,24 +1,10 @@
 -- A source and a sink in memory, which cut and fail as they are told.
-use Rattle.std.specs.Prelude.{ℕ, Bool, true, false, List, ◌++◌, Option, Some, None, Result, Ok, Err, ◌≡◌, ◌+◌, ◌==◌, if◌then◌else◌, min, max, take, length, find, slice_get}
+use Rattle.std.specs.Prelude.{ℕ, Bool, List, [], ◌++◌, Option, Some, None, Result, Ok, Err, ◌≡◌, ◌==◌, if◌then◌else◌, min, max, take, length, find, slice_get}
 use Rattle.std.specs.List.{list_any}
 use Rattle.conversation_runs.specs.declared.streams.SourceFailed.{SourceFailed}
 use Rattle.conversation_runs.specs.declared.streams.SinkError.{SinkError}
 use Rattle.conversation_runs.specs.declared.streams.SinkError.TheVariants.{Failed, NoMemory}
-use Rattle.conversation_runs.specs.Streams.{greatest_count}
-
--- a count that has risen by one, or stands still at the greatest
-abbrev pub raised : ℕ → ℕ
-raised n = min (n + 1) greatest_count
-
--- a count of faults after a call: raised where the call failed, and else the same
-abbrev pub counted : Bool → ℕ → ℕ
-counted failed n = if failed then raised n else n
-
--- whether the write failed; want of memory is no fault of the sink
-abbrev pub is_fault : Result (Unit {0}) SinkError → Bool
-is_fault (Ok done) = false
-is_fault (Err Failed) = true
-is_fault (Err NoMemory) = false
+use Rattle.pg_streams.specs.Counts.{raised, counted}
 
 -- What a source in memory has: the bytes to come, the most that each call gives, the numbers of the calls that fail, and how many calls,
 -- reads that gave a byte, and faults there were.
@@ -29,6 +15,15 @@ pub record Tape : Type 0 where
   pub calls : ℕ
   pub reads : ℕ
   pub faults : ℕ
+
+-- a source that was never called, of bytes, of the most that each call gives, and of the numbers of the calls that fail
+pub record IsUnread (bytes most failing : List ℕ) (t : Tape) : Type 0 where
+  pub left : t.left ≡ bytes
+  pub pieces : t.pieces ≡ most
+  pub fails : t.fails ≡ failing
+  pub calls : t.calls ≡ 0
+  pub reads : t.reads ≡ 0
+  pub faults : t.faults ≡ 0
 
 -- Whether the next call fails. Calls are numbered from 0.
 abbrev pub is_told_to_fail : Tape → Bool
@@ -57,6 +52,13 @@ pub record Drain : Type 0 where
   pub fails : List (ℕ × ℕ)
   pub calls : ℕ
   pub faults : ℕ
+
+-- a sink that was never called, of the calls that fail
+pub record IsUnwritten (failing : List (ℕ × ℕ)) (d : Drain) : Type 0 where
+  pub bytes : d.bytes ≡ []
+  pub fails : d.fails ≡ failing
+  pub calls : d.calls ≡ 0
+  pub faults : d.faults ≡ 0
 
 -- the next call, if it is to fail, and how many bytes it takes
 abbrev pub told_to_fail : Drain → Option (ℕ × ℕ)

@@ -1,10 +1,8 @@
 //! A source over a reader and a sink over a writer: files and standard streams.
 
-ghost use Rattle.std.specs.Prelude.{◌≡◌, None, ◌≤◌, ◌<◌, length, IfOk, OnErr, OnOk, IsErrOf, IsTrue};
+ghost use Rattle.std.specs.Prelude.{None, length, OnOk, IsErrOf, IsTrue};
 ghost use Rattle.std.specs.Io.KnownBytes.{ReadConsumes, Appends};
-ghost use Rattle.std.specs.Result.{is_err};
-ghost use Rattle.conversation_runs.specs.Streams.{HasRisen, reads_after};
-ghost use Rattle.pg_streams.specs.Memory.{counted};
+ghost use Rattle.pg_streams.specs.Counts.{CountsFaults, IsCountedRead};
 
 use conversation_runs::{Sink, SinkError, Source, SourceFailed};
 use std::io::{Read, Write};
@@ -29,16 +27,11 @@ impl<R: Read> Source for ReaderSource<R> {
     ghost faults = { λ s. s.faults };
 
     fn receive(&mut self, into: &mut [u8]) -> Result<usize, SourceFailed>
-        requires { 0 < length into.old }
         // what is known of the reader's bytes goes on
         ensures reader { ReadConsumes (R.remaining self.old.reader)
             (R.remaining self.new.reader) result into.new }
-        ensures fits { IfOk result (λ n. n ≤ length into.old) }
-        ensures counts { self.new.reads ≡ reads_after result self.old.reads }
-        ensures faults { self.new.faults ≡ counted (is_err result) self.old.faults }
-        ensures failed { OnErr result (HasRisen self.old.faults self.new.faults) }
-        ensures calm { OnOk result (self.new.faults ≡ self.old.faults) }
-        ensures never_falls { self.old.faults ≤ self.new.faults }
+        ensures counted { IsCountedRead result (length into.old)
+            self.old.reads self.new.reads self.old.faults self.new.faults }
     {
         match self.reader.read(into) {
             Ok(n) => {
@@ -74,11 +67,8 @@ impl<W: Write> Sink for WriterSink<W> {
         // what is known of the writer's bytes grows by all of them
         ensures writer { OnOk result (Appends (W.contents self.old.writer)
             (W.contents self.new.writer) bytes.now) }
-        ensures faults { self.new.faults ≡ counted (is_err result) self.old.faults }
-        ensures failed { OnErr result (HasRisen self.old.faults self.new.faults) }
+        ensures counted { CountsFaults result self.old.faults self.new.faults }
         ensures no_memory { IsErrOf result SinkError.NoMemory → ⊥ }
-        ensures calm { OnOk result (self.new.faults ≡ self.old.faults) }
-        ensures never_falls { self.old.faults ≤ self.new.faults }
     {
         if write_whole(&mut self.writer, bytes) {
             Ok(())

@@ -1,9 +1,10 @@
 //! A source and a sink in memory, which give, take and fail as they are told.
 
-ghost use Rattle.std.specs.Prelude.{◌≡◌, ℕ, List, [], Some, ◌≤◌, ◌<◌, ◌++◌, ◌==◌, min, take, length, find, IfOk, IfSome, IfErr, OnErr, OnOk, IsErrOf, if◌then◌else◌};
+ghost use Rattle.std.specs.Prelude.{◌≡◌, Some, ◌≤◌, ◌<◌, ◌++◌, ◌==◌, min, take, length, find, IfOk, IfErr, OnErr, OnOk};
 ghost use Rattle.std.specs.Result.{is_err};
-ghost use Rattle.conversation_runs.specs.Streams.{GivesFront, GrowsBy, GrowsByFront, HasRisen, reads_after};
-ghost use Rattle.pg_streams.specs.Memory.{received, is_told_to_fail, most_of, IsNextCall, told_to_fail, TakesAsTold, raised, counted, is_fault};
+ghost use Rattle.conversation_runs.specs.Streams.{GivesFront, GrowsBy, GrowsByFront};
+ghost use Rattle.pg_streams.specs.Counts.{CountsWriteFaults, IsCountedRead, raised};
+ghost use Rattle.pg_streams.specs.Memory.{received, most_of, IsNextCall, IsUnread, IsUnwritten, told_to_fail, TakesAsTold};
 
 use conversation_runs::{Sink, SinkError, Source, SourceFailed};
 use pg_messages::{PgBytes, PgList};
@@ -46,12 +47,7 @@ impl MemorySource {
     /// where 0 counts as 1; past the list, as many as fit. The calls whose numbers are in `fails`
     /// fail and take nothing.
     pub fn new(bytes: PgBytes, pieces: PgList<usize>, fails: PgList<u64>) -> MemorySource
-        ensures left { result.left ≡ bytes }
-        ensures pieces { result.pieces ≡ pieces }
-        ensures fails { result.fails ≡ fails }
-        ensures calls { result.calls ≡ 0 }
-        ensures reads { result.reads ≡ 0 }
-        ensures faults { result.faults ≡ 0 }
+        ensures { IsUnread bytes pieces fails result }
     {
         MemorySource {
             bytes,
@@ -97,14 +93,11 @@ impl Source for MemorySource {
         requires { 0 < length into.old }
         ensures answer { result ≡ received self.old (length into.old) }
         ensures next { IsNextCall (is_err result) self.old self.new }
-        ensures fits { IfOk result (λ n. n ≤ length into.old) }
+        ensures counted { IsCountedRead result (length into.old)
+            self.old.reads self.new.reads self.old.faults self.new.faults }
         ensures bytes { IfOk result (λ n. GivesFront n into.new self.old.left
             (Some self.new.left)) }
-        ensures counts { self.new.reads ≡ reads_after result self.old.reads }
-        ensures failed { OnErr result (HasRisen self.old.faults self.new.faults) }
         ensures untouched { OnErr result (self.new.left ≡ self.old.left) }
-        ensures calm { OnOk result (self.new.faults ≡ self.old.faults) }
-        ensures never_falls { self.old.faults ≤ self.new.faults }
     {
         let call = self.calls;
         self.calls = call.saturating_add(1);
@@ -149,10 +142,7 @@ impl MemorySink {
     /// A sink to which nothing was written. Its calls, numbered from 0, whose numbers are in
     /// `fails` fail after they took the number of bytes that stands beside, at most the piece.
     pub fn new(alloc: Global, fails: PgList<(u64, usize)>) -> MemorySink
-        ensures bytes { result.bytes ≡ [] }
-        ensures fails { result.fails ≡ fails }
-        ensures calls { result.calls ≡ 0 }
-        ensures faults { result.faults ≡ 0 }
+        ensures { IsUnwritten fails result }
     {
         MemorySink {
             bytes: Vec::new(alloc),
@@ -187,15 +177,10 @@ impl Sink for MemorySink {
             bytes.now }
         ensures fails { self.new.fails ≡ self.old.fails }
         ensures calls { self.new.calls ≡ raised self.old.calls }
-        ensures faults { self.new.faults ≡ counted (is_fault result) self.old.faults }
+        ensures counted { CountsWriteFaults result self.old.faults self.new.faults }
         ensures ok { OnOk result (GrowsBy (Some self.old.bytes) (Some self.new.bytes) bytes.now) }
         ensures err { OnErr result (GrowsByFront (Some self.old.bytes) (Some self.new.bytes)
             bytes.now) }
-        ensures failed { IsErrOf result SinkError.Failed
-            → HasRisen self.old.faults self.new.faults }
-        ensures no_memory { IsErrOf result SinkError.NoMemory → self.new.faults ≡ self.old.faults }
-        ensures calm { OnOk result (self.new.faults ≡ self.old.faults) }
-        ensures never_falls { self.old.faults ≤ self.new.faults }
     {
         let call = self.calls;
         self.calls = call.saturating_add(1);

@@ -1,10 +1,8 @@
 //! Sockets: the sources and sinks over them. What goes over a socket no clause tells.
 
-ghost use Rattle.std.specs.Prelude.{◌≡◌, None, ◌≤◌, ◌<◌, length, IfOk, OnOk, OnErr, IsErrOf};
+ghost use Rattle.std.specs.Prelude.{◌≡◌, None, length, OnOk, IsErrOf};
 ghost use Rattle.std.specs.Io.KnownBytes.{ReadConsumes, Appends};
-ghost use Rattle.std.specs.Result.{is_err};
-ghost use Rattle.conversation_runs.specs.Streams.{HasRisen, reads_after};
-ghost use Rattle.pg_streams.specs.Memory.{counted};
+ghost use Rattle.pg_streams.specs.Counts.{CountsFaults, IsCountedRead};
 ghost use Rattle.pg_streams.specs.Sockets.{reads_of, faults_of};
 
 use crate::adapters::write_whole;
@@ -51,16 +49,11 @@ pub enum MaybeTls {
 impl<T: Read> Counted<T> {
     /// Reads once, and counts.
     fn receive(&mut self, into: &mut [u8]) -> Result<usize, SourceFailed>
-        requires { 0 < length into.old }
         // what is known of the stream's bytes goes on
         ensures reader { ReadConsumes (T.remaining self.old.stream)
             (T.remaining self.new.stream) result into.new }
-        ensures fits { IfOk result (λ n. n ≤ length into.old) }
-        ensures counts { self.new.reads ≡ reads_after result self.old.reads }
-        ensures faults { self.new.faults ≡ counted (is_err result) self.old.faults }
-        ensures failed { OnErr result (HasRisen self.old.faults self.new.faults) }
-        ensures calm { OnOk result (self.new.faults ≡ self.old.faults) }
-        ensures never_falls { self.old.faults ≤ self.new.faults }
+        ensures counted { IsCountedRead result (length into.old)
+            self.old.reads self.new.reads self.old.faults self.new.faults }
     {
         match self.stream.read(into) {
             Ok(n) => {
@@ -84,11 +77,8 @@ impl<T: Write> Counted<T> {
         ensures writer { OnOk result (Appends (T.contents self.old.stream)
             (T.contents self.new.stream) bytes.now) }
         ensures reads { self.new.reads ≡ self.old.reads }
-        ensures faults { self.new.faults ≡ counted (is_err result) self.old.faults }
-        ensures failed { OnErr result (HasRisen self.old.faults self.new.faults) }
+        ensures counted { CountsFaults result self.old.faults self.new.faults }
         ensures no_memory { IsErrOf result SinkError.NoMemory → ⊥ }
-        ensures calm { OnOk result (self.new.faults ≡ self.old.faults) }
-        ensures never_falls { self.old.faults ≤ self.new.faults }
     {
         if write_whole(&mut self.stream, bytes) {
             Ok(())
@@ -109,12 +99,8 @@ impl Source for MaybeTls {
     ghost faults = { faults_of };
 
     fn receive(&mut self, into: &mut [u8]) -> Result<usize, SourceFailed>
-        requires { 0 < length into.old }
-        ensures fits { IfOk result (λ n. n ≤ length into.old) }
-        ensures counts { reads_of self.new ≡ reads_after result (reads_of self.old) }
-        ensures faults { faults_of self.new ≡ counted (is_err result) (faults_of self.old) }
-        ensures failed { OnErr result (HasRisen (faults_of self.old) (faults_of self.new)) }
-        ensures never_falls { faults_of self.old ≤ faults_of self.new }
+        ensures counted { IsCountedRead result (length into.old)
+            (reads_of self.old) (reads_of self.new) (faults_of self.old) (faults_of self.new) }
     {
         match self {
             MaybeTls::Plain(socket) => socket.receive(into),
@@ -132,10 +118,8 @@ impl Sink for MaybeTls {
 
     fn send(&mut self, bytes: &[u8]) -> Result<(), SinkError>
         ensures reads { reads_of self.new ≡ reads_of self.old }
-        ensures faults { faults_of self.new ≡ counted (is_err result) (faults_of self.old) }
-        ensures failed { OnErr result (HasRisen (faults_of self.old) (faults_of self.new)) }
+        ensures counted { CountsFaults result (faults_of self.old) (faults_of self.new) }
         ensures no_memory { IsErrOf result SinkError.NoMemory → ⊥ }
-        ensures never_falls { faults_of self.old ≤ faults_of self.new }
     {
         match self {
             MaybeTls::Plain(socket) => socket.send(bytes),

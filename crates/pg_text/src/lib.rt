@@ -1,5 +1,5 @@
-// The types, options and cells of PostgreSQL values: what a value writes into a row, and how it is
-// read back.
+//! Cells: what a value of PostgreSQL writes into a row, as text or in binary, and how it is read
+//! back.
 #![tactic(auto)]
 
 mod format;

@@ -4,6 +4,7 @@ ghost use Rattle.std.specs.Str.{IsUtf8};
 ghost use Rattle.pg_interval.specs.Cell.{IsInterval};
 ghost use Rattle.pg_interval.specs.NormalForm.{normal_form, IsNormal};
 ghost use Rattle.pg_interval.specs.Printed.{is_all_zero, is_year_month_zero, is_zero, is_time_zero, is_time_positive, is_time_negative, is_second_zero, is_second_negative, postgres_text, verbose_text, iso_text, sql_text, printed, IsPrintedOnlyFor};
+ghost use Rattle.pg_interval.specs.TextOf.{IsTextOf};
 ghost use Rattle.pg_interval.specs.Reading.{StandsForOnly, Postgres, PostgresVerbose, Iso8601, SqlStandard};
 
 mod back;
@@ -32,12 +33,7 @@ impl Interval {
     /// memory.
     #[inline(never)]
     pub fn postgres_text(&self) -> IntervalText
-        ensures printed { result ≡ printed Postgres self.now }
-        // the text stands for this interval and for no other, and no other prints as it does
-        ensures stands { StandsForOnly Postgres result self.now }
-        ensures distinct { IsPrintedOnlyFor Postgres result self.now }
-        ensures short { length result ≤ 96 }
-        ensures utf8 { IsUtf8 result }
+        ensures { IsTextOf Postgres self.now result }
     {
         let mut bytes = [0; LONGEST];
         let start = put_postgres(*self, &mut bytes);
@@ -48,12 +44,7 @@ impl Interval {
     /// secs`. It takes no memory.
     #[inline(never)]
     pub fn postgres_verbose_text(&self) -> IntervalText
-        ensures printed { result ≡ printed PostgresVerbose self.now }
-        // the text stands for this interval and for no other, and no other prints as it does
-        ensures stands { StandsForOnly PostgresVerbose result self.now }
-        ensures distinct { IsPrintedOnlyFor PostgresVerbose result self.now }
-        ensures short { length result ≤ 96 }
-        ensures utf8 { IsUtf8 result }
+        ensures { IsTextOf PostgresVerbose self.now result }
     {
         self.in_normal_form().postgres_verbose_text()
     }
@@ -61,12 +52,7 @@ impl Interval {
     /// The text in the style `iso_8601`, as `P1Y2M3DT4H5M6.700000S`. It takes no memory.
     #[inline(never)]
     pub fn iso_8601_text(&self) -> IntervalText
-        ensures printed { result ≡ printed Iso8601 self.now }
-        // the text stands for this interval and for no other, and no other prints as it does
-        ensures stands { StandsForOnly Iso8601 result self.now }
-        ensures distinct { IsPrintedOnlyFor Iso8601 result self.now }
-        ensures short { length result ≤ 96 }
-        ensures utf8 { IsUtf8 result }
+        ensures { IsTextOf Iso8601 self.now result }
     {
         self.in_normal_form().iso_8601_text()
     }
@@ -74,12 +60,7 @@ impl Interval {
     /// The text in the style `sql_standard`, as `+1-2 +3 +4:05:06.700000`. It takes no memory.
     #[inline(never)]
     pub fn sql_text(&self) -> IntervalText
-        ensures printed { result ≡ printed SqlStandard self.now }
-        // the text stands for this interval and for no other, and no other prints as it does
-        ensures stands { StandsForOnly SqlStandard result self.now }
-        ensures distinct { IsPrintedOnlyFor SqlStandard result self.now }
-        ensures short { length result ≤ 96 }
-        ensures utf8 { IsUtf8 result }
+        ensures { IsTextOf SqlStandard self.now result }
     {
         self.in_normal_form().sql_text()
     }

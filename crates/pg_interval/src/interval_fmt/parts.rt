@@ -59,15 +59,3 @@ fn put_words(
         put_word(words, text, end)
     }
 }
-
-/// Writes the `s` at the end of a word, unless its number is 1.
-#[inline(always)]
-#[tactic(auto, using(crate::proofs::PrintedLemmas::word_ends))]
-pub fn put_word_end(negative: bool, number: u64, text: &mut [u8; LONGEST], end: usize) -> usize
-    requires { (1 ≤ end) × (end ≤ 96) }
-    ensures place { (result ≤ end) × (end ≤ result + 1) }
-    ensures written { drop result text.new
-        ≡ word_end (minus_if negative ++ decimal number) ++ drop end text.old }
-{
-    put_byte_if(negative || number != 1, b's', text, end)
-}

@@ -32,7 +32,7 @@ pub fn put_postgres(interval: Interval, text: &mut [u8; LONGEST]) -> usize
 #[inline(always)]
 fn put_date_parts(interval: &Interval, text: &mut [u8; LONGEST], end: usize) -> usize
     requires { (60 ≤ end) × (end ≤ 96) }
-    ensures place { result ≤ end }
+    ensures place { (result ≤ end) × (end ≤ result + 45) }
     ensures written { drop result text.new
         ≡ flat_map (verbose_part_text false) (date_parts (normal_form interval.now))
         ++ drop end text.old }

@@ -1,5 +1,5 @@
 ghost use Rattle.std.specs.Prelude.{◌≡◌, ◌+◌, ◌++◌, ◌∷◌, [], ◌<◌, ◌≤◌, drop, length, decimal};
-ghost use Rattle.pg_interval.specs.Printed.{sql_text, fields_text, signed_days_text, sign_of, year_month_text, sql_time_text, day_time_text, signed_text, are_opposite, is_year_month_negative, is_time_negative};
+ghost use Rattle.pg_interval.specs.Printed.{sql_text, signed_days_text, sign_of, year_month_text, sql_time_text, day_time_text, signed_text, are_opposite, is_year_month_negative, is_time_negative};
 ghost use Rattle.pg_interval.specs.Widths.{HasWidths};
 
 use super::LONGEST;
@@ -27,7 +27,7 @@ impl IntervalNorm {
 /// Writes the text in the style `sql_standard`: `0` for zero, years and months alone, days and time
 /// alone where no two have opposite signs, and else all three, each with its sign.
 #[inline(always)]
-#[tactic(auto, using(crate::proofs::PrintedLemmas::signed_passed), unfolding(crate::specs::Printed::sql_text))]
+#[tactic(auto, using(crate::proofs::PrintedLemmas::signed_passed), unfolding(crate::specs::Printed::sql_text, crate::specs::Printed::fields_text))]
 pub fn put_sql(fields: &IntervalNorm, text: &mut [u8; LONGEST], end: usize) -> usize
     requires widths { HasWidths fields.now }
     requires room { (52 ≤ end) × (end ≤ 96) }
@@ -35,21 +35,8 @@ pub fn put_sql(fields: &IntervalNorm, text: &mut [u8; LONGEST], end: usize) -> u
     ensures written { drop result text.new ≡ sql_text fields.now ++ drop end text.old }
 {
     if fields.prints_zero() {
-        return put_byte(b'0', text, end);
-    }
-    put_fields(fields, text, end)
-}
-
-/// Writes the text of an interval that isn't zero.
-#[inline(always)]
-#[tactic(auto, using(crate::proofs::PrintedLemmas::signed_passed), unfolding(crate::specs::Printed::fields_text))]
-fn put_fields(fields: &IntervalNorm, text: &mut [u8; LONGEST], end: usize) -> usize
-    requires widths { HasWidths fields.now }
-    requires room { (52 ≤ end) × (end ≤ 96) }
-    ensures place { result ≤ end }
-    ensures written { drop result text.new ≡ fields_text fields.now ++ drop end text.old }
-{
-    if !fields.prints_days() && !fields.prints_time() {
+        put_byte(b'0', text, end)
+    } else if !fields.prints_days() && !fields.prints_time() {
         let digits = put_year_month(fields, text, end);
         put_minus_if(fields.is_year_month_negative(), text, digits)
     } else if !fields.prints_year_month() && !fields.has_opposite_signs() {
@@ -102,7 +89,7 @@ fn put_time(fields: &IntervalNorm, text: &mut [u8; LONGEST], end: usize) -> usiz
 fn put_day_time(fields: &IntervalNorm, text: &mut [u8; LONGEST], end: usize) -> usize
     requires widths { HasWidths fields.now }
     requires room { (52 ≤ end) × (end ≤ 96) }
-    ensures place { result ≤ end }
+    ensures place { (result ≤ end) × (end ≤ result + 35) }
     ensures written { drop result text.new ≡ day_time_text fields.now ++ drop end text.old }
 {
     let time = put_time(fields, text, end);
@@ -121,7 +108,7 @@ fn put_day_time(fields: &IntervalNorm, text: &mut [u8; LONGEST], end: usize) -> 
 fn put_signed(fields: &IntervalNorm, text: &mut [u8; LONGEST], end: usize) -> usize
     requires widths { HasWidths fields.now }
     requires room { (52 ≤ end) × (end ≤ 96) }
-    ensures place { result ≤ end }
+    ensures place { (result ≤ end) × (end ≤ result + 50) }
     ensures written { drop result text.new ≡ signed_text fields.now ++ drop end text.old }
 {
     let time = put_time(fields, text, end);

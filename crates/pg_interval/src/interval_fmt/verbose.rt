@@ -3,9 +3,9 @@ ghost use Rattle.pg_interval.specs.Printed.{verbose_text, verbose_part_text, par
 ghost use Rattle.pg_interval.specs.Widths.{HasWidths};
 
 use super::LONGEST;
-use super::back::{put_byte, put_minus_if, put_word};
+use super::back::{put_byte, put_byte_if, put_minus_if, put_word};
 use super::digits::{put_digits, put_last_digit, put_six_digits};
-use super::parts::{put_part, put_word_end};
+use super::parts::put_part;
 use crate::interval_norm::IntervalNorm;
 
 impl IntervalNorm {
@@ -159,7 +159,7 @@ fn put_seconds(ago: bool, fields: &IntervalNorm, text: &mut [u8; LONGEST], end: 
 
 /// Writes the `s` at the end of the word, unless 1 second is printed.
 #[inline(always)]
-#[tactic(auto, using(crate::proofs::PrintedLemmas::second_words), unfolding(crate::specs::Printed::second_digits, crate::specs::Printed::decimals_of, crate::specs::Printed::is_zero))]
+#[tactic(auto, using(crate::proofs::PrintedLemmas::second_words, crate::proofs::PrintedLemmas::word_ends), unfolding(crate::specs::Printed::second_digits, crate::specs::Printed::decimals_of, crate::specs::Printed::is_zero))]
 fn put_second_end(
     negative: bool,
     fields: &IntervalNorm,
@@ -172,7 +172,8 @@ fn put_second_end(
         ≡ word_end (minus_if negative ++ second_digits fields.now) ++ drop end text.old }
 {
     if fields.microseconds.unsigned_abs() == 0 {
-        return put_word_end(negative, fields.seconds.unsigned_abs(), text, end);
+        let many = negative || fields.seconds.unsigned_abs() != 1;
+        return put_byte_if(many, b's', text, end);
     }
     put_byte(b's', text, end)
 }

@@ -98,8 +98,7 @@ impl Items {
 /// What the text behind its `P` comes to. `None` comes where the shape is broken.
 fn read_items(text: &[u8]) -> Option<Totals>
     requires { length text.now ≤ 4096 }
-    ensures left { option_map so_far result ≡ left false (Ok nothing) text.now }
-    ensures count { IfSome result (λ totals. totals.count ≤ 16384) }
+    ensures { option_map so_far result ≡ left false (Ok nothing) text.now }
 {
     let mut items = Items {
         in_time: false,
@@ -118,8 +117,7 @@ fn read_items(text: &[u8]) -> Option<Totals>
 /// What the text of the style `iso_8601` comes to.
 fn read_iso(text: &[u8]) -> Option<Totals>
     requires { length text.now ≤ 4096 }
-    ensures answer { answered (option_map so_far result) ≡ of_shape Iso8601 (iso_pairs text.now) }
-    ensures count { IfSome result (λ totals. totals.count ≤ 16384) }
+    ensures { answered (option_map so_far result) ≡ of_shape Iso8601 (iso_pairs text.now) }
 {
     if text.len() < 2 {
         return None;

@@ -2,11 +2,12 @@
 // behind a point. It answers for the texts that it knows, and leaves all others to the whole
 // reader.
 ghost use Rattle.std.specs.Prelude.{◌≡◌, ◌≤◌, ◌<◌, ◌^◌, ◌∷◌, true, false, length, IfSome, Some, Ok};
-ghost use Rattle.pg_interval.specs.Pairs.{nothing, sum_of};
+ghost use Rattle.pg_interval.specs.Pairs.{nothing};
 ghost use Rattle.pg_interval.specs.Reader.{time_unit};
+ghost use Rattle.pg_interval.specs.IsoText.{iso_pairs};
 ghost use Rattle.pg_interval.specs.ItemReader.{left};
-ghost use Rattle.pg_interval.specs.Reading.{Iso8601, reading};
-ghost use Rattle.pg_interval.specs.FrontReader.{IsFraction, IsNumberFront, amount, left_of, only_days, only_months, only_time, sums_of, without_minus};
+ghost use Rattle.pg_interval.specs.Reading.{Iso8601, of_shape};
+ghost use Rattle.pg_interval.specs.FrontReader.{HasAdded, IsFraction, IsNumberFront, amount, left_of, only_days, only_months, only_time, sums_of, without_minus};
 
 use super::front::{interval_within, number_front, signed};
 use super::iso_8601::unit_at;
@@ -27,9 +28,7 @@ impl Sums {
     /// Adds months. `false` comes where the sum leaves its type.
     #[inline(always)]
     fn add_months(&mut self, more: i64) -> bool
-        ensures sums { result ≡ true →
-            sums_of self.new ≡ sum_of (sums_of self.old) (only_months more) }
-        ensures in_time { self.new.in_time ≡ self.old.in_time }
+        ensures { HasAdded result (only_months more) self.old self.new }
     {
         let Some(sum) = self.months.checked_add(more) else {
             return false;
@@ -41,9 +40,7 @@ impl Sums {
     /// Adds days. `false` comes where the sum leaves its type.
     #[inline(always)]
     fn add_days(&mut self, more: i64) -> bool
-        ensures sums { result ≡ true →
-            sums_of self.new ≡ sum_of (sums_of self.old) (only_days more) }
-        ensures in_time { self.new.in_time ≡ self.old.in_time }
+        ensures { HasAdded result (only_days more) self.old self.new }
     {
         let Some(sum) = self.days.checked_add(more) else {
             return false;
@@ -55,9 +52,7 @@ impl Sums {
     /// Adds microseconds. `false` comes where the sum leaves its type.
     #[inline(always)]
     fn add_time(&mut self, more: i64) -> bool
-        ensures sums { result ≡ true →
-            sums_of self.new ≡ sum_of (sums_of self.old) (only_time more) }
-        ensures in_time { self.new.in_time ≡ self.old.in_time }
+        ensures { HasAdded result (only_time more) self.old self.new }
     {
         let Some(sum) = self.microseconds.checked_add(more) else {
             return false;
@@ -71,9 +66,7 @@ impl Sums {
     #[inline(always)]
     fn add(&mut self, unit: Unit, minus: bool, size: u64) -> bool
         requires { size < 2 ^ 31 }
-        ensures sums { result ≡ true →
-            sums_of self.new ≡ sum_of (sums_of self.old) (amount (time_unit unit) minus size) }
-        ensures in_time { self.new.in_time ≡ self.old.in_time }
+        ensures { HasAdded result (amount (time_unit unit) minus size) self.old self.new }
     {
         match unit {
             Unit::Year => self.add_months(signed(minus, 12 * size)),
@@ -83,20 +76,6 @@ impl Sums {
             Unit::Minute => self.add_time(signed(minus, 60_000_000 * size)),
             Unit::Second => self.add_time(signed(minus, 1_000_000 * size)),
         }
-    }
-
-    /// Takes the `T` before this rest, and returns the rest. `None` comes where it is the second.
-    #[inline(always)]
-    fn take_mark<'a>(&mut self, rest: &'a [u8]) -> Option<&'a [u8]>
-        ensures left { IfSome result
-            (λ next. left_of self.old (84 ∷ rest.now) ≡ left_of self.new next.now) }
-        ensures long { IfSome result (λ next. length next.now ≤ length rest.now) }
-    {
-        if self.in_time {
-            return None;
-        }
-        self.in_time = true;
-        Some(rest)
     }
 
     /// Takes the item in front of the text, and returns the rest. `None` comes where it isn't
@@ -142,10 +121,14 @@ impl Sums {
             (λ next. left_of self.old text.now ≡ left_of self.new next.now) }
         ensures long { IfSome result (λ next. length next.now < length text.now) }
     {
-        if let Some(rest) = after_byte(b'T', text) {
-            return self.take_mark(rest);
+        let Some(rest) = after_byte(b'T', text) else {
+            return self.take_item(text);
+        };
+        if self.in_time {
+            return None;
         }
-        self.take_item(text)
+        self.in_time = true;
+        Some(rest)
     }
 }
 
@@ -206,8 +189,7 @@ fn read_items(text: &[u8]) -> Option<Sums>
 /// The interval of a `P` and items. `None` comes where the text isn't written so, or may be
 /// refused.
 pub(super) fn read_short(text: &[u8]) -> Option<Interval>
-    requires { length text.now ≤ 4096 }
-    ensures { IfSome result (λ i. reading Iso8601 text.now ≡ Ok i) }
+    ensures { IfSome result (λ i. of_shape Iso8601 (iso_pairs text.now) ≡ Ok i) }
 {
     if text.len() < 2 || text[0] != b'P' {
         return None;

@@ -1,6 +1,6 @@
 // The parts that a reader makes of an interval's text.
 ghost use Rattle.std.specs.Prelude.{◌≤◌};
-ghost use Rattle.pg_interval.specs.Amounts.{IsWithin};
+ghost use Rattle.pg_interval.specs.Amounts.{IsWithin, units_in};
 
 use interval_errors::ParseError;
 
@@ -43,6 +43,7 @@ pub(super) struct Totals {
     pub(super) count: usize,
     ghost plus_within: { IsWithin count plus },
     ghost minus_within: { IsWithin count minus },
+    ghost few: { count ≤ 16384 },
 }
 
 /// The units that have a number so far.
@@ -56,11 +57,12 @@ pub(super) struct Seen {
     pub(super) second: bool,
 }
 
-/// What the tokens so far come to.
+/// What the tokens so far come to: one number of a unit at most.
 #[derive(Drop)]
 pub(super) struct Words {
     pub(super) seen: Seen,
     pub(super) totals: Totals,
+    ghost one_each: { totals.count ≤ units_in seen },
 }
 
 /// The numbers of a time.

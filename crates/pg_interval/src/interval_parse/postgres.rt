@@ -6,7 +6,7 @@ ghost use Rattle.pg_interval.specs.Pairs.{checked};
 ghost use Rattle.pg_interval.specs.PostgresText.{verbose_pairs};
 ghost use Rattle.pg_interval.specs.Reader.{decimal_from, number_read, so_far, time_unit};
 ghost use Rattle.pg_interval.specs.Reading.{Postgres, PostgresVerbose, of_shape, reading};
-ghost use Rattle.pg_interval.specs.WordReader.{answered, front_left, has, held_times, left, pair_left, time_left, within_left, rest_of, start, state, taken_one, taken_word, taken_times, taken_unless_zero, times_from, times_of, unit_in, with_unit, none_seen, worded_left};
+ghost use Rattle.pg_interval.specs.WordReader.{IsNextToken, answered, front_left, has, held_times, left, pair_left, time_left, within_left, rest_of, start, state, taken_one, taken_word, taken_times, taken_unless_zero, times_from, times_of, unit_in, with_unit, none_seen, worded_left};
 
 use super::front::pair_front;
 use super::number::{after_byte, decimal, fraction_after, number_of, sign_of, without_sign};
@@ -60,8 +60,7 @@ impl Words {
     /// No token yet.
     #[inline(always)]
     fn new() -> Words
-        ensures state { state result ≡ start }
-        ensures count { result.totals.count ≡ 0 }
+        ensures { state result ≡ start }
     {
         Words {
             seen: Seen {
@@ -78,11 +77,10 @@ impl Words {
 
     /// Takes the number of this unit. `false` comes where the unit has one.
     #[inline(always)]
+    #[tactic(auto, using(crate::proofs::SeenUnits::six_at_most, crate::proofs::SeenUnits::one_more))]
     fn take(&mut self, unit: Unit, number: Result<Number, DecimalError>) -> bool
-        requires { self.old.totals.count < 16384 }
-        ensures taken { (if result then Some (state self.new) else None)
+        ensures { (if result then Some (state self.new) else None)
             ≡ taken_one (state self.old) (time_unit unit) (checked (number_read number)) }
-        ensures count { self.new.totals.count ≤ self.old.totals.count + 1 }
     {
         if self.seen.has(unit) {
             return false;
@@ -95,10 +93,8 @@ impl Words {
     /// Takes the number of this unit unless it is zero. `false` comes where the unit has one.
     #[inline(always)]
     fn take_unless_zero(&mut self, unit: Unit, number: Number) -> bool
-        requires { self.old.totals.count < 16384 }
-        ensures taken { (if result then Some (state self.new) else None)
+        ensures { (if result then Some (state self.new) else None)
             ≡ taken_unless_zero (state self.old) (time_unit unit) (decimal_from number) }
-        ensures count { self.new.totals.count ≤ self.old.totals.count + 1 }
     {
         number.is_zero() || self.take(unit, Ok(number))
     }
@@ -112,10 +108,8 @@ impl Words {
         word: &[u8],
         verbose: bool,
     ) -> bool
-        requires { self.old.totals.count < 16384 }
-        ensures taken { (if result then Some (state self.new) else None)
+        ensures { (if result then Some (state self.new) else None)
             ≡ taken_word verbose (state self.old) (number_read number) word.now }
-        ensures count { self.new.totals.count ≤ self.old.totals.count + 1 }
     {
         let Some(unit) = unit_of(word, verbose) else {
             return false;
@@ -133,12 +127,9 @@ impl Words {
         rest: &'a [u8],
         verbose: bool,
     ) -> Option<&'a [u8]>
-        requires { self.old.totals.count < 16384 }
         ensures left { (turn : Bool) → front_left verbose turn (state self.new) (rest_of result)
             ≡ worded_left verbose turn (state self.old) (number_read number) word.now rest.now }
-        ensures long { IfSome result (λ next. length next.now ≤ length rest.now) }
-        ensures solid { IfSome result (λ next. begins is_whitespace next.now ≡ false) }
-        ensures count { self.new.totals.count ≤ self.old.totals.count + 1 }
+        ensures next { IfSome result (λ next. IsNextToken (1 + length rest.now) next.now) }
     {
         if !self.take_pair(number, word, verbose) {
             return None;
@@ -157,12 +148,9 @@ impl Words {
         verbose: bool,
         turn: bool,
     ) -> Option<&'a [u8]>
-        requires { self.old.totals.count < 16384 }
         ensures left { front_left verbose turn (state self.new) (rest_of result)
             ≡ pair_left verbose turn (state self.old) number.now word.now rest.now }
-        ensures long { IfSome result (λ next. length next.now ≤ length rest.now) }
-        ensures solid { IfSome result (λ next. begins is_whitespace next.now ≡ false) }
-        ensures count { self.new.totals.count ≤ self.old.totals.count + 1 }
+        ensures next { IfSome result (λ next. IsNextToken (1 + length rest.now) next.now) }
     {
         self.pass_word(decimal(number, turn), word, rest, verbose)
     }
@@ -171,12 +159,9 @@ impl Words {
     /// is no time, or a unit of it isn't free.
     #[inline(always)]
     fn pass_time<'a>(&mut self, token: &[u8], rest: &'a [u8], turn: bool) -> Option<&'a [u8]>
-        requires { self.old.totals.count + 3 ≤ 16384 }
         ensures left { (verbose : Bool) → front_left verbose turn (state self.new) (rest_of result)
             ≡ time_left verbose turn (state self.old) token.now rest.now }
-        ensures long { IfSome result (λ next. length next.now ≤ length rest.now) }
-        ensures solid { IfSome result (λ next. begins is_whitespace next.now ≡ false) }
-        ensures count { self.new.totals.count ≤ self.old.totals.count + 3 }
+        ensures next { IfSome result (λ next. IsNextToken (1 + length rest.now) next.now) }
     {
         let Some(clock) = clock(token, turn) else {
             return None;
@@ -190,14 +175,11 @@ impl Words {
     /// Takes the tokens in front of the text that belong together, a time or a number and its word,
     /// and returns the rest from its next token on. `None` comes where the shape is broken.
     fn take_front<'a>(&mut self, text: &'a [u8], verbose: bool, turn: bool) -> Option<&'a [u8]>
-        requires room { self.old.totals.count + 3 ≤ 16384 }
         requires filled { 0 < length text.now }
         requires solid { begins is_whitespace text.now ≡ false }
         ensures left { front_left verbose turn (state self.new) (rest_of result)
             ≡ left verbose turn (state self.old) text.now }
-        ensures long { IfSome result (λ next. length next.now < length text.now) }
-        ensures solid { IfSome result (λ next. begins is_whitespace next.now ≡ false) }
-        ensures count { self.new.totals.count ≤ self.old.totals.count + 3 }
+        ensures next { IfSome result (λ next. IsNextToken (length text.now) next.now) }
     {
         let (token, rest) = cut(Kind::Solid, text);
         if token.contains(&b':') {
@@ -217,14 +199,11 @@ impl Words {
     /// Takes what `take_front` takes: at once where it is a small number, a space and a word.
     #[inline(always)]
     fn take_next<'a>(&mut self, text: &'a [u8], verbose: bool, turn: bool) -> Option<&'a [u8]>
-        requires room { self.old.totals.count + 3 ≤ 16384 }
         requires filled { 0 < length text.now }
         requires solid { begins is_whitespace text.now ≡ false }
         ensures left { front_left verbose turn (state self.new) (rest_of result)
             ≡ left verbose turn (state self.old) text.now }
-        ensures long { IfSome result (λ next. length next.now < length text.now) }
-        ensures solid { IfSome result (λ next. begins is_whitespace next.now ≡ false) }
-        ensures count { self.new.totals.count ≤ self.old.totals.count + 3 }
+        ensures next { IfSome result (λ next. IsNextToken (length text.now) next.now) }
     {
         let Some((number, word, rest)) = pair_front(text, turn) else {
             return self.take_front(text, verbose, turn);
@@ -234,10 +213,8 @@ impl Words {
 
     /// Takes the numbers of the time that aren't zero. `false` comes where a unit has one.
     fn take_clock(&mut self, clock: Clock) -> bool
-        requires { self.old.totals.count + 3 ≤ 16384 }
-        ensures taken { (if result then Some (state self.new) else None)
+        ensures { (if result then Some (state self.new) else None)
             ≡ taken_times (state self.old) (times_from clock) }
-        ensures count { self.new.totals.count ≤ self.old.totals.count + 3 }
     {
         self.take_unless_zero(Unit::Hour, clock.hours)
             && self.take_unless_zero(Unit::Minute, clock.minutes)
@@ -283,9 +260,7 @@ fn unit_of(word: &[u8], verbose: bool) -> Option<Unit>
 /// What the text's tokens come to, their signs turned if `turn` says so. `None` comes where the
 /// shape is broken.
 fn read_words(text: &[u8], verbose: bool, turn: bool) -> Option<Totals>
-    requires { length text.now ≤ 4096 }
-    ensures left { option_map so_far result ≡ left verbose turn start text.now }
-    ensures count { IfSome result (λ totals. totals.count ≤ 16384) }
+    ensures { option_map so_far result ≡ left verbose turn start text.now }
 {
     let mut words = Words::new();
     let mut rest = trim_start(text);
@@ -300,7 +275,6 @@ fn read_words(text: &[u8], verbose: bool, turn: bool) -> Option<Totals>
 
 /// The interval that the sums come to. Where there are none, the text's shape was broken.
 pub(super) fn interval_of(totals: Option<Totals>) -> Result<Interval, ParseError>
-    requires { IfSome totals (λ totals. totals.count ≤ 16384) }
     ensures { result ≡ answered (option_map so_far totals) }
 {
     match totals {
@@ -311,9 +285,7 @@ pub(super) fn interval_of(totals: Option<Totals>) -> Result<Interval, ParseError
 
 /// What the text between `@` and `ago` comes to.
 fn read_within(text: &[u8], turn: bool) -> Option<Totals>
-    requires { length text.now ≤ 4096 }
-    ensures left { option_map so_far result ≡ within_left turn text.now }
-    ensures count { IfSome result (λ totals. totals.count ≤ 16384) }
+    ensures { option_map so_far result ≡ within_left turn text.now }
 {
     if is(text, "0") {
         return Some(Totals::new());
@@ -323,10 +295,8 @@ fn read_within(text: &[u8], turn: bool) -> Option<Totals>
 
 /// What the text of the style `postgres_verbose` comes to.
 fn read_verbose(text: &[u8]) -> Option<Totals>
-    requires { length text.now ≤ 4096 }
-    ensures answer { answered (option_map so_far result)
+    ensures { answered (option_map so_far result)
         ≡ of_shape PostgresVerbose (verbose_pairs text.now) }
-    ensures count { IfSome result (λ totals. totals.count ≤ 16384) }
 {
     let Some(rest) = after_byte(b'@', trim_end(trim_start(text))) else {
         return None;

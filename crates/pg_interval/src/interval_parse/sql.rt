@@ -75,9 +75,7 @@ impl Totals {
     /// These sums, unless the shape is broken.
     #[inline(always)]
     fn when(self, shaped: bool) -> Option<Totals>
-        requires { self.count ≤ 16384 }
-        ensures answer { option_map so_far result ≡ (if shaped then Some (so_far self) else None) }
-        ensures count { IfSome result (λ totals. totals.count ≤ 16384) }
+        ensures { option_map so_far result ≡ (if shaped then Some (so_far self) else None) }
     {
         if shaped { Some(self) } else { None }
     }
@@ -258,8 +256,7 @@ fn next_token(text: &[u8]) -> (&[u8], &[u8])
 
 /// What the text of the style `sql_standard` comes to. `None` comes where the shape is broken.
 fn read_sql(text: &[u8]) -> Option<Totals>
-    ensures answer { option_map so_far result ≡ answer (Ok nothing) (sql_pairs text.now) }
-    ensures count { IfSome result (λ totals. totals.count ≤ 16384) }
+    ensures { option_map so_far result ≡ answer (Ok nothing) (sql_pairs text.now) }
 {
     let (first, rest) = next_token(text);
     let (second, rest) = next_token(rest);

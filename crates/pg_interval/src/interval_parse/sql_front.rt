@@ -1,11 +1,11 @@
 // A first try at reading the style `sql_standard`: the printed forms that have a time. It answers
 // for the texts that it knows, and leaves all others to the whole reader.
-ghost use Rattle.std.specs.Prelude.{◌≡◌, ◌≤◌, ◌<◌, ◌^◌, Bool, true, length, IfSome, Ok};
+ghost use Rattle.std.specs.Prelude.{◌≡◌, ◌<◌, ◌^◌, Bool, true, IfSome, Ok};
 ghost use Rattle.std.specs.List.{list_any};
 ghost use Rattle.pg_interval.specs.Texts.{begins, is_colon, is_minus};
 ghost use Rattle.pg_interval.specs.Decimals.{with_sign};
-ghost use Rattle.pg_interval.specs.Reading.{SqlStandard, reading};
-ghost use Rattle.pg_interval.specs.SqlText.{day_pairs, sql_time_pairs, year_month_pairs};
+ghost use Rattle.pg_interval.specs.Reading.{SqlStandard, of_shape};
+ghost use Rattle.pg_interval.specs.SqlText.{day_pairs, sql_pairs, sql_time_pairs, year_month_pairs};
 ghost use Rattle.pg_interval.specs.FrontReader.{IsAmount, IsAmountFront, IsSeconds, only_days, only_months, only_time};
 
 use super::front::{interval_within, number_front, signed, two_digits_front};
@@ -103,8 +103,7 @@ fn time(text: &[u8]) -> Option<u64>
 /// The interval of years and months, days and a time. `None` comes where the text isn't written so,
 /// or may be refused.
 pub(super) fn read_three(text: &[u8]) -> Option<Interval>
-    requires { length text.now ≤ 4096 }
-    ensures { IfSome result (λ i. reading SqlStandard text.now ≡ Ok i) }
+    ensures { IfSome result (λ i. of_shape SqlStandard (sql_pairs text.now) ≡ Ok i) }
 {
     let Some((months, behind)) = months_front(text) else {
         return None;
@@ -132,8 +131,7 @@ pub(super) fn read_three(text: &[u8]) -> Option<Interval>
 /// comes where the text isn't written so, or may be refused.
 #[inline(always)]
 fn read_two(text: &[u8]) -> Option<Interval>
-    requires { length text.now ≤ 4096 }
-    ensures { IfSome result (λ i. reading SqlStandard text.now ≡ Ok i) }
+    ensures { IfSome result (λ i. of_shape SqlStandard (sql_pairs text.now) ≡ Ok i) }
 {
     let Some((days, behind)) = days_front(text) else {
         return None;
@@ -154,8 +152,7 @@ fn read_two(text: &[u8]) -> Option<Interval>
 /// The interval of a time, or of days and a time. `None` comes where the text isn't written so, or
 /// may be refused.
 pub(super) fn read_fewer(text: &[u8]) -> Option<Interval>
-    requires { length text.now ≤ 4096 }
-    ensures { IfSome result (λ i. reading SqlStandard text.now ≡ Ok i) }
+    ensures { IfSome result (λ i. of_shape SqlStandard (sql_pairs text.now) ≡ Ok i) }
 {
     let Some(microseconds) = time(text) else {
         return read_two(text);

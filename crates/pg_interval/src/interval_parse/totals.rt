@@ -108,7 +108,6 @@ impl Totals {
 
     /// The interval of the three sums, or the refusal.
     pub(super) fn interval(self) -> Result<Interval, ParseError>
-        requires { self.count ≤ 16384 }
         ensures { result ≡ judged (so_far self) }
     {
         if let Some(error) = self.refusal {

@@ -38,8 +38,9 @@ returns-in_err-make_call g c =
       err = still_seen _ _ h.seat.me new.me _ _ _ _ c.make_call.ensures.same.0 c.in_err-make_call.ensures.err c.handle.view_is;
     })
 
-pub returns-clause-same : goal.returns-clause-same
-returns-clause-same g c = viewed_short _ c.args.handle.now _ _ c.handle.view_is c.make_call.ensures.same.0 c.narrow.ensures
-
-pub returns-clause-ok : goal.returns-clause-ok
-returns-clause-ok g c = made_for _ c.args.handle.now _ _ _ _ _ _ c.handle.view_is refl c.in-Done.is c.in_ok-make_call.ensures.ok.1
+pub returns : goal.returns
+returns g c = record {
+  same = viewed_short _ c.args.handle.now _ _ c.handle.view_is c.make_call.ensures.same.0 c.narrow.ensures;
+  ok = made_for _ c.args.handle.now _ _ _ _ _ _ c.handle.view_is refl c.in-Done.is c.in_ok-make_call.ensures.ok.1;
+  err = tt;
+}

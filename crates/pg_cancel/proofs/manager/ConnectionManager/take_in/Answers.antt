@@ -9,3 +9,13 @@ join_seat-requires c =
 
 pub load-requires : goal.load-requires
 load-requires c = (search rules, search rules, compares _ _ _)
+
+pub returns : goal.returns
+returns c = record {
+  same = search rules;
+  mine = search rules;
+  seen = search rules;
+  told = search rules;
+  legal = search rules;
+  own = search rules;
+}

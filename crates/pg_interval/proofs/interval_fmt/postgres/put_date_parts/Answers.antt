@@ -21,6 +21,13 @@ put_part-requires-clause-room c =
     let years : length (decimal c.from-2.result) ≤ 9 = nine_long _ (omega arith) in
     omega arith
 
+pub returns-clause-place : goal.returns-clause-place
+returns-clause-place c =
+    let days : length (decimal c.from-days.result) ≤ 10 = ten_long _ (omega arith) in
+    let months : length (decimal c.from.result) ≤ 2 = two_long _ (omega arith) in
+    let years : length (decimal c.from-2.result) ≤ 9 = nine_long _ (omega arith) in
+    (omega arith, omega arith)
+
 pub returns-clause-written : goal.returns-clause-written
 returns-clause-written c =
     let i = c.args.interval.now in

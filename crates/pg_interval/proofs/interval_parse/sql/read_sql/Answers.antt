@@ -5,8 +5,8 @@ use Rattle.pg_interval.proofs.ReadTokens.{len_zero, len_some}
 use Rattle.pg_interval.proofs.ReadFields.{sql_none, sql_one, sql_two, sql_three, sql_four}
 use Rattle.pg_interval.proofs.interval_parse.sql.read_sql.Goals as goal
 
-pub returns-then-is_empty-clause-answer : goal.returns-then-is_empty-clause-answer
-returns-then-is_empty-clause-answer c =
+pub returns-then-is_empty : goal.returns-then-is_empty
+returns-then-is_empty c =
     let a = c.next_token.result.0.now in
     let ra = c.next_token.result.1.now in
     let b = c.next_token-2.result.0.now in
@@ -18,8 +18,8 @@ returns-then-is_empty-clause-answer c =
     sym (ap (answer (Ok nothing)) (sql_none c.args.text.now a ra (len_zero a c.is_empty.result c.is_empty.ensures c.if-is_empty.true)
     c.next_token.ensures))
 
-pub returns-then-is_empty-2-clause-answer : goal.returns-then-is_empty-2-clause-answer
-returns-then-is_empty-2-clause-answer c =
+pub returns-then-is_empty-2 : goal.returns-then-is_empty-2
+returns-then-is_empty-2 c =
     let a = c.next_token.result.0.now in
     let ra = c.next_token.result.1.now in
     let b = c.next_token-2.result.0.now in
@@ -31,11 +31,11 @@ returns-then-is_empty-2-clause-answer c =
     let shape = sql_one c.args.text.now a ra b rb c.next_token.ensures c.next_token-2.ensures
     (len_some a c.is_empty.result c.is_empty.ensures c.if-is_empty.false)
     (len_zero b c.is_empty-2.result c.is_empty-2.ensures c.if-is_empty-2.true) in
-    c.when.ensures.answer ∙ c.take_one-shaped.ensures.taken ∙ ap (λ r. answer r (pairs_of_one a)) c.new-totals.ensures.sums
+    c.when.ensures ∙ c.take_one-shaped.ensures.taken ∙ ap (λ r. answer r (pairs_of_one a)) c.new-totals.ensures.sums
     ∙ sym (ap (answer (Ok nothing)) shape)
 
-pub returns-then-is_empty-3-clause-answer : goal.returns-then-is_empty-3-clause-answer
-returns-then-is_empty-3-clause-answer c =
+pub returns-then-is_empty-3 : goal.returns-then-is_empty-3
+returns-then-is_empty-3 c =
     let a = c.next_token.result.0.now in
     let ra = c.next_token.result.1.now in
     let b = c.next_token-2.result.0.now in
@@ -48,11 +48,11 @@ returns-then-is_empty-3-clause-answer c =
     (len_some a c.is_empty.result c.is_empty.ensures c.if-is_empty.false)
     (len_some b c.is_empty-2.result c.is_empty-2.ensures c.if-is_empty-2.false)
     (len_zero d c.is_empty-3.result c.is_empty-3.ensures c.if-is_empty-3.true) in
-    c.when-then-is_empty-3.ensures.answer ∙ c.take_two-shaped.ensures.taken
+    c.when-then-is_empty-3.ensures ∙ c.take_two-shaped.ensures.taken
     ∙ ap (λ r. answer r (pairs_of_two a b)) c.new-totals.ensures.sums ∙ sym (ap (answer (Ok nothing)) shape)
 
-pub returns-then-not-is_empty-clause-answer : goal.returns-then-not-is_empty-clause-answer
-returns-then-not-is_empty-clause-answer c =
+pub returns-then-not-is_empty : goal.returns-then-not-is_empty
+returns-then-not-is_empty c =
     let a = c.next_token.result.0.now in
     let ra = c.next_token.result.1.now in
     let b = c.next_token-2.result.0.now in
@@ -67,8 +67,8 @@ returns-then-not-is_empty-clause-answer c =
     (len_some d c.is_empty-3.result c.is_empty-3.ensures c.if-is_empty-3.false)
     (len_some e c.is_empty-4.result c.is_empty-4.ensures c.if-not-is_empty.true)))
 
-pub returns-clause-answer : goal.returns-clause-answer
-returns-clause-answer c =
+pub returns : goal.returns
+returns c =
     let a = c.next_token.result.0.now in
     let ra = c.next_token.result.1.now in
     let b = c.next_token-2.result.0.now in
@@ -82,5 +82,5 @@ returns-clause-answer c =
     (len_some b c.is_empty-2.result c.is_empty-2.ensures c.if-is_empty-2.false)
     (len_some d c.is_empty-3.result c.is_empty-3.ensures c.if-is_empty-3.false)
     (len_zero e c.is_empty-4.result c.is_empty-4.ensures c.if-not-is_empty.false) in
-    c.when-2.ensures.answer ∙ c.take_three-shaped.ensures.taken ∙ ap (λ r. answer r (pairs_of_three a b d)) c.new-totals.ensures.sums
+    c.when-2.ensures ∙ c.take_three-shaped.ensures.taken ∙ ap (λ r. answer r (pairs_of_three a b d)) c.new-totals.ensures.sums
     ∙ sym (ap (answer (Ok nothing)) shape)

@@ -2,7 +2,8 @@ use Rattle.std.proofs.Common.{◌≡◌, ◌∙◌, ap, sym, refl, rules, to_z, 
 use Rattle.std.proofs.Math.Facts.{to_z-of_z}
 use Rattle.pg_interval.specs.Texts.{begins, is_minus}
 use Rattle.pg_interval.specs.Decimals.{with_sign}
-use Rattle.pg_interval.specs.Reading.{reading, SqlStandard}
+use Rattle.pg_interval.specs.Reading.{SqlStandard, of_shape}
+use Rattle.pg_interval.specs.SqlText.{sql_pairs}
 use Rattle.pg_interval.specs.FrontReader.{only_time}
 use Rattle.pg_interval.proofs.NormalFacts.{same_interval}
 use Rattle.pg_interval.proofs.FrontReads.{read_within}
@@ -17,7 +18,7 @@ returns c =
     let u = with_sign minus time in
     let eu : u ≡ to_z w64 (of_z w64 c.signed.result) = sym (to_z-of_z {w = w64} {z = c.signed.result} (search rules)
     ∙ c.signed.ensures ∙ ap (λ b. with_sign b time) c.sign_of.ensures) in
-    read_within (reading SqlStandard text) c.interval_within.result (only_time u) _
-    (alone_read text u (c.in-Some.ensures.amount minus) c.in-Some.ensures.colon c.requires)
+    read_within (of_shape SqlStandard (sql_pairs text)) c.interval_within.result (only_time u) _
+    (alone_read text u (c.in-Some.ensures.amount minus) c.in-Some.ensures.colon)
     (same_interval _ _ refl refl eu)
     c.interval_within.ensures

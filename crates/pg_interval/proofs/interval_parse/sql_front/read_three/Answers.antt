@@ -2,7 +2,8 @@ use Rattle.std.proofs.Common.{◌≡◌, ◌∙◌, ap, sym, rules, to_z, of_z, 
 use Rattle.std.proofs.Math.Facts.{to_z-of_z}
 use Rattle.pg_interval.specs.Texts.{begins, is_minus}
 use Rattle.pg_interval.specs.Decimals.{with_sign}
-use Rattle.pg_interval.specs.Reading.{reading, SqlStandard}
+use Rattle.pg_interval.specs.Reading.{SqlStandard, of_shape}
+use Rattle.pg_interval.specs.SqlText.{sql_pairs}
 use Rattle.pg_interval.proofs.NormalFacts.{same_interval}
 use Rattle.pg_interval.proofs.FrontReads.{read_within}
 use Rattle.pg_interval.proofs.FrontFields.{three_read}
@@ -25,9 +26,9 @@ returns c =
     ∙ c.signed-2.ensures ∙ ap (λ b. with_sign b days) c.sign_of-2.ensures) in
     let eu : u ≡ to_z w64 (of_z w64 c.signed-3.result) = sym (to_z-of_z {w = w64} {z = c.signed-3.result} (search rules)
     ∙ c.signed-3.ensures ∙ ap (λ b. with_sign b time) c.sign_of-3.ensures) in
-    read_within (reading SqlStandard text) c.interval_within.result (record { months = m; days = d; microseconds = u }) _
+    read_within (of_shape SqlStandard (sql_pairs text)) c.interval_within.result (record { months = m; days = d; microseconds = u }) _
     (three_read text c.in-Some.behind.now second c.in-Some-days_front.behind.now third m d u c.in-Some.ensures.amount
     c.in-Some-after_byte.ensures c.in-Some-days_front.ensures.amount c.in-Some-after_byte-2.ensures
-    (c.in-Some-time.ensures.amount (begins is_minus third)) c.requires)
+    (c.in-Some-time.ensures.amount (begins is_minus third)))
     (same_interval _ _ em ed eu)
     c.interval_within.ensures

@@ -3,7 +3,8 @@ use Rattle.std.specs.Prelude.{if◌then◌else◌, pos}
 use Rattle.std.proofs.Math.Facts.{to_z-of_z}
 use Rattle.pg_interval.specs.Texts.{begins, is_minus, is_sign}
 use Rattle.pg_interval.specs.Decimals.{with_sign}
-use Rattle.pg_interval.specs.Reading.{reading, SqlStandard}
+use Rattle.pg_interval.specs.Reading.{SqlStandard, of_shape}
+use Rattle.pg_interval.specs.SqlText.{sql_pairs}
 use Rattle.pg_interval.proofs.NormalFacts.{same_interval}
 use Rattle.pg_interval.proofs.FrontReads.{read_within}
 use Rattle.pg_interval.proofs.FrontFields.{two_read}
@@ -22,8 +23,8 @@ returns c =
     ∙ c.signed.ensures ∙ ap (λ b. with_sign b days) c.sign_of.ensures) in
     let eu : u ≡ to_z w64 (of_z w64 c.signed-2.result) = sym (to_z-of_z {w = w64} {z = c.signed-2.result} (search rules)
     ∙ c.signed-2.ensures ∙ ap (λ b. with_sign b time) c.sign_of_two.ensures) in
-    read_within (reading SqlStandard text) c.interval_within.result (record { months = pos 0; days = d; microseconds = u }) _
+    read_within (of_shape SqlStandard (sql_pairs text)) c.interval_within.result (record { months = pos 0; days = d; microseconds = u }) _
     (two_read text c.in-Some.behind.now second d u c.in-Some.ensures.amount c.in-Some-after_byte.ensures
-    (c.in-Some-time.ensures.amount minus) c.requires)
+    (c.in-Some-time.ensures.amount minus))
     (same_interval _ _ refl ed eu)
     c.interval_within.ensures

@@ -9,6 +9,6 @@ returns-then-text-gt-LONGEST_TEXT c = long_text Postgres c.args.text.now (omega 
 
 pub returns : goal.returns
 returns c =
-    c.interval_of.ensures ∙ ap answered c.read_words.ensures.left
+    c.interval_of.ensures ∙ ap answered c.read_words.ensures
     ∙ ap (λ t. answered (left false false start t)) c.as_bytes-text.ensures.value
     ∙ sym (postgres_whole c.args.text.now (omega (arith, ap length c.as_bytes-text.ensures.value)))

@@ -9,6 +9,6 @@ returns-then-text-gt-LONGEST_TEXT c = long_text PostgresVerbose c.args.text.now 
 
 pub returns : goal.returns
 returns c =
-    c.interval_of.ensures ∙ c.read_verbose.ensures.answer
+    c.interval_of.ensures ∙ c.read_verbose.ensures
     ∙ ap (λ t. of_shape PostgresVerbose (verbose_pairs t)) c.as_bytes-text.ensures.value
     ∙ sym (short_text PostgresVerbose c.args.text.now (omega (arith, ap length c.as_bytes-text.ensures.value)))

@@ -1,4 +1,4 @@
-use Rattle.std.proofs.Common.{◌∙◌, refl, sym, subst}
+use Rattle.std.proofs.Common.{◌≤◌, ◌∙◌, refl, sym, subst, arith, drop, length, length-drop}
 use Rattle.std.specs.Str.{IsUtf8}
 use Rattle.pg_interval.specs.NormalForm.{normal_form, IsNormal}
 use Rattle.pg_interval.specs.Reading.{Postgres}
@@ -14,15 +14,18 @@ new-requires-clause-utf8 c =
     let normal : IsNormal (normal_form i) = (i, c.put_postgres-start.ensures.within, refl) in
     subst IsUtf8 (sym (whole_put _ _ _ c.put_postgres-start.ensures.written refl)) (postgres_utf8 _ normal)
 
-pub returns-clause-printed : goal.returns-clause-printed
-returns-clause-printed c = c.new.ensures ∙ whole_put _ _ _ c.put_postgres-start.ensures.written refl
-
-pub returns-clause-stands : goal.returns-clause-stands
-returns-clause-stands c =
+pub returns : goal.returns
+returns c =
     let i = c.args.self.now in
-    stands_from Postgres _ i (postgres_stands i c.put_postgres-start.ensures.within) (returns-clause-printed c)
-
-pub returns-clause-distinct : goal.returns-clause-distinct
-returns-clause-distinct c =
-    let i = c.args.self.now in
-    distinct_from Postgres _ i postgres_stands c.put_postgres-start.ensures.within (returns-clause-printed c)
+    let within = c.put_postgres-start.ensures.within in
+    let start = c.put_postgres-start.result in
+    let bytes = c.put_postgres-start.new.text in
+    let same = c.new.ensures ∙ whole_put _ _ _ c.put_postgres-start.ensures.written refl in
+    let long : length (drop start bytes) ≤ 96 = omega (arith, length-drop start bytes) in
+    record {
+      printed = same;
+      stands = stands_from Postgres _ i (postgres_stands i within) same;
+      distinct = distinct_from Postgres _ i postgres_stands within same;
+      short = subst (λ t. length t ≤ 96) (sym c.new.ensures) long;
+      utf8 = subst IsUtf8 (sym same) (postgres_utf8 _ (i, within, refl));
+    }

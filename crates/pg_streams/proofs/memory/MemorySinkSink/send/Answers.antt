@@ -1,4 +1,4 @@
-use Rattle.std.proofs.Common.{◌≡◌, ◌∙◌, ℕ, false, List, [], ◌++◌, Some, Result, Ok, Err, IfErr, min, length, take, drop, find, ⊎_elim, refl, sym, ap, subst, arith, append-nil, take-append-drop}
+use Rattle.std.proofs.Common.{◌≡◌, ◌∙◌, ℕ, false, List, [], ◌++◌, Some, Result, Ok, Err, IfErr, min, length, take, drop, find, ⊎_elim, refl, sym, ap, subst, arith, rules, append-nil, take-append-drop}
 use Rattle.std.specs.Prelude.{◌==◌}
 use Rattle.std.specs.Result.{OnOk, OnErr}
 use Rattle.std.proofs.lemmas.Bool.{cases_lt}
@@ -6,7 +6,8 @@ use Rattle.std.proofs.lemmas.List.{take_all, length-take}
 use Rattle.conversation_runs.specs.declared.streams.SinkError.{SinkError}
 use Rattle.conversation_runs.specs.declared.streams.SinkError.TheVariants.{Failed, NoMemory}
 use Rattle.conversation_runs.specs.Streams.{GrowsByFront}
-use Rattle.pg_streams.specs.Memory.{Drain, is_fault, counted, raised, told_to_fail, TakesAsTold}
+use Rattle.pg_streams.specs.Counts.{CountsWriteFaults, is_fault, counted, raised}
+use Rattle.pg_streams.specs.Memory.{Drain, told_to_fail, TakesAsTold}
 use Rattle.pg_streams.proofs.memory.MemorySinkSink.send.Goals as goal
 
 -- want of memory is no fault of the sink
@@ -29,15 +30,30 @@ none_written (Err e) old now first bytes h v =
 -- what an append keeps
 kept : (r : Result (Unit {0}) SinkError) (old now : Drain) (bytes : List ℕ)
     → OnOk r (now ≡ record { bytes = old.bytes ++ bytes; fails = old.fails; calls = old.calls; faults = old.faults })
-    → IfErr r (λ e. (e ≡ NoMemory) × (now ≡ old))
-    → (now.fails ≡ old.fails) × (now.calls ≡ old.calls) × (now.faults ≡ old.faults) × (is_fault r ≡ false)
-kept (Ok done) old now bytes p q = (ap (λ (d : Drain). d.fails) p, ap (λ (d : Drain). d.calls) p, ap (λ (d : Drain). d.faults) p, refl)
-kept (Err e) old now bytes p q = (
-  ap (λ (d : Drain). d.fails) q.1,
-  ap (λ (d : Drain). d.calls) q.1,
-  ap (λ (d : Drain). d.faults) q.1,
-  ap (λ (x : SinkError). is_fault (Err x)) q.0,
-)
+    → IfErr r (λ e. (e ≡ NoMemory) × (now ≡ old)) → (now.fails ≡ old.fails) × (now.calls ≡ old.calls)
+kept (Ok done) old now bytes p q = (ap (λ (d : Drain). d.fails) p, ap (λ (d : Drain). d.calls) p)
+kept (Err e) old now bytes p q = (ap (λ (d : Drain). d.fails) q.1, ap (λ (d : Drain). d.calls) q.1)
+
+-- such an append is no fault
+counted_none : (r : Result (Unit {0}) SinkError) (old now first : Drain) (bytes : List ℕ)
+    → OnOk r (now ≡ record { bytes = old.bytes ++ bytes; fails = old.fails; calls = old.calls; faults = old.faults })
+    → IfErr r (λ e. (e ≡ NoMemory) × (now ≡ old)) → old.faults ≡ first.faults → CountsWriteFaults r first.faults now.faults
+counted_none (Ok done) old now first bytes p q v =
+    let same : now.faults ≡ first.faults = ap (λ (d : Drain). d.faults) p ∙ v in record {
+      faults = same;
+      failed = λ x. absurd (subst is_failed (sym x) tt);
+      no_memory = λ x. same;
+      calm = same;
+      never_falls = omega arith;
+    }
+counted_none (Err e) old now first bytes p q v =
+    let same : now.faults ≡ first.faults = ap (λ (d : Drain). d.faults) q.1 ∙ v in record {
+      faults = same ∙ sym (ap (λ (x : SinkError). counted (is_fault (Err x)) first.faults) q.0);
+      failed = λ x. absurd (subst is_failed (sym x ∙ ap Err q.0) tt);
+      no_memory = λ x. same;
+      calm = tt;
+      never_falls = omega arith;
+    }
 
 -- the told bytes, at most all
 take_min : (n m : ℕ) (bytes : List ℕ) → m ≡ min n (length bytes) → take m bytes ≡ take n bytes
@@ -65,10 +81,10 @@ returns-in-None-clause-calls c =
     (kept c.append.result _ c.append.new.self c.args.bytes.now c.append.ensures.ok c.append.ensures.err).1
     ∙ c.saturating_add-self-inside.ensures ∙ ap (λ (d : Drain). raised d.calls) c.self.view_is
 
-pub returns-in-None-clause-faults : goal.returns-in-None-clause-faults
-returns-in-None-clause-faults c =
-    let k = kept c.append.result _ c.append.new.self c.args.bytes.now c.append.ensures.ok c.append.ensures.err in
-    k.2 ∙ ap (λ (d : Drain). d.faults) c.self.view_is ∙ sym (ap (λ b. counted b c.args.self.now.faults) k.3)
+pub returns-in-None-clause-counted : goal.returns-in-None-clause-counted
+returns-in-None-clause-counted c =
+    counted_none c.append.result _ c.append.new.self c.args.self.now c.args.bytes.now c.append.ensures.ok c.append.ensures.err
+    (ap (λ (d : Drain). d.faults) c.self.view_is)
 
 -- ---- the call is told to fail, and memory is wanting
 
@@ -101,14 +117,16 @@ returns-in_ok-append-in-Some-clause-calls c =
     ap (λ (d : Drain). d.calls) (c.self-in-Some.view_is ∙ c.in_ok-append-in-Some.ensures.ok) ∙ c.saturating_add-self-inside.ensures
     ∙ ap (λ (d : Drain). raised d.calls) c.self.view_is
 
-pub returns-in_ok-append-in-Some-clause-faults : goal.returns-in_ok-append-in-Some-clause-faults
-returns-in_ok-append-in-Some-clause-faults c =
-    c.saturating_add-self-inside-in-Some.ensures
-    ∙ ap (λ (d : Drain). raised d.faults) (c.self-in-Some.view_is ∙ c.in_ok-append-in-Some.ensures.ok)
-    ∙ ap (λ (d : Drain). raised d.faults) c.self.view_is
-
-pub returns-in_ok-append-in-Some-clause-no_memory : goal.returns-in_ok-append-in-Some-clause-no_memory
-returns-in_ok-append-in-Some-clause-no_memory c = λ q. absurd (subst is_failed q tt)
+pub returns-in_ok-append-in-Some-clause-counted : goal.returns-in_ok-append-in-Some-clause-counted
+returns-in_ok-append-in-Some-clause-counted c = record {
+  faults = c.saturating_add-self-inside-in-Some.ensures
+      ∙ ap (λ (d : Drain). raised d.faults) (c.self-in-Some.view_is ∙ c.in_ok-append-in-Some.ensures.ok)
+      ∙ ap (λ (d : Drain). raised d.faults) c.self.view_is;
+  failed = search rules;
+  no_memory = λ q. absurd (subst is_failed q tt);
+  calm = tt;
+  never_falls = search rules;
+}
 
 pub returns-in_ok-append-in-Some-clause-taken : goal.returns-in_ok-append-in-Some-clause-taken
 returns-in_ok-append-in-Some-clause-taken c =

@@ -6,7 +6,8 @@ use Rattle.std.proofs.lemmas.Option.{slice_get-get_or}
 use Rattle.std.proofs.lemmas.Bool.Decides.{eqb_tells}
 use Rattle.conversation_runs.specs.declared.streams.SourceFailed.{SourceFailed}
 use Rattle.conversation_runs.specs.Streams.{GivesFront, HasRisen}
-use Rattle.pg_streams.specs.Memory.{Tape, is_told_to_fail, most_of, raised, received}
+use Rattle.pg_streams.specs.Counts.{raised}
+use Rattle.pg_streams.specs.Memory.{Tape, is_told_to_fail, most_of, received}
 use Rattle.pg_streams.specs.contracts.memory.MemorySource.{the_view}
 use Rattle.pg_streams.proofs.memory.MemorySourceSource.receive.Goals as goal
 
@@ -117,18 +118,17 @@ invariant_of-self-else-n-gt0 c =
 
 -- ---- the call fails
 
-pub returns-then-contains-clause-failed : goal.returns-then-contains-clause-failed
-returns-then-contains-clause-failed c =
-    has_risen c.args.self.now.faults c.self.inside.faults c.saturating_add-self-inside-then-contains.result
-    (ap (λ (t : Tape). t.faults) c.self.view_is) c.self.ranges.1.1.1.1.1.1.0.1 c.saturating_add-self-inside-then-contains.ensures
-
-pub returns-then-contains-clause-never_falls : goal.returns-then-contains-clause-never_falls
-returns-then-contains-clause-never_falls c =
-    raised_from c.args.self.now.faults c.self.inside.faults c.saturating_add-self-inside-then-contains.result
-    (ap (λ (t : Tape). t.faults) c.self.view_is) c.self.ranges.1.1.1.1.1.1.0.1 c.saturating_add-self-inside-then-contains.ensures
-
-pub returns-then-contains-clause-counts : goal.returns-then-contains-clause-counts
-returns-then-contains-clause-counts c = ap (λ (t : Tape). t.reads) c.self.view_is
+pub returns-then-contains-clause-counted : goal.returns-then-contains-clause-counted
+returns-then-contains-clause-counted c = record {
+  fits = tt;
+  counts = ap (λ (t : Tape). t.reads) c.self.view_is;
+  faults = c.saturating_add-self-inside-then-contains.ensures ∙ ap (λ (t : Tape). raised t.faults) c.self.view_is;
+  failed = has_risen c.args.self.now.faults c.self.inside.faults c.saturating_add-self-inside-then-contains.result
+      (ap (λ (t : Tape). t.faults) c.self.view_is) c.self.ranges.1.1.1.1.1.1.0.1 c.saturating_add-self-inside-then-contains.ensures;
+  calm = tt;
+  never_falls = raised_from c.args.self.now.faults c.self.inside.faults c.saturating_add-self-inside-then-contains.result
+      (ap (λ (t : Tape). t.faults) c.self.view_is) c.self.ranges.1.1.1.1.1.1.0.1 c.saturating_add-self-inside-then-contains.ensures;
+}
 
 pub returns-then-contains-clause-untouched : goal.returns-then-contains-clause-untouched
 returns-then-contains-clause-untouched c = ap (λ (t : Tape). t.left) c.self.view_is
@@ -166,10 +166,19 @@ returns-then-n-gt0-clause-next c = record {
   faults = ap (λ (t : Tape). t.faults) c.self.view_is;
 }
 
-pub returns-then-n-gt0-clause-fits : goal.returns-then-n-gt0-clause-fits
-returns-then-n-gt0-clause-fits c =
-    copy_fits c.copied-piece.result (length c.args.into.now) c.most_given-most.result c.copy_front-n.result _ c.most_given-most.ensures
-    c.copy_front-n.ensures.count
+pub returns-then-n-gt0-clause-counted : goal.returns-then-n-gt0-clause-counted
+returns-then-n-gt0-clause-counted c = record {
+  fits = copy_fits c.copied-piece.result (length c.args.into.now) c.most_given-most.result c.copy_front-n.result _ c.most_given-most.ensures
+      c.copy_front-n.ensures.count;
+  counts = read_counts c.copy_front-n.result c.self.inside.reads c.saturating_add-self-inside-then-n-gt0.result c.if-n-gt0.true
+      c.saturating_add-self-inside-then-n-gt0.ensures
+      ∙ ap (λ (t : Tape). if c.copy_front-n.result == 0 then t.reads else min (t.reads + 1) 18446744073709551615) c.self.view_is;
+  faults = ap (λ (t : Tape). t.faults) c.self.view_is;
+  failed = tt;
+  calm = ap (λ (t : Tape). t.faults) c.self.view_is;
+  never_falls = not_fallen c.args.self.now.faults c.self.inside.faults
+      (ap (λ (t : Tape). t.faults) c.self.view_is);
+}
 
 pub returns-then-n-gt0-clause-bytes : goal.returns-then-n-gt0-clause-bytes
 returns-then-n-gt0-clause-bytes c =
@@ -182,25 +191,7 @@ returns-then-n-gt0-clause-bytes c =
     subst (λ (t : Tape). GivesFront n c.copy_front-n.new.into t.left (Some (drop (p + n) c.self.inside.bytes))) c.self.view_is
     (subst (λ b. GivesFront n c.copy_front-n.new.into (drop p b) (Some (drop (p + n) b))) c.as_slice-3.ensures front)
 
-pub returns-then-n-gt0-clause-counts : goal.returns-then-n-gt0-clause-counts
-returns-then-n-gt0-clause-counts c =
-    read_counts c.copy_front-n.result c.self.inside.reads c.saturating_add-self-inside-then-n-gt0.result c.if-n-gt0.true
-    c.saturating_add-self-inside-then-n-gt0.ensures
-    ∙ ap (λ (t : Tape). if c.copy_front-n.result == 0 then t.reads else min (t.reads + 1) 18446744073709551615) c.self.view_is
-
-pub returns-then-n-gt0-clause-calm : goal.returns-then-n-gt0-clause-calm
-returns-then-n-gt0-clause-calm c = ap (λ (t : Tape). t.faults) c.self.view_is
-
-pub returns-then-n-gt0-clause-never_falls : goal.returns-then-n-gt0-clause-never_falls
-returns-then-n-gt0-clause-never_falls c = not_fallen c.args.self.now.faults c.self.inside.faults
-    (ap (λ (t : Tape). t.faults) c.self.view_is)
-
 -- ---- no byte is left
-
-pub returns-else-n-gt0-clause-counts : goal.returns-else-n-gt0-clause-counts
-returns-else-n-gt0-clause-counts c =
-    end_counts_not c.copy_front-n.result c.self.inside.reads c.if-n-gt0.false
-    ∙ ap (λ (t : Tape). if c.copy_front-n.result == 0 then t.reads else min (t.reads + 1) 18446744073709551615) c.self.view_is
 
 pub returns-else-n-gt0-clause-answer : goal.returns-else-n-gt0-clause-answer
 returns-else-n-gt0-clause-answer c =
@@ -225,10 +216,18 @@ returns-else-n-gt0-clause-next c = record {
   faults = ap (λ (t : Tape). t.faults) c.self.view_is;
 }
 
-pub returns-else-n-gt0-clause-fits : goal.returns-else-n-gt0-clause-fits
-returns-else-n-gt0-clause-fits c =
-    copy_fits c.copied-piece.result (length c.args.into.now) c.most_given-most.result c.copy_front-n.result _ c.most_given-most.ensures
-    c.copy_front-n.ensures.count
+pub returns-else-n-gt0-clause-counted : goal.returns-else-n-gt0-clause-counted
+returns-else-n-gt0-clause-counted c = record {
+  fits = copy_fits c.copied-piece.result (length c.args.into.now) c.most_given-most.result c.copy_front-n.result _ c.most_given-most.ensures
+      c.copy_front-n.ensures.count;
+  counts = end_counts_not c.copy_front-n.result c.self.inside.reads c.if-n-gt0.false
+      ∙ ap (λ (t : Tape). if c.copy_front-n.result == 0 then t.reads else min (t.reads + 1) 18446744073709551615) c.self.view_is;
+  faults = ap (λ (t : Tape). t.faults) c.self.view_is;
+  failed = tt;
+  calm = ap (λ (t : Tape). t.faults) c.self.view_is;
+  never_falls = not_fallen c.args.self.now.faults c.self.inside.faults
+      (ap (λ (t : Tape). t.faults) c.self.view_is);
+}
 
 pub returns-else-n-gt0-clause-bytes : goal.returns-else-n-gt0-clause-bytes
 returns-else-n-gt0-clause-bytes c =
@@ -240,10 +239,3 @@ returns-else-n-gt0-clause-bytes c =
     c.copy_front-n.ensures.count c.copy_front-n.ensures.front in
     subst (λ (t : Tape). GivesFront n c.copy_front-n.new.into t.left (Some (drop (p + n) c.self.inside.bytes))) c.self.view_is
     (subst (λ b. GivesFront n c.copy_front-n.new.into (drop p b) (Some (drop (p + n) b))) c.as_slice-3.ensures front)
-
-pub returns-else-n-gt0-clause-calm : goal.returns-else-n-gt0-clause-calm
-returns-else-n-gt0-clause-calm c = ap (λ (t : Tape). t.faults) c.self.view_is
-
-pub returns-else-n-gt0-clause-never_falls : goal.returns-else-n-gt0-clause-never_falls
-returns-else-n-gt0-clause-never_falls c = not_fallen c.args.self.now.faults c.self.inside.faults
-    (ap (λ (t : Tape). t.faults) c.self.view_is)

@@ -83,9 +83,9 @@ returns-then-letter-eq46-clause-left c =
     ∙ ap (λ b. with_sign b (1000000 * n + f)) c.sign_of-minus.ensures in
     ap (λ b. left b (Ok (sums_of s)) text) c.if-not-self.false
     ∙ second_read (sums_of s) (sums_of t) text c.without_minus.result.now c.in-Some.behind.now rest n f c.without_minus.ensures
-    c.in-Some.ensures c.in-Some-fraction_front.ensures (c.add_time.ensures.sums c.if-not-add_time.false
+    c.in-Some.ensures c.in-Some-fraction_front.ensures (c.add_time.ensures.0 c.if-not-add_time.false
     ∙ ap (λ z. sum_of (sums_of s) (only_time z)) more)
-    ∙ ap (λ b. left b (Ok (sums_of t)) rest) (sym (c.add_time.ensures.in_time ∙ c.if-not-self.false))
+    ∙ ap (λ b. left b (Ok (sums_of t)) rest) (sym (c.add_time.ensures.1 ∙ c.if-not-self.false))
 
 pub returns-clause-left : goal.returns-clause-left
 returns-clause-left c =
@@ -100,6 +100,6 @@ returns-clause-left c =
     let at : behind ≡ l ∷ rest = cons_of behind (len_some behind c.is_empty.result c.is_empty.ensures c.if-is_empty.false)
     ∙ ap (λ t. l ∷ t) (sym c.split_at.ensures.back) in
     item_read s.in_time (sums_of s) (sums_of t) text c.without_minus.result.now behind rest n l u c.without_minus.ensures
-    c.in-Some.ensures at c.in-Some-unit_at.ensures (c.add.ensures.sums c.if-not-add.false
+    c.in-Some.ensures at c.in-Some-unit_at.ensures (c.add.ensures.0 c.if-not-add.false
     ∙ ap (λ b. sum_of (sums_of s) (amount u b n)) c.sign_of-minus.ensures)
-    ∙ ap (λ b. left b (Ok (sums_of t)) rest) (sym c.add.ensures.in_time)
+    ∙ ap (λ b. left b (Ok (sums_of t)) rest) (sym c.add.ensures.1)

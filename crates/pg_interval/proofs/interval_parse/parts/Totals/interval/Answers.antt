@@ -60,24 +60,24 @@ pub difference-requires : goal.difference-requires
 difference-requires c =
     let t = c.args.self in
     record {
-      plus = small t.count t.plus.months c.requires t.plus_within.months;
-      minus = small t.count t.minus.months c.requires t.minus_within.months;
+      plus = small t.count t.plus.months t.few t.plus_within.months;
+      minus = small t.count t.minus.months t.few t.minus_within.months;
     }
 
 pub difference-requires-2 : goal.difference-requires-2
 difference-requires-2 c =
     let t = c.args.self in
     record {
-      plus = small t.count t.plus.days c.requires t.plus_within.days;
-      minus = small t.count t.minus.days c.requires t.minus_within.days;
+      plus = small t.count t.plus.days t.few t.plus_within.days;
+      minus = small t.count t.minus.days t.few t.minus_within.days;
     }
 
 pub difference-requires-3 : goal.difference-requires-3
 difference-requires-3 c =
     let t = c.args.self in
     record {
-      plus = small t.count t.plus.microseconds c.requires t.plus_within.microseconds;
-      minus = small t.count t.minus.microseconds c.requires t.minus_within.microseconds;
+      plus = small t.count t.plus.microseconds t.few t.plus_within.microseconds;
+      minus = small t.count t.minus.microseconds t.few t.minus_within.microseconds;
     }
 
 pub returns-in-Some : goal.returns-in-Some

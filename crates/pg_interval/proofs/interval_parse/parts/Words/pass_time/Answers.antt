@@ -11,5 +11,5 @@ returns-clause-left c = λ v.
     let t : c.take_clock.result ≡ true = grind arith in
     ap (f s) c.trim_start.ensures.rest ∙ left_trimmed v c.args.turn s c.args.rest.now
     ∙ after_taken c.take_clock.result (taken_times (state c.args.self.now) (times_from c.in-Some.clock)) s (λ t. f t c.args.rest.now) t
-    c.take_clock.ensures.taken
+    c.take_clock.ensures
     ∙ ap (λ o. o >>= λ t. taken_times (state c.args.self.now) t >>= λ u. f u c.args.rest.now) c.in-Some.ensures

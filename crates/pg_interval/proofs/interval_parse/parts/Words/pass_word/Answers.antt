@@ -11,4 +11,4 @@ returns-clause-left c = λ turn.
     let t : c.take_pair.result ≡ true = grind arith in
     ap (f s) c.trim_start.ensures.rest ∙ left_trimmed c.args.verbose turn s c.args.rest.now
     ∙ after_taken c.take_pair.result (taken_word c.args.verbose (state c.args.self.now) (number_read c.args.number) c.args.word.now)
-    s (λ t. f t c.args.rest.now) t c.take_pair.ensures.taken
+    s (λ t. f t c.args.rest.now) t c.take_pair.ensures

@@ -5,6 +5,6 @@ use Rattle.pg_interval.specs.Reader.{number_read}
 use Rattle.pg_interval.specs.WordReader.{state, taken_one}
 use Rattle.pg_interval.proofs.interval_parse.parts.Words.take_pair.Goals as goal
 
-pub returns-clause-taken : goal.returns-clause-taken
-returns-clause-taken c = c.take.ensures.taken
+pub returns : goal.returns
+returns c = c.take.ensures
     ∙ ap (λ o. o >>= λ u. taken_one (state c.args.self.now) u (checked (number_read c.args.number))) c.in-Some.ensures
