@@ -1,5 +1,5 @@
 mod CellsKept
 mod CellsPaged
 mod CellsShown
-mod CellsWhole
+pub mod CellsWhole
 mod PlainTexts

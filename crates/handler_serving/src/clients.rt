@@ -1,14 +1,14 @@
 //! Clients are served, one behind another.
 
-ghost use Rattle.std.specs.Prelude.{◌≡◌, ◌++◌, ◌+◌, ◌<◌, List, OnOk, OnErr, IfOk};
+ghost use Rattle.std.specs.Prelude.{◌≡◌, ◌+◌, ◌<◌, List, OnOk, OnErr, IfOk};
 ghost use Rattle.std.specs.Arc.{arc_value};
-ghost use Rattle.pg_client.specs.Desk.{GoesOn};
 ghost use Rattle.pg_client.specs.State.{first_state};
 ghost use Rattle.pg_client.specs.declared.desk.DeskCall.{DeskCall};
 ghost use Rattle.conversation_runs.specs.Session.{whole_rules};
 ghost use Rattle.conversation_runs.specs.Streams.{greatest_count};
-ghost use Rattle.pg_serve.specs.Desk.{ConnectionGoesOn, desk_calls};
-ghost use Rattle.pg_engine.specs.Serving.{WentSo, IsServedRun};
+ghost use Rattle.pg_serve.specs.Desk.{desk_of};
+ghost use Rattle.pg_engine.specs.Around.{ServesSession, around};
+ghost use Rattle.pg_engine.specs.Serving.{IsServedRun};
 
 use crate::one_client::TURNS;
 use pg_cancel::{ConnectionHandle, ConnectionManager, Door};
@@ -156,12 +156,9 @@ fn serve_registered<R: Wait, H: PgWireServerHandlers, S: Source, K: Sink>(
     sink: &mut K,
 ) -> Result<EndKind, ServeError>
     requires issued { handle.old.issuer ≡ manager.now }
-    ensures went { (calls : List DeskCall)
-        × (desk_calls handle.new.mine ≡ desk_calls handle.old.mine ++ calls)
-        × WentSo (whole_rules (H.told (arc_value handlers.now)))
-        (first_state handle.old.pid handle.old.key) result
-        (S.left source.old) (S.left source.new) (K.written sink.old) (K.written sink.new) calls }
-    ensures same { ConnectionGoesOn handle.old handle.new }
+    ensures { let round = around S.left S.reads S.faults S.origin K.written K.faults K.origin desk_of in
+        ServesSession (H.told (arc_value handlers.now)) TURNS result
+        (round source.old sink.old handle.old) (round source.new sink.new handle.new) }
 {
     let mut desk = HandleDesk {
         runtime: rt,
@@ -185,12 +182,9 @@ fn serve_on<H: PgWireServerHandlers, D: CancelDesk, S: Source, K: Sink>(
     source: &mut S,
     sink: &mut K,
 ) -> Result<EndKind, ServeError>
-    ensures went { (calls : List DeskCall)
-        × ((D.told desk.new).calls ≡ (D.told desk.old).calls ++ calls)
-        × WentSo (whole_rules (H.told (arc_value handlers.now)))
-        (first_state (D.told desk.old).registration.0 (D.told desk.old).registration.1) result
-        (S.left source.old) (S.left source.new) (K.written sink.old) (K.written sink.new) calls }
-    ensures registration { GoesOn (D.told desk.old) (D.told desk.new) }
+    ensures { let round = around S.left S.reads S.faults S.origin K.written K.faults K.origin D.told in
+        ServesSession (H.told (arc_value handlers.now)) TURNS result
+        (round source.old sink.old desk.old) (round source.new sink.new desk.new) }
 {
     let Ok(handlers) = handlers.clone() else {
         return Err(ServeError::NoMemory);

@@ -22,6 +22,8 @@ use Rattle.conversation_runs.specs.declared.ends.Progress.{Progress}
 use Rattle.conversation_runs.specs.Streams.{HasRisen}
 use Rattle.conversation_table.specs.Lawful.{IsLawful}
 use Rattle.conversation_runs.proofs.Feeding.{fed_then}
+use Rattle.pg_client.proofs.Desks.{goes_on_none}
+use Rattle.pg_engine.specs.Around.{Around, Serves}
 use Rattle.pg_engine.specs.Conversing.{Talk, TakesPiece}
 use Rattle.pg_engine.specs.Serving.{Counts, HasCause, end_turn}
 use Rattle.conversation_runs.specs.Run.{Rules, IsRun, IsCutRun, IsFed, EndsWith}
@@ -415,3 +417,24 @@ all_spent before after asked fed bounded within =
 pub no_end_turn : (kind : EndKind) → kind ≢ end.InputEnd → end_turn kind ≡ 0
 no_end_turn end.InputEnd p = absurd (p refl)
 no_end_turn _ p = refl
+
+-- ---- nothing was served
+
+-- memory ran out before anything was taken, and everything stands as it stood
+pub none_served : {T : Type 0} (rules : Rules T) (first : T) (turns : ℕ) (round : Around)
+    → Serves rules first turns (Err fault.NoMemory) round round
+none_served rules first turns round = record {
+  went = ([], sym (append-nil round.desk.calls), none_went rules first round.left round.written fault.NoMemory refl);
+  cause = tt;
+  last = tt;
+  taken = tt;
+  calm = tt;
+  never_falls = record { read_faults = stays round.counts.read_faults; write_faults = stays round.counts.write_faults };
+  reads = gave_none round.left round.counts.reads;
+  registration = goes_on_none round.desk;
+  source = refl;
+  sink = refl;
+}
+  where
+    stays : (n : ℕ) → n ≤ n
+    stays n = omega arith

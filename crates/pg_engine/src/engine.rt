@@ -1,14 +1,14 @@
 //! The engine: it reads the client's bytes, feeds a conversation with them, and counts turns.
 
-ghost use Rattle.std.specs.Prelude.{◌≡◌, ◌++◌, ◌≤◌, ◌<◌, List, [], length, take, true, IfOk, OnOk};
+ghost use Rattle.std.specs.Prelude.{◌≡◌, ◌++◌, ◌≤◌, ◌<◌, List, [], length, take, true, IfOk};
 ghost use Rattle.std.specs.Arc.{arc_value};
 ghost use Rattle.pg_portal.specs.Maps.{no_maps};
-ghost use Rattle.pg_client.specs.Desk.{GoesOn};
 ghost use Rattle.pg_client.specs.declared.desk.DeskCall.{DeskCall};
 ghost use Rattle.conversation_table.specs.Questions.{questions_since};
 ghost use Rattle.pg_client.specs.State.{first_state};
 ghost use Rattle.conversation_runs.specs.Session.{whole_rules};
-ghost use Rattle.pg_engine.specs.Serving.{WentSo, HasCause, EndsAtLast, FaultsNeverFall, IsCalm, IsRunOverTaken, ReadsGaveBytes, counts_of};
+ghost use Rattle.pg_engine.specs.Around.{Serves, ServesSession, around};
+ghost use Rattle.pg_engine.specs.Serving.{WentSo, HasCause, counts_of};
 
 use crate::conversation::Conversation;
 use pg_portal::PortalStore;
@@ -62,22 +62,9 @@ pub fn serve_connection<
         (questions_since (D.told desk.old).calls (D.told desk.new).calls)
         (counts_of S.reads S.faults K.faults source.old sink.old)
         (counts_of S.reads S.faults K.faults source.new sink.new) }
-    ensures last { IfOk result (EndsAtLast (whole_rules (H.told (arc_value handlers)))
-        (first_state (D.told desk.old).registration.0 (D.told desk.old).registration.1)
-        (S.left source.old) (S.left source.new)) }
-    ensures taken { IfOk result (IsRunOverTaken (whole_rules (H.told (arc_value handlers)))
-        (first_state (D.told desk.old).registration.0 (D.told desk.old).registration.1)
-        (S.left source.old) (S.left source.new) (K.written sink.old) (K.written sink.new)
-        (D.told desk.old).calls (D.told desk.new).calls) }
-    ensures calm { OnOk result (IsCalm (counts_of S.reads S.faults K.faults source.old sink.old)
-        (counts_of S.reads S.faults K.faults source.new sink.new)) }
-    ensures never_falls { FaultsNeverFall (counts_of S.reads S.faults K.faults source.old sink.old)
-        (counts_of S.reads S.faults K.faults source.new sink.new) }
-    ensures reads { ReadsGaveBytes (S.left source.old) (S.left source.new) (S.reads source.old)
-        (S.reads source.new) }
-    ensures registration { GoesOn (D.told desk.old) (D.told desk.new) }
-    ensures source { S.origin source.new ≡ S.origin source.old }
-    ensures sink { K.origin sink.new ≡ K.origin sink.old }
+    ensures serves { let round = around S.left S.reads S.faults S.origin K.written K.faults K.origin D.told in
+        ServesSession (H.told (arc_value handlers)) turn_limit result
+        (round source.old sink.old desk.old) (round source.new sink.new desk.new) }
 {
     let Ok(session) = session_at(alloc, handlers, store, desk) else {
         return Err(ServeError::NoMemory);
@@ -121,31 +108,9 @@ pub fn serve_whole<C: Conversation + Drop, D: CancelDesk, S: Source, K: Sink>(
     requires open { (C.told conversation).is_open ≡ true }
     requires rest { (C.told conversation).rest ≡ [] }
     requires unsent { (C.told conversation).unsent ≡ [] }
-    ensures went { (calls : List DeskCall)
-        × ((D.told desk.new).calls ≡ (D.told desk.old).calls ++ calls)
-        × WentSo (C.told conversation).rules (C.told conversation).state
-        result (S.left source.old) (S.left source.new) (K.written sink.old) (K.written sink.new)
-        calls }
-    ensures cause { HasCause result turn_limit
-        (questions_since (D.told desk.old).calls (D.told desk.new).calls)
-        (counts_of S.reads S.faults K.faults source.old sink.old)
-        (counts_of S.reads S.faults K.faults source.new sink.new) }
-    ensures last { IfOk result (EndsAtLast (C.told conversation).rules
-        (C.told conversation).state
-        (S.left source.old) (S.left source.new)) }
-    ensures taken { IfOk result (IsRunOverTaken (C.told conversation).rules
-        (C.told conversation).state
-        (S.left source.old) (S.left source.new) (K.written sink.old) (K.written sink.new)
-        (D.told desk.old).calls (D.told desk.new).calls) }
-    ensures calm { OnOk result (IsCalm (counts_of S.reads S.faults K.faults source.old sink.old)
-        (counts_of S.reads S.faults K.faults source.new sink.new)) }
-    ensures never_falls { FaultsNeverFall (counts_of S.reads S.faults K.faults source.old sink.old)
-        (counts_of S.reads S.faults K.faults source.new sink.new) }
-    ensures reads { ReadsGaveBytes (S.left source.old) (S.left source.new) (S.reads source.old)
-        (S.reads source.new) }
-    ensures registration { GoesOn (D.told desk.old) (D.told desk.new) }
-    ensures source { S.origin source.new ≡ S.origin source.old }
-    ensures sink { K.origin sink.new ≡ K.origin sink.old }
+    ensures { let round = around S.left S.reads S.faults S.origin K.written K.faults K.origin D.told in
+        Serves (C.told conversation).rules (C.told conversation).state turn_limit result
+        (round source.old sink.old desk.old) (round source.new sink.new desk.new) }
 {
     serve(alloc, &mut conversation, desk, source, sink, turn_limit)
 }
@@ -163,31 +128,9 @@ pub fn serve<C: Conversation, D: CancelDesk, S: Source, K: Sink>(
     requires open { (C.told conversation.old).is_open ≡ true }
     requires rest { (C.told conversation.old).rest ≡ [] }
     requires unsent { (C.told conversation.old).unsent ≡ [] }
-    ensures went { (calls : List DeskCall)
-        × ((D.told desk.new).calls ≡ (D.told desk.old).calls ++ calls)
-        × WentSo (C.told conversation.old).rules (C.told conversation.old).state
-        result (S.left source.old) (S.left source.new) (K.written sink.old) (K.written sink.new)
-        calls }
-    ensures cause { HasCause result turn_limit
-        (questions_since (D.told desk.old).calls (D.told desk.new).calls)
-        (counts_of S.reads S.faults K.faults source.old sink.old)
-        (counts_of S.reads S.faults K.faults source.new sink.new) }
-    ensures last { IfOk result (EndsAtLast (C.told conversation.old).rules
-        (C.told conversation.old).state
-        (S.left source.old) (S.left source.new)) }
-    ensures taken { IfOk result (IsRunOverTaken (C.told conversation.old).rules
-        (C.told conversation.old).state
-        (S.left source.old) (S.left source.new) (K.written sink.old) (K.written sink.new)
-        (D.told desk.old).calls (D.told desk.new).calls) }
-    ensures calm { OnOk result (IsCalm (counts_of S.reads S.faults K.faults source.old sink.old)
-        (counts_of S.reads S.faults K.faults source.new sink.new)) }
-    ensures never_falls { FaultsNeverFall (counts_of S.reads S.faults K.faults source.old sink.old)
-        (counts_of S.reads S.faults K.faults source.new sink.new) }
-    ensures reads { ReadsGaveBytes (S.left source.old) (S.left source.new) (S.reads source.old)
-        (S.reads source.new) }
-    ensures registration { GoesOn (D.told desk.old) (D.told desk.new) }
-    ensures source { S.origin source.new ≡ S.origin source.old }
-    ensures sink { K.origin sink.new ≡ K.origin sink.old }
+    ensures { let round = around S.left S.reads S.faults S.origin K.written K.faults K.origin D.told in
+        Serves (C.told conversation.old).rules (C.told conversation.old).state
+        turn_limit result (round source.old sink.old desk.old) (round source.new sink.new desk.new) }
 {
     let mut turns = Turns {
         spent: 0,
@@ -220,31 +163,9 @@ fn serve_pieces<C: Conversation, D: CancelDesk, S: Source, K: Sink>(
     requires unsent { (C.told conversation.old).unsent ≡ [] }
     requires fresh { turns.old.spent ≡ 0 }
     requires room { 0 < length buffer.old }
-    ensures went { (calls : List DeskCall)
-        × ((D.told desk.new).calls ≡ (D.told desk.old).calls ++ calls)
-        × WentSo (C.told conversation.old).rules (C.told conversation.old).state
-        result (S.left source.old) (S.left source.new) (K.written sink.old) (K.written sink.new)
-        calls }
-    ensures cause { HasCause result turns.old.limit
-        (questions_since (D.told desk.old).calls (D.told desk.new).calls)
-        (counts_of S.reads S.faults K.faults source.old sink.old)
-        (counts_of S.reads S.faults K.faults source.new sink.new) }
-    ensures last { IfOk result (EndsAtLast (C.told conversation.old).rules
-        (C.told conversation.old).state
-        (S.left source.old) (S.left source.new)) }
-    ensures taken { IfOk result (IsRunOverTaken (C.told conversation.old).rules
-        (C.told conversation.old).state
-        (S.left source.old) (S.left source.new) (K.written sink.old) (K.written sink.new)
-        (D.told desk.old).calls (D.told desk.new).calls) }
-    ensures calm { OnOk result (IsCalm (counts_of S.reads S.faults K.faults source.old sink.old)
-        (counts_of S.reads S.faults K.faults source.new sink.new)) }
-    ensures never_falls { FaultsNeverFall (counts_of S.reads S.faults K.faults source.old sink.old)
-        (counts_of S.reads S.faults K.faults source.new sink.new) }
-    ensures reads { ReadsGaveBytes (S.left source.old) (S.left source.new) (S.reads source.old)
-        (S.reads source.new) }
-    ensures registration { GoesOn (D.told desk.old) (D.told desk.new) }
-    ensures source { S.origin source.new ≡ S.origin source.old }
-    ensures sink { K.origin sink.new ≡ K.origin sink.old }
+    ensures { let round = around S.left S.reads S.faults S.origin K.written K.faults K.origin D.told in
+        Serves (C.told conversation.old).rules (C.told conversation.old).state
+        turns.old.limit result (round source.old sink.old desk.old) (round source.new sink.new desk.new) }
 {
     'turns: loop {
         if !turns.spend() {

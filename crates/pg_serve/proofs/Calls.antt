@@ -1,5 +1,5 @@
 -- The calls that a connection made while its client was served.
-use Rattle.std.proofs.Common.{◌≡◌, ℕ, List, [], ◌∷◌, ◌++◌, sym, ap, ◌∙◌}
+use Rattle.std.proofs.Common.{◌≡◌, ℕ, List, [], ◌∷◌, ◌++◌, Result, sym, ap, subst, ◌∙◌}
 use Rattle.std.specs.Prelude.{◌==◌}
 use Rattle.std.proofs.lemmas.List.{append_cancel_left}
 use Rattle.std.proofs.lemmas.List.Elements.{filter-append}
@@ -9,7 +9,11 @@ use Rattle.pg_cancel.specs.declared.entries.Entry.{Entry}
 use Rattle.pg_cancel.specs.Connections.{Connection, Issuer, IsSameConnection, calls_of, origin_of}
 use Rattle.pg_client.specs.declared.desk.DeskCall.{DeskCall}
 use Rattle.pg_client.specs.Desk.{DeskTold, GoesOn}
-use Rattle.pg_serve.specs.Desk.{ConnectionGoesOn, desk_call, desk_calls, registration_of}
+use Rattle.pg_client.specs.declared.ends.EndKind.{EndKind}
+use Rattle.conversation_runs.specs.declared.ends.ServeError.{ServeError}
+use Rattle.conversation_runs.specs.Run.{Rules}
+use Rattle.pg_engine.specs.Around.{Around, Serves}
+use Rattle.pg_serve.specs.Desk.{ConnectionGoesOn, desk_call, desk_calls, desk_of, desk_over, registration_of}
 
 -- what a connection has seen goes on, and so do its own calls there: by those of a session
 pub calls_made : (n : ℕ) (seen seen' mine mine' : List Entry) (calls : List DeskCall) → IsPrefix seen seen' → calls_of n seen ≡ mine
@@ -47,11 +51,6 @@ issuer_in (name ∷ number ∷ words ∷ slots ∷ views ∷ atom ∷ block ∷ 
     record { words = words; slots = slots; views_name = views; atom = atom; block = block; offset = offset; slot_names = names }
 issuer_in _ = record { words = 0; slots = 0; views_name = 0; atom = 0; block = 0; offset = 0; slot_names = [] }
 
--- what such a desk tells, under the name of the reference that it was lent
-abbrev pub desk_over : ℕ → Connection → DeskTold
-desk_over name h =
-    record { registration = registration_of h; calls = desk_calls h.mine; origin = origin_of name h.number h.issuer }
-
 -- the connection is the same behind the calls of its desk
 pub desk_goes_on : (name new_name : ℕ) (old new : Connection) → GoesOn (desk_over name old) (desk_over new_name new)
     → ConnectionGoesOn old new
@@ -62,3 +61,32 @@ desk_goes_on name new_name old new on = record {
   grown = ap (λ d. d.calls) on.grown;
   registration = ap (λ d. d.registration) on.grown;
 }
+
+-- ---- a connection that took in what another had seen
+
+-- it tells the same as a desk
+same_desk : (between new : Connection) → IsSameConnection between new → new.mine ≡ between.mine → desk_of new ≡ desk_of between
+same_desk between new same mine = λ i. record {
+  registration = (same.2 i, same.3 i);
+  calls = desk_calls (mine i);
+  origin = origin_of 0 (same.1 i) (same.0 i);
+}
+
+-- what stands round a conversation, with another desk
+abbrev pub at_desk : Around → DeskTold → Around
+at_desk round desk = record {
+  left = round.left;
+  written = round.written;
+  counts = round.counts;
+  source = round.source;
+  sink = round.sink;
+  desk = desk;
+}
+
+-- so its client was served
+pub served_as : {T : Type 0} (rules : Rules T) (first : T) (turns : ℕ) (result : Result EndKind ServeError) (before after : Around)
+    (between new : Connection) → IsSameConnection between new → new.mine ≡ between.mine
+    → Serves rules first turns result before (at_desk after (desk_of between))
+    → Serves rules first turns result before (at_desk after (desk_of new))
+served_as rules first turns result before after between new same mine x =
+    subst (λ d. Serves rules first turns result before (at_desk after d)) (sym (same_desk between new same mine)) x

@@ -21,14 +21,9 @@ pub struct HandleDesk<'a, R: Wait> {
 }
 
 impl<'a, R: Wait> CancelDesk for HandleDesk<'a, R> {
-    ghost use Rattle.pg_cancel.specs.Connections.{origin_of};
-    ghost use Rattle.pg_serve.specs.Desk.{desk_calls};
+    ghost use Rattle.pg_serve.specs.Desk.{desk_over};
 
-    ghost told = { λ d. record {
-      registration = (d.handle.now.pid, d.handle.now.key);
-      calls = desk_calls d.handle.now.mine;
-      origin = origin_of d.handle.ghost_name d.handle.now.number d.handle.now.issuer;
-    } };
+    ghost told = { λ d. desk_over d.handle.ghost_name d.handle.now };
 
     fn identity(&self) -> (i32, &SecretKey) {
         (self.handle.pid(), self.handle.key())

@@ -1,10 +1,10 @@
 //! A desk that answers from a list, and finds no memory at the calls that it is told.
 
-ghost use Rattle.std.specs.Prelude.{◌≡◌, [], ◌∷◌, drop, take, IfOk, OnOk, OnErr, IsTrue, IsErr};
+ghost use Rattle.std.specs.Prelude.{◌≡◌, [], ◌∷◌, drop, take, IfOk, OnOk, OnErr};
 ghost use Rattle.pg_client.specs.declared.desk.DeskCall.{DeskCall};
 ghost use Rattle.pg_client.specs.Desk.{after_calls};
 ghost use Rattle.pg_client.specs.Script.{first_or_no, script_told, IsScripted};
-ghost use Rattle.pg_serve.specs.Flaky.{is_next_refused, IsNextCall};
+ghost use Rattle.pg_serve.specs.Flaky.{is_next_refused, IsFlakyCall, IsNextCall};
 
 use pg_messages::{PgList, SecretKey};
 use pg_session::{CancelDesk, DeskCall, ScriptDesk};
@@ -84,9 +84,7 @@ impl CancelDesk for FlakyDesk {
     }
 
     fn start(&mut self) -> Result<(), AllocError>
-        ensures refused { IsTrue (is_next_refused self.old) → IsErr result }
-        ensures unchanged { IsTrue (is_next_refused self.old) → self.new.script ≡ self.old.script }
-        ensures next { IsNextCall self.old self.new }
+        ensures flaky { IsFlakyCall self.old self.new result }
         ensures answers { self.new.script.answers ≡ self.old.script.answers }
         ensures ok { OnOk result
             (script_told self.new.script ≡ after_calls (script_told self.old.script)
@@ -100,9 +98,7 @@ impl CancelDesk for FlakyDesk {
     }
 
     fn ask(&mut self) -> Result<bool, AllocError>
-        ensures refused { IsTrue (is_next_refused self.old) → IsErr result }
-        ensures unchanged { IsTrue (is_next_refused self.old) → self.new.script ≡ self.old.script }
-        ensures next { IsNextCall self.old self.new }
+        ensures flaky { IsFlakyCall self.old self.new result }
         ensures answer { IfOk result (λ yes. yes ≡ first_or_no self.old.script.answers) }
         ensures used_up { OnOk result (self.new.script.answers ≡ drop 1 self.old.script.answers) }
         ensures kept { OnErr result (self.new.script.answers ≡ self.old.script.answers) }
@@ -117,9 +113,7 @@ impl CancelDesk for FlakyDesk {
     }
 
     fn cancel(&mut self, pid: i32, key: &SecretKey) -> Result<bool, AllocError>
-        ensures refused { IsTrue (is_next_refused self.old) → IsErr result }
-        ensures unchanged { IsTrue (is_next_refused self.old) → self.new.script ≡ self.old.script }
-        ensures next { IsNextCall self.old self.new }
+        ensures flaky { IsFlakyCall self.old self.new result }
         ensures answer { IfOk result (λ yes. yes ≡ first_or_no self.old.script.answers) }
         ensures used_up { OnOk result (self.new.script.answers ≡ drop 1 self.old.script.answers) }
         ensures kept { OnErr result (self.new.script.answers ≡ self.old.script.answers) }
@@ -134,9 +128,7 @@ impl CancelDesk for FlakyDesk {
     }
 
     fn narrow(&mut self) -> Result<(), AllocError>
-        ensures refused { IsTrue (is_next_refused self.old) → IsErr result }
-        ensures unchanged { IsTrue (is_next_refused self.old) → self.new.script ≡ self.old.script }
-        ensures next { IsNextCall self.old self.new }
+        ensures flaky { IsFlakyCall self.old self.new result }
         ensures key { OnOk result (self.new.script.key ≡ take 4 self.old.script.key) }
         ensures answers { self.new.script.answers ≡ self.old.script.answers }
         ensures ok { OnOk result

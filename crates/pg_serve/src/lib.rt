@@ -1,6 +1,5 @@
-//! The server of one client: the engine that reads, feeds and writes; sources and sinks in memory,
-//! over files, standard streams and sockets; the desk over a handle of the shared registry; who
-//! accepts connections and who starts their jobs.
+//! One client at a socket, under the shared cancel registry: the desk over a handle of the registry,
+//! and the calls that serve a connection. It lends the names of the engine and of its streams.
 #![tactic(auto)]
 
 mod desk;

@@ -1,18 +1,14 @@
 //! A client at a socket is served.
 
-ghost use Rattle.std.specs.Prelude.{◌≡◌, ◌++◌, List, None, OnOk};
+ghost use Rattle.std.specs.Prelude.{◌≡◌, None};
 ghost use Rattle.std.specs.Arc.{arc_value};
-ghost use Rattle.std.specs.FinMap as fin;
-ghost use mathlib.Core.List.{IsPrefix};
-ghost use Rattle.pg_cancel.specs.Connections.{calls_of};
-ghost use Rattle.pg_cancel.specs.LegalHistory.{IsLegal};
 ghost use Rattle.pg_portal.specs.Maps.{no_maps};
-ghost use Rattle.pg_client.specs.declared.desk.DeskCall.{DeskCall};
 ghost use Rattle.conversation_table.specs.Questions.{questions_since};
 ghost use Rattle.pg_client.specs.State.{first_state};
 ghost use Rattle.conversation_runs.specs.Session.{whole_rules};
-ghost use Rattle.pg_serve.specs.Desk.{ConnectionGoesOn, WentByCalls, desk_calls};
-ghost use Rattle.pg_engine.specs.Serving.{HasCause, FaultsNeverFall, IsCalm, WentSo, counts_of};
+ghost use Rattle.pg_serve.specs.Desk.{StaysUsable, WentByCalls, around_socket, desk_calls, desk_of};
+ghost use Rattle.pg_engine.specs.Around.{ServesSession, around};
+ghost use Rattle.pg_engine.specs.Serving.{HasCause, counts_of};
 ghost use Rattle.pg_streams.specs.Sockets.{reads_of, faults_of};
 
 use crate::desk::HandleDesk;
@@ -55,16 +51,10 @@ pub fn process_socket<
         (questions_since (desk_calls handle.old.mine) (desk_calls handle.new.mine))
         (counts_of reads_of faults_of faults_of reader.old writer.old)
         (counts_of reads_of faults_of faults_of reader.new writer.new) }
-    ensures calm { OnOk result (IsCalm
-        (counts_of reads_of faults_of faults_of reader.old writer.old)
-        (counts_of reads_of faults_of faults_of reader.new writer.new)) }
-    ensures never_falls { FaultsNeverFall
-        (counts_of reads_of faults_of faults_of reader.old writer.old)
-        (counts_of reads_of faults_of faults_of reader.new writer.new) }
-    ensures same { ConnectionGoesOn handle.old handle.new }
-    ensures seen { IsPrefix handle.old.seen handle.new.seen }
-    ensures legal { IsLegal handle.new.seen }
-    ensures own { calls_of handle.new.number handle.new.seen ≡ handle.new.mine }
+    ensures serves { ServesSession (H.told (arc_value handlers)) turn_limit result
+        (around_socket reader.old writer.old handle.old)
+        (around_socket reader.new writer.new handle.new) }
+    ensures usable { StaysUsable handle.old handle.new }
 {
     serve_handle(
         rt, alloc, reader, writer, handlers, store, manager, handle, turn_limit,
@@ -100,16 +90,10 @@ pub fn process_socket_unix<
         (questions_since (desk_calls handle.old.mine) (desk_calls handle.new.mine))
         (counts_of reads_of faults_of faults_of reader.old writer.old)
         (counts_of reads_of faults_of faults_of reader.new writer.new) }
-    ensures calm { OnOk result (IsCalm
-        (counts_of reads_of faults_of faults_of reader.old writer.old)
-        (counts_of reads_of faults_of faults_of reader.new writer.new)) }
-    ensures never_falls { FaultsNeverFall
-        (counts_of reads_of faults_of faults_of reader.old writer.old)
-        (counts_of reads_of faults_of faults_of reader.new writer.new) }
-    ensures same { ConnectionGoesOn handle.old handle.new }
-    ensures seen { IsPrefix handle.old.seen handle.new.seen }
-    ensures legal { IsLegal handle.new.seen }
-    ensures own { calls_of handle.new.number handle.new.seen ≡ handle.new.mine }
+    ensures serves { ServesSession (H.told (arc_value handlers)) turn_limit result
+        (around_socket reader.old writer.old handle.old)
+        (around_socket reader.new writer.new handle.new) }
+    ensures usable { StaysUsable handle.old handle.new }
 {
     serve_handle(
         rt, alloc, reader, writer, handlers, store, manager, handle, turn_limit,
@@ -142,18 +126,10 @@ fn serve_handle<
     ensures went { WentByCalls (whole_rules (H.told (arc_value handlers)))
         (first_state handle.old.pid handle.old.key) handle.old.mine handle.new.mine result
         (S.left source.old) (S.left source.new) (K.written sink.old) (K.written sink.new) }
-    ensures cause { HasCause result turn_limit
-        (questions_since (desk_calls handle.old.mine) (desk_calls handle.new.mine))
-        (counts_of S.reads S.faults K.faults source.old sink.old)
-        (counts_of S.reads S.faults K.faults source.new sink.new) }
-    ensures calm { OnOk result (IsCalm (counts_of S.reads S.faults K.faults source.old sink.old)
-        (counts_of S.reads S.faults K.faults source.new sink.new)) }
-    ensures never_falls { FaultsNeverFall (counts_of S.reads S.faults K.faults source.old sink.old)
-        (counts_of S.reads S.faults K.faults source.new sink.new) }
-    ensures same { ConnectionGoesOn handle.old handle.new }
-    ensures seen { IsPrefix handle.old.seen handle.new.seen }
-    ensures legal { IsLegal handle.new.seen }
-    ensures own { calls_of handle.new.number handle.new.seen ≡ handle.new.mine }
+    ensures serves { let round = around S.left S.reads S.faults S.origin K.written K.faults K.origin desk_of in
+        ServesSession (H.told (arc_value handlers)) turn_limit result
+        (round source.old sink.old handle.old) (round source.new sink.new handle.new) }
+    ensures usable { StaysUsable handle.old handle.new }
 {
     let before = manager.note(handle);
     let answer = serve_at_desk(
@@ -186,20 +162,9 @@ fn serve_at_desk<
 ) -> Result<EndKind, ServeError>
     requires empty { St.maps store ≡ no_maps }
     requires issued { handle.old.issuer ≡ manager.now }
-    ensures went { (calls : List DeskCall)
-        × (desk_calls handle.new.mine ≡ desk_calls handle.old.mine ++ calls)
-        × WentSo (whole_rules (H.told (arc_value handlers)))
-        (first_state handle.old.pid handle.old.key) result
-        (S.left source.old) (S.left source.new) (K.written sink.old) (K.written sink.new) calls }
-    ensures cause { HasCause result turn_limit
-        (questions_since (desk_calls handle.old.mine) (desk_calls handle.new.mine))
-        (counts_of S.reads S.faults K.faults source.old sink.old)
-        (counts_of S.reads S.faults K.faults source.new sink.new) }
-    ensures calm { OnOk result (IsCalm (counts_of S.reads S.faults K.faults source.old sink.old)
-        (counts_of S.reads S.faults K.faults source.new sink.new)) }
-    ensures never_falls { FaultsNeverFall (counts_of S.reads S.faults K.faults source.old sink.old)
-        (counts_of S.reads S.faults K.faults source.new sink.new) }
-    ensures same { ConnectionGoesOn handle.old handle.new }
+    ensures { let round = around S.left S.reads S.faults S.origin K.written K.faults K.origin desk_of in
+        ServesSession (H.told (arc_value handlers)) turn_limit result
+        (round source.old sink.old handle.old) (round source.new sink.new handle.new) }
 {
     let mut desk = HandleDesk {
         runtime: rt,

@@ -1,14 +1,12 @@
 //! The service of one connection, as a value that a thread may take.
 
-ghost use Rattle.std.specs.Prelude.{◌≡◌, ◌++◌, [], List, OnOk};
+ghost use Rattle.std.specs.Prelude.{List, ◌≡◌, ◌++◌, []};
 ghost use Rattle.std.specs.Arc.{arc_value};
-ghost use mathlib.Core.List.{IsPrefix};
-ghost use Rattle.pg_cancel.specs.Connections.{calls_of};
-ghost use Rattle.pg_cancel.specs.LegalHistory.{IsLegal};
 ghost use Rattle.pg_cancel.specs.declared.entries.Entry.{Entry};
 ghost use Rattle.conversation_table.specs.Questions.{questions_since};
-ghost use Rattle.pg_serve.specs.Desk.{ConnectionGoesOn, desk_calls};
-ghost use Rattle.pg_engine.specs.Serving.{HasCause, FaultsNeverFall, IsCalm, ReadsGaveBytes, counts_of};
+ghost use Rattle.pg_serve.specs.Desk.{StaysUsable, desk_calls, desk_of};
+ghost use Rattle.pg_engine.specs.Around.{ServesSession, around};
+ghost use Rattle.pg_engine.specs.Serving.{HasCause, counts_of};
 ghost use Rattle.relation_tables.specs.RelationHandler.{relation_handlers};
 ghost use Rattle.relation_serving.specs.Completeness.{IsComplete};
 ghost use Rattle.relation_serving.specs.Serving.{WentByTables};
@@ -57,25 +55,17 @@ impl<S: Source, K: Sink> ConnectionJob<S, K> {
             (questions_since (desk_calls self.old.handle.mine) (desk_calls self.new.handle.mine))
             (counts_of S.reads S.faults K.faults self.old.source self.old.sink)
             (counts_of S.reads S.faults K.faults self.new.source self.new.sink) }
-        ensures calm { OnOk result (IsCalm
-            (counts_of S.reads S.faults K.faults self.old.source self.old.sink)
-            (counts_of S.reads S.faults K.faults self.new.source self.new.sink)) }
-        ensures never_falls { FaultsNeverFall
-            (counts_of S.reads S.faults K.faults self.old.source self.old.sink)
-            (counts_of S.reads S.faults K.faults self.new.source self.new.sink) }
         ensures complete { IsComplete (arc_value self.old.relations) self.old.turn_limit result
             (S.left self.old.source)
             (counts_of S.reads S.faults K.faults self.old.source self.old.sink)
             (counts_of S.reads S.faults K.faults self.new.source self.new.sink) }
-        ensures reads { ReadsGaveBytes (S.left self.old.source) (S.left self.new.source)
-            (S.reads self.old.source)
-            (S.reads self.new.source) }
+        ensures serves { let round = around S.left S.reads S.faults S.origin K.written K.faults K.origin desk_of in
+            ServesSession (relation_handlers (arc_value self.old.relations)) self.old.turn_limit result
+            (round self.old.source self.old.sink self.old.handle)
+            (round self.new.source self.new.sink self.new.handle) }
         ensures kept { (self.new.relations ≡ self.old.relations)
             × (self.new.turn_limit ≡ self.old.turn_limit) }
-        ensures same { ConnectionGoesOn self.old.handle self.new.handle }
-        ensures seen { IsPrefix self.old.handle.seen self.new.handle.seen }
-        ensures legal { IsLegal self.new.handle.seen }
-        ensures own { calls_of self.new.handle.number self.new.handle.seen ≡ self.new.handle.mine }
+        ensures usable { StaysUsable self.old.handle self.new.handle }
     {
         serve_relations(
             rt,

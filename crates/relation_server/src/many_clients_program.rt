@@ -1,13 +1,14 @@
 //! The program over many clients: its command `listen`.
 
-ghost use Rattle.std.specs.Prelude.{◌≡◌, ◌≤◌, ◌<◌, ◌^◌, IfErr, IfOk};
+ghost use Rattle.std.specs.Prelude.{◌≡◌, [], ◌∷◌, ◌≤◌, ◌<◌, ◌^◌, IfErr, IfOk};
 ghost use Rattle.std.specs.Arc.{arc_value};
 ghost use Rattle.relation_files.specs.Files.{IsToldBy};
 ghost use Rattle.relation_words.specs.Listening.{listen_count_of};
 ghost use Rattle.relation_server.specs.declared.outcome.Outcome.{Outcome};
 ghost use mathlib.Core.List.{IsPrefix};
-ghost use Rattle.relation_server.specs.Listening.{NeverFalls, taking_of};
+ghost use Rattle.relation_server.specs.Listening.{taking_of};
 ghost use Rattle.relation_server.specs.Outcomes.{status_of, line_of};
+ghost use Rattle.status_lines.specs.Counts.{CountsNeverFall};
 ghost use Rattle.status_lines.specs.StatusLines.{IsReported};
 ghost use Rattle.relation_server.specs.Program.{HasListened, HasNoRelations, HasRunListening, listen_surroundings, outcome_of};
 
@@ -71,10 +72,9 @@ pub fn run_listen<
         × IsReported (status_of outcome) (line_of outcome) result (E.written err.old)
         (E.written err.new)
         (E.faults err.old) (E.faults err.new) }
-    ensures never_falls { NeverFalls
-        (taking_of A.accepted A.faults P.started P.faults acceptor.old spawner.old)
-        (taking_of A.accepted A.faults P.started P.faults acceptor.new spawner.new) }
-    ensures file_never_falls { F.faults file.old ≤ F.faults file.new }
+    ensures never_falls { CountsNeverFall
+        (F.faults file.old ∷ A.faults acceptor.old ∷ P.faults spawner.old ∷ E.faults err.old ∷ [])
+        (F.faults file.new ∷ A.faults acceptor.new ∷ P.faults spawner.new ∷ E.faults err.new ∷ []) }
     ensures seen { IsPrefix door.old.seen door.new.seen }
     ensures issued { door.new.issuer ≡ door.old.issuer }
 {
@@ -113,10 +113,9 @@ fn listen_over<
         (taking_of A.accepted A.faults P.started P.faults acceptor.old spawner.old) door.old.seen)
         (listen_surroundings (F.left file.new) (F.faults file.new)
         (taking_of A.accepted A.faults P.started P.faults acceptor.new spawner.new) door.new.seen) }
-    ensures never_falls { NeverFalls
-        (taking_of A.accepted A.faults P.started P.faults acceptor.old spawner.old)
-        (taking_of A.accepted A.faults P.started P.faults acceptor.new spawner.new) }
-    ensures file_never_falls { F.faults file.old ≤ F.faults file.new }
+    ensures never_falls { CountsNeverFall
+        (F.faults file.old ∷ A.faults acceptor.old ∷ P.faults spawner.old ∷ [])
+        (F.faults file.new ∷ A.faults acceptor.new ∷ P.faults spawner.new ∷ []) }
     ensures seen { IsPrefix door.old.seen door.new.seen }
     ensures issued { door.new.issuer ≡ door.old.issuer }
 {

@@ -1,8 +1,9 @@
 //! The program over one client: its commands `serve` and `demo`.
 
-ghost use Rattle.std.specs.Prelude.{◌≡◌, ◌≤◌, List, ℕ, Option};
+ghost use Rattle.std.specs.Prelude.{◌≡◌, [], ◌∷◌, List, ℕ, Option};
 ghost use Rattle.pg_engine.specs.Serving.{FaultsNeverFall, counts_of};
 ghost use Rattle.relation_server.specs.Outcomes.{status_of, line_of};
+ghost use Rattle.status_lines.specs.Counts.{CountsNeverFall};
 ghost use Rattle.status_lines.specs.StatusLines.{IsReported};
 ghost use Rattle.relation_server.specs.Program.{HasRun, HasServed, HasServedFile, IsRunComplete, surroundings, surroundings_of};
 ghost use Rattle.relation_server.specs.declared.outcome.Outcome.{Outcome};
@@ -67,10 +68,9 @@ pub fn run<R: Wait, F: Source, S: Source, K: Sink, E: Sink>(
         client.old out.old door.old.seen)
         (surroundings_of F.left F.faults S.left S.reads S.faults K.written K.faults file.new
         client.new out.new door.new.seen) }
-    ensures file_never_falls { F.faults file.old ≤ F.faults file.new }
-    ensures never_falls { FaultsNeverFall (counts_of S.reads S.faults K.faults client.old out.old)
-        (counts_of S.reads S.faults K.faults client.new out.new) }
-    ensures err_never_falls { E.faults err.old ≤ E.faults err.new }
+    ensures never_falls { CountsNeverFall
+        (F.faults file.old ∷ S.faults client.old ∷ K.faults out.old ∷ E.faults err.old ∷ [])
+        (F.faults file.new ∷ S.faults client.new ∷ K.faults out.new ∷ E.faults err.new ∷ []) }
     ensures issued { door.new.issuer ≡ door.old.issuer }
 {
     let (outcome, note) = carry_out(rt, alloc, words, manager, door, file, client, out);
@@ -94,9 +94,9 @@ fn carry_out<R: Wait, F: Source, S: Source, K: Sink>(
         client.old out.old door.old.seen)
         (surroundings_of F.left F.faults S.left S.reads S.faults K.written K.faults file.new
         client.new out.new door.new.seen) }
-    ensures file_never_falls { F.faults file.old ≤ F.faults file.new }
-    ensures never_falls { FaultsNeverFall (counts_of S.reads S.faults K.faults client.old out.old)
-        (counts_of S.reads S.faults K.faults client.new out.new) }
+    ensures never_falls { CountsNeverFall
+        (F.faults file.old ∷ S.faults client.old ∷ K.faults out.old ∷ [])
+        (F.faults file.new ∷ S.faults client.new ∷ K.faults out.new ∷ []) }
     ensures issued { door.new.issuer ≡ door.old.issuer }
 {
     match read_command(alloc, words) {
@@ -126,9 +126,9 @@ fn serve_file<R: Wait, F: Source, S: Source, K: Sink>(
         client.old out.old door.old.seen)
         (surroundings_of F.left F.faults S.left S.reads S.faults K.written K.faults file.new
         client.new out.new door.new.seen) }
-    ensures file_never_falls { F.faults file.old ≤ F.faults file.new }
-    ensures never_falls { FaultsNeverFall (counts_of S.reads S.faults K.faults client.old out.old)
-        (counts_of S.reads S.faults K.faults client.new out.new) }
+    ensures never_falls { CountsNeverFall
+        (F.faults file.old ∷ S.faults client.old ∷ K.faults out.old ∷ [])
+        (F.faults file.new ∷ S.faults client.new ∷ K.faults out.new ∷ []) }
     ensures issued { door.new.issuer ≡ door.old.issuer }
 {
     match read_relations(alloc, file) {

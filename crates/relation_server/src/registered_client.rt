@@ -1,16 +1,12 @@
 //! A client of relations is served through its connection to the shared registry.
 
-ghost use Rattle.std.specs.Prelude.{◌≡◌, ◌++◌, List, IfOk, OnOk};
-ghost use mathlib.Core.List.{IsPrefix};
-ghost use Rattle.pg_cancel.specs.Connections.{calls_of};
-ghost use Rattle.pg_cancel.specs.LegalHistory.{IsLegal};
+ghost use Rattle.std.specs.Prelude.{List, ◌≡◌, ◌++◌};
 ghost use Rattle.pg_cancel.specs.declared.entries.Entry.{Entry};
-ghost use Rattle.conversation_table.specs.Questions.{questions_since};
-ghost use Rattle.pg_client.specs.State.{first_state};
 ghost use Rattle.pg_client.specs.declared.desk.DeskCall.{DeskCall};
-ghost use Rattle.pg_serve.specs.Desk.{ConnectionGoesOn, desk_calls};
-ghost use Rattle.conversation_runs.specs.Session.{whole_rules};
-ghost use Rattle.pg_engine.specs.Serving.{HasCause, EndsAtLast, FaultsNeverFall, IsCalm, ReadsGaveBytes, counts_of};
+ghost use Rattle.conversation_table.specs.Questions.{questions_since};
+ghost use Rattle.pg_serve.specs.Desk.{StaysUsable, desk_calls, desk_of};
+ghost use Rattle.pg_engine.specs.Around.{ServesSession, around};
+ghost use Rattle.pg_engine.specs.Serving.{HasCause, counts_of};
 ghost use Rattle.relation_tables.specs.RelationHandler.{relation_handlers};
 ghost use Rattle.relation_serving.specs.Completeness.{IsComplete};
 ghost use Rattle.relation_serving.specs.Serving.{WentByTables};
@@ -42,7 +38,7 @@ pub fn serve_relations<R: Wait, S: Source, K: Sink>(
     requires issued { handle.old.issuer ≡ manager.now }
 
     // The bytes written and the connection's new calls are the conversation tables' answer to the
-    // client's bytes, however cut.
+    // client's bytes, however cut. Each cell that was written stands for a stored interval.
     ensures went { (made : List Entry) × (handle.new.mine ≡ handle.old.mine ++ made)
         × WentByTables relations.now (handle.old.pid, handle.old.key) result (S.left source.old) (S.left source.new)
         (K.written sink.old) (K.written sink.new) (desk_calls made) }
@@ -50,28 +46,20 @@ pub fn serve_relations<R: Wait, S: Source, K: Sink>(
         (questions_since (desk_calls handle.old.mine) (desk_calls handle.new.mine))
         (counts_of S.reads S.faults K.faults source.old sink.old)
         (counts_of S.reads S.faults K.faults source.new sink.new) }
-    ensures last { IfOk result (EndsAtLast (whole_rules (relation_handlers relations.now))
-        (first_state handle.old.pid handle.old.key) (S.left source.old) (S.left source.new)) }
-    ensures calm { OnOk result (IsCalm (counts_of S.reads S.faults K.faults source.old sink.old)
-        (counts_of S.reads S.faults K.faults source.new sink.new)) }
-    ensures never_falls { FaultsNeverFall (counts_of S.reads S.faults K.faults source.old sink.old)
-        (counts_of S.reads S.faults K.faults source.new sink.new) }
 
     // With turns enough, and where no read and no write fails, any bytes are served to their end.
     ensures complete { IsComplete relations.now turn_limit result (S.left source.old)
         (counts_of S.reads S.faults K.faults source.old sink.old)
         (counts_of S.reads S.faults K.faults source.new sink.new) }
 
-    // Each read that was counted gave a byte.
-    ensures reads { ReadsGaveBytes (S.left source.old) (S.left source.new) (S.reads source.old)
-        (S.reads source.new) }
+    // Nothing behind the end was read, and each read that was counted gave a byte.
+    ensures serves { let round = around S.left S.reads S.faults S.origin K.written K.faults K.origin desk_of in
+        ServesSession (relation_handlers relations.now) turn_limit result
+        (round source.old sink.old handle.old) (round source.new sink.new handle.new) }
 
     // What the connection has seen of the one history goes on, and is legal, and has just its own
     // calls under its number.
-    ensures same { ConnectionGoesOn handle.old handle.new }
-    ensures seen { IsPrefix handle.old.seen handle.new.seen }
-    ensures legal { IsLegal handle.new.seen }
-    ensures own { calls_of handle.new.number handle.new.seen ≡ handle.new.mine }
+    ensures usable { StaysUsable handle.old handle.new }
 {
     let before = manager.note(handle);
     let answer = serve_at_desk(
@@ -97,22 +85,12 @@ fn serve_at_desk<R: Wait, S: Source, K: Sink>(
         × (desk_calls handle.new.mine ≡ desk_calls handle.old.mine ++ calls)
         × WentByTables relations.now (handle.old.pid, handle.old.key) result (S.left source.old) (S.left source.new)
         (K.written sink.old) (K.written sink.new) calls }
-    ensures cause { HasCause result turn_limit
-        (questions_since (desk_calls handle.old.mine) (desk_calls handle.new.mine))
-        (counts_of S.reads S.faults K.faults source.old sink.old)
-        (counts_of S.reads S.faults K.faults source.new sink.new) }
-    ensures last { IfOk result (EndsAtLast (whole_rules (relation_handlers relations.now))
-        (first_state handle.old.pid handle.old.key) (S.left source.old) (S.left source.new)) }
-    ensures calm { OnOk result (IsCalm (counts_of S.reads S.faults K.faults source.old sink.old)
-        (counts_of S.reads S.faults K.faults source.new sink.new)) }
-    ensures never_falls { FaultsNeverFall (counts_of S.reads S.faults K.faults source.old sink.old)
-        (counts_of S.reads S.faults K.faults source.new sink.new) }
     ensures complete { IsComplete relations.now turn_limit result (S.left source.old)
         (counts_of S.reads S.faults K.faults source.old sink.old)
         (counts_of S.reads S.faults K.faults source.new sink.new) }
-    ensures reads { ReadsGaveBytes (S.left source.old) (S.left source.new) (S.reads source.old)
-        (S.reads source.new) }
-    ensures same { ConnectionGoesOn handle.old handle.new }
+    ensures serves { let round = around S.left S.reads S.faults S.origin K.written K.faults K.origin desk_of in
+        ServesSession (relation_handlers relations.now) turn_limit result
+        (round source.old sink.old handle.old) (round source.new sink.new handle.new) }
 {
     let mut desk = HandleDesk {
         runtime: rt,

@@ -24,6 +24,8 @@ use Rattle.relation_tables.specs.Relations.{HaveEvenRows}
 use Rattle.relation_tables.proofs.CoreConversations.{core_conversations_alike}
 use Rattle.relation_serving.specs.Serving.{core_rules, setting_of, SpeaksCore, WentByWhole, WentByCore, WentByTables}
 use Rattle.pg_messages.proofs.OneReading.{division_kept}
+use Rattle.relation_handlers.specs.Tables.{HoldIntervals}
+use Rattle.relation_serving.proofs.ShownCells.{shown_in}
 
 -- a front of what the client says
 speaks_front : (taken more : List ℕ) → SpeaksCore (taken ++ more) → SpeaksCore taken
@@ -50,7 +52,7 @@ ends_with (Goes s) (Goes c) rest _ same ended = absurd ended
 ends_with Stops Stops rest kind same ended = absurd ended
 ends_with _ _ rest kind same ended = absurd same
 
-module _ (relations : List Relation) (registration : ℤ × List ℕ) (even : HaveEvenRows relations) where
+module _ (relations : List Relation) (registration : ℤ × List ℕ) (within : HoldIntervals relations) (even : HaveEvenRows relations) where
   abbrev whole : Rules (State RelationStatement)
   whole = whole_rules (relation_handlers relations)
 
@@ -153,8 +155,13 @@ module _ (relations : List Relation) (registration : ℤ × List ℕ) (even : Ha
   pub went_by_tables : (answer : Result EndKind ServeError) (left new_left old new : Option (List ℕ)) (calls : List DeskCall)
       → WentByWhole relations registration answer left new_left old new calls
       → WentByTables relations registration answer left new_left old new calls
-  went_by_tables answer None new_left old new calls x = record { whole = x; core = tt }
+  went_by_tables answer None new_left old new calls x = record {
+    whole = x;
+    core = tt;
+    cells = shown_in relations registration within even answer None new_left old new calls x;
+  }
   went_by_tables answer (Some bytes) new_left old new calls x = record {
     whole = x;
     core = λ speaks. went answer bytes new_left old new calls speaks x;
+    cells = shown_in relations registration within even answer (Some bytes) new_left old new calls x;
   }

@@ -1,4 +1,5 @@
 pub mod Complete
 pub mod CoreServing
 pub mod Questions
+mod ShownCells
 mod Speaking

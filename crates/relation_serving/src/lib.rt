@@ -1,5 +1,5 @@
-//! A client of relations is served on any desk: the handlers of relations under the engine, and the
-//! built-in relations.
+//! A client of relations is served on any desk: the engine over the handlers of relations. It lends
+//! the names of the relations that need no file.
 #![tactic(auto)]
 
 mod laws;

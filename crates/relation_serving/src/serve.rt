@@ -1,13 +1,11 @@
 //! A client of relations is served.
 
-ghost use Rattle.std.specs.Prelude.{◌≡◌, ◌++◌, List, IfOk, OnOk};
+ghost use Rattle.std.specs.Prelude.{◌≡◌, ◌++◌, List};
 ghost use Rattle.std.specs.Arc.{arc_value};
-ghost use Rattle.pg_client.specs.Desk.{GoesOn};
 ghost use Rattle.conversation_table.specs.Questions.{questions_since};
-ghost use Rattle.pg_client.specs.State.{first_state};
 ghost use Rattle.pg_client.specs.declared.desk.DeskCall.{DeskCall};
-ghost use Rattle.pg_engine.specs.Serving.{WentSo, HasCause, EndsAtLast, FaultsNeverFall, IsCalm, IsRunOverTaken, ReadsGaveBytes, counts_of};
-ghost use Rattle.conversation_runs.specs.Session.{whole_rules};
+ghost use Rattle.pg_engine.specs.Around.{ServesSession, around};
+ghost use Rattle.pg_engine.specs.Serving.{HasCause, counts_of};
 ghost use Rattle.relation_serving.specs.Completeness.{IsComplete};
 ghost use Rattle.relation_tables.specs.RelationHandler.{relation_handlers};
 ghost use Rattle.relation_serving.specs.Serving.{WentByTables};
@@ -39,7 +37,7 @@ pub fn serve_relations_on<D: CancelDesk, S: Source, K: Sink>(
 ) -> Result<EndKind, ServeError>
 
     // The bytes written and the new calls are the conversation tables' answer to the client's
-    // bytes, however cut.
+    // bytes, however cut. Each cell that was written stands for a stored interval.
     ensures went { (calls : List DeskCall)
         × ((D.told desk.new).calls ≡ (D.told desk.old).calls ++ calls)
         × WentByTables relations.now (D.told desk.old).registration result (S.left source.old)
@@ -55,24 +53,11 @@ pub fn serve_relations_on<D: CancelDesk, S: Source, K: Sink>(
         (counts_of S.reads S.faults K.faults source.old sink.old)
         (counts_of S.reads S.faults K.faults source.new sink.new) }
 
-    // Each read that was counted gave a byte.
-    ensures last { IfOk result (EndsAtLast (whole_rules (relation_handlers relations.now))
-        (first_state (D.told desk.old).registration.0 (D.told desk.old).registration.1)
-        (S.left source.old) (S.left source.new)) }
-    ensures taken { IfOk result (IsRunOverTaken (whole_rules (relation_handlers relations.now))
-        (first_state (D.told desk.old).registration.0 (D.told desk.old).registration.1)
-        (S.left source.old) (S.left source.new) (K.written sink.old) (K.written sink.new)
-        (D.told desk.old).calls (D.told desk.new).calls) }
-    ensures calm { OnOk result (IsCalm (counts_of S.reads S.faults K.faults source.old sink.old)
-        (counts_of S.reads S.faults K.faults source.new sink.new)) }
-    ensures never_falls { FaultsNeverFall (counts_of S.reads S.faults K.faults source.old sink.old)
-        (counts_of S.reads S.faults K.faults source.new sink.new) }
-    ensures reads { ReadsGaveBytes (S.left source.old) (S.left source.new) (S.reads source.old)
-        (S.reads source.new) }
-
-    ensures registration { GoesOn (D.told desk.old) (D.told desk.new) }
-    ensures source { S.origin source.new ≡ S.origin source.old }
-    ensures sink { K.origin sink.new ≡ K.origin sink.old }
+    // Nothing behind the end was read, each read that was counted gave a byte, and what was lent is
+    // the same again.
+    ensures serves { let round = around S.left S.reads S.faults S.origin K.written K.faults K.origin D.told in
+        ServesSession (relation_handlers relations.now) turn_limit result
+        (round source.old sink.old desk.old) (round source.new sink.new desk.new) }
 {
     let _valid = relations.relations();
     let copying = NoopHandler;
@@ -92,32 +77,9 @@ fn serve_by<H: PgWireServerHandlers, D: CancelDesk, S: Source, K: Sink>(
     sink: &mut K,
     turn_limit: u64,
 ) -> Result<EndKind, ServeError>
-    ensures went { (calls : List DeskCall)
-        × ((D.told desk.new).calls ≡ (D.told desk.old).calls ++ calls)
-        × WentSo (whole_rules (H.told (arc_value handlers)))
-        (first_state (D.told desk.old).registration.0 (D.told desk.old).registration.1)
-        result (S.left source.old) (S.left source.new)
-        (K.written sink.old) (K.written sink.new) calls }
-    ensures cause { HasCause result turn_limit
-        (questions_since (D.told desk.old).calls (D.told desk.new).calls)
-        (counts_of S.reads S.faults K.faults source.old sink.old)
-        (counts_of S.reads S.faults K.faults source.new sink.new) }
-    ensures last { IfOk result (EndsAtLast (whole_rules (H.told (arc_value handlers)))
-        (first_state (D.told desk.old).registration.0 (D.told desk.old).registration.1)
-        (S.left source.old) (S.left source.new)) }
-    ensures taken { IfOk result (IsRunOverTaken (whole_rules (H.told (arc_value handlers)))
-        (first_state (D.told desk.old).registration.0 (D.told desk.old).registration.1)
-        (S.left source.old) (S.left source.new) (K.written sink.old) (K.written sink.new)
-        (D.told desk.old).calls (D.told desk.new).calls) }
-    ensures calm { OnOk result (IsCalm (counts_of S.reads S.faults K.faults source.old sink.old)
-        (counts_of S.reads S.faults K.faults source.new sink.new)) }
-    ensures never_falls { FaultsNeverFall (counts_of S.reads S.faults K.faults source.old sink.old)
-        (counts_of S.reads S.faults K.faults source.new sink.new) }
-    ensures reads { ReadsGaveBytes (S.left source.old) (S.left source.new) (S.reads source.old)
-        (S.reads source.new) }
-    ensures registration { GoesOn (D.told desk.old) (D.told desk.new) }
-    ensures source { S.origin source.new ≡ S.origin source.old }
-    ensures sink { K.origin sink.new ≡ K.origin sink.old }
+    ensures { let round = around S.left S.reads S.faults S.origin K.written K.faults K.origin D.told in
+        ServesSession (H.told (arc_value handlers)) turn_limit result
+        (round source.old sink.old desk.old) (round source.new sink.new desk.new) }
 {
     let store = MemPortalStore::new(alloc);
     serve_connection(alloc, handlers, store, desk, source, sink, turn_limit)

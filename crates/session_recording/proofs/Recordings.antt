@@ -11,7 +11,7 @@ use Rattle.conversation_runs.specs.Run.{IsRun}
 use Rattle.conversation_runs.specs.Session.{whole_rules}
 use Rattle.conversation_runs.specs.Streams.{GrowsBy}
 use Rattle.pg_engine.specs.Serving.{TakesFrom, IsRunOverTaken}
-use Rattle.recorders.specs.Kept.{IsTakenOf, IsSentTo, behind, bytes_of, counted, gone}
+use Rattle.session_recording.specs.Kept.{IsTakenOf, IsSentTo, behind, bytes_of, counted, gone}
 use Rattle.recording_text.specs.declared.recording.Recording.{Recording}
 use Rattle.relation_tables.specs.RelationHandler.{relation_handlers}
 use Rattle.relation_tables.specs.declared.Relation.{Relation}

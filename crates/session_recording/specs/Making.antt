@@ -4,7 +4,7 @@ use Rattle.pg_client.specs.declared.ends.EndKind.{EndKind}
 use Rattle.conversation_runs.specs.declared.ends.ServeError.{ServeError}
 use Rattle.conversation_runs.specs.declared.ends.ServeError.TheVariants.{WriteFault, NoMemory}
 use Rattle.recording_text.specs.declared.recording.Recording.{Recording}
-use Rattle.recorders.specs.declared.keeping.FirstBytes.{FirstBytes}
+use Rattle.session_recording.specs.declared.keeping.FirstBytes.{FirstBytes}
 use Rattle.session_recording.specs.declared.error.RecordError.{RecordError}
 use Rattle.session_recording.specs.declared.error.RecordError.TheVariants as refusal
 use Rattle.session_recording.specs.declared.recorder.Kept.{Kept}

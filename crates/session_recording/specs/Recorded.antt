@@ -11,7 +11,7 @@ use Rattle.relation_tables.specs.declared.Relation.{Relation}
 use Rattle.replay_streams.specs.RecordedRuns.{IsRecordedRun}
 use Rattle.session_recording.specs.declared.error.RecordError.{RecordError}
 use Rattle.session_recording.specs.declared.error.RecordError.TheVariants as refusal
-use Rattle.recorders.specs.Kept.{counted}
+use Rattle.session_recording.specs.Kept.{counted}
 
 -- What a source had to give and what a sink had taken, before a session and after it, as far as they tell it.
 pub record Passage : Type 0 where

@@ -1,24 +1,25 @@
 //! A session over relations is served and recorded.
 
 ghost use Rattle.std.specs.Prelude.{◌≡◌, ◌++◌, ◌<◌, ◌^◌, ◌↔◌, ℕ, Option, List, IfOk, OnOk, IfErr, IfSome, IsTrue};
-ghost use Rattle.pg_client.specs.Desk.{GoesOn};
 ghost use Rattle.conversation_table.specs.Questions.{questions_since};
-ghost use Rattle.pg_client.specs.State.{first_state};
 ghost use Rattle.pg_client.specs.declared.desk.DeskCall.{DeskCall};
-ghost use Rattle.pg_engine.specs.Serving.{HasCause, EndsAtLast, FaultsNeverFall, IsCalm, IsRunOverTaken, ReadsGaveBytes, counts_of};
-ghost use Rattle.conversation_runs.specs.Session.{whole_rules};
+ghost use Rattle.pg_engine.specs.Around.{ServesSession, around};
+ghost use Rattle.pg_engine.specs.Serving.{HasCause, counts_of};
 ghost use Rattle.relation_serving.specs.Completeness.{IsComplete};
-ghost use Rattle.relation_serving.specs.Serving.{WentByTables};
+ghost use Rattle.relation_serving.specs.Serving.{ServesRelations, WentByTables};
 ghost use Rattle.relation_tables.specs.RelationHandler.{relation_handlers};
-ghost use Rattle.recorders.specs.Kept.{IsTakenOf, IsSentTo};
+ghost use Rattle.session_recording.specs.Kept.{IsTakenOf, IsSentTo};
 ghost use Rattle.session_recording.specs.Making.{IsMadeOf, IsRefusedOf, IsUnused, MayMeetRefusal};
 ghost use Rattle.session_recording.specs.Recorded.{IsRecorded, IsFaithful, passage};
 
+use crate::desk::RecordingDesk;
 use crate::error::RecordError;
+use crate::keeping::FirstBytes;
+use crate::sink::RecordingSink;
+use crate::source::RecordingSource;
 use conversation_runs::{ServeError, Sink, Source};
 use pg_handlers::{CancelDesk, DeskCall, EndKind};
 use pg_messages::{PgBytes, PgList, SecretKey};
-use recorders::{FirstBytes, RecordingDesk, RecordingSink, RecordingSource};
 use recording_text::Recording;
 use relation_handlers::RelationTable;
 use relation_serving::serve_relations_on;
@@ -66,19 +67,9 @@ pub fn record_session<D: CancelDesk, S: Source, K: Sink>(
     ensures complete { IsComplete relations.now turn_limit result.0 (S.left source.old)
         (counts_of S.reads S.faults K.faults source.old sink.old)
         (counts_of S.reads S.faults K.faults source.new sink.new) }
-    ensures last { IfOk result.0 (EndsAtLast (whole_rules (relation_handlers relations.now))
-        (first_state (D.told desk.old).registration.0 (D.told desk.old).registration.1)
-        (S.left source.old) (S.left source.new)) }
-    ensures calm { OnOk result.0 (IsCalm (counts_of S.reads S.faults K.faults source.old sink.old)
-        (counts_of S.reads S.faults K.faults source.new sink.new)) }
-    ensures never_falls { FaultsNeverFall (counts_of S.reads S.faults K.faults source.old sink.old)
-        (counts_of S.reads S.faults K.faults source.new sink.new) }
-    ensures reads { ReadsGaveBytes (S.left source.old) (S.left source.new) (S.reads source.old)
-        (S.reads source.new) }
-
-    ensures registration { GoesOn (D.told desk.old) (D.told desk.new) }
-    ensures source { S.origin source.new ≡ S.origin source.old }
-    ensures sink { K.origin sink.new ≡ K.origin sink.old }
+    ensures serves { let round = around S.left S.reads S.faults S.origin K.written K.faults K.origin D.told in
+        ServesSession (relation_handlers relations.now) turn_limit result.0
+        (round source.old sink.old desk.old) (round source.new sink.new desk.new) }
 {
     let _valid = relations.relations();
     let Ok(space) = reserve(alloc, room, desk) else {
@@ -152,32 +143,9 @@ fn serve_recorded<D: CancelDesk, S: Source, K: Sink>(
     ensures client_room { result.1.client.room ≡ client.room }
     ensures replies_room { result.1.replies.room ≡ replies.room }
     ensures calls { (D.told desk.new).calls ≡ (D.told desk.old).calls ++ result.1.calls.items }
-    ensures went { WentByTables relations.now (D.told desk.old).registration result.0
-        (S.left source.old) (S.left source.new)
-        (K.written sink.old) (K.written sink.new) result.1.calls.items }
-    ensures taken { IfOk result.0 (IsRunOverTaken (whole_rules (relation_handlers relations.now))
-        (first_state (D.told desk.old).registration.0 (D.told desk.old).registration.1)
-        (S.left source.old) (S.left source.new) (K.written sink.old) (K.written sink.new)
-        (D.told desk.old).calls (D.told desk.new).calls) }
-    ensures cause { HasCause result.0 turn_limit
-        (questions_since (D.told desk.old).calls (D.told desk.new).calls)
-        (counts_of S.reads S.faults K.faults source.old sink.old)
-        (counts_of S.reads S.faults K.faults source.new sink.new) }
-    ensures complete { IsComplete relations.now turn_limit result.0 (S.left source.old)
-        (counts_of S.reads S.faults K.faults source.old sink.old)
-        (counts_of S.reads S.faults K.faults source.new sink.new) }
-    ensures last { IfOk result.0 (EndsAtLast (whole_rules (relation_handlers relations.now))
-        (first_state (D.told desk.old).registration.0 (D.told desk.old).registration.1)
-        (S.left source.old) (S.left source.new)) }
-    ensures calm { OnOk result.0 (IsCalm (counts_of S.reads S.faults K.faults source.old sink.old)
-        (counts_of S.reads S.faults K.faults source.new sink.new)) }
-    ensures never_falls { FaultsNeverFall (counts_of S.reads S.faults K.faults source.old sink.old)
-        (counts_of S.reads S.faults K.faults source.new sink.new) }
-    ensures reads { ReadsGaveBytes (S.left source.old) (S.left source.new) (S.reads source.old)
-        (S.reads source.new) }
-    ensures registration { GoesOn (D.told desk.old) (D.told desk.new) }
-    ensures source { S.origin source.new ≡ S.origin source.old }
-    ensures sink { K.origin sink.new ≡ K.origin sink.old }
+    ensures serves { let round = around S.left S.reads S.faults S.origin K.written K.faults K.origin D.told in
+        ServesRelations relations.now turn_limit result.0
+        (round source.old sink.old desk.old) (round source.new sink.new desk.new) }
 {
     let mut desk = RecordingDesk::new(alloc, desk);
     let mut source = RecordingSource::new(source, client);

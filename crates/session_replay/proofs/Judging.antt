@@ -19,10 +19,10 @@ use Rattle.relation_serving.specs.Serving.{WentByWhole}
 use Rattle.recording_text.specs.declared.recording.Recording.{Recording}
 use Rattle.relation_tables.specs.RelationHandler.{relation_handlers}
 use Rattle.relation_tables.specs.declared.Relation.{Relation}
-use Rattle.run_laws.specs.Steady.{IsCalledSoFar}
-use Rattle.run_laws.proofs.CallsGoOn.{calls_go_on}
-use Rattle.run_laws.proofs.Scripted.{scripts_agree}
-use Rattle.run_laws.proofs.TableSteady.{whole_steady}
+use Rattle.conversation_laws.specs.Steady.{IsCalledSoFar}
+use Rattle.conversation_laws.proofs.CallsGoOn.{calls_go_on}
+use Rattle.conversation_laws.proofs.Scripted.{scripts_agree}
+use Rattle.conversation_laws.proofs.TableSteady.{whole_steady}
 use Rattle.session_replay.specs.declared.verdict.Verdict.{Verdict}
 use Rattle.session_replay.specs.declared.verdict.Verdict.TheVariants.{Same, Calls, Replies, End}
 use Rattle.session_replay.specs.Verdicts.{IsReplay, IsVerdict, IsVerdictOn, IsVerdictSoFar, DiffersAt}

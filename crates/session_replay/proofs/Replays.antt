@@ -11,11 +11,11 @@ use Rattle.recording_text.specs.declared.recording.Recording.{Recording}
 use Rattle.relation_tables.specs.RelationHandler.{relation_handlers}
 use Rattle.relation_tables.specs.declared.Relation.{Relation}
 use Rattle.replay_streams.specs.RecordedRuns.{IsRecordedRun}
-use Rattle.run_laws.specs.Steady.{AgreeAsFar}
-use Rattle.run_laws.proofs.OneRun.{one_run}
-use Rattle.run_laws.proofs.Scripted.{scripted_all, scripts_agree}
-use Rattle.run_laws.proofs.SomeRun.{scripted_run}
-use Rattle.run_laws.proofs.TableSteady.{whole_steady}
+use Rattle.conversation_laws.specs.Steady.{AgreeAsFar}
+use Rattle.conversation_laws.proofs.OneRun.{one_run}
+use Rattle.conversation_laws.proofs.Scripted.{scripted_all, scripts_agree}
+use Rattle.conversation_laws.proofs.SomeRun.{scripted_run}
+use Rattle.conversation_laws.proofs.TableSteady.{whole_steady}
 use Rattle.session_replay.specs.declared.verdict.Verdict.{Verdict}
 use Rattle.session_replay.specs.declared.verdict.Verdict.TheVariants.{Same, Calls, Replies, End}
 use Rattle.session_replay.specs.Verdicts.{IsReplay, IsVerdict, IsVerdictOn}

@@ -19,3 +19,6 @@ returns-clause-went g c =
           (g.S.Source.left c.args.source.now) (g.S.Source.left c.serve_connection.new.source)
           (g.K.Sink.written c.args.sink.now) (g.K.Sink.written c.serve_connection.new.sink) went.0) c.new-desk.ensures.key went.2),
     )
+
+pub returns-clause-calm : goal.returns-clause-calm
+returns-clause-calm g c = c.serve_connection.ensures.serves.calm

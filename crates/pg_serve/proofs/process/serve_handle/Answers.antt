@@ -1,12 +1,20 @@
 use Rattle.std.proofs.Common.{◌≡◌, ◌∙◌, sym, ap, subst}
 use Rattle.std.specs.Arc.{arc_value}
+use mathlib.Core.List.{IsPrefix}
 use Rattle.pg_cancel.specs.Connections.{calls_of}
 use Rattle.pg_client.specs.State.{first_state}
 use Rattle.conversation_runs.specs.Session.{whole_rules}
-use Rattle.pg_serve.specs.Desk.{ConnectionGoesOn, WentByCalls, desk_calls}
+use Rattle.pg_serve.specs.Desk.{ConnectionGoesOn, WentByCalls, desk_calls, desk_of}
+use Rattle.pg_engine.specs.Around.{ServesSession, around}
 use Rattle.pg_engine.specs.Serving.{WentSo}
-use Rattle.pg_serve.proofs.Calls.{calls_made, goes_on_as}
+use Rattle.pg_serve.proofs.Calls.{calls_made, desk_goes_on, goes_on_as, served_as}
+use Rattle.pg_serve.proofs.process.serve_handle.Given.{Over}
 use Rattle.pg_serve.proofs.process.serve_handle.Goals as goal
+
+-- the connection is the same behind the calls of its desk
+went_on : (g : Over) (c : goal.After-take_in g) → ConnectionGoesOn c.note-before.new.handle c.serve_at_desk-answer.new.handle
+went_on g c =
+    desk_goes_on 0 0 c.note-before.new.handle c.serve_at_desk-answer.new.handle c.serve_at_desk-answer.ensures.registration
 
 pub returns-clause-went : goal.returns-clause-went
 returns-clause-went g c =
@@ -17,7 +25,7 @@ returns-clause-went g c =
     let went = c.serve_at_desk-answer.ensures.went in
     let made = calls_made old.number note.seen new.seen old.mine new.mine went.0 c.take_in.ensures.told
     (subst (λ h. calls_of h.number note.seen ≡ h.mine) (sym c.note-before.ensures.same) c.note-before.ensures.own)
-    (ap (λ n. calls_of n new.seen) (sym (c.take_in.ensures.same.1 ∙ c.serve_at_desk-answer.ensures.same.number)) ∙ c.take_in.ensures.own)
+    (ap (λ n. calls_of n new.seen) (sym (c.take_in.ensures.same.1 ∙ (went_on g c).number)) ∙ c.take_in.ensures.own)
     (ap desk_calls c.take_in.ensures.mine ∙ went.1) in
     subst (λ h. WentByCalls rules (first_state h.pid h.key) h.mine new.mine c.serve_at_desk-answer.result
     (g.S.Source.left c.args.source.now) (g.S.Source.left c.serve_at_desk-answer.new.source) (g.K.Sink.written c.args.sink.now)
@@ -30,9 +38,28 @@ returns-clause-went g c =
           (g.K.Sink.written c.serve_at_desk-answer.new.sink) calls) made.2 went.2,
     )
 
-pub returns-clause-same : goal.returns-clause-same
-returns-clause-same g c =
-    let on = subst (λ h. ConnectionGoesOn h c.serve_at_desk-answer.new.handle) c.note-before.ensures.same
-    c.serve_at_desk-answer.ensures.same in
-    goes_on_as c.args.handle.now c.serve_at_desk-answer.new.handle c.take_in.new.handle on c.take_in.ensures.same
-    c.take_in.ensures.mine
+pub returns-clause-serves : goal.returns-clause-serves
+returns-clause-serves g c =
+    let handlers = g.H.PgWireServerHandlers.told (arc_value c.args.handlers) in
+    let old = c.note-before.new.handle in
+    let between = c.serve_at_desk-answer.new.handle in
+    let new = c.take_in.new.handle in
+    let round = around g.S.Source.left g.S.Source.reads g.S.Source.faults g.S.Source.origin g.K.Sink.written g.K.Sink.faults
+    g.K.Sink.origin desk_of in
+    let after = round c.serve_at_desk-answer.new.source c.serve_at_desk-answer.new.sink in
+    subst (λ h. ServesSession handlers c.args.turn_limit c.serve_at_desk-answer.result (round c.args.source.now c.args.sink.now h) (after new))
+    c.note-before.ensures.same
+    (served_as (whole_rules handlers) (first_state old.pid old.key) c.args.turn_limit c.serve_at_desk-answer.result
+    (round c.args.source.now c.args.sink.now old) (after between) between new c.take_in.ensures.same c.take_in.ensures.mine
+    c.serve_at_desk-answer.ensures)
+
+pub returns-clause-usable : goal.returns-clause-usable
+returns-clause-usable g c =
+    let on = subst (λ h. ConnectionGoesOn h c.serve_at_desk-answer.new.handle) c.note-before.ensures.same (went_on g c) in
+    record {
+      same = goes_on_as c.args.handle.now c.serve_at_desk-answer.new.handle c.take_in.new.handle on c.take_in.ensures.same
+          c.take_in.ensures.mine;
+      seen = subst (λ seen. IsPrefix seen c.take_in.new.handle.seen) c.note-before.ensures.seen c.take_in.ensures.told;
+      legal = c.take_in.ensures.legal;
+      own = c.take_in.ensures.own;
+    }

@@ -12,16 +12,17 @@ returns g c =
     record {
       conversed = record {
         made = made;
-        behind = left_behind old new made c.leave.result served.same served.seen served.went.1 c.leave.ensures;
+        behind = left_behind old new made c.leave.result served.usable.same served.usable.seen served.went.1 c.leave.ensures;
         went = served.went.2;
         cause = subst (λ asked. HasCause c.serve_relations-answer.result c.args.turn_limit asked
             (counts_of g.S.Source.reads g.S.Source.faults g.K.Sink.faults c.args.source.now c.args.sink.now)
             (counts_of g.S.Source.reads g.S.Source.faults g.K.Sink.faults c.serve_relations-answer.new.source
             c.serve_relations-answer.new.sink))
             (since_made old.mine new.mine made served.went.1) served.cause;
-        calm = served.calm;
-        never_falls = served.never_falls;
+        last = served.serves.last;
+        calm = served.serves.calm;
+        never_falls = served.serves.never_falls;
         complete = served.complete;
-        gave = served.reads;
+        gave = served.serves.reads;
       };
     }

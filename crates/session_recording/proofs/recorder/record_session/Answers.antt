@@ -5,29 +5,32 @@ use Rattle.conversation_runs.specs.Session.{whole_rules}
 use Rattle.conversation_runs.specs.declared.ends.ServeError.TheVariants as fault
 use Rattle.relation_tables.specs.RelationHandler.{relation_handlers}
 use Rattle.relation_handlers.proofs.EvenRows.{even}
+use Rattle.pg_engine.specs.Around.{around}
 use Rattle.pg_engine.specs.Serving.{counts_of}
-use Rattle.pg_engine.proofs.Serving.{none_went}
+use Rattle.pg_engine.proofs.Serving.{none_served, none_went}
 use Rattle.relation_serving.proofs.CoreServing.{went_by_tables}
-use Rattle.relation_serving.proofs.Complete.{complete_at_want, none_gave}
+use Rattle.relation_serving.proofs.Complete.{complete_at_want}
 use Rattle.session_recording.specs.Making.{IsMadeOf}
 use Rattle.session_recording.specs.Recorded.{IsRecorded, passage}
 use Rattle.session_recording.proofs.Recordings.{IsKeptOf, recorded_so, faithful_answer}
 use Rattle.std.specs.Prelude.{IfSome}
-use Rattle.recorders.specs.Kept.{IsTakenOf}
+use Rattle.session_recording.specs.Kept.{IsTakenOf}
 use Rattle.session_recording.proofs.recorder.record_session.Given.{Over}
 use Rattle.session_recording.proofs.recorder.record_session.Goals as goal
 
+-- ---- there was no room
+
 pub returns-in_default-clause-went : goal.returns-in_default-clause-went
-returns-in_default-clause-went g c = (
-  [],
-  sym (append-nil (g.D.CancelDesk.told c.args.desk.now).calls),
-  went_by_tables c.args.relations.now (g.D.CancelDesk.told c.args.desk.now).registration
-      (even c.args.relations.now c.relations-valid.ensures.valid) _ (g.S.Source.left c.args.source.now) _ (g.K.Sink.written c.args.sink.now)
-      _ []
-      (none_went (whole_rules (relation_handlers c.args.relations.now))
-      (first_state (g.D.CancelDesk.told c.args.desk.now).registration.0 (g.D.CancelDesk.told c.args.desk.now).registration.1)
-      (g.S.Source.left c.args.source.now) (g.K.Sink.written c.args.sink.now) fault.NoMemory refl),
-)
+returns-in_default-clause-went g c =
+    let relations = c.args.relations.now in
+    let registration = (g.D.CancelDesk.told c.args.desk.now).registration in (
+      [],
+      sym (append-nil (g.D.CancelDesk.told c.args.desk.now).calls),
+      went_by_tables relations registration c.relations-valid.ensures.within (even relations c.relations-valid.ensures.valid) _
+          (g.S.Source.left c.args.source.now) _ (g.K.Sink.written c.args.sink.now) _ []
+          (none_went (whole_rules (relation_handlers relations)) (first_state registration.0 registration.1)
+          (g.S.Source.left c.args.source.now) (g.K.Sink.written c.args.sink.now) fault.NoMemory refl),
+    )
 
 pub returns-in_default-clause-complete : goal.returns-in_default-clause-complete
 returns-in_default-clause-complete g c =
@@ -35,8 +38,14 @@ returns-in_default-clause-complete g c =
     (counts_of g.S.Source.reads g.S.Source.faults g.K.Sink.faults c.args.source.now c.args.sink.now)
     (counts_of g.S.Source.reads g.S.Source.faults g.K.Sink.faults c.args.source.now c.args.sink.now)
 
-pub returns-in_default-clause-reads : goal.returns-in_default-clause-reads
-returns-in_default-clause-reads g c = none_gave (g.S.Source.left c.args.source.now) (g.S.Source.reads c.args.source.now)
+pub returns-in_default-clause-serves : goal.returns-in_default-clause-serves
+returns-in_default-clause-serves g c =
+    let registration = (g.D.CancelDesk.told c.args.desk.now).registration in
+    none_served (whole_rules (relation_handlers c.args.relations.now)) (first_state registration.0 registration.1) c.args.turn_limit
+    (around g.S.Source.left g.S.Source.reads g.S.Source.faults g.S.Source.origin g.K.Sink.written g.K.Sink.faults g.K.Sink.origin
+    g.D.CancelDesk.told c.args.source.now c.args.sink.now c.args.desk.now)
+
+-- ---- the session was served
 
 recorded : (g : Over) (c : goal.After-recording_of g) → IsRecorded (g.D.CancelDesk.told c.args.desk.now).registration c.args.room
     c.serve_recorded-answer.result.0 c.recording_of.result
@@ -81,4 +90,16 @@ returns-clause-faithful g c =
     (g.S.Source.left c.serve_recorded-answer.new.source) (g.K.Sink.written c.args.sink.now)
     (g.K.Sink.written c.serve_recorded-answer.new.sink) (g.D.CancelDesk.told c.args.desk.now).calls
     (g.D.CancelDesk.told c.serve_recorded-answer.new.desk).calls c.serve_recorded-answer.result.1.calls.items
-    c.serve_recorded-answer.ensures.calls (recorded g c) c.serve_recorded-answer.ensures.taken
+    c.serve_recorded-answer.ensures.calls (recorded g c) c.serve_recorded-answer.ensures.serves.serves.taken
+
+pub returns-clause-went : goal.returns-clause-went
+returns-clause-went g c = c.serve_recorded-answer.ensures.serves.went
+
+pub returns-clause-cause : goal.returns-clause-cause
+returns-clause-cause g c = c.serve_recorded-answer.ensures.serves.serves.cause
+
+pub returns-clause-complete : goal.returns-clause-complete
+returns-clause-complete g c = c.serve_recorded-answer.ensures.serves.complete
+
+pub returns-clause-serves : goal.returns-clause-serves
+returns-clause-serves g c = c.serve_recorded-answer.ensures.serves.serves

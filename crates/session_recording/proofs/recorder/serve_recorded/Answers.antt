@@ -1,14 +1,9 @@
-use Rattle.std.proofs.Common.{◌≡◌, ◌∙◌, ◌∷◌, ◌++◌, ℕ, IfOk, OnOk, ap, drop, subst, sym}
+use Rattle.std.proofs.Common.{◌≡◌, ◌∙◌, ◌∷◌, ◌++◌, ℕ, ap, drop, subst, sym}
 use Rattle.pg_client.specs.Desk.{DeskTold, GoesOn, narrowed}
-use Rattle.pg_client.specs.State.{first_state}
-use Rattle.conversation_table.specs.Questions.{questions_since}
-use Rattle.pg_engine.specs.Serving.{EndsAtLast, FaultsNeverFall, HasCause, IsCalm, IsRunOverTaken, ReadsGaveBytes, counts_of}
-use Rattle.conversation_runs.specs.Session.{whole_rules}
-use Rattle.relation_serving.specs.Completeness.{IsComplete}
-use Rattle.relation_serving.specs.Serving.{WentByTables}
-use Rattle.relation_tables.specs.RelationHandler.{relation_handlers}
-use Rattle.recorders.specs.declared.keeping.FirstBytes.{FirstBytes}
-use Rattle.recorders.proofs.Origins.{IsSameRecorder, known_again, made_are_kept, same_head}
+use Rattle.pg_engine.specs.Around.{around}
+use Rattle.relation_serving.specs.Serving.{ServesRelations}
+use Rattle.session_recording.specs.declared.keeping.FirstBytes.{FirstBytes}
+use Rattle.session_recording.proofs.Origins.{IsSameRecorder, known_again, made_are_kept, same_head}
 use Rattle.session_recording.proofs.Recordings.{of_same, sent_again, taken_again}
 use Rattle.session_recording.proofs.recorder.serve_recorded.Given.{Over}
 use Rattle.session_recording.proofs.recorder.serve_recorded.Goals as goal
@@ -39,7 +34,7 @@ source_known g c =
     let old = c.new-source.result in
     known_again old.source.ghost_name new.source.ghost_name old.kept.room new.kept.room (g.S.Source.origin old.source.now)
     (g.S.Source.origin new.source.now) (g.S.Source.left old.before.value) (g.S.Source.left new.before.value)
-    c.serve_relations_on-answer.ensures.source
+    c.serve_relations_on-answer.ensures.serves.source
 
 -- and so is the sink's
 sink_known : (g : Over) (c : goal.After-sink-2-1 g) → let new = c.serve_relations_on-answer.new.sink in
@@ -51,7 +46,7 @@ sink_known g c =
     let old = c.new-sink.result in
     known_again old.sink.ghost_name new.sink.ghost_name old.kept.room new.kept.room (g.K.Sink.origin old.sink.now)
     (g.K.Sink.origin new.sink.now) (g.K.Sink.written old.before.value) (g.K.Sink.written new.before.value)
-    c.serve_relations_on-answer.ensures.sink
+    c.serve_relations_on-answer.ensures.serves.sink
 
 -- so each was left as its recorder has it
 source_left : (g : Over) (c : goal.After-sink-2-1 g) → c.source-2-1.given.0 ≡ c.serve_relations_on-answer.new.source.source.now
@@ -63,7 +58,7 @@ sink_left g c = c.sink-2-1.given.1 (sym ((sink_known g c).same_name ∙ c.new-si
 
 desk_left : (g : Over) (c : goal.After-sink-2-1 g) → c.desk-2-1.given.0 ≡ c.serve_relations_on-answer.new.desk.desk.now
 desk_left g c =
-    let origins = ap (λ (d : DeskTold). d.origin) c.serve_relations_on-answer.ensures.registration.grown in
+    let origins = ap (λ (d : DeskTold). d.origin) c.serve_relations_on-answer.ensures.serves.registration.grown in
     c.desk-2-1.given.1 (sym c.new-desk.ensures.same_reference ∙ same_head _ _ _ _ origins) ∙ c.give_back.ensures
 
 pub returns-clause-client : goal.returns-clause-client
@@ -84,131 +79,50 @@ returns-clause-replies g c =
     new.kept.count new.has_refused (k.same_told ∙ ap g.K.Sink.written c.new-sink.ensures.before)
     (k.same_room ∙ ap (λ (b : FirstBytes). b.room) c.new-sink.ensures.kept) (ap g.K.Sink.written (sink_left g c)) new.recorded
 
-pub returns-clause-went : goal.returns-clause-went
-returns-clause-went g c =
-    let new = c.serve_relations_on-answer.new.desk in
-    let old = c.new-desk.result in
-    let went = c.serve_relations_on-answer.ensures.went in
-    let origins = ap (λ (d : DeskTold). d.origin) c.serve_relations_on-answer.ensures.registration.grown in
-    let kept = made_are_kept _ _ _ _ (g.D.CancelDesk.told old.desk.now).calls (g.D.CancelDesk.told new.desk.now).calls went.0
-    old.kept.items new.kept.items origins c.new-desk.ensures.kept went.1 new.recorded in
-    of_same (λ d e s t k l. WentByTables c.args.relations.now (g.D.CancelDesk.told d).registration c.serve_relations_on-answer.result
-    (g.S.Source.left s) (g.S.Source.left t) (g.K.Sink.written k) (g.K.Sink.written l) new.kept.items) old.desk.now c.args.desk.now
-    new.desk.now c.desk-2-1.given.0 c.new-source.result.source.now c.args.source.now c.serve_relations_on-answer.new.source.source.now
-    c.source-2-1.given.0 c.new-sink.result.sink.now c.args.sink.now c.serve_relations_on-answer.new.sink.sink.now c.sink-2-1.given.0
-    c.new-desk.ensures.desk (sym (desk_left g c)) c.new-source.ensures.source (sym (source_left g c)) c.new-sink.ensures.sink
-    (sym (sink_left g c))
-    (subst (λ calls. WentByTables c.args.relations.now (g.D.CancelDesk.told old.desk.now).registration
-    c.serve_relations_on-answer.result (g.S.Source.left c.new-source.result.source.now)
-    (g.S.Source.left c.serve_relations_on-answer.new.source.source.now) (g.K.Sink.written c.new-sink.result.sink.now)
-    (g.K.Sink.written c.serve_relations_on-answer.new.sink.sink.now) calls) kept went.2)
-
-pub returns-clause-last : goal.returns-clause-last
-returns-clause-last g c =
-    of_same (λ d e s t k l. IfOk c.serve_relations_on-answer.result
-    (EndsAtLast (whole_rules (relation_handlers c.args.relations.now))
-    (first_state (g.D.CancelDesk.told d).registration.0 (g.D.CancelDesk.told d).registration.1) (g.S.Source.left s)
-    (g.S.Source.left t))) c.new-desk.result.desk.now c.args.desk.now c.serve_relations_on-answer.new.desk.desk.now
-    c.desk-2-1.given.0 c.new-source.result.source.now c.args.source.now c.serve_relations_on-answer.new.source.source.now
-    c.source-2-1.given.0 c.new-sink.result.sink.now c.args.sink.now c.serve_relations_on-answer.new.sink.sink.now c.sink-2-1.given.0
-    c.new-desk.ensures.desk (sym (desk_left g c)) c.new-source.ensures.source (sym (source_left g c)) c.new-sink.ensures.sink
-    (sym (sink_left g c)) c.serve_relations_on-answer.ensures.last
-
-pub returns-clause-taken : goal.returns-clause-taken
-returns-clause-taken g c =
-    of_same (λ d e s t k l. IfOk c.serve_relations_on-answer.result
-    (IsRunOverTaken (whole_rules (relation_handlers c.args.relations.now))
-    (first_state (g.D.CancelDesk.told d).registration.0 (g.D.CancelDesk.told d).registration.1) (g.S.Source.left s) (g.S.Source.left t)
-    (g.K.Sink.written k) (g.K.Sink.written l) (g.D.CancelDesk.told d).calls (g.D.CancelDesk.told e).calls)) c.new-desk.result.desk.now
-    c.args.desk.now c.serve_relations_on-answer.new.desk.desk.now c.desk-2-1.given.0 c.new-source.result.source.now c.args.source.now
-    c.serve_relations_on-answer.new.source.source.now c.source-2-1.given.0 c.new-sink.result.sink.now c.args.sink.now
-    c.serve_relations_on-answer.new.sink.sink.now c.sink-2-1.given.0 c.new-desk.ensures.desk (sym (desk_left g c))
-    c.new-source.ensures.source (sym (source_left g c)) c.new-sink.ensures.sink (sym (sink_left g c))
-    c.serve_relations_on-answer.ensures.taken
-
-pub returns-clause-source : goal.returns-clause-source
-returns-clause-source g c =
-    ap g.S.Source.origin (source_left g c) ∙ (source_known g c).same_origin ∙ ap g.S.Source.origin c.new-source.ensures.source
-
-pub returns-clause-sink : goal.returns-clause-sink
-returns-clause-sink g c = ap g.K.Sink.origin (sink_left g c) ∙ (sink_known g c).same_origin ∙ ap g.K.Sink.origin c.new-sink.ensures.sink
-
 pub returns-clause-client_room : goal.returns-clause-client_room
 returns-clause-client_room g c = (source_known g c).same_room ∙ ap (λ (b : FirstBytes). b.room) c.new-source.ensures.kept
 
 pub returns-clause-replies_room : goal.returns-clause-replies_room
 returns-clause-replies_room g c = (sink_known g c).same_room ∙ ap (λ (b : FirstBytes). b.room) c.new-sink.ensures.kept
 
-pub returns-clause-cause : goal.returns-clause-cause
-returns-clause-cause g c =
-    of_same (λ d e s t k l. HasCause c.serve_relations_on-answer.result c.args.turn_limit
-    (questions_since (g.D.CancelDesk.told d).calls (g.D.CancelDesk.told e).calls)
-    (counts_of g.S.Source.reads g.S.Source.faults g.K.Sink.faults s k)
-    (counts_of g.S.Source.reads g.S.Source.faults g.K.Sink.faults t l)) c.new-desk.result.desk.now c.args.desk.now
-    c.serve_relations_on-answer.new.desk.desk.now c.desk-2-1.given.0 c.new-source.result.source.now c.args.source.now
-    c.serve_relations_on-answer.new.source.source.now c.source-2-1.given.0 c.new-sink.result.sink.now c.args.sink.now
-    c.serve_relations_on-answer.new.sink.sink.now c.sink-2-1.given.0 c.new-desk.ensures.desk (sym (desk_left g c))
-    c.new-source.ensures.source (sym (source_left g c)) c.new-sink.ensures.sink (sym (sink_left g c))
-    c.serve_relations_on-answer.ensures.cause
-
-pub returns-clause-complete : goal.returns-clause-complete
-returns-clause-complete g c =
-    of_same (λ d e s t k l. IsComplete c.args.relations.now c.args.turn_limit c.serve_relations_on-answer.result
-    (g.S.Source.left s) (counts_of g.S.Source.reads g.S.Source.faults g.K.Sink.faults s k)
-    (counts_of g.S.Source.reads g.S.Source.faults g.K.Sink.faults t l)) c.new-desk.result.desk.now c.args.desk.now
-    c.serve_relations_on-answer.new.desk.desk.now c.desk-2-1.given.0 c.new-source.result.source.now c.args.source.now
-    c.serve_relations_on-answer.new.source.source.now c.source-2-1.given.0 c.new-sink.result.sink.now c.args.sink.now
-    c.serve_relations_on-answer.new.sink.sink.now c.sink-2-1.given.0 c.new-desk.ensures.desk (sym (desk_left g c))
-    c.new-source.ensures.source (sym (source_left g c)) c.new-sink.ensures.sink (sym (sink_left g c))
-    c.serve_relations_on-answer.ensures.complete
-
-pub returns-clause-calm : goal.returns-clause-calm
-returns-clause-calm g c =
-    of_same (λ d e s t k l. OnOk c.serve_relations_on-answer.result (IsCalm (counts_of g.S.Source.reads g.S.Source.faults g.K.Sink.faults s k)
-    (counts_of g.S.Source.reads g.S.Source.faults g.K.Sink.faults t l))) c.new-desk.result.desk.now c.args.desk.now
-    c.serve_relations_on-answer.new.desk.desk.now c.desk-2-1.given.0 c.new-source.result.source.now c.args.source.now
-    c.serve_relations_on-answer.new.source.source.now c.source-2-1.given.0 c.new-sink.result.sink.now c.args.sink.now
-    c.serve_relations_on-answer.new.sink.sink.now c.sink-2-1.given.0 c.new-desk.ensures.desk (sym (desk_left g c))
-    c.new-source.ensures.source (sym (source_left g c)) c.new-sink.ensures.sink (sym (sink_left g c))
-    c.serve_relations_on-answer.ensures.calm
-
-pub returns-clause-never_falls : goal.returns-clause-never_falls
-returns-clause-never_falls g c =
-    of_same (λ d e s t k l. FaultsNeverFall (counts_of g.S.Source.reads g.S.Source.faults g.K.Sink.faults s k)
-    (counts_of g.S.Source.reads g.S.Source.faults g.K.Sink.faults t l)) c.new-desk.result.desk.now c.args.desk.now
-    c.serve_relations_on-answer.new.desk.desk.now c.desk-2-1.given.0 c.new-source.result.source.now c.args.source.now
-    c.serve_relations_on-answer.new.source.source.now c.source-2-1.given.0 c.new-sink.result.sink.now c.args.sink.now
-    c.serve_relations_on-answer.new.sink.sink.now c.sink-2-1.given.0 c.new-desk.ensures.desk (sym (desk_left g c))
-    c.new-source.ensures.source (sym (source_left g c)) c.new-sink.ensures.sink (sym (sink_left g c))
-    c.serve_relations_on-answer.ensures.never_falls
-
-pub returns-clause-reads : goal.returns-clause-reads
-returns-clause-reads g c =
-    of_same (λ d e s t k l. ReadsGaveBytes (g.S.Source.left s) (g.S.Source.left t)
-    (g.S.Source.reads s) (g.S.Source.reads t)) c.new-desk.result.desk.now c.args.desk.now
-    c.serve_relations_on-answer.new.desk.desk.now c.desk-2-1.given.0 c.new-source.result.source.now c.args.source.now
-    c.serve_relations_on-answer.new.source.source.now c.source-2-1.given.0 c.new-sink.result.sink.now c.args.sink.now
-    c.serve_relations_on-answer.new.sink.sink.now c.sink-2-1.given.0 c.new-desk.ensures.desk (sym (desk_left g c))
-    c.new-source.ensures.source (sym (source_left g c)) c.new-sink.ensures.sink (sym (sink_left g c))
-    c.serve_relations_on-answer.ensures.reads
-
-pub returns-clause-registration : goal.returns-clause-registration
-returns-clause-registration g c =
-    of_same (λ d e s t k l. GoesOn (g.D.CancelDesk.told d) (g.D.CancelDesk.told e)) c.new-desk.result.desk.now c.args.desk.now
-    c.serve_relations_on-answer.new.desk.desk.now c.desk-2-1.given.0 c.new-source.result.source.now c.args.source.now
-    c.serve_relations_on-answer.new.source.source.now c.source-2-1.given.0 c.new-sink.result.sink.now c.args.sink.now
-    c.serve_relations_on-answer.new.sink.sink.now c.sink-2-1.given.0 c.new-desk.ensures.desk (sym (desk_left g c))
-    c.new-source.ensures.source (sym (source_left g c)) c.new-sink.ensures.sink (sym (sink_left g c))
-    (goes_on_under _ _ _ _ _ _ c.serve_relations_on-answer.ensures.registration)
-
 pub returns-clause-calls : goal.returns-clause-calls
 returns-clause-calls g c =
     let new = c.serve_relations_on-answer.new.desk in
     let old = c.new-desk.result in
     let went = c.serve_relations_on-answer.ensures.went in
-    let origins = ap (λ (d : DeskTold). d.origin) c.serve_relations_on-answer.ensures.registration.grown in
+    let origins = ap (λ (d : DeskTold). d.origin) c.serve_relations_on-answer.ensures.serves.registration.grown in
     let kept = made_are_kept _ _ _ _ (g.D.CancelDesk.told old.desk.now).calls (g.D.CancelDesk.told new.desk.now).calls went.0
     old.kept.items new.kept.items origins c.new-desk.ensures.kept went.1 new.recorded in
     ap (λ d. (g.D.CancelDesk.told d).calls) (desk_left g c) ∙ went.1
     ∙ ap (λ d. (g.D.CancelDesk.told d).calls ++ went.0) c.new-desk.ensures.desk
     ∙ ap (λ k. (g.D.CancelDesk.told c.args.desk.now).calls ++ k) kept
+
+-- the client was served as without recorders
+pub returns-clause-serves : goal.returns-clause-serves
+returns-clause-serves g c =
+    let relations = c.args.relations.now in
+    let served = c.serve_relations_on-answer.ensures in
+    let through = served.serves in
+    let round = around g.S.Source.left g.S.Source.reads g.S.Source.faults g.S.Source.origin g.K.Sink.written g.K.Sink.faults
+    g.K.Sink.origin g.D.CancelDesk.told in
+    of_same (λ d e s t k l. ServesRelations relations c.args.turn_limit c.serve_relations_on-answer.result (round s k d) (round t l e))
+    c.new-desk.result.desk.now c.args.desk.now
+    c.serve_relations_on-answer.new.desk.desk.now c.desk-2-1.given.0 c.new-source.result.source.now c.args.source.now
+    c.serve_relations_on-answer.new.source.source.now c.source-2-1.given.0 c.new-sink.result.sink.now c.args.sink.now
+    c.serve_relations_on-answer.new.sink.sink.now c.sink-2-1.given.0 c.new-desk.ensures.desk (sym (desk_left g c))
+    c.new-source.ensures.source (sym (source_left g c)) c.new-sink.ensures.sink (sym (sink_left g c)) (record {
+      went = served.went;
+      complete = served.complete;
+      serves = record {
+        went = through.went;
+        cause = through.cause;
+        last = through.last;
+        taken = through.taken;
+        calm = through.calm;
+        never_falls = through.never_falls;
+        reads = through.reads;
+        registration = goes_on_under _ _ _ _ _ _ through.registration;
+        source = (source_known g c).same_origin;
+        sink = (sink_known g c).same_origin;
+      };
+    })

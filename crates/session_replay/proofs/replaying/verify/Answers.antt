@@ -27,7 +27,7 @@ judge-requires c = λ limit.
     (asked_more answer c.as_slice-2.result.now (Some c.serve_relations_on-answer.new.source.left.now) turns (questions recording.calls)
     (questions went.0) before after refl
     (c.turns_of-turns.ensures ∙ ap (λ bytes. length bytes + 1 + questions recording.calls) (sym c.as_slice-2.ensures)) fits
-    c.serve_relations_on-answer.ensures.reads cause limit)
+    c.serve_relations_on-answer.ensures.serves.reads cause limit)
 
 pub returns : goal.returns
 returns c =
@@ -40,7 +40,7 @@ returns c =
     let fits : FitsSigned w32 recording.pid = search rules in
     let made = c.calls.ensures.calls ∙ went.1 ∙ ap (λ k. k ++ went.0) c.new-desk.ensures.calls in
     let script = one_script desk.script (answers_of recording.calls)
-    (ap (λ d. d.origin) c.serve_relations_on-answer.ensures.registration.grown ∙ ap origin_of
+    (ap (λ d. d.origin) c.serve_relations_on-answer.ensures.serves.registration.grown ∙ ap origin_of
     (c.new-desk.ensures.script ∙ c.in_ok-answers.ensures ∙ ap answers_of c.as_slice.ensures)) in
     let answered = scripted_calls desk.script desk.answers (answers_of recording.calls) desk.calls c.calls.result.now
     c.calls.ensures.scripted script c.calls.ensures.calls in

@@ -1,6 +1,0 @@
-pub mod OneRun
-pub mod Scripted
-pub mod RowsSteady
-pub mod TableSteady
-pub mod CallsGoOn
-pub mod SomeRun

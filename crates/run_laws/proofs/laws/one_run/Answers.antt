@@ -1,6 +1,0 @@
-use Rattle.run_laws.proofs.OneRun as one
-use Rattle.run_laws.proofs.laws.one_run.Goals as goal
-
-pub returns : goal.returns
-returns g c rules s text replies others calls made kind other more lawful p q e =
-    one.one_run rules lawful s text replies others calls made kind other more p q e

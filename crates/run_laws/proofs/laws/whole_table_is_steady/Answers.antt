@@ -1,5 +1,0 @@
-use Rattle.run_laws.proofs.TableSteady as table
-use Rattle.run_laws.proofs.laws.whole_table_is_steady.Goals as goal
-
-pub returns : goal.returns
-returns g c h = table.whole_steady h

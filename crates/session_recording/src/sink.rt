@@ -1,0 +1,76 @@
+//! A sink that is recorded.
+
+ghost use Rattle.std.specs.Prelude.{◌≡◌, [], ◌∷◌, ◌++◌, length, IfSome};
+ghost use Rattle.std.proofs.Props.{props};
+ghost use Rattle.session_recording.specs.Kept.{IsSentTo, told_numbers};
+
+use crate::keeping::FirstBytes;
+use conversation_runs::{Sink, SinkError};
+use std::snapshot::Snapshot;
+
+/// A sink to which the first bytes written are kept, as many as there is room for, and all are
+/// counted: those of the sends that it answers with Ok, up to the first that it refuses. It is seen
+/// as the sink that it was made over.
+pub struct RecordingSink<'a, K: Sink> {
+    /// The sink that is written to.
+    pub sink: &'a mut K,
+    /// The sink as it was before.
+    pub before: Snapshot<K>,
+    /// The sink behind the last send that was answered with Ok, up to the first that was refused.
+    pub until: Snapshot<K>,
+    /// What it has taken since, up to there.
+    pub kept: FirstBytes,
+    /// Whether a send was refused.
+    pub has_refused: bool,
+    pub ghost recorded: { IfSome (K.written before.value) (λ first. IsSentTo first
+        (K.written until.value) (K.written sink.now) kept.room kept.bytes.items kept.count
+        has_refused) } by { Prim.hlevel props },
+}
+
+impl<'a, K: Sink> RecordingSink<'a, K> {
+    /// Records a sink from here on, in room of which nothing is used yet.
+    pub fn new(sink: &'a mut K, room: FirstBytes) -> RecordingSink<'a, K>
+        requires bytes { room.bytes.items ≡ [] }
+        requires count { room.count ≡ 0 }
+        ensures same_reference { result.sink.ghost_name ≡ sink.entry.ghost_name }
+        ensures sink { result.sink.now ≡ sink.old }
+        ensures before { result.before.value ≡ sink.old }
+        ensures kept { result.kept ≡ room }
+    {
+        let before = Snapshot::of(sink);
+        let until = Snapshot::of(sink);
+        RecordingSink {
+            sink,
+            before,
+            until,
+            kept: room,
+            has_refused: false,
+        }
+    }
+}
+
+impl<'a, K: Sink> Sink for RecordingSink<'a, K> {
+    ghost written = { λ r. K.written r.sink.now };
+
+    ghost faults = { λ r. K.faults r.sink.now };
+
+    // the sink itself, its room, and what was written before
+    ghost origin = { λ r. r.sink.ghost_name ∷ r.kept.room ∷ length (K.origin r.sink.now)
+        ∷ K.origin r.sink.now ++ told_numbers (K.written r.before.value) };
+
+    fn send(&mut self, bytes: &[u8]) -> Result<(), SinkError> {
+        match self.sink.send(bytes) {
+            Ok(()) => {
+                if !self.has_refused {
+                    self.kept.keep(bytes);
+                    self.until = Snapshot::of(self.sink);
+                }
+                Ok(())
+            }
+            Err(error) => {
+                self.has_refused = true;
+                Err(error)
+            }
+        }
+    }
+}
