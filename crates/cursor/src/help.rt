@@ -1,9 +1,7 @@
 //! What the program tells of itself.
 
-use pg_messages::PgStr;
-
 /// What `--help` writes.
-const HELP: &str = "\
+pub const HELP: &str = "\
 pg_cursor serves relations of intervals to one client that speaks PostgreSQL's protocol, with cursors in simple queries.
 
 usage: pg_cursor serve FILE PID KEY [TURNS]
@@ -27,7 +25,7 @@ A relation in FILE is a header line (name, number of unready polls, column names
 intervals as PostgreSQL prints them; fields stand apart by tabs, relations by an empty line.
 
 Examples:
-  pg_cursor serve data/relations 7 01020304 < client > replies
+  pg_cursor serve data/rosters 7 01020304 < client > replies
   pg_cursor --version
 
 Exit status: 0 done; 2 other words; 3 FILE is refused; 4 a read failed; 5 a write failed; 6 TURNS were spent;
@@ -35,16 +33,4 @@ Exit status: 0 done; 2 other words; 3 FILE is refused; 4 a read failed; 5 a writ
 ";
 
 /// What `--version` writes.
-const VERSION: &str = "pg_cursor 0.1.0\n";
-
-/// What the one word asks for, if it asks to be told something.
-pub fn help_or_version(words: &[PgStr]) -> Option<&'static str> {
-    let [word] = words else {
-        return None;
-    };
-    match word.as_str() {
-        "--help" => Some(HELP),
-        "--version" => Some(VERSION),
-        _ => None,
-    }
-}
+pub const VERSION: &str = "pg_cursor 0.1.0\n";

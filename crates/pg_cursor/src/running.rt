@@ -1,11 +1,12 @@
 //! The program over a relation file and one client.
 
-ghost use Rattle.std.specs.Prelude.{◌≤◌};
+ghost use Rattle.std.specs.Prelude.{[], ◌∷◌};
 ghost use Rattle.pg_engine.specs.Serving.{FaultsNeverFall, counts_of};
 ghost use Rattle.pg_cursor.specs.Program.{HasRun, HasServedFile, WasServed, IsRunComplete, surroundings};
 ghost use Rattle.pg_cursor.specs.Statuses.{status_of, line_of};
 ghost use Rattle.pg_cursor.specs.declared.outcome.Outcome.{Outcome};
 ghost use Rattle.relation_words.specs.Commands.{command_of};
+ghost use Rattle.status_lines.specs.Counts.{CountsNeverFall};
 ghost use Rattle.status_lines.specs.StatusLines.{IsReported};
 
 use crate::outcome::Outcome;
@@ -58,10 +59,9 @@ pub fn run_cursors<F: Source, S: Source, K: Sink, E: Sink>(
         out.old)
         (surroundings F.left F.faults S.left S.reads S.faults K.written K.faults file.new client.new
         out.new) }
-    ensures file_never_falls { F.faults file.old ≤ F.faults file.new }
-    ensures never_falls { FaultsNeverFall (counts_of S.reads S.faults K.faults client.old out.old)
-        (counts_of S.reads S.faults K.faults client.new out.new) }
-    ensures err_never_falls { E.faults err.old ≤ E.faults err.new }
+    ensures never_falls { CountsNeverFall
+        (F.faults file.old ∷ S.faults client.old ∷ K.faults out.old ∷ E.faults err.old ∷ [])
+        (F.faults file.new ∷ S.faults client.new ∷ K.faults out.new ∷ E.faults err.new ∷ []) }
 {
     let outcome = carry_out(alloc, words, file, client, out);
     tell(alloc, &outcome, err)
@@ -80,9 +80,9 @@ fn carry_out<F: Source, S: Source, K: Sink>(
         out.old)
         (surroundings F.left F.faults S.left S.reads S.faults K.written K.faults file.new client.new
         out.new) }
-    ensures file_never_falls { F.faults file.old ≤ F.faults file.new }
-    ensures never_falls { FaultsNeverFall (counts_of S.reads S.faults K.faults client.old out.old)
-        (counts_of S.reads S.faults K.faults client.new out.new) }
+    ensures never_falls { CountsNeverFall
+        (F.faults file.old ∷ S.faults client.old ∷ K.faults out.old ∷ [])
+        (F.faults file.new ∷ S.faults client.new ∷ K.faults out.new ∷ []) }
 {
     match read_command(alloc, words) {
         Err(AllocError) => Outcome::Conversation(Err(ServeError::NoMemory)),
@@ -104,9 +104,9 @@ fn serve_file<F: Source, S: Source, K: Sink>(
         out.old)
         (surroundings F.left F.faults S.left S.reads S.faults K.written K.faults file.new client.new
         out.new) }
-    ensures file_never_falls { F.faults file.old ≤ F.faults file.new }
-    ensures never_falls { FaultsNeverFall (counts_of S.reads S.faults K.faults client.old out.old)
-        (counts_of S.reads S.faults K.faults client.new out.new) }
+    ensures never_falls { CountsNeverFall
+        (F.faults file.old ∷ S.faults client.old ∷ K.faults out.old ∷ [])
+        (F.faults file.new ∷ S.faults client.new ∷ K.faults out.new ∷ []) }
 {
     match read_relations(alloc, file) {
         Err(error) => Outcome::File(error),

@@ -1,12 +1,13 @@
 //! The program over a relation file and an input.
 
-ghost use Rattle.std.specs.Prelude.{◌≤◌, IsErrOf, OnOk};
+ghost use Rattle.std.specs.Prelude.{[], ◌∷◌, ◌≤◌, IsErrOf, OnOk};
 ghost use Rattle.pg_replay.specs.Program.{HasRun, HasRecordedFile, HasVerifiedFile, HasRecorded, HasToldVerdict, HasVerified, HasWritten, IsRecordOutcome, surroundings};
 ghost use Rattle.pg_replay.specs.Statuses.{status_of, line_of, verdict_line, verdict_outcome};
 ghost use Rattle.pg_replay.specs.Words.{order_of};
 ghost use Rattle.pg_replay.specs.declared.outcome.Outcome.{Outcome};
 ghost use Rattle.recording_text.specs.Text.{recording_text};
 ghost use Rattle.pg_engine.specs.Serving.{FaultsNeverFall, counts_of};
+ghost use Rattle.status_lines.specs.Counts.{CountsNeverFall};
 ghost use Rattle.status_lines.specs.StatusLines.{IsReported};
 
 use crate::input::read_input;
@@ -69,10 +70,9 @@ pub fn run_replay<F: Source, S: Source, K: Sink, E: Sink>(
         × IsReported (status_of outcome) (line_of outcome) result (E.written err.old)
         (E.written err.new)
         (E.faults err.old) (E.faults err.new) }
-    ensures file_never_falls { F.faults file.old ≤ F.faults file.new }
-    ensures never_falls { FaultsNeverFall (counts_of S.reads S.faults K.faults client.old out.old)
-        (counts_of S.reads S.faults K.faults client.new out.new) }
-    ensures err_never_falls { E.faults err.old ≤ E.faults err.new }
+    ensures never_falls { CountsNeverFall
+        (F.faults file.old ∷ S.faults client.old ∷ K.faults out.old ∷ E.faults err.old ∷ [])
+        (F.faults file.new ∷ S.faults client.new ∷ K.faults out.new ∷ E.faults err.new ∷ []) }
 {
     let outcome = carry_out(alloc, words, file, client, out);
     tell(alloc, &outcome, err)
@@ -91,9 +91,9 @@ fn carry_out<F: Source, S: Source, K: Sink>(
         out.old)
         (surroundings F.left F.faults S.left S.reads S.faults K.written K.faults file.new client.new
         out.new) }
-    ensures file_never_falls { F.faults file.old ≤ F.faults file.new }
-    ensures never_falls { FaultsNeverFall (counts_of S.reads S.faults K.faults client.old out.old)
-        (counts_of S.reads S.faults K.faults client.new out.new) }
+    ensures never_falls { CountsNeverFall
+        (F.faults file.old ∷ S.faults client.old ∷ K.faults out.old ∷ [])
+        (F.faults file.new ∷ S.faults client.new ∷ K.faults out.new ∷ []) }
 {
     match read_order(words) {
         None => Outcome::Usage,
@@ -116,9 +116,9 @@ fn record_file<F: Source, S: Source, K: Sink>(
         out.old)
         (surroundings F.left F.faults S.left S.reads S.faults K.written K.faults file.new client.new
         out.new) }
-    ensures file_never_falls { F.faults file.old ≤ F.faults file.new }
-    ensures never_falls { FaultsNeverFall (counts_of S.reads S.faults K.faults client.old out.old)
-        (counts_of S.reads S.faults K.faults client.new out.new) }
+    ensures never_falls { CountsNeverFall
+        (F.faults file.old ∷ S.faults client.old ∷ K.faults out.old ∷ [])
+        (F.faults file.new ∷ S.faults client.new ∷ K.faults out.new ∷ []) }
 {
     match read_relations(alloc, file) {
         Err(error) => Outcome::File(error),
@@ -138,9 +138,9 @@ fn verify_file<F: Source, S: Source, K: Sink>(
         out.old)
         (surroundings F.left F.faults S.left S.reads S.faults K.written K.faults file.new client.new
         out.new) }
-    ensures file_never_falls { F.faults file.old ≤ F.faults file.new }
-    ensures never_falls { FaultsNeverFall (counts_of S.reads S.faults K.faults client.old out.old)
-        (counts_of S.reads S.faults K.faults client.new out.new) }
+    ensures never_falls { CountsNeverFall
+        (F.faults file.old ∷ S.faults client.old ∷ K.faults out.old ∷ [])
+        (F.faults file.new ∷ S.faults client.new ∷ K.faults out.new ∷ []) }
 {
     match read_relations(alloc, file) {
         Err(error) => Outcome::File(error),

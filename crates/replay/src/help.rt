@@ -1,9 +1,7 @@
 //! What the program tells of itself.
 
-use pg_messages::PgStr;
-
 /// What `--help` writes.
-const HELP: &str = "\
+pub const HELP: &str = "\
 pg_replay records a client that is served over relations of intervals, and verifies recordings: whether the server's
 replies are still those of the conversation's rules.
 
@@ -24,8 +22,8 @@ A relation in FILE is a header line (name, number of unready polls, column names
 intervals as PostgreSQL prints them; fields stand apart by tabs, relations by an empty line.
 
 Examples:
-  pg_replay record data/relations 7 01020304 < client > recording
-  pg_replay verify data/relations < recording
+  pg_replay record data/rosters 7 01020304 < client > recording
+  pg_replay verify data/rosters < recording
 
 Exit status, and the line on standard error:
   0   recorded, or the same
@@ -42,16 +40,4 @@ Exit status, and the line on standard error:
 ";
 
 /// What `--version` writes.
-const VERSION: &str = "pg_replay 0.1.0\n";
-
-/// What the one word asks for, if it asks to be told something.
-pub fn help_or_version(words: &[PgStr]) -> Option<&'static str> {
-    let [word] = words else {
-        return None;
-    };
-    match word.as_str() {
-        "--help" => Some(HELP),
-        "--version" => Some(VERSION),
-        _ => None,
-    }
-}
+pub const VERSION: &str = "pg_replay 0.1.0\n";

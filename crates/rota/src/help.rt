@@ -1,9 +1,7 @@
 //! What the program tells of itself.
 
-use pg_messages::PgStr;
-
 /// What `--help` writes.
-const HELP: &str = "\
+pub const HELP: &str = "\
 rota_report tells rotas: from a start, the intervals of a relation's column lead from one moment to the next.
 
 usage: rota_report lines FILE RELATION COLUMN START STYLE
@@ -24,7 +22,7 @@ intervals as PostgreSQL prints them; fields stand apart by tabs, relations by an
 
 Examples:
   rota_report lines data/rosters shifts starts 2024-01-31T08:00:00 postgres
-  rota_report clashes data/rosters shifts starts 2024-01-31T08:00:00 leave span 2024-02-01T00:00:00
+  rota_report clashes data/rosters shifts starts 2024-01-31T08:00:00 leave granted 2024-02-01T00:00:00
   rota_report --version
 
 Exit status: 0 done; 2 other words; 3 FILE is refused; 5 a write failed; 7 out of memory; 9 FILE can't be read; 20 no such
@@ -33,16 +31,4 @@ on standard error.
 ";
 
 /// What `--version` writes.
-const VERSION: &str = "rota_report 0.1.0\n";
-
-/// What the one word asks for, if it asks to be told something.
-pub fn help_or_version(words: &[PgStr]) -> Option<&'static str> {
-    let [word] = words else {
-        return None;
-    };
-    match word.as_str() {
-        "--help" => Some(HELP),
-        "--version" => Some(VERSION),
-        _ => None,
-    }
-}
+pub const VERSION: &str = "rota_report 0.1.0\n";

@@ -3,66 +3,29 @@
 
 mod help;
 
-use crate::help::help_or_version;
+use crate::help::{HELP, VERSION};
 use conversation_runs::Sink;
-use opened_files::open_file;
-use pg_messages::{PgList, PgStr};
-use pg_streams::{ReaderSource, WriterSink};
+use program_io::{open_file, sink_over, words_to_obey};
 use rota_report::run_rota;
 use rota_words::file_word;
-use std::alloc::{AllocError, Global};
+use std::env::Env;
+use std::fs::Files;
 use std::process::ExitCode;
-use std::{env, io};
 
-/// No words, or want of memory where that is why they weren't read.
-fn no_words(alloc: Global, error: io::Error) -> Result<PgList<PgStr>, AllocError> {
-    match error.kind() {
-        io::ErrorKind::OutOfMemory => Err(AllocError),
-        _ => Ok(PgList::new(alloc)),
-    }
-}
-
-/// The words of the command line, without the program's name. A word that isn't UTF-8 makes them no
-/// words at all.
-fn read_words(rt: &HostRuntime) -> Result<PgList<PgStr>, AllocError> {
-    let mut words = PgList::new(rt.alloc());
-    let args = match env::args(rt) {
-        Ok(args) => args,
-        Err(error) => return no_words(rt.alloc(), error),
+/// Does what the words of the command line order, and answers the exit status.
+fn obey<R: Env + AllocGlobal + Files, K: Sink, E: Sink>(rt: &R, out: &mut K, err: &mut E) -> u8 {
+    let words = match words_to_obey(rt, HELP, VERSION, out, err) {
+        Ok(words) => words,
+        Err(status) => return status,
     };
-    for word in args.skip(1) {
-        words.push(PgStr::copy_of(rt.alloc(), word.as_str())?)?;
-    }
-    Ok(words)
-}
-
-/// Writes a text, and tells the status of that.
-fn tell<K: Sink, E: Sink>(text: &str, out: &mut K, err: &mut E) -> ExitCode {
-    match out.send(text.as_bytes()) {
-        Ok(()) => ExitCode::SUCCESS,
-        Err(_) => ended(5, "write fault\n", err),
-    }
-}
-
-/// This status, after the line that tells why. A line that can't be written changes no status.
-fn ended<E: Sink>(status: u8, line: &str, err: &mut E) -> ExitCode {
-    let _told = err.send(line.as_bytes());
-    ExitCode::from(status)
+    let words = words.as_slice();
+    let alloc = rt.alloc();
+    let mut file = open_file(rt, file_word(alloc, words));
+    run_rota(alloc, words, &mut file, out, err)
 }
 
 fn main(rt: HostRuntime) -> ExitCode {
-    let alloc = rt.alloc();
-    let writer = rt.stdout();
-    let mut out = WriterSink { writer, faults: 0 };
-    let writer = rt.stderr();
-    let mut err = WriterSink { writer, faults: 0 };
-    let Ok(words) = read_words(&rt) else {
-        return ended(7, "out of memory\n", &mut err);
-    };
-    let words = words.as_slice();
-    if let Some(text) = help_or_version(words) {
-        return tell(text, &mut out, &mut err);
-    }
-    let mut file = open_file(&rt, file_word(alloc, words));
-    ExitCode::from(run_rota(alloc, words, &mut file, &mut out, &mut err))
+    let mut out = sink_over(rt.stdout());
+    let mut err = sink_over(rt.stderr());
+    ExitCode::from(obey(&rt, &mut out, &mut err))
 }

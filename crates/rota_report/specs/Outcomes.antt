@@ -11,9 +11,9 @@ use Rattle.rota_moments.specs.declared.rotas.RotaError.TheVariants as rota
 use Rattle.rota_moments.specs.Rotas.{Refusal, moments_of, IsTotal}
 use Rattle.rota_clashes.specs.Clashes.{AreClashes}
 use Rattle.rota_lines.specs.Lines.{clash_text}
-use Rattle.rota_writing.specs.Report.{IsReport}
-use Rattle.rota_writing.specs.declared.reports.ReportError.{ReportError}
-use Rattle.rota_writing.specs.declared.reports.ReportError.TheVariants as report
+use Rattle.rota_lines.specs.Report.{IsReport}
+use Rattle.rota_lines.specs.declared.reports.ReportError.{ReportError}
+use Rattle.rota_lines.specs.declared.reports.ReportError.TheVariants as report
 use Rattle.rota_report.specs.declared.failure.Failure.{Failure}
 use Rattle.rota_report.specs.declared.failure.Failure.TheVariants.{NoColumn, OutOfRange, TotalOverflow, WriteFault, NoMemory}
 

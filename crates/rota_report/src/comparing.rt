@@ -8,8 +8,8 @@ use crate::failure::Failure;
 use conversation_runs::Sink;
 use pg_interval::Interval;
 use rota_clashes::clashes;
+use rota_lines::write_clashes;
 use rota_moments::{Moment, rota};
-use rota_writing::write_clashes;
 use std::alloc::Global;
 
 /// Writes the lines of the clashes of two rotas.

@@ -4,8 +4,8 @@ ghost use Rattle.std.specs.Prelude.{◌≡◌};
 
 use conversation_runs::SinkError;
 use relation_files::FileError;
+use rota_lines::ReportError;
 use rota_moments::RotaError;
-use rota_writing::ReportError;
 use std::alloc::AllocError;
 
 /// Why an order isn't carried out.

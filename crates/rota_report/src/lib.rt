@@ -11,6 +11,6 @@ mod running;
 mod telling;
 
 pub use rota_clashes::clashes;
+pub use rota_lines::{ReportError, report};
 pub use rota_moments::{Moment, MomentError, RangeError, RotaError, rota, total};
-pub use rota_writing::{ReportError, report};
 pub use running::run_rota;

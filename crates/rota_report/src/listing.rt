@@ -9,8 +9,8 @@ use crate::failure::Failure;
 use conversation_runs::Sink;
 use pg_interval::Interval;
 use pg_text::IntervalStyle;
+use rota_lines::report;
 use rota_moments::Moment;
-use rota_writing::report;
 use std::alloc::Global;
 
 /// Writes the report of a rota.

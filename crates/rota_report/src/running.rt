@@ -1,10 +1,11 @@
 //! The program over a relation file.
 
-ghost use Rattle.std.specs.Prelude.{◌≤◌, Result};
+ghost use Rattle.std.specs.Prelude.{[], ◌∷◌, Result};
 ghost use Rattle.rota_words.specs.Orders.{lines, clashes, told_words};
 ghost use Rattle.rota_report.specs.declared.failure.Failure.{Failure};
 ghost use Rattle.rota_report.specs.Program.{HasRun, HasCarriedOut, surroundings};
 ghost use Rattle.rota_report.specs.Statuses.{status_of, line_of};
+ghost use Rattle.status_lines.specs.Counts.{CountsNeverFall};
 ghost use Rattle.status_lines.specs.StatusLines.{IsReported};
 
 use crate::comparing::write_comparison;
@@ -50,9 +51,9 @@ pub fn run_rota<F: Source, K: Sink, E: Sink>(
         (surroundings F.left F.faults K.written K.faults file.new out.new)
         × IsReported (status_of answer) (line_of answer) result
         (E.written err.old) (E.written err.new) (E.faults err.old) (E.faults err.new) }
-    ensures file_never_falls { F.faults file.old ≤ F.faults file.new }
-    ensures out_never_falls { K.faults out.old ≤ K.faults out.new }
-    ensures err_never_falls { E.faults err.old ≤ E.faults err.new }
+    ensures never_falls { CountsNeverFall
+        (F.faults file.old ∷ K.faults out.old ∷ E.faults err.old ∷ [])
+        (F.faults file.new ∷ K.faults out.new ∷ E.faults err.new ∷ []) }
 {
     let answer = carry_out(alloc, words, file, out);
     tell(alloc, &answer, err)
@@ -68,8 +69,8 @@ fn carry_out<F: Source, K: Sink>(
     ensures ran { HasRun words.now result
         (surroundings F.left F.faults K.written K.faults file.old out.old)
         (surroundings F.left F.faults K.written K.faults file.new out.new) }
-    ensures file_never_falls { F.faults file.old ≤ F.faults file.new }
-    ensures out_never_falls { K.faults out.old ≤ K.faults out.new }
+    ensures never_falls { CountsNeverFall (F.faults file.old ∷ K.faults out.old ∷ [])
+        (F.faults file.new ∷ K.faults out.new ∷ []) }
 {
     match read_order(alloc, words) {
         None => Err(Failure::Usage),
@@ -89,8 +90,8 @@ fn list<F: Source, K: Sink>(
     ensures done { HasCarriedOut (lines (told_words rota.entry) style) result
         (surroundings F.left F.faults K.written K.faults file.old out.old)
         (surroundings F.left F.faults K.written K.faults file.new out.new) }
-    ensures file_never_falls { F.faults file.old ≤ F.faults file.new }
-    ensures out_never_falls { K.faults out.old ≤ K.faults out.new }
+    ensures never_falls { CountsNeverFall (F.faults file.old ∷ K.faults out.old ∷ [])
+        (F.faults file.new ∷ K.faults out.new ∷ []) }
 {
     match read_column(alloc, file, rota) {
         Ok(steps) => write_report(alloc, rota.start, steps.as_slice(), style, out),
@@ -109,8 +110,8 @@ fn compare<F: Source, K: Sink>(
     ensures done { HasCarriedOut (clashes (told_words first.entry) (told_words second.entry)) result
         (surroundings F.left F.faults K.written K.faults file.old out.old)
         (surroundings F.left F.faults K.written K.faults file.new out.new) }
-    ensures file_never_falls { F.faults file.old ≤ F.faults file.new }
-    ensures out_never_falls { K.faults out.old ≤ K.faults out.new }
+    ensures never_falls { CountsNeverFall (F.faults file.old ∷ K.faults out.old ∷ [])
+        (F.faults file.new ∷ K.faults out.new ∷ []) }
 {
     match read_columns(alloc, file, first, second) {
         Ok((steps, others)) => write_comparison(

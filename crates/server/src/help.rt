@@ -1,9 +1,7 @@
 //! What the program tells of itself.
 
-use pg_messages::PgStr;
-
 /// What `--help` writes.
-const HELP: &str = "\
+pub const HELP: &str = "\
 relation_server serves relations of intervals to clients that speak PostgreSQL's protocol, versions 3.0 and 3.2.
 
 usage: relation_server listen tcp PORT FILE [COUNT]
@@ -14,7 +12,8 @@ usage: relation_server listen tcp PORT FILE [COUNT]
 
 listen  takes in connections at 127.0.0.1:PORT (1 to 65535), or at a Unix socket made at PATH, and serves each on a
         thread of its own over the relations of FILE. It ends after COUNT connections (0 to 10000) or where it can't go
-        on, once each client was served. Nothing may stand at PATH; what was made there goes at the end.
+        on, once each client was served. At PATH nothing may stand but a socket at which no server listens, which is
+        taken over; what was made there goes at the end. SIGINT and SIGTERM end it at once, and its clients with it.
 serve   serves one client: its bytes come on standard input, the replies go to standard output. The client is told
         PID (1 to 2147483647) and KEY (an even number of hexadecimal digits, 8 to 512; in 3.0 the first eight). It has
         TURNS reads and polls (default 1000000000).
@@ -42,16 +41,4 @@ by a line on standard error.
 ";
 
 /// What `--version` writes.
-const VERSION: &str = "relation_server 0.1.0\n";
-
-/// What the one word asks for, if it asks to be told something.
-pub fn help_or_version(words: &[PgStr]) -> Option<&'static str> {
-    let [word] = words else {
-        return None;
-    };
-    match word.as_str() {
-        "--help" => Some(HELP),
-        "--version" => Some(VERSION),
-        _ => None,
-    }
-}
+pub const VERSION: &str = "relation_server 0.1.0\n";

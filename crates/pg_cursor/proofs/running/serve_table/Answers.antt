@@ -19,7 +19,7 @@ returns-clause-served g c =
     record {
       calls = went.0;
       answered = answered_no desk.script desk.answers desk.calls went.0
-          (ap (λ d. d.origin) c.serve_cursors_on-answer.ensures.registration.grown ∙ ap origin_of (c.new-desk.ensures.script ∙ c.new.ensures))
+          (ap (λ d. d.origin) c.serve_cursors_on-answer.ensures.serves.registration.grown ∙ ap origin_of (c.new-desk.ensures.script ∙ c.new.ensures))
           c.calls-calls.ensures.scripted
           (went.1 ∙ ap (λ k. k ++ went.0) c.new-desk.ensures.calls);
       went = subst (λ k. WentByCursors c.args.relations.now (c.args.service.pid, k) answer (g.S.Source.left c.args.client.now)
@@ -33,7 +33,10 @@ returns-clause-served g c =
           (counts_of g.S.Source.reads g.S.Source.faults g.K.Sink.faults c.serve_cursors_on-answer.new.source
           c.serve_cursors_on-answer.new.sink)
           went.1 c.serve_cursors_on-answer.ensures.cause;
-      calm = c.serve_cursors_on-answer.ensures.calm;
+      calm = c.serve_cursors_on-answer.ensures.serves.calm;
       complete = c.serve_cursors_on-answer.ensures.complete;
-      gave = c.serve_cursors_on-answer.ensures.reads;
+      gave = c.serve_cursors_on-answer.ensures.serves.reads;
     }
+
+pub returns-clause-never_falls : goal.returns-clause-never_falls
+returns-clause-never_falls g c = c.serve_cursors_on-answer.ensures.serves.never_falls

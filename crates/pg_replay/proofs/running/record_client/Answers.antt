@@ -25,7 +25,7 @@ returns-clause-recorded g c =
     let gone : went.0 ≡ desk.calls = sym (went.1 ∙ ap (λ k. k ++ went.0) c.new-desk.ensures.calls) in
     let heard : told.0 ≡ desk.calls = sym (told.1 ∙ ap (λ k. k ++ told.0) c.new-desk.ensures.calls) in
     let answered = answered_no desk.script desk.answers desk.calls
-    (ap (λ d. d.origin) s.ensures.registration.grown ∙ ap origin_of (c.new-desk.ensures.script ∙ c.new.ensures))
+    (ap (λ d. d.origin) s.ensures.serves.registration.grown ∙ ap origin_of (c.new-desk.ensures.script ∙ c.new.ensures))
     c.calls-calls.ensures.scripted in
     let cause = cause_of_calls answer turns made.calls desk.calls went.0
     (counts_of g.S.Source.reads g.S.Source.faults (λ (sink : BytesSink). 0) c.args.client.now s.new.sink)

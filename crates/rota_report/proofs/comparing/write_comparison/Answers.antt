@@ -1,6 +1,6 @@
 -- There is one moment more than steps.
 use Rattle.std.proofs.Common.{◌≡◌, ◌∙◌, ◌+◌, ap, length, arith}
-use Rattle.rota_writing.proofs.LineLemmas.{one_more}
+use Rattle.rota_lines.proofs.LineLemmas.{one_more}
 use Rattle.rota_report.proofs.comparing.write_comparison.Goals as goal
 
 pub clashes-requires-clause-first_few : goal.clashes-requires-clause-first_few

@@ -1,0 +1,13 @@
+//! What a main does with what is outside: it reads the words of the command line, tells of the
+//! program itself, opens the file that the words name, and takes the standard streams.
+#![tactic(auto)]
+
+mod opened_file;
+mod standard;
+mod telling;
+mod words;
+
+pub use opened_file::{OpenedFile, open_file};
+pub use standard::{sink_over, standard_input};
+pub use telling::{out_of_memory, tell, words_to_obey};
+pub use words::{read_words, told_word, words_of};

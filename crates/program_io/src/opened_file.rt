@@ -1,0 +1,68 @@
+//! A file, as it could be opened.
+
+ghost use Rattle.std.specs.Prelude.{◌≡◌, None, length};
+ghost use Rattle.std.specs.Option.{option_copied};
+ghost use Rattle.pg_streams.specs.Counts.{IsCountedRead};
+ghost use Rattle.program_io.specs.Files.{reads_of_file, faults_of_file, IsUnopened, ReadsOn};
+
+use conversation_runs::{Source, SourceFailed};
+use pg_streams::ReaderSource;
+use std::fs;
+use std::fs::Files;
+use std::io::Read;
+
+/// A file that was opened, or one that could not be, whose reads all fail.
+#[derive(Drop)]
+pub enum OpenedFile<R: Read> {
+    /// The file.
+    Opened(ReaderSource<R>),
+    /// How many reads failed. The count stands still at the greatest `u64`.
+    Unopened(u64),
+}
+
+impl<R: Read> Source for OpenedFile<R> {
+    ghost use Rattle.std.specs.Prelude.{None};
+    ghost use Rattle.program_io.specs.Files.{reads_of_file, faults_of_file};
+
+    ghost left = { λ _. None };
+
+    ghost reads = { reads_of_file };
+
+    ghost faults = { faults_of_file };
+
+    fn receive(&mut self, into: &mut [u8]) -> Result<usize, SourceFailed>
+        // what is known of the file's bytes goes on, and no read is answered for a file that isn't
+        // there
+        ensures read { ReadsOn R.remaining self.old self.new result into.new }
+        ensures counted { IsCountedRead result (length into.old)
+            (reads_of_file self.old) (reads_of_file self.new)
+            (faults_of_file self.old) (faults_of_file self.new) }
+    {
+        match self {
+            OpenedFile::Opened(file) => file.receive(into),
+            OpenedFile::Unopened(faults) => {
+                *faults = faults.saturating_add(1);
+                Err(SourceFailed {})
+            }
+        }
+    }
+}
+
+/// The file at a path, where there is one and it can be opened. No path is no file.
+pub fn open_file<R: Files>(rt: &R, path: Option<&str>) -> OpenedFile<R::File>
+    ensures reads { reads_of_file result ≡ 0 }
+    ensures faults { faults_of_file result ≡ 0 }
+    ensures unopened { option_copied path.entry ≡ None → IsUnopened result }
+{
+    let Some(path) = path else {
+        return OpenedFile::Unopened(0);
+    };
+    match fs::open(rt, path) {
+        Err(_) => OpenedFile::Unopened(0),
+        Ok(reader) => OpenedFile::Opened(ReaderSource {
+            reader,
+            reads: 0,
+            faults: 0,
+        }),
+    }
+}
