@@ -5,14 +5,13 @@ ghost use Rattle.std.specs.Prelude.{◌≡◌, IfSome};
 ghost use Rattle.std.specs.Arc.{arc_value};
 
 use pg_cancel::{ConnectionHandle, ConnectionManager, Door};
-use pg_handlers::{NoRows, NoopHandler, QueryState, SimpleQueryHandler, Turn};
+use pg_handlers::{NoRows, NoopHandler, PolledQuery, QueryState, SimpleQueryHandler, Turn};
 use pg_messages::{PgList, SecretKey};
 use pg_portal::{ClientInfo, MemPortalStore, PgWireError, Response};
 use pg_serve::{HandleDesk, MemorySink, serve_connection};
 use pg_session::{
     EndKind, PgWireServerHandlers, ServeError, Sink, SinkError, Source, SourceFailed,
 };
-use polled_queries::PolledQuery;
 use std::alloc::{AllocError, Global};
 use std::cell::Cell;
 use std::sync::{Arc, Wait};
@@ -102,7 +101,7 @@ struct HeldQuery<'s, R> {
 }
 
 impl<'s, R: Wait> QueryState for HeldQuery<'s, R> {
-    ghost use Rattle.polled_queries.specs.Queries.{query_told};
+    ghost use Rattle.pg_handlers.specs.PolledQueries.{query_told};
 
     type Out = Result<Answers, PgWireError>;
 

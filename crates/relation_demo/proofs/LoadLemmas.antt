@@ -12,7 +12,8 @@ use Rattle.relation_tables.specs.declared.Relation.{Relation}
 use Rattle.relation_tables.specs.Relations.{place_of, are_even}
 use Rattle.relation_handlers.specs.declared.table.TableError.{TableError}
 use Rattle.relation_handlers.specs.declared.table.TableError.TheVariants.{BadName, BadColumn, RaggedRow}
-use Rattle.relation_handlers.specs.Tables.{IsValid, HoldIntervals, IsRowWithin, AreRowsWithin, is_name, is_column_name, are_columns, refusal_at, refusal_after, or_else}
+use Rattle.relation_tables.specs.Names.{is_name, is_column_name, are_columns}
+use Rattle.relation_handlers.specs.Tables.{IsValid, HoldIntervals, IsRowWithin, AreRowsWithin, refusal_at, refusal_after, or_else}
 use Rattle.relation_demo.specs.Draws.{step, after, draw}
 use Rattle.relation_demo.specs.Load.{each_below, cell, row, rows, unready, width, height, draws, relation, relation_name, column_name, before, demo_relations}
 use Rattle.relation_demo.proofs.DrawLemmas.{after-more, next_draw, each_below-more}

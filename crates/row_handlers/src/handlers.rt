@@ -13,14 +13,14 @@ use crate::answers::RowAnswers;
 use crate::parser::RowParser;
 use crate::response::{begun, response, simple_answer};
 use pg_handlers::{
-    ExtendedQueryHandler, NoRows, NoopHandler, PgWireServerHandlers, SimpleQueryHandler,
+    ExtendedQueryHandler, NoRows, NoopHandler, PgWireServerHandlers, PolledQuery,
+    SimpleQueryHandler,
 };
 use pg_messages::PgList;
 use pg_portal::{
     ClientInfo, DescribePortalResponse, DescribeStatementResponse, Format, PgWireError, Portal,
     Response, StoredStatement,
 };
-use polled_queries::PolledQuery;
 use std::alloc::{AllocError, Global};
 use std::marker::Model;
 use std::sync::Arc;

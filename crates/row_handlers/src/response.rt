@@ -12,10 +12,9 @@ ghost use Rattle.pg_results.specs.declared.error.PgWireError.TheVariants as wire
 ghost use Rattle.row_handlers.specs.Told.{answer_of, rows_under, simple_answer};
 
 use crate::answers::RowAnswers;
-use pg_handlers::NoRows;
+use pg_handlers::{NoRows, PolledQuery};
 use pg_messages::{PgBytes, PgList};
 use pg_portal::{FieldInfo, Format, PgWireError, QueryResponse, Response, RowSource};
-use polled_queries::PolledQuery;
 use std::alloc::{AllocError, Global};
 use std::sync::Arc;
 

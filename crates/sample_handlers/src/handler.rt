@@ -3,7 +3,7 @@
 ghost use Rattle.std.specs.Prelude.{◌≡◌, false, None, IfOk};
 ghost use Rattle.conversation_table.specs.Good.{AreSendable};
 ghost use Rattle.conversation_table.specs.Handlers.{told_all, told_query};
-ghost use Rattle.polled_queries.specs.Queries.{is_given, query_told};
+ghost use Rattle.pg_handlers.specs.PolledQueries.{is_given, query_told};
 ghost use Rattle.sample_handlers.specs.Told.{alone_or_not_known, data_left, listed, version_statement};
 
 use crate::answer::{Answer, polls_of, response, responses};
@@ -12,13 +12,12 @@ use crate::copy::SampleCopy;
 use crate::errors::not_known;
 use crate::meaning::{SampleStatement, meaning_of};
 use crate::parser::SampleParser;
-use pg_handlers::{ExtendedQueryHandler, SimpleQueryHandler};
+use pg_handlers::{ExtendedQueryHandler, PolledQuery, SimpleQueryHandler};
 use pg_messages::{PgList, ProtocolVersion};
 use pg_portal::{
     ClientInfo, DescribePortalResponse, DescribeStatementResponse, Format, ListRows, PgWireError,
     Portal, StoredStatement,
 };
-use polled_queries::PolledQuery;
 use query_texts::trimmed;
 use std::alloc::{AllocError, Global};
 use std::sync::Arc;

@@ -35,7 +35,7 @@ fn answer_under(
     match word {
         "parse" | "parse_some" => read(rt, options, word, second.as_bytes()),
         "parse_hex" => read_digits(rt, options, word, second),
-        "read" | "read_some" => read_digits(rt, options, word, first),
+        "read_cell" | "read_some" => read_digits(rt, options, word, first),
         "text_of_duration" => text(rt, &duration_of(second), options),
         _ => write(rt, options, word, type_of(first), interval_of(second)),
     }
@@ -64,7 +64,7 @@ fn cell_of(alloc: Global, text: &str) -> Result<Vec<u8>, AllocError> {
 /// Prints what a cell is read as.
 fn read(rt: &HostRuntime, options: &FormatOptions, word: &str, cell: &[u8]) -> io::Result<()> {
     match word {
-        "read" => show_interval(rt, <Interval as FromSql>::from_sql(PgType::Interval, cell)),
+        "read_cell" => show_interval(rt, <Interval as FromSql>::from_sql(PgType::Interval, cell)),
         "read_some" => show_some(rt, Option::<Interval>::from_sql(PgType::Interval, cell)),
         "parse_some" => show_some(
             rt,

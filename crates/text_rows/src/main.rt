@@ -1,8 +1,10 @@
-// Rows on options and cells, one a line, which it answers. A row is a word and its fields, split by
-// `|`; what is told of a cell begins with the byte `>`, which stands in the buffer before.
+// Rows on interval texts, options and cells, one a line, which it answers. A row is a word and its
+// fields, split by `|`; what is told of a cell begins with the byte `>`, which stands in the buffer
+// before.
 #![tactic(auto)]
 
 mod cells;
+mod intervals;
 mod options;
 mod told;
 
@@ -23,7 +25,10 @@ fn answer_line(rt: &HostRuntime, row: String) -> io::Result<()> {
 fn answer_row(rt: &HostRuntime, row: &str) -> io::Result<()> {
     print!(rt; "{row} => ")?;
     let (word, fields) = cut(row);
-    options::answer(rt, word, fields)
+    match word {
+        "read" | "print" | "error" => intervals::answer(rt, word, fields),
+        _ => options::answer(rt, word, fields),
+    }
 }
 
 /// The first field and the others.

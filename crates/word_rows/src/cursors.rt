@@ -1,7 +1,7 @@
 //! What queries and replies come to.
 
-use bytes::BytesMut;
-use cursor_commands::{CursorCommand, put_replies, read_cursor};
+use cursor_commands::{CursorCommand, new_replies, read_cursor};
+use pg_outbox::Outbox;
 use row_files::{Fault, hex_words, next_part, push_digits, unescaped};
 use std::alloc::{AllocError, Global};
 
@@ -77,9 +77,11 @@ fn replied(alloc: Global, query: &str, replies: &[u8]) -> Result<Option<String>,
 
 /// What a command makes of replies, in hexadecimal digits.
 fn digits_of(alloc: Global, command: &CursorCommand, replies: &[u8]) -> Result<String, AllocError> {
-    let mut out = BytesMut::new(alloc);
-    put_replies(alloc, command, replies, &mut out)?;
+    let mut outbox = Outbox::new(alloc)?;
+    outbox.push_bytes(replies)?;
+    let new = new_replies(alloc, command, &outbox)?;
     let mut digits = String::new(alloc);
-    push_digits(&mut digits, out.as_slice())?;
+    push_digits(&mut digits, &replies[..replies.len().min(new.kept)])?;
+    push_digits(&mut digits, new.behind.as_slice())?;
     Ok(digits)
 }

@@ -1,4 +1,4 @@
-//! What rows give: moments, intervals and rotas.
+//! What rows on rotas give: moments, intervals and rotas.
 
 ghost use Rattle.std.specs.Prelude.{IfOk, All};
 ghost use Rattle.rota_moments.specs.Moments.{IsMoment};

@@ -1,4 +1,4 @@
-//! The answers of rows.
+//! What rotas come to, as a line: texts of moments, sums, moments, totals, lines and clashes.
 
 ghost use Rattle.std.specs.Prelude.{All, length, ◌<◌, ◌^◌};
 ghost use Rattle.rota_moments.specs.Moments.{IsMoment};
@@ -13,16 +13,24 @@ use row_files::{Fault, next_part, push_shown};
 use std::alloc::{AllocError, Global};
 use std::fmt::Write;
 
-/// The answer to what a row asks.
-pub fn answer_of<'t>(alloc: Global, asked: &'t str) -> Result<String, Fault<'t>> {
+/// The answer to a question about rotas.
+pub fn rota_answer<'t>(
+    alloc: Global,
+    question: &'t str,
+    given: &'t str,
+) -> Result<String, Fault<'t>> {
     let mut answer = String::new(alloc);
-    put_answer(alloc, &mut answer, asked)?;
+    put_answer(alloc, &mut answer, question, given)?;
     Ok(answer)
 }
 
-/// Puts the answer to what a row asks.
-fn put_answer<'t>(alloc: Global, answer: &mut String, asked: &'t str) -> Result<(), Fault<'t>> {
-    let (question, given) = next_part(asked)?;
+/// Puts the answer to a question about rotas.
+fn put_answer<'t>(
+    alloc: Global,
+    answer: &mut String,
+    question: &'t str,
+    given: &'t str,
+) -> Result<(), Fault<'t>> {
     match question {
         "read" => Ok(put_read(answer, given)?),
         "add" => put_later(answer, given),

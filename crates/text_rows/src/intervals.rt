@@ -1,39 +1,31 @@
-// Answers rows about interval texts, a line for each row of standard input:
+// Rows on interval texts:
 //   read|STYLE|COUNT|PIECE   what the text of COUNT times PIECE stands for: months, days and
 //       microseconds, or the refusal
 //   print|MONTHS|DAYS|MICROSECONDS   the text in each style, and whether each is read back as the
 //       same interval
 //   error|PART|REASON   what a refusal displays
-#![tactic(auto)]
-
 use pg_interval::{DecimalError, IntError, Interval, ParseError, Reason};
 use std::alloc::{AllocError, Global};
 use std::io;
 
-fn main(rt: HostRuntime) -> io::Result<()> {
-    for line in rt.lines(rt.alloc()) {
-        let line = line?;
-        let answer = answer_of(rt.alloc(), line.as_str())?;
-        println!(rt; "{}", answer.as_str())?;
-    }
-    Ok(())
+/// Prints what a row on an interval's text is answered.
+pub(crate) fn answer(rt: &HostRuntime, word: &str, fields: &str) -> io::Result<()> {
+    let answer = answer_of(rt.alloc(), word, fields)?;
+    println!(rt; "{}", answer.as_str())
 }
 
 /// The row's answer.
-fn answer_of(alloc: Global, row: &str) -> Result<String, AllocError> {
-    let Some((kind, rest)) = row.split_once('|') else {
-        return String::from_str(alloc, "no row");
+fn answer_of(alloc: Global, word: &str, fields: &str) -> Result<String, AllocError> {
+    let Some((first, rest)) = fields.split_once('|') else {
+        return String::from_str(alloc, "no such row");
     };
-    let Some((first, rest)) = rest.split_once('|') else {
-        return String::from_str(alloc, "no row");
-    };
-    if kind == "error" {
+    if word == "error" {
         return error_text(alloc, first, rest);
     }
     let Some((second, third)) = rest.split_once('|') else {
-        return String::from_str(alloc, "no row");
+        return String::from_str(alloc, "no such row");
     };
-    if kind == "read" {
+    if word == "read" {
         read(alloc, first, second, third)
     } else {
         printed(alloc, first, second, third)

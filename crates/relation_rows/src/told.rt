@@ -1,4 +1,4 @@
-//! How an answer is told.
+//! How the answer to a file is told.
 
 use pg_interval::Interval;
 use pg_messages::{PgList, PgStr};

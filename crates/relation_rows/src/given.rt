@@ -1,4 +1,4 @@
-//! What rows give: a file, how much of it each read gives, and which reads fail.
+//! What rows on files give: a file, how much of it each read gives, and which reads fail.
 
 use pg_messages::{PgBytes, PgList};
 use pg_streams::MemorySource;
@@ -9,9 +9,9 @@ use std::str::FromStr;
 /// The row's file: its bytes, the most that each read gives, and the reads that fail.
 pub fn file_of<'t>(alloc: Global, row: &'t str) -> Result<MemorySource, Fault<'t>> {
     let mut bytes = Vec::new(alloc);
-    push_repeats(alloc, &mut bytes, part(row, 1)?)?;
-    let pieces = numbers_of::<usize>(alloc, part(row, 3).unwrap_or(""))?;
-    let fails = numbers_of::<u64>(alloc, part(row, 4).unwrap_or(""))?;
+    push_repeats(alloc, &mut bytes, part(row, 2)?)?;
+    let pieces = numbers_of::<usize>(alloc, part(row, 4).unwrap_or(""))?;
+    let fails = numbers_of::<u64>(alloc, part(row, 5).unwrap_or(""))?;
     Ok(MemorySource::new(PgBytes::from_vec(bytes), pieces, fails))
 }
 
