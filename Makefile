@@ -1,58 +1,80 @@
-.PHONY: demo serve try clients build test edits bench docs pages
+.PHONY: demo serve try clients build install uninstall handler quick proofs test edits bench docs rows pages
 
 CLIENT = tools/demo_client.hex
 ROSTERS = $(CURDIR)/data/rosters
 WORDS = serve $(ROSTERS) 7 01020304
 PORT = 5433
+FILE = data/rosters
+HANDLER =
+NAME =
+NAMES =
+PREFIX = $(HOME)/.local
+export PORT FILE HANDLER NAME PREFIX
 # The programs that bench/ measures.
-MEASURED = $(notdir $(wildcard $(addprefix crates/,server interval_bench interval_rows message_rows cancel_stress)))
+MEASURED = $(notdir $(wildcard $(addprefix crates/,server interval_bench text_rows message_rows cancel_stress)))
 # Runs a command in a folder, and shows what it says only where it fails.
 QUIETLY = log=$$(mktemp) && if (cd $(1) && $(2)) >$$log 2>&1; then rm -f $$log; else cat $$log; rm -f $$log; exit 1; fi
+# The programs below are the proved ones where make build has built them and they are up to date; else they are built unproved,
+# once, and kept under .built/ until a source changes (tools/programs.py).
 
-# Serves a sample client and shows its frames and the replies. The program is built unproved.
+# Serves a sample client and shows its frames and the replies.
 demo:
-	@echo "The program is built unproved, which takes about a minute. make build proves it first."
-	@python3 tools/show_frames.py $(CLIENT) tools/try_server $(WORDS)
+	@python3 -B tools/show_frames.py $(CLIENT) tools/run_server $(WORDS)
 
-# Serves the sample relations at 127.0.0.1:5433, until it is interrupted: by the proved program where it was built.
-# make serve PORT=5434 takes another port.
+# Serves a relation file at a port of 127.0.0.1, until it is interrupted: make serve FILE=my/file PORT=5434. PORT=0 takes a free
+# port. With HANDLER=dates it serves what make handler NAME=dates made.
 serve:
-	@python3 -B tools/port_is_free.py $(PORT)
-	@echo "Serves data/rosters at 127.0.0.1:$(PORT). Ctrl-C ends it. Ask it by: psql -h 127.0.0.1 -p $(PORT) -c shifts"
-	@tools/run_server listen tcp $(PORT) $(ROSTERS)
+	@python3 -B tools/serve.py "$$PORT" "$$FILE" "$$HANDLER"
 
 # Runs psql over the sample relations, and compares what it prints; then cancels queries by the keys of 3.0 and of 3.2; then
 # tries a server with few descriptors and threads, large batches, and Unix sockets that were left over; then tells the rotas
-# of README.md; then runs psql's cursors over `pg_cursor`; then records the sample client, verifies it, and sees changes named:
-# by the proved programs where they were built.
+# of README.md; then runs psql's cursors over `pg_cursor`; then records the sample client, verifies it, and sees changes named;
+# then runs the examples of the pages and of each --help. make try NAMES="psql keys" for some of these.
 try:
-	@tools/try_psql.sh
-	@tools/try_keys
-	@tools/try_limits
-	@tools/try_rota.sh
-	@tools/try_cursor.sh
-	@tools/try_replay
+	@python3 -B tools/try_all.py $(NAMES)
 
 # Tries each client of docs/CLIENTS.md that is installed, over the proved program where it was built: make clients NAMES=psql for
 # one alone.
 clients:
 	@tools/try_clients $(NAMES)
 
-# Proves the program and all that it stands on, builds it, and shows the same frames from what was built.
+# Proves the program and all that it stands on, builds it, and shows the same frames from what was built. make build NAMES="cursor
+# replay rota" proves and builds the others.
 build:
-	@echo "The program is proved and built: from nothing 40 to 70 minutes of processor time, later only what changed."
-	@$(call QUIETLY,crates/server,rt run -- --version)
-	@python3 tools/show_frames.py $(CLIENT) crates/server/out/server $(WORDS)
+	@echo "$(or $(NAMES),The program) is proved and built: from nothing 40 to 70 minutes of processor time, later only what changed."
+	@python3 -B tools/programs.py --build $(or $(NAMES),server)
+	@$(if $(NAMES),,python3 -B tools/show_frames.py $(CLIENT) crates/server/out/server $(WORDS))
 
-# Proves everything from nothing, tries the must-fail edits that are not held, runs every test and program. As many checks run
-# side by side as there are processors, each in one job: a check that is given a second one repeats a tenth to a third of its
-# work. They take up to 5 GB each; where memory is short, `rt ci` alone has as many as fit.
+# Puts the programs relation_server, pg_cursor, pg_replay and rota_report into PREFIX/bin; make uninstall removes them.
+install:
+	@python3 -B tools/install.py "$$PREFIX"
+
+uninstall:
+	@python3 -B tools/install.py "$$PREFIX" --remove
+
+# Copies the example of docs/HANDLERS.md, crates/styles and crates/styles_server, under a name of one's own: make handler NAME=dates.
+handler:
+	@python3 -B tools/handler.py "$$NAME"
+
+# Compares the pages and rows that are made of others; then proves everything from nothing, tries the must-fail edits that are not
+# held, runs every test and program (rt ci); then make try over the programs that were proved. As many checks run side by side as
+# there are processors. They take up to 5 GB each; where memory is short, RT_JOBS=2 make test has fewer.
 test:
-	RT_JOBS=$$(nproc) rt ci
+	@python3 -B tools/test.py
 
-# Tries the edits that the gate leaves out (hours): make edits NAMES=pg_session for one crate's.
+# The proofs, edits, tests and programs alone: rt ci.
+proofs:
+	@python3 -B tools/test.py --proofs
+
+# All that can be seen without a proof: each table program and each test as rt try runs them, the programs built unproved, and the
+# scripts of make try over these. make quick NAMES="word_rows rota" for some crates.
+quick:
+	@python3 -B tools/quick.py $(NAMES)
+
+# Tries the edits that the gate leaves out and that aren't recorded as refused on what stands here, and records what refused each in
+# tools/held_edits.tsv (hours from nothing): make edits NAMES=pg_session for one crate's.
 edits:
-	@tools/held_edits $(NAMES)
+	@python3 -B tools/held_edits.py $(NAMES)
 
 # Times queries, printers, readers, the codec and the registry, on programs that are proved and built first.
 bench:
@@ -67,6 +89,10 @@ bench:
 # edits and tests that it names.
 docs:
 	@status=0; for page in definitions contracts check_wrong_bodies; do python3 -B tools/$$page.py || status=1; done; exit $$status
+
+# Compares the rows and answers that are stored with what the tools that restate the rules make of them.
+rows:
+	@python3 -B tools/rows.py $(NAMES)
 
 # Makes the two pages from the crates anew.
 pages:

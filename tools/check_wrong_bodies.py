@@ -3,7 +3,8 @@
 
 Every row of a table headed "Wrong body | Refused by" names in backticks the edits and tests that refuse it. The check
 asks that each is there (an edit under some crate's must-fail/ or held/, a test function, a row of a table program), and that
-each edit of the crates is named. It prints what is missing, and its status is then 1.
+each edit of the crates is named; that no two edits of a crate have one name; and that each names a file of its crate, in which each
+`old:` text stands exactly once, behind what the pairs before it have made. It prints what is wrong, and its status is then 1.
 """
 import re
 import sys
@@ -26,6 +27,27 @@ def rows():
             yield number, cells
 
 
+def misplaced(path):
+    """Why an edit can't be applied, if it can't: its pairs of `old:` and `new:` are taken in turn, in the file named before each."""
+    lines = re.findall("^(file|old|new):(?: (.*)|$)", path.read_text(), re.M)
+    texts, file, old = {}, None, None
+    for word, text in lines:
+        if word == "file":
+            file = path.parent.parent / text.strip()
+            if not file.is_file():
+                return f"there is no {text.strip()}"
+            texts.setdefault(file, file.read_text())
+        elif file is None or (word == "new") != (old is not None):
+            return "a line file: stands first, and then lines old: and new: in turn"
+        elif word == "old":
+            old = text
+            if texts[file].count(old) != 1:
+                return f"in {file.name} there stands {texts[file].count(old)} times and not once: {old}"
+        else:
+            texts[file], old = texts[file].replace(old, text), None
+    return "it has no pair of lines old: and new:" if old is not None or not texts or len(lines) < 3 else None
+
+
 def main():
     crates = listed_crates()
     tests, told = known_examples(crates)
@@ -42,6 +64,9 @@ def main():
             if name not in edits and name not in tests and name not in told:
                 problems.append(f"{place}: no edit, test or row is called `{name}`")
     problems += [f"docs/WRONG_BODIES.md: no row names {path}" for name, path in sorted(edits.items()) if name not in named]
+    problems += [f"{path.relative_to(TOP)}: {why}" for path in sorted(found) if (why := misplaced(path))]
+    of_crates = [(path.parent.parent.name, path.stem) for path in found]
+    problems += [f"crates/{crate}: two edits are called {name}" for crate, name in sorted(set(of_crates)) if of_crates.count((crate, name)) > 1]
     for problem in problems:
         print(problem)
     held = sum(path.parent.name == "held" for path in found)

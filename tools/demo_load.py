@@ -1,5 +1,5 @@
 #!/usr/bin/env python3
-"""The rows of demo_rows, restated from the rules of the generated load and not from the program.
+"""The generated loads among the rows of relation_rows, restated from the rules of the generated load and not from the program.
 
 The generator starts at the seed. A step takes its number x to x * 6364136223846793005 + 1442695040888963407
 modulo 2^64, and a draw is the new number divided by 2^33, rounded down.
@@ -11,7 +11,8 @@ cell takes three draws: months and days are a draw modulo 2001 less 1000 each, m
 The client sends a startup packet of version 3.0 for the user demo; for each relation an unnamed Parse of its name, a
 Bind with binary results, an Execute without a limit and a Sync; and then Terminate.
 
-Usage: demo_load.py <stdin >stdout of the crate demo_rows (lines `SEED N`, or `SEED N totals`)
+Usage: demo_load.py [rows], with lines `SEED N` or `SEED N totals` on standard input. It tells each load by lines; with the
+word `rows` it writes the row of each instead.
 """
 import struct
 import sys
@@ -70,23 +71,28 @@ def shown(three):
     return " ".join(str(number) for number in three)
 
 
-def tell(line):
+def told(line):
+    """What there is to tell of a load, by lines."""
     words = line.split()
     seed, count = int(words[0]), int(words[1])
     table = relations(seed, count)
     cells = [c for _, _, _, rows in table for row in rows for c in row]
-    print("demo %d %d" % (seed, count))
+    yield "demo %d %d" % (seed, count)
     if words[2:] != ["totals"]:
         for name, unready, columns, rows in table:
             first = shown(rows[0][0]) if rows else "none"
-            print("%s: unready %d, columns %s, rows %d, first cell %s" % (name, unready, " ".join(columns), len(rows), first))
+            yield "%s: unready %d, columns %s, rows %d, first cell %s" % (name, unready, " ".join(columns), len(rows), first)
     unready = sum(r[1] for r in table)
     columns = sum(len(r[2]) for r in table)
     rows = sum(len(r[3]) for r in table)
-    print("unready %d, columns %d, rows %d, cells %s" % (unready, columns, rows, shown(sums(cells))))
+    yield "unready %d, columns %d, rows %d, cells %s" % (unready, columns, rows, shown(sums(cells)))
     sent = client(count)
-    print("client %d bytes, of sum %d" % (len(sent), sum(sent)))
+    yield "client %d bytes, of sum %d" % (len(sent), sum(sent))
 
 
-for told in sys.stdin:
-    tell(told)
+for asked in sys.stdin:
+    asked = asked.rstrip("\n")
+    if sys.argv[1:] == ["rows"]:
+        print("%s | load | %s | %s" % (asked, asked, "\\n".join(told(asked))))
+    else:
+        print("\n".join(told(asked)))

@@ -2,7 +2,7 @@
 """What an interval text stands for in each of PostgreSQL's four styles: the rules of docs/FORMATS.md restated in plain
 Python, as a judge of the reader's answers.
 
-Reads rows of the program interval_rows from standard input, and writes the answers that it must give to those that begin with `read`.
+Reads rows of the program text_rows from standard input, and writes the lines that it must print for those that begin with `read|`.
 """
 
 import re
@@ -236,4 +236,4 @@ if __name__ == "__main__":
     for line in sys.stdin:
         if line.startswith("read|"):
             _, style, count, text = line.rstrip("\n").split("|", 3)
-            print(read(style, text * int(count)))
+            print(line.rstrip("\n"), "=>", read(style, text * int(count)))

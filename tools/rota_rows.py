@@ -1,7 +1,5 @@
 #!/usr/bin/env python3
-"""Writes the rows of rotas, crates/rota_rows/stdin: questions, and the answers by a plain restatement of the rules.
-
-    python3 tools/rota_rows.py > crates/rota_rows/stdin
+"""The rows of rotas, for tools/word_rows.py: questions, and the answers by a plain restatement of the rules.
 
 The restatement counts days by Python's own proleptic Gregorian calendar (datetime.date), adds months by the month's
 length, and finds clashes by looking at all pairs. The answers under GIVEN come from the rules themselves, written down by
@@ -15,15 +13,6 @@ import sys
 DAY = 86_400_000_000
 FIRST, LAST = -719_162, 2_932_896
 EPOCH = datetime.date(1970, 1, 1).toordinal()
-
-HEAD = """\
-# A row: its name | what is asked | what is given | the answer. Made by tools/rota_rows.py.
-# A start is YYYY-MM-DDTHH:MM:SS, a step months, days and microseconds; steps are split by commas, and `-` is none.
-# read TEXT: day number, microseconds and printed text, or `shape` or `field`. add START|STEP: the moment, or the part that
-# leads out of the years 1 to 9999. rota START|STEPS: the moments, or the place of the first step that is refused, and by
-# which part. total STEPS: the sums, or the place of the first step that they overflow with. lines START|STYLE|STEPS: the
-# lines of the rota. clashes START|STEPS|START|STEPS: the lines of the clashes. \\t and \\n are tabs and line ends.
-"""
 
 
 def date_of(day):
@@ -218,14 +207,10 @@ def drawn():
         yield "drawn clashes %d" % i, "clashes", "|".join(rotas)
 
 
-def main():
-    print(HEAD, end="")
+def print_rows():
+    print("# ---- rotas")
     for name, kind, given in list(fixed()) + list(drawn()):
         told = answer(kind, given)
         if GIVEN.get(name, told) != told:
             sys.exit("%s: the restatement says %s" % (name, told))
         print("|".join((name, kind, given, told)))
-
-
-if __name__ == "__main__":
-    main()

@@ -1,14 +1,13 @@
 #!/usr/bin/env bash
 # Runs tools/try_cursor.sql by psql over the program `pg_cursor`, and compares what it prints with tools/try_cursor.expected: by
-# the proved program where it was built, else by one that is built unproved, which takes some minutes. The program serves a
-# client on standard input, and tools/program_per_client.py lets psql reach it over TCP.
+# the proved program where it was built, else by the one that is built unproved. The program serves a client on standard input,
+# and tools/program_per_client.py lets psql reach it over TCP.
 set -eu
 cd "$(dirname "$0")/.."
 export LC_ALL=C PGCONNECT_TIMEOUT=60
 folder=$(mktemp -d)
-building=
 bridge=
-trap 'kill $building $bridge 2> /dev/null || true; rm -rf "$folder"' EXIT
+trap 'kill $bridge 2> /dev/null || true; rm -rf "$folder"' EXIT
 
 # Waits until a command succeeds, as long as a process lives; then tells what that said.
 while_alive() {
@@ -22,30 +21,7 @@ while_alive() {
   done
 }
 
-# Whether the unproved program waits at the pipe in the place of a relation file, and the line that started it.
-is_waiting() {
-  waiting=$(pgrep -a -f "/program serve $folder/relations 7 01020304\$")
-}
-
-# Leaves an unproved program in the folder. It is there for as long as it runs, so it is copied while it waits for its file.
-build_unproved() {
-  echo "The program is built unproved, which takes some minutes." >&2
-  mkfifo "$folder/relations"
-  (cd crates/cursor && exec rt try --seconds 3000 -- serve "$folder/relations" 7 01020304) < /dev/null > "$folder/building" 2>&1 &
-  building=$!
-  while_alive "$building" "$folder/building" is_waiting
-  waiting=${waiting% serve *}
-  cp "${waiting##* }" "$folder/cursor"
-  : > "$folder/relations"
-  wait "$building" || true
-  building=
-}
-
-program=$PWD/crates/cursor/out/cursor
-if [ ! -x "$program" ]; then
-  build_unproved
-  program=$folder/cursor
-fi
+program=$(python3 -B tools/programs.py cursor)
 port=$(python3 -c 'import socket; s = socket.socket(); s.bind(("127.0.0.1", 0)); print(s.getsockname()[1])')
 python3 tools/program_per_client.py "$port" 1 "$program" serve "$PWD/data/rosters" 7 01020304 > "$folder/bridge" 2>&1 &
 bridge=$!

@@ -1,22 +1,14 @@
 #!/usr/bin/env bash
 # Runs the lines on rotas of README.md, and compares what the program prints with what stands there: by the proved program where
-# it was built, else by one that is built unproved, which takes about a minute for each line.
+# it was built, else by the one that is built unproved.
 set -eu
 cd "$(dirname "$0")/.."
 folder=$(mktemp -d)
 trap 'rm -rf "$folder"' EXIT
+rota=$(python3 -B tools/programs.py rota)
 
-# Runs the program with these words.
-rota() {
-  if [ -x crates/rota/out/rota ]; then
-    crates/rota/out/rota "$@"
-  else
-    (cd crates/rota && rt try --seconds 300 -- "$@" 2> /dev/null)
-  fi
-}
-
-rota lines "$PWD/data/rotas" ward lasts 2024-02-28T06:00:00 postgres > "$folder/printed"
-rota clashes "$PWD/data/rotas" ward lasts 2024-02-28T06:00:00 drill lasts 2024-02-28T21:30:00 >> "$folder/printed"
+"$rota" lines data/rotas ward lasts 2024-02-28T06:00:00 postgres > "$folder/printed"
+"$rota" clashes data/rotas ward lasts 2024-02-28T06:00:00 drill lasts 2024-02-28T21:30:00 >> "$folder/printed"
 cat "$folder/printed"
 diff - "$folder/printed" << 'END'
 0	2024-02-28 06:00:00	08:00:00

@@ -1,15 +1,16 @@
 #!/usr/bin/env python3
-"""Writes the rows of words of the command line, of recordings and of commands of cursors, crates/word_rows/stdin.
+"""Writes the rows of words of the command line, of recordings, of commands of cursors and of rotas, crates/word_rows/stdin.
 
     python3 -B tools/word_rows.py > crates/word_rows/stdin
 
 The rules for words stand here once more, over Python's integers and texts; those of recordings stand in tools/replay_rows.py,
-and those of commands of cursors in tools/cursor_rows.py.
+those of commands of cursors in tools/cursor_rows.py, and those of rotas in tools/rota_rows.py.
 """
 import re
 
 import cursor_rows
 import replay_rows
+import rota_rows
 
 HEAD = """\
 # A row: its name | what is asked | what is given | the answer. Made by tools/word_rows.py. What is asked is one of these:
@@ -23,6 +24,11 @@ HEAD = """\
 # command | QUERY: the command that the query is, `declare NAME RELATION`, `fetch LIMIT NAME`, `close NAME`, or `none`. In a
 # query `\\s`, `\\t`, `\\n`, `\\v`, `\\f` and `\\r` are whitespace, the bytes 20 and 09 to 0D. replies | QUERY | BYTES: what the
 # command makes of the bytes, which are the replies to its messages.
+# Of rotas: a start is YYYY-MM-DDTHH:MM:SS, a step months, days and microseconds; steps are split by commas, and `-` is none.
+# read | TEXT: day number, microseconds and printed text, or `shape` or `field`. add | START|STEP: the moment, or the part that
+# leads out of the years 1 to 9999. rota | START|STEPS: the moments, or the place of the first step that is refused, and by
+# which part. total | STEPS: the sums, or the place of the first step that they overflow with. lines | START|STYLE|STEPS: the
+# lines of the rota. clashes | START|STEPS|START|STEPS: the lines of the clashes. \\t and \\n are tabs and line ends.
 """
 TURNS = 10**9
 
@@ -122,6 +128,8 @@ def main():
     print_rows()
     replay_rows.print_rows()
     cursor_rows.print_rows()
+    print()
+    rota_rows.print_rows()
 
 
 if __name__ == "__main__":

@@ -1,0 +1,61 @@
+#!/usr/bin/env python3
+"""Runs the scripts that try the programs, and tells how many passed: usage: try_all.py [--unproved] [NAME..]
+
+With --unproved the programs are built unproved, whether or not they were proved. A script whose commands aren't installed is told
+as skipped. The last line is `N passed, M failed`, and the status is 1 where one failed.
+"""
+import os
+import shutil
+import subprocess
+import sys
+
+from programs import NAMES, TOP, program
+
+# Each script by its name, with the commands that it needs.
+SCRIPTS = {
+    "psql": ("tools/try_psql.sh", ["psql"]),
+    "keys": ("tools/try_keys", []),
+    "limits": ("tools/try_limits", []),
+    "rotas": ("tools/try_rota.sh", []),
+    "cursors": ("tools/try_cursor.sh", ["psql"]),
+    "replay": ("tools/try_replay", []),
+    "examples": ("tools/check_examples.py", []),
+}
+
+
+def is_passed(name, script):
+    """Runs a script, and tells whether it ended well."""
+    print(f"== {name}", flush=True)
+    status = subprocess.run([TOP / script], cwd=TOP, env={**os.environ, "PYTHONDONTWRITEBYTECODE": "1"}, check=False).returncode
+    print(f"{name}: {'passed' if status == 0 else f'failed, status {status}'}", flush=True)
+    return status == 0
+
+
+def main():
+    words = [word for word in sys.argv[1:] if word != "--unproved"]
+    if unknown := [word for word in words if word not in SCRIPTS]:
+        sys.exit(f"there is nothing to try by the name {unknown[0]}: there are {', '.join(SCRIPTS)}")
+    if "--unproved" in sys.argv:
+        os.environ["UNPROVED"] = "1"
+    for crate in [*NAMES, "styles_server"]:
+        program(crate)
+    passed, failed, skipped = 0, [], []
+    for name in words or SCRIPTS:
+        script, commands = SCRIPTS[name]
+        lacking = [command for command in commands if not shutil.which(command)]
+        if lacking:
+            skipped.append(f"skipped {name}: {', '.join(lacking)} is not installed")
+        elif is_passed(name, script):
+            passed += 1
+        else:
+            failed.append(name)
+    for line in skipped:
+        print(line)
+    for name in failed:
+        print(f"failed: {name}")
+    print(f"{passed} passed, {len(failed)} failed")
+    return 1 if failed else 0
+
+
+if __name__ == "__main__":
+    sys.exit(main())
