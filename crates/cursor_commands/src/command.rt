@@ -49,25 +49,25 @@ fn read_declare(text: &str) -> Option<(&str, &str)>
         ≡ declared_by (words text.now) }
 {
     let (declare, rest) = first_word(text)?;
+    if !declare.eq_ignore_ascii_case("DECLARE") {
+        return None;
+    }
     let (name, rest) = first_word(rest)?;
     let (cursor, rest) = first_word(rest)?;
     let (over, rest) = first_word(rest)?;
     let (relation, rest) = first_word(rest)?;
-    if first_word(rest).is_none() && is_declare(declare, cursor, over) {
+    if first_word(rest).is_none() && is_cursor_for(cursor, over) {
         Some((name, relation))
     } else {
         None
     }
 }
 
-/// Whether words are DECLARE, CURSOR and FOR, in any ASCII case.
-fn is_declare(declare: &str, cursor: &str, over: &str) -> bool
-    ensures { result ≡ (is_word declare.now (codes "DECLARE") && is_word cursor.now (codes "CURSOR")
-        && is_word over.now (codes "FOR")) }
+/// Whether words are CURSOR and FOR, in any ASCII case.
+fn is_cursor_for(cursor: &str, over: &str) -> bool
+    ensures { result ≡ (is_word cursor.now (codes "CURSOR") && is_word over.now (codes "FOR")) }
 {
-    declare.eq_ignore_ascii_case("DECLARE")
-        && cursor.eq_ignore_ascii_case("CURSOR")
-        && over.eq_ignore_ascii_case("FOR")
+    cursor.eq_ignore_ascii_case("CURSOR") && over.eq_ignore_ascii_case("FOR")
 }
 
 /// The limit and the name in `FETCH limit FROM name`. None is any other text.

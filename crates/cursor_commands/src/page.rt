@@ -179,7 +179,7 @@ pub(crate) fn copy_from(alloc: Global, replies: &Outbox, at: usize) -> Result<By
     requires { at ≤ length replies.now }
     ensures { IfOk result (λ copy. copy.items ≡ drop at replies.now) }
 {
-    let mut copy = BytesMut::new(alloc);
+    let mut copy = BytesMut::with_capacity(alloc, replies.len() - at)?;
     let mut place = at;
     'places: while place < replies.len() {
         let piece = replies.piece_at(place);

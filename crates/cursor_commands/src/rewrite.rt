@@ -14,6 +14,9 @@ use pg_outbox::Outbox;
 use pg_results::Tag;
 use std::alloc::{AllocError, Global};
 
+/// How many bytes mostly stand behind the rows of a page: CommandComplete and ReadyForQuery.
+const MOST_BEHIND_A_PAGE: usize = 64;
+
 /// What becomes of replies that wait.
 #[derive(Drop)]
 pub struct NewReplies {
@@ -57,7 +60,7 @@ pub fn new_replies(
     let page = page_before(command, replies, all);
     let told = copy_from(alloc, replies, page.len)?;
     let survey = survey_of(told.as_slice());
-    let mut behind = BytesMut::new(alloc);
+    let mut behind = BytesMut::with_capacity(alloc, MOST_BEHIND_A_PAGE)?;
     if survey.failed {
         put_changed(alloc, Change::Failed, told.as_slice(), &mut behind)?;
         return Ok(NewReplies {
