@@ -47,7 +47,7 @@ pub record IsParameter (pair : List ℕ × List ℕ) : Type 0 where
   pub named : pair.0 ≢ []
   pub value : IsText pair.1
 
--- A packet of a version that is spoken, 3.0 or 3.2, has this layout.
+-- A packet of a supported version, 3.0 or 3.2, has this layout.
 pub record IsSpoken (body : List ℕ) (m : Startup) : Type 0 where
   pub code : (m.code ≡ protocol_3_0) ⊎ (m.code ≡ protocol_3_2)
   pub layout : body ≡ startup_body m
@@ -57,7 +57,7 @@ pub record IsSpoken (body : List ℕ) (m : Startup) : Type 0 where
 abbrev pub known_codes : List ℕ
 known_codes = protocol_3_0 ∷ protocol_3_2 ∷ 80877102 ∷ 80877103 ∷ 80877104 ∷ []
 
--- Any other code is a version that isn't spoken, and the body isn't looked at.
+-- Any other code is a version that isn't supported, and the body isn't read.
 pub record IsUnspoken (m : Startup) : Type 0 where
   pub code : m.code < 2 ^ 32
   pub unknown : AllByRecursion (λ code. m.code ≢ code) known_codes
@@ -151,7 +151,8 @@ copy_fail_body m = string m.message
 pub record IsCopyFail (m : CopyFail) : Type 0 where
   pub message : IsText m.message
 
--- What a body carries behind a kind: the code of a startup packet while that is awaited, a type byte afterwards.
+-- The message that a body carries behind a kind: the code of a startup packet while that is awaited, a type byte
+-- afterwards.
 abbrev pub Carries : Bool → ℕ → List ℕ → PgWireFrontendMessage → Type 0
 Carries true kind body (client.Startup m) = (kind ≡ m.code) × (IsSpoken body m ⊎ IsUnspoken m)
 Carries true kind body (client.SslNegotiation m) = (kind ≡ negotiation_code m) × (body ≡ [])
@@ -198,7 +199,7 @@ abbrev pub awaits_startup_after : PgWireFrontendMessage → Bool → Bool
 awaits_startup_after (client.Startup m) awaiting = false
 awaits_startup_after _ awaiting = awaiting
 
--- the version that a startup packet's code asks for, where it is one that is spoken
+-- the version that a startup packet's code asks for, if it is a supported one
 abbrev pub protocol_of : ℕ → ProtocolVersion → ProtocolVersion
 protocol_of code before = if code == protocol_3_0 then PROTOCOL3_0 else (if code == protocol_3_2 then PROTOCOL3_2 else before)
 

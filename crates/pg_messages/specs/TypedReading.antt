@@ -1,4 +1,4 @@
--- What a body behind the type byte of a message that is read as its own type is: that message, or none.
+-- A body behind the type byte of a `TypedMessage` is read as that message, or as none.
 use Rattle.std.specs.Prelude.{◌≡◌, ℕ, Bool, true, false, List, length, Some, None, ◌==◌, if◌then◌else◌, refl}
 use Rattle.pg_messages.specs.declared.frontend.PgWireFrontendMessage.TheVariants as client
 use Rattle.pg_messages.specs.Reading.{message_at, told_as, whole, query_at, parse_at, bind_at, describe_at, execute_at, close_at, sync_at}

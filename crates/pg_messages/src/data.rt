@@ -1,4 +1,4 @@
-//! Rows, and what is told of their columns.
+//! Rows, and the descriptions of their columns.
 
 use crate::put::Put;
 use crate::values::{PgBytes, PgList, PgStr};

@@ -46,7 +46,7 @@ fn first_startup(
     Ok(Some((message, len)))
 }
 
-// What stands behind the length of a startup packet.
+// The code and the body that follow the length of a startup packet.
 fn code_and_body(frame: &[u8]) -> (u32, &[u8])
     requires { 8 ≤ length frame.now }
     ensures code { result.0 ≡ from_be_bytes w32 (take 4 (drop 4 frame.now)) }
