@@ -4,7 +4,8 @@ ghost use Rattle.std.specs.Prelude.{◌≡◌, ◌≢◌, ◌++◌, [], ◌∷�
 ghost use Rattle.std.specs.FinMap as fin;
 ghost use Rattle.std.specs.Str.{str_to_ascii_lowercase};
 ghost use Rattle.pg_messages.specs.Frames.{IsFrame};
-ghost use Rattle.pg_messages.specs.Replies.{HasNoZero, replies_bytes};
+ghost use Rattle.pg_messages.specs.Fields.{count32};
+ghost use Rattle.pg_messages.specs.Replies.{replies_bytes};
 ghost use Rattle.pg_messages.specs.declared.frontend.PgWireFrontendMessage.TheVariants as frontend;
 ghost use Rattle.pg_messages.specs.declared.backend.PgWireBackendMessage.TheVariants as server;
 ghost use Rattle.pg_results.specs.Clients.{HasShortMetadata};
@@ -25,8 +26,8 @@ ghost use Rattle.pg_startup.specs.Startup.{spoken_version};
 use pg_client::{CancelDesk, Client, EndKind, SessionError};
 use pg_messages::{
     AuthenticationOk, BackendKeyData, CancelRequest, ErrorInfo, GssEncResponse, PROTOCOL_3_0,
-    PROTOCOL_3_2, ParameterStatus, PgStr, PgWireBackendMessage, PgWireFrontendMessage,
-    ProtocolVersion, SecretKey, SslNegotiationKind, SslResponse, Startup, TransactionStatus,
+    PROTOCOL_3_2, PgStr, PgWireBackendMessage, PgWireFrontendMessage, ProtocolVersion, SecretKey,
+    SslNegotiationKind, SslResponse, Startup, TransactionStatus,
 };
 use pg_outbox::Outbox;
 use pg_portal::{Metadata, PgWireConnectionState, PgWireError, PortalStore};
@@ -158,12 +159,7 @@ fn accept<St: PortalStore, D: CancelDesk>(
 {
     let metadata = metadata_of(alloc, message)?;
     narrow(desk, protocol, &mut client.info.secret_key)?;
-    push_startup(
-        alloc,
-        &mut client.outbox,
-        client.info.pid,
-        &client.info.secret_key,
-    )?;
+    push_startup(&mut client.outbox, client.info.pid, &client.info.secret_key)?;
     client.info.protocol = protocol;
     client.info.metadata = metadata;
     client.info.status = TransactionStatus::Idle;
@@ -267,36 +263,31 @@ fn push_no_encryption(outbox: &mut Outbox, kind: SslNegotiationKind) -> Result<(
     }
 }
 
-/// Appends a ParameterStatus.
-fn push_parameter(
-    alloc: Global,
-    outbox: &mut Outbox,
-    name: &str,
-    value: &str,
-) -> Result<(), AllocError>
-    requires name { HasNoZero name.now }
-    requires value { HasNoZero value.now }
-    requires short { length name.now + length value.now ≤ 100 }
+/// Appends a ParameterStatus (protocol: Message Formats): Byte1('S'), Int32 length, the name and the
+/// value, each ended by a zero byte. After an error some of these bytes.
+fn push_parameter(outbox: &mut Outbox, name: &str, value: &str) -> Result<(), AllocError>
+    requires { length name.now + length value.now ≤ 100 }
     ensures { OnOk result
         (outbox.new ≡ outbox.old ++ replies_bytes (parameter name.now value.now ∷ [])) }
 {
-    let status = parameter_status(alloc, name, value)?;
-    outbox.push(&PgWireBackendMessage::ParameterStatus(status))
+    outbox.push_bytes(&status_head(name.len() + value.len() + 2))?;
+    outbox.push_bytes(name.as_bytes())?;
+    outbox.push_bytes(&[0])?;
+    outbox.push_bytes(value.as_bytes())?;
+    outbox.push_bytes(&[0])
 }
 
-/// A ParameterStatus of these texts.
-fn parameter_status(alloc: Global, name: &str, value: &str) -> Result<ParameterStatus, AllocError>
-    ensures { IfOk result (λ status.
-        status ≡ record { name = name.now; value = value.now }) }
+/// Type byte and length of a ParameterStatus with so many bytes behind them.
+fn status_head(body: usize) -> [u8; 5]
+    requires { body ≤ 102 }
+    ensures { result ≡ 83 ∷ count32 (4 + body) }
 {
-    Ok(ParameterStatus {
-        name: PgStr::copy_of(alloc, name)?,
-        value: PgStr::copy_of(alloc, value)?,
-    })
+    let [a, b, c, d] = (body as u32 + 4).to_be_bytes();
+    [b'S', a, b, c, d]
 }
 
 /// Appends BackendKeyData.
-fn push_key(alloc: Global, outbox: &mut Outbox, pid: i32, key: &SecretKey) -> Result<(), AllocError>
+fn push_key(outbox: &mut Outbox, pid: i32, key: &SecretKey) -> Result<(), AllocError>
     ensures { OnOk result (outbox.new ≡ outbox.old ++ replies_bytes
         (server.BackendKeyData (record { pid = pid; secret_key = key.now }) ∷ [])) }
 {
@@ -309,20 +300,15 @@ fn push_key(alloc: Global, outbox: &mut Outbox, pid: i32, key: &SecretKey) -> Re
 
 /// Appends the replies to a startup packet.
 #[inline(never)]
-fn push_startup(
-    alloc: Global,
-    outbox: &mut Outbox,
-    pid: i32,
-    key: &SecretKey,
-) -> Result<(), AllocError>
+fn push_startup(outbox: &mut Outbox, pid: i32, key: &SecretKey) -> Result<(), AllocError>
     ensures { OnOk result
         (outbox.new ≡ outbox.old ++ replies_bytes (startup_replies pid key.now)) }
 {
     outbox.push(&PgWireBackendMessage::AuthenticationOk(AuthenticationOk {}))?;
-    push_parameter(alloc, outbox, "server_version", "16.0")?;
-    push_parameter(alloc, outbox, "server_encoding", "UTF8")?;
-    push_parameter(alloc, outbox, "client_encoding", "UTF8")?;
-    push_parameter(alloc, outbox, "integer_datetimes", "on")?;
-    push_key(alloc, outbox, pid, key)?;
+    push_parameter(outbox, "server_version", "16.0")?;
+    push_parameter(outbox, "server_encoding", "UTF8")?;
+    push_parameter(outbox, "client_encoding", "UTF8")?;
+    push_parameter(outbox, "integer_datetimes", "on")?;
+    push_key(outbox, pid, key)?;
     send_ready_for_query(outbox, TransactionStatus::Idle)
 }
