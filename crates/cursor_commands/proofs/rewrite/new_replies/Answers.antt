@@ -10,11 +10,11 @@ pub returns-then-survey : goal.returns-then-survey
 returns-then-survey c =
     let page = c.page_before-page.result in
     let told = c.in_ok-told.told.items in
-    becomes_failed c.args.command.now c.args.replies.now told c.new-behind.result.items c.put_changed.new.out.items page.columns page.len
+    becomes_failed c.args.command.now c.args.replies.now told c.in_ok-behind.behind.items c.put_changed.new.out.items page.columns page.len
     page.rows c.survey_of-survey.result.failed c.survey_of-survey.result.rows c.page_before-page.ensures.page c.in_ok-told.ensures
     (subst (λ l. IsSurvey l c.survey_of-survey.result.failed c.survey_of-survey.result.rows) c.as_slice.ensures c.survey_of-survey.ensures.survey)
-    c.if-survey.true c.new-behind.ensures.items
-    (subst (λ l. AppendsReplies (λ replies. flat_map (changed Failed) replies) l c.new-behind.result.items c.put_changed.new.out.items)
+    c.if-survey.true c.in_ok-behind.ensures.items
+    (subst (λ l. AppendsReplies (λ replies. flat_map (changed Failed) replies) l c.in_ok-behind.behind.items c.put_changed.new.out.items)
     c.as_slice-then-survey.ensures c.in_ok-put_changed.ensures)
 
 pub overflow_add-rows : goal.overflow_add-rows
@@ -34,9 +34,9 @@ returns c =
     let page = c.page_before-page.result in
     let told = c.in_ok-told.told.items in
     let rows = page.rows + c.survey_of-survey.result.rows in
-    becomes_good c.args.command.now c.args.replies.now told c.new-behind.result.items c.put_counted.new.out.items page.columns page.len
+    becomes_good c.args.command.now c.args.replies.now told c.in_ok-behind.behind.items c.put_counted.new.out.items page.columns page.len
     page.rows c.survey_of-survey.result.failed c.survey_of-survey.result.rows rows c.page_before-page.ensures.page c.in_ok-told.ensures
     (subst (λ l. IsSurvey l c.survey_of-survey.result.failed c.survey_of-survey.result.rows) c.as_slice.ensures c.survey_of-survey.ensures.survey)
-    c.if-survey.false c.new-behind.ensures.items refl
-    (subst (λ l. AppendsReplies (counted_replies c.args.command.now rows) l c.new-behind.result.items c.put_counted.new.out.items)
+    c.if-survey.false c.in_ok-behind.ensures.items refl
+    (subst (λ l. AppendsReplies (counted_replies c.args.command.now rows) l c.in_ok-behind.behind.items c.put_counted.new.out.items)
     c.as_slice-2.ensures c.in_ok-put_counted.ensures)
