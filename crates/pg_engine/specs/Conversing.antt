@@ -15,8 +15,8 @@ pub record Talk (T : Type 0) : Type 0 where
   pub unsent : List ℕ
   pub is_open : Bool
 
--- A conversation took a piece: the frames of its rest and the piece are answered by its rules. What is left of the bytes is its rest where
--- it goes on; behind an end nobody asks for it.
+-- A conversation took a piece: the frames of its rest and the piece are answered by its rules. Where it goes on, what
+-- is left of the bytes is its rest. After an end nothing is said of its rest.
 abbrev pub TakesPiece : {T : Type 0} → Talk T → Talk T → List ℕ → Option (List ℕ) → Option (List ℕ) → List DeskCall → List DeskCall
     → Result Progress ServeError → Type 0
 TakesPiece old new piece written new_written calls new_calls result = (rest : List ℕ)
