@@ -9,7 +9,7 @@ use Rattle.pg_cancel.specs.declared.entries.RegistryAnswer.{RegistryAnswer}
 use Rattle.pg_cancel.specs.declared.entries.RegistryAnswer.TheVariants.{Registered, Done, Yes, No}
 use Rattle.pg_cancel.specs.LegalHistory.{IsLegal, IsAnswer, key_after}
 
--- which manager it is: two are one where these are equal
+-- which manager it is: two managers are the same one where these are equal
 abbrev pub Issuer : Type 0
 Issuer = TableId
 
@@ -94,7 +94,8 @@ pub record HasNarrowed {E : Type 0} (h h' : Connection) (result : Result (Unit {
   pub ok : OnOk result (HasMade h Narrow h' Done)
   pub err : OnErr result (h' ≡ h)
 
--- The connection has seen all that the note's giver had seen, and all that it had seen. That is legal, and it has made no call.
+-- The connection has seen all that the note's giver had seen, and all that it had seen itself. What it has seen is
+-- legal, and it has made no further call.
 pub record HasTakenIn (h : Connection) (note : Witness) (h' : Connection) : Type 0 where
   pub same : IsSameConnection h h'
   pub mine : h'.mine ≡ h.mine

@@ -14,7 +14,7 @@ use pg_results::{RowSource, StoredStatement};
 use std::alloc::{AllocError, Global};
 use std::sync::Arc;
 
-/// Statements and portals in two ordered maps. A look-up by a name takes no memory.
+/// Statements and portals in two maps of names. A look-up by a name takes no memory.
 #[derive(Drop)]
 pub struct MemPortalStore<S, R> {
     statements: Named<Entry<Arc<StoredStatement<S>>>>,
