@@ -9,8 +9,8 @@ use relation_handlers::{RelationTable, TableError};
 use relation_tables::Relation;
 use std::alloc::{AllocError, Global};
 
-/// The built-in table: `shifts` with three rows, `slow`, whose query finds two polls unready, with
-/// one row, `wide` with a row of three columns, and `none` without rows.
+/// The built-in table: `shifts` with three rows, `slow` with one row, whose query two polls find
+/// unready, `wide` with a row of three columns, and `none` without rows.
 pub fn built_in_table(alloc: Global) -> Result<RelationTable, TableError>
     ensures ok { IfOk result (λ table. table ≡ rows.built_in) }
     ensures err { IfErr result (λ error. error ≡ TableError.NoMemory) }

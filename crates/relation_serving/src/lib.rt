@@ -1,5 +1,5 @@
-//! A client of relations is served on any desk: the engine over the handlers of relations. It lends
-//! the names of the relations that need no file.
+//! Serves a client of relations on any desk: the engine over the handlers of relations. It
+//! re-exports what relations without a file need.
 #![tactic(auto)]
 
 mod laws;

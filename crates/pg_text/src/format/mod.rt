@@ -1,4 +1,4 @@
-// The values of the options by which values are written as text: PostgreSQL's "Locale and
+// What the options can be that say how values are written as text: PostgreSQL's "Locale and
 // Formatting" settings.
 pub mod bytea_output;
 pub mod date_style;
