@@ -1,4 +1,4 @@
--- A session as contracts see it, and what it answers by.
+-- A session as contracts see it, and the rules that it goes by.
 use Rattle.std.specs.Prelude.{ℕ, Bool, true, false, List, Option, Some, None, Result, Ok, Err, ◌≡◌, ◌+◌, ◌≤◌, ◌⊎◌}
 use Rattle.std.specs.Option.{option_map}
 use Rattle.pg_results.specs.declared.error.PgWireError.TheVariants as wire
@@ -42,7 +42,8 @@ pub record ChangesRest {H S : Type 0} (old new : SessionValue H S) : Type 0 wher
   pub unsent : new.unsent ≡ old.unsent
   pub opened : new.is_open ≡ old.is_open
 
--- the most bytes of a frame that isn't whole: one less than a frame may have while the startup packet is awaited, and afterwards
+-- the most bytes of a frame that isn't whole: one less than a whole frame may have, while the startup packet is awaited
+-- and afterwards
 abbrev pub most_held : Bool → ℕ
 most_held true = 9999
 most_held false = 1048576

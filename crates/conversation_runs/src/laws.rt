@@ -1,4 +1,5 @@
-//! Laws of the session's run. The function takes nothing and does nothing: its contract is the law.
+//! A law of the session's run. The function takes nothing and does nothing: its contract is the
+//! law.
 
 ghost use Rattle.std.specs.Prelude.{ℕ, List, ◌++◌, Option, Result};
 ghost use Rattle.pg_client.specs.Answer.{Goes};

@@ -15,7 +15,8 @@ pub trait Source {
     ghost reads: { Self → ℕ };
     // the number of reads that failed
     ghost faults: { Self → ℕ };
-    // numbers that name what it was made over, by which a caller who lent that recognizes it
+    // numbers that identify what it was made over, so that the lender can check that it is still
+    // the same
     ghost origin: { Self → List ℕ } = { λ _. [] };
 
     /// Reads at least one byte, and at most as many as fit. 0 says that the input has ended.
@@ -49,7 +50,8 @@ pub trait Sink {
     ghost written: { Self → Option (List ℕ) };
     // the number of writes that failed
     ghost faults: { Self → ℕ };
-    // numbers that name what it was made over, by which a caller who lent that recognizes it
+    // numbers that identify what it was made over, so that the lender can check that it is still
+    // the same
     ghost origin: { Self → List ℕ } = { λ _. [] };
 
     /// Writes all bytes. Failed comes only where the count of faults rose; Ok and NoMemory leave it

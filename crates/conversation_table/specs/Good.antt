@@ -39,12 +39,12 @@ IsSendableResponse (response.CopyIn c) = c.columns ≤ 32767
 IsSendableResponse (response.CopyOut c) = c.columns ≤ 32767
 IsSendableResponse (response.CopyBoth c) = c.columns ≤ 32767
 
--- an outcome of an extended query
+-- the outcome of an extended query can be sent as replies
 abbrev pub IsSendableOutcome : Result ToldResponse PgWireError → Type 0
 IsSendableOutcome (Ok answered) = IsSendableResponse answered
 IsSendableOutcome (Err error) = IsItemError error
 
--- an outcome of a simple query
+-- the outcome of a simple query can be sent as replies
 abbrev pub AreSendable : Result (List ToldResponse) PgWireError → Type 0
 AreSendable (Ok answered) = AllByRecursion IsSendableResponse answered
 AreSendable (Err error) = IsItemError error

@@ -51,8 +51,8 @@ before_last history = take (length history - 1) history
 abbrev pub IsTheAnswer : List Entry → ℕ → RegistryCall → RegistryAnswer → Type 0
 IsTheAnswer history number call answer = (other : RegistryAnswer) → (other ≡ answer) ↔ IsAnswer history number call other
 
--- The call was made once, under this number. What was seen goes on, ends with the call, and is legal. Of the number's calls
--- just this one is new, and all of them are in `mine`.
+-- The call was made once, under this number. What was seen has grown, ends with the call, and is legal. Of the number's
+-- calls just this one is new, and all of them are in `mine`.
 pub record Made (number : ℕ) (call : RegistryCall) (seen mine seen' mine' : List Entry) (answer : RegistryAnswer) : Type 0 where
   pub between : List Entry
   pub ends : seen' ≡ (seen ++ between) ++ entry number call answer ∷ []
@@ -62,8 +62,8 @@ pub record Made (number : ℕ) (call : RegistryCall) (seen mine seen' mine' : Li
   pub legal : IsLegal seen'
   pub told : IsTheAnswer (seen ++ between) number call answer
 
--- The Register was made once. What was seen goes on, ends with it, and is legal. It stands at the place `number`, and of all
--- Registers just this one is new.
+-- The Register was made once. What was seen has grown, ends with it, and is legal. It stands at the place `number`, and
+-- of all Registers just this one is new.
 pub record Registers (number : ℕ) (call : RegistryCall) (seen seen' : List Entry) (answer : RegistryAnswer) : Type 0 where
   pub between : List Entry
   pub ends : seen' ≡ (seen ++ between) ++ entry number call answer ∷ []

@@ -175,7 +175,7 @@ pub record HasTurn (m n : Sat) (word : ℕ) : Type 0 where
 abbrev pub took : At → Sat → ℕ → Sat → Type 0
 took st m r n = (r ≡ st.first → HasTurn m n r) × (r ≢ st.first → n ≡ m)
 
--- the turn is given back with an entry more, the last one of the roster
+-- the turn is given back with one more entry, the last one of the roster
 abbrev pub publishes : At → Sat → ℕ → Sat → Type 0
 publishes st m r n =
     (before : List Entry) (roster : Roster) (e : Entry) → m.0.turn ≡ Some before → m.1 ≡ (0, roster) ∷ [] → roster.last ≡ Some e
@@ -206,7 +206,7 @@ pub record IsHolding (m : Sat) : Type 0 where
   pub right : IsRosterOf log roster
   pub legal : IsLegal log
 
--- the seat's history has the call's registration, which has the pid. A Register is anybody's
+-- the seat's history has the call's registration, which has the pid. Anybody may make a Register
 abbrev pub IsCalled : Sat → ℕ → ℤ → RegistryCall → Type 0
 IsCalled m number pid call = (log : List Entry) → m.0.turn ≡ Some log → IsCaller log number pid call
 

@@ -1,4 +1,5 @@
-//! The table behind a shared registry: word 0 tells whose turn it is, and slot 0 has the roster.
+//! The table behind a shared registry. Word 0 tells how many entries the history has, and whether a
+//! seat has the turn. Slot 0 has the roster.
 use crate::entries::Entry;
 use crate::roster::Roster;
 use atomic_table::{Join, Play, Seat, Split, Table, TableRule};

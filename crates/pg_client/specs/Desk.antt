@@ -4,7 +4,7 @@ use Rattle.pg_client.specs.declared.desk.DeskCall.{DeskCall}
 use Rattle.pg_client.specs.declared.desk.DeskCall.TheVariants as desk
 
 -- The pid and the key of the registration; the calls so far, with their answers; and the desk's origin: numbers that
--- name what it was made over, by which a caller who lent that recognizes it.
+-- identify what it was made over, so that the lender can check that it is still the same.
 pub record DeskTold : Type 0 where
   pub registration : ℤ × List ℕ
   pub calls : List DeskCall

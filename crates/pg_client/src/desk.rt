@@ -24,7 +24,7 @@ pub enum DeskCall {
 
 /// What a session sees of the cancel registry: its own registration.
 pub trait CancelDesk {
-    // its registration, the calls so far with their answers, and what it was made over
+    // its registration, the calls so far with their answers, and its origin
     ghost told: { Self → DeskTold };
 
     /// The pid and the key that the client is told.

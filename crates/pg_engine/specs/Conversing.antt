@@ -1,4 +1,5 @@
--- A conversation as the engine sees it: what it answers by, where it stands, and what a piece of the client's bytes does to it.
+-- A conversation as the engine sees it: the rules that it goes by, where it stands, and what a piece of the client's
+-- bytes does to it.
 use Rattle.std.specs.Prelude.{ℕ, Bool, List, ◌++◌, Option, Result, Ok, ◌≡◌}
 use Rattle.pg_client.specs.declared.desk.DeskCall.{DeskCall}
 use Rattle.conversation_runs.specs.declared.ends.Progress.{Progress}

@@ -78,9 +78,9 @@ IsRunOverTaken rules first left new_left old new calls new_calls kind = (taken :
     × ((called : List DeskCall) × (new_calls ≡ calls ++ called)
     × ((replies : List ℕ) × GrowsBy old new replies × IsRun rules first taken replies called kind))
 
--- The conversation went on until the last bytes that were taken: the run over the bytes before these goes on, and there
--- is at least one of these. So nothing was taken after its end. Where it ended with the input, there may be none of
--- these.
+-- The conversation went on until the last bytes that were taken: the run over the bytes before them goes on, and there
+-- is at least one last byte. So nothing was taken after its end. Where it ended with the input, there may be no last
+-- byte.
 abbrev pub EndsAtLast : {T : Type 0} → Rules T → T → Option (List ℕ) → Option (List ℕ) → EndKind → Type 0
 EndsAtLast rules first left new_left kind = (before : List ℕ) × (last : List ℕ) × TakesFrom left new_left (before ++ last)
     × GoesOnOver rules first before × (kind ≢ InputEnd → IfSome left (λ text. last ≢ []))

@@ -47,7 +47,7 @@ second_pairs minus (s ∷ f ∷ []) = if is_field s && nat_le (length f) 6 then 
     else None
 second_pairs minus _ = None
 
--- hours and minutes, and seconds that may be missing
+-- hours and minutes, and optional seconds
 abbrev pub clock_pairs : Bool → List (List ℕ) → Option (List Pair)
 clock_pairs minus (h ∷ m ∷ []) = if is_field h && is_field m then Some (field_pair minus Hour h ∷ field_pair minus Minute m ∷ []) else None
 clock_pairs minus (h ∷ m ∷ s ∷ []) = if is_field h

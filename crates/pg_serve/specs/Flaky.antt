@@ -1,4 +1,4 @@
--- A desk over a script, which fails at the calls that it is told.
+-- A desk over a script, which fails the calls that it is told to fail.
 use Rattle.std.specs.Prelude.{ℕ, Bool, List, ◌≡◌, ◌==◌, Result, IsErr, IsTrue}
 use Rattle.std.specs.List.{list_any}
 use Rattle.pg_client.specs.Script.{Script}

@@ -1,4 +1,4 @@
-//! A desk that answers from a list, and fails at the calls that it is told.
+//! A desk that answers from a list, and fails the calls that it is told to fail.
 
 ghost use Rattle.std.specs.Prelude.{◌≡◌, [], ◌∷◌, drop, take, IfOk, OnOk, OnErr};
 ghost use Rattle.pg_client.specs.declared.desk.DeskCall.{DeskCall};
@@ -11,7 +11,8 @@ use pg_session::{CancelDesk, DeskCall, ScriptDesk};
 use std::alloc::{AllocError, Global};
 use std::marker::Model;
 
-/// A desk that answers from a list, as a `ScriptDesk` does, but fails at the calls that it is told.
+/// A desk that answers from a list, as a `ScriptDesk` does, but fails the calls that it is told to
+/// fail.
 #[derive(Drop)]
 pub struct FlakyDesk {
     desk: ScriptDesk,

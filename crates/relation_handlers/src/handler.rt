@@ -27,7 +27,7 @@ use std::alloc::{AllocError, Global};
 use std::sync::Arc;
 
 /// Serves relations: extended and simple queries of them. A simple query may be `COPY name TO
-/// STDOUT`. COPY from the client is left to another handler.
+/// STDOUT`. COPY from the client goes to `NoopHandler`, which refuses it.
 #[derive(Drop)]
 pub struct RelationHandlerOver<B> {
     /// The relations.

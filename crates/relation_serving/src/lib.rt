@@ -1,5 +1,5 @@
 //! Serves a client of relations on any desk: the engine over the handlers of relations. It
-//! re-exports what relations without a file need.
+//! re-exports the names that a server of relations without a file needs.
 #![tactic(auto)]
 
 mod laws;

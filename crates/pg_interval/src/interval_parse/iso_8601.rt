@@ -36,7 +36,7 @@ pub(super) fn unit_at(in_time: bool, letter: u8) -> Option<Unit>
     }
 }
 
-/// Is it a minus that may be missing, then digits and points?
+/// Is it an optional minus, then digits and points?
 fn is_item_number(number: &[u8]) -> bool
     ensures { result ≡ is_item_number number.now }
 {
