@@ -10,7 +10,8 @@ use relation_tables::Relation;
 use std::alloc::{AllocError, Global};
 
 /// The table of these relations: `shifts` with three rows, `slow` with one row, whose query two
-/// polls find unready, `wide` with a row of three columns, and `none` without rows.
+/// polls find unready, `wide` with a row of three columns, and `none` without rows. The only error
+/// is `NoMemory`.
 pub fn built_in_table(alloc: Global) -> Result<RelationTable, TableError>
     ensures ok { IfOk result (λ table. table ≡ rows.built_in) }
     ensures err { IfErr result (λ error. error ≡ TableError.NoMemory) }

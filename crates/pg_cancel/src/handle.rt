@@ -78,6 +78,7 @@ impl ConnectionHandle {
         self.number
     }
 
+    /// The process id of its registration.
     pub fn pid(&self) -> i32
         ensures { result ≡ self.now.pid }
     {
@@ -93,7 +94,8 @@ impl ConnectionHandle {
 }
 
 impl ConnectionManager {
-    /// The connection starts a query, for which no cancel has come yet. Waits for the turn.
+    /// The connection starts a query, for which no cancel has come yet. Waits for the turn. After
+    /// an error the handle is as it was.
     #[tactic(auto, using(crate::proofs::Events::named_more))]
     pub fn start_query<R: Wait>(
         &self,
@@ -116,7 +118,7 @@ impl ConnectionManager {
 
     /// Whether the connection's query was canceled since it was started; without a query it is not.
     /// Waits for the turn. Every 64th no yields the processor, so that a thread that asks again and
-    /// again leaves time to the others.
+    /// again leaves time to the others. After an error the handle is as it was.
     #[tactic(auto, using(crate::proofs::Events::named_more))]
     pub fn ask<R: Wait>(&self, rt: &R, handle: &mut ConnectionHandle) -> Result<bool, AllocError>
         requires issued { handle.old.issuer ≡ self.now }
@@ -140,7 +142,8 @@ impl ConnectionManager {
     }
 
     /// Cancels the query of the connection that has this pid and now has this key, and returns
-    /// whether there is such a connection. The key is copied. Waits for the turn.
+    /// whether there is such a connection. The key is copied. Waits for the turn. After an error
+    /// the handle is as it was.
     #[tactic(auto, using(crate::proofs::Events::named_more))]
     pub fn cancel<R: Wait>(
         &self,
@@ -165,7 +168,8 @@ impl ConnectionManager {
     }
 
     /// From now on the connection's key is the first four bytes of the one that it has. A cancel by
-    /// the longer key that came before still counts. Waits for the turn.
+    /// the longer key that came before still counts. Waits for the turn. After an error the handle
+    /// is as it was.
     #[tactic(auto, using(crate::proofs::Events::named_short))]
     pub fn narrow<R: Wait>(&self, rt: &R, handle: &mut ConnectionHandle) -> Result<(), AllocError>
         requires issued { handle.old.issuer ≡ self.now }

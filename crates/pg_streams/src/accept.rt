@@ -28,7 +28,8 @@ pub trait Acceptor {
     // the number of connections that were given
     ghost accepted: { Self → ℕ };
 
-    /// Waits for the next connection. No byte of it was read yet.
+    /// Waits for the next connection. No byte of it was read yet. AcceptFailed comes only where the
+    /// count of faults rose, and no connection was given then.
     fn accept(&mut self) -> Result<(Self::In, Self::Out), AcceptFailed>
         requires room { accepted self.old < greatest_count }
         ensures accepted { OnOk result (accepted self.new ≡ accepted self.old + 1) }

@@ -6,6 +6,7 @@ use crate::format::words::{is_name, trimmed};
 use pg_types::{BYTEA_OUTPUT_HEX, CellError};
 use std::alloc::Global;
 
+/// The name of the output of byte strings with escapes.
 pub const BYTEA_OUTPUT_ESCAPE: &str = "escape";
 
 /// How byte strings are written as text (`bytea_output`).

@@ -7,18 +7,25 @@ use crate::format::words::{is_name, trimmed};
 use pg_types::CellError;
 use std::alloc::{AllocError, Global};
 
+/// The name of the order day, month, year.
 pub const DATE_STYLE_ORDER_DMY: &str = "dmy";
 
+/// The name of the order month, day, year.
 pub const DATE_STYLE_ORDER_MDY: &str = "mdy";
 
+/// The name of the order year, month, day.
 pub const DATE_STYLE_ORDER_YMD: &str = "ymd";
 
+/// The name of the display style ISO.
 pub const DATE_STYLE_DISPLAY_ISO: &str = "iso";
 
+/// The name of the display style SQL.
 pub const DATE_STYLE_DISPLAY_SQL: &str = "sql";
 
+/// The name of the display style German.
 pub const DATE_STYLE_DISPLAY_GERMAN: &str = "german";
 
+/// The name of the display style Postgres.
 pub const DATE_STYLE_DISPLAY_POSTGRES: &str = "postgres";
 
 /// The order of day, month and year in a date.

@@ -12,10 +12,13 @@ use pg_interval::{Interval, IntervalText, ParseError};
 use pg_types::{CellError, INTERVAL_STYLE_POSTGRES};
 use std::alloc::{AllocError, Global};
 
+/// The name of the style of ISO 8601.
 pub const INTERVAL_STYLE_ISO_8601: &str = "iso_8601";
 
+/// The name of the style of the SQL standard.
 pub const INTERVAL_STYLE_SQL_STANDARD: &str = "sql_standard";
 
+/// The name of the verbose style of PostgreSQL.
 pub const INTERVAL_STYLE_POSTGRES_VERBOSE: &str = "postgres_verbose";
 
 /// How intervals are written as text (`IntervalStyle`).
