@@ -65,12 +65,12 @@ IsHeld holders pid = IsSome (get int_cmp holders.by_pid pid)
 abbrev pub IsHeldBy : Holders → ℤ → List ℕ → Type 0
 IsHeldBy holders pid key = IsSomeAnd (get int_cmp holders.by_pid pid) (λ holder. holder.key ≡ key)
 
--- anybody may make a Register, and every other call is that of a pid that the index has
+-- a Register needs no registration, and every other call is that of a pid that the index has
 abbrev pub MayAsk : Holders → ℤ → RegistryCall → Type 0
 MayAsk holders pid (Register p key) = Unit {0}
 MayAsk holders pid _ = IsHeld holders pid
 
--- the call is that of the live registration n, which has the pid. Anybody may make a Register
+-- the call is that of the live registration n, which has the pid. A Register needs no registration
 abbrev pub IsCaller : List Entry → ℕ → ℤ → RegistryCall → Type 0
 IsCaller history n pid (Register p key) = Unit {0}
 IsCaller history n pid _ = HasPid history n pid

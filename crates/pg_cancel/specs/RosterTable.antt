@@ -206,7 +206,7 @@ pub record IsHolding (m : Sat) : Type 0 where
   pub right : IsRosterOf log roster
   pub legal : IsLegal log
 
--- the seat's history has the call's registration, which has the pid. Anybody may make a Register
+-- the seat's history has the call's registration, which has the pid. A Register needs no registration
 abbrev pub IsCalled : Sat → ℕ → ℤ → RegistryCall → Type 0
 IsCalled m number pid call = (log : List Entry) → m.0.turn ≡ Some log → IsCaller log number pid call
 

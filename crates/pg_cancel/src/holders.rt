@@ -44,8 +44,8 @@ impl Holders {
         }
     }
 
-    /// Answers a call of the registration that has the pid, after `place` entries, and notes it.
-    /// Anybody may make a Register. After an error nothing is noted.
+    /// Answers a call of the registration that has the pid, after `place` entries, and notes it. A
+    /// Register needs no registration. After an error nothing is noted.
     pub fn answer(
         &mut self,
         place: u64,

@@ -32,9 +32,9 @@ impl Roster {
     }
 
     /// Answers a call of the registration with this number and pid, and keeps its entry as the last
-    /// one. Anybody may make a Register, and it is entered under its own place. After an error the
-    /// roster is as before. An error comes where memory runs out, and where the history has 2^58
-    /// entries.
+    /// one. A Register needs no registration, and is entered under its own place. After an error
+    /// the roster is as before. An error comes where memory runs out, and where the history has
+    /// 2^58 entries.
     pub fn apply(
         &mut self,
         number: u64,
