@@ -32,7 +32,7 @@ infixl 10 ◌>>=◌
 abbrev pub ◌>>=◌ : {A B : Type 0} → Option A → (A → Option B) → Option B
 o >>= f = option_and_then f o
 
--- one field, and another behind it
+-- one field, and then another
 abbrev pub both_at : {X Y : Type 0} → (List ℕ → Option (X × List ℕ)) → (List ℕ → Option (Y × List ℕ)) → List ℕ → Option ((X × Y) × List ℕ)
 both_at first second bytes = first bytes >>= λ x. second x.1 >>= λ y. Some ((x.0, y.0), y.1)
 
@@ -80,7 +80,7 @@ abbrev pub value_behind : ℕ × List ℕ → Option (Option (List ℕ) × List 
 value_behind n = if n.0 == 4294967295 then Some (None, n.1)
     else (if nat_lt n.0 (2 ^ 31) then (if nat_lt (length n.1) n.0 then None else Some (Some (take n.0 n.1), drop n.0 n.1)) else None)
 
--- a value behind its length, or null
+-- a value after its length, or null
 unfoldable pub value_at : List ℕ → Option (Option (List ℕ) × List ℕ)
 value_at bytes = number_at w32 bytes >>= value_behind
 
@@ -113,7 +113,7 @@ byte_at (byte ∷ rest) = Some (byte, rest)
 abbrev pub key_of : List ℕ → Option (List ℕ)
 key_of bytes = if nat_lt (length bytes) 4 then None else (if nat_lt 256 (length bytes) then None else Some bytes)
 
--- the key is what stands behind the pid
+-- the key is what follows the pid
 unfoldable pub cancel_of : List ℕ → Option CancelRequest
 cancel_of body = signed_at w32 body >>= λ pid. key_of pid.1 >>= λ key. Some (record { pid = pid.0; secret_key = key })
 

@@ -16,7 +16,7 @@ status_byte status.Idle = 73
 status_byte status.Transaction = 84
 status_byte status.Error = 69
 
--- the fields of an error: severity twice, code, message, each behind its byte, and a zero byte
+-- the fields of an error: severity twice, code, message, each after its byte, and a zero byte
 abbrev pub error_fields : ErrorInfo → List ℕ
 error_fields info = (83 ∷ string info.severity) ++ (86 ∷ string info.severity) ++ (67 ∷ string info.code) ++ (77 ∷ string info.message) ++ 0
     ∷ []

@@ -54,7 +54,7 @@ pub struct NoData {}
 /// cell Int32 length (-1 for null) and as many bytes.
 #[derive(Drop)]
 pub struct DataRow {
-    /// The cells as they are sent, each behind its length.
+    /// The cells as they are sent, each after its length.
     pub payload: PgBytes,
     /// How many cells the payload has.
     pub field_count: i16,

@@ -10,7 +10,7 @@ use crate::headers::{startup_len, typed_len};
 use std::alloc::Global;
 
 /// The message of the first frame, and the length of the frame; None where there is no whole frame
-/// yet.
+/// yet. `Bad`: the bytes begin with a bad header, or with a whole frame that carries no message.
 pub fn first_frame(
     alloc: Global,
     awaiting: bool,

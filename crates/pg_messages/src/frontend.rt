@@ -56,7 +56,7 @@ impl PgWireFrontendMessage {
     }
 }
 
-/// The message that a startup packet's code and body give.
+/// The message that a startup packet's code and body give. `Bad`: no message has this body.
 #[tactic(auto, unfolding(crate::specs::Reading::message_at))]
 pub fn startup_message(
     alloc: Global,
@@ -86,7 +86,7 @@ pub fn startup_message(
     }
 }
 
-/// The message that a type byte and a body give.
+/// The message that a type byte and a body give. `Bad`: no message has this type byte and body.
 #[tactic(auto, unfolding(crate::specs::Reading::message_at))]
 pub fn typed_message(
     alloc: Global,

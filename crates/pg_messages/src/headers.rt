@@ -10,7 +10,7 @@ use crate::codec::FrameError;
 /// The least length of a startup packet, which holds its length and a code.
 const LEAST_STARTUP: u32 = 8;
 
-/// The greatest length of a startup packet. PostgreSQL has the same limit.
+/// The greatest length of a startup packet. PostgreSQL has about the same limit.
 const MOST_STARTUP: u32 = 10_000;
 
 /// The least length of a typed frame, which holds its length.

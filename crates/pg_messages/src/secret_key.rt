@@ -41,7 +41,8 @@ pub enum KeyError {
 }
 
 impl SecretKey {
-    /// A key of these bytes, which are copied.
+    /// A key of these bytes, which are copied. `BadLength` comes exactly below 4 and above 256
+    /// bytes. `NoMemory` comes where memory runs out.
     pub fn try_new(alloc: Global, bytes: &[u8]) -> Result<SecretKey, KeyError>
         ensures ok { IfOk result (λ key. key ≡ bytes.now) }
         ensures bad_length { (n : ℕ) → (result ≡ Err (KeyError.BadLength n))

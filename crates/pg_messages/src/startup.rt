@@ -75,7 +75,8 @@ pub struct BackendKeyData {
     pub secret_key: SecretKey,
 }
 
-/// The request to cancel that a body holds. Its key is all that follows the pid.
+/// The request to cancel that a body holds. Its key is all that follows the pid. `Bad`: there is no
+/// pid, or the key is below 4 or above 256 bytes.
 #[tactic(auto, unfolding(crate::specs::Reading::cancel_of))]
 pub fn cancel_request(alloc: Global, body: &[u8]) -> Result<CancelRequest, FrameError>
     ensures { Gives (λ m. m) result (cancel_of body.now) }

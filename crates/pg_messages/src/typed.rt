@@ -23,7 +23,7 @@ pub trait TypedMessage: Field + Drop {
     // the message, as a `PgWireFrontendMessage`
     ghost message: { Self → PgWireFrontendMessage };
 
-    // a body behind the type byte is read as this message, or as none
+    // a body after the type byte is read as this message, or as none
     ghost is_read: { (body : List ℕ)
         → message_at false kind body ≡ told_as message (whole (Self.Field.field_at body)) };
 }

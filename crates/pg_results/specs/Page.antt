@@ -30,7 +30,7 @@ before_error [] = []
 before_error (Ok item ∷ items) = item ∷ before_error items
 before_error (Err e ∷ items) = []
 
--- the first error, and the items behind it
+-- the first error, and the items after it
 abbrev pub first_error : {A : Type 0} → List (Result A PgWireError) → Option (PgWireError × List (Result A PgWireError))
 first_error [] = None
 first_error (Ok item ∷ items) = first_error items

@@ -80,7 +80,7 @@ pub trait CopyMaker: Drop {
 /// The items of a maker from a position on, each made when it is asked for. No item is kept.
 #[derive(Drop)]
 pub struct OnDemand<M> {
-    /// What makes the items.
+    /// The maker of the items.
     pub maker: M,
     /// The index of the next item; past the last one there is none.
     pub position: usize,

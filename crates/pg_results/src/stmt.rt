@@ -31,7 +31,8 @@ pub trait QueryParser {
     ghost told: { Self → ParserTold Self.Statement };
 
     /// The statement of a query, whose parameters' types are given as far as the client knows them.
-    /// None is an empty statement.
+    /// None is an empty statement. The errors are the parser's own, which the client is told, and
+    /// `NoMemory`.
     fn parse_sql(
         &self,
         alloc: Global,
@@ -46,7 +47,8 @@ pub trait QueryParser {
             (λ s. IsTrue ((told self.now).gives s))) }
         ensures answerable { IfErr result IsAnswerable };
 
-    /// The types of a statement's parameters, as the server knows them.
+    /// The types of a statement's parameters, as the server knows them. The errors are as in
+    /// `parse_sql`.
     fn get_parameter_types(
         &self,
         alloc: Global,
@@ -57,7 +59,7 @@ pub trait QueryParser {
         ensures answerable { IfErr result IsAnswerable };
 
     /// The columns of a statement's rows, in these formats, or without formats. They can be sent as
-    /// a reply.
+    /// a reply. The errors are as in `parse_sql`.
     fn get_result_schema(
         &self,
         alloc: Global,
