@@ -3,7 +3,7 @@
 use row_files::Fault;
 use std::alloc::{AllocError, Global};
 
-/// What came out otherwise.
+/// What differs.
 #[derive(Clone, Copy)]
 pub enum Difference {
     /// The conversation ended with this.
