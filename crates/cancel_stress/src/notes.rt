@@ -86,7 +86,7 @@ impl Counts {
 #[derive(Clone, Copy)]
 pub struct Notes {
     pub counts: Counts,
-    /// How many of its queries were answered yes, canceled; and whether the last one was.
+    /// How many of its queries a question found canceled, and whether the last one was.
     pub canceled: u64,
     is_canceled: bool,
     /// A question was answered no after one of the same query that was answered yes.

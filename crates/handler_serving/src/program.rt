@@ -19,8 +19,8 @@ use std::{env, io};
 /// Does what the words of the command line order (`order_of`) with these handlers, which all clients
 /// share. The replies of `serve` go to `writer`. The status is 0; 1 where the conversation of
 /// `serve` failed; and 2 where the words order nothing, and standard error tells how they are used.
-/// The error comes where the words can't be read, the port can't be bound, memory ran out, or there
-/// was no key or no connection for a client.
+/// The error comes where the words can't be read, the line of their use can't be written, the port
+/// can't be bound, memory ran out, or there was no key or no connection for a client.
 pub fn run_program<
     R: Wait
         + Net<Stream = TcpStream, Listener = TcpListener>

@@ -23,8 +23,8 @@ use std::alloc::{AllocError, Global};
 
 /// The program over a relation file and one client. The words are `serve FILE PID KEY [TURNS]`: PID
 /// is 1 to 2147483647, KEY an even number of hexadecimal digits, 8 to 512 of them, and TURNS 1 to
-/// 18446744073709551615, by default 1000000000. The relation file comes from `file`, and FILE isn't
-/// opened. The client's bytes are served with cursors, as
+/// 18446744073709551615, by default 1000000000. The relation file comes from `file`; this call doesn't
+/// open FILE. The client's bytes are served with cursors, as
 /// [`serve_cursors_on`](crate::serve_cursors_on) does, with the replies to `out`. The client is told
 /// PID and KEY. No query is ever canceled: the client's registry answers no to each question and to
 /// each CancelRequest.

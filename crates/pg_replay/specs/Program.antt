@@ -155,7 +155,8 @@ abbrev pub HasToldVerdict : List Relation → Recording → Outcome → Option (
 HasToldVerdict relations r outcome old new faults new_faults = ((outcome ≡ NoMemory) × IsUnwritten old new faults new_faults)
     ⊎ ((v : Verdict) × IsVerified relations r v × HasWritten (verdict_outcome v) (verdict_line v) outcome old new faults new_faults)
 
--- What comes of a whole input: it is the text of no recording; or the recording whose text it is is verified, unless memory ran out before.
+-- What comes of a whole input: it is the text of no recording; or it is that of a recording, which is verified, unless memory ran out
+-- before.
 abbrev pub HasJudged : List Relation → List ℕ → Result Recording ReadError → Outcome → Option (List ℕ) → Option (List ℕ) → ℕ → ℕ → Type 0
 HasJudged relations text (Err e) outcome old new faults new_faults =
     ((outcome ≡ BadRecording) ⊎ (outcome ≡ NoMemory)) × IsUnwritten old new faults new_faults

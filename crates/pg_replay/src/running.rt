@@ -43,8 +43,8 @@ const ROOM: usize = 268_435_456;
 ///   as [`verify`](crate::verify) does. The verdict is a line on `out`: `same`, `calls N`,
 ///   `replies N` or `end`.
 ///
-/// The relation file comes from `file`, and FILE isn't opened. The status is 0 where the recording
-/// was written, or the recording is that of a run; 2 where the words are no order; 3 where the file
+/// The relation file comes from `file`; this call doesn't open FILE. The status is 0 where the
+/// recording was written, or the recording is that of a run; 2 where the words are no order; 3 where the file
 /// is refused; 4 where a read of `client` failed; 5 where a write failed; 6 where the turns were
 /// spent; 7 where memory ran out; 9 where a read of the file failed; 20 where the recording isn't
 /// that of a run; 21 where there was no room for a session that came to its end; 22 where the input

@@ -31,8 +31,8 @@ impl<R: Read> Source for OpenedFile<R> {
     ghost faults = { faults_of_file };
 
     fn receive(&mut self, into: &mut [u8]) -> Result<usize, SourceFailed>
-        // the bytes come in the file's order, where it is known, and each read of a file that could
-        // not be opened fails
+        // the bytes come in the file's order, where they are known, and each read of a file that
+        // could not be opened fails
         ensures read { ReadsOn R.remaining self.old self.new result into.new }
         ensures counted { IsCountedRead result (length into.old)
             (reads_of_file self.old) (reads_of_file self.new)

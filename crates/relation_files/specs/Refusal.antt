@@ -39,7 +39,7 @@ cells_reason (cell ∷ cells) = cell_reason (reading Postgres cell) (cells_reaso
 abbrev pub row_reason : ℕ → List (List ℕ) → Option LineReason
 row_reason width cells = if not (length cells == width) then Some Width else cells_reason cells
 
--- the fields of a row, where a relation of so many columns is open, or else of a header
+-- the fields of a row, where a relation of this width is open, or else of a header
 abbrev pub fields_reason : (List ℕ → Bool) → Option ℕ → List (List ℕ) → Option LineReason
 fields_reason is_taken None fields = header_reason is_taken fields
 fields_reason is_taken (Some width) fields = row_reason width fields

@@ -24,7 +24,7 @@ pub enum LineReason {
     Cell(ParseError),
 }
 
-/// Why no table comes of a relation file.
+/// Why a relation file gives no table.
 #[derive(Debug, PartialEq, Eq, Drop)]
 pub enum FileError {
     /// The line of this number, counted from 1, is the first that breaks a rule.

@@ -32,8 +32,8 @@ pub record IsLeftBehind (h : Connection) (made : List Entry) (note : Witness) : 
       ⊎ (calls_of h.number note.seen ≡ h.mine ++ made)
 
 -- A connection's client was served, and its registration then ended. What was written and the calls that the connection made are the
--- conversation tables' answer to the client's bytes. Its end, or what it was given up for, has its cause. Nothing behind the end was read.
--- No count of faults falls, and none rises at Ok. Enough turns bring the conversation to its end.
+-- conversation tables' answer to the client's bytes. The conversation's end, or what it was given up for, has its cause. Nothing behind the
+-- end was read. No count of faults falls, and none rises at Ok. Enough turns bring the conversation to its end.
 pub record HasConversed (h : Connection) (relations : List Relation) (turns : ℕ) (answer : Result EndKind ServeError)
     (left new_left old new : Option (List ℕ)) (before after : Counts) (note : Witness) : Type 0 where
   pub made : List Entry

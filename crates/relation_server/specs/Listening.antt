@@ -91,7 +91,7 @@ taking_of accepted accept_faults started start_faults acceptor spawner = record 
   start_faults = start_faults spawner;
 }
 
--- so many connections were accepted, and so many jobs started
+-- these numbers of connections were accepted and of jobs were started
 abbrev pub HasTaken : Taking → Taking → ℕ → ℕ → Type 0
 HasTaken old new connections jobs = (new.accepted ≡ old.accepted + connections) × (new.started ≡ old.started + jobs)
 

@@ -211,7 +211,7 @@ HasNoRelations (File e) left new_left faults new_faults = IsFileCause e left new
 HasNoRelations (Conversation (Err NoMemory)) left new_left faults new_faults = (relations : List Relation) × IsToldBy left new_left relations
 HasNoRelations outcome left new_left faults new_faults = ⊥
 
--- What came of listening for so many connections: the file was refused; or connections were taken in over its relations; or memory ran
+-- What came of listening for `count` connections: the file was refused; or connections were taken in over its relations; or memory ran
 -- out before.
 abbrev pub HasListened : Option ℕ → Outcome → ListenSurroundings → ListenSurroundings → Type 0
 HasListened count (File e) old new = IsFileCause e old.file new.file old.file_faults new.file_faults × (new.taking ≡ old.taking)

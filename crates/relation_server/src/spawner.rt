@@ -183,7 +183,8 @@ impl JobThreads {
     /// taken instead, if its stack has the same size. Where no thread can be made, it waits until
     /// one of the jobs that run has ended, and 100 milliseconds more, and tries again. Where none
     /// runs, it tries again every 100 milliseconds, and drops the job after five such tries in a
-    /// row have failed. The answer tells how many tries failed, and whether the job was dropped.
+    /// row have failed. Where there is no memory to share the count of jobs, the job is dropped at
+    /// once. The answer tells how many tries failed, and whether the job was dropped.
     ///
     /// A job that has ended leaves nothing behind: its sockets, its buffers and what its service
     /// came to are dropped on its thread. The thread then waits 50 milliseconds for another job

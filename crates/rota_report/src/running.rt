@@ -26,8 +26,8 @@ use std::alloc::Global;
 /// - `clashes FILE RELATION COLUMN START RELATION COLUMN START` writes the clashes of two such
 ///   rotas, as [`clashes`](crate::clashes) gives them: a line `i j` for each pair.
 ///
-/// The relation file comes from `file`, and FILE isn't opened. COLUMN is the first column of that
-/// name, START a text that [`Moment::read`](crate::Moment::read) takes, STYLE one that
+/// The relation file comes from `file`; this call doesn't open FILE. COLUMN is the first column of
+/// that name, START a text that [`Moment::read`](crate::Moment::read) takes, STYLE one that
 /// `IntervalStyle::try_from_text` takes. The text goes to `out`.
 ///
 /// The status is 0 where the text was written; 2 where the words are no order; 3 where the file is
