@@ -44,13 +44,13 @@ const ROOM: usize = 268_435_456;
 ///   `replies N` or `end`.
 ///
 /// The relation file comes from `file`; this call doesn't open FILE. The status is 0 where the
-/// recording was written, or the recording is that of a run; 2 where the words are no order; 3 where the file
-/// is refused; 4 where a read of `client` failed; 5 where a write failed; 6 where the turns were
-/// spent; 7 where memory ran out; 9 where a read of the file failed; 20 where the recording isn't
-/// that of a run; 21 where there was no room for a session that came to its end; 22 where the input
-/// is no recording or has over 536,871,936 bytes. Each status but 0 and 20 comes with a line on
-/// `err`. A write to `err` that fails leaves the status as it is; one that finds no memory makes it
-/// 7. Words are judged first, then the file, then the rest.
+/// recording was written, or the recording is that of a run; 2 where the words are no order; 3
+/// where the file is refused; 4 where a read of `client` failed; 5 where a write failed; 6 where
+/// the turns were spent; 7 where memory ran out; 9 where a read of the file failed; 20 where the
+/// recording isn't that of a run; 21 where there was no room for a session that came to its end; 22
+/// where the input is no recording or has over 536,871,936 bytes. Each status but 0 and 20 comes
+/// with a line on `err`. A write to `err` that fails leaves the status as it is; one that finds no
+/// memory makes it 7. Words are judged first, then the file, then the rest.
 ///
 /// Nothing was read of the client and nothing written to `out` after 2, 3 and 9, and nothing was
 /// written after 4, 6, 21 and 22.
