@@ -6,7 +6,7 @@ use pg_messages::{CopyData, PgBytes};
 use pg_portal::{CopySource, PgWireError};
 use std::alloc::{AllocError, Global};
 
-/// The `left` data of a COPY. Each is one byte, which says how many are left, itself included.
+/// Data of a COPY, `left` of them. Each is one byte, which says how many are left, itself included.
 #[derive(Drop)]
 pub struct SampleCopy {
     alloc: Global,

@@ -108,7 +108,7 @@ fn bind<R: Net<Stream = TcpStream, Listener = TcpListener> + Files>(
     }
 }
 
-/// Binds a path. A socket that a server that is gone left there is replaced.
+/// Binds a path. The socket of a server that is gone is replaced.
 fn bind_path<R: Net + Files>(rt: &R, path: &str) -> io::Result<UnixListener> {
     match UnixListener::bind(rt, path) {
         Err(error) if error.kind() == ErrorKind::AddrInUse && is_left_over(rt, path) => {
