@@ -21,8 +21,8 @@ use std::alloc::Global;
 use std::sync::Wait;
 
 /// Serves a client over relations, as [`serve_relations_on`] does, through its connection to the
-/// shared registry, so that the clients of other threads may cancel its queries. Of other clients
-/// it waits only for the registry's turn, once for each call of the registry.
+/// shared registry, so that the clients of other threads may cancel its queries. It waits for others
+/// only at the registry, for its turn, once for each call.
 ///
 /// The connection stays usable, whatever is answered.
 pub fn serve_relations<R: Wait, S: Source, K: Sink>(
