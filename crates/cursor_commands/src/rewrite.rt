@@ -20,9 +20,9 @@ const MOST_BEHIND_A_PAGE: usize = 64;
 /// What becomes of replies that wait.
 #[derive(Drop)]
 pub struct NewReplies {
-    /// So many bytes in front of them stay.
+    /// How many bytes at their front stay.
     pub kept: usize,
-    /// What is to stand behind those.
+    /// What is to stand after those.
     pub behind: BytesMut,
 }
 
@@ -33,7 +33,7 @@ enum Change {
     Ready,
     /// What an error leaves is left.
     Failed,
-    /// So many rows were fetched.
+    /// This many rows were fetched.
     Fetched(usize),
 }
 
@@ -46,8 +46,9 @@ struct Survey {
     rows: usize,
 }
 
-/// Makes of the replies to a command's messages, which wait, those to the command. The columns and
-/// the rows in front of a FETCH's stay where they are, but for the rows of one that failed.
+/// Turns the replies to a command's messages, which wait, into the replies to the command. The
+/// columns and the rows that the replies to a FETCH begin with stay where they are, but the rows of
+/// a FETCH that failed don't.
 pub fn new_replies(
     alloc: Global,
     command: &CursorCommand,
@@ -76,7 +77,7 @@ pub fn new_replies(
     })
 }
 
-/// The columns and the rows in front of the replies to a command's messages, where they are left as
+/// The columns and the rows at the front of the replies to a command's messages, where they stay as
 /// they are.
 fn page_before(command: &CursorCommand, replies: &Outbox, all: usize) -> Page
     requires { all ≡ length replies.now }
@@ -95,7 +96,7 @@ fn page_before(command: &CursorCommand, replies: &Outbox, all: usize) -> Page
     }
 }
 
-/// Appends what becomes of the replies to a command that succeeded, of which so many are rows.
+/// Appends what becomes of the replies to a command that succeeded and brought `rows` rows.
 fn put_counted(
     alloc: Global,
     command: &CursorCommand,
@@ -113,7 +114,7 @@ fn put_counted(
     }
 }
 
-/// Appends CommandComplete with this tag, and of the replies ReadyForQuery.
+/// Appends CommandComplete with this tag, and then ReadyForQuery from the replies.
 fn put_done(alloc: Global, tag: &str, replies: &[u8], out: &mut BytesMut) -> Result<(), AllocError>
     requires { IsEncodable (done tag.now) }
     ensures { OnOk result (AppendsReplies
@@ -187,7 +188,7 @@ fn put_kept(stays: bool, reply: &[u8], out: &mut BytesMut) -> Result<(), AllocEr
     Ok(())
 }
 
-/// Appends what becomes of a reply of a FETCH of so many rows.
+/// Appends what becomes of a reply to a FETCH of `rows` rows.
 fn put_fetched(
     alloc: Global,
     rows: usize,
