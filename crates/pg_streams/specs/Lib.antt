@@ -1,3 +1,4 @@
+pub mod Accepting
 pub mod Counts
 pub mod Memory
 pub mod Sockets

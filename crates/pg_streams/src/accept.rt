@@ -1,7 +1,8 @@
 //! Acceptors of connections, spawners of their jobs, and sources of their keys.
 
-ghost use Rattle.std.specs.Prelude.{◌≡◌, ℕ, ◌+◌, ◌≤◌, ◌<◌, IfOk, OnOk, OnErr};
+ghost use Rattle.std.specs.Prelude.{◌≡◌, ℕ, List, [], ◌∷◌, Option, None, ◌+◌, ◌≤◌, ◌<◌, IfOk, OnOk, OnErr};
 ghost use Rattle.conversation_runs.specs.Streams.{HasRisen, greatest_count};
+ghost use Rattle.pg_streams.specs.Accepting.{Gains, LosesFirst};
 
 use conversation_runs::{Sink, Source};
 use pg_messages::SecretKey;
@@ -27,12 +28,15 @@ pub trait Acceptor {
     ghost faults: { Self → ℕ };
     // the number of connections that were given
     ghost accepted: { Self → ℕ };
+    // the connections that are still to come, in order, where they are told; those of a network are not
+    ghost coming: { Self → Option (List (Self.In × Self.Out)) } = { λ _. None };
 
     /// Waits for the next connection. No byte of it was read yet. AcceptFailed comes only where the
     /// count of faults rose, and no connection was given then.
     fn accept(&mut self) -> Result<(Self::In, Self::Out), AcceptFailed>
         requires room { accepted self.old < greatest_count }
         ensures accepted { OnOk result (accepted self.new ≡ accepted self.old + 1) }
+        ensures next { IfOk result (LosesFirst (coming self.old) (coming self.new)) }
         ensures unread { IfOk result (λ connection. Self.In.reads connection.0 ≡ 0) }
         ensures none { OnErr result (accepted self.new ≡ accepted self.old) }
         ensures failed { OnErr result (HasRisen (faults self.old) (faults self.new)) }
@@ -51,6 +55,8 @@ pub trait Spawner<J: Job> {
     ghost faults: { Self → ℕ };
     // the number of jobs that were taken
     ghost started: { Self → ℕ };
+    // the jobs that were taken, in order, where they are told; those that went to threads are not
+    ghost taken: { Self → Option (List J) } = { λ _. None };
 
     /// Starts a job, of which nothing was done yet, and doesn't wait for it. SpawnFailed tells that
     /// it was dropped.
@@ -58,7 +64,9 @@ pub trait Spawner<J: Job> {
         requires room { started self.old < greatest_count }
         requires fresh { J.is_fresh job }
         ensures started { OnOk result (started self.new ≡ started self.old + 1) }
+        ensures taken { OnOk result (Gains (taken self.old) (taken self.new) (job ∷ [])) }
         ensures none { OnErr result (started self.new ≡ started self.old) }
+        ensures untaken { OnErr result (taken self.new ≡ taken self.old) }
         ensures failed { OnErr result (HasRisen (faults self.old) (faults self.new)) }
         ensures never_falls { faults self.old ≤ faults self.new };
 }

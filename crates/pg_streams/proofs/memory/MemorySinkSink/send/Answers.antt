@@ -1,4 +1,4 @@
-use Rattle.std.proofs.Common.{◌≡◌, ◌∙◌, ℕ, false, List, [], ◌++◌, Some, Result, Ok, Err, IfErr, min, length, take, drop, find, ⊎_elim, refl, sym, ap, subst, arith, rules, append-nil, take-append-drop}
+use Rattle.std.proofs.Common.{◌≡◌, ◌∙◌, ℕ, List, [], ◌++◌, Some, Result, Ok, Err, IfErr, min, length, take, drop, find, ⊎_elim, refl, sym, ap, subst, arith, rules, append-nil, take-append-drop}
 use Rattle.std.specs.Prelude.{◌==◌}
 use Rattle.std.specs.Result.{OnOk, OnErr}
 use Rattle.std.proofs.lemmas.Bool.{cases_lt}
