@@ -6,7 +6,7 @@ use relation_serving::{Relation, RelationTable, TableError, built_in_table};
 use row_files::{Fault, parsed, three_numbers, told, told_by};
 use std::alloc::{AllocError, Global};
 
-/// The built-in relations; or those that the lines tell, where there are such lines.
+/// The sample relations; or those that the lines tell, where there are such lines.
 pub fn table_of<'t>(alloc: Global, lines: &[&'t str]) -> Result<RelationTable, Fault<'t>> {
     if told(lines, "relation").is_none() {
         return served(built_in_table(alloc));

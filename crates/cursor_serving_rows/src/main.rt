@@ -1,4 +1,4 @@
-//! Rows of conversations with cursors, as data on standard input: each is served over the built-in
+//! Rows of conversations with cursors, as data on standard input: each is served over the sample
 //! relations, and a line tells whether its replies, its end and its registry calls are the ones that
 //! the row expects. The head of `stdin` has the format.
 #![tactic(auto)]
@@ -12,7 +12,7 @@ use row_files::{Fault, judge_lines};
 use std::alloc::Global;
 use std::io;
 
-/// The built-in relations.
+/// The sample relations.
 #[derive(Drop)]
 struct BuiltIn;
 

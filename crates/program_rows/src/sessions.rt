@@ -55,7 +55,7 @@ fn example_of<'t>(alloc: Global, text: &'t str, lines: &[&'t str]) -> Result<Exa
     })
 }
 
-/// The built-in relations.
+/// The sample relations.
 fn table_of<'t>(alloc: Global) -> Result<RelationTable, Fault<'t>> {
     match built_in_table(alloc) {
         Ok(table) => Ok(table),

@@ -22,14 +22,14 @@ fn client(alloc: Global) -> Option<MemorySource> {
     Some(MemorySource::new(bytes, pieces, fails))
 }
 
-/// What jobs share: the registry, and the built-in relations.
+/// What jobs share: the registry, and the sample relations.
 fn shared(registry: &Registry) -> Option<(Arc<ConnectionManager>, Arc<RelationTable>)>
     ensures { IfSome result (λ both. arc_value both.0 ≡ arc_value registry.now.manager) }
 {
     registry.shared(built_in_table(registry.alloc).ok()?)
 }
 
-/// The job of that client over the built-in relations, under the pid 7, with 100 turns.
+/// The job of that client over the sample relations, under the pid 7, with 100 turns.
 fn first_path<R: Wait>(rt: &R, registry: &mut Registry) -> Option<MemoryJob> {
     let source = client(registry.alloc)?;
     let handle = registry.register(rt, 7)?;

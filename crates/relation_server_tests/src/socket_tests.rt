@@ -53,7 +53,7 @@ fn serve<R: Wait, H: PgWireServerHandlers + Drop>(
     }
 }
 
-/// Whether a client is served over the built-in relations, up to its Terminate.
+/// Whether a client is served over the sample relations, up to its Terminate.
 fn is_served_by<R: Wait>(
     rt: &R,
     alloc: Global,
