@@ -16,20 +16,21 @@ Queries are a relation's name, BEGIN, COMMIT, and COPY name TO STDOUT, and the c
   DECLARE c CURSOR FOR name   makes the portal c over a relation
   FETCH n FROM c              its next n rows (1 to 2147483647)
   FETCH ALL FROM c            its rows that are left
-  CLOSE c                     the portal goes; one that isn't there is no error
+  CLOSE c                     removes the portal; a name that isn't there is no error
 
 Key words are in either case, and whitespace and semicolons at both ends count for nothing. A cursor needs no transaction.
 Any other words are a query: DECLARE c NO SCROLL CURSOR WITH HOLD FOR name is none of these commands.
 
 A relation in FILE is a header line (name, number of unready polls, column names), then a line for each row, of
-intervals as PostgreSQL prints them; fields stand apart by tabs, relations by an empty line.
+intervals as PostgreSQL prints them. Tabs separate the fields, an empty line separates relations.
 
 Examples:
   pg_cursor serve data/rosters 7 01020304 < client > replies
   pg_cursor --version
 
-Exit status: 0 done; 2 other words; 3 FILE is refused; 4 a read failed; 5 a write failed; 6 TURNS were spent;
-7 out of memory; 9 FILE can't be read; 10 a bad frame; 11 a fatal error. Each but 0 is told by a line on standard error.
+Exit status: 0 done; 2 wrong words; 3 FILE is refused; 4 a read failed; 5 a write failed; 6 TURNS were spent;
+7 out of memory; 9 FILE can't be read; 10 a bad frame; 11 a fatal error. Each status but 0 comes with a line on standard
+error.
 ";
 
 /// What `--version` writes.

@@ -16,10 +16,10 @@ verify  reads a recording on standard input, serves its client once more over FI
           same       the recorded calls, replies and end are those that the rules give
           calls N    the calls of the registry differ first at place N, counted from 0
           replies N  the bytes of the replies differ first at place N
-          end        the session ends in another way
+          end        the ends differ
 
 A relation in FILE is a header line (name, number of unready polls, column names), then a line for each row, of
-intervals as PostgreSQL prints them; fields stand apart by tabs, relations by an empty line.
+intervals as PostgreSQL prints them. Tabs separate the fields, an empty line separates relations.
 
 Examples:
   pg_replay record data/rosters 7 01020304 < client > recording
@@ -27,7 +27,7 @@ Examples:
 
 Exit status, and the line on standard error:
   0   recorded, or the same
-  2   other words than these                                     usage: ..
+  2   wrong words                                                usage: ..
   3   FILE is refused                                            line N: REASON, or file too long
   4   a read of standard input failed                            read fault
   5   a write failed                                             write fault
