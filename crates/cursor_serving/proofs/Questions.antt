@@ -17,8 +17,10 @@ use Rattle.cursor_table.specs.CursorTable.{asked_command, row_by, cursor_table, 
 use Rattle.relation_tables.specs.declared.Relation.{Relation}
 use Rattle.relation_tables.specs.declared.RelationStatement.{RelationStatement}
 use Rattle.relation_tables.specs.RelationHandler.{relation_handlers}
-use Rattle.relation_serving.specs.Completeness.{runs, most_unready}
-use Rattle.relation_serving.proofs.Questions.{may_ask, message_few, conversation_few, relations_owe, few_questions}
+use Rattle.pg_engine.specs.Completeness.{runs}
+use Rattle.relation_serving.specs.Completeness.{most_unready}
+use Rattle.pg_engine.proofs.Questions.{may_ask, message_few, conversation_few}
+use Rattle.relation_serving.proofs.Questions.{relations_owe, few_questions}
 
 -- ---- the cursor table
 

@@ -15,7 +15,8 @@ use Rattle.relation_files.specs.Files.{IsToldBy, IsFileCause, file_limit}
 use Rattle.relation_files.specs.Lines.{lines_of}
 use Rattle.relation_files.specs.Refusal.{first_bad_line}
 use Rattle.relation_files.specs.Told.{relations_of}
-use Rattle.relation_serving.specs.Completeness.{HasFault, HasTurns, IsComplete}
+use Rattle.pg_engine.specs.Completeness.{HasFault}
+use Rattle.relation_serving.specs.Completeness.{HasTurns, IsComplete}
 use Rattle.relation_tables.specs.declared.Relation.{Relation}
 use Rattle.relation_words.specs.declared.commands.Command.{Command}
 use Rattle.relation_words.specs.declared.commands.Command.TheVariants as command

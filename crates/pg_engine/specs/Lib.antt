@@ -1,3 +1,4 @@
 pub mod Around
 pub mod Conversing
 pub mod Serving
+pub mod Completeness

@@ -1,6 +1,6 @@
 //! The engine: it reads the client's bytes, feeds a conversation with them, and counts turns.
 
-ghost use Rattle.std.specs.Prelude.{◌≡◌, ◌++◌, ◌≤◌, ◌<◌, List, [], length, take, true, IfOk};
+ghost use Rattle.std.specs.Prelude.{◌≡◌, ◌++◌, ◌≤◌, ◌<◌, ℕ, List, [], length, take, true, IfOk};
 ghost use Rattle.std.specs.Arc.{arc_value};
 ghost use Rattle.pg_portal.specs.Maps.{no_maps};
 ghost use Rattle.pg_client.specs.declared.desk.DeskCall.{DeskCall};
@@ -8,6 +8,7 @@ ghost use Rattle.conversation_table.specs.Questions.{questions_since};
 ghost use Rattle.pg_client.specs.State.{first_state};
 ghost use Rattle.conversation_runs.specs.Session.{whole_rules};
 ghost use Rattle.pg_engine.specs.Around.{Serves, ServesSession, around};
+ghost use Rattle.pg_engine.specs.Completeness.{IsCompleteWithin, OweAtMost};
 ghost use Rattle.pg_engine.specs.Serving.{WentSo, HasCause, counts_of};
 
 use crate::conversation::Conversation;
@@ -61,6 +62,13 @@ pub fn serve_connection<
         calls }
     ensures cause { HasCause result turn_limit
         (questions_since (D.told desk.old).calls (D.told desk.new).calls)
+        (counts_of S.reads S.faults K.faults source.old sink.old)
+        (counts_of S.reads S.faults K.faults source.new sink.new) }
+
+    // With turns enough the client is served to the end: so many polls as a query owes at most, for
+    // each message that runs one.
+    ensures complete { (most : ℕ) → OweAtMost (H.told (arc_value handlers)) most
+        → IsCompleteWithin most turn_limit result (S.left source.old)
         (counts_of S.reads S.faults K.faults source.old sink.old)
         (counts_of S.reads S.faults K.faults source.new sink.new) }
     ensures serves { let round = around S.left S.reads S.faults S.origin K.written K.faults K.origin D.told in

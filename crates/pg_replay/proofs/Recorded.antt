@@ -11,7 +11,8 @@ use Rattle.conversation_runs.specs.declared.ends.ServeError.TheVariants as fault
 use Rattle.conversation_runs.specs.Streams.{HasRisen}
 use Rattle.pg_engine.specs.Serving.{Counts, HasCause}
 use Rattle.recording_text.specs.declared.recording.Recording.{Recording}
-use Rattle.relation_serving.specs.Completeness.{HasFault, IsComplete}
+use Rattle.pg_engine.specs.Completeness.{HasFault}
+use Rattle.relation_serving.specs.Completeness.{IsComplete}
 use Rattle.relation_serving.specs.Serving.{WentByTables}
 use Rattle.relation_tables.specs.declared.Relation.{Relation}
 use Rattle.session_recording.specs.declared.error.RecordError.{RecordError}

@@ -23,7 +23,8 @@ use Rattle.relation_files.specs.Refusal.{first_bad_line}
 use Rattle.relation_files.specs.Told.{relations_of}
 use Rattle.pg_messages.specs.declared.frontend.PgWireFrontendMessage.{PgWireFrontendMessage}
 use Rattle.pg_messages.specs.Frames.{DividesInto, IsBad, IsUnfinished, awaits_startup_after_all}
-use Rattle.relation_serving.specs.Completeness.{HasFault, HasTurns}
+use Rattle.pg_engine.specs.Completeness.{HasFault}
+use Rattle.relation_serving.specs.Completeness.{HasTurns}
 use Rattle.relation_tables.specs.declared.Relation.{Relation}
 use Rattle.relation_tables.specs.RelationHandler.{relation_handlers}
 use Rattle.relation_words.specs.declared.commands.Command.{Command}

@@ -1,4 +1,3 @@
-pub mod Complete
 pub mod CoreServing
 pub mod Questions
 mod ShownCells

@@ -4,7 +4,8 @@ use Rattle.relation_tables.specs.RelationHandler.{relation_handlers}
 use Rattle.pg_engine.specs.Around.{Around, around}
 use Rattle.pg_engine.proofs.Serving.{none_served}
 use Rattle.cursor_table.specs.CursorTable.{cursor_rules}
-use Rattle.relation_serving.proofs.Complete.{complete_serving, complete_at_want, cause_of_calls}
+use Rattle.relation_serving.specs.Completeness.{most_unready}
+use Rattle.pg_engine.proofs.Completing.{complete_serving, complete_at_want, cause_of_calls}
 use Rattle.cursor_serving.specs.Serving.{ServesCursors}
 use Rattle.cursor_serving.proofs.Questions.{few_cursor_questions}
 use Rattle.cursor_serving.proofs.serve.serve_cursors_on.Given.{Over}
@@ -21,7 +22,7 @@ returns-in_default g c =
     record {
       went = none.went;
       cause = none.cause;
-      complete = complete_at_want c.args.relations.now c.args.turn_limit round.left round.counts round.counts;
+      complete = complete_at_want (most_unready c.args.relations.now) c.args.turn_limit round.left round.counts round.counts;
       serves = none;
     }
 
@@ -54,7 +55,7 @@ returns g c =
     record {
       went = went;
       cause = serves.cause;
-      complete = complete_serving relations (cursor_rules (relation_handlers relations)) (few_cursor_questions relations)
+      complete = complete_serving (most_unready relations) (cursor_rules (relation_handlers relations)) (few_cursor_questions relations)
           round.desk.registration refl c.args.turn_limit c.serve_by.result round.left later.left round.written later.written went.0
           round.counts later.counts
           (cause_of_calls c.serve_by.result c.args.turn_limit round.desk.calls later.desk.calls went.0 round.counts later.counts went.1

@@ -2,7 +2,7 @@ use Rattle.std.proofs.Common.{◌≡◌, ◌++◌, ◌∙◌, FitsSigned, w32, r
 use Rattle.std.proofs.lemmas.Int.{to_z-of_z}
 use Rattle.pg_client.specs.Script.{origin_of}
 use Rattle.pg_engine.specs.Serving.{counts_of}
-use Rattle.relation_serving.proofs.Complete.{cause_of_calls}
+use Rattle.pg_engine.proofs.Completing.{cause_of_calls}
 use Rattle.cursor_serving.specs.Serving.{WentByCursors}
 use Rattle.pg_cursor.proofs.Answering.{answered_no}
 use Rattle.pg_cursor.proofs.running.serve_table.Goals as goal

@@ -2,7 +2,7 @@ use Rattle.std.proofs.Common.{◌≡◌, ◌++◌, ◌∙◌, FitsSigned, w32, r
 use Rattle.std.proofs.lemmas.Int.{to_z-of_z}
 use Rattle.pg_client.specs.Script.{origin_of}
 use Rattle.pg_engine.specs.Serving.{counts_of}
-use Rattle.relation_serving.proofs.Complete.{cause_of_calls}
+use Rattle.pg_engine.proofs.Completing.{cause_of_calls}
 use Rattle.replay_streams.specs.declared.sink.BytesSink.{BytesSink}
 use Rattle.pg_replay.specs.Program.{turns}
 use Rattle.pg_replay.proofs.Recorded.{answered_no, was_recorded}

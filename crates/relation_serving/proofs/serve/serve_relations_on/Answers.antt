@@ -6,7 +6,8 @@ use Rattle.relation_handlers.proofs.EvenRows.{even}
 use Rattle.pg_engine.specs.Around.{Around, ServesSession, around}
 use Rattle.pg_engine.proofs.Serving.{none_served}
 use Rattle.relation_serving.proofs.CoreServing.{went_by_tables}
-use Rattle.relation_serving.proofs.Complete.{complete_serving, complete_at_want, cause_of_calls}
+use Rattle.relation_serving.specs.Completeness.{most_unready}
+use Rattle.pg_engine.proofs.Completing.{complete_serving, complete_at_want, cause_of_calls}
 use Rattle.relation_serving.proofs.Questions.{few_questions}
 use Rattle.relation_serving.proofs.serve.serve_relations_on.Given.{Over}
 use Rattle.relation_serving.proofs.serve.serve_relations_on.Goals as goal
@@ -28,7 +29,7 @@ returns-in_default g c =
             round.written _ none.went.0 none.went.2,
       );
       cause = none.cause;
-      complete = complete_at_want relations c.args.turn_limit round.left round.counts round.counts;
+      complete = complete_at_want (most_unready relations) c.args.turn_limit round.left round.counts round.counts;
       serves = none;
     }
 
@@ -67,7 +68,7 @@ returns g c =
             c.serve_by.result round.left later.left round.written later.written went.0 went.2,
       );
       cause = serves.cause;
-      complete = complete_serving relations (whole_rules (relation_handlers relations)) (few_questions relations) registration refl
+      complete = complete_serving (most_unready relations) (whole_rules (relation_handlers relations)) (few_questions relations) registration refl
           c.args.turn_limit c.serve_by.result round.left later.left round.written later.written went.0 round.counts later.counts
           (cause_of_calls c.serve_by.result c.args.turn_limit round.desk.calls later.desk.calls went.0 round.counts later.counts went.1
           serves.cause)

@@ -9,7 +9,8 @@ use Rattle.pg_engine.specs.Around.{around}
 use Rattle.pg_engine.specs.Serving.{counts_of}
 use Rattle.pg_engine.proofs.Serving.{none_served, none_went}
 use Rattle.relation_serving.proofs.CoreServing.{went_by_tables}
-use Rattle.relation_serving.proofs.Complete.{complete_at_want}
+use Rattle.pg_engine.proofs.Completing.{complete_at_want}
+use Rattle.relation_serving.specs.Completeness.{most_unready}
 use Rattle.session_recording.specs.Making.{IsMadeOf}
 use Rattle.session_recording.specs.Recorded.{IsRecorded, passage}
 use Rattle.session_recording.proofs.Recordings.{IsKeptOf, recorded_so, faithful_answer}
@@ -34,7 +35,7 @@ returns-in_default-clause-went g c =
 
 pub returns-in_default-clause-complete : goal.returns-in_default-clause-complete
 returns-in_default-clause-complete g c =
-    complete_at_want c.args.relations.now c.args.turn_limit (g.S.Source.left c.args.source.now)
+    complete_at_want (most_unready c.args.relations.now) c.args.turn_limit (g.S.Source.left c.args.source.now)
     (counts_of g.S.Source.reads g.S.Source.faults g.K.Sink.faults c.args.source.now c.args.sink.now)
     (counts_of g.S.Source.reads g.S.Source.faults g.K.Sink.faults c.args.source.now c.args.sink.now)
 

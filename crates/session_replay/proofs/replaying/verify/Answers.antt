@@ -5,7 +5,7 @@ use Rattle.pg_client.specs.Answer.{answers_of}
 use Rattle.conversation_table.specs.Questions.{questions}
 use Rattle.pg_client.specs.Script.{origin_of}
 use Rattle.pg_engine.specs.Serving.{Counts}
-use Rattle.relation_serving.proofs.Complete.{cause_of_calls}
+use Rattle.pg_engine.proofs.Completing.{cause_of_calls}
 use Rattle.session_replay.specs.Verdicts.{IsVerdictOn}
 use Rattle.session_replay.proofs.Judging.{one_script, scripted_calls, went_by, asked_more, judged}
 use Rattle.session_replay.proofs.Replays.{same_exactly, verdict_of_each}

@@ -16,9 +16,7 @@ use Rattle.conversation_runs.specs.declared.ends.ServeError.TheVariants as fault
 use Rattle.conversation_runs.specs.Run.{Rules}
 use Rattle.conversation_runs.proofs.Spending.{since_grown}
 use Rattle.pg_engine.specs.Serving.{Counts, HasCause, ReadsGaveBytes, WentSo, IsRunOfTaken, IsStoppedRunOfTaken}
-use Rattle.relation_tables.specs.declared.Relation.{Relation}
-use Rattle.relation_tables.specs.declared.RelationStatement.{RelationStatement}
-use Rattle.relation_serving.specs.Completeness.{is_run_message, runs, most_unready, IsComplete}
+use Rattle.pg_engine.specs.Completeness.{is_run_message, runs, IsCompleteWithin}
 
 -- ---- the frames of a front
 
@@ -49,19 +47,19 @@ runs_of_front text front messages mid rest d e h =
 
 -- ---- the questions of what was taken
 
--- By these rules no more questions are asked than messages run a query, each as often as a relation is unready.
-abbrev pub AsksFew : List Relation → Rules (State RelationStatement) → Type 0
-AsksFew relations rules = (answers : List Bool) (s : State RelationStatement) (messages : List PgWireFrontendMessage)
-    → questions (conversation rules.table answers s messages).calls ≤ runs messages * most_unready relations
+-- By these rules no more questions are asked than messages run a query, each as often as a query owes polls at most.
+abbrev pub AsksFew : {A : Type 0} → ℕ → Rules (State A) → Type 0
+AsksFew {A} most rules = (answers : List Bool) (s : State A) (messages : List PgWireFrontendMessage)
+    → questions (conversation rules.table answers s messages).calls ≤ runs messages * most
 
 -- what was taken of a text, its frames, and the calls of their answer
-record IsTaken (rules : Rules (State RelationStatement)) (s : State RelationStatement) (text rest : List ℕ) (calls : List DeskCall)
+record IsTaken {A : Type 0} (rules : Rules (State A)) (s : State A) (text rest : List ℕ) (calls : List DeskCall)
     : Type 0 where
   taken : List ℕ
   messages : List PgWireFrontendMessage
   unfinished : List ℕ
   replies : List PgWireBackendMessage
-  next : Next (State RelationStatement)
+  next : Next (State A)
   all : text ≡ taken ++ rest
   division : DividesInto (rules.awaits s) taken messages unfinished
   answered : conversation rules.table (answers_of calls) s messages ≡ record {
@@ -70,23 +68,23 @@ record IsTaken (rules : Rules (State RelationStatement)) (s : State RelationStat
     next = next;
   }
 
-asked_within : (relations : List Relation) (rules : Rules (State RelationStatement)) → AsksFew relations rules
-    → (s : State RelationStatement) → rules.awaits s ≡ true → (text rest : List ℕ) (calls : List DeskCall) → IsTaken rules s text rest calls
+asked_within : {A : Type 0} (most : ℕ) (rules : Rules (State A)) → AsksFew most rules
+    → (s : State A) → rules.awaits s ≡ true → (text rest : List ℕ) (calls : List DeskCall) → IsTaken rules s text rest calls
     → (messages : List PgWireFrontendMessage) (last : List ℕ) → DividesInto true text messages last → HasNoFrame messages last
-    → questions calls ≤ runs messages * most_unready relations
-asked_within relations rules few s awaited text rest calls t messages last d h =
-    let asked : questions calls ≤ runs t.messages * most_unready relations =
-    subst (λ (k : List DeskCall). questions k ≤ runs t.messages * most_unready relations) (ap (λ a. a.calls) t.answered)
+    → questions calls ≤ runs messages * most
+asked_within most rules few s awaited text rest calls t messages last d h =
+    let asked : questions calls ≤ runs t.messages * most =
+    subst (λ (k : List DeskCall). questions k ≤ runs t.messages * most) (ap (λ a. a.calls) t.answered)
     (few (answers_of calls) s t.messages) in
     let kept : DividesInto true text t.messages (t.unfinished ++ rest) =
     subst (λ x. DividesInto true x t.messages (t.unfinished ++ rest)) (sym t.all)
     (division_kept t.messages true t.taken t.unfinished rest
     (subst (λ b. DividesInto b t.taken t.messages t.unfinished) awaited t.division)) in
     let front = runs_of_front text t.messages messages (t.unfinished ++ rest) last kept d h in
-    let more = mul-le (runs t.messages) (most_unready relations) (runs messages) (most_unready relations) front (omega arith) in
+    let more = mul-le (runs t.messages) most (runs messages) most front (omega arith) in
     omega (arith, asked, more)
 
-taken_by_run : (rules : Rules (State RelationStatement)) (registration : ℤ
+taken_by_run : {A : Type 0} (rules : Rules (State A)) (registration : ℤ
     × List ℕ) (text : List ℕ) (new_left old new : Option (List ℕ)) (calls : List DeskCall)
     → IsRunOfTaken rules (first_state registration.0 registration.1) (Some text) new_left old new
     calls
@@ -105,7 +103,7 @@ taken_by_run rules registration text new_left old new calls x = (
   },
 )
 
-taken_by_stopped_run : (rules : Rules (State RelationStatement)) (registration : ℤ
+taken_by_stopped_run : {A : Type 0} (rules : Rules (State A)) (registration : ℤ
     × List ℕ) (text : List ℕ) (new_left old new : Option (List ℕ)) (calls : List DeskCall)
     → IsStoppedRunOfTaken rules (first_state registration.0 registration.1) (Some text) new_left old
     new calls
@@ -137,30 +135,30 @@ none_gave None reads = tt
 none_gave (Some text) reads = (text, refl, omega arith)
 
 -- want of memory is no breach
-pub complete_at_want : (relations : List Relation) (turns : ℕ) (left : Option (List ℕ)) (before after : Counts)
-    → IsComplete relations turns (Err fault.NoMemory) left before after
-complete_at_want relations turns None before after = tt
-complete_at_want relations turns (Some text) before after = λ messages rest d h enough fits sound. tt
+pub complete_at_want : (most : ℕ) (turns : ℕ) (left : Option (List ℕ)) (before after : Counts)
+    → IsCompleteWithin most turns (Err fault.NoMemory) left before after
+complete_at_want most turns None before after = tt
+complete_at_want most turns (Some text) before after = λ messages rest d h enough fits sound. tt
 
-module _ (relations : List Relation) (rules : Rules (State RelationStatement)) (few : AsksFew relations rules)
+module _ {A : Type 0} (most : ℕ) (rules : Rules (State A)) (few : AsksFew most rules)
     (registration : ℤ × List ℕ) (awaited : rules.awaits (first_state registration.0 registration.1) ≡ true) (turns : ℕ) where
   -- the state of a conversation that begins
-  abbrev first : State RelationStatement
+  abbrev first : State A
   first = first_state registration.0 registration.1
 
   -- where so many questions were asked of what was taken, not all turns were spent
   enough_left : (text : List ℕ) (new_left : Option (List ℕ)) (calls : List DeskCall) (before after : Counts)
       → ReadsGaveBytes (Some text) new_left before.reads after.reads → HasCause (Err fault.TurnLimit) turns (questions calls) before after
-      → (rest : List ℕ) → IsTaken rules first text rest calls → IsComplete relations turns (Err fault.TurnLimit) (Some text) before after
+      → (rest : List ℕ) → IsTaken rules first text rest calls → IsCompleteWithin most turns (Err fault.TurnLimit) (Some text) before after
   enough_left text new_left calls before after gave cause rest t = λ messages last d h enough fits sound.
-      let within = asked_within relations rules few first awaited text rest calls t messages last d h in
-      unspent before.reads after.reads turns (questions calls) (runs messages * most_unready relations) (length text) (length gave.0)
+      let within = asked_within most rules few first awaited text rest calls t messages last d h in
+      unspent before.reads after.reads turns (questions calls) (runs messages * most) (length text) (length gave.0)
       (cause fits) gave.2 within enough
 
   pub complete_serving : (answer : Result EndKind ServeError) (left new_left old new : Option (List ℕ)) (calls : List DeskCall)
       (before after : Counts) → HasCause answer turns (questions calls) before after
       → ReadsGaveBytes left new_left before.reads after.reads → WentSo rules first answer left new_left old new calls
-      → IsComplete relations turns answer left before after
+      → IsCompleteWithin most turns answer left before after
   complete_serving answer None new_left old new calls before after cause gave went = tt
   complete_serving (Ok kind) (Some text) new_left old new calls before after cause gave went =
       λ messages rest d h enough fits sound. tt
@@ -169,7 +167,7 @@ module _ (relations : List Relation) (rules : Rules (State RelationStatement)) (
   complete_serving (Err fault.WriteFault) (Some text) new_left old new calls before after cause gave went =
       λ messages rest d h enough fits sound. absurd (sound (inr cause))
   complete_serving (Err fault.NoMemory) (Some text) new_left old new calls before after cause gave went =
-      complete_at_want relations turns (Some text) before after
+      complete_at_want most turns (Some text) before after
   complete_serving (Err fault.TurnLimit) (Some text) new_left old new calls before after cause gave (inl went) =
       let t = taken_by_run rules registration text new_left old new calls went in
       enough_left text new_left calls before after gave cause t.0 t.1
@@ -183,9 +181,3 @@ pub cause_of_calls : (answer : Result EndKind ServeError) (turns : ℕ) (calls n
     → HasCause answer turns (questions_since calls new_calls) before after → HasCause answer turns (questions made) before after
 cause_of_calls answer turns calls new_calls made before after grown cause =
     subst (λ (asked : ℕ). HasCause answer turns asked before after) (since_grown calls new_calls made grown) cause
-
--- the same of equal relations
-pub complete_of_equal : {relations others : List Relation} (turns : ℕ) (answer : Result EndKind ServeError) (left : Option (List ℕ))
-    (before after : Counts) → relations ≡ others
-    → IsComplete relations turns answer left before after → IsComplete others turns answer left before after
-complete_of_equal turns answer left before after e x = subst (λ relations. IsComplete relations turns answer left before after) e x
