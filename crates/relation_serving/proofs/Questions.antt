@@ -1,39 +1,14 @@
 -- A conversation over relations asks no more questions than its messages that run a query, each as often as a relation is unready.
-use Rattle.std.proofs.Common.{◌≡◌, ◌≤◌, ◌+◌, if◌then◌else◌, ℕ, zero, suc, cond, arith, Bool, true, false, ℤ, List, [], ◌∷◌, Option, Some, None, refl}
-use Rattle.std.specs.Prelude.{◌*◌, ◌==◌}
-use Rattle.std.proofs.Math.Nat.{add-mul, one-mul}
-use Rattle.std.specs.FinMap as fin
-use Rattle.pg_messages.specs.declared.simplequery.Query.{Query}
-use Rattle.pg_messages.specs.declared.extendedquery.Execute.{Execute}
-use Rattle.pg_messages.specs.declared.startup.CancelRequest.{CancelRequest}
+use Rattle.std.proofs.Common.{◌≤◌, ℕ, zero, suc, arith, Bool, List, [], ◌∷◌, Option, Some, None}
+use Rattle.std.specs.Prelude.{◌*◌}
 use Rattle.pg_messages.specs.declared.frontend.PgWireFrontendMessage.{PgWireFrontendMessage}
-use Rattle.pg_messages.specs.declared.frontend.PgWireFrontendMessage.TheVariants as client
-use Rattle.pg_messages.specs.Frames.{protocol_3_0, protocol_3_2}
-use Rattle.pg_messages.specs.declared.codec.ProtocolVersion.TheVariants.{PROTOCOL3_0}
 use Rattle.pg_results.specs.declared.client.ClientInfo.{ClientInfo}
-use Rattle.pg_results.specs.declared.client.PgWireConnectionState.{PgWireConnectionState}
-use Rattle.pg_results.specs.declared.client.PgWireConnectionState.TheVariants as phase
 use Rattle.pg_results.specs.declared.format.Format.{Format}
 use Rattle.pg_results.specs.declared.format.Format.TheVariants as format
-use Rattle.pg_portal.specs.declared.store.Entry.{Entry}
-use Rattle.pg_portal.specs.declared.store.Entry.TheVariants as entry
-use Rattle.pg_results.specs.Texts.{is_blank}
-use Rattle.pg_portal.specs.Told.{BoundPortal, TablePortal, Stage, Unstarted, Started, Ended}
-use Rattle.pg_results.specs.Errors.{info_of}
-use Rattle.pg_client.specs.declared.desk.DeskCall.{DeskCall}
-use Rattle.pg_client.specs.declared.desk.DeskCall.TheVariants as desk
-use Rattle.pg_client.specs.Answer.{Answer, Table, Next, Goes, Ends, Stops, conversation, continued, left_by}
-use Rattle.pg_client.specs.Errors.{is_fatal}
-use Rattle.pg_replies.specs.Replies.{Replies}
-use Rattle.pg_client.specs.Effect.{Called, Scope, Outcome, Done, Failed, Over, Stopped, settled}
-use Rattle.conversation_table.specs.ExecuteRow.{executed_portal, executed_entry}
-use Rattle.conversation_table.specs.Handlers.{Handlers}
-use Rattle.conversation_table.specs.Questions.{questions, questioned, started}
-use Rattle.conversation_table.specs.SimpleRows.{on_query}
-use Rattle.pg_client.specs.StartupRows.{on_cancel_request, tells_less, startup_row}
+use Rattle.pg_client.specs.Answer.{conversation}
+use Rattle.conversation_table.specs.Questions.{questions}
 use Rattle.pg_client.specs.State.{State}
-use Rattle.conversation_table.specs.Table.{ready_row, row, scope_in, whole_table}
-use Rattle.conversation_runs.proofs.Spending.{questions-append}
+use Rattle.conversation_table.specs.Table.{whole_table}
 use Rattle.relation_tables.specs.declared.Relation.{Relation}
 use Rattle.relation_tables.specs.declared.RelationStatement.{RelationStatement}
 use Rattle.relation_tables.specs.declared.RelationStatement.TheVariants as statement

@@ -1,7 +1,6 @@
 -- The cells of what was written stand for stored intervals, however the conversation went.
-use Rattle.std.proofs.Common.{◌≡◌, ◌++◌, [], List, ℕ, ℤ, Option, Some, None, Result, Ok, Err, sym, ap, subst, inl, inr, append-nil}
+use Rattle.std.proofs.Common.{[], List, ℕ, ℤ, Option, Some, None, Result, Ok, Err, sym, ap, subst, inl, inr, append-nil}
 use Rattle.pg_messages.specs.declared.frontend.PgWireFrontendMessage.{PgWireFrontendMessage}
-use Rattle.pg_messages.specs.declared.backend.PgWireBackendMessage.{PgWireBackendMessage}
 use Rattle.pg_messages.specs.Replies.{replies_bytes}
 use Rattle.pg_client.specs.declared.desk.DeskCall.{DeskCall}
 use Rattle.pg_client.specs.declared.ends.EndKind.{EndKind}
@@ -20,7 +19,7 @@ use Rattle.relation_tables.specs.Relations.{HaveEvenRows}
 use Rattle.relation_handlers.specs.Tables.{HoldIntervals}
 use Rattle.cell_laws.specs.ShownCells.{ShowStored}
 use Rattle.cell_laws.proofs.CellsWhole.{stored_shown}
-use Rattle.relation_serving.specs.Serving.{ShowsCells, IsAnsweredText, WritesReplies, WentByWhole}
+use Rattle.relation_serving.specs.Serving.{ShowsCells, WentByWhole}
 
 -- what has grown by a front of bytes, or by all of them, has grown by a front of them
 grown_front : (old new : Option (List ℕ)) (bytes front : List ℕ) → BeginsWith bytes front → GrowsBy old new front → GrowsByFront old new bytes
