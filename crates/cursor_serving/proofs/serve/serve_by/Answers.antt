@@ -1,4 +1,3 @@
-use Rattle.std.proofs.Common.{refl}
 use Rattle.std.specs.Arc.{arc_value}
 use Rattle.pg_client.specs.State.{first_state}
 use Rattle.pg_engine.specs.Around.{around}
