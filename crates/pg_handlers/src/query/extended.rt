@@ -17,13 +17,13 @@ ghost use Rattle.pg_client.specs.State.{state_of};
 ghost use Rattle.pg_client.specs.Effect.{IsEffect, IsRefusedEffect, IsRow, IsRefusedRow, Done, says, when_ready};
 ghost use Rattle.conversation_table.specs.ExtendedRows.{on_parse, on_bind, on_describe, on_close, on_sync};
 ghost use Rattle.conversation_table.specs.ExecuteRow.{on_execute};
-ghost use Rattle.conversation_table.specs.Executing.{IsLeftBehind};
 ghost use Rattle.pg_results.specs.declared.client.PgWireConnectionState.TheVariants as phase;
 ghost use Rattle.pg_results.specs.declared.error.PgWireError.TheVariants as wire;
 ghost use Rattle.pg_client.specs.declared.ends.SessionError.TheVariants as session;
 ghost use Rattle.conversation_table.specs.Good.{IsGiven, IsSendableOutcome, IsSendableDescription, IsGoodStatement, IsGoodPortal, IsGoodState};
 ghost use Rattle.conversation_table.specs.Questions.{IsCausedSo, HasSpent, questions_since};
-ghost use Rattle.pg_client.specs.Ends.{IsAnswerableError, AtTurnLimit};
+ghost use Rattle.pg_client.specs.Before.{IsAsBefore};
+ghost use Rattle.conversation_table.specs.Waiting.{HasWaited, IsQueryError, KeptByExecute};
 
 use crate::ends::{out_of_memory, query_out_of_memory};
 use crate::query::QueryState;

@@ -5,6 +5,7 @@ ghost use Rattle.pg_client.specs.Desk.{KeepsDesk};
 ghost use Rattle.conversation_table.specs.Handlers.{QueryTold};
 ghost use Rattle.pg_handlers.specs.Polling.{IsPolled};
 ghost use Rattle.conversation_table.specs.Questions.{Verdict, IsAsked, IsVerdict, IsCausedSo, HasSpent, questions_since};
+ghost use Rattle.conversation_table.specs.Waiting.{HasWaited};
 
 use pg_client::{CancelDesk, SessionError, Turns};
 use pg_portal::PgWireError;

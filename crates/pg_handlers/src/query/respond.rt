@@ -20,6 +20,7 @@ ghost use Rattle.conversation_table.specs.SimpleRows.{responded_all};
 ghost use Rattle.pg_replies.specs.Sending.{IsAllSent};
 ghost use Rattle.pg_handlers.specs.Sending.{behind};
 ghost use Rattle.pg_client.specs.State.{state_of};
+ghost use Rattle.conversation_table.specs.Waiting.{OnlyAnswers};
 
 use crate::ends::out_of_memory;
 use pg_client::Client;

@@ -9,14 +9,14 @@ ghost use Rattle.pg_portal.specs.Told.{TablePortal};
 ghost use Rattle.pg_client.specs.Desk.{KeepsDesk};
 ghost use Rattle.pg_client.specs.Effect.{IsEffect, IsRefusedEffect, Done};
 ghost use Rattle.conversation_table.specs.ExecuteRow.{executed, execute_polled, fetched};
-ghost use Rattle.conversation_table.specs.Executing.{HasUnstarted, IsLeftBehind, portal_under};
+ghost use Rattle.conversation_table.specs.Executing.{HasUnstarted, portal_under};
 ghost use Rattle.conversation_table.specs.Outcomes.{IsRunEnd};
 ghost use Rattle.pg_replies.specs.Replies.{IsTag};
 ghost use Rattle.conversation_table.specs.Good.{IsGiven, IsGoodState, IsSendableOutcome, IsSendableResponse};
 ghost use Rattle.conversation_table.specs.Handlers.{told_one};
 ghost use Rattle.conversation_table.specs.Questions.{Verdict, IsAsked, IsCausedSo, HasSpent, questions_since};
-ghost use Rattle.pg_client.specs.Ends.{IsAnswerableError, AtTurnLimit};
 ghost use Rattle.pg_client.specs.State.{state_of};
+ghost use Rattle.conversation_table.specs.Waiting.{HasWaited, IsQueryError, KeptByExecute};
 
 use crate::query::respond::{respond, send_page};
 use crate::query::{QueryState, wait_for};

@@ -18,10 +18,10 @@ ghost use Rattle.conversation_table.specs.Outcomes.{IsRunEnd};
 ghost use Rattle.pg_replies.specs.Replies.{ready};
 ghost use Rattle.conversation_table.specs.Good.{IsGiven, AreSendable, IsSendableResponse};
 ghost use Rattle.conversation_table.specs.Questions.{Verdict, IsAsked, IsCausedSo, HasSpent, questions_since};
-ghost use Rattle.pg_client.specs.Ends.{IsAnswerableError, AtTurnLimit};
 ghost use Rattle.pg_results.specs.declared.client.PgWireConnectionState.TheVariants as phase;
 ghost use Rattle.pg_results.specs.declared.error.PgWireError.TheVariants as wire;
 ghost use Rattle.pg_client.specs.declared.ends.SessionError.TheVariants as session;
+ghost use Rattle.conversation_table.specs.Waiting.{HasWaited, IsQueryError, OnlyAnswers};
 
 use crate::ends::{query_out_of_memory, session_outcome};
 use crate::query::respond::{send_empty_query_response, send_responses};

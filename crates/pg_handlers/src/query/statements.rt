@@ -26,6 +26,7 @@ ghost use Rattle.pg_results.specs.Formats.{format_of};
 ghost use Rattle.conversation_table.specs.ExecuteRow.{executed_nothing};
 ghost use Rattle.conversation_table.specs.Good.{IsGiven, IsGoodStatement, IsGoodState};
 ghost use Rattle.pg_client.specs.State.{state_of, with_portal, with_statement};
+ghost use Rattle.pg_client.specs.Before.{IsAsBefore};
 
 use crate::ends::out_of_memory;
 use crate::query::respond::send_empty_query_response;
