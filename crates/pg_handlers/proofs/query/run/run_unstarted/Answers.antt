@@ -47,7 +47,7 @@ returns-in-Err g c =
         x.asked.1,
         wait_ran s out (λ verdict. execute_polled s c.args.message p verdict all) refl refl x.asked.0 outcome c.in-Err.error x.asked.2,
       );
-      errors = query_error g.St.PortalStore.maps c.args.client.now c.args.client.now (Err {A = Unit {0}} c.in-Err.error)
+      errors = query_error {A = Unit {0}} g.St.PortalStore.maps c.args.client.now c.args.client.now (Err c.in-Err.error)
           (wait_answerable outcome x.asked.0 c.in-Err.error x.asked.2) (at_limit c.in-Err.error ((s ≡ s) × (out ≡ out)) (refl, refl));
       kept = record { info = refl; left = inl refl; kept = kept_as out out refl };
       good = λ parser good. good;
