@@ -18,8 +18,8 @@ use pg_portal::{PgWireError, PortalStore};
 use std::alloc::{AllocError, Global};
 
 /// What a server does with the data of a COPY from the client. Its calls may append replies, and
-/// change nothing else of the client. An error ends the COPY: the handler's own, and then the
-/// replies before it stay in the outbox, or NoMemory.
+/// change nothing else of the client. An error ends the COPY. It is NoMemory, or the handler's own,
+/// and then the replies before it stay in the outbox.
 pub trait CopyHandler {
     // its replies to each message, and its errors
     ghost told: { Self → CopyTold };

@@ -15,7 +15,7 @@ pub struct PolledQuery<T> {
 }
 
 impl<T: Drop> PolledQuery<T> {
-    /// A query with this outcome, which is unready for `unready` polls before it.
+    /// A query with this outcome, which is unready for `unready` polls first.
     pub fn new(unready: u32, outcome: Result<T, PgWireError>) -> PolledQuery<T>
         ensures unready { result.unready ≡ unready }
         ensures outcome { result.outcome ≡ Some outcome }

@@ -6,7 +6,7 @@ use Rattle.pg_types.specs.declared.pg_type.PgType.{PgType}
 use Rattle.pg_results.specs.Describing.{Described, is_no_data}
 use Rattle.pg_replies.specs.Replies.{Replies, row_description, parameter_description}
 
--- the columns, or that there is no data
+-- RowDescription, or NoData where there is nothing to describe
 abbrev pub columns_reply : Described → PgWireBackendMessage
 columns_reply d = if is_no_data d then server.NoData (record {}) else row_description d.fields
 

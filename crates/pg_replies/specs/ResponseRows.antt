@@ -35,7 +35,7 @@ unless_error status copying replies others (Some e) = record { replies = replies
 
 -- ---- rows of a Query
 
--- the replies in front, a DataRow for each row, and the tag with their number
+-- the first replies, a DataRow for each row, and the tag with the number of rows
 abbrev pub sent_rows_behind : Replies → TransactionStatus → ToldRows → Sent
 sent_rows_behind front status r =
     let rows = before_error r.items in

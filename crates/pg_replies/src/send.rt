@@ -108,8 +108,7 @@ pub fn send_done(
     Ok(())
 }
 
-/// Appends the bytes of CommandComplete, whose tag is the command and the number of rows. After an
-/// error some of the bytes may be appended.
+/// Appends the bytes that `send_done` appends. After an error some of them may be appended.
 fn push_done(outbox: &mut Outbox, command: &str, rows: u64) -> Result<(), AllocError>
     requires { IsTag command.now }
     ensures ok { OnOk result
@@ -122,8 +121,8 @@ fn push_done(outbox: &mut Outbox, command: &str, rows: u64) -> Result<(), AllocE
     push_many_done(outbox, command, rows)
 }
 
-/// Appends the bytes of CommandComplete of a command with fewer than ten rows, as most have. The
-/// digit needs no buffer. After an error some of the bytes may be appended.
+/// Appends these bytes for fewer than ten rows, as most commands have. The digit needs no buffer.
+/// After an error some of them may be appended.
 #[inline(always)]
 fn push_few_done(outbox: &mut Outbox, command: &str, rows: u64) -> Result<(), AllocError>
     requires tag { IsTag command.now }
@@ -138,8 +137,7 @@ fn push_few_done(outbox: &mut Outbox, command: &str, rows: u64) -> Result<(), Al
     Ok(())
 }
 
-/// Appends the bytes of CommandComplete piece by piece. No text of the tag is built. After an error
-/// some of the bytes may be appended.
+/// Appends these bytes piece by piece, without a text of the tag. An error may leave some of them.
 #[inline(never)]
 fn push_many_done(outbox: &mut Outbox, command: &str, rows: u64) -> Result<(), AllocError>
     requires { IsTag command.now }
@@ -186,8 +184,7 @@ fn send_row_description(
     Ok(())
 }
 
-/// Appends the bytes of RowDescription, column by column. After an error some of the bytes may be
-/// appended.
+/// Appends RowDescription column by column. After an error some of its bytes may be appended.
 fn push_row_description(outbox: &mut Outbox, fields: &[FieldInfo]) -> Result<(), AllocError>
     requires { IsEncodable (row_description fields.now) }
     ensures ok { OnOk result
@@ -214,8 +211,7 @@ fn body_len(fields: &[FieldInfo]) -> usize
     len
 }
 
-/// The type byte, the length and the count of a RowDescription, where `body` bytes follow the
-/// length.
+/// The type byte, length and count of a RowDescription with `body` bytes after the length.
 fn description_head(body: usize, count: usize) -> [u8; 7]
     requires body { body ≤ 1073741823 }
     requires count { count ≤ 32767 }
@@ -226,7 +222,7 @@ fn description_head(body: usize, count: usize) -> [u8; 7]
     [b'T', a, b, c, d, e, f]
 }
 
-/// Appends the bytes that describe a column. After an error some of the bytes may be appended.
+/// Appends the bytes that describe a column. After an error some of them may be appended.
 fn push_column(outbox: &mut Outbox, field: &FieldInfo) -> Result<(), AllocError>
     ensures ok { OnOk result
         (outbox.new ≡ outbox.old ++ field_description (description_of field.now)) }
@@ -346,8 +342,8 @@ pub fn send_describe_response<DR: DescribeResponse>(
     Ok(())
 }
 
-/// Appends the description of a statement or a portal, as `send_describe_response` does, and drops
-/// it. The only error is running out of memory, after which the outbox is as it was.
+/// Appends a description, as `send_describe_response` does, and drops it. The only error is running
+/// out of memory, after which the outbox is as it was.
 pub fn send_described<DR: DescribeResponse + Drop>(
     alloc: Global,
     outbox: &mut Outbox,
@@ -363,8 +359,7 @@ pub fn send_described<DR: DescribeResponse + Drop>(
     send_describe_response(alloc, outbox, &described)
 }
 
-/// Appends the description of a statement or a portal, or returns the error that came in its place.
-/// After an error the outbox is as it was.
+/// Appends a description, or returns the error that came in its place. An error appends nothing.
 pub fn send_told<DR: DescribeResponse + Drop>(
     alloc: Global,
     outbox: &mut Outbox,
@@ -412,8 +407,8 @@ impl<'a> RowReceiver for RowSender<'a> {
 
 /// Appends the next page of a response, of which `delivered` rows were sent before: at most
 /// `max_rows` DataRows, or all that are left where `max_rows` is below 1. PortalSuspended follows
-/// where the limit was reached, and else CommandComplete with the tag and the number of rows
-/// delivered, the earlier ones too. The errors are those of `send_partial_query_response`.
+/// where the limit was reached, and else CommandComplete with the tag and the number of all rows
+/// delivered. The errors are those of `send_partial_query_response`.
 pub fn send_next_page<R: RowSource>(
     alloc: Global,
     outbox: &mut Outbox,

@@ -259,8 +259,8 @@ pub trait ExtendedQueryHandler {
     ///
     /// The other errors are the query's own, after which the client is as it was; an error in the
     /// place of a row or of data; and NoMemory. An error in the place of a row is consumed with the
-    /// rows before it, and those rows are taken back from the outbox. The data before an error of a
-    /// COPY stay there. After NoMemory the rows that were read are consumed, the portal may be
+    /// rows before it, and those rows are taken back from the outbox. The data of a COPY before an
+    /// error stay there. After NoMemory the rows that were read are consumed, the portal may be
     /// started, and the outbox may hold a part of the replies.
     fn _on_execute<St: PortalStore<Statement = Self::Statement, Rows = Self::Rows>, D: CancelDesk>(
         &self,

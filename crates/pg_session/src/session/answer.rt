@@ -47,8 +47,8 @@ fn stays_open(outcome: &Result<Option<EndKind>, SessionError>) -> bool
 
 /// Answers a message. Its replies wait in the session's outbox, and the next `feed` sends them
 /// before its own. Some(end) says that the conversation has ended. An error of the message leaves
-/// the session open. Its ErrorResponse, and what follows that, isn't appended yet: `process_error`
-/// does it. TurnLimit comes where a query needs a turn and none is left. An end, NoMemory and
+/// the session open. Its ErrorResponse and what follows that aren't appended yet: `process_error`
+/// does so. TurnLimit comes where a query needs a turn and none is left. An end, NoMemory and
 /// TurnLimit close the session.
 #[inline(always)]
 pub fn process_message<
@@ -123,8 +123,8 @@ fn push_error(outbox: &mut Outbox, info: ErrorInfo) -> Result<(), AllocError>
 /// Where the error's severity is FATAL, the conversation ends. Else the transaction status becomes
 /// that of an error. Then the session waits for Sync, where `wait_for_sync` is true (after an
 /// extended message, or in a COPY that an Execute began); else ReadyForQuery is appended. The
-/// session has to be open, and the error isn't NoMemory. An error before the startup packet should
-/// be FATAL: any other would leave the client without its startup replies.
+/// session has to be open, and the error must not be NoMemory. An error before the startup packet
+/// should be FATAL: any other would leave the client without its startup replies.
 ///
 /// The replies wait for the next `feed`. An end closes the session. So does AllocError, after which
 /// nothing is known of the replies that wait.

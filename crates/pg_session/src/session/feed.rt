@@ -28,7 +28,7 @@ fn flush<K: Sink>(outbox: &mut Outbox, sink: &mut K) -> Result<(), ServeError>
     Ok(())
 }
 
-/// Sends what waits in the outbox, and gives back the memory that waited to be written again.
+/// Sends what waits in the outbox, and frees the memory that was kept for the next chunk.
 fn flush_all<K: Sink>(outbox: &mut Outbox, sink: &mut K) -> Result<(), ServeError>
     ensures empty { OnOk result (outbox.new ≡ []) }
     ensures ok { OnOk result (GrowsBy (K.written sink.old) (K.written sink.new) outbox.old) }
