@@ -29,9 +29,9 @@ from programs import TOP, stop
 
 PAGE = "docs/HANDLERS.md"
 STEPS = TOP / "tools/handler_steps/steps"
-COMMANDS = ("make ", "psql ", "pgbench ", "printf ", "cp ")
+COMMANDS = ("make ", "psql ", "pgbench ", "printf ", "timeout ", "cp ", "git apply ")
 # Of these, what is run before a build, and what builds and serves.
-CHANGES = ("make handler ", "cp ")
+CHANGES = ("make handler ", "cp ", "git apply ")
 SERVE = "make serve "
 # How long a command may take, and a build.
 SECONDS = 60
@@ -151,7 +151,8 @@ class Copy:
     def __init__(self, top):
         self.top, self.server, self.passed, self.failed = top, None, 0, 0
         self.port = free_ports(1)[0]
-        self.environment = {**os.environ, "LC_ALL": "C", "PSQLRC": "/dev/null", "PGCONNECT_TIMEOUT": "30"}
+        self.environment = {**os.environ, "LC_ALL": "C", "PSQLRC": "/dev/null", "PGCONNECT_TIMEOUT": "30",
+                            "GIT_CEILING_DIRECTORIES": str(top.parent)}
         for name in ("MAKEFLAGS", "MAKELEVEL", "NAMES", "NAME", "HANDLER", "PORT"):
             self.environment.pop(name, None)
 
