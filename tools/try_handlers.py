@@ -269,6 +269,11 @@ def main():
             prove(copy, blocks, proof, found)
         else:
             follow(copy, blocks, builds, found)
+            copy.end()
+            with tempfile.TemporaryDirectory() as other:
+                copied(pathlib.Path(other))
+                copy.top = pathlib.Path(other)
+                changed(copy, proof, blocks, found)
     except Failure as failure:
         print(f"failed: {failure}")
         copy.failed += 1
