@@ -29,7 +29,8 @@ serve:
 # Runs psql over the sample relations, and compares what it prints; then cancels queries by the keys of 3.0 and of 3.2; then
 # tries a server with few descriptors and threads, large batches, and Unix sockets that were left over; then tells the rotas
 # of README.md; then runs psql's cursors over `pg_cursor`; then records the sample client, verifies it, and sees changes named;
-# then runs the examples of the pages and of each --help. make try NAMES="psql keys" for some of these.
+# then runs the examples of the pages and of each --help; then tries the clients of docs/CLIENTS.md that are installed; then follows
+# docs/HANDLERS.md on a copy of the repository. make try NAMES="psql keys" for some of these.
 try:
 	@python3 -B tools/try_all.py $(NAMES)
 

@@ -20,7 +20,11 @@ SCRIPTS = {
     "cursors": ("tools/try_cursor.sh", ["psql"]),
     "replay": ("tools/try_replay", []),
     "examples": ("tools/check_examples.py", []),
+    "clients": ("tools/try_clients", []),
+    "handlers": ("tools/try_handlers.py", ["psql", "pgbench"]),
 }
+# Those that run none of the programs below.
+ALONE = ["handlers"]
 
 
 def is_passed(name, script):
@@ -37,8 +41,9 @@ def main():
         sys.exit(f"there is nothing to try by the name {unknown[0]}: there are {', '.join(SCRIPTS)}")
     if "--unproved" in sys.argv:
         os.environ["UNPROVED"] = "1"
-    for crate in [*NAMES, "styles_server"]:
-        program(crate)
+    if not words or set(words) - set(ALONE):
+        for crate in [*NAMES, "styles_server"]:
+            program(crate)
     passed, failed, skipped = 0, [], []
     for name in words or SCRIPTS:
         script, commands = SCRIPTS[name]
