@@ -1,9 +1,12 @@
 """What the scripts of make try share: how a finding is told, and a program run on the bytes that its input is given in pieces."""
+import socket
 import subprocess
 import sys
 import threading
 import zlib
 
+# A packet has to fit into a program's read.
+LEAST_READ = 1_024
 failures = []
 
 
@@ -35,13 +38,18 @@ def pieces(data, sizes):
 
 
 def run(words, given=b"", sizes=(1 << 20,), seconds=300):
-    """The status, the output and the errors of a program whose input comes in pieces."""
-    with subprocess.Popen(words, stdin=subprocess.PIPE, stdout=subprocess.PIPE, stderr=subprocess.PIPE, bufsize=0) as process:
+    """The status, the output and the errors of a program whose input comes in pieces. Small pieces come as packets, each of which is
+    a read of its own; larger ones by a pipe."""
+    theirs, ours = socket.socketpair(socket.AF_UNIX, socket.SOCK_SEQPACKET) if max(sizes) <= LEAST_READ else (None, None)
+    stdin = theirs or subprocess.PIPE
+    with subprocess.Popen(words, stdin=stdin, stdout=subprocess.PIPE, stderr=subprocess.PIPE, bufsize=0) as process:
+        if theirs:
+            theirs.close()
         timer = threading.Timer(seconds, process.kill)
         timer.start()
         said = []
         reading = threading.Thread(target=lambda: said.append(process.stderr.read()))
-        giving = threading.Thread(target=give, args=(process.stdin, given, sizes))
+        giving = threading.Thread(target=give, args=(ours.makefile("wb", 0) if ours else process.stdin, ours, given, sizes))
         for thread in (reading, giving):
             thread.start()
         out = b"".join(iter(lambda: process.stdout.read(1 << 20), b""))
@@ -52,7 +60,7 @@ def run(words, given=b"", sizes=(1 << 20,), seconds=300):
     return status, out, said[0].decode(errors="replace")
 
 
-def give(stream, given, sizes):
+def give(stream, packets, given, sizes):
     """Writes all pieces and closes; a program that has ended takes no more."""
     try:
         for piece in pieces(given, sizes):
@@ -62,5 +70,7 @@ def give(stream, given, sizes):
         pass
     try:
         stream.close()
+        if packets:
+            packets.close()
     except BrokenPipeError:
         pass

@@ -88,9 +88,9 @@ def startup(style="postgres", version=196608, parameters=()):
     return sent, told + frame(b"K", struct.pack(">i", PID) + KEY) + READY
 
 
-def query(text, answer):
+def query(text, answer, ready=READY):
     """A simple query, and what it is answered."""
-    return frame(b"Q", string(text)), answer + READY
+    return frame(b"Q", string(text)), answer + ready
 
 
 def asked(relation, style="postgres"):
@@ -143,7 +143,7 @@ def declared(cursor, relation):
 
 def fetched(cursor, relation, first, count=None):
     """A FETCH of so many rows, or of all that are left, by a cursor that has given the first ones."""
-    behind = len(relation.rows) if count is None else min(first + count, len(relation.rows))
+    behind = len(relation.rows) if count is None else max(first, min(first + count, len(relation.rows)))
     answer = relation.described() + relation.data_rows(first, behind) + tag(f"FETCH {behind - first}")
     return query(f"FETCH {'ALL' if count is None else count} FROM {cursor}", answer)
 
