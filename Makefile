@@ -27,10 +27,13 @@ serve:
 	@python3 -B tools/serve.py "$$PORT" "$$FILE" "$$HANDLER"
 
 # Runs psql over the sample relations, and compares what it prints; then cancels queries by the keys of 3.0 and of 3.2; then
-# tries a server with few descriptors and threads, large batches, and Unix sockets that were left over; then tells the rotas
-# of README.md; then runs psql's cursors over `pg_cursor`; then records the sample client, verifies it, and sees changes named;
-# then runs the examples of the pages and of each --help; then tries the clients of docs/CLIENTS.md that are installed; then follows
-# docs/HANDLERS.md on a copy of the repository. make try NAMES="psql keys" for some of these.
+# tries a server with few descriptors and threads, large batches, where it listens, and Unix sockets that were left over; then
+# brings each program to each of its statuses; then sends half a client, and the rest once that was answered; then runs files,
+# clients, replies, recordings and reports that are larger than each buffer; then sees that a server's size stays over 20,000
+# queries (tools/try_soak 100000 takes more); then tells the rotas of README.md; then runs psql's cursors over `pg_cursor`; then
+# records the sample client, verifies it, and sees changes named; then runs the examples of the pages and of each --help; then
+# tries the clients of docs/CLIENTS.md that are installed; then follows docs/HANDLERS.md on a copy of the repository. make try
+# NAMES="psql keys" for some of these.
 try:
 	@python3 -B tools/try_all.py $(NAMES)
 
@@ -84,12 +87,12 @@ bench:
 	@for program in $(MEASURED); do $(call QUIETLY,crates/$$program,rt run -- $$(cat args 2>/dev/null) < stdin); done
 	python3 bench/serve_loop.py crates/server/out/server
 	bench/tcp_memory
-	@for times in $(wildcard bench/*_times); do echo $$times; $$times || exit 1; done
+	@for times in bench/key_costs bench/growth_costs $(wildcard bench/*_times); do echo $$times; $$times || exit 1; done
 
 # Compares docs/DEFINITIONS.md and docs/CONTRACTS.md with the crates that they are made from, and docs/WRONG_BODIES.md with the
-# edits and tests that it names.
+# edits, tests and checks that it names; and sees that no source forgets what it holds.
 docs:
-	@status=0; for page in definitions contracts check_wrong_bodies; do python3 -B tools/$$page.py || status=1; done; exit $$status
+	@status=0; for page in definitions contracts check_wrong_bodies check_sources; do python3 -B tools/$$page.py || status=1; done; exit $$status
 
 # Compares the rows and answers that are stored with what the tools that restate the rules make of them.
 rows:

@@ -15,7 +15,7 @@ import sys
 
 from programs import NAMES, TOP, kit, note, proved
 
-PAGES = ["definitions.py", "contracts.py", "check_wrong_bodies.py"]
+PAGES = ["definitions.py", "contracts.py", "check_wrong_bodies.py", "check_sources.py"]
 
 
 def said(words):

@@ -8,6 +8,7 @@ import os
 import shutil
 import subprocess
 import sys
+import time
 
 from programs import NAMES, TOP, program
 
@@ -16,6 +17,10 @@ SCRIPTS = {
     "psql": ("tools/try_psql.sh", ["psql"]),
     "keys": ("tools/try_keys", []),
     "limits": ("tools/try_limits", []),
+    "statuses": ("tools/try_statuses", []),
+    "halves": ("tools/try_halves", []),
+    "large": ("tools/try_large", []),
+    "soak": ("tools/try_soak", []),
     "rotas": ("tools/try_rota.sh", []),
     "cursors": ("tools/try_cursor.sh", ["psql"]),
     "replay": ("tools/try_replay", []),
@@ -30,8 +35,9 @@ ALONE = ["handlers"]
 def is_passed(name, script):
     """Runs a script, and tells whether it ended well."""
     print(f"== {name}", flush=True)
+    begun = time.monotonic()
     status = subprocess.run([TOP / script], cwd=TOP, env={**os.environ, "PYTHONDONTWRITEBYTECODE": "1"}, check=False).returncode
-    print(f"{name}: {'passed' if status == 0 else f'failed, status {status}'}", flush=True)
+    print(f"{name}: {'passed' if status == 0 else f'failed, status {status}'}, {time.monotonic() - begun:.0f} s", flush=True)
     return status == 0
 
 
