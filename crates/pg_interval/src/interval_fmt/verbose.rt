@@ -1,4 +1,4 @@
-ghost use Rattle.std.specs.Prelude.{◌≡◌, ◌+◌, ◌++◌, ◌∷◌, [], ◌<◌, ◌≤◌, drop, length, flat_map, decimal, unsigned_abs, ◌%◌, ◌==◌};
+ghost use Rattle.std.specs.Prelude.{◌≡◌, ◌+◌, ◌++◌, ◌∷◌, [], ◌<◌, ◌≤◌, drop, length, flat_map, decimal, unsigned_abs, ◌%◌, ◌==◌, if◌then◌else◌};
 ghost use Rattle.pg_interval.specs.Printed.{verbose_text, verbose_part_text, part_of, date_parts, verbose_time_parts, verbose_parts, second_parts, second_digits, decimals_of, digits_of, ago_end, is_ago, word_end, minus_if, six_digits, without_last_zeros, kept_digit};
 ghost use Rattle.pg_interval.specs.Widths.{HasRoom};
 
@@ -146,32 +146,25 @@ fn put_seconds(ago: bool, fields: &IntervalNorm, text: &mut [u8; LONGEST], end: 
         return end;
     }
     let negative = fields.is_second_negative() != ago;
-    let letter = put_second_end(negative, fields, text, end);
+    let letter = put_byte_if(has_second_end(negative, fields), b's', text, end);
     let letters = put_word(b" sec", text, letter);
     let digits = put_second_digits(fields, text, letters);
     let minus = put_byte_if(negative, b'-', text, digits);
     put_byte(b' ', text, minus)
 }
 
-/// Writes the `s` at the end of the word, unless 1 second is printed.
+/// Does the word of the seconds end with an `s`? It does unless 1 second is printed.
 #[inline(always)]
 #[tactic(auto, using(crate::proofs::PrintedLemmas::second_words, crate::proofs::PrintedLemmas::word_ends), unfolding(crate::specs::Printed::second_digits, crate::specs::Printed::decimals_of, crate::specs::Printed::is_zero))]
-fn put_second_end(
-    negative: bool,
-    fields: &IntervalNorm,
-    text: &mut [u8; LONGEST],
-    end: usize,
-) -> usize
-    requires { HasRoom 1 fields.now end }
-    ensures place { (result ≤ end) × (end ≤ result + 1) }
-    ensures written { drop result text.new
-        ≡ word_end (minus_if negative ++ second_digits fields.now) ++ drop end text.old }
+fn has_second_end(negative: bool, fields: &IntervalNorm) -> bool
+    ensures { word_end (minus_if negative ++ second_digits fields.now)
+        ≡ (if result then 115 ∷ [] else []) }
 {
     if fields.microseconds.unsigned_abs() == 0 {
         let many = negative || fields.seconds.unsigned_abs() != 1;
-        return put_byte_if(many, b's', text, end);
+        return many;
     }
-    put_byte(b's', text, end)
+    true
 }
 
 /// Writes the seconds with their decimals, without a sign.
