@@ -214,15 +214,8 @@ fn ends_rows(reply: &[u8]) -> bool
     requires { 0 < length reply.now }
     ensures { result ≡ ends_rows reply.now }
 {
-    reply[0] == b's' || is_select(reply)
-}
-
-/// Whether a reply is CommandComplete whose tag begins with `SELECT `.
-fn is_select(reply: &[u8]) -> bool
-    requires { 0 < length reply.now }
-    ensures { result ≡ is_select reply.now }
-{
-    reply[0] == b'C' && reply.len() >= 5 && reply[5..].starts_with(b"SELECT ")
+    let is_select = reply[0] == b'C' && reply.len() >= 5 && reply[5..].starts_with(b"SELECT ");
+    reply[0] == b's' || is_select
 }
 
 /// What the replies tell.
@@ -262,8 +255,7 @@ fn with_reply(survey: Survey, kind: u8) -> Survey
 /// The length of the reply in front of the bytes; all of them, where they begin no whole reply.
 fn reply_len(bytes: &[u8]) -> usize
     requires { 0 < length bytes.now }
-    ensures some { 0 < result }
-    ensures within { result ≤ length bytes.now }
+    ensures within { (0 < result) × (result ≤ length bytes.now) }
     ensures reply { TellsLen bytes.now result }
 {
     if bytes[0] == b'N' || bytes.len() < 5 {

@@ -5,6 +5,12 @@ use Rattle.pg_interval.specs.Printed.{printed, IsPrintedOnlyFor}
 use Rattle.pg_interval.specs.Reading.{Style, StandsForOnly}
 use Rattle.pg_interval.specs.declared.pg_interval.Interval.{Interval}
 
+-- a text on the stack: these bytes, which are short
+pub record IsPrintedAs (told text : List ℕ) : Type 0 where
+  pub printed : text ≡ told
+  pub short : length text ≤ 96
+  pub utf8 : IsUtf8 text
+
 -- What the style prints, which is short. It stands for this interval and for no other, and no other prints as it does.
 pub record IsTextOf (style : Style) (i : Interval) (text : List ℕ) : Type 0 where
   pub printed : text ≡ printed style i

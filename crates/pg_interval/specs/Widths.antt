@@ -1,5 +1,5 @@
 -- How many digits the numbers of a normal form have at most.
-use Rattle.std.specs.Prelude.{◌<◌, ◌≤◌, length, unsigned_abs}
+use Rattle.std.specs.Prelude.{ℕ, ◌<◌, ◌≤◌, length, unsigned_abs}
 use Rattle.pg_interval.specs.Printed.{digits_of}
 use Rattle.pg_interval.specs.declared.interval_norm.IntervalNorm.{IntervalNorm}
 
@@ -13,3 +13,8 @@ pub record HasWidths (n : IntervalNorm) : Type 0 where
   pub seconds : length (digits_of n.seconds) ≤ 2
   pub seconds_small : unsigned_abs n.seconds < 100
   pub microseconds_small : unsigned_abs n.microseconds < 1000000
+
+-- a text of the numbers of a normal form, of so many bytes at most, has room in front of `end`
+pub record HasRoom (most : ℕ) (n : IntervalNorm) (end : ℕ) : Type 0 where
+  pub widths : HasWidths n
+  pub room : (most ≤ end) × (end ≤ 96)

@@ -118,6 +118,8 @@ impl PgWireMessageServerCodec {
     /// byte, and the body (protocol, "Message Formats"). All room is reserved first. The only error
     /// is running out of memory, and the bytes are as they were then. The buffer's capacity, its
     /// bytes and its spare room together, never shrinks.
+    // It is inlined into each push. Where the reply's kind is known there, the compiler picks the
+    // branches.
     #[inline(always)]
     pub fn encode(
         &mut self,
@@ -132,10 +134,21 @@ impl PgWireMessageServerCodec {
         ensures context { self.new ≡ self.old }
     {
         match item {
-            PgWireBackendMessage::DataRow(row) => put_row(row, dst),
-            PgWireBackendMessage::CopyData(copied) => put_copied(copied, dst),
-            _ => put_reply(item, dst),
+            PgWireBackendMessage::DataRow(row) => return put_row(row, dst),
+            PgWireBackendMessage::CopyData(copied) => return put_copied(copied, dst),
+            _ => {}
         }
+        if is_one_byte(item) {
+            dst.reserve(1)?;
+            dst.extend_reserved(&[type_byte(item)]);
+            return Ok(());
+        }
+        let len = item.body_len() as usize;
+        dst.reserve(len + 5)?;
+        dst.extend_reserved(&[type_byte(item)]);
+        dst.extend_reserved(&(len as u32 + 4).to_be_bytes());
+        put_body(item, dst);
+        Ok(())
     }
 }
 
@@ -192,29 +205,6 @@ pub fn put_copied(copied: &CopyData, dst: &mut BytesMut) -> Result<(), AllocErro
     dst.reserve(bytes.len() + 5)?;
     dst.extend_reserved(&[b'd', a, b, c, d]);
     dst.extend_reserved(bytes);
-    Ok(())
-}
-
-// It is inlined into each push. Where the reply's kind is known there, the compiler picks the
-// branches.
-#[inline(always)]
-fn put_reply(item: &PgWireBackendMessage, dst: &mut BytesMut) -> Result<(), AllocError>
-    requires { IsEncodable item.now }
-    ensures ok { OnOk result (dst.new.items ≡ dst.old.items ++ reply_bytes item.now) }
-    ensures err { OnErr result (dst.new.items ≡ dst.old.items) }
-    ensures room { length dst.old.items + dst.old.spare
-        ≤ length dst.new.items + dst.new.spare }
-{
-    if is_one_byte(item) {
-        dst.reserve(1)?;
-        dst.extend_reserved(&[type_byte(item)]);
-        return Ok(());
-    }
-    let len = item.body_len() as usize;
-    dst.reserve(len + 5)?;
-    dst.extend_reserved(&[type_byte(item)]);
-    dst.extend_reserved(&(len as u32 + 4).to_be_bytes());
-    put_body(item, dst);
     Ok(())
 }
 

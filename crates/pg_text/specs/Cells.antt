@@ -1,5 +1,5 @@
 -- What a value writes into a cell, and what is read from one.
-use Rattle.std.specs.Prelude.{◌≡◌, ◌≤◌, ◌⊎◌, ℕ, Bool, true, false, List, [], length, Option, None, Some, Result, Ok, Err}
+use Rattle.std.specs.Prelude.{◌≡◌, ◌≤◌, ◌⊎◌, ◌++◌, ℕ, Bool, true, false, List, [], length, Option, None, Some, Result, Ok, Err, OnOk, OnErr}
 use Rattle.pg_types.specs.declared.error.CellError.{CellError}
 use Rattle.pg_types.specs.declared.error.CellError.TheVariants.{NoMemory, WrongType}
 use Rattle.pg_text.specs.declared.to_sql.IsNull.{IsNull}
@@ -31,6 +31,12 @@ AtCell (Err error) P = ⊥
 -- a row of 32,767 cells of this length is less than 1 GiB
 abbrev pub IsShort : Option (List ℕ) → Type 0
 IsShort cell = length (bytes_of cell) ≤ 32000
+
+-- what a call that is told a cell writes: its bytes, which are few, and nothing after an error
+pub record WritesCell (told : Cell) (result : Result IsNull CellError) (before after : List ℕ) : Type 0 where
+  pub appended : OnOk result (AtCell told (λ cell. after ≡ before ++ bytes_of cell))
+  pub short : OnOk result (AtCell told IsShort)
+  pub unchanged : OnErr result (after ≡ before)
 
 -- the cell where the type is accepted
 abbrev pub checked : Bool → Cell → Cell

@@ -1,5 +1,5 @@
-ghost use Rattle.std.specs.Prelude.{Bool, ◌≡◌, ◌++◌, OnOk, OnErr};
-ghost use Rattle.pg_text.specs.Cells.{Cell, IsAnswer, AtCell, IsShort, bytes_of, checked};
+ghost use Rattle.std.specs.Prelude.{Bool, ◌≡◌};
+ghost use Rattle.pg_text.specs.Cells.{Cell, IsAnswer, WritesCell, checked};
 
 use bytes::BytesMut;
 use pg_interval::Interval;
@@ -29,19 +29,13 @@ pub trait ToSql {
     /// none. After an error nothing is appended.
     fn to_sql(&self, ty: PgType, out: &mut BytesMut) -> Result<IsNull, CellError>
         ensures answer { IsAnswer (binary self.now ty) result }
-        ensures appended { OnOk result (AtCell (binary self.now ty)
-            (λ cell. out.new.items ≡ out.old.items ++ bytes_of cell)) }
-        ensures short { OnOk result (AtCell (binary self.now ty) IsShort) }
-        ensures unchanged { OnErr result (out.new.items ≡ out.old.items) };
+        ensures written { WritesCell (binary self.now ty) result out.old.items out.new.items };
 
     /// Appends the value's bytes as `to_sql` does. `WrongType` comes where the type isn't accepted,
     /// and before every other error.
     fn to_sql_checked(&self, ty: PgType, out: &mut BytesMut) -> Result<IsNull, CellError>
         ensures answer { IsAnswer (checked (accepted ty) (binary self.now ty)) result }
-        ensures appended { OnOk result (AtCell (binary self.now ty)
-            (λ cell. out.new.items ≡ out.old.items ++ bytes_of cell)) }
-        ensures short { OnOk result (AtCell (binary self.now ty) IsShort) }
-        ensures unchanged { OnErr result (out.new.items ≡ out.old.items) }
+        ensures written { WritesCell (binary self.now ty) result out.old.items out.new.items }
     {
         if !Self::accepts(ty) {
             return Err(CellError::WrongType);

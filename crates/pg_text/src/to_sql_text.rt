@@ -1,5 +1,5 @@
-ghost use Rattle.std.specs.Prelude.{◌≡◌, ◌++◌, OnOk, OnErr};
-ghost use Rattle.pg_text.specs.Cells.{Cell, IsAnswer, AtCell, IsShort, bytes_of};
+ghost use Rattle.std.specs.Prelude.{OnOk};
+ghost use Rattle.pg_text.specs.Cells.{Cell, IsAnswer, WritesCell, AtCell, bytes_of};
 
 use crate::format::interval_style::IntervalStyle;
 use crate::to_sql::IsNull;
@@ -27,10 +27,7 @@ pub trait ToSqlText {
         format_options: &FormatOptions,
     ) -> Result<IsNull, CellError>
         ensures answer { IsAnswer (text self.now ty format_options.now) result }
-        ensures appended { OnOk result (AtCell (text self.now ty format_options.now)
-            (λ cell. out.new.items ≡ out.old.items ++ bytes_of cell)) }
-        ensures short { OnOk result (AtCell (text self.now ty format_options.now) IsShort) }
-        ensures unchanged { OnErr result (out.new.items ≡ out.old.items) };
+        ensures written { WritesCell (text self.now ty format_options.now) result out.old.items out.new.items };
 }
 
 impl ToSqlText for Interval {
@@ -49,10 +46,7 @@ impl ToSqlText for Interval {
         format_options: &FormatOptions,
     ) -> Result<IsNull, CellError>
         ensures answer { IsAnswer (interval_text self.now format_options.now) result }
-        ensures appended { OnOk result (AtCell (interval_text self.now format_options.now)
-            (λ cell. out.new.items ≡ out.old.items ++ bytes_of cell)) }
-        ensures short { OnOk result (AtCell (interval_text self.now format_options.now) IsShort) }
-        ensures unchanged { OnErr result (out.new.items ≡ out.old.items) }
+        ensures written { WritesCell (interval_text self.now format_options.now) result out.old.items out.new.items }
         // so the text stands for this interval and for no other
         ensures stands { OnOk result (AtCell (interval_text self.now format_options.now)
             (λ cell. StandsIn (style_under format_options.now) (bytes_of cell) self.now)) }

@@ -1,8 +1,8 @@
 // Bytes in an array, written from its end to its front: a call writes before the bytes from `end`
 // on, and returns where its own bytes begin.
 ghost use Rattle.std.specs.Prelude.{◌≡◌, ◌+◌, ◌^◌, ◌<◌, ◌≤◌, ◌==◌, ◌++◌, ◌∷◌, [], length, drop, unsigned_abs, if◌then◌else◌};
-ghost use Rattle.pg_interval.specs.Printed.{minus_if, fraction_of, six_digits, after_hours};
-ghost use Rattle.pg_interval.specs.Widths.{HasWidths};
+ghost use Rattle.pg_interval.specs.Printed.{fraction_of, six_digits, after_hours};
+ghost use Rattle.pg_interval.specs.Widths.{HasRoom};
 
 use super::LONGEST;
 use super::digits::{put_six_digits, put_two_digits};
@@ -31,16 +31,6 @@ pub fn put_byte_if(wanted: bool, byte: u8, text: &mut [u8; LONGEST], end: usize)
 {
     let place = put_byte(byte, text, end);
     place + usize::from(!wanted)
-}
-
-/// Writes a minus if the number is negative.
-#[inline(always)]
-pub fn put_minus_if(negative: bool, text: &mut [u8; LONGEST], end: usize) -> usize
-    requires { (1 ≤ end) × (end ≤ 96) }
-    ensures place { (result ≤ end) × (end ≤ result + 1) }
-    ensures written { drop result text.new ≡ minus_if negative ++ drop end text.old }
-{
-    put_byte_if(negative, b'-', text, end)
 }
 
 /// Writes the bytes of the word.
@@ -85,8 +75,7 @@ pub fn put_point_and_digits(number: u64, text: &mut [u8; LONGEST], end: usize) -
 #[inline(always)]
 #[tactic(auto, using(crate::proofs::PrintedLemmas::signed_passed), unfolding(crate::specs::Printed::after_hours))]
 pub fn put_after_hours(fields: &IntervalNorm, text: &mut [u8; LONGEST], end: usize) -> usize
-    requires widths { HasWidths fields.now }
-    requires room { (13 ≤ end) × (end ≤ 96) }
+    requires { HasRoom 13 fields.now end }
     ensures place { (result ≤ end) × (end ≤ result + 13) }
     ensures written { drop result text.new ≡ after_hours fields.now ++ drop end text.old }
 {

@@ -49,7 +49,7 @@ fn put_up_to_two(number: u64, text: &mut [u8; LONGEST], end: usize) -> usize
     ensures written { drop result text.new ≡ decimal number ++ drop end text.old }
 {
     if number < 10 {
-        put_last_digit(number, text, end)
+        put_byte(b'0' + number as u8, text, end)
     } else {
         put_pair(number, text, end)
     }
@@ -102,14 +102,4 @@ pub fn put_six_digits(number: u64, text: &mut [u8; LONGEST], end: usize) -> usiz
     let four = put_pair(number % 100, text, end);
     let two = put_pair(front % 100, text, four);
     put_pair(front / 100, text, two)
-}
-
-/// Writes the last digit of the number.
-#[inline(always)]
-pub fn put_last_digit(number: u64, text: &mut [u8; LONGEST], end: usize) -> usize
-    requires { (1 ≤ end) × (end ≤ 96) }
-    ensures place { result + 1 ≡ end }
-    ensures written { drop result text.new ≡ (48 + number % 10) ∷ drop end text.old }
-{
-    put_byte(b'0' + (number % 10) as u8, text, end)
 }

@@ -1,9 +1,9 @@
 ghost use Rattle.std.specs.Prelude.{◌≡◌, ◌+◌, ◌++◌, ◌∷◌, [], ◌<◌, ◌≤◌, drop, length, unsigned_abs};
 ghost use Rattle.pg_interval.specs.Printed.{iso_text, iso_time_text, item_text, second_text, digits_of};
-ghost use Rattle.pg_interval.specs.Widths.{HasWidths};
+ghost use Rattle.pg_interval.specs.Widths.{HasRoom};
 
 use super::LONGEST;
-use super::back::{put_byte, put_fraction, put_minus_if, put_word};
+use super::back::{put_byte, put_byte_if, put_fraction, put_word};
 use super::digits::put_digits;
 use crate::interval_norm::IntervalNorm;
 
@@ -12,8 +12,7 @@ use crate::interval_norm::IntervalNorm;
 #[inline(always)]
 #[tactic(auto, using(crate::proofs::PrintedLemmas::signed_passed), unfolding(crate::specs::Printed::iso_text))]
 pub fn put_iso(fields: &IntervalNorm, text: &mut [u8; LONGEST], end: usize) -> usize
-    requires widths { HasWidths fields.now }
-    requires room { (58 ≤ end) × (end ≤ 96) }
+    requires { HasRoom 58 fields.now end }
     ensures place { result ≤ end }
     ensures written { drop result text.new ≡ iso_text fields.now ++ drop end text.old }
 {
@@ -31,8 +30,7 @@ pub fn put_iso(fields: &IntervalNorm, text: &mut [u8; LONGEST], end: usize) -> u
 #[inline(always)]
 #[tactic(auto, using(crate::proofs::PrintedLemmas::signed_passed), unfolding(crate::specs::Printed::iso_time_text))]
 fn put_time(fields: &IntervalNorm, text: &mut [u8; LONGEST], end: usize) -> usize
-    requires widths { HasWidths fields.now }
-    requires room { (30 ≤ end) × (end ≤ 96) }
+    requires { HasRoom 30 fields.now end }
     ensures place { (result ≤ end) × (end ≤ result + 28) }
     ensures written { drop result text.new ≡ iso_time_text fields.now ++ drop end text.old }
 {
@@ -58,15 +56,14 @@ fn put_item(number: i64, letter: u8, text: &mut [u8; LONGEST], end: usize) -> us
     }
     let before_letter = put_byte(letter, text, end);
     let before_digits = put_digits(number.unsigned_abs(), text, before_letter);
-    put_minus_if(number.is_negative(), text, before_digits)
+    put_byte_if(number.is_negative(), b'-', text, before_digits)
 }
 
 /// Writes the seconds with their microseconds, unless both are zero.
 #[inline(always)]
 #[tactic(auto, using(crate::proofs::PrintedLemmas::signed_passed), unfolding(crate::specs::Printed::second_text, crate::specs::Printed::is_zero))]
 fn put_seconds(fields: &IntervalNorm, text: &mut [u8; LONGEST], end: usize) -> usize
-    requires widths { HasWidths fields.now }
-    requires room { (13 ≤ end) × (end ≤ 96) }
+    requires { HasRoom 13 fields.now end }
     ensures place { (result ≤ end) × (end ≤ result + 11) }
     ensures written { drop result text.new ≡ second_text fields.now ++ drop end text.old }
 {
@@ -76,5 +73,5 @@ fn put_seconds(fields: &IntervalNorm, text: &mut [u8; LONGEST], end: usize) -> u
     let letter = put_byte(b'S', text, end);
     let point = put_fraction(fields.microseconds, text, letter);
     let digits = put_digits(fields.seconds.unsigned_abs(), text, point);
-    put_minus_if(fields.is_second_negative(), text, digits)
+    put_byte_if(fields.is_second_negative(), b'-', text, digits)
 }

@@ -1,10 +1,9 @@
 // The four styles in which PostgreSQL prints an interval (`intervalstyle`).
-ghost use Rattle.std.specs.Prelude.{◌≡◌, ◌≤◌, length, IfOk, string_bytes, not};
-ghost use Rattle.std.specs.Str.{IsUtf8};
+ghost use Rattle.std.specs.Prelude.{◌≡◌, IfOk, string_bytes, not};
 ghost use Rattle.pg_interval.specs.Cell.{IsInterval};
 ghost use Rattle.pg_interval.specs.NormalForm.{normal_form, IsNormal};
 ghost use Rattle.pg_interval.specs.Printed.{is_all_zero, is_year_month_zero, is_zero, is_time_zero, is_time_positive, is_time_negative, is_second_zero, is_second_negative, postgres_text, verbose_text, iso_text, sql_text, printed, IsPrintedOnlyFor};
-ghost use Rattle.pg_interval.specs.TextOf.{IsTextOf};
+ghost use Rattle.pg_interval.specs.TextOf.{IsTextOf, IsPrintedAs};
 ghost use Rattle.pg_interval.specs.Reading.{StandsForOnly, Postgres, PostgresVerbose, Iso8601, SqlStandard};
 
 mod back;
@@ -185,9 +184,7 @@ impl IntervalNorm {
     #[inline(always)]
     fn postgres_verbose_text(&self) -> IntervalText
         requires { IsNormal self.now }
-        ensures printed { result ≡ verbose_text self.now }
-        ensures short { length result ≤ 96 }
-        ensures utf8 { IsUtf8 result }
+        ensures { IsPrintedAs (verbose_text self.now) result }
     {
         let mut bytes = [0; LONGEST];
         let start = put_verbose(self, &mut bytes, LONGEST);
@@ -198,9 +195,7 @@ impl IntervalNorm {
     #[inline(always)]
     fn iso_8601_text(&self) -> IntervalText
         requires { IsNormal self.now }
-        ensures printed { result ≡ iso_text self.now }
-        ensures short { length result ≤ 96 }
-        ensures utf8 { IsUtf8 result }
+        ensures { IsPrintedAs (iso_text self.now) result }
     {
         let mut bytes = [0; LONGEST];
         let start = put_iso(self, &mut bytes, LONGEST);
@@ -211,9 +206,7 @@ impl IntervalNorm {
     #[inline(always)]
     fn sql_text(&self) -> IntervalText
         requires { IsNormal self.now }
-        ensures printed { result ≡ sql_text self.now }
-        ensures short { length result ≤ 96 }
-        ensures utf8 { IsUtf8 result }
+        ensures { IsPrintedAs (sql_text self.now) result }
     {
         let mut bytes = [0; LONGEST];
         let start = put_sql(self, &mut bytes, LONGEST);

@@ -3,7 +3,7 @@ ghost use Rattle.std.specs.Prelude.{◌≡◌, ◌+◌, ◌++◌, ◌∷◌, [],
 ghost use Rattle.pg_interval.specs.Printed.{part_text, word_end, minus_if};
 
 use super::LONGEST;
-use super::back::{put_byte, put_byte_if, put_minus_if, put_word};
+use super::back::{put_byte, put_byte_if, put_word};
 use super::digits::put_digits;
 
 /// Writes a space, a number, a space and its word, with an `s` unless the number is 1, and nothing
@@ -31,7 +31,7 @@ pub fn put_part(
     }
     let letters = put_words(negative, number, word, words, text, end);
     let digits = put_digits(number, text, letters);
-    let minus = put_minus_if(negative, text, digits);
+    let minus = put_byte_if(negative, b'-', text, digits);
     put_byte(b' ', text, minus)
 }
 

@@ -4,7 +4,7 @@ ghost use Rattle.pg_interval.specs.NormalForm.{normal_form};
 ghost use Rattle.pg_interval.specs.Printed.{postgres_text, date_parts, verbose_part_text, time_texts, two_digits_of};
 
 use super::LONGEST;
-use super::back::{put_byte, put_minus_if, put_point_and_digits, put_word};
+use super::back::{put_byte, put_byte_if, put_point_and_digits, put_word};
 use super::digits::{put_digits, put_two_digits};
 use super::parts::put_part;
 use crate::pg_interval::Interval;
@@ -80,7 +80,7 @@ fn put_time(interval: &Interval, text: &mut [u8; LONGEST], end: usize) -> usize
     }
     let point = put_point_and_digits(microseconds % 1_000_000, text, end);
     let clock = put_clock(microseconds / 1_000_000, text, point);
-    let minus = put_minus_if(interval.microseconds.is_negative(), text, clock);
+    let minus = put_byte_if(interval.microseconds.is_negative(), b'-', text, clock);
     put_byte(b' ', text, minus)
 }
 

@@ -1,9 +1,9 @@
 ghost use Rattle.std.specs.Prelude.{◌≡◌, ◌+◌, ◌++◌, ◌∷◌, [], ◌<◌, ◌≤◌, drop, length, decimal};
 ghost use Rattle.pg_interval.specs.Printed.{sql_text, signed_days_text, sign_of, year_month_text, sql_time_text, day_time_text, signed_text, are_opposite, is_year_month_negative, is_time_negative};
-ghost use Rattle.pg_interval.specs.Widths.{HasWidths};
+ghost use Rattle.pg_interval.specs.Widths.{HasRoom};
 
 use super::LONGEST;
-use super::back::{put_after_hours, put_byte, put_minus_if};
+use super::back::{put_after_hours, put_byte, put_byte_if};
 use super::digits::put_digits;
 use crate::interval_norm::IntervalNorm;
 
@@ -30,8 +30,7 @@ impl IntervalNorm {
 #[inline(always)]
 #[tactic(auto, using(crate::proofs::PrintedLemmas::signed_passed), unfolding(crate::specs::Printed::sql_text, crate::specs::Printed::fields_text))]
 pub fn put_sql(fields: &IntervalNorm, text: &mut [u8; LONGEST], end: usize) -> usize
-    requires widths { HasWidths fields.now }
-    requires room { (52 ≤ end) × (end ≤ 96) }
+    requires { HasRoom 52 fields.now end }
     ensures place { result ≤ end }
     ensures written { drop result text.new ≡ sql_text fields.now ++ drop end text.old }
 {
@@ -39,7 +38,7 @@ pub fn put_sql(fields: &IntervalNorm, text: &mut [u8; LONGEST], end: usize) -> u
         put_byte(b'0', text, end)
     } else if !fields.prints_days() && !fields.prints_time() {
         let digits = put_year_month(fields, text, end);
-        put_minus_if(fields.is_year_month_negative(), text, digits)
+        put_byte_if(fields.is_year_month_negative(), b'-', text, digits)
     } else if !fields.prints_year_month() && !fields.has_opposite_signs() {
         put_day_time(fields, text, end)
     } else {
@@ -61,8 +60,7 @@ fn put_sign(negative: bool, text: &mut [u8; LONGEST], end: usize) -> usize
 #[inline(always)]
 #[tactic(auto, using(crate::proofs::PrintedLemmas::signed_passed), unfolding(crate::specs::Printed::year_month_text))]
 fn put_year_month(fields: &IntervalNorm, text: &mut [u8; LONGEST], end: usize) -> usize
-    requires widths { HasWidths fields.now }
-    requires room { (15 ≤ end) × (end ≤ 96) }
+    requires { HasRoom 15 fields.now end }
     ensures place { (result ≤ end) × (end ≤ result + 12) }
     ensures written { drop result text.new ≡ year_month_text fields.now ++ drop end text.old }
 {
@@ -75,8 +73,7 @@ fn put_year_month(fields: &IntervalNorm, text: &mut [u8; LONGEST], end: usize) -
 #[inline(always)]
 #[tactic(auto, using(crate::proofs::PrintedLemmas::signed_passed), unfolding(crate::specs::Printed::sql_time_text))]
 fn put_time(fields: &IntervalNorm, text: &mut [u8; LONGEST], end: usize) -> usize
-    requires widths { HasWidths fields.now }
-    requires room { (26 ≤ end) × (end ≤ 96) }
+    requires { HasRoom 26 fields.now end }
     ensures place { (result ≤ end) × (end ≤ result + 23) }
     ensures written { drop result text.new ≡ sql_time_text fields.now ++ drop end text.old }
 {
@@ -88,27 +85,25 @@ fn put_time(fields: &IntervalNorm, text: &mut [u8; LONGEST], end: usize) -> usiz
 #[inline(always)]
 #[tactic(auto, using(crate::proofs::PrintedLemmas::signed_passed), unfolding(crate::specs::Printed::day_time_text, crate::specs::Printed::is_zero))]
 fn put_day_time(fields: &IntervalNorm, text: &mut [u8; LONGEST], end: usize) -> usize
-    requires widths { HasWidths fields.now }
-    requires room { (52 ≤ end) × (end ≤ 96) }
+    requires { HasRoom 52 fields.now end }
     ensures place { (result ≤ end) × (end ≤ result + 35) }
     ensures written { drop result text.new ≡ day_time_text fields.now ++ drop end text.old }
 {
     let time = put_time(fields, text, end);
     let days = fields.days.unsigned_abs();
     if days == 0 {
-        return put_minus_if(fields.is_time_negative(), text, time);
+        return put_byte_if(fields.is_time_negative(), b'-', text, time);
     }
     let space = put_byte(b' ', text, time);
     let digits = put_digits(u64::from(days), text, space);
-    put_minus_if(fields.days.is_negative(), text, digits)
+    put_byte_if(fields.days.is_negative(), b'-', text, digits)
 }
 
 /// Writes years and months, days, and the time, each with its sign.
 #[inline(always)]
 #[tactic(auto, using(crate::proofs::PrintedLemmas::signed_passed), unfolding(crate::specs::Printed::signed_text))]
 fn put_signed(fields: &IntervalNorm, text: &mut [u8; LONGEST], end: usize) -> usize
-    requires widths { HasWidths fields.now }
-    requires room { (52 ≤ end) × (end ≤ 96) }
+    requires { HasRoom 52 fields.now end }
     ensures place { (result ≤ end) × (end ≤ result + 50) }
     ensures written { drop result text.new ≡ signed_text fields.now ++ drop end text.old }
 {
@@ -125,8 +120,7 @@ fn put_signed(fields: &IntervalNorm, text: &mut [u8; LONGEST], end: usize) -> us
 #[inline(always)]
 #[tactic(auto, using(crate::proofs::PrintedLemmas::signed_passed), unfolding(crate::specs::Printed::signed_days_text))]
 fn put_signed_days(fields: &IntervalNorm, text: &mut [u8; LONGEST], end: usize) -> usize
-    requires widths { HasWidths fields.now }
-    requires room { (13 ≤ end) × (end ≤ 96) }
+    requires { HasRoom 13 fields.now end }
     ensures place { (result ≤ end) × (end ≤ result + 11) }
     ensures written { drop result text.new ≡ signed_days_text fields.now ++ drop end text.old }
 {

@@ -1,10 +1,10 @@
-ghost use Rattle.std.specs.Prelude.{◌≡◌, ◌+◌, ◌++◌, ◌∷◌, [], ◌<◌, ◌≤◌, drop, length, flat_map, decimal, unsigned_abs, ◌%◌, ◌==◌};
+ghost use Rattle.std.specs.Prelude.{◌≡◌, ◌+◌, ◌++◌, ◌∷◌, [], ◌<◌, ◌≤◌, drop, length, flat_map, decimal, unsigned_abs, ◌%◌, ◌==◌, if◌then◌else◌};
 ghost use Rattle.pg_interval.specs.Printed.{verbose_text, verbose_part_text, part_of, date_parts, verbose_time_parts, verbose_parts, second_parts, second_digits, decimals_of, digits_of, ago_end, is_ago, word_end, minus_if, six_digits, without_last_zeros, kept_digit};
-ghost use Rattle.pg_interval.specs.Widths.{HasWidths};
+ghost use Rattle.pg_interval.specs.Widths.{HasRoom};
 
 use super::LONGEST;
-use super::back::{put_byte, put_byte_if, put_minus_if, put_word};
-use super::digits::{put_digits, put_last_digit, put_six_digits};
+use super::back::{put_byte, put_byte_if, put_word};
+use super::digits::{put_digits, put_six_digits};
 use super::parts::put_part;
 use crate::interval_norm::IntervalNorm;
 
@@ -45,8 +45,7 @@ impl IntervalNorm {
 #[inline(always)]
 #[tactic(auto, using(crate::proofs::PrintedLemmas::parts_put), unfolding(crate::specs::Printed::verbose_text))]
 pub fn put_verbose(fields: &IntervalNorm, text: &mut [u8; LONGEST], end: usize) -> usize
-    requires widths { HasWidths fields.now }
-    requires room { (95 ≤ end) × (end ≤ 96) }
+    requires { HasRoom 95 fields.now end }
     ensures place { result ≤ end }
     ensures written { drop result text.new ≡ verbose_text fields.now ++ drop end text.old }
 {
@@ -78,8 +77,7 @@ fn put_ago_end(ago: bool, text: &mut [u8; LONGEST], end: usize) -> usize
 #[inline(always)]
 #[tactic(auto, using(crate::proofs::PrintedLemmas::parts_put), unfolding(crate::specs::Printed::verbose_time_parts))]
 fn put_time_parts(ago: bool, fields: &IntervalNorm, text: &mut [u8; LONGEST], end: usize) -> usize
-    requires widths { HasWidths fields.now }
-    requires room { (46 ≤ end) × (end ≤ 96) }
+    requires { HasRoom 46 fields.now end }
     ensures place { (result ≤ end) × (end ≤ result + 44) }
     ensures written { drop result text.new
         ≡ flat_map (verbose_part_text ago) (verbose_time_parts fields.now) ++ drop end text.old }
@@ -93,8 +91,7 @@ fn put_time_parts(ago: bool, fields: &IntervalNorm, text: &mut [u8; LONGEST], en
 #[inline(always)]
 #[tactic(auto, using(crate::proofs::PrintedLemmas::parts_put), unfolding(crate::specs::Printed::date_parts))]
 fn put_date_parts(ago: bool, fields: &IntervalNorm, text: &mut [u8; LONGEST], end: usize) -> usize
-    requires widths { HasWidths fields.now }
-    requires room { (47 ≤ end) × (end ≤ 96) }
+    requires { HasRoom 47 fields.now end }
     ensures place { (result ≤ end) × (end ≤ result + 45) }
     ensures written { drop result text.new
         ≡ flat_map (verbose_part_text ago) (date_parts fields.now) ++ drop end text.old }
@@ -140,8 +137,7 @@ fn put_verbose_part(
 #[inline(always)]
 #[tactic(auto, using(crate::proofs::PrintedLemmas::signed_passed), unfolding(crate::specs::Printed::second_parts, crate::specs::Printed::verbose_part_text, crate::specs::Printed::part_text))]
 fn put_seconds(ago: bool, fields: &IntervalNorm, text: &mut [u8; LONGEST], end: usize) -> usize
-    requires widths { HasWidths fields.now }
-    requires room { (18 ≤ end) × (end ≤ 96) }
+    requires { HasRoom 18 fields.now end }
     ensures place { (result ≤ end) × (end ≤ result + 16) }
     ensures written { drop result text.new
         ≡ flat_map (verbose_part_text ago) (second_parts fields.now) ++ drop end text.old }
@@ -150,40 +146,32 @@ fn put_seconds(ago: bool, fields: &IntervalNorm, text: &mut [u8; LONGEST], end: 
         return end;
     }
     let negative = fields.is_second_negative() != ago;
-    let letter = put_second_end(negative, fields, text, end);
+    let letter = put_byte_if(has_second_end(negative, fields), b's', text, end);
     let letters = put_word(b" sec", text, letter);
     let digits = put_second_digits(fields, text, letters);
-    let minus = put_minus_if(negative, text, digits);
+    let minus = put_byte_if(negative, b'-', text, digits);
     put_byte(b' ', text, minus)
 }
 
-/// Writes the `s` at the end of the word, unless 1 second is printed.
+/// Does the word of the seconds end with an `s`? It does unless 1 second is printed.
 #[inline(always)]
 #[tactic(auto, using(crate::proofs::PrintedLemmas::second_words, crate::proofs::PrintedLemmas::word_ends), unfolding(crate::specs::Printed::second_digits, crate::specs::Printed::decimals_of, crate::specs::Printed::is_zero))]
-fn put_second_end(
-    negative: bool,
-    fields: &IntervalNorm,
-    text: &mut [u8; LONGEST],
-    end: usize,
-) -> usize
-    requires { (1 ≤ end) × (end ≤ 96) }
-    ensures place { (result ≤ end) × (end ≤ result + 1) }
-    ensures written { drop result text.new
-        ≡ word_end (minus_if negative ++ second_digits fields.now) ++ drop end text.old }
+fn has_second_end(negative: bool, fields: &IntervalNorm) -> bool
+    ensures { word_end (minus_if negative ++ second_digits fields.now)
+        ≡ (if result then 115 ∷ [] else []) }
 {
     if fields.microseconds.unsigned_abs() == 0 {
         let many = negative || fields.seconds.unsigned_abs() != 1;
-        return put_byte_if(many, b's', text, end);
+        return many;
     }
-    put_byte(b's', text, end)
+    true
 }
 
 /// Writes the seconds with their decimals, without a sign.
 #[inline(always)]
 #[tactic(auto, using(crate::proofs::PrintedLemmas::signed_passed), unfolding(crate::specs::Printed::second_digits))]
 fn put_second_digits(fields: &IntervalNorm, text: &mut [u8; LONGEST], end: usize) -> usize
-    requires widths { HasWidths fields.now }
-    requires room { (12 ≤ end) × (end ≤ 96) }
+    requires { HasRoom 12 fields.now end }
     ensures place { (result ≤ end) × (end ≤ result + 9) }
     ensures written { drop result text.new ≡ second_digits fields.now ++ drop end text.old }
 {
@@ -252,6 +240,6 @@ fn put_unless_last_zero(number: u64, text: &mut [u8; LONGEST], place: usize, end
     if number % 10 == 0 && place == end {
         place
     } else {
-        put_last_digit(number, text, place)
+        put_byte(b'0' + (number % 10) as u8, text, place)
     }
 }

@@ -8,7 +8,7 @@ loop-rest-preserved c =
       one_seen c.args.replies.now c.loop-rest.rest.now c.split_at.result.1.now c.reply_len.result c.loop-rest.survey.failed
           c.with_reply-survey.result.failed c.loop-rest.survey.rows c.with_reply-survey.result.rows c.loop-rest.invariant.0 some
           c.reply_len.ensures.reply c.with_reply-survey.ensures.failed c.with_reply-survey.ensures.rows c.split_at.ensures.back,
-      grind (arith, c.loop-rest.invariant.1, c.reply_len.ensures.some, c.split_at.ensures.back_len, c.with_reply-survey.ensures.rows),
+      grind (arith, c.loop-rest.invariant.1, c.reply_len.ensures.within.0, c.split_at.ensures.back_len, c.with_reply-survey.ensures.rows),
     )
 
 pub returns-clause-survey : goal.returns-clause-survey

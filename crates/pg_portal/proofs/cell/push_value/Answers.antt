@@ -122,10 +122,10 @@ returns-in-Ok-Yes-clause-cell g c =
     elim c.match-format.branch [
       | in-Binary w ↦
           let e = w.to_sql-answer.ensures in
-          rw (w.in-Binary.is, w.answer-is, w.payload-is) (record { answered = e.answer; appended = e.appended; short = e.short; unchanged = e.unchanged })
+          rw (w.in-Binary.is, w.answer-is, w.payload-is) (record { answered = e.answer; appended = e.written.appended; short = e.written.short; unchanged = e.written.unchanged })
       | in-Text w ↦
           let e = w.to_sql_text-answer.ensures in
-          rw (w.in-Text.is, w.answer-is, w.payload-is) (record { answered = e.answer; appended = e.appended; short = e.short; unchanged = e.unchanged })
+          rw (w.in-Text.is, w.answer-is, w.payload-is) (record { answered = e.answer; appended = e.written.appended; short = e.written.short; unchanged = e.written.unchanged })
     ] in
     null_cell cell c.match-format.answer c.args.payload.now.items _ _ told
     (c.in_ok-extend_from_slice.ensures.ok ∙ ap (λ l. c.args.payload.now.items ++ l) c.frame.ensures) (c.in-Ok-Yes.is ∙ ap Ok (rw c.in-Ok-Yes.is at c.in-Ok-Yes.field-0-is))
@@ -137,10 +137,10 @@ returns-in-Ok-No-clause-cell g c =
     elim c.match-format.branch [
       | in-Binary w ↦
           let e = w.to_sql-answer.ensures in
-          rw (w.in-Binary.is, w.answer-is, w.payload-is) (record { answered = e.answer; appended = e.appended; short = e.short; unchanged = e.unchanged })
+          rw (w.in-Binary.is, w.answer-is, w.payload-is) (record { answered = e.answer; appended = e.written.appended; short = e.written.short; unchanged = e.written.unchanged })
       | in-Text w ↦
           let e = w.to_sql_text-answer.ensures in
-          rw (w.in-Text.is, w.answer-is, w.payload-is) (record { answered = e.answer; appended = e.appended; short = e.short; unchanged = e.unchanged })
+          rw (w.in-Text.is, w.answer-is, w.payload-is) (record { answered = e.answer; appended = e.written.appended; short = e.written.short; unchanged = e.written.unchanged })
     ] in
     text_cell cell c.match-format.answer c.args.payload.now.items _ c.match-format.payload.items
     c.as_mut_slice.result.now c.copy_from_slice.new.self c.len-start.result c.len.result told
@@ -156,10 +156,10 @@ returns-in-Err-clause-refusal g c =
     elim c.match-format.branch [
       | in-Binary w ↦
           let e = w.to_sql-answer.ensures in
-          rw (w.in-Binary.is, w.answer-is, w.payload-is) (record { answered = e.answer; appended = e.appended; short = e.short; unchanged = e.unchanged })
+          rw (w.in-Binary.is, w.answer-is, w.payload-is) (record { answered = e.answer; appended = e.written.appended; short = e.written.short; unchanged = e.written.unchanged })
       | in-Text w ↦
           let e = w.to_sql_text-answer.ensures in
-          rw (w.in-Text.is, w.answer-is, w.payload-is) (record { answered = e.answer; appended = e.appended; short = e.short; unchanged = e.unchanged })
+          rw (w.in-Text.is, w.answer-is, w.payload-is) (record { answered = e.answer; appended = e.written.appended; short = e.written.short; unchanged = e.written.unchanged })
     ] in
     refused cell c.match-format.answer _ _ c.in-Err.error told c.in-Err.is
 
@@ -170,10 +170,10 @@ returns-in-Err-clause-unchanged g c =
     elim c.match-format.branch [
       | in-Binary w ↦
           let e = w.to_sql-answer.ensures in
-          rw (w.in-Binary.is, w.answer-is, w.payload-is) (record { answered = e.answer; appended = e.appended; short = e.short; unchanged = e.unchanged })
+          rw (w.in-Binary.is, w.answer-is, w.payload-is) (record { answered = e.answer; appended = e.written.appended; short = e.written.short; unchanged = e.written.unchanged })
       | in-Text w ↦
           let e = w.to_sql_text-answer.ensures in
-          rw (w.in-Text.is, w.answer-is, w.payload-is) (record { answered = e.answer; appended = e.appended; short = e.short; unchanged = e.unchanged })
+          rw (w.in-Text.is, w.answer-is, w.payload-is) (record { answered = e.answer; appended = e.written.appended; short = e.written.short; unchanged = e.written.unchanged })
     ] in
     unchanged_by cell c.match-format.answer _ _ _ _ _ c.in-Err.error told
     (c.in_ok-extend_from_slice.ensures.ok ∙ ap (λ l. c.args.payload.now.items ++ l) c.frame.ensures) c.in-Err.is c.len-start.ensures.value c.truncate.ensures.items
@@ -185,10 +185,10 @@ overflow_sub-len g c =
     elim c.match-format.branch [
       | in-Binary w ↦
           let e = w.to_sql-answer.ensures in
-          rw (w.in-Binary.is, w.answer-is, w.payload-is) (record { answered = e.answer; appended = e.appended; short = e.short; unchanged = e.unchanged })
+          rw (w.in-Binary.is, w.answer-is, w.payload-is) (record { answered = e.answer; appended = e.written.appended; short = e.written.short; unchanged = e.written.unchanged })
       | in-Text w ↦
           let e = w.to_sql_text-answer.ensures in
-          rw (w.in-Text.is, w.answer-is, w.payload-is) (record { answered = e.answer; appended = e.appended; short = e.short; unchanged = e.unchanged })
+          rw (w.in-Text.is, w.answer-is, w.payload-is) (record { answered = e.answer; appended = e.written.appended; short = e.written.short; unchanged = e.written.unchanged })
     ] in
     let enough = sizes cell c.match-format.answer c.args.payload.now.items _ c.match-format.payload.items c.len-start.result c.len.result told
     (c.in_ok-extend_from_slice.ensures.ok ∙ ap (λ l. c.args.payload.now.items ++ l) c.frame.ensures)
@@ -202,10 +202,10 @@ overflow_sub-len-in-Ok-No g c =
     elim c.match-format.branch [
       | in-Binary w ↦
           let e = w.to_sql-answer.ensures in
-          rw (w.in-Binary.is, w.answer-is, w.payload-is) (record { answered = e.answer; appended = e.appended; short = e.short; unchanged = e.unchanged })
+          rw (w.in-Binary.is, w.answer-is, w.payload-is) (record { answered = e.answer; appended = e.written.appended; short = e.written.short; unchanged = e.written.unchanged })
       | in-Text w ↦
           let e = w.to_sql_text-answer.ensures in
-          rw (w.in-Text.is, w.answer-is, w.payload-is) (record { answered = e.answer; appended = e.appended; short = e.short; unchanged = e.unchanged })
+          rw (w.in-Text.is, w.answer-is, w.payload-is) (record { answered = e.answer; appended = e.written.appended; short = e.written.short; unchanged = e.written.unchanged })
     ] in
     let enough = sizes cell c.match-format.answer c.args.payload.now.items _ c.match-format.payload.items c.len-start.result c.len.result told
     (c.in_ok-extend_from_slice.ensures.ok ∙ ap (λ l. c.args.payload.now.items ++ l) c.frame.ensures)
@@ -219,10 +219,10 @@ overflow_cast-len g c =
     elim c.match-format.branch [
       | in-Binary w ↦
           let e = w.to_sql-answer.ensures in
-          rw (w.in-Binary.is, w.answer-is, w.payload-is) (record { answered = e.answer; appended = e.appended; short = e.short; unchanged = e.unchanged })
+          rw (w.in-Binary.is, w.answer-is, w.payload-is) (record { answered = e.answer; appended = e.written.appended; short = e.written.short; unchanged = e.written.unchanged })
       | in-Text w ↦
           let e = w.to_sql_text-answer.ensures in
-          rw (w.in-Text.is, w.answer-is, w.payload-is) (record { answered = e.answer; appended = e.appended; short = e.short; unchanged = e.unchanged })
+          rw (w.in-Text.is, w.answer-is, w.payload-is) (record { answered = e.answer; appended = e.written.appended; short = e.written.short; unchanged = e.written.unchanged })
     ] in
     let enough = sizes cell c.match-format.answer c.args.payload.now.items _ c.match-format.payload.items c.len-start.result c.len.result told
     (c.in_ok-extend_from_slice.ensures.ok ∙ ap (λ l. c.args.payload.now.items ++ l) c.frame.ensures)
@@ -236,10 +236,10 @@ overflow_add-start g c =
     elim c.match-format.branch [
       | in-Binary w ↦
           let e = w.to_sql-answer.ensures in
-          rw (w.in-Binary.is, w.answer-is, w.payload-is) (record { answered = e.answer; appended = e.appended; short = e.short; unchanged = e.unchanged })
+          rw (w.in-Binary.is, w.answer-is, w.payload-is) (record { answered = e.answer; appended = e.written.appended; short = e.written.short; unchanged = e.written.unchanged })
       | in-Text w ↦
           let e = w.to_sql_text-answer.ensures in
-          rw (w.in-Text.is, w.answer-is, w.payload-is) (record { answered = e.answer; appended = e.appended; short = e.short; unchanged = e.unchanged })
+          rw (w.in-Text.is, w.answer-is, w.payload-is) (record { answered = e.answer; appended = e.written.appended; short = e.written.short; unchanged = e.written.unchanged })
     ] in
     let enough = sizes cell c.match-format.answer c.args.payload.now.items _ c.match-format.payload.items c.len-start.result c.len.result told
     (c.in_ok-extend_from_slice.ensures.ok ∙ ap (λ l. c.args.payload.now.items ++ l) c.frame.ensures)
@@ -253,10 +253,10 @@ copy_from_slice-requires g c =
     elim c.match-format.branch [
       | in-Binary w ↦
           let e = w.to_sql-answer.ensures in
-          rw (w.in-Binary.is, w.answer-is, w.payload-is) (record { answered = e.answer; appended = e.appended; short = e.short; unchanged = e.unchanged })
+          rw (w.in-Binary.is, w.answer-is, w.payload-is) (record { answered = e.answer; appended = e.written.appended; short = e.written.short; unchanged = e.written.unchanged })
       | in-Text w ↦
           let e = w.to_sql_text-answer.ensures in
-          rw (w.in-Text.is, w.answer-is, w.payload-is) (record { answered = e.answer; appended = e.appended; short = e.short; unchanged = e.unchanged })
+          rw (w.in-Text.is, w.answer-is, w.payload-is) (record { answered = e.answer; appended = e.written.appended; short = e.written.short; unchanged = e.written.unchanged })
     ] in
     let enough = sizes cell c.match-format.answer c.args.payload.now.items _ c.match-format.payload.items c.len-start.result c.len.result told
     (c.in_ok-extend_from_slice.ensures.ok ∙ ap (λ l. c.args.payload.now.items ++ l) c.frame.ensures)

@@ -1,4 +1,4 @@
-use Rattle.std.proofs.Common.{◌≡◌, ◌∙◌, ◌∷◌, ◌++◌, ℕ, ap, drop, subst, sym}
+use Rattle.std.proofs.Common.{◌≡◌, ◌∙◌, ◌∷◌, ◌++◌, ℕ, ap, drop, sym}
 use Rattle.pg_client.specs.Desk.{DeskTold, GoesOn, narrowed}
 use Rattle.pg_engine.specs.Around.{around}
 use Rattle.relation_serving.specs.Serving.{ServesRelations}

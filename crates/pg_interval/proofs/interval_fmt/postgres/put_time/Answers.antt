@@ -23,4 +23,4 @@ returns-clause-written c =
     time_put i c.unsigned_abs-microseconds.result c.is_negative.result _ _ _ _ _
     (ap unsigned_abs (sym same) ∙ sym c.unsigned_abs-microseconds.ensures.value) c.if-microseconds-eq0.false
     (c.is_negative.ensures ∙ ap is_negative same) c.put_point_and_digits-point.ensures.written c.put_clock-clock.ensures.written
-    c.put_minus_if-minus.ensures.written c.put_byte.ensures.written
+    c.put_byte_if-minus.ensures.written c.put_byte.ensures.written
