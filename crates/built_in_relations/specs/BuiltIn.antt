@@ -1,4 +1,4 @@
--- The relations that the server has built in.
+-- The relations that tests and measurements use.
 use Rattle.std.specs.Prelude.{ℤ, pos, negsuc, List, [], ◌∷◌, codes}
 use Rattle.pg_interval.specs.declared.pg_interval.Interval.{Interval}
 use Rattle.relation_tables.specs.declared.Relation.{Relation}
@@ -34,6 +34,6 @@ wide = record {
 abbrev pub none : Relation
 none = record { name = codes "none"; unready = 0; columns = codes "span" ∷ []; rows = [] }
 
--- the built-in table
+-- the table of these relations
 abbrev pub built_in : List Relation
 built_in = shifts ∷ slow ∷ wide ∷ none ∷ []

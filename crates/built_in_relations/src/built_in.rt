@@ -1,4 +1,4 @@
-//! The relations that the server has built in.
+//! The relations that tests and measurements use.
 
 ghost use Rattle.std.specs.Prelude.{◌≡◌, map, IfOk, IfErr};
 ghost use Rattle.built_in_relations.specs.BuiltIn as rows;
@@ -9,8 +9,9 @@ use relation_handlers::{RelationTable, TableError};
 use relation_tables::Relation;
 use std::alloc::{AllocError, Global};
 
-/// The built-in table: `shifts` with three rows, `slow`, whose query finds two polls unready, with
-/// one row, `wide` with a row of three columns, and `none` without rows.
+/// The table of these relations: `shifts` with three rows, `slow` with one row, whose query two
+/// polls find unready, `wide` with a row of three columns, and `none` without rows. The only error
+/// is `NoMemory`.
 pub fn built_in_table(alloc: Global) -> Result<RelationTable, TableError>
     ensures ok { IfOk result (λ table. table ≡ rows.built_in) }
     ensures err { IfErr result (λ error. error ≡ TableError.NoMemory) }
@@ -18,7 +19,7 @@ pub fn built_in_table(alloc: Global) -> Result<RelationTable, TableError>
     RelationTable::try_new(alloc, relations(alloc)?)
 }
 
-/// The relations of the built-in table.
+/// The relations of the table.
 fn relations(alloc: Global) -> Result<PgList<Relation>, AllocError>
     ensures { IfOk result (λ relations. relations ≡ rows.built_in) }
 {

@@ -1,4 +1,4 @@
-//! The relations that the server has built in.
+//! The relations that tests and measurements use: a table without a file.
 #![tactic(auto)]
 
 mod built_in;

@@ -32,8 +32,8 @@ pub struct Heard {
     pub within: bool,
 }
 
-/// So many calls of each thread, and then the end of each connection. The number of a registration
-/// after all of them is how many entries there were. None where there was no memory.
+/// What comes of `calls` calls on each thread, and then the end of each connection. The number of a
+/// registration after all of them is how many entries there were. None where there was no memory.
 pub fn stressed<R: Threads + Wait + Sync>(rt: &R, alloc: Global, calls: u64) -> Option<Told> {
     let (heard, entries) = at_once(rt, alloc, calls)?;
     let legal = in_turn(rt, alloc, calls).ok()?;
@@ -83,14 +83,14 @@ fn entries_so_far<R: Wait>(
     }
 }
 
-/// Whether connections that make so many calls each, in turn, are answered as a `Registry` beside
-/// them is, and whether its history is legal.
+/// Whether connections that make `calls` calls each, in turn, get the answers of a plain `Registry`
+/// that takes the same calls, and whether its history is legal.
 fn in_turn<R: Wait>(rt: &R, alloc: Global, calls: u64) -> Result<bool, AllocError> {
     let (manager, mut door) = ConnectionManager::new(alloc)?;
     in_turn_at(rt, alloc, &manager, &mut door, calls)
 }
 
-/// Whether connections of this registry are answered so, and the history is legal.
+/// The same for connections of this manager.
 fn in_turn_at<R: Wait>(
     rt: &R,
     alloc: Global,
@@ -106,7 +106,7 @@ fn in_turn_at<R: Wait>(
     }
 }
 
-/// Whether these connections are answered so, and the history of the registry is legal.
+/// The same for these connections.
 fn are_legal_too<R: Wait>(
     rt: &R,
     alloc: Global,
@@ -117,8 +117,8 @@ fn are_legal_too<R: Wait>(
     Ok(are_alike(rt, all, &mut beside, calls)? && is_legal(alloc, beside.history())?)
 }
 
-/// Whether connections that register, and then make so many calls each, in turn, are answered as
-/// the registry beside them is.
+/// Whether connections that register, and then make `calls` calls each, in turn, get the answers of
+/// the registry `beside`.
 fn are_alike<R: Wait>(
     rt: &R,
     all: &mut [Worker<'_>],
@@ -132,7 +132,7 @@ fn are_alike<R: Wait>(
     Ok(same)
 }
 
-/// Registers the connections beside too. Whether they have the same numbers there.
+/// Registers the connections at `beside` too, and answers whether they have the same numbers there.
 fn are_registered(all: &[Worker<'_>], beside: &mut Registry) -> Result<bool, AllocError> {
     let mut same = true;
     for worker in all {
@@ -141,7 +141,7 @@ fn are_registered(all: &[Worker<'_>], beside: &mut Registry) -> Result<bool, All
     Ok(same)
 }
 
-/// Makes a call of each connection, beside too. Whether all are answered alike.
+/// Makes a call of each connection, at `beside` too, and answers whether all answers are the same.
 fn round_agrees<R: Wait>(
     rt: &R,
     all: &mut [Worker<'_>],
@@ -155,8 +155,8 @@ fn round_agrees<R: Wait>(
     Ok(same)
 }
 
-/// The calls of each of as many threads, and the end of each connection. None where there was no
-/// memory.
+/// What comes of the calls on each of `THREADS` threads, and of the end of each connection. None
+/// where there was no memory.
 fn called<R: Threads + Wait + Sync>(
     rt: &R,
     alloc: Global,
@@ -174,7 +174,7 @@ fn called<R: Threads + Wait + Sync>(
     }
 }
 
-/// These connections after so many calls of each, on threads of their own. None where there was no
+/// These connections after `calls` calls of each, on threads of their own. None where there was no
 /// memory.
 fn after_all<'a, R: Threads + Wait + Sync>(
     rt: &R,
@@ -200,7 +200,7 @@ fn heard_by<R: Wait>(rt: &R, all: Vec<Worker<'_>>) -> Option<Heard> {
     })
 }
 
-/// Nanoseconds of a start or a question, where so many threads make so many each, after so many
+/// Nanoseconds of a start or a question, where `threads` threads make `calls` each, after `entries`
 /// entries. 0 where there was no memory or no call.
 pub fn timed<R: Threads + Wait + Clock + Sync>(
     rt: &R,
@@ -219,7 +219,7 @@ pub fn timed<R: Threads + Wait + Clock + Sync>(
     Ok(nanoseconds? / (u128::from(threads.max(1)) * u128::from(calls.max(1))))
 }
 
-/// Nanoseconds of so many starts and questions of each connection, on threads of their own. 0 where
+/// Nanoseconds of `calls` starts and questions of each connection, on threads of their own. 0 where
 /// there was no memory.
 fn timed_queries<R: Threads + Wait + Clock + Sync>(
     rt: &R,
@@ -237,7 +237,7 @@ fn are_there(all: Option<Vec<Worker<'_>>>) -> bool {
     all.is_some()
 }
 
-/// The connections of so many threads, the first of which has made so many calls.
+/// `threads` connections, the first of which has made `entries` calls.
 fn longer<'a, R: Wait>(
     rt: &R,
     alloc: Global,

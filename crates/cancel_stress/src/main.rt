@@ -1,7 +1,8 @@
-//! Threads that share one cancel registry, each with a connection of its own, which they cancel
-//! among each other. Words: CALLS, the calls of each of eight threads, whose answers are checked,
-//! and then as many calls in turn, whose answers and history are. Or `0 ENTRIES CALLS`, which tells
-//! the nanoseconds of a call on 1, 2, 4 and 8 threads after so many entries.
+//! Threads that share one cancel registry. Each has a connection of its own, and cancels the next
+//! one's queries. With the word CALLS, each of eight threads makes CALLS calls, whose answers are
+//! checked; then as many calls are made in turn, whose answers and history are checked. The words
+//! `0 ENTRIES CALLS` ask for the nanoseconds of a call on 1, 2, 4 and 8 threads after ENTRIES
+//! entries.
 #![tactic(auto)]
 
 mod crowd;
@@ -30,7 +31,7 @@ fn main(rt: HostRuntime) -> io::Result<()> {
     }
 }
 
-/// Tells the nanoseconds of a call on 1, 2, 4 and 8 threads after so many entries.
+/// Tells the nanoseconds of a call on 1, 2, 4 and 8 threads after `entries` entries.
 fn tell_times<R: Threads + Wait + Clock + Sync + Print>(
     rt: &R,
     alloc: Global,

@@ -86,7 +86,7 @@ impl Counts {
 #[derive(Clone, Copy)]
 pub struct Notes {
     pub counts: Counts,
-    /// How many of its queries were told to be canceled, and whether the last one was.
+    /// How many of its queries a question found canceled, and whether the last one was.
     pub canceled: u64,
     is_canceled: bool,
     /// A question was answered no after one of the same query that was answered yes.
@@ -126,7 +126,7 @@ impl Notes {
         self.counts = self.counts.with(more);
     }
 
-    /// Notes the answer to a question: the first yes of a query, or a no behind it.
+    /// Notes the answer to a question: the first yes of a query, or a no after it.
     fn hears(&mut self, yes: bool) {
         if yes && !self.is_canceled {
             self.is_canceled = true;

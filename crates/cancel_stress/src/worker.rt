@@ -60,13 +60,13 @@ fn key_of(alloc: Global, pid: i32) -> Option<SecretKey> {
 }
 
 impl<'a> Worker<'a> {
-    /// The connection after so many calls.
+    /// The connection after `calls` calls.
     pub fn after<R: Wait>(mut self, rt: &R, mix: Mix, calls: u64) -> Worker<'a> {
         self.run(rt, mix, calls);
         self
     }
 
-    /// Makes so many calls, up to the first that finds no memory.
+    /// Makes `calls` calls, up to the first that finds no memory.
     pub fn run<R: Wait>(&mut self, rt: &R, mix: Mix, calls: u64) {
         for call in 0..calls {
             let kind = mix.kind_of(call);
@@ -80,7 +80,7 @@ impl<'a> Worker<'a> {
         }
     }
 
-    /// Makes a call. Whether it is answered yes; a start is.
+    /// Makes a call, and answers whether it was answered yes; a start counts as yes.
     fn answer<R: Wait>(&mut self, rt: &R, kind: Kind) -> Result<bool, AllocError> {
         match kind {
             Kind::Start => started(self.manager.start_query(rt, &mut self.handle)),
@@ -94,7 +94,7 @@ impl<'a> Worker<'a> {
         }
     }
 
-    /// Registers the connection beside too. Whether it has the same number there.
+    /// Registers the connection at `beside` too, and answers whether it has the same number there.
     pub fn registers(&self, beside: &mut Registry) -> Result<bool, AllocError> {
         let number = beside.history().len() as u64;
         let call = RegistryCall::Register(self.handle.pid(), self.handle.key().copy_of()?);
@@ -102,7 +102,7 @@ impl<'a> Worker<'a> {
         Ok(answer == RegistryAnswer::Registered && number == self.handle.number())
     }
 
-    /// Makes a call, beside too. Whether both are answered alike.
+    /// Makes a call, at `beside` too, and answers whether both answers are the same.
     pub fn agrees<R: Wait>(
         &mut self,
         rt: &R,
@@ -114,7 +114,7 @@ impl<'a> Worker<'a> {
         self.agrees_beside(beside, kind, answer_of(kind, yes))
     }
 
-    /// Makes a call beside. Whether it is answered so there.
+    /// Makes a call at `beside`, and answers whether it gets this answer there.
     #[tactic(auto, using(crate::proofs::Calls::live_may))]
     fn agrees_beside(
         &self,
@@ -150,8 +150,8 @@ fn started(made: Result<(), AllocError>) -> Result<bool, AllocError> {
     }
 }
 
-/// So many connections, with pids from 1 on, each of which cancels the next. None where there was
-/// no memory.
+/// `count` connections, with pids from 1 on, each of which cancels the next. None where there was no
+/// memory.
 pub fn workers<'a, R: Wait>(
     rt: &R,
     alloc: Global,
@@ -170,7 +170,7 @@ pub fn workers<'a, R: Wait>(
     Some(all)
 }
 
-/// The connection at a place among so many. None where there was no memory.
+/// The connection at a place among `count`. None where there was no memory.
 fn worker_at<'a, R: Wait>(
     rt: &R,
     alloc: Global,
@@ -227,14 +227,14 @@ pub fn counts_of(all: &[Worker<'_>]) -> Option<Counts> {
     Some(sum)
 }
 
-/// Whether each thread was answered in order: a query that was told to be canceled stays so until
-/// the next start.
+/// Whether each thread was answered in order: once a question is answered yes, all are until the
+/// next start.
 pub fn are_in_order(all: &[Worker<'_>]) -> bool {
     all.iter().all(|worker| !worker.notes.wavers)
 }
 
-/// Whether no connection was told of more canceled queries than cancels of it were answered true.
-/// Each cancels the next.
+/// Whether no connection heard of more canceled queries than there were cancels of it that were
+/// answered yes. Each connection cancels the next.
 pub fn are_within_cancels(all: &[Worker<'_>]) -> bool {
     let mut hits = all.last().map_or(0, |worker| worker.notes.counts.hits);
     let mut within = true;

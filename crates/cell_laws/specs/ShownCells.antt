@@ -46,7 +46,8 @@ abbrev pub IsChosen : List PgWireFrontendMessage → Format → Type 0
 IsChosen messages chosen = (chosen ≡ format.UnifiedText)
     ⊎ ((m : Bind) × Contains messages (client.Bind m) × (chosen ≡ format_of m.result_column_format_codes))
 
--- the format of the results that a message asks for in a state: of an Execute that which its portal's Bind chose, and text of any other
+-- the format of the results that a message asks for in a state: for an Execute the one that its portal's Bind chose,
+-- for any other message text
 abbrev pub IsOwnFormat : State RelationStatement → PgWireFrontendMessage → Format → Type 0
 IsOwnFormat s (client.Execute m) chosen = (p : TablePortal RelationStatement) × (value_under (fin.get s.portals m.name) ≡ Some p)
     × (chosen ≡ p.bound.result_column_format)
@@ -59,7 +60,8 @@ abbrev pub TextStands : Option IntervalStyle → List ℕ → Interval → Type 
 TextStands (Some style) text i = StandsForOnly (printed_style style) text i
 TextStands None text i = ⊥
 
--- the cell stands for the interval: in text a text that does, in binary the sixteen bytes that are read as it
+-- the cell stands for the interval: a text cell by its text, a binary cell by its sixteen bytes, which are read as the
+-- interval
 abbrev pub CellStands : Option IntervalStyle → FieldFormat → List ℕ → Interval → Type 0
 CellStands style field.Text cell i = TextStands style cell i
 CellStands style field.Binary cell i = (length cell ≡ 16) × (read_interval cell ≡ Ok i)
@@ -88,7 +90,8 @@ pub record ShowsRow (style : Option IntervalStyle) (formats : List FieldFormat) 
   pub payload : d.payload ≡ concat (map as_value cells)
   pub stand : CellsStand style formats cells row
 
--- a CopyData shows a row of intervals: a line of plain texts, split by tabs and ended by a newline (protocol: COPY Operations)
+-- a CopyData shows a row of intervals: a line of plain texts, separated by tabs and ended by a newline (protocol: COPY
+-- Operations)
 pub record ShowsLine (style : Option IntervalStyle) (row : List Interval) (d : CopyData) : Type 0 where
   pub texts : List (List ℕ)
   pub payload : d.payload ≡ join_with_byte 9 texts ++ 10 ∷ []
@@ -123,8 +126,8 @@ ShowsReply relations style IsFormat (server.DataRow d) = ShowsStoredRow relation
 ShowsReply relations style IsFormat (server.CopyData d) = ShowsStoredLine relations style d
 ShowsReply relations style IsFormat _ = Unit {0}
 
--- Each row and line among the replies to these messages shows a stored row: each of its cells stands for the interval, in the format that a
--- Bind chose, which is text without one and in a COPY, and in the session's style.
+-- Each row and line among the replies to these messages shows a stored row: each of its cells stands for the interval,
+-- in the format that a Bind chose, or in text without a Bind and in a COPY, and in the session's style.
 abbrev pub ShowStored : List Relation → List PgWireFrontendMessage → List PgWireBackendMessage → Type 0
 ShowStored relations messages replies = AllByRecursion (ShowsReply relations (style_of messages) (IsChosen messages)) replies
 

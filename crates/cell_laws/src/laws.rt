@@ -1,5 +1,5 @@
-//! What each row and each line shows. The function does nothing: its contract is the law, of every
-//! table of relations.
+//! The law of what each row and each line shows, for every table of relations. The function does
+//! nothing: its contract is the law.
 
 ghost use Rattle.std.specs.Prelude.{◌≡◌, Bool, ℕ, ℤ, List};
 ghost use Rattle.pg_messages.specs.declared.frontend.PgWireFrontendMessage.{PgWireFrontendMessage};
@@ -23,8 +23,8 @@ pub fn shown_cells_stand(relations: &RelationTable)
         (conversation (whole_table (relation_handlers relations.now)) answers
         (first_state registration.0 registration.1) messages).replies }
 
-    // Wherever the messages lead, a message behind them is answered so too: an Execute in the
-    // format that its own portal's Bind chose, and every other message in text.
+    // Wherever the messages lead, a further message is answered so too: an Execute in the format
+    // that its own portal's Bind chose, and every other message in text.
     ensures formats { (registration : ℤ × List ℕ) (answers more : List Bool)
         (messages : List PgWireFrontendMessage) (s : State RelationStatement)
         (m : PgWireFrontendMessage)

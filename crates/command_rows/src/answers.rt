@@ -8,7 +8,7 @@ use row_files::{Fault, next_part, push_digits, push_shown};
 use std::alloc::{AllocError, Global};
 use std::fmt::Write;
 
-/// What a row gives, as it tells it.
+/// What a row gives its program, as it stands in the row.
 #[derive(Clone, Copy)]
 struct Given<'t> {
     program: Program,

@@ -26,8 +26,8 @@ fn word_of(alloc: Global, text: &str) -> Result<PgStr, AllocError> {
     PgStr::copy_of(alloc, word.as_str())
 }
 
-/// A file of this text, of which the read of a number fails, if one is told. `*N TEXT` is a text N
-/// times.
+/// A file of this text, whose read of the number `fails` fails, unless that is `-`. `*N TEXT` is the
+/// text N times.
 pub fn file_of<'t>(
     alloc: Global,
     text: &'t str,
@@ -37,7 +37,8 @@ pub fn file_of<'t>(
     source_of(alloc, bytes, fails)
 }
 
-/// An input of bytes in hexadecimal digits, of which the read of a number fails, if one is told.
+/// An input of bytes in hexadecimal digits, whose read of the number `fails` fails, unless that is
+/// `-`.
 pub fn input_of<'t>(
     alloc: Global,
     digits: &'t str,
@@ -69,7 +70,7 @@ fn bytes_of<'t>(alloc: Global, text: &'t str) -> Result<Vec<u8>, Fault<'t>> {
     Ok(bytes)
 }
 
-/// A sink, whose first write fails behind a number of bytes, if one is told.
+/// A sink whose first write fails after `fails` bytes, unless that is `-`.
 pub fn sink_of<'t>(alloc: Global, fails: &'t str) -> Result<MemorySink, Fault<'t>> {
     let mut failures = PgList::new(alloc);
     if fails != "-" {

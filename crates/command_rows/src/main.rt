@@ -1,6 +1,6 @@
-//! Rows of the programs that tell rotas, and that record and verify sessions, as data on standard
-//! input: each runs its program over memory, and a line tells whether it ends as the row expects.
-//! The head of `stdin` has the format.
+//! Rows of the programs rota_report and pg_replay, as data on standard input. Each row runs its
+//! program over memory, and a line tells whether the program ends as the row expects. The head of
+//! `stdin` has the format.
 #![tactic(auto)]
 
 mod answers;

@@ -10,9 +10,9 @@ use std::alloc::Global;
 /// A program that a row runs.
 #[derive(Clone, Copy)]
 pub enum Program {
-    /// The program that tells rotas, which reads a relation file alone.
+    /// rota_report, which reads only a relation file.
     Rota,
-    /// The program that records and verifies sessions, which reads an input too.
+    /// pg_replay, which reads an input too.
     Replay,
 }
 
@@ -26,7 +26,7 @@ pub fn program_of<'t>(name: &'t str) -> Result<Program, Fault<'t>> {
 }
 
 impl Program {
-    /// The status with which the program ends.
+    /// Runs the program, and answers its status.
     pub fn run(
         self,
         alloc: Global,

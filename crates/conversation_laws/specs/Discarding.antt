@@ -35,7 +35,7 @@ IsOutsideCopy _ = ⊥
 abbrev pub unchanged : {S : Type 0} → State S → Answer (State S)
 unchanged s = record { replies = []; calls = []; next = Goes s }
 
--- the state behind a Sync: the unnamed portal is gone, and the server is ready
+-- the state after a Sync: the unnamed portal is gone, and the server is ready
 abbrev pub behind_sync : {S : Type 0} → State S → State S
 behind_sync s = in_phase (without_unnamed_portal s) phase.ReadyForQuery
 
@@ -48,7 +48,7 @@ abbrev pub FollowsError : {S : Type 0} → Bool → Next (State S) → Type 0
 FollowsError true next = next ≡ Ends end.Fatal
 FollowsError {S} false next = (t : State S) × (next ≡ Goes t) × (t.info.state ≡ phase.AwaitingSync)
 
--- The last reply is this error's, and what follows is by its severity.
+-- The last reply is this error's, and its severity decides what follows.
 pub record EndsWithError {S : Type 0} (info : ErrorInfo) (a : Answer (State S)) : Type 0 where
   pub front : Replies
   pub replied : a.replies ≡ front ++ error_reply info ∷ []

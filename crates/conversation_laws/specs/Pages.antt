@@ -27,7 +27,7 @@ use Rattle.pg_client.specs.State.{State}
 
 -- ---- what an Execute takes
 
--- rows that are sent; or rows that are dropped, and the failed item behind them
+-- rows that are sent; or rows that are dropped, and the error after them
 pub data Taken : Type 0 where
   SentRows : List DataRow → Taken
   DroppedRows : List DataRow → PgWireError → Taken
@@ -48,7 +48,7 @@ rows_among [] = []
 rows_among (server.DataRow row ∷ replies) = row ∷ rows_among replies
 rows_among (reply ∷ replies) = rows_among replies
 
--- The rows that are sent are those of the DataRows; where rows are dropped, the error of the failed item is told alone.
+-- The rows that are sent are those of the DataRows; where rows are dropped, the error after them is told alone.
 abbrev pub IsTold : Taken → Replies → Type 0
 IsTold (SentRows rows) replies = rows_among replies ≡ rows
 IsTold (DroppedRows rows e) replies = replies ≡ error_reply (info_of e) ∷ []
@@ -84,7 +84,8 @@ Leaves name left (Goes t) = HasStarted (stage_under t name) × (items_to_come (s
 Leaves name left (Ends kind) = Unit {0}
 Leaves name left Stops = ⊥
 
--- An Execute takes a page: what it takes and what it leaves join to the items, it tells what it takes, and it keeps to the limit.
+-- An Execute takes a page: what it takes and what it leaves join to the items, its replies tell what it takes, and it
+-- keeps to the limit.
 pub record TakesPage {S : Type 0} (name : List ℕ) (limit : ℤ) (items : List RowItem) (a : Answer (State S)) : Type 0 where
   pub page : Taken
   pub left : List RowItem
@@ -138,7 +139,7 @@ abbrev pub TellsPages : List ℕ → PgWireConnectionState → PgWireFrontendMes
 TellsPages name phase.ReadyForQuery (client.Execute m) replies pages = TellsPageWhere (bytes_eq m.name name) m.max_rows replies pages
 TellsPages name _ _ replies pages = pages ≡ []
 
--- this of the pages that are still to be told, while the portal stands; else none are
+-- a condition on the pages that are still to be told, while the portal is started; else there are none
 abbrev pub WhileStarted : Stage → List Taken → Type 0 → Type 0
 WhileStarted Unstarted pages later = pages ≡ []
 WhileStarted (Started r delivered) pages later = later
@@ -149,8 +150,8 @@ TellsLater name (Goes t) pages later = WhileStarted (stage_under t name) pages (
 TellsLater name (Ends kind) pages later = pages ≡ []
 TellsLater name Stops pages later = pages ≡ []
 
--- These pages of the portal of a name are told by a conversation, in order, by what each message tells of it, up to where the portal is
--- replaced or removed; and where it still stands at the end, these items are left of it.
+-- A conversation tells these pages of the portal of a name, in order and message by message, until the portal is
+-- replaced or removed. Where the portal still stands at the end, these items are left of it.
 abbrev pub TellsInTurn : {S : Type 0} → (State S → PgWireFrontendMessage → Replies → List Taken → Type 0) → Table (State S) → List ℕ
     → List Bool → State S → List PgWireFrontendMessage → List Taken → List RowItem → Type 0
 TellsInTurn tells table name answers s [] pages left = (pages ≡ []) × (left ≡ items_to_come (stage_under s name))

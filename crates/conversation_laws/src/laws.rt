@@ -37,9 +37,9 @@ ghost use Rattle.conversation_laws.specs.Pages.{
   stage_under,
 };
 
-/// After an error in an extended message, discarding lasts until Sync and no longer: the error is
-/// the last that is told, and unless it is fatal, each message but Terminate is dropped up to the
-/// next Sync, which is answered.
+/// After an error in an extended message, discarding lasts until Sync and no longer: the error's
+/// reply is the last one, and unless the error is fatal, each message but Terminate is dropped up
+/// to the next Sync. That Sync is answered.
 pub fn discards_until_sync<S>()
     ensures error { (h : Handlers S) (answers : List Bool) (s t : State S)
         (m : PgWireFrontendMessage) (e : PgWireError)
@@ -81,9 +81,9 @@ pub fn sync_is_answered_once<S>()
 /// For each portal, the pages sent, the pages dropped and the failed items, joined in order, are a
 /// front of its source's items; and no page passes a positive limit.
 ///
-/// An Execute takes a page of the items that are to come of a started portal, or of the response
-/// that starts it, and leaves the others. Each other message leaves them as they are, or the portal
-/// is removed or replaced.
+/// An Execute takes a page of the items to come of a started portal, or of the response that starts
+/// the portal. It leaves the other items. Each other message leaves all items as they are, or
+/// removes or replaces the portal.
 pub fn pages_join<S>()
     ensures page { (h : Handlers S) (answers : List Bool) (s : State S) (m : Execute)
         → s.info.state ≡ phase.ReadyForQuery → HasStarted (stage_under s m.name)

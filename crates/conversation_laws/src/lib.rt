@@ -1,6 +1,6 @@
-//! Laws of the whole conversation table, over any handlers; and laws of runs: over the same bytes
-//! there is one, under answers that are alike; its calls go on from those of its first frames; and
-//! under any script there is one.
+//! Laws of the whole conversation table, with any handlers; and laws of runs. Over the same bytes,
+//! and with answers that agree, there is only one run. Its calls begin with those of its first
+//! frames. With any script of answers there is a run.
 #![tactic(auto)]
 
 mod laws;

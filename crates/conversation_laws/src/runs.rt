@@ -10,8 +10,8 @@ ghost use Rattle.pg_client.specs.declared.ends.EndKind.{EndKind};
 ghost use Rattle.conversation_runs.specs.Run.{Rules, IsRun};
 ghost use Rattle.conversation_laws.specs.Steady.{IsSteady, IsCalledSoFar, AgreeAsFar, HasScriptedRun};
 
-/// Over the same bytes there is one run, under answers that are alike as far as both go: its
-/// replies, its calls with their answers, and its end.
+/// Over the same bytes there is only one run: where the answers of one run begin with those of the
+/// other, both have the same replies, the same calls with their answers, and the same end.
 pub fn one_run<T>()
     ensures { (rules : Rules T) (s : T) (text replies others : List ℕ) (calls made : List DeskCall)
         (kind other : EndKind) (more : List Bool)
@@ -20,8 +20,8 @@ pub fn one_run<T>()
         → (replies ≡ others) × (calls ≡ made) × (kind ≡ other) }
 {}
 
-/// The calls of a run begin with those of the frames that stand in front of its bytes, under
-/// answers that are alike as far as both go.
+/// The calls of a run begin with those of the frames at the front of its bytes, where the answers
+/// of both agree as far as both go.
 pub fn calls_go_on<T>()
     ensures { (rules : Rules T) (s : T) (front behind replies : List ℕ) (made calls : List DeskCall)
         (kind : EndKind)
@@ -30,14 +30,15 @@ pub fn calls_go_on<T>()
         → AgreeAsFar (answers_of calls) (answers_of made) → BeginsWith calls made }
 {}
 
-/// Over any bytes there is a run whose calls are answered by a script, and no past its end.
+/// Over any bytes there is a run whose calls are answered by a script, and with no past the
+/// script's end.
 pub fn scripted_run_exists<T>()
     ensures { (rules : Rules T) (s : T) (text : List ℕ) (script : List Bool)
         → IsLawful rules.table rules.awaits → IsSteady rules.table
         → HasScriptedRun rules s text script }
 {}
 
-/// The whole table is steady, whatever the handlers tell.
+/// The whole table is steady, with any handlers.
 pub fn whole_table_is_steady<S>()
     ensures { (h : Handlers S) → IsSteady (whole_table h) }
 {}

@@ -106,7 +106,7 @@ impl<'t> Swept<'t> {
         self.case(self.plan(reads), expected_at(self.end, self.all))
     }
 
-    /// Nothing fails, and there are turns enough.
+    /// Nothing fails, and there are enough turns.
     fn plan(self, reads: Reads<'t>) -> Plan<'t> {
         Plan {
             reads,
@@ -125,7 +125,7 @@ impl<'t> Swept<'t> {
         }
     }
 
-    /// The client sends only so many bytes.
+    /// The client sends only `len` bytes.
     fn short(self, steps: &[Step], len: usize) -> Case<'t> {
         let end = if len < self.all.client {
             "InputEnd"
@@ -162,7 +162,7 @@ impl<'t> Swept<'t> {
         self.case(plan, expected)
     }
 
-    /// There are so many turns.
+    /// There are `turns` turns.
     fn limited(self, steps: &[Step], turns: usize) -> Case<'t> {
         let end = if turns < self.turns {
             "TurnLimit"

@@ -1,16 +1,16 @@
-//! What came out otherwise than a row tells.
+//! What differs from what a row expects.
 
 use row_files::Fault;
 use std::alloc::{AllocError, Global};
 
-/// What came out otherwise.
+/// What differs.
 #[derive(Clone, Copy)]
 pub enum Difference {
-    /// The conversation ended so.
+    /// The conversation ended with this.
     End(&'static str),
-    /// The replies are others from this byte on.
+    /// The replies differ from this byte on.
     Replies(usize),
-    /// The registry calls are others.
+    /// The registry calls differ.
     Calls,
     /// The writes have other lengths.
     Writes,
@@ -18,7 +18,7 @@ pub enum Difference {
     Cell,
 }
 
-/// What came out otherwise in the case of this number.
+/// What differs in the case of this number.
 #[derive(Clone, Copy)]
 pub struct Finding {
     pub case: usize,
@@ -34,7 +34,7 @@ impl Finding {
         }
     }
 
-    /// The case and what came out otherwise.
+    /// The case and what differs, as a text.
     fn told(self, alloc: Global) -> Result<String, AllocError> {
         let case = self.case;
         match self.difference {

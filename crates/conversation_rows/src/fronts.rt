@@ -1,4 +1,4 @@
-//! How far a conversation comes that is cut off.
+//! How far a conversation that is cut off comes.
 
 use crate::script::Step;
 
@@ -73,7 +73,7 @@ pub fn all_of(steps: &[Step]) -> Front {
     front.whole()
 }
 
-/// What so many of the client's bytes are answered: the messages that are whole.
+/// The front that answers the first `taken` bytes of the client: their whole messages.
 pub fn front_of_bytes(steps: &[Step], taken: usize) -> Front {
     let mut front = Front::empty();
     for step in steps {
@@ -111,8 +111,8 @@ pub fn front_of_calls(steps: &[Step], call: usize) -> Front {
     front
 }
 
-/// What comes in so many turns, where each read gives one byte: up to the byte or the question that
-/// finds none left.
+/// The front that comes in `turns` turns, where each read gives one byte: up to the byte or the
+/// question that finds no turn left.
 pub fn front_of_turns(steps: &[Step], turns: usize) -> Front {
     let mut front = Front::empty();
     let mut left = turns;

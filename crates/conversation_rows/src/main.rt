@@ -64,7 +64,7 @@ impl Judge for ConversationRows {
     }
 }
 
-/// What is otherwise than the lines expect, if anything is.
+/// What differs from what the lines expect, if anything does.
 fn difference_told<'t>(alloc: Global, lines: &[&'t str]) -> Result<Option<String>, Fault<'t>> {
     match judge(alloc, lines)? {
         None => Ok(None),

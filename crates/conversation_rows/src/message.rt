@@ -6,8 +6,8 @@ use std::alloc::Global;
 /// The layout of each message: its name, its type byte (`-` for the first packets of a client),
 /// and its fields (protocol: Message Formats). `i` is an Int32 in decimal, `w` an Int16, `y` an
 /// Int8, `b` a byte by its character, `s` a text with a zero behind it, `h` bytes in hexadecimal
-/// or `text` and their text, `c` a count and so many Int16, `o` a count and so many Int32, `v` a
-/// count and so many values, `f` a count and so many columns of a row description, `r` a count
+/// or `text` and their text, `c` a count and as many Int16, `o` a count and as many Int32, `v` a
+/// count and as many values, `f` a count and as many columns of a row description, `r` a count
 /// and all further fields as cells, `l` all further fields as the cells of a line, `S` all
 /// further fields as texts and then a zero, `E` the same where each text follows a byte. `alone`
 /// is the type byte without a length.
@@ -62,7 +62,7 @@ fn layout_of(name: &str) -> Option<(&'static str, &'static str)> {
     None
 }
 
-/// The bytes of messages, and why they can't be told, if they can't.
+/// The bytes of messages, and the fault of a line that tells none, if there is one.
 #[derive(Drop)]
 pub struct Frames<'t> {
     alloc: Global,
@@ -88,7 +88,7 @@ impl<'t> Frames<'t> {
         self.bytes.len()
     }
 
-    /// Why a part of them couldn't be told, if one couldn't, or memory ran out.
+    /// The fault of a line that tells no message, or that memory ran out, if one of these came.
     pub fn fault(&self) -> Option<Fault<'t>> {
         self.fault
     }
@@ -138,7 +138,7 @@ impl<'t> Frames<'t> {
         self.put_counted(&body, 4);
     }
 
-    /// Appends bytes behind their number and so many more.
+    /// Appends an Int32, the number of the bytes plus `more`, and then the bytes.
     fn put_counted(&mut self, counted: &Frames<'t>, more: usize) {
         self.put_count32(counted.len().saturating_add(more));
         self.put(counted.as_slice());
@@ -196,8 +196,7 @@ impl<'t> Frames<'t> {
         self.put(b"\n");
     }
 
-    /// Appends a text with a zero behind it; of an error's field the byte that tells its kind
-    /// first.
+    /// Appends a text with a zero behind it. In an error's field, the byte of its kind comes first.
     fn put_text(&mut self, kind: u8, text: &str) {
         let (byte, text) = match text.split_once(" ") {
             Some((byte, rest)) if kind == b'E' => (byte, rest),
@@ -221,7 +220,7 @@ impl<'t> Frames<'t> {
         }
     }
 
-    /// Appends a count and the parts of a list, which this text splits.
+    /// Appends a count and the parts of a list, which `by` separates.
     fn put_list(&mut self, kind: u8, field: &'t str, by: &str) {
         if field.is_empty() {
             return self.put_count16(0);

@@ -52,7 +52,7 @@ fn row_told<'t>(lines: &[&'t str], place: usize) -> &'t str {
     ""
 }
 
-/// Whether cells are read as the intervals that stand beside.
+/// Whether cells are read as the intervals that the words tell.
 fn are_read<'t>(
     alloc: Global,
     style: &str,
@@ -74,7 +74,8 @@ fn are_cells(style: &str, cells: &str, intervals: &[Interval]) -> bool {
     count == intervals.len()
 }
 
-/// What the reader of a style makes of a text, where there is such a style and it is such a text.
+/// The interval that a text stands for in a style, if there is such a style and the text stands for
+/// an interval.
 fn read_in(style: &str, text: &str) -> Option<Interval> {
     match style {
         "postgres" => Interval::from_postgres(text).ok(),

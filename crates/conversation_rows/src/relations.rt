@@ -91,7 +91,7 @@ fn columns_of(alloc: Global, names: &str) -> Result<PgList<PgStr>, AllocError> {
     Ok(columns)
 }
 
-/// Appends so many equal rows as a number tells, each of the intervals behind it.
+/// Appends equal rows: as many as the first word tells, each with the intervals behind it.
 fn push_rows<'t>(
     alloc: Global,
     relation: Option<&mut Relation>,

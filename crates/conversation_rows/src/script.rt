@@ -9,13 +9,13 @@ use std::alloc::Global;
 /// A step of a conversation.
 #[derive(Clone, Copy)]
 pub enum Step {
-    /// The client sends so many bytes.
+    /// The client sends this many bytes.
     Client(usize),
-    /// The server answers so many bytes.
+    /// The server answers this many bytes.
     Reply(usize),
     /// The registry is asked.
     Ask,
-    /// The registry is called otherwise.
+    /// Another call of the registry is made.
     Call,
 }
 
@@ -49,7 +49,7 @@ pub fn script_of<'t>(alloc: Global, lines: &[&'t str]) -> Script<'t> {
 }
 
 impl<'t> Script<'t> {
-    /// Why a line couldn't be told, if one couldn't, or memory ran out.
+    /// The fault of a line that isn't understood, or that memory ran out, if one of these came.
     pub fn fault(&self) -> Option<Fault<'t>> {
         self.fault.or(self.client.fault()).or(self.replies.fault())
     }
@@ -105,7 +105,7 @@ fn told_apart(line: &str) -> (&str, &str) {
     (word, rest.trim())
 }
 
-/// Appends a message as often as the number before it says, and answers how many bytes that are.
+/// Appends a message as often as the number before it says, and answers how many bytes it appended.
 fn put_messages<'t>(frames: &mut Frames<'t>, message: &'t str) -> usize {
     let before = frames.len();
     let (first, rest) = message.split_once(" ").unwrap_or((message, ""));

@@ -24,11 +24,11 @@ pub struct Plan<'t> {
 pub enum Reads<'t> {
     /// The numbers of a line; past them as many as fit.
     Told(&'t str),
-    /// So many at first, and then as many as fit.
+    /// This many at first, and then as many as fit.
     First(usize),
     /// One at a time.
     Single,
-    /// Those of one message; each message is cut behind so many bytes, where it has more of them.
+    /// Those of one message. A message that has more than this many bytes is cut behind them.
     Messages(usize),
 }
 

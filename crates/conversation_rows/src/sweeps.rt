@@ -78,8 +78,8 @@ fn case_at<'t>(
     }
 }
 
-/// Serves a case, and tells what is otherwise than expected; a line tells the lengths of the
-/// writes, or none does.
+/// Serves a case, and tells what differs from what is expected. A line may tell the lengths of the
+/// writes.
 fn found_in<'t>(
     alloc: Global,
     lines: &[&'t str],
@@ -103,8 +103,8 @@ fn found_at<'t>(
     Ok(difference(script, end, place, case.expected, told(lines, "writes")))
 }
 
-/// Whether cells are read back, and as many bytes answer each front of the client's bytes, as the
-/// lines tell, if they do.
+/// What differs in the rest that the lines may tell: whether cells are read back, and how many bytes
+/// answer each front of the client's bytes.
 fn judge_rest<'t>(
     alloc: Global,
     lines: &[&'t str],
@@ -119,8 +119,8 @@ fn judge_rest<'t>(
     }
 }
 
-/// Where another number of bytes answers a front of the client's bytes than the words tell: two
-/// numbers say how many answer so many bytes and more.
+/// The first front of the client's bytes that isn't answered by as many bytes as the words tell. The
+/// words are pairs of numbers: a length, and how many bytes answer a front of that length or more.
 fn amounts_differ<'t>(
     alloc: Global,
     words: &'t str,

@@ -42,7 +42,7 @@ fn written_told<'t>(lines: &[&'t str], all: Front) -> Result<Between, Fault<'t>>
     Ok(Between { least, most })
 }
 
-/// How many registry calls are expected behind this end.
+/// How many registry calls are expected with this end.
 fn calls_told(end: &str, all: Front) -> Between {
     let least = if end == "WriteFault" { 0 } else { all.calls };
     Between {

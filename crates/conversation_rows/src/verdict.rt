@@ -1,4 +1,4 @@
-//! What is otherwise than expected of a conversation.
+//! What differs from what is expected of a conversation.
 
 use crate::finding::Difference;
 use crate::fronts::Front;
@@ -15,7 +15,7 @@ pub struct Between {
 }
 
 impl Between {
-    /// Just so many.
+    /// Just this many.
     pub fn just(count: usize) -> Between {
         Between {
             least: count,
@@ -37,7 +37,7 @@ pub struct Expected<'t> {
     pub calls: Between,
 }
 
-/// What is expected where a conversation comes so far.
+/// What is expected of a conversation that comes as far as this front.
 pub fn expected_at<'t>(end: &'t str, front: Front) -> Expected<'t> {
     Expected {
         end,
@@ -51,7 +51,7 @@ pub fn expected_at<'t>(end: &'t str, front: Front) -> Expected<'t> {
 
 /// The first difference between what came of a conversation and what is expected, if there is one.
 /// Another end is told only where what was written and called is a front of the conversation. No
-/// write is empty, and they are as long as the words tell, where there are such words.
+/// write may be empty. The writes must be as long as the words tell, where there are words.
 pub fn difference(
     script: &Script<'_>,
     end: Ending,
@@ -84,7 +84,7 @@ fn other_content(script: &Script<'_>, sent: &[u8], calls: &[DeskCall]) -> Option
     None
 }
 
-/// Where the end is another, or other numbers of bytes and calls than expected.
+/// Where the end, the number of bytes or the number of calls isn't the expected one.
 fn other_extent(
     ended: &'static str,
     sent: usize,

@@ -16,22 +16,22 @@ use Rattle.conversation_table.specs.Table.{awaits}
 abbrev pub IsGivenIn : {S : Type 0} → State S → PgWireFrontendMessage → Type 0
 IsGivenIn s m = (frame : List ℕ) × IsFrame (awaits s) frame m
 
--- what an error ends, where it waits for Sync or doesn't
+-- what an error ends, by whether the session waits for Sync
 abbrev pub scope_for : Bool → Scope
 scope_for true = UntilSync
 scope_for false = AnswersReady
 
--- the state where there is no end
+-- the end, or the state where there is none
 abbrev pub next_of : {T : Type 0} → Option EndKind → T → Next T
 next_of None s = Goes s
 next_of (Some kind) s = Ends kind
 
--- the same answer, with an error of a message as one of a session
+-- the same result, with an error of a message as one of a session
 abbrev pub with_session_error : {A : Type 0} → Result A PgWireError → Result A SessionError
 with_session_error (Ok answer) = Ok answer
 with_session_error (Err error) = Err (session.Wire error)
 
--- the same answer, of a message that doesn't end the conversation
+-- the same result, as that of a message that doesn't end the conversation
 abbrev pub going : {A : Type 0} → Result A SessionError → Result (Option EndKind) SessionError
 going (Ok done) = Ok None
 going (Err error) = Err error

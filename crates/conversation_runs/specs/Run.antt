@@ -10,13 +10,13 @@ use Rattle.pg_client.specs.declared.ends.EndKind.TheVariants as end
 use Rattle.pg_client.specs.Answer.{BeginsWith}
 use Rattle.pg_client.specs.Answer.{Answer, Table, Next, Goes, Ends, Stops, answers_of, conversation}
 
--- what a conversation goes by: a table, and in which of its states the startup packet is still awaited
+-- the rules of a conversation: a table, and in which of its states the startup packet is still awaited
 pub record Rules (T : Type 0) : Type 0 where
   pub table : Table T
   pub awaits : T → Bool
 
--- The whole frames of a text were answered by these bytes and these registry calls, under the very answers that the calls tell; this is
--- left of the text, and this comes next.
+-- The whole frames of a text were answered by these bytes and these registry calls, with exactly the answers that the
+-- calls hold. `rest` is left of the text, and `next` comes next.
 pub record IsFed {T : Type 0} (rules : Rules T) (s : T) (text rest bytes : List ℕ) (calls : List DeskCall) (next : Next T) : Type 0 where
   pub messages : List PgWireFrontendMessage
   pub replies : List PgWireBackendMessage
@@ -24,7 +24,8 @@ pub record IsFed {T : Type 0} (rules : Rules T) (s : T) (text rest bytes : List 
   pub answered : conversation rules.table (answers_of calls) s messages ≡ record { replies = replies; calls = calls; next = next }
   pub replied : bytes ≡ replies_bytes replies
 
--- The conversation ends so: by its last message, or else by what is left of the bytes. Where it stops for want of an answer, it has no end.
+-- How the conversation ends: by its last message, or else by what is left of the bytes. Where it stops because an
+-- answer is missing, it has no end.
 abbrev pub EndsWith : {T : Type 0} → (T → Bool) → Next T → List ℕ → EndKind → Type 0
 EndsWith awaits (Ends kind) rest e = kind ≡ e
 EndsWith awaits (Goes s) rest end.BadFrame = IsBad (awaits s) rest

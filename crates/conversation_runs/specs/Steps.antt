@@ -44,7 +44,7 @@ pub record IsCarriedOut {T : Type 0} (a : Answer T) (out new_out : List ℕ) (ca
   pub called : new_calls ≡ calls ++ a.calls
   pub goes_on : a.next ≡ next
 
--- A message was answered by the table, under the very answers that its calls tell.
+-- A message was answered by the table, with exactly the answers that its calls hold.
 pub record IsAnswered {T : Type 0} (table : Table T) (s : T) (m : PgWireFrontendMessage) (out new_out : List ℕ)
     (calls new_calls : List DeskCall) (next : Next T) : Type 0 where
   pub made : List DeskCall
@@ -66,14 +66,14 @@ pub record IsStoppedAnswer {T : Type 0} (table : Table T) (s : T) (m : PgWireFro
   pub asks : AsksNext (λ answers. (table answers s m).calls) made
   pub grown : new_calls ≡ calls ++ made
 
--- An error of a message was told, which is no want of memory, and the conversation goes on or ends as its answer says.
+-- An error of a message, other than NoMemory, was told, and the conversation goes on or ends as its answer says.
 pub record IsToldError {S : Type 0} (e : PgWireError) (scope : Scope) (s new_s : State S) (out new_out : List ℕ) (end : Option EndKind)
     : Type 0 where
   pub known : e ≢ wire.NoMemory
   pub replied : new_out ≡ out ++ replies_bytes (failed scope [] [] s (info_of e)).replies
   pub next : (failed scope [] [] s (info_of e)).next ≡ next_of end new_s
 
--- What became of an error: want of a turn ends the serving; any other was told, or memory was wanting.
+-- What became of an error: TurnLimit ends the serving; any other was told, or memory ran out.
 abbrev pub FailedSo : {S : Type 0} → SessionError → Scope → State S → State S → List ℕ → List ℕ → Result (Option EndKind) ServeError
     → Type 0
 FailedSo session.TurnLimit scope s new_s out new_out result = result ≡ Err serve.TurnLimit
@@ -82,14 +82,14 @@ FailedSo (session.Wire e) scope s new_s out new_out (Err error) = error ≡ serv
 
 -- ---- a text
 
--- Bytes went through an outbox to a sink: some were sent, and the others wait behind them.
+-- Bytes went through an outbox to a sink: some were sent, and the others wait.
 pub record Flows (written new_written : Option (List ℕ)) (out new_out bytes : List ℕ) : Type 0 where
   pub sent : List ℕ
   pub grown : GrowsBy written new_written sent
   pub same : sent ++ new_out ≡ out ++ bytes
 
--- A text was served as far as it goes: its frames were answered, which stay its frames whatever bytes follow; the bytes went through the
--- outbox, and the calls were made.
+-- A text was served as far as it goes: its frames were answered, and they stay its frames whatever bytes follow. The
+-- reply bytes went through the outbox, and the calls were made.
 pub record IsServed {T : Type 0} (rules : Rules T) (s : T) (text rest : List ℕ) (next : Next T) (written new_written : Option (List ℕ))
     (out new_out : List ℕ) (calls new_calls : List DeskCall) : Type 0 where
   pub bytes : List ℕ
@@ -98,8 +98,8 @@ pub record IsServed {T : Type 0} (rules : Rules T) (s : T) (text rest : List ℕ
   pub flows : Flows written new_written out new_out bytes
   pub grown : new_calls ≡ calls ++ called
 
--- The serving of a text was cut off: the bytes that were written and the calls that were made are a front of the answer to its frames,
--- under the very answers that the calls tell.
+-- The serving of a text was cut off: the bytes that were written and the calls that were made are a front of the answer
+-- to its frames, with exactly the answers that the calls hold.
 pub record IsCutOff {T : Type 0} (rules : Rules T) (s : T) (text : List ℕ) (written new_written : Option (List ℕ)) (out : List ℕ)
     (calls new_calls : List DeskCall) : Type 0 where
   pub messages : List PgWireFrontendMessage
@@ -112,8 +112,9 @@ pub record IsCutOff {T : Type 0} (rules : Rules T) (s : T) (text : List ℕ) (wr
   pub front : BeginsWith given.calls made
   pub grown : new_calls ≡ calls ++ made
 
--- The serving of a text stops at a question for which no turn is left: the calls that were made are all calls of the answer to its frames
--- under the very answers that they tell, which stops there, and the bytes that were written are a front of its replies.
+-- The serving of a text stops at a question for which no turn is left. With exactly the answers that the calls hold,
+-- the answer to the text's frames has these calls and stops there. The bytes that were written are a front of its
+-- replies.
 pub record IsStopped {T : Type 0} (rules : Rules T) (s : T) (text : List ℕ) (written new_written : Option (List ℕ)) (out : List ℕ)
     (calls new_calls : List DeskCall) : Type 0 where
   pub messages : List PgWireFrontendMessage
@@ -131,13 +132,13 @@ abbrev pub Stands : {T : Type 0} → (T → Bool) → Next T → T → List ℕ 
 Stands awaits next s rest progress.More = (next ≡ Goes s) × IsUnfinished (awaits s) rest
 Stands awaits next s rest (progress.Ended kind) = (kind ≢ end.InputEnd) × ((more : List ℕ) → EndsWith awaits next (rest ++ more) kind)
 
--- the same after a step: where it is no progress to report, a message was answered and the conversation goes on
+-- the same after a step: where there is no progress to report, a message was answered and the conversation goes on
 abbrev pub StandsAfterStep : {T : Type 0} → (T → Bool) → Next T → T → List ℕ → Option Progress → Type 0
 StandsAfterStep awaits next s rest None = next ≡ Goes s
 StandsAfterStep awaits next s rest (Some told) = Stands awaits next s rest told
 
--- What became of a text that a session was fed with: it was served as far as it goes, no reply waits, and the conversation stands so; or
--- its serving was cut off, which for want of a turn is a stop at a question.
+-- What became of a text that a session was fed with. It was served as far as it goes, no reply waits, and the
+-- conversation stands where the result says. Or its serving was cut off, at TurnLimit by a stop at a question.
 abbrev pub WasFed : {T : Type 0} → Rules T → T → List ℕ → T → List ℕ → Option (List ℕ) → Option (List ℕ) → List ℕ → List DeskCall
     → List DeskCall → Result Progress ServeError → Type 0
 WasFed {T} rules s text new_s rest written new_written out calls new_calls (Ok told) = (next : Next T)
@@ -155,8 +156,9 @@ RoundSo rules s text new_s rest written new_written out new_out calls new_calls 
 RoundSo rules s text new_s rest written new_written out new_out calls new_calls (Some told) =
     WasFed rules s text new_s rest written new_written out calls new_calls told
 
--- Behind a step that tells something all that waits was sent, and then it was told, or the sink failed; behind one that tells nothing some
--- of what waits may be sent, and the sink may fail; behind an error nothing was sent.
+-- What was sent after a step. Where no other step follows, all that waits was sent and the step's result was returned,
+-- or the sink failed. Where another follows, some of what waits may be sent, and the sink may fail. After an error of
+-- the step nothing was sent.
 abbrev pub SentBehind : Option (List ℕ) → Option (List ℕ) → List ℕ → List ℕ → Result (Option Progress) ServeError
     → Option (Result Progress ServeError) → Type 0
 SentBehind written new_written out new_out (Ok (Some told)) (Some (Ok t)) = (t ≡ told) × (new_out ≡ []) × GrowsBy written new_written out
@@ -168,8 +170,9 @@ SentBehind written new_written out new_out _ _ = ⊥
 
 -- ---- a session
 
--- What a message did to a client, before what follows an error: its row was carried out or refused, each error can be answered, the store
--- is as good as it was, turns were spent on questions and on nothing else, and of the desk nothing but calls was asked.
+-- What a message did to a client, before what follows an error: its row was carried out or refused, each error is one
+-- that a call may return, the state is good, turns were spent on questions and on nothing else, and nothing of the desk
+-- has changed but by calls.
 pub record IsMessageRow {S : Type 0} (h : Handlers S) (m : PgWireFrontendMessage) (s t : State S) (out new_out : List ℕ)
     (desk new_desk : DeskTold) (before after : Turns) (result : Result (Option EndKind) SessionError) : Type 0 where
   pub ok : IfOk result (λ kind. IsRow (λ answers. message_row h answers s m) out new_out desk.calls new_desk.calls (outcome_of kind t))
@@ -181,8 +184,9 @@ pub record IsMessageRow {S : Type 0} (h : Handlers S) (m : PgWireFrontendMessage
   pub bounded : before.spent ≤ before.limit → after.spent ≤ after.limit
   pub registration : GoesOn desk new_desk
 
--- What a message did to a session: it was answered as the whole table says, or its answer was cut off, which for want of a turn is a stop
--- at a question. The session is open where the conversation goes on, and the bytes behind the message are left as they were.
+-- What a message did to a session: it was answered as the whole table says, or its answer was cut off, at TurnLimit by
+-- a stop at a question. The session is open where the conversation goes on, and the bytes after the message are as they
+-- were.
 pub record IsResponse {H S : Type 0} (told : H → Handlers S) (m : PgWireFrontendMessage) (old new : SessionValue H S)
     (desk new_desk : DeskTold) (before after : Turns) (result : Result (Option EndKind) ServeError) : Type 0 where
   pub answer : IfOk result (λ end. IsAnswered (whole_table (told old.handlers)) old.state m old.unsent new.unsent desk.calls new_desk.calls
@@ -206,9 +210,10 @@ pub record FollowsError {H S E : Type 0} (old new : SessionValue H S) (result : 
   pub handlers : new.handlers ≡ old.handlers
   pub rest : new.rest ≡ old.rest
 
--- What a step made of a text and of the session that holds it, whatever was written before, since a step sends nothing: the text was served
--- as far as it goes, and the conversation stands so; or its serving was cut off, which for want of a turn is a stop at a question. A step
--- that tells nothing took bytes off the text, and the session is open where the conversation goes on.
+-- What a step did to a text and to the session that holds it. A step sends nothing, so this holds whatever was written
+-- before. The text was served as far as it goes, and the conversation stands where the result says; or its serving was
+-- cut off, at TurnLimit by a stop at a question. A step after which another follows took bytes off the text. The
+-- session is open where the conversation goes on.
 pub record IsStep {H S : Type 0} (told : H → Handlers S) (text : List ℕ) (old new : SessionValue H S) (desk new_desk : DeskTold)
     (before after : Turns) (step : Result (Option Progress) ServeError) : Type 0 where
   pub served : IfOk step (λ p. (next : Next (State S)) × ((written : Option (List ℕ)) → IsServed (whole_rules (told old.handlers))

@@ -7,11 +7,11 @@ use Rattle.conversation_runs.specs.declared.ends.ServeError.TheVariants.{ReadFau
 use Rattle.conversation_runs.specs.declared.streams.SinkError.{SinkError}
 use Rattle.conversation_runs.specs.declared.streams.SinkError.TheVariants as sink
 
--- the greatest count; one that has come so far stands still there
+-- the greatest count, at which counts saturate
 abbrev pub greatest_count : ℕ
 greatest_count = 18446744073709551615
 
--- A count of faults has risen in a call. At its end it can't be seen to rise, and counts as risen.
+-- A count of faults has risen in a call. The greatest count can't rise, and is taken as risen.
 abbrev pub HasRisen : ℕ → ℕ → Type 0
 HasRisen old new = (old < new) ⊎ (old ≡ greatest_count)
 
@@ -35,7 +35,7 @@ GrowsBy old new bytes = IfSome old (λ before. new ≡ Some (before ++ bytes))
 abbrev pub GrowsByFront : Option (List ℕ) → Option (List ℕ) → List ℕ → Type 0
 GrowsByFront old new bytes = IfSome old (λ before. (front : List ℕ) × BeginsWith bytes front × (new ≡ Some (before ++ front)))
 
--- what a session tells of a sink's error
+-- a sink's error, as one of a session
 abbrev pub told_of_sink : SinkError → ServeError
 told_of_sink sink.Failed = WriteFault
 told_of_sink sink.NoMemory = NoMemory
@@ -57,7 +57,7 @@ pub record HasSinkCause {T : Type 0} (old new : ℕ) (result : Result T ServeErr
   pub never_falls : old ≤ new
   pub calm : OnOk result (new ≡ old)
 
--- The cause of what is told behind a step: that of a flush where the step tells no error, and of nothing else.
+-- The cause of a result after a step: that of a flush, where the step had no error. Else the count stays.
 abbrev pub HasSentCause : ℕ → ℕ → Result (Option Progress) ServeError → Option (Result Progress ServeError) → Type 0
 HasSentCause old new (Ok step) (Some result) = HasFlushed old new result
 HasSentCause old new step result = new ≡ old

@@ -1,4 +1,4 @@
-//! Why a session is given up, and how it goes on.
+//! Why a conversation is given up, and whether it goes on after a piece of the input.
 
 ghost use Rattle.std.specs.Prelude.{◌≡◌};
 ghost use Rattle.conversation_runs.specs.declared.ends.ServeError.TheVariants.{NoMemory};

@@ -1,4 +1,5 @@
-//! Laws of the session's run. The function takes nothing and does nothing: its contract is the law.
+//! A law of the session's run. The function takes nothing and does nothing: its contract is the
+//! law.
 
 ghost use Rattle.std.specs.Prelude.{ℕ, List, ◌++◌, Option, Result};
 ghost use Rattle.pg_client.specs.Answer.{Goes};
@@ -10,8 +11,8 @@ ghost use Rattle.conversation_runs.specs.Steps.{IsServed, WasFed};
 ghost use Rattle.conversation_runs.specs.declared.ends.Progress.{Progress};
 ghost use Rattle.conversation_runs.specs.declared.ends.ServeError.{ServeError};
 
-/// What was served of a text, and then fed with a piece, was fed with the text and the piece as
-/// one: bytes, calls, and where the conversation stands don't tell how the client's bytes were cut.
+/// Serving a text, and then feeding a piece, is the same as feeding the text and the piece as one.
+/// The bytes, the calls and the state don't depend on how the client's bytes were cut.
 pub fn pieces_join<S>()
     ensures { (h : Handlers S) (s t u : State S) (text mid piece rest : List ℕ)
         (first before after : Option (List ℕ)) (out waiting : List ℕ)

@@ -1,6 +1,6 @@
-//! What a run of the conversation is, however the client's bytes are cut: the sources that they come
-//! from, the sinks that the replies go to, why a conversation is given up, and the law that pieces
-//! join. What a step of a session does is defined here, over any table.
+//! Runs of the conversation, which don't depend on how the client's bytes are cut; the sources of
+//! these bytes; the sinks of the replies; why a conversation is given up; and the law that pieces
+//! join. What a step of a session does is defined here too, over any table.
 #![tactic(auto)]
 
 mod ends;

@@ -15,12 +15,13 @@ pub trait Source {
     ghost reads: { Self → ℕ };
     // the number of reads that failed
     ghost faults: { Self → ℕ };
-    // what it was made over, as numbers, so that a caller who lent something to it knows it again
+    // numbers that identify what it was made over, so that the lender can check that it is still
+    // the same
     ghost origin: { Self → List ℕ } = { λ _. [] };
 
-    /// Reads at least one byte and at most as many as fit, or answers 0 where no byte is left for
-    /// ever. SourceFailed comes only where the count of faults rose; then nothing was taken. An Ok
-    /// leaves the count.
+    /// Reads at least one byte, and at most as many as fit. 0 says that the input has ended.
+    /// SourceFailed comes only where the count of faults rose, and nothing was taken then. An Ok
+    /// leaves the count as it was.
     fn receive(&mut self, into: &mut [u8]) -> Result<usize, SourceFailed>
         requires { 0 < length into.old }
         ensures fits { IfOk result (λ n. n ≤ length into.old) }
@@ -34,7 +35,7 @@ pub trait Source {
         ensures origin { origin self.new ≡ origin self.old };
 }
 
-/// Why bytes were not all written.
+/// Why not all bytes were written.
 #[derive(Clone, Copy, Debug, PartialEq, Eq)]
 pub enum SinkError {
     /// The write failed.
@@ -49,11 +50,12 @@ pub trait Sink {
     ghost written: { Self → Option (List ℕ) };
     // the number of writes that failed
     ghost faults: { Self → ℕ };
-    // what it was made over, as numbers, so that a caller who lent something to it knows it again
+    // numbers that identify what it was made over, so that the lender can check that it is still
+    // the same
     ghost origin: { Self → List ℕ } = { λ _. [] };
 
-    /// Writes all bytes. Failed comes only where the count of faults rose; Ok and NoMemory leave
-    /// it. After an error a front of the bytes was written.
+    /// Writes all bytes. Failed comes only where the count of faults rose; Ok and NoMemory leave it
+    /// as it was. After an error a front of the bytes was written.
     fn send(&mut self, bytes: &[u8]) -> Result<(), SinkError>
         ensures ok { OnOk result (GrowsBy (written self.old) (written self.new) bytes.now) }
         ensures err { OnErr result (GrowsByFront (written self.old) (written self.new) bytes.now) }

@@ -19,7 +19,8 @@ stepped s replies (Some e) others = record { replies = replies; outcome = Failed
 abbrev pub copy_step : {S : Type 0} → State S → CopyStep → Effect S
 copy_step s step = stepped s step.replies step.refusal (says [] s)
 
--- The COPY is done: in a Query the server is ready for the next, with the status that was kept; in an extended query nothing is said.
+-- The COPY is done: in a Query the server is ready for the next, with the status that was kept; in an extended query
+-- nothing is replied.
 abbrev pub copied : {S : Type 0} → Bool → State S → Effect S
 copied true s = says [] (in_phase s phase.ReadyForQuery)
 copied false s = says (ready s.info.status ∷ []) (in_phase s phase.ReadyForQuery)

@@ -28,14 +28,15 @@ use Rattle.pg_client.specs.Effect.{Effect, Called, says, refuses, stopped, silen
 abbrev pub at_stage : {S : Type 0} → TablePortal S → Stage → TablePortal S
 at_stage p stage = record { bound = p.bound; stage = stage }
 
--- A page at its limit leaves the portal suspended, one at the end is told by the tag, and one at an error is answered by the error alone.
+-- A page at its limit ends with PortalSuspended, one at the end of the rows with the tag. One at an error replies the
+-- error alone.
 abbrev pub page_effect : {S : Type 0} → State S → List ℕ → ℕ → List DataRow → PageEnd DataRow → Effect S
 page_effect s tag number rows (AtLimit items) = says (page_replies tag number rows (AtLimit items)) s
 page_effect s tag number rows AtEnd = says (page_replies tag number rows AtEnd) s
 page_effect s tag number rows (AtError e items) = refuses s e
 
--- A page of the response, and the portal behind it under its name. The tag tells the number of rows delivered since the portal was
--- started, with those of the page.
+-- A page of the response. The portal as it is after the page stands under the name. The tag counts the rows delivered
+-- since the portal was started, with those of the page.
 abbrev pub fetched : {S : Type 0} → State S → Execute → TablePortal S → ToldRows → ℕ → Effect S
 fetched s m p r delivered =
     let page = item_page m.max_rows r.items in
@@ -48,7 +49,7 @@ fetched_nothing s delivered = says (done_with (codes "SELECT") delivered ∷ [])
 
 -- ---- a portal that isn't started
 
--- the state behind what was sent: its status, and the phase of a COPY where one has begun
+-- the state after what was sent: its status, and the phase of a COPY where one has begun
 abbrev pub state_behind : {S : Type 0} → State S → Sent → State S
 state_behind s sent = with_status (if sent.copying then in_phase s (phase.CopyInProgress true) else s) sent.status
 
@@ -62,8 +63,8 @@ executed_other s r =
     let sent = responded s.info.status r in
     sent_in_execute s sent sent.refusal
 
--- A response without rows leaves the portal as it is. An error is one of the message, and the end of a transaction takes the unnamed
--- portal away.
+-- A response without rows leaves the portal unstarted. A response that is an error is an error of the message. The end
+-- of a transaction removes the unnamed portal.
 abbrev pub executed_without_rows : {S : Type 0} → State S → ToldResponse → Effect S
 executed_without_rows s (response.Error info) = refuses s (wire.UserError info)
 executed_without_rows s (response.TransactionEnd tag) = executed_other (without_unnamed_portal s) (response.TransactionEnd tag)

@@ -1,4 +1,4 @@
--- What an Execute makes of a portal: its page, how its query ends, and what is left behind.
+-- What an Execute makes of a portal: its page, how its query ends, and what is left.
 use Rattle.std.specs.Prelude.{ℕ, ℤ, Bool, true, false, List, [], ◌∷◌, ◌++◌, Option, Some, None, Result, Ok, Err, ◌≡◌, ◌⊎◌, length, codes}
 use Rattle.std.specs.Option.{IsSomeAnd}
 use Rattle.std.specs.FinMap as fin
@@ -28,7 +28,7 @@ abbrev pub has_rows : ToldResponse → Bool
 has_rows (response.Query r) = true
 has_rows _ = false
 
--- what a page replies, how far the portal has come then, and the error that it met
+-- the replies of a page, how far the portal has come then, and the error that the page met
 pub record StagePage : Type 0 where
   pub replies : Replies
   pub stage : Stage
@@ -50,7 +50,7 @@ response_page r delivered page = record {
 abbrev pub refused_page : Stage → PgWireError → StagePage
 refused_page stage e = record { replies = []; stage = stage; refusal = Some e }
 
--- the page of a portal that has come so far
+-- the next page of a portal at this stage
 abbrev pub page_result : ℤ → Stage → StagePage
 page_result limit (Started r delivered) = response_page r delivered (item_page limit r.items)
 page_result limit (Ended delivered) = record {
@@ -60,7 +60,7 @@ page_result limit (Ended delivered) = record {
 }
 page_result limit Unstarted = refused_page Unstarted wire.PortalNotStarted
 
--- the page was sent, or met its error; or memory is wanting
+-- the page was sent, or met its error; or memory ran out
 abbrev pub IsPageOf : {A : Type 0} → StagePage → Stage → List ℕ → List ℕ → Result A PgWireError → Type 0
 IsPageOf page stage out new_out (Ok x) = (page.refusal ≡ None) × (stage ≡ page.stage) × (new_out ≡ out ++ replies_bytes page.replies)
 IsPageOf page stage out new_out (Err e) = (e ≡ wire.NoMemory)
@@ -74,18 +74,19 @@ portal_under maps name = value_under (fin.get maps.portals name)
 abbrev pub HasUnstarted : {S : Type 0} → Maps S → List ℕ → Type 0
 HasUnstarted maps name = IsSomeAnd (portal_under maps name) (λ p. p.stage ≡ Unstarted)
 
--- the statements and portals are as they were, or the unnamed portal went
+-- the statements and portals are as they were, or the unnamed portal was removed
 abbrev pub OnlyLosesUnnamed : {S : Type 0} → Maps S → Maps S → Type 0
 OnlyLosesUnnamed old new = (new ≡ old) ⊎ (new ≡ maps_without_portal old [])
 
--- how far a portal may have come behind an Execute that was refused: one that isn't started may be so, and a started one still is, with a
--- rest of its items
+-- How far a portal may have come after an Execute that was refused. One that wasn't started may be at any stage. A
+-- started one is still started, with a rest of its items. A finished one is as it was.
 abbrev pub HasComeTo : Stage → Stage → Type 0
 HasComeTo Unstarted new = Unit {0}
 HasComeTo (Started r delivered) new = IsKept (Started r delivered) new
 HasComeTo (Ended delivered) new = new ≡ Ended delivered
 
--- What a refused Execute leaves: the statements and portals are as they were, but that the portal of its name may have come further.
+-- What a refused Execute leaves: the statements and portals are as they were, except that the portal of its name may
+-- have come further.
 abbrev pub IsLeftBehind : {S : Type 0} → Maps S → List ℕ → Maps S → Type 0
 IsLeftBehind {S} old name new = (new ≡ old) ⊎ ((p : TablePortal S) × (stage : Stage) × (value_under (fin.get old.portals name) ≡ Some p)
     × HasComeTo p.stage stage × (new ≡ maps_with_portal old name (entry.Value (at_stage p stage))))

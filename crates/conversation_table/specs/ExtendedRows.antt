@@ -65,7 +65,7 @@ portal_bound m statement = record { bound = bound_by m statement; stage = Unstar
 abbrev pub bound_portal : {S : Type 0} → State S → Bind → StoredStatement S → Effect S
 bound_portal s m statement = says bind_complete (with_portal s m.portal_name (entry.Value (portal_bound m statement)))
 
--- Several result codes have to be as many as the columns at least.
+-- Two or more result codes have to be at least as many as the columns.
 abbrev pub bound_with_columns : {S : Type 0} → State S → Bind → StoredStatement S → Result (List Field) PgWireError → Effect S
 bound_with_columns s m statement (Err e) = refuses s e
 bound_with_columns s m statement (Ok columns) =
@@ -73,7 +73,7 @@ bound_with_columns s m statement (Ok columns) =
     then refuses s (wire.UserError (too_few_codes (length m.result_column_format_codes) (length columns)))
     else bound_portal s m statement
 
--- None and one code serve for all columns, and the parser isn't asked.
+-- No code, or one, serves for all columns, and the parser isn't asked.
 abbrev pub bound_statement : {S : Type 0} → ParserTold S → State S → Bind → StoredStatement S → Effect S
 bound_statement parser s m statement =
     if nat_le 2 (length m.result_column_format_codes)
@@ -89,11 +89,11 @@ bound h s m (Some (entry.Value statement)) = bound_statement h.parser s m statem
 abbrev pub on_bind : {S : Type 0} → ExtendedTold S → State S → Bind → Effect S
 on_bind h s m = bound h s m (fin.get s.statements m.statement_name)
 
--- so many result codes are enough for the columns
+-- this many result codes are enough for the columns
 abbrev pub HasEnough : ℕ → Result (List Field) PgWireError → Type 0
 HasEnough codes columns = 2 ≤ codes → IsOkAnd columns (λ fields. length fields ≤ codes)
 
--- so many result codes are too few for the columns, or these aren't told
+-- this many result codes are too few for the columns, or the parser told an error in place of the columns
 abbrev pub IsTooFew : ℕ → Result (List Field) PgWireError → PgWireError → Type 0
 IsTooFew codes (Err told) e = (2 ≤ codes) × (e ≡ told)
 IsTooFew codes (Ok fields) e = (2 ≤ codes) × (codes < length fields) × (e ≡ wire.UserError (too_few_codes codes (length fields)))
@@ -107,7 +107,7 @@ statement_description d = description (record { parameters = Some d.parameters; 
 abbrev pub portal_description : DescribePortalResponse → Replies
 portal_description d = description (record { parameters = None; fields = d.fields })
 
--- what a handler told is described so, or its error is answered
+-- a handler's description is sent as its replies, or its error is that of the message
 abbrev pub described : {S D : Type 0} → State S → (D → Replies) → Result D PgWireError → Effect S
 described s shown (Ok d) = says (shown d) s
 described s shown (Err e) = refuses s e

@@ -1,4 +1,4 @@
--- What stands in a good store, and what can be sent of what handlers tell.
+-- When a state is good, and when the outcomes of handlers can be sent.
 use Rattle.std.specs.Prelude.{ℕ, false, List, Some, None, Result, Ok, Err, ◌≡◌, ◌≤◌, IsTrue, length}
 use Rattle.std.specs.List.{AllByRecursion}
 use Rattle.std.specs.FinMap as fin
@@ -27,7 +27,7 @@ IsGiven m = (frame : List ℕ) × IsFrame false frame m
 
 -- ---- what handlers tell
 
--- what a response tells becomes replies
+-- the response can be sent as replies
 abbrev pub IsSendableResponse : ToldResponse → Type 0
 IsSendableResponse response.EmptyQuery = Unit {0}
 IsSendableResponse (response.Query r) = IsEncodable (row_description r.fields) × IsTag r.command_tag
@@ -39,17 +39,17 @@ IsSendableResponse (response.CopyIn c) = c.columns ≤ 32767
 IsSendableResponse (response.CopyOut c) = c.columns ≤ 32767
 IsSendableResponse (response.CopyBoth c) = c.columns ≤ 32767
 
--- an outcome of an extended query
+-- the outcome of an extended query can be sent as replies
 abbrev pub IsSendableOutcome : Result ToldResponse PgWireError → Type 0
 IsSendableOutcome (Ok answered) = IsSendableResponse answered
 IsSendableOutcome (Err error) = IsItemError error
 
--- an outcome of a simple query
+-- the outcome of a simple query can be sent as replies
 abbrev pub AreSendable : Result (List ToldResponse) PgWireError → Type 0
 AreSendable (Ok answered) = AllByRecursion IsSendableResponse answered
 AreSendable (Err error) = IsItemError error
 
--- what a describe tells becomes replies
+-- the description can be sent as replies
 pub record IsSendableDescription (d : DescribeStatementResponse) : Type 0 where
   pub parameters : IsEncodable (parameter_description d.parameters)
   pub fields : IsEncodable (row_description d.fields)

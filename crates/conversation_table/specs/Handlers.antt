@@ -1,4 +1,4 @@
--- What the parts of a server tell: the handlers of extended and of simple queries, and the handler of COPY.
+-- The handlers of a server, as contracts see them: of extended and of simple queries, and of COPY.
 use Rattle.std.specs.Prelude.{ℕ, ℤ, Bool, List, Option, Result, Ok, Err}
 use Rattle.pg_results.specs.declared.error.PgWireError.{PgWireError}
 use Rattle.pg_results.specs.declared.client.ClientInfo.{ClientInfo}
@@ -13,7 +13,7 @@ use Rattle.pg_portal.specs.Told.{BoundPortal}
 use Rattle.pg_results.specs.Responses.{ToldResponse, told_response, told_responses}
 use Rattle.pg_replies.specs.Replies.{Replies}
 
--- a query as its handler tells it: the number of polls that find it unready, and what it answers then
+-- a query as its handler tells it: the number of polls that find it unready, and its outcome after them
 pub record ToldQuery (A : Type 0) : Type 0 where
   pub owes : ℕ
   pub outcome : Result A PgWireError

@@ -1,4 +1,4 @@
--- What the handlers tell that implement nothing: queries and COPY are refused with FATAL, and there is nothing to describe.
+-- The handlers that implement nothing: they refuse queries and COPY with FATAL, and describe nothing.
 use Rattle.std.specs.Prelude.{ℕ, Bool, true, false, List, [], Option, Some, None, Result, Ok, Err}
 use Rattle.pg_messages.specs.declared.response.ErrorInfo.{ErrorInfo}
 use Rattle.pg_results.specs.declared.error.PgWireError.{PgWireError}

@@ -11,7 +11,8 @@ abbrev pub session_outcome : {A : Type 0} → Result A PgWireError → Result A 
 session_outcome (Ok x) = Ok x
 session_outcome (Err e) = Err (session.Wire e)
 
--- What a query of this effect ends with, where its questions came to this verdict. It stops exactly where an answer is missing.
+-- How a query of this effect ends, where its questions came to this verdict. It stops exactly where an answer is
+-- missing.
 abbrev pub IsRunEnd : {S A : Type 0} → Effect S → Verdict → List ℕ → List ℕ → State S → Result A SessionError → Type 0
 IsRunEnd effect verdict out new_out s (Ok x) = IsEffect effect out new_out (Done s)
 IsRunEnd effect verdict out new_out s (Err (session.Wire e)) = IsRefusedEffect effect out new_out s e

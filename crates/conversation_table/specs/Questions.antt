@@ -1,4 +1,4 @@
--- The registry calls of a query: one start, and a question behind each poll that found it unready.
+-- The registry calls of a query: one start, and a question after each poll that found it unready.
 use Rattle.std.specs.Prelude.{ℕ, zero, suc, Bool, true, false, List, [], ◌∷◌, ◌++◌, ◌+◌, ◌≡◌, ◌≤◌, ◌⊎◌, Result, Ok, Err, length, drop}
 use Rattle.pg_results.specs.declared.error.PgWireError.TheVariants as wire
 use Rattle.pg_client.specs.declared.ends.SessionError.{SessionError}
@@ -21,7 +21,7 @@ pub record Questioned : Type 0 where
 abbrev pub after_call : DeskCall → Questioned → Questioned
 after_call call q = record { calls = call ∷ q.calls; verdict = q.verdict }
 
--- the questions of so many unready polls, under the answers to come
+-- the questions of this many unready polls, with these answers to come
 abbrev pub questioned : ℕ → List Bool → Questioned
 questioned zero answers = record { calls = []; verdict = Passed }
 questioned (suc owed) [] = record { calls = []; verdict = Unanswered }
@@ -39,13 +39,14 @@ questions (desk.Ask told ∷ calls) = questions calls + 1
 questions (desk.Cancel pid key told ∷ calls) = questions calls
 questions (desk.Narrow ∷ calls) = questions calls
 
--- The questions of so many unready polls were asked, under the very answers that they were given, and came to this verdict.
+-- The questions of this many unready polls were asked, with exactly the answers that they were given, and came to this
+-- verdict.
 pub record IsAsked (owes : ℕ) (calls new_calls : List DeskCall) (verdict : Verdict) : Type 0 where
   pub made : List DeskCall
   pub grown : new_calls ≡ calls ++ made
   pub asked : questioned owes (answers_of made) ≡ record { calls = made; verdict = verdict }
 
--- what a query that was asked for comes to, by its verdict
+-- the result of waiting for a query, by the verdict of its questions
 abbrev pub IsVerdict : {A : Type 0} → A → Verdict → Result A SessionError → Type 0
 IsVerdict outcome verdict (Ok out) = (verdict ≡ Passed) × (out ≡ outcome)
 IsVerdict outcome verdict (Err session.TurnLimit) = verdict ≡ Unanswered
@@ -59,15 +60,16 @@ questions_since calls new_calls = questions (drop (length calls) new_calls)
 abbrev pub EndsWithYes : List DeskCall → List DeskCall → Type 0
 EndsWithYes calls new_calls = (made : List DeskCall) × (new_calls ≡ calls ++ (made ++ desk.Ask true ∷ []))
 
--- The errors of a query that the session itself tells: it is canceled only where its last question was answered yes, and it is never told
--- that the client isn't ready, or that a portal isn't started.
+-- The session's own errors of a query: QueryCanceled comes only where its last question was answered yes, and
+-- NotReadyForQuery and PortalNotStarted never come.
 abbrev pub IsCausedSo : List DeskCall → List DeskCall → SessionError → Type 0
 IsCausedSo calls new_calls (session.Wire wire.QueryCanceled) = EndsWithYes calls new_calls
 IsCausedSo calls new_calls (session.Wire wire.NotReadyForQuery) = ⊥
 IsCausedSo calls new_calls (session.Wire wire.PortalNotStarted) = ⊥
 IsCausedSo calls new_calls _ = Unit {0}
 
--- Turns were spent on questions, and on nothing else; where memory was wanting, one more may be spent. None is left where one more was met.
+-- Turns were spent on questions, and on nothing else. Where memory ran out, one more may be spent. At TurnLimit none is
+-- left.
 abbrev pub HasSpent : {A : Type 0} → Turns → Turns → ℕ → Result A SessionError → Type 0
 HasSpent old new asked (Ok out) = new ≡ record { spent = old.spent + asked; limit = old.limit }
 HasSpent old new asked (Err session.TurnLimit) = (new ≡ record { spent = old.spent + asked; limit = old.limit }) × (old.limit ≤ new.spent)

@@ -15,7 +15,7 @@ use Rattle.pg_client.specs.State.{State, in_phase, with_status}
 use Rattle.pg_replies.specs.ResponseRows.{Sent, sent, responded}
 use Rattle.pg_client.specs.Effect.{Effect, Called, says, refuses, stopped, silent, Failed}
 
--- what was sent of a response, and of those behind it unless an error cut it short
+-- what was sent of a response, and of those after it unless an error cut it short
 abbrev pub followed : Sent → Option PgWireError → Sent → Sent
 followed first None others = record {
   replies = first.replies ++ others.replies;
@@ -56,7 +56,7 @@ query_run answers s query =
     let asked = started query.owes answers in
     record { calls = asked.calls; effect = query_polled s asked.verdict query.outcome }
 
--- Query: a blank one asks nothing.
+-- Query: a blank one makes no call of the registry.
 abbrev pub on_query : {S : Type 0} → SimpleTold → List Bool → State S → Query → Called S
 on_query h answers s m =
     if is_blank m.query then silent (says (server.EmptyQueryResponse (record {}) ∷ ready s.info.status ∷ []) s)

@@ -1,4 +1,4 @@
--- Whole conversation table: what a message is answered in a state, whatever the handlers tell (protocol: Message Flow).
+-- Whole conversation table: the answer to a message in a state, with any handlers (protocol: Message Flow).
 use Rattle.std.specs.Prelude.{Bool, true, false, List, []}
 use Rattle.pg_messages.specs.declared.frontend.PgWireFrontendMessage.{PgWireFrontendMessage}
 use Rattle.pg_messages.specs.declared.frontend.PgWireFrontendMessage.TheVariants as client
@@ -15,7 +15,7 @@ use Rattle.conversation_table.specs.ExecuteRow.{on_execute}
 use Rattle.conversation_table.specs.SimpleRows.{on_query}
 use Rattle.conversation_table.specs.CopyRows.{copy_row}
 
--- Messages that call nothing while the server is ready: those of a COPY, and Flush, say nothing.
+-- Messages without a registry call, while the server is ready. Those of a COPY, and Flush, get no reply.
 abbrev pub statement_row : {S : Type 0} → ExtendedTold S → State S → PgWireFrontendMessage → Effect S
 statement_row h s (client.Parse m) = on_parse h s m
 statement_row h s (client.Bind m) = on_bind h s m
@@ -31,7 +31,7 @@ ready_row h answers s (client.Query m) = on_query h.simple answers s m
 ready_row h answers s (client.Execute m) = on_execute h.extended answers s m
 ready_row h answers s m = silent (statement_row h.extended s m)
 
--- a message that calls nothing while the server is ready, and doesn't end the conversation
+-- a message without a registry call while the server is ready, which doesn't end the conversation
 abbrev pub IsPlain : PgWireFrontendMessage → Type 0
 IsPlain (client.Query m) = ⊥
 IsPlain (client.Execute m) = ⊥

@@ -1,7 +1,6 @@
-//! The whole conversation table: what the handlers of a server tell, and what each message is
-//! answered in each phase, whatever they tell. It has no code: its definitions are what contracts
-//! cite, its lemmas are what proofs of the handlers and of the session stand on, and the one
-//! function's contract is a law of the table.
+//! The whole conversation table: how each message is answered in each phase, with any handlers. The
+//! crate has no code. Contracts cite its definitions. Proofs of the handlers and of the session use
+//! its lemmas. The contract of its one function is a law of the table.
 #![tactic(auto)]
 
 mod laws;

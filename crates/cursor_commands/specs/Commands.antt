@@ -29,6 +29,6 @@ abbrev pub command_in : List (List ℕ) → Option CursorCommand
 command_in spelled = option_or (option_map (λ names. Declare names.0 names.1) (declared_by spelled))
     (option_or (option_map (λ fetch. Fetch fetch.0 fetch.1) (fetched_by spelled)) (option_map (λ name. Close name) (closed_by spelled)))
 
--- The command that a query is, without whitespace and semicolons at both ends; None of any other query.
+-- The command that a query is, without whitespace and semicolons at both ends; None for any other query.
 abbrev pub command_of : List ℕ → Option CursorCommand
 command_of query = command_in (words (trimmed query))

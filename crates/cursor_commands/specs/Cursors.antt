@@ -20,7 +20,7 @@ Replies = List PgWireBackendMessage
 abbrev pub done : List ℕ → PgWireBackendMessage
 done tag = server.CommandComplete (record { tag = tag })
 
--- so many rows were fetched
+-- this many rows were fetched
 abbrev pub fetched : ℕ → PgWireBackendMessage
 fetched rows = done (codes "FETCH" ++ spaced rows)
 
@@ -51,7 +51,7 @@ is_left_by_error (server.ErrorResponse m) = true
 is_left_by_error (server.ReadyForQuery m) = true
 is_left_by_error _ = false
 
--- One reply of a FETCH of so many rows: nothing in the place of NoData, and `FETCH rows` where the rows end or are suspended.
+-- One reply of a FETCH of `rows` rows: nothing in the place of NoData, and `FETCH rows` where the rows end or are suspended.
 abbrev pub fetch_reply : ℕ → PgWireBackendMessage → Replies
 fetch_reply rows (server.NoData m) = []
 fetch_reply rows (server.PortalSuspended m) = fetched rows ∷ []

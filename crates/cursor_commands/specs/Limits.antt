@@ -13,6 +13,6 @@ is_count word = not (length word == 0) && list_all is_ascii_digit word && not (s
 abbrev pub count_of : List ℕ → Option ℤ
 count_of word = if is_count word && nat_lt (digits_value 10 word) (2 ^ 31) then Some (pos (digits_value 10 word)) else None
 
--- ALL, in any ASCII case, is no limit, which 0 tells.
+-- ALL, in any ASCII case, is no limit, which 0 stands for.
 abbrev pub limit_of : List ℕ → Option ℤ
 limit_of word = if is_word word (codes "ALL") then Some (pos 0) else count_of word

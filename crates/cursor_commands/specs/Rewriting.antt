@@ -45,24 +45,24 @@ abbrev pub Becomes : (Replies → Replies) → List ℕ → List ℕ → Type 0
 Becomes change old new = (replies : Replies) → AllByRecursion FitsLen replies → old ≡ replies_bytes replies
     → new ≡ replies_bytes (change replies)
 
--- the replies of a FETCH of so many rows
+-- the replies of a FETCH of `rows` rows
 abbrev pub fetch_replies : ℕ → Replies → Replies
 fetch_replies rows replies = flat_map (fetch_reply rows) replies
 
--- the replies of a command that succeeded, by those of its messages, where so many of them are rows
+-- the replies of a command that succeeded, by those of its messages, where `rows` of them are rows
 abbrev pub counted_replies : CursorCommand → ℕ → Replies → Replies
 counted_replies (Declare name relation) rows replies = done (codes "DECLARE CURSOR") ∷ filter is_ready replies
 counted_replies (Fetch limit name) rows replies = fetch_replies rows replies
 counted_replies (Close name) rows replies = done (codes "CLOSE CURSOR") ∷ filter is_ready replies
 
--- A reply of this type begins the bytes, and has so many of them: as many as its header tells.
+-- A reply of this type begins the bytes, and has `len` of them: as many as its header tells.
 pub record BeginsReply (kind : ℕ) (bytes : List ℕ) (len : ℕ) : Type 0 where
   pub some : 0 < len
   pub within : len ≤ length bytes
   pub type : slice_index bytes 0 ≡ kind
   pub told : 5 ≤ length bytes → told_len false bytes ≤ length bytes → len ≡ told_len false bytes
 
--- A row's header begins these bytes, behind which bytes may stand; so many of those that are left belong to it: as many as its header tells.
+-- A row's header begins `front`. Of the `left` bytes that are left from there on, `len` belong to the row: as many as its header tells.
 pub record BeginsRow (front : List ℕ) (left len : ℕ) : Type 0 where
   pub header : 5 ≤ length front
   pub type : slice_index front 0 ≡ 68
@@ -70,8 +70,8 @@ pub record BeginsRow (front : List ℕ) (left len : ℕ) : Type 0 where
   pub within : len ≤ left
   pub told : told_len false front ≤ left → len ≡ told_len false front
 
--- In front of replies stand columns, and behind them rows, so many, which have these bytes: what becomes of the replies, whatever their
--- count, is the page and what becomes of those that are left; of replies among which is an error the columns and what becomes of those.
+-- Replies begin with a page, which is columns and then `rows` rows. What becomes of the replies, whatever count is told, is the page and
+-- then what becomes of those that are left. Where an error is among them, it is the columns and then what becomes of those that are left.
 pub record IsPage (change : ℕ → Replies → Replies) (replies : Replies) (columns page rest : List ℕ) (rows : ℕ) : Type 0 where
   pub left : Replies
   pub fits : AllByRecursion FitsLen left
@@ -81,12 +81,12 @@ pub record IsPage (change : ℕ → Replies → Replies) (replies : Replies) (co
   pub same : (n : ℕ) → replies_bytes (change n replies) ≡ page ++ replies_bytes (change n left)
   pub failed : replies_bytes (flat_map (changed Failed) replies) ≡ columns ++ replies_bytes (flat_map (changed Failed) left)
 
--- The page in front of the replies that these bytes are: its columns have so many bytes, it has so many, and so many rows.
+-- The replies that these bytes are begin with a page: its columns have `columns` bytes, all of it has `len` bytes, and it has `rows` rows.
 abbrev pub HasPage : (ℕ → Replies → Replies) → List ℕ → ℕ → ℕ → ℕ → Type 0
 HasPage change bytes columns len rows = (replies : Replies) → AllByRecursion FitsLen replies → bytes ≡ replies_bytes replies
     → IsPage change replies (take columns bytes) (take len bytes) (drop len bytes) rows
 
--- So many rows, with so many bytes, stand at a place: a page that ends there goes on through them.
+-- At place `at` stand `count` rows, with `len` bytes: a page that ends there goes on through them.
 abbrev pub HasRows : List ℕ → ℕ → ℕ → ℕ → Type 0
 HasRows bytes at len count = (columns rows : ℕ) → HasPage fetch_replies bytes columns at rows
     → HasPage fetch_replies bytes columns (at + len) (rows + count)

@@ -14,7 +14,7 @@ use std::alloc::{AllocError, Global};
 pub enum CursorCommand {
     /// DECLARE: a cursor of this name, over the relation of that name.
     Declare(PgStr, PgStr),
-    /// FETCH: at most so many rows of the cursor of this name, where 0 is all that are left.
+    /// FETCH: at most this many rows of the cursor of this name; 0 is all that are left.
     Fetch(i32, PgStr),
     /// CLOSE: the cursor of this name goes.
     Close(PgStr),
@@ -22,7 +22,7 @@ pub enum CursorCommand {
 
 /// The command that a query is: `DECLARE c CURSOR FOR r`, `FETCH n FROM c`, `FETCH ALL FROM c` or
 /// `CLOSE c`, with key words in any ASCII case. Whitespace and semicolons at both ends count for
-/// nothing, and whitespace parts the words. None is any other query.
+/// nothing, and whitespace separates the words. None for any other query.
 pub fn read_cursor(alloc: Global, query: &str) -> Result<Option<CursorCommand>, AllocError>
     ensures { IfOk result (λ command. command ≡ command_of query.now) }
 {
@@ -43,7 +43,7 @@ pub fn read_cursor(alloc: Global, query: &str) -> Result<Option<CursorCommand>, 
     Ok(Some(CursorCommand::Close(name)))
 }
 
-/// The names in `DECLARE name CURSOR FOR relation`. None is any other text.
+/// The names in `DECLARE name CURSOR FOR relation`. None for any other text.
 fn read_declare(text: &str) -> Option<(&str, &str)>
     ensures { option_map (λ names. (names.0.now, names.1.now)) result
         ≡ declared_by (words text.now) }
@@ -70,7 +70,7 @@ fn is_declare(declare: &str, cursor: &str, over: &str) -> bool
         && over.eq_ignore_ascii_case("FOR")
 }
 
-/// The limit and the name in `FETCH limit FROM name`. None is any other text.
+/// The limit and the name in `FETCH limit FROM name`. None for any other text.
 fn read_fetch(text: &str) -> Option<(i32, &str)>
     ensures { option_map (λ fetch. (fetch.0, fetch.1.now)) result ≡ fetched_by (words text.now) }
 {
@@ -93,7 +93,7 @@ fn is_fetch(fetch: &str, from: &str) -> bool
     fetch.eq_ignore_ascii_case("FETCH") && from.eq_ignore_ascii_case("FROM")
 }
 
-/// The name in `CLOSE name`. None is any other text.
+/// The name in `CLOSE name`. None for any other text.
 fn read_close(text: &str) -> Option<&str>
     ensures { option_map (λ name. name.now) result ≡ closed_by (words text.now) }
 {

@@ -6,7 +6,7 @@ ghost use Rattle.std.specs.List.{list_all};
 ghost use Rattle.cursor_commands.specs.Limits.{is_count, count_of, limit_of};
 
 /// The limit of rows that a word tells: 1 to 2147483647 in decimal without a leading zero; or ALL,
-/// in any ASCII case, which is 0. None is any other word.
+/// in any ASCII case, which is 0. None for any other word.
 pub(crate) fn read_limit(word: &str) -> Option<i32>
     ensures { result ≡ limit_of word.now }
 {

@@ -1,4 +1,4 @@
-//! The columns and the rows in front of replies that wait.
+//! The columns and the rows at the front of replies that wait.
 
 ghost use Rattle.std.specs.Prelude.{◌≡◌, ◌<◌, ◌≤◌, ◌+◌, ◌^◌, ◌++◌, ℕ, List, false, length, drop, slice_index, IfOk, IfSome};
 ghost use Rattle.pg_messages.specs.Frames.{told_len};
@@ -9,7 +9,7 @@ use pg_messages::told_len;
 use pg_outbox::Outbox;
 use std::alloc::{AllocError, Global};
 
-/// What stands in front of the replies to a FETCH: its columns, and its rows.
+/// What the replies to a FETCH begin with: its columns, and its rows.
 #[derive(Clone, Copy, Debug, PartialEq, Eq)]
 pub(crate) struct Page {
     /// How many bytes the columns have.
@@ -20,7 +20,7 @@ pub(crate) struct Page {
     pub(crate) rows: usize,
 }
 
-/// Rows, one behind another.
+/// Rows, one after another.
 #[derive(Clone, Copy, Debug, PartialEq, Eq)]
 struct Rows {
     /// How many bytes they have.
@@ -29,7 +29,7 @@ struct Rows {
     count: usize,
 }
 
-/// The columns and the rows in front of the replies to a FETCH, which have so many bytes.
+/// The columns and the rows at the front of the replies to a FETCH, which have `all` bytes.
 pub(crate) fn page_of(replies: &Outbox, all: usize) -> Page
     requires { all ≡ length replies.now }
     ensures within { result.len ≤ length replies.now }
@@ -39,7 +39,7 @@ pub(crate) fn page_of(replies: &Outbox, all: usize) -> Page
     page_behind(replies, columns_len(replies, all), all)
 }
 
-/// The page of replies whose columns have so many bytes.
+/// The page of replies whose columns have `columns` bytes.
 fn page_behind(replies: &Outbox, columns: usize, all: usize) -> Page
     requires within { columns ≤ all }
     requires all { all ≡ length replies.now }
@@ -58,7 +58,7 @@ fn page_behind(replies: &Outbox, columns: usize, all: usize) -> Page
     Page { columns, len, rows }
 }
 
-/// How many bytes the columns have in front of replies; none where no columns stand there.
+/// How many bytes the columns at the front of replies have; 0 where no columns stand there.
 fn columns_len(replies: &Outbox, all: usize) -> usize
     requires { all ≡ length replies.now }
     ensures within { result ≤ length replies.now }
@@ -70,8 +70,8 @@ fn columns_len(replies: &Outbox, all: usize) -> usize
     }
 }
 
-/// The rows from a place on, behind which so many bytes are left, whose headers stand in the piece
-/// there. The last may reach behind it.
+/// The rows from a place on, where `left` bytes are left, as far as their headers stand in the piece
+/// at that place. The last row may reach beyond the piece.
 fn rows_at(replies: &Outbox, at: usize, left: usize) -> Rows
     requires { at + left ≡ length replies.now }
     ensures within { result.len ≤ left }
@@ -84,8 +84,8 @@ fn rows_at(replies: &Outbox, at: usize, left: usize) -> Rows
     rows_in(replies, at, replies.piece_at(at), left)
 }
 
-/// The rows in front of what stands from a place on, of which so many bytes are left, as far as their
-/// headers stand in this piece of it.
+/// The rows at the front of what stands from a place on, `left` bytes, as far as their headers stand
+/// in the piece that begins there.
 fn rows_in(replies: &Outbox, at: usize, piece: &[u8], left: usize) -> Rows
     requires left { at + left ≡ length replies.now }
     requires piece { (behind : List ℕ) × (drop at replies.now ≡ piece.now ++ behind) }
@@ -102,8 +102,8 @@ fn rows_in(replies: &Outbox, at: usize, piece: &[u8], left: usize) -> Rows
     Rows { len, count }
 }
 
-/// How many bytes the row at a place of a piece has, of so many that are left, where its header
-/// stands there.
+/// How many of the `left` bytes belong to the row at a place of a piece, where its header stands
+/// there.
 #[inline(always)]
 fn row_len(piece: &[u8], at: usize, left: usize) -> Option<usize>
     ensures { IfSome result (λ len. BeginsRow (drop at piece.now) left len) }
@@ -118,7 +118,7 @@ fn row_len(piece: &[u8], at: usize, left: usize) -> Option<usize>
     Some(left.min(told_len(false, front)))
 }
 
-/// How many bytes the reply at a place has, of so many that are left, where it is of this type.
+/// How many of the `left` bytes belong to the reply at a place, where it is of this type.
 #[inline(always)]
 fn len_at(replies: &Outbox, at: usize, left: usize, kind: u8) -> Option<usize>
     requires { at + left ≡ length replies.now }
@@ -137,7 +137,7 @@ fn len_at(replies: &Outbox, at: usize, left: usize, kind: u8) -> Option<usize>
     Some(left.min(told_len(false, piece)))
 }
 
-/// How many bytes the header of the reply at a place tells, which reaches into the next chunk.
+/// How many bytes the reply at a place has by its header, which reaches into the next chunk.
 #[cold]
 #[inline(never)]
 fn cut_len_at(replies: &Outbox, at: usize) -> usize

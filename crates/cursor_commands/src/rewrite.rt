@@ -17,9 +17,9 @@ use std::alloc::{AllocError, Global};
 /// What becomes of replies that wait.
 #[derive(Drop)]
 pub struct NewReplies {
-    /// So many bytes in front of them stay.
+    /// How many bytes at their front stay.
     pub kept: usize,
-    /// What is to stand behind those.
+    /// What is to stand after those.
     pub behind: BytesMut,
 }
 
@@ -30,7 +30,7 @@ enum Change {
     Ready,
     /// What an error leaves is left.
     Failed,
-    /// So many rows were fetched.
+    /// This many rows were fetched.
     Fetched(usize),
 }
 
@@ -43,8 +43,9 @@ struct Survey {
     rows: usize,
 }
 
-/// Makes of the replies to a command's messages, which wait, those to the command. The columns and
-/// the rows in front of a FETCH's stay where they are, but for the rows of one that failed.
+/// Turns the replies to a command's messages, which wait, into the replies to the command. The
+/// columns and the rows that the replies to a FETCH begin with stay where they are, but the rows of
+/// a FETCH that failed don't.
 pub fn new_replies(
     alloc: Global,
     command: &CursorCommand,
@@ -73,7 +74,7 @@ pub fn new_replies(
     })
 }
 
-/// The columns and the rows in front of the replies to a command's messages, where they are left as
+/// The columns and the rows at the front of the replies to a command's messages, where they stay as
 /// they are.
 fn page_before(command: &CursorCommand, replies: &Outbox, all: usize) -> Page
     requires { all ≡ length replies.now }
@@ -92,7 +93,7 @@ fn page_before(command: &CursorCommand, replies: &Outbox, all: usize) -> Page
     }
 }
 
-/// Appends what becomes of the replies to a command that succeeded, of which so many are rows.
+/// Appends what becomes of the replies to a command that succeeded and brought `rows` rows.
 fn put_counted(
     alloc: Global,
     command: &CursorCommand,
@@ -110,7 +111,7 @@ fn put_counted(
     }
 }
 
-/// Appends CommandComplete with this tag, and of the replies ReadyForQuery.
+/// Appends CommandComplete with this tag, and then ReadyForQuery from the replies.
 fn put_done(alloc: Global, tag: &str, replies: &[u8], out: &mut BytesMut) -> Result<(), AllocError>
     requires { IsEncodable (done tag.now) }
     ensures { OnOk result (AppendsReplies
@@ -184,7 +185,7 @@ fn put_kept(stays: bool, reply: &[u8], out: &mut BytesMut) -> Result<(), AllocEr
     Ok(())
 }
 
-/// Appends what becomes of a reply of a FETCH of so many rows.
+/// Appends what becomes of a reply to a FETCH of `rows` rows.
 fn put_fetched(
     alloc: Global,
     rows: usize,

@@ -25,7 +25,7 @@ impl<S: Serving> Judge for CursorRows<S> {
     }
 }
 
-/// What is otherwise than a row expects.
+/// What differs from what a row expects.
 fn judge_row<'t, S: Serving>(
     alloc: Global,
     serving: &S,
@@ -41,7 +41,8 @@ fn judge_row<'t, S: Serving>(
     }
 }
 
-/// What came of a row that is served once for each number of bytes that the first read gives.
+/// What differs first where a row is served once for each number of bytes that the first read may
+/// give.
 fn judge_cuts<'t, S: Serving>(
     alloc: Global,
     serving: &S,
@@ -56,7 +57,7 @@ fn judge_cuts<'t, S: Serving>(
     Ok(None)
 }
 
-/// What came out otherwise in the case of this number, as a text.
+/// The difference in the case of this number, as a text.
 fn told<'t>(
     alloc: Global,
     case: usize,

@@ -14,7 +14,7 @@ pub type Ending = Result<EndKind, ServeError>;
 
 /// Who serves a client with cursors.
 pub trait Serving: Drop {
-    /// Serves a client that has so many turns, with a registry's answers.
+    /// Serves a client that has `turns` turns, with the registry's answers that the desk has.
     fn serve<'t>(
         &self,
         alloc: Global,
@@ -25,8 +25,8 @@ pub trait Serving: Drop {
     ) -> Result<Ending, Fault<'t>>;
 }
 
-/// The first difference between what a row expects and what came of it, where its reads give so
-/// many bytes.
+/// The first difference between what a row expects and what came of it, where its reads give these
+/// numbers of bytes.
 pub fn judge_one<'t, S: Serving>(
     alloc: Global,
     serving: &S,

@@ -1,4 +1,4 @@
-//! What is otherwise than a row expects.
+//! What differs from what a row expects.
 
 use crate::row::Row;
 use crate::serving::Ending;
@@ -7,20 +7,20 @@ use pg_client::{DeskCall, EndKind};
 use row_files::common_len;
 use std::alloc::{AllocError, Global};
 
-/// What came out otherwise.
+/// What differs.
 #[derive(Clone, Copy)]
 pub enum Difference {
-    /// The conversation ended so.
+    /// The conversation ended with this.
     End(&'static str),
-    /// The replies are others from this byte on.
+    /// The replies differ from this byte on.
     Replies(usize),
-    /// The registry calls are others.
+    /// The registry calls differ.
     Calls,
 }
 
 /// The first difference between what came of a conversation and what the row expects, if there is
-/// one. Where the row has the option `front`, any first bytes of the replies are expected; where a
-/// write fails, any first calls.
+/// one. Where the row has the option `front`, a front of the expected replies is enough; where a
+/// write fails, a front of the expected calls is.
 pub fn first_difference(
     row: &Row<'_>,
     end: Ending,
@@ -84,7 +84,7 @@ fn end_name(end: Ending) -> &'static str {
     }
 }
 
-/// The case and what came out otherwise.
+/// The case and what differs, as a text.
 pub fn finding(alloc: Global, case: usize, found: Difference) -> Result<String, AllocError> {
     match found {
         Difference::End(end) => format!(in alloc; "{case}: ends with {end}"),

@@ -23,10 +23,10 @@ use relation_handlers::{RelationHandler, RelationTable};
 use std::alloc::{AllocError, Global};
 use std::sync::Arc;
 
-/// Serves a client over relations, as `serve_relations_on` of relation_serving does, with cursors:
-/// a simple query that is `DECLARE c CURSOR FOR r`, `FETCH n FROM c`, `FETCH ALL FROM c` or `CLOSE
-/// c`, taken while the server is ready for a query, is answered as the extended messages are that
-/// it stands for, with their replies changed. A portal that DECLARE or Bind made is fetched from by
+/// Serves a client over relations, as `serve_relations_on` of relation_serving does, with cursors.
+/// A simple query that is `DECLARE c CURSOR FOR r`, `FETCH n FROM c`, `FETCH ALL FROM c` or `CLOSE
+/// c`, taken while the server is ready for a query, is answered like the extended messages that it
+/// stands for, with their replies changed. A portal that DECLARE or Bind made is fetched from by
 /// FETCH and Execute in any mix. A read that gives at least one byte or the end costs one turn, and
 /// so does each poll that finds a query unready.
 ///
@@ -44,7 +44,7 @@ pub fn serve_cursors_on<D: CancelDesk, S: Source, K: Sink>(
 ) -> Result<EndKind, ServeError>
 
     // The bytes written and the new calls are the cursor table's answer to the client's bytes,
-    // however cut.
+    // whatever reads these come in.
     ensures went { (calls : List DeskCall)
         × ((D.told desk.new).calls ≡ (D.told desk.old).calls ++ calls)
         × WentByCursors relations.now (D.told desk.old).registration result (S.left source.old)
@@ -55,14 +55,14 @@ pub fn serve_cursors_on<D: CancelDesk, S: Source, K: Sink>(
         (counts_of S.reads S.faults K.faults source.old sink.old)
         (counts_of S.reads S.faults K.faults source.new sink.new) }
 
-    // With turns enough, and where no read and no write fails, any bytes are served to their end: a
+    // With enough turns, and where no read and no write fails, any bytes are served to their end: a
     // Query costs turns as an Execute does.
     ensures complete { IsComplete relations.now turn_limit result (S.left source.old)
         (counts_of S.reads S.faults K.faults source.old sink.old)
         (counts_of S.reads S.faults K.faults source.new sink.new) }
 
-    // Nothing behind the end was read, each read that was counted gave a byte, and what was lent is
-    // the same again.
+    // Nothing behind the end was read, each read that was counted gave a byte, and the source, the
+    // sink and the desk are the ones that were lent.
     ensures serves { let round = around S.left S.reads S.faults S.origin K.written K.faults K.origin D.told in
         ServesCursors (relation_handlers relations.now) turn_limit result
         (round source.old sink.old desk.old) (round source.new sink.new desk.new) }
@@ -74,8 +74,8 @@ pub fn serve_cursors_on<D: CancelDesk, S: Source, K: Sink>(
     serve_by(alloc, handlers, desk, source, sink, turn_limit)
 }
 
-/// Serves a client by these handlers with cursors, and with a store in memory. The handlers are
-/// any, so that no check has to compare what their types are made of.
+/// Serves a client by these handlers with cursors, and with a store in memory. It is generic in the
+/// handlers, so that no check has to compare what their types are made of.
 fn serve_by<H: PgWireServerHandlers, D: CancelDesk, S: Source, K: Sink>(
     alloc: Global,
     handlers: Arc<H>,

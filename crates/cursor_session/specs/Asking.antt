@@ -1,4 +1,4 @@
--- What messages that are handed to a session in turn are answered: the outbox and the registry's calls grow by their answer.
+-- What a session answers to messages that are handed to it in turn: the outbox and the registry's calls grow by their answer.
 use Rattle.std.specs.Prelude.{ℕ, List, ◌++◌, ◌≡◌, ◌≢◌, ◌≤◌, ◌⊎◌, Option, Some, Result, IfOk, IfErr, OnErr, IsErrOf}
 use Rattle.pg_messages.specs.declared.frontend.PgWireFrontendMessage.{PgWireFrontendMessage}
 use Rattle.pg_messages.specs.declared.backend.PgWireBackendMessage.{PgWireBackendMessage}

@@ -23,7 +23,7 @@ use Rattle.cursor_commands.specs.declared.command.CursorCommand.{CursorCommand}
 use Rattle.cursor_commands.specs.Cursors.{Replies, replies_of}
 use Rattle.cursor_table.specs.CursorTable.{asked_command, cursor_rules, is_ready_phase}
 
--- the session behind, the bytes that are held in front of it, and how many bytes of the frame that it has begun are to come
+-- the session behind, the bytes that are held before it, and how many bytes are to come of the frame that it has begun
 pub record FrontValue (H S : Type 0) : Type 0 where
   pub inner : SessionValue H S
   pub held : List ℕ
@@ -53,7 +53,7 @@ abbrev pub BeginsNoCommand : PgWireConnectionState → List ℕ → Type 0
 BeginsNoCommand phase bytes = (more : List ℕ) (m : PgWireFrontendMessage) → IsFrame (is_startup_phase phase) (bytes ++ more) m
     → is_ready_phase phase ≡ true → asked_command m ≡ None
 
--- Bytes of a frame that the session has begun, and that is no command: so many of its bytes are to come.
+-- Bytes of a frame that the session has begun, and that is no command: `owed` of its bytes are to come.
 pub record IsBegun (phase : PgWireConnectionState) (bytes : List ℕ) (owed : ℕ) : Type 0 where
   pub header : header_len (is_startup_phase phase) ≤ length bytes
   pub told : IsGoodHeader (is_startup_phase phase) bytes → told_len (is_startup_phase phase) bytes ≡ length bytes + owed
@@ -85,7 +85,7 @@ pub record IsStanding {H S : Type 0} (v : FrontValue H S) : Type 0 where
   pub short : IsUnfinished (is_startup_phase v.inner.state.info.state) (rest_of v)
   pub placed : IsPlaced v
 
--- what stands round a conversation: what its sink tells, its desk and its turns
+-- what surrounds a conversation: what its sink tells, its desk and its turns
 pub record Around : Type 0 where
   pub written : Option (List ℕ)
   pub faults : ℕ
@@ -116,7 +116,7 @@ pub record Takes {T : Type 0} (rules : Rules T) (s : T) (text : List ℕ) (new_s
   pub registration : GoesOn before.desk after.desk
   pub sink : after.origin ≡ before.origin
 
--- What was written has grown by the replies to a command, where these bytes are those to its messages; or by a front of them.
+-- What was written has grown by the replies to a command, where these bytes are the replies to its messages; or by a front of them.
 abbrev pub SendsReplies : CursorCommand → List ℕ → Option (List ℕ) → Option (List ℕ) → Type 0
 SendsReplies command bytes written new_written = (replies : Replies) → bytes ≡ replies_bytes replies
     → GrowsBy written new_written (replies_bytes (replies_of command replies))

@@ -19,8 +19,8 @@ use std::collections::VecDeque;
 /// The most bytes of replies to one command: 2 GiB. More are want of memory.
 const MOST_REPLIES: usize = 2_147_483_648;
 
-/// Hands messages to the session in turn, up to one that ends the conversation or fails. What they
-/// are answered waits.
+/// Hands messages to the session in turn, up to one that ends the conversation or fails. The replies
+/// to them wait.
 pub(crate) fn ask<C: FrontedSession, D: CancelDesk>(
     alloc: Global,
     desk: &mut D,
@@ -44,7 +44,7 @@ pub(crate) fn ask<C: FrontedSession, D: CancelDesk>(
     Ok(None)
 }
 
-/// Makes of the replies that wait those to the command, and sends them.
+/// Turns the replies that wait into those to the command, and sends them.
 pub(crate) fn send_replies<C: FrontedSession, K: Sink>(
     alloc: Global,
     command: &CursorCommand,

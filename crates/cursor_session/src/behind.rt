@@ -78,7 +78,7 @@ pub(crate) trait FrontedSession: Drop {
     fn unsent(&self) -> &Outbox
         ensures { result.now ≡ (seen self.now).unsent };
 
-    /// Keeps so many bytes of the replies that wait, and puts these behind them.
+    /// Keeps the first `len` bytes of the replies that wait, and puts these after them.
     fn replace_unsent(&mut self, len: usize, bytes: &[u8]) -> Result<(), AllocError>
         ensures ok { OnOk result
             ((seen self.new).unsent ≡ take len (seen self.old).unsent ++ bytes.now) }

@@ -27,8 +27,8 @@ pub(crate) fn is_ready(state: PgWireConnectionState) -> bool
     matches!(state, PgWireConnectionState::ReadyForQuery)
 }
 
-/// How many of the bytes belong to the frame that they begin with; of a header that isn't whole all
-/// of them.
+/// How many of the bytes belong to the frame that they begin with: all of them where its header
+/// isn't whole.
 pub(crate) fn front_len(awaiting: bool, bytes: &[u8]) -> usize
     requires { 0 < length bytes.now }
     ensures some { 0 < result }
@@ -42,7 +42,7 @@ pub(crate) fn front_len(awaiting: bool, bytes: &[u8]) -> usize
     bytes.len().min(told_len(awaiting, bytes).max(header))
 }
 
-/// How many of so many bytes belong to the frame of which these are held.
+/// How many of the next `len` bytes belong to the frame of which `held` is held.
 pub(crate) fn behind_len(awaiting: bool, held: &[u8], len: usize) -> usize
     requires some { 0 < len }
     requires short { IsUnfinished awaiting held.now }
@@ -58,7 +58,7 @@ pub(crate) fn behind_len(awaiting: bool, held: &[u8], len: usize) -> usize
     len.min(told_len(awaiting, held) - held.len())
 }
 
-/// How many bytes of the frame in front are to come; none of a frame with a bad header.
+/// How many bytes are to come of the frame that these bytes begin; 0 where its header is bad.
 pub(crate) fn owed_by(awaiting: bool, bytes: &[u8]) -> usize
     requires { header_len awaiting ≤ length bytes.now }
     ensures { result ≡ told_len awaiting bytes.now - length bytes.now }
@@ -90,8 +90,8 @@ fn is_query_begun(bytes: &[u8]) -> bool
     bytes[0] == b'Q' && matches!(typed_len(bytes), Ok(None))
 }
 
-/// The command that these bytes are, which begin no more than one frame and aren't short. None
-/// says that no command begins so.
+/// The command that these bytes are, which begin no more than one frame and aren't short. None where
+/// no command begins with them.
 pub(crate) fn command_asked(
     alloc: Global,
     state: PgWireConnectionState,

@@ -21,9 +21,9 @@ use std::sync::Arc;
 /// A session whose client may use cursors in simple queries: DECLARE, FETCH and CLOSE over the
 /// session's own portals. It is a conversation by the cursor table.
 ///
-/// A Query frame that comes in pieces while the server is ready for one is held until it is whole,
-/// and of any other frame a header that isn't whole; all other bytes go on to the session as they
-/// come.
+/// A Query frame that comes in pieces while the server is ready for one is held until it is whole.
+/// Of any other frame, the header is held until it is whole. All other bytes go on to the session as
+/// they come.
 #[derive(Drop)]
 pub struct CursorSession<
     H: PgWireServerHandlers,

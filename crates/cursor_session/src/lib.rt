@@ -1,5 +1,5 @@
-//! Cursors in simple queries: a front of a session, in which a Query that is a cursor command is
-//! answered as the messages are that it asks of the session.
+//! Cursors in simple queries: a front of a session, which answers a Query that is a cursor command
+//! like the messages that it stands for.
 #![tactic(auto)]
 
 mod asking;

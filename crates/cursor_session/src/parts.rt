@@ -20,8 +20,8 @@ use pg_session::{CancelDesk, EndKind, Progress, ServeError, Sink, Turns};
 use std::alloc::Global;
 use std::mem;
 
-/// A session, with the bytes that are held in front of it, and how many bytes of the frame that it
-/// has begun are to come.
+/// A session, with the bytes that are held before it takes them. `owed` is how many bytes are to
+/// come of the frame that the session has begun.
 #[derive(Drop)]
 pub(crate) struct Front<C> {
     inner: C,
@@ -174,7 +174,8 @@ impl<C: FrontedSession> Front<C> {
         }
     }
 
-    /// Feeds the session with bytes of a frame that is no command, of which so many are to come.
+    /// Feeds the session with bytes of a frame that is no command. After them, `owed` bytes of the
+    /// frame are to come.
     fn pass<D: CancelDesk, K: Sink>(
         &mut self,
         alloc: Global,

@@ -6,14 +6,14 @@ use Rattle.hex.specs.Hex.{decode_of}
 use Rattle.handler_serving.specs.declared.orders.Order.{Order}
 use Rattle.handler_serving.specs.declared.orders.Order.TheVariants.{Listen, Serve}
 
--- a number of sixteen bits in decimal, behind a plus or not
+-- a number of sixteen bits in decimal, with or without a leading plus
 abbrev pub number_of : List ℕ → ℕ
 number_of text = digits_value 10 (without_leading_plus text)
 
 abbrev pub IsNumber : List ℕ → Type 0
 IsNumber text = IsNumeral 10 (without_leading_plus text) × (number_of text < 65536)
 
--- a number of 32 bits in decimal, behind a sign or not
+-- a number of 32 bits in decimal, with or without a leading sign
 abbrev pub IsSignedNumber : List ℕ → Type 0
 IsSignedNumber text = IsNumeral 10 (without_leading_sign text) × FitsSigned w32 (signed_digits_value 10 text)
 
@@ -40,7 +40,7 @@ pub record IsOrderedBy (order first second : List ℕ) (found : Option Order) : 
   pub serve : order ≡ codes "serve" → ServesSo first second found
   pub other : order ≢ codes "listen" → order ≢ codes "serve" → found ≡ None
 
--- the same behind the program's name; any other words order nothing
+-- the same after the program's name; any other words order nothing
 abbrev pub IsOrdered : List (List ℕ) → Option Order → Type 0
 IsOrdered (name ∷ order ∷ first ∷ second ∷ []) found = IsOrderedBy order first second found
 IsOrdered words found = found ≡ None

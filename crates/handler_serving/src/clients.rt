@@ -1,4 +1,4 @@
-//! Clients are served, one behind another.
+//! Clients are served, one after another.
 
 ghost use Rattle.std.specs.Prelude.{◌≡◌, ◌+◌, ◌<◌, List, OnOk, OnErr, IfOk};
 ghost use Rattle.std.specs.Arc.{arc_value};
@@ -20,9 +20,9 @@ use std::alloc::Global;
 use std::io;
 use std::sync::{Arc, Wait};
 
-/// Serves so many clients, one behind another, under the process ids from 1 on. Each is registered
-/// while it is served, in a registry of these clients alone. How the conversation with one ended is
-/// nothing to the next. The error is that there was no memory for the registry, no key for a client
+/// Serves `count` clients, one after another, under the process ids from 1 on. Each is registered
+/// while it is served, in a registry of these clients alone. However its conversation ends, the next
+/// client is served. The error comes where there was no memory for the registry, no key for a client
 /// or no connection.
 pub fn serve_clients<R: Wait, H: PgWireServerHandlers, A: Acceptor, G: KeySource>(
     rt: &R,
@@ -41,7 +41,7 @@ pub fn serve_clients<R: Wait, H: PgWireServerHandlers, A: Acceptor, G: KeySource
     )
 }
 
-/// Serves so many clients, as [`serve_clients`] does, who are registered by this door.
+/// Serves `count` clients, as [`serve_clients`] does, and registers each by this door.
 fn serve_each<R: Wait, H: PgWireServerHandlers, A: Acceptor, G: KeySource>(
     rt: &R,
     alloc: Global,
@@ -64,7 +64,7 @@ fn serve_each<R: Wait, H: PgWireServerHandlers, A: Acceptor, G: KeySource>(
 }
 
 /// Serves the next client under a process id and a key that is drawn for it. How the conversation
-/// ended is not told. The error is that there was no key, or that no connection came.
+/// ended is not answered. The error comes where there was no key, or no connection came.
 fn serve_next<R: Wait, H: PgWireServerHandlers, A: Acceptor, G: KeySource>(
     rt: &R,
     alloc: Global,
@@ -119,7 +119,7 @@ fn serve_under<R: Wait, H: PgWireServerHandlers, A: Acceptor>(
     Ok(())
 }
 
-/// Serves the client of a connection, which is registered meanwhile.
+/// Registers a connection, serves its client, and ends the registration.
 fn serve_connected<R: Wait, H: PgWireServerHandlers, S: Source, K: Sink>(
     rt: &R,
     alloc: Global,
@@ -174,7 +174,8 @@ fn serve_registered<R: Wait, H: PgWireServerHandlers, S: Source, K: Sink>(
     end
 }
 
-/// Serves the client whom this desk knows by handlers that others share, with a store in memory.
+/// Serves the client of this desk with handlers that other clients share, and with a portal store of
+/// its own.
 fn serve_on<H: PgWireServerHandlers, D: CancelDesk, S: Source, K: Sink>(
     alloc: Global,
     handlers: &Arc<H>,

@@ -1,5 +1,5 @@
 //! A program over any handlers: it serves the client on standard input, or clients at a port of this
-//! machine, one behind another.
+//! machine, one after another.
 #![tactic(auto)]
 
 mod clients;

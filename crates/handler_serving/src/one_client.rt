@@ -17,8 +17,8 @@ use std::sync::Arc;
 /// How many reads and polls a client has.
 pub(crate) const TURNS: u64 = 1_000_000_000;
 
-/// Serves the client of a source and a sink under a process id and a key. No other client cancels,
-/// so that it is in no registry.
+/// Serves the client of a source and a sink under a process id and a key. No other client can cancel
+/// its queries, since it is in no registry.
 pub fn serve_client<H: PgWireServerHandlers, S: Source, K: Sink>(
     alloc: Global,
     handlers: Arc<H>,

@@ -10,14 +10,15 @@ use std::alloc::{AllocError, Global};
 /// What the words of a command line order.
 #[derive(Drop)]
 pub enum Order {
-    /// So many clients are served at this port of 127.0.0.1, one behind another.
+    /// At this port of 127.0.0.1, this many clients are served, one after another.
     Listen(u16, u16),
     /// The client on standard input is served under this process id and key.
     Serve(i32, SecretKey),
 }
 
-/// `listen PORT COUNT` or `serve PID KEY`, behind the program's name: COUNT is at most 65535, and
-/// KEY an even number of hexadecimal digits, 8 to 512 of them. None is any other words.
+/// The order of the words `listen PORT COUNT` or `serve PID KEY`, after the program's name. PORT and
+/// COUNT are at most 65535, PID has 32 bits, and KEY is an even number of hexadecimal digits, 8 to
+/// 512 of them. None for any other words. The error comes where there is no memory for the key.
 pub fn order_of(alloc: Global, words: &[String]) -> Result<Option<Order>, AllocError>
     ensures { IfOk result (IsOrdered (map string_bytes words.now)) }
 {

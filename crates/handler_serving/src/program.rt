@@ -1,4 +1,4 @@
-//! The program.
+//! The program: it reads its words, and does what they order.
 
 use crate::clients::serve_clients;
 use crate::one_client::serve_client;
@@ -17,8 +17,10 @@ use std::time::Clock;
 use std::{env, io};
 
 /// Does what the words of the command line order (`order_of`) with these handlers, which all clients
-/// share. The replies of `serve` go to a writer. The status is 0; 1 where the conversation of
+/// share. The replies of `serve` go to `writer`. The status is 0; 1 where the conversation of
 /// `serve` failed; and 2 where the words order nothing, and standard error tells how they are used.
+/// The error comes where the words can't be read, the line of their use can't be written, the port
+/// can't be bound, memory ran out, or there was no key or no connection for a client.
 pub fn run_program<
     R: Wait
         + Net<Stream = TcpStream, Listener = TcpListener>
@@ -68,7 +70,7 @@ fn carry_out<
     }
 }
 
-/// Serves so many clients at a port of 127.0.0.1.
+/// Serves `count` clients at a port of 127.0.0.1.
 fn listen<
     R: Wait + Net<Stream = TcpStream, Listener = TcpListener> + Clock + RandomSource + Copy,
     H: PgWireServerHandlers,
@@ -78,7 +80,7 @@ fn listen<
     Ok(ExitCode::SUCCESS)
 }
 
-/// Serves so many clients, whose connections this listener takes, under random keys.
+/// Serves `count` clients, whose connections this listener takes, under random keys.
 fn serve_from<R: Wait + Clock + RandomSource + Copy, H: PgWireServerHandlers, L: Listener + Drop>(
     rt: R,
     alloc: Global,

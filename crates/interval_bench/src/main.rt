@@ -1,7 +1,7 @@
-// Prints and reads interval texts, many of them, and tells what came of it and how long it took.
-// Words: `print COUNT`, and `times` to tell the nanoseconds of a print as well; or `read STYLE
-// [ROUNDS]`, which reads the texts of standard input, one a line, and with ROUNDS reads them so
-// often again and tells the nanoseconds of a read.
+// Prints or reads many interval texts, and tells what came of it and how long it took. The words are
+// `print COUNT [times]`: with `times` it tells the nanoseconds of a print as well. Or they are `read
+// STYLE [ROUNDS]`, which reads the texts of standard input, one on each line. With ROUNDS it reads
+// them ROUNDS times more, and tells the nanoseconds of a read.
 #![tactic(auto)]
 
 mod draw;

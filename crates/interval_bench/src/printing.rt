@@ -10,8 +10,8 @@ use std::time::{Clock, Instant};
 /// Room for a text.
 const ROW: usize = 96;
 
-/// What the texts of a style came to, and the nanoseconds that they took: each in memory of its own,
-/// and each appended to a buffer.
+/// How many bytes the texts of a style have, and the nanoseconds that they took: each kept in memory
+/// of its own, and each appended to a buffer.
 #[derive(Clone, Copy)]
 struct Printed {
     kept_bytes: u64,
@@ -20,9 +20,10 @@ struct Printed {
     appended_nanoseconds: u128,
 }
 
-/// Prints as many intervals, drawn from a seed, in each of the four styles, small ones and then
-/// ones of any size, each into a text with memory of its own and then on the stack, appended to a
-/// buffer. It tells how many bytes that gave, and the nanoseconds of a print where they are wanted.
+/// Prints `count` intervals, drawn from a seed, in each of the four styles: small ones, and then ones
+/// of any size. Each is printed to a text with memory of its own, and then on the stack and appended
+/// to a buffer. It tells how many bytes that gave, and the nanoseconds of a print where `timed` asks
+/// for them.
 pub fn print_drawn<R: Print + Clock>(
     rt: &R,
     alloc: Global,
@@ -89,7 +90,7 @@ fn tell_bytes(rt: &impl Print, small: bool, style: Style, printed: Printed) -> i
     )
 }
 
-/// Tells the nanoseconds of each of so many prints.
+/// Tells the nanoseconds of each of `prints` prints.
 fn tell_times(rt: &impl Print, prints: u128, printed: Printed) -> io::Result<()>
     requires { prints ≢ 0 }
 {
@@ -98,12 +99,12 @@ fn tell_times(rt: &impl Print, prints: u128, printed: Printed) -> io::Result<()>
     println!(rt; "  {kept} ns, {appended} ns")
 }
 
-/// The draw's name.
+/// The name of the intervals' size.
 fn size_name(small: bool) -> &'static str {
     if small { "small" } else { "any size" }
 }
 
-/// As many intervals as asked for.
+/// `count` intervals, drawn from a seed.
 fn drawn(alloc: Global, count: u32, small: bool) -> Result<Vec<Interval>, AllocError> {
     let mut intervals = Vec::new(alloc);
     let mut draw = Draw::new(2026);
@@ -117,7 +118,7 @@ fn drawn(alloc: Global, count: u32, small: bool) -> Result<Vec<Interval>, AllocE
     Ok(intervals)
 }
 
-/// The bytes of all texts, each in memory of its own.
+/// How many bytes all texts have, each in memory of its own.
 fn kept_bytes(alloc: Global, style: Style, intervals: &[Interval]) -> Result<u64, AllocError> {
     let mut bytes = 0u64;
     for interval in intervals {
@@ -137,8 +138,8 @@ fn text_of(alloc: Global, style: Style, interval: &Interval) -> Result<String, A
     }
 }
 
-/// The bytes of all texts, each on the stack and from there behind the others in a buffer, as into
-/// a row's cell.
+/// How many bytes all texts have, each printed on the stack and from there appended to an empty
+/// buffer, as to a row.
 fn cell_bytes(alloc: Global, style: Style, intervals: &[Interval]) -> Result<u64, AllocError> {
     let mut row = Vec::with_capacity(alloc, ROW)?;
     let mut bytes = 0u64;

@@ -5,8 +5,8 @@ use pg_interval::{Interval, ParseError};
 use std::io;
 use std::time::{Clock, Instant};
 
-/// Reads the texts in a style, and tells how many are good; and, where they are read again so many
-/// times, the nanoseconds of a read.
+/// Reads the texts in a style, and tells how many are good. Then it reads them `rounds` times more,
+/// unless that is 0, and tells the nanoseconds of a read.
 pub fn read_texts<R: Print + Clock>(
     rt: &R,
     style: Style,
@@ -20,7 +20,7 @@ pub fn read_texts<R: Print + Clock>(
     tell_times(rt, style, rounds, texts)
 }
 
-/// Reads the texts so many times, and tells the nanoseconds of a read.
+/// Reads the texts `rounds` times, and tells the nanoseconds of a read.
 fn tell_times<R: Print + Clock>(
     rt: &R,
     style: Style,

@@ -1,4 +1,4 @@
-//! Why a text or a sum of fields is no interval, and what is told of it.
+//! Why a text or a sum of fields is no interval, and the texts of these errors.
 #![tactic(auto)]
 
 ghost use Rattle.std.specs.Prelude.{◌≡◌, ◌↔◌, IsTrue, Some};
@@ -99,7 +99,7 @@ impl From<DecimalError> for ParseError {
 impl fmt::Display for ParseError {
     ghost output = { λ e. Some (error_text e) };
 
-    /// What is at fault, and why, as `Invalid interval: broken shape`.
+    /// What is at fault, and why, such as `Invalid interval: broken shape`.
     fn fmt<W: fmt::Write>(&self, f: &mut fmt::Formatter<W>) -> fmt::Result {
         match self {
             ParseError::ParseIntErr(e) => write!(f, "Failed to parse integer: {}", e.text()),

@@ -1,10 +1,10 @@
 // Reads rows, each a frame or a reply under a name, and prints what the codec makes of it. The rows
-// and what they must give are in the files stdin and stdout; tools/message_rows.py tells the latter
-// apart from this.
+// and what they must give are in the files stdin and stdout; tools/message_rows.py makes stdout
+// without this program.
 //
 // A row is `NAME: PHASE PARTS`, where PHASE is `startup`, `typed` or the name of a reply, and the
 // parts are words (parts.rt). Any other line is printed as it is. The word COUNT, if there is one,
-// asks for the times of so many decodes and encodes of each row instead (times.rt).
+// asks instead for the times of COUNT decodes or encodes of each row (times.rt).
 #![tactic(auto)]
 
 ghost use Rattle.pg_messages.specs.Replies.{IsEncodable};

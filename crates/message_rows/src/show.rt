@@ -1,4 +1,4 @@
-//! What a row tells of a message: its name and fields, the long ones by their ends.
+//! What is printed of a message: its name and its fields, the long ones by their ends.
 
 use pg_messages::{Bind, PgBytes, PgStr, PgWireFrontendMessage, SslNegotiationKind, Startup};
 use std::fmt::Display;

@@ -17,14 +17,14 @@ fn show_time(rt: &HostRuntime, start: Instant, count: u32) -> io::Result<()> {
     println!(rt; "{count}, {nanoseconds} ns each")
 }
 
-/// Prints the nanoseconds of a good frame, over so many.
+/// Prints the nanoseconds of a good frame, over `count` of them.
 pub fn time_frame(rt: &HostRuntime, count: u32, awaiting: bool, bytes: &[u8]) -> io::Result<()> {
     let mut src = repeated(rt.alloc(), count, bytes)?;
     let start = Instant::now(rt)?;
     show_time(rt, start, decoded(rt.alloc(), awaiting, count, &mut src))
 }
 
-/// The bytes so many times.
+/// The bytes `count` times.
 fn repeated(alloc: Global, count: u32, bytes: &[u8]) -> Result<BytesMut, AllocError> {
     let mut src = BytesMut::new(alloc);
     for _ in 0..count {
@@ -33,7 +33,7 @@ fn repeated(alloc: Global, count: u32, bytes: &[u8]) -> Result<BytesMut, AllocEr
     Ok(src)
 }
 
-/// Takes frames off the bytes, at most so many, and tells how many there were.
+/// Takes frames off the bytes, at most `most`, and tells how many there were.
 fn decoded(alloc: Global, awaiting: bool, most: u32, src: &mut BytesMut) -> u32 {
     let mut codec = codec_at(awaiting);
     let mut found: u32 = 0;
@@ -47,7 +47,7 @@ fn decoded(alloc: Global, awaiting: bool, most: u32, src: &mut BytesMut) -> u32 
     found
 }
 
-/// Prints the nanoseconds of a reply, over so many.
+/// Prints the nanoseconds of a reply, over `count` of them.
 pub fn time_reply(rt: &HostRuntime, count: u32, reply: &PgWireBackendMessage) -> io::Result<()>
     requires { IsEncodable reply.now }
 {
@@ -56,7 +56,7 @@ pub fn time_reply(rt: &HostRuntime, count: u32, reply: &PgWireBackendMessage) ->
     show_time(rt, start, count)
 }
 
-/// Encodes a reply so many times.
+/// Encodes a reply `count` times.
 fn encode(alloc: Global, count: u32, reply: &PgWireBackendMessage) -> Result<(), AllocError>
     requires { IsEncodable reply.now }
 {

@@ -1,4 +1,4 @@
-//! Entries under names, of which the empty one has a place of its own.
+//! Entries under names. The entry under the empty name has a place of its own.
 #![tactic(auto)]
 
 mod names;

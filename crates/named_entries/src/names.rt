@@ -104,8 +104,8 @@ impl<T> Named<T> {
         *place = entry;
     }
 
-    /// Puts an entry under a name that isn't empty, apart from what most calls do. After an error
-    /// nothing has changed.
+    /// Puts an entry under a name that isn't empty. Most names are empty, so this is a function of
+    /// its own. After an error nothing has changed.
     #[cold]
     #[inline(never)]
     pub fn put_named(&mut self, name: PgStr, entry: T) -> Result<(), AllocError>
@@ -133,8 +133,8 @@ impl<T> Named<T> {
         }
     }
 
-    // Removes the entry under the empty name, apart from where none stands there: whoever has this
-    // written inline zeroes room for the entry that is let go, whether there is one or not.
+    // Removes the entry under the empty name. Inlined, it would zero room for the removed entry,
+    // whether there is one or not. So it is a function of its own.
     #[inline(never)]
     fn remove_unnamed(&mut self)
     where
@@ -144,7 +144,8 @@ impl<T> Named<T> {
         self.unnamed.clear();
     }
 
-    // Removes the entry under a name that isn't empty, apart from what most calls do.
+    // Removes the entry under a name that isn't empty. Most names are empty, so this is a function
+    // of its own.
     #[cold]
     #[inline(never)]
     fn remove_named(&mut self, name: &str)
@@ -166,8 +167,8 @@ impl<T> Named<T> {
         self.others.clear();
     }
 
-    /// The entry under a name, lent, or None exactly where there is none. What it is when the
-    /// borrow ends stands under the name, and all else is as it was.
+    /// The entry under a name, borrowed mutably, or None exactly where there is none. When the
+    /// borrow ends, the entry as it is then stands under the name, and all else is as it was.
     pub fn get_mut(&mut self, name: &str) -> Option<&mut T>
         ensures* writes_back { sem 𝓛 (LendsSo (the_row T.row) T.row self.entry result
             (λ n w. OnSome result (n ≡ map.insert self.old name.now w)) (λ n. n ≡ self.old)) }

@@ -9,7 +9,7 @@ use Rattle.pg_cancel.specs.declared.entries.RegistryAnswer.{RegistryAnswer}
 use Rattle.pg_cancel.specs.declared.entries.RegistryAnswer.TheVariants.{Registered, Done, Yes, No}
 use Rattle.pg_cancel.specs.LegalHistory.{IsLegal, IsAnswer, key_after}
 
--- which manager it is: two are one where these are equal
+-- which manager it is: two managers are the same one where these are equal
 abbrev pub Issuer : Type 0
 Issuer = TableId
 
@@ -51,8 +51,8 @@ before_last history = take (length history - 1) history
 abbrev pub IsTheAnswer : List Entry → ℕ → RegistryCall → RegistryAnswer → Type 0
 IsTheAnswer history number call answer = (other : RegistryAnswer) → (other ≡ answer) ↔ IsAnswer history number call other
 
--- The call was made once, under this number. What was seen goes on, ends with the call, and is legal. Of the number's calls
--- just this one is new, and all of them are in `mine`.
+-- The call was made once, under this number. What was seen has grown, ends with the call, and is legal. Of the number's
+-- calls just this one is new, and all of them are in `mine`.
 pub record Made (number : ℕ) (call : RegistryCall) (seen mine seen' mine' : List Entry) (answer : RegistryAnswer) : Type 0 where
   pub between : List Entry
   pub ends : seen' ≡ (seen ++ between) ++ entry number call answer ∷ []
@@ -62,8 +62,8 @@ pub record Made (number : ℕ) (call : RegistryCall) (seen mine seen' mine' : Li
   pub legal : IsLegal seen'
   pub told : IsTheAnswer (seen ++ between) number call answer
 
--- The Register was made once. What was seen goes on, ends with it, and is legal. It stands at the place `number`, and of all
--- Registers just this one is new.
+-- The Register was made once. What was seen has grown, ends with it, and is legal. It stands at the place `number`, and
+-- of all Registers just this one is new.
 pub record Registers (number : ℕ) (call : RegistryCall) (seen seen' : List Entry) (answer : RegistryAnswer) : Type 0 where
   pub between : List Entry
   pub ends : seen' ≡ (seen ++ between) ++ entry number call answer ∷ []
@@ -94,7 +94,8 @@ pub record HasNarrowed {E : Type 0} (h h' : Connection) (result : Result (Unit {
   pub ok : OnOk result (HasMade h Narrow h' Done)
   pub err : OnErr result (h' ≡ h)
 
--- The connection has seen all that the note's giver had seen, and all that it had seen. That is legal, and it has made no call.
+-- The connection has seen all that the note's giver had seen, and all that it had seen itself. What it has seen is
+-- legal, and it has made no further call.
 pub record HasTakenIn (h : Connection) (note : Witness) (h' : Connection) : Type 0 where
   pub same : IsSameConnection h h'
   pub mine : h'.mine ≡ h.mine

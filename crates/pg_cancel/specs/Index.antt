@@ -29,7 +29,7 @@ canceled Unstarted = Unstarted
 canceled Running = Canceled
 canceled Canceled = Canceled
 
--- what an Ask is told of a query
+-- the answer to an Ask about a query
 abbrev pub answer_of : Query → RegistryAnswer
 answer_of Unstarted = No
 answer_of Running = No
@@ -65,17 +65,17 @@ IsHeld holders pid = IsSome (get int_cmp holders.by_pid pid)
 abbrev pub IsHeldBy : Holders → ℤ → List ℕ → Type 0
 IsHeldBy holders pid key = IsSomeAnd (get int_cmp holders.by_pid pid) (λ holder. holder.key ≡ key)
 
--- a Register may be anybody's, and every other call is that of a pid that the index has
+-- a Register needs no registration, and every other call is that of a pid that the index has
 abbrev pub MayAsk : Holders → ℤ → RegistryCall → Type 0
 MayAsk holders pid (Register p key) = Unit {0}
 MayAsk holders pid _ = IsHeld holders pid
 
--- the call is that of the live registration n, which has the pid. A Register is anybody's
+-- the call is that of the live registration n, which has the pid. A Register needs no registration
 abbrev pub IsCaller : List Entry → ℕ → ℤ → RegistryCall → Type 0
 IsCaller history n pid (Register p key) = Unit {0}
 IsCaller history n pid _ = HasPid history n pid
 
--- the call is rightly answered and noted after each legal history, of this length, that the index may be of
+-- after each legal history of this length that has this index, the call gets the right answer and is noted
 abbrev pub NotesAny : Holders → ℕ → ℤ → RegistryCall → Holders → RegistryAnswer → Type 0
 NotesAny before place pid call holders answer =
     (history : List Entry) (number : ℕ) → IsLegal history → IsIndexOf history before → place ≡ length history
@@ -95,7 +95,7 @@ pub record Enters (history : List Entry) (number : ℕ) (call : RegistryCall) (r
   pub told : IsAnswer history number call answer
   pub right : IsRosterOf (history ++ entry_of history number call answer ∷ []) roster
 
--- the same after each legal history that the roster may be of
+-- the same after each legal history that has this roster
 abbrev pub EntersAny : Roster → ℕ → ℤ → RegistryCall → Roster → RegistryAnswer → Type 0
 EntersAny before number pid call roster answer =
     (history : List Entry) → IsLegal history → IsRosterOf history before → IsCaller history number pid call

@@ -1,6 +1,7 @@
--- The rule of the table behind a shared registry, and what each step on it tells. No public contract names it. H, `log` below, is the
--- history so far. It stands in the rule and in the views alone: the slot has its roster, which has no entry but the last. Word 0 is twice
--- the length of H while the roster is at home, and one more while a seat has the turn.
+-- The rule of the table behind a shared registry, and what each step on it tells. No public contract names it. H, `log`
+-- below, is the history so far. It exists only in the rule and in the views: the slot has its roster, which has no
+-- entry but the last. Word 0 is twice the length of H while the roster is at home, and one more while a seat has the
+-- turn.
 use Rattle.std.specs.Prelude.{◌≡◌, ◌≢◌, ◌⊎◌, ℕ, ℤ, ◌+◌, ◌*◌, ◌<◌, Bool, true, false, List, [], ◌∷◌, ◌++◌, length, slice_get, slice_index, Some, None, cond, ltb}
 use mathlib.Core.Option.{some, none}
 use mathlib.Core.Option as maybe
@@ -34,7 +35,7 @@ pub record Fits (log : List Entry) (v : View) : Type 0 where
   pub own : (n : ℕ) → v.number ≡ Some n → Owns log v n
   pub door : v.is_door ≡ true → registers_of log ≡ registers_of v.seen
 
--- who has the turn is the holder, and keeps the history
+-- the seat that has the turn is the holder, and has the whole history
 abbrev pub Holds : List Entry → ℕ → ℕ → ℕ → View → Type 0
 Holds log word holder j v = (h : List Entry) → v.turn ≡ Some h → (j ≡ holder) × (h ≡ log) × (word ≡ 2 * length log + 1)
 
@@ -49,7 +50,7 @@ IsOut word homes views log holder =
     × (get_elem? homes 0 ≡ some none)
     × ((v : View) × (get_elem? views holder ≡ some v) × (v.turn ≡ Some log))
 
--- no two seats have one number, and there is one door
+-- no two seats have the same number, and no two are doors
 pub record IsApart (views : List View) : Type 0 where
   pub numbers : (j k n : ℕ) (v w : View) → get_elem? views j ≡ some v → get_elem? views k ≡ some w → v.number ≡ Some n → w.number ≡ Some n
       → j ≡ k
@@ -88,7 +89,8 @@ holding v log =
 abbrev pub idle : View → View
 idle v = record { seen = v.seen; told = v.told; number = v.number; mine = v.mine; is_live = v.is_live; is_door = v.is_door; turn = None }
 
--- of one that gives it back with an entry more: a call of its number, after which that is live or not; a registration; a refused one
+-- the view of a seat that gives the turn back with one more entry: a call of its number, after which the number is live
+-- or not; a registration; a refused registration
 abbrev pub called : Bool → View → List Entry → Entry → View
 called live v before e =
     record {
@@ -173,7 +175,7 @@ pub record HasTurn (m n : Sat) (word : ℕ) : Type 0 where
 abbrev pub took : At → Sat → ℕ → Sat → Type 0
 took st m r n = (r ≡ st.first → HasTurn m n r) × (r ≢ st.first → n ≡ m)
 
--- the turn is given back with an entry more, the last one of the roster
+-- the turn is given back with one more entry, the last one of the roster
 abbrev pub publishes : At → Sat → ℕ → Sat → Type 0
 publishes st m r n =
     (before : List Entry) (roster : Roster) (e : Entry) → m.0.turn ≡ Some before → m.1 ≡ (0, roster) ∷ [] → roster.last ≡ Some e
@@ -204,7 +206,7 @@ pub record IsHolding (m : Sat) : Type 0 where
   pub right : IsRosterOf log roster
   pub legal : IsLegal log
 
--- the seat's history has the call's registration, which has the pid. A Register is anybody's
+-- the seat's history has the call's registration, which has the pid. A Register needs no registration
 abbrev pub IsCalled : Sat → ℕ → ℤ → RegistryCall → Type 0
 IsCalled m number pid call = (log : List Entry) → m.0.turn ≡ Some log → IsCaller log number pid call
 
@@ -235,12 +237,12 @@ IsOpening m n call =
     IsFree m × (m.0.number ≡ Some n) × (m.0.is_door ≡ true) × (m.0.is_live ≡ true) × (m.0.mine ≡ entry n call Registered ∷ [])
     × Knows n m.0.seen m.0.mine
 
--- whose seat may make the call: the door's a Register, and that of a live number each other
+-- which seat may make the call: the door's seat makes a Register, and the seat of a live number makes each other call
 abbrev pub MayMake : View → ℕ → RegistryCall → Type 0
 MayMake v number (Register pid key) = v.is_door ≡ true
 MayMake v number _ = (v.number ≡ Some number) × (v.is_live ≡ true)
 
--- a handle's seat after this call: a handle's, or where the call ended the registration a note's
+-- a handle's seat after this call: it is still a handle's, or a note's where the call ended the registration
 abbrev pub IsLeft : Sat → ℕ → RegistryCall → Type 0
 IsLeft m number Unregister = IsNote m
 IsLeft m number _ = IsHandle m number

@@ -9,7 +9,7 @@ pub enum RegistryCall {
     Start,
     /// Asks whether the query was canceled since it was started.
     Ask,
-    /// Cancels the query of the live registration that has this process id and, by now, this secret
+    /// Cancels the query of the live registration that has this process id and now has this secret
     /// key.
     Cancel(i32, SecretKey),
     /// From now on the registration's secret key is the first four bytes of the one that it has.
@@ -18,7 +18,7 @@ pub enum RegistryCall {
     Unregister,
 }
 
-/// What the registry answers.
+/// An answer of the registry.
 #[derive(Clone, Copy, Debug, PartialEq, Eq)]
 pub enum RegistryAnswer {
     /// The registration stands, and its number is the place of this entry.

@@ -14,7 +14,7 @@ use std::marker::Model;
 use std::sync::Wait;
 use std::thread;
 
-/// How many questions are answered no between two times that the processor is given away.
+/// How many questions are answered no between two yields of the processor.
 const NOES: u32 = 63;
 
 /// A live registration, the right to make calls under its number.
@@ -26,7 +26,7 @@ pub struct ConnectionHandle {
     pub(crate) number: u64,
     pub(crate) pid: i32,
     pub(crate) key: SecretKey,
-    /// How many questions were answered no since the processor was given away.
+    /// How many questions were answered no since the last yield of the processor.
     pub(crate) noes: u32,
 }
 
@@ -78,6 +78,7 @@ impl ConnectionHandle {
         self.number
     }
 
+    /// The process id of its registration.
     pub fn pid(&self) -> i32
         ensures { result ≡ self.now.pid }
     {
@@ -93,7 +94,8 @@ impl ConnectionHandle {
 }
 
 impl ConnectionManager {
-    /// The connection starts a query, for which no cancel has come yet. Waits for the turn.
+    /// The connection starts a query, for which no cancel has come yet. Waits for the turn. After
+    /// an error the handle is as it was.
     #[tactic(auto, using(crate::proofs::Events::named_more))]
     pub fn start_query<R: Wait>(
         &self,
@@ -115,8 +117,8 @@ impl ConnectionManager {
     }
 
     /// Whether the connection's query was canceled since it was started; without a query it is not.
-    /// Waits for the turn. Every 64th no gives the processor away, so that a thread that asks on
-    /// and on leaves some of it to the others.
+    /// Waits for the turn. Every 64th no yields the processor, so that a thread that asks again and
+    /// again leaves time to the others. After an error the handle is as it was.
     #[tactic(auto, using(crate::proofs::Events::named_more))]
     pub fn ask<R: Wait>(&self, rt: &R, handle: &mut ConnectionHandle) -> Result<bool, AllocError>
         requires issued { handle.old.issuer ≡ self.now }
@@ -139,8 +141,9 @@ impl ConnectionManager {
         Ok(yes)
     }
 
-    /// Cancels the query of the connection that has this pid and, by now, this key, and says
-    /// whether there is such a connection. The key is copied. Waits for the turn.
+    /// Cancels the query of the connection that has this pid and now has this key, and returns
+    /// whether there is such a connection. The key is copied. Waits for the turn. After an error
+    /// the handle is as it was.
     #[tactic(auto, using(crate::proofs::Events::named_more))]
     pub fn cancel<R: Wait>(
         &self,
@@ -165,7 +168,8 @@ impl ConnectionManager {
     }
 
     /// From now on the connection's key is the first four bytes of the one that it has. A cancel by
-    /// the longer key that came before still counts. Waits for the turn.
+    /// the longer key that came before still counts. Waits for the turn. After an error the handle
+    /// is as it was.
     #[tactic(auto, using(crate::proofs::Events::named_short))]
     pub fn narrow<R: Wait>(&self, rt: &R, handle: &mut ConnectionHandle) -> Result<(), AllocError>
         requires issued { handle.old.issuer ≡ self.now }
@@ -183,7 +187,7 @@ impl ConnectionManager {
     }
 
     /// Ends the registration. What the connection has seen stays in the note. Waits for the turn.
-    /// After want of memory the handle comes back as it was, and its registration is live.
+    /// After an AllocError the handle comes back as it was, and its registration is live.
     pub fn unregister<R: Wait>(
         &self,
         rt: &R,
@@ -216,8 +220,8 @@ impl ConnectionManager {
         }
     }
 
-    /// What the handle has seen, for another handle.
-    /// It waits for nobody, takes no memory and makes no event.
+    /// A note of what the handle has seen, for another handle. It doesn't wait, takes no memory and
+    /// makes no event.
     pub fn note(&self, handle: &mut ConnectionHandle) -> Note
         requires issued { handle.old.issuer ≡ self.now }
         ensures issued { result.issuer ≡ self.now }
@@ -230,8 +234,9 @@ impl ConnectionManager {
         Note { seat }
     }
 
-    /// What the handle has seen then begins with all that it had seen, and with all that the note's
-    /// giver had. It waits for nobody, takes no memory and makes no event.
+    /// Takes in what the note's giver had seen. What the handle has seen then begins with what it
+    /// had seen before, and also with what the giver had seen. It doesn't wait, takes no memory and
+    /// makes no event.
     pub fn take_in(&self, handle: &mut ConnectionHandle, note: Note)
         requires issued { (handle.old.issuer ≡ self.now) × (note.issuer ≡ self.now) }
         ensures { HasTakenIn handle.old note handle.new }
@@ -268,7 +273,7 @@ impl ConnectionManager {
     }
 }
 
-/// What an Ask or a Cancel was told.
+/// Whether the answer to an Ask or a Cancel is yes.
 fn is_yes(answer: RegistryAnswer) -> bool
     requires { (answer ≡ RegistryAnswer.Yes) ⊎ (answer ≡ RegistryAnswer.No) }
     ensures { answer ≡ yes_if result }
@@ -276,8 +281,8 @@ fn is_yes(answer: RegistryAnswer) -> bool
     matches!(answer, RegistryAnswer::Yes)
 }
 
-/// Counts a question that was answered no. Where there were enough, the processor is given away
-/// instead.
+/// Counts a question that was answered no. After `NOES` of them it yields the processor instead,
+/// and counts from 0 again.
 fn noes_after(noes: u32, yes: bool) -> u32 {
     if yes {
         return noes;

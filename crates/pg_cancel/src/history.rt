@@ -8,7 +8,7 @@ use crate::holders::Holders;
 use std::alloc::{AllocError, Global};
 use std::marker::Model;
 
-/// The history of a cancel registry, and an index behind it. Contracts see it as the list of its
+/// The history of a cancel registry, and an index of it. Contracts see it as the list of its
 /// entries.
 #[derive(Drop)]
 pub struct Registry {
@@ -60,8 +60,8 @@ impl Registry {
     }
 
     /// Answers the call and enters it in the history. A `Register` is entered under its own place,
-    /// whatever the number. It takes a look-up, however long the history is. After an error the
-    /// registry is as before.
+    /// whatever the number. It costs a look-up in the index, however long the history is. After an
+    /// error the registry is as before.
     pub fn apply(&mut self, number: u64, call: RegistryCall) -> Result<RegistryAnswer, AllocError>
         requires { MayCall self.old number call }
 

@@ -45,7 +45,7 @@ impl Holders {
     }
 
     /// Answers a call of the registration that has the pid, after `place` entries, and notes it. A
-    /// Register is anybody's. After an error nothing is noted.
+    /// Register needs no registration. After an error nothing is noted.
     pub fn answer(
         &mut self,
         place: u64,
@@ -66,8 +66,7 @@ impl Holders {
         }
     }
 
-    /// The pid is taken, or has this registration now, which is entered at the place. The key is
-    /// copied.
+    /// Registers the pid under the number `place`, unless the pid is taken. The key is copied.
     fn register(
         &mut self,
         place: u64,
@@ -114,7 +113,7 @@ impl Holders {
         holder.query.answer()
     }
 
-    /// A wrong pid and a wrong key are told apart by nothing that follows.
+    /// A wrong pid and a wrong key get the same answer, and change nothing.
     fn cancel(&mut self, pid: i32, key: &SecretKey) -> RegistryAnswer
         ensures { (place : ℕ) (caller : ℤ)
             → NotesAny self.old place caller (RegistryCall.Cancel pid key.now) self.new result }
@@ -139,7 +138,7 @@ impl Holders {
         }
     }
 
-    /// A query that was canceled by the longer key stays so.
+    /// A query that was canceled by the longer key stays canceled.
     fn narrow(&mut self, pid: i32) -> RegistryAnswer
         requires { IsHeld self.old pid }
         ensures { (place : ℕ) → NotesAny self.old place pid RegistryCall.Narrow self.new result }
@@ -181,7 +180,7 @@ impl Holders {
 }
 
 impl Query {
-    /// What an `Ask` is told.
+    /// The answer to an `Ask`.
     fn answer(self) -> RegistryAnswer
         ensures { result ≡ answer_of self }
     {
@@ -191,7 +190,7 @@ impl Query {
         }
     }
 
-    /// What a cancel makes of it. One that comes before any start does nothing.
+    /// The query after a cancel. A cancel before any start does nothing.
     fn canceled(self) -> Query
         ensures { result ≡ canceled self }
     {

@@ -150,7 +150,8 @@ impl ConnectionManager {
         self.admit(seat, place, pid, call)
     }
 
-    /// Makes a Register at the place of the next entry, and tells that place or who has the pid.
+    /// Makes a Register at the place of the next entry, and returns that place, or the number of
+    /// the registration that has the pid.
     fn admit(
         &self,
         seat: &mut Place,

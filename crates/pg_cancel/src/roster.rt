@@ -7,11 +7,11 @@ use crate::history::entry_number;
 use crate::holders::Holders;
 use std::alloc::{AllocError, Global};
 
-/// How many entries a history may have whose roster takes one more.
+/// The most entries of a history. Its roster takes no more.
 const MOST_ENTRIES: u64 = 288_230_376_151_711_744;
 
-/// The live registrations, how many entries the history has, and the last one. The others are
-/// nowhere stored.
+/// The live registrations, how many entries the history has, and the last one. The other entries
+/// aren't stored.
 #[derive(Drop)]
 pub struct Roster {
     pub holders: Holders,
@@ -32,8 +32,9 @@ impl Roster {
     }
 
     /// Answers a call of the registration with this number and pid, and keeps its entry as the last
-    /// one. A Register is anybody's, and is entered under its own place. After an error the roster
-    /// is as before. There is one too where the history has 2^58 entries.
+    /// one. A Register needs no registration, and is entered under its own place. After an error
+    /// the roster is as before. An error comes where memory runs out, and where the history has
+    /// 2^58 entries.
     pub fn apply(
         &mut self,
         number: u64,

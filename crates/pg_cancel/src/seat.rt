@@ -1,11 +1,12 @@
-//! The table behind a shared registry: word 0 tells whose turn it is, and slot 0 has the roster.
+//! The table behind a shared registry. Word 0 tells how many entries the history has, and whether a
+//! seat has the turn. Slot 0 has the roster.
 use crate::entries::Entry;
 use crate::roster::Roster;
 use atomic_table::{Join, Play, Seat, Split, Table, TableRule};
 use std::alloc::Global;
 use std::collections::LinkedList;
 
-/// What a seat knows. No value of it is made.
+/// What a seat knows. It is only for proofs: no value of it is made.
 pub struct View {
     /// The beginning of the history that was seen.
     pub seen: LinkedList<Entry>,
@@ -15,9 +16,9 @@ pub struct View {
     pub number: Option<u64>,
     /// The entries with that number.
     pub mine: LinkedList<Entry>,
-    /// The registration was not ended.
+    /// Whether the registration is live: it was not ended.
     pub is_live: bool,
-    /// The seat makes all registrations.
+    /// Whether the seat is the door's, which makes all registrations.
     pub is_door: bool,
     /// The history, while the seat has the turn.
     pub turn: Option<LinkedList<Entry>>,
@@ -107,7 +108,7 @@ impl Join<View> for TakeIn {
     ghost spent = { reader [] };
 }
 
-/// A load after that, which tells that both lists begin what is seen now.
+/// A load after a join. It tells that both lists are beginnings of what is seen now.
 pub struct Compare;
 
 impl Play<Roster, View> for Compare {

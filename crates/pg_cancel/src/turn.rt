@@ -1,4 +1,5 @@
-//! The turn: who has it has the roster. The store that gives it back makes one event, or none.
+//! The turn: the seat that has it has the roster. The store that gives the turn back makes one
+//! event, or none.
 ghost use Rattle.std.specs.Prelude.{◌≡◌, [], IfOk, OnErr};
 ghost use Rattle.pg_cancel.specs.RosterTable.{HasOut, HasHappened, IsCalled, IsFree, IsHolding, MayMake, idle};
 
@@ -33,8 +34,8 @@ impl ConnectionManager {
     }
 
     /// Makes one event, a call of the registration with this number and pid or a Register, and
-    /// gives the turn back. The roster is changed where it stands. After want of memory, or of room
-    /// for an entry more, the turn was given back with nothing done.
+    /// gives the turn back. The roster is changed in place. Where memory runs out, or the roster
+    /// takes no more entries, the turn is given back with nothing done.
     pub(crate) fn make_event(
         &self,
         seat: &mut Place,

@@ -8,7 +8,7 @@ use std::alloc::Global;
 pub enum Key {
     /// That of the first connection.
     A,
-    /// Another one for its pid.
+    /// Another key, for the first connection's pid.
     B,
     /// That of the second connection.
     C,

@@ -32,7 +32,7 @@ fn made(alloc: Global, call: Call) -> Option<RegistryCall> {
     })
 }
 
-/// Whether the call is so answered. A number that isn't live is none for it, unless it registers.
+/// Whether the call gets this answer. Only a Register may come under a number that isn't live.
 fn is_answer(
     registry: &mut Registry,
     number: u64,
@@ -55,7 +55,7 @@ fn is_answered(registry: &mut Registry, alloc: Global, step: Step) -> bool {
     }
 }
 
-/// Whether a registry answers the calls so.
+/// Whether a registry gives the answers of these steps.
 fn are_all_answered(registry: &mut Registry, alloc: Global, steps: &[Step]) -> bool {
     let mut are_so = true;
     for step in steps {
@@ -64,7 +64,7 @@ fn are_all_answered(registry: &mut Registry, alloc: Global, steps: &[Step]) -> b
     are_so
 }
 
-/// Whether a new registry answers the calls so, and has as many entries then.
+/// Whether a new registry gives the answers of these steps, and then has an entry for each.
 fn are_answered(alloc: Global, steps: &[Step]) -> bool {
     let mut registry = Registry::new(alloc);
     are_all_answered(&mut registry, alloc, steps) && registry.history().len() == steps.len()
@@ -103,7 +103,7 @@ const BESIDE: [Step; 16] = [
     (1, Cancel(7, Key::B), No),
     (1, Cancel(8, Key::A), Yes),
     (0, Ask, No),
-    // Twice, and by itself; a start then forgets both.
+    // It is canceled twice, once by itself; a start then forgets both.
     (1, Cancel(7, Key::A), Yes),
     (0, Cancel(7, Key::A), Yes),
     (0, Ask, Yes),
@@ -144,7 +144,7 @@ const LONG_KEYS: [Step; 16] = [
     (0, Start, Done),
     (1, Cancel(7, Key::A), No),
     (1, Cancel(7, Key::Long), Yes),
-    // A cancel by the long key counts behind the narrow too.
+    // A cancel by the long key still counts after the narrow.
     (0, Narrow, Done),
     (0, Ask, Yes),
     (0, Start, Done),
@@ -152,7 +152,7 @@ const LONG_KEYS: [Step; 16] = [
     (0, Ask, No),
     (1, Cancel(7, Key::A), Yes),
     (0, Ask, Yes),
-    // To narrow once more changes nothing, nor does it to narrow four bytes.
+    // Another narrow changes nothing, and neither does a narrow of a key of four bytes.
     (0, Narrow, Done),
     (1, Narrow, Done),
     (0, Cancel(8, Key::C), Yes),
@@ -164,7 +164,7 @@ fn long_keys(rt: HostRuntime) {
     assert!(rt; are_answered(rt.alloc(), &LONG_KEYS));
 }
 
-/// Whether the call is answered so a million times.
+/// Whether the call gets its answer a million times.
 fn is_answered_often(registry: &mut Registry, alloc: Global, step: Step) -> bool {
     let mut is_so = true;
     for _ in 0..1_000_000 {

@@ -2,7 +2,7 @@
 
 use std::sync::{Condvar, Mutex, Wait};
 
-/// The step that two threads are at, for which each waits before its own.
+/// The step that two threads are at. Each waits for it before it does its own part.
 #[derive(Drop)]
 pub struct StepGate {
     step: Mutex<u32>,

@@ -11,7 +11,7 @@ use std::alloc::Global;
 use std::sync::Wait;
 use std::thread::{Threads, join};
 
-/// What one of two threads does: a call of its connection, with what it has to be answered; or it
+/// What one of two threads does: a call of its connection, with the answer that it has to get; or it
 /// tells the other one that a step has come, or waits for one.
 #[derive(Clone, Copy)]
 enum Act {
@@ -32,7 +32,7 @@ struct Player<'m> {
 }
 
 impl<'m> Player<'m> {
-    /// Whether a cancel of the pid 7 by a key is answered so.
+    /// Whether a cancel of the pid 7 by a key gets this answer.
     fn is_cancel<R: Wait>(&mut self, rt: &R, alloc: Global, key: Key, answer: bool) -> bool {
         match key.secret(alloc) {
             Some(key) => self.manager.cancel(rt, &mut self.handle, 7, &key) == Ok(answer),
@@ -40,7 +40,7 @@ impl<'m> Player<'m> {
         }
     }
 
-    /// Does so, and tells whether a call was answered as it has to be.
+    /// Does this, and tells whether a call got the answer that it has to get.
     fn is_right<R: Wait>(&mut self, rt: &R, alloc: Global, gate: &StepGate, act: Act) -> bool {
         match act {
             Act::Start => self.manager.start_query(rt, &mut self.handle).is_ok(),
@@ -58,7 +58,7 @@ impl<'m> Player<'m> {
         }
     }
 
-    /// Does all of these, and tells whether each call was answered so.
+    /// Does all of these, and tells whether each call got its answer.
     fn are_right<R: Wait>(&mut self, rt: &R, alloc: Global, gate: &StepGate, acts: &[Act]) -> bool {
         let mut are_so = true;
         for act in acts {
@@ -68,7 +68,7 @@ impl<'m> Player<'m> {
         are_so
     }
 
-    /// The player behind all of these, where each call was answered so.
+    /// The player after all of these, where each call got its answer.
     fn behind<R: Wait>(
         mut self,
         rt: &R,
@@ -129,7 +129,7 @@ fn player_at<'m, R: Wait>(
     }
 }
 
-/// A story: the key of the first connection, what the two do, and how many entries there are behind
+/// A story: the key of the first connection, what the two do, and how many entries there are after
 /// the end of the first.
 #[derive(Clone, Copy)]
 struct Story {
@@ -139,7 +139,7 @@ struct Story {
     entries: u64,
 }
 
-/// Both players behind what they do on threads of their own, each where its calls were answered so.
+/// Both players after what they do on threads of their own, each where its calls got their answers.
 fn both<'m, R: Threads + Wait + Sync>(
     rt: &R,
     alloc: Global,
@@ -189,7 +189,8 @@ fn is_taken<R: Wait>(rt: &R, alloc: Global, manager: &ConnectionManager, door: &
     )
 }
 
-/// Whether both are behind their story, and the first ends, which the second finds.
+/// Whether both came to the end of their story, and the first ends its registration, so that the
+/// second's cancel is answered no.
 fn is_ending<R: Wait>(
     rt: &R,
     alloc: Global,
@@ -217,7 +218,8 @@ fn is_told_by<R: Threads + Wait + Sync>(
     is_ending(rt, alloc, first, second)
 }
 
-/// Whether it does so, and the pid of the first is free again then, as the entry of its number.
+/// Whether the story goes as it has to, and then the pid of the first is free again, and a
+/// registration of it is the story's next entry.
 fn is_told<R: Threads + Wait + Sync>(
     rt: &R,
     alloc: Global,
@@ -231,7 +233,7 @@ fn is_told<R: Threads + Wait + Sync>(
         && player_at(rt, alloc, manager, door, story.entries, 7, Key::A).is_some()
 }
 
-/// Whether the story goes so at a new registry.
+/// The same at a new registry.
 fn is_told_at_new<R: Threads + Wait + Sync>(rt: &R, alloc: Global, story: Story) -> bool {
     match ConnectionManager::new(alloc) {
         Ok((manager, mut door)) => is_told(rt, alloc, &manager, &mut door, story),
@@ -270,7 +272,7 @@ fn story_on_two_threads(rt: HostRuntime) {
 
 /// The first starts a query, is canceled by its long key, narrows it, and starts another query,
 /// which is canceled by the short key. The second cancels by the short key and by the long one,
-/// before the narrow and behind it.
+/// before the narrow and after it.
 const NARROW: Story = Story {
     key: Key::Long,
     first: &[

@@ -1,4 +1,5 @@
--- What a message is answered, and what messages are answered in turn, by a table. The table may be any: its states are of a type T.
+-- How a table answers a message, and how it answers messages one after another. The table may be any: its states are of
+-- a type T.
 use Rattle.std.specs.Prelude.{Bool, List, [], ◌∷◌, ◌++◌, ◌≡◌, length, drop}
 use Rattle.pg_messages.specs.declared.frontend.PgWireFrontendMessage.{PgWireFrontendMessage}
 use Rattle.pg_messages.specs.declared.backend.PgWireBackendMessage.{PgWireBackendMessage}
@@ -18,11 +19,11 @@ pub record Answer (T : Type 0) : Type 0 where
   pub calls : List DeskCall
   pub next : Next T
 
--- a conversation table: what a message is answered in a state, under the registry's answers to come
+-- a conversation table: the answer to a message in a state, with these answers of the registry to come
 abbrev pub Table : Type 0 → Type 0
 Table T = List Bool → T → PgWireFrontendMessage → Answer T
 
--- the registry's answers among calls: a question has one, and a cancel
+-- the registry's answers among calls: each question and each cancel has one
 abbrev pub answers_of : List DeskCall → List Bool
 answers_of [] = []
 answers_of (desk.Start ∷ calls) = answers_of calls
@@ -30,11 +31,11 @@ answers_of (desk.Ask told ∷ calls) = told ∷ answers_of calls
 answers_of (desk.Cancel pid key told ∷ calls) = told ∷ answers_of calls
 answers_of (desk.Narrow ∷ calls) = answers_of calls
 
--- the answers that calls have left
+-- the answers that are left after these calls
 abbrev pub left_by : List DeskCall → List Bool → List Bool
 left_by calls answers = drop (length (answers_of calls)) answers
 
--- one answer, and another behind it
+-- one answer, and then another
 abbrev pub joined : {T : Type 0} → Answer T → Answer T → Answer T
 joined a b = record { replies = a.replies ++ b.replies; calls = a.calls ++ b.calls; next = b.next }
 
@@ -44,7 +45,7 @@ continued a (Goes s) others = joined a (others s)
 continued a (Ends kind) others = a
 continued a Stops others = a
 
--- What messages are answered in turn, up to the first that ends the conversation or stops it.
+-- The answer to messages one after another, up to the first that ends the conversation or stops it.
 abbrev pub conversation : {T : Type 0} → Table T → List Bool → T → List PgWireFrontendMessage → Answer T
 conversation table answers s [] = record { replies = []; calls = []; next = Goes s }
 conversation table answers s (m ∷ messages) =
@@ -55,6 +56,6 @@ conversation table answers s (m ∷ messages) =
 abbrev pub BeginsWith : {A : Type 0} → List A → List A → Type 0
 BeginsWith {A} whole front = (others : List A) × (whole ≡ front ++ others)
 
--- Behind these calls the next one is a question, whatever that would be answered.
+-- After these calls the next one is a question, whether its answer would be yes or no.
 abbrev pub AsksNext : (List Bool → List DeskCall) → List DeskCall → Type 0
 AsksNext calls_under made = (yes : Bool) → BeginsWith (calls_under (answers_of made ++ yes ∷ [])) (made ++ desk.Ask yes ∷ [])

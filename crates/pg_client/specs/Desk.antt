@@ -1,16 +1,16 @@
--- What a desk of the cancel registry tells, and what calls of it leave as it was.
+-- A desk of the cancel registry, as contracts see it, and what calls leave as it was.
 use Rattle.std.specs.Prelude.{ℕ, ℤ, List, [], ◌∷◌, ◌++◌, ◌≡◌, take}
 use Rattle.pg_client.specs.declared.desk.DeskCall.{DeskCall}
 use Rattle.pg_client.specs.declared.desk.DeskCall.TheVariants as desk
 
--- The pid and the key of the registration; the calls so far, with their answers; and what the desk was made over, as numbers, so that a
--- caller who lent something to it knows it again.
+-- The pid and the key of the registration; the calls so far, with their answers; and the desk's origin: numbers that
+-- identify what it was made over, so that the lender can check that it is still the same.
 pub record DeskTold : Type 0 where
   pub registration : ℤ × List ℕ
   pub calls : List DeskCall
   pub origin : List ℕ
 
--- The registration behind calls: Narrow leaves the first four bytes of its key, and no other call changes it.
+-- The registration after calls: Narrow leaves the first four bytes of its key, and no other call changes it.
 abbrev pub narrowed : ℤ × List ℕ → List DeskCall → ℤ × List ℕ
 narrowed registration [] = registration
 narrowed registration (desk.Start ∷ calls) = narrowed registration calls

@@ -18,7 +18,8 @@ use Rattle.pg_client.specs.Errors.{is_fatal}
 use Rattle.pg_replies.specs.Replies.{Replies, error_reply, ready}
 use Rattle.pg_client.specs.State.{State, in_phase, with_status}
 
--- a row's outcome: a state; an error, and the state that it leaves; an end; or a registry call that wants an answer
+-- a row's outcome: a state; an error, and the state that it leaves; an end; or a registry call for which no answer is
+-- left
 pub data Outcome (S : Type 0) : Type 0 where
   Done : State S → Outcome S
   Failed : State S → PgWireError → Outcome S
@@ -41,7 +42,7 @@ refuses s e = record { replies = []; outcome = Failed s e }
 abbrev pub over : {S : Type 0} → EndKind → Effect S
 over kind = record { replies = []; outcome = Over kind }
 
--- A registry call wants an answer, and none is left.
+-- A registry call needs an answer, and none is left.
 abbrev pub stopped : {S : Type 0} → Effect S
 stopped = record { replies = []; outcome = Stopped }
 
@@ -104,11 +105,11 @@ pub record IsEffect {S : Type 0} (effect : Effect S) (out new_out : List ℕ) (o
   pub replied : new_out ≡ out ++ replies_bytes effect.replies
   pub came : effect.outcome ≡ outcome
 
--- An effect was refused with this error, or memory is wanting.
+-- An effect was refused with this error, or memory ran out.
 abbrev pub IsRefusedEffect : {S : Type 0} → Effect S → List ℕ → List ℕ → State S → PgWireError → Type 0
 IsRefusedEffect effect out new_out s e = (e ≡ wire.NoMemory) ⊎ IsEffect effect out new_out (Failed s e)
 
--- A row was carried out, under the very answers that its calls tell.
+-- A row was carried out, with exactly the answers that its calls hold.
 pub record IsRow {S : Type 0} (row : Row S) (out new_out : List ℕ) (calls new_calls : List DeskCall) (outcome : Outcome S) : Type 0 where
   pub made : List DeskCall
   pub own : (row (answers_of made)).calls ≡ made
@@ -121,7 +122,7 @@ pub record IsCutRow {S : Type 0} (row : Row S) (calls new_calls : List DeskCall)
   pub front : BeginsWith (row (answers_of made)).calls made
   pub grown : new_calls ≡ calls ++ made
 
--- A row stops at a question: its next call is one, whatever that would be answered.
+-- A row stops at a question: its next call is one, whether its answer would be yes or no.
 pub record IsStoppedRow {S : Type 0} (row : Row S) (out new_out : List ℕ) (calls new_calls : List DeskCall) : Type 0 where
   pub made : List DeskCall
   pub own : (row (answers_of made)).calls ≡ made
@@ -129,7 +130,7 @@ pub record IsStoppedRow {S : Type 0} (row : Row S) (out new_out : List ℕ) (cal
   pub effect : IsEffect (row (answers_of made)).effect out new_out Stopped
   pub asks : AsksNext (λ answers. (row answers).calls) made
 
--- A row was refused: with this error, or memory is wanting, or it stops at a question for which no turn is left.
+-- A row was refused: with this error, or because memory ran out, or it stops at a question for which no turn is left.
 abbrev pub IsRefusedRow : {S : Type 0} → Row S → List ℕ → List ℕ → List DeskCall → List DeskCall → State S → SessionError → Type 0
 IsRefusedRow row out new_out calls new_calls s (session.Wire e) = ((e ≡ wire.NoMemory) × IsCutRow row calls new_calls)
     ⊎ IsRow row out new_out calls new_calls (Failed s e)

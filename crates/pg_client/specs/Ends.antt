@@ -12,12 +12,12 @@ abbrev pub outcome_of : {S : Type 0} → Option EndKind → State S → Outcome 
 outcome_of None s = Done s
 outcome_of (Some kind) s = Over kind
 
--- an error that is answered, or a turn that is wanting
+-- an error that a call may return: one of a message, or TurnLimit
 abbrev pub IsAnswerableError : SessionError → Type 0
 IsAnswerableError (session.Wire e) = IsAnswerable e
 IsAnswerableError session.TurnLimit = Unit {0}
 
--- what holds after an error where it is the limit of the turns
+-- what holds after an error, if that is TurnLimit
 abbrev pub AtTurnLimit : SessionError → Type 0 → Type 0
 AtTurnLimit (session.Wire e) P = Unit {0}
 AtTurnLimit session.TurnLimit P = P

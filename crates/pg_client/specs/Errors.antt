@@ -25,11 +25,11 @@ too_few_codes count columns = error (codes "08P01")
 abbrev pub copy_given_up : List ℕ → ErrorInfo
 copy_given_up message = error (codes "XX000") (codes "COPY IN mode terminated by the user: " ++ message)
 
--- what a handler without this feature answers
+-- the error of a handler without this feature
 abbrev pub not_implemented : ErrorInfo
 not_implemented = fatal (codes "08P01") (codes "This feature is not implemented.")
 
--- the text on a version other than 3.0 and 3.2; its upper sixteen bits are the major part
+-- the error's text for a version other than 3.0 and 3.2; the upper sixteen bits of its code are the major version
 abbrev pub unsupported_text : ℕ → List ℕ
 unsupported_text code = codes "unsupported frontend protocol " ++ decimal (code / 65536) ++ codes "." ++ decimal (code % 65536)
     ++ codes ": server supports 3.0 and 3.2"

@@ -16,7 +16,7 @@ pub record Script : Type 0 where
 abbrev pub origin_of : List Bool → List ℕ
 origin_of script = map (λ answer. if answer then 1 else 0) script
 
--- what a scripted desk tells
+-- a scripted desk, seen as any desk
 abbrev pub script_told : Script → DeskTold
 script_told d = record { registration = (d.pid, d.key); calls = d.calls; origin = origin_of d.script }
 
@@ -25,7 +25,7 @@ abbrev pub first_or_no : List Bool → Bool
 first_or_no [] = false
 first_or_no (answer ∷ answers) = answer
 
--- so many answers of a script, in its order, and no past its end
+-- this many answers of a script, in its order; past its end they are no
 abbrev pub scripted : List Bool → ℕ → List Bool
 scripted script zero = []
 scripted script (suc n) = first_or_no script ∷ scripted (drop 1 script) n

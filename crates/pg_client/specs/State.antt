@@ -19,11 +19,11 @@ pub record State (S : Type 0) : Type 0 where
   pub statements : NameMap (Entry (StoredStatement S))
   pub portals : NameMap (Entry (TablePortal S))
 
--- the state of a client of whom this is known, with these maps
+-- the state of a client with this info and these maps
 abbrev pub state_in : {S : Type 0} → ClientInfo → Maps S → State S
 state_in info maps = record { info = info; statements = maps.statements; portals = maps.portals }
 
--- the state that a client tells, by what its store tells
+-- the state of a client, with the maps of its store
 abbrev pub state_of : {S St : Type 0} → (St → Maps S) → Client St → State S
 state_of maps client = state_in client.info (maps client.store)
 

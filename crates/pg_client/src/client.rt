@@ -1,4 +1,4 @@
-//! What handlers have of a client.
+//! A client, as handlers see it.
 
 use pg_outbox::Outbox;
 use pg_portal::ClientInfo;

@@ -24,7 +24,7 @@ pub enum DeskCall {
 
 /// What a session sees of the cancel registry: its own registration.
 pub trait CancelDesk {
-    // its registration, the calls so far with their answers, and what it was made over
+    // its registration, the calls so far with their answers, and its origin
     ghost told: { Self → DeskTold };
 
     /// The pid and the key that the client is told.
@@ -43,22 +43,22 @@ pub trait CancelDesk {
             (λ yes. told self.new ≡ after_calls (told self.old) (DeskCall.Ask yes ∷ [])) }
         ensures err { OnErr result (told self.new ≡ told self.old) };
 
-    /// Cancels the query of the registration with this pid and key, and tells whether there is one.
-    /// After an error nothing has changed.
+    /// Cancels the query of the registration with this pid and key, and returns whether there is
+    /// one. After an error nothing has changed.
     fn cancel(&mut self, pid: i32, key: &SecretKey) -> Result<bool, AllocError>
         ensures ok { IfOk result (λ yes.
             told self.new ≡ after_calls (told self.old) (DeskCall.Cancel pid key.now yes ∷ [])) }
         ensures err { OnErr result (told self.new ≡ told self.old) };
 
-    /// Narrows the registration's key to its first four bytes, so that no longer key cancels its
-    /// query. After an error nothing has changed.
+    /// Narrows the registration's key to its first four bytes, so that a longer key doesn't cancel
+    /// its query. After an error nothing has changed.
     fn narrow(&mut self) -> Result<(), AllocError>
         ensures ok { OnOk result
             (told self.new ≡ after_calls (told self.old) (DeskCall.Narrow ∷ [])) }
         ensures err { OnErr result (told self.new ≡ told self.old) };
 }
 
-/// A desk that answers from a list, in its order, and no past its end.
+/// A desk that answers from a list, in its order. Past the end of the list it answers no.
 #[derive(Drop)]
 pub struct ScriptDesk {
     pid: i32,
@@ -123,7 +123,7 @@ impl ScriptDesk {
     }
 }
 
-/// Where the answers go on behind the next one, if there is one.
+/// The index after the next answer, or the same index where no answer is left.
 fn behind_next(answers: &[bool], taken: usize) -> usize
     ensures { drop result answers.now ≡ drop 1 (drop taken answers.now) }
 {

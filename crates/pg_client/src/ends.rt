@@ -13,9 +13,9 @@ pub enum EndKind {
     Terminate,
     /// The input ended where no whole frame was left.
     InputEnd,
-    /// The bytes go on with a bad header or frame.
+    /// The next bytes are a bad header or a bad frame.
     BadFrame,
-    /// An error of severity FATAL was told.
+    /// The client was told an error of severity FATAL.
     Fatal,
     /// The client asked to cancel another session's query, and the registry was called.
     CancelServed,
@@ -24,9 +24,9 @@ pub enum EndKind {
 /// Why a message isn't carried out.
 #[derive(Drop)]
 pub enum SessionError {
-    /// An error that the client is told, or want of memory.
+    /// An error that the client is told, or `NoMemory`.
     Wire(PgWireError),
-    /// All turns were spent, and a query wanted one more.
+    /// All turns were spent, and a query needed one more.
     TurnLimit,
 }
 
@@ -64,7 +64,7 @@ pub struct Turns {
 }
 
 impl Turns {
-    /// Spends one turn, and answers false exactly where none is left.
+    /// Spends one turn, and returns false exactly where none is left.
     pub fn spend(&mut self) -> bool
         ensures left { IsTrue result ↔ (self.old.spent < self.old.limit) }
         ensures spent { OnTrue result (self.new.spent ≡ self.old.spent + 1) }

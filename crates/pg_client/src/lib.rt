@@ -1,5 +1,5 @@
-//! A client of a session: what handlers have of it, its desk at the registry, its turns, and how its
-//! conversation ends.
+//! A client of a session, as handlers see it; its desk at the cancel registry; its turns; and how
+//! its conversation ends.
 #![tactic(auto)]
 
 mod client;

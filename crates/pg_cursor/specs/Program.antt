@@ -49,9 +49,9 @@ surroundings left faults client_left reads read_faults written write_faults file
 abbrev pub IsClientUntouched : Surroundings → Surroundings → Type 0
 IsClientUntouched old new = (new.client ≡ old.client) × (new.out ≡ old.out) × (new.counts ≡ old.counts)
 
--- A client was served over the relations under a pid and a key: what was written and the registry calls are the cursor table's answer to
--- the client's bytes, with each question answered no; why the conversation came to an end or was given up; and that turns enough bring it
--- to an end.
+-- A client was served over the relations under a pid and a key. What was written and the registry calls are the cursor table's answer to
+-- the client's bytes, with each question answered no. The conversation's end, or what it was given up for, has its cause. Enough turns
+-- bring it to its end.
 pub record WasServed (s : Service) (relations : List Relation) (answer : Result EndKind ServeError)
     (left new_left old new : Option (List ℕ)) (before after : Counts) : Type 0 where
   pub calls : List DeskCall
@@ -69,7 +69,7 @@ HasServedFile s (File e) old new = IsFileCause e old.file new.file old.file_faul
 HasServedFile s (Conversation answer) old new = (relations : List Relation) × IsToldBy old.file new.file relations
     × WasServed s relations answer old.client new.client old.out new.out old.counts new.counts
 
--- What came of the words: nothing where they are no `serve`; or what comes of it. There may be no memory for its key; then nothing was
+-- What came of the words: nothing where they are no `serve`, and else what came of it. There may be no memory for its key; then nothing was
 -- done.
 abbrev pub HasRun : Option Command → Outcome → Surroundings → Surroundings → Type 0
 HasRun (Some (command.Serve s)) outcome old new = HasServedFile s outcome old new
@@ -83,7 +83,7 @@ HasRun None outcome old new = (outcome ≡ Usage) × (new ≡ old)
 abbrev pub IsSound : Surroundings → Surroundings → Type 0
 IsSound old new = ¬ HasRisen old.file_faults new.file_faults × ¬ HasFault old.counts new.counts
 
--- a good end, or want of memory
+-- `serve` came to the end of a conversation (0, 10 at a bad frame, 11 at a fatal error), or memory ran out (7)
 abbrev pub IsServeEnd : ℕ → Type 0
 IsServeEnd status = (status ≡ 0) ⊎ ((status ≡ 10) ⊎ ((status ≡ 11) ⊎ (status ≡ 7)))
 

@@ -23,17 +23,18 @@ use std::alloc::{AllocError, Global};
 
 /// The program over a relation file and one client. The words are `serve FILE PID KEY [TURNS]`: PID
 /// is 1 to 2147483647, KEY an even number of hexadecimal digits, 8 to 512 of them, and TURNS 1 to
-/// 18446744073709551615, by default 1000000000. The relation file comes from `file`, whatever FILE says. The client's bytes
-/// are served with cursors, as [`serve_cursors_on`](crate::serve_cursors_on) does, with the replies
-/// to `out`; PID and KEY are what the client is told. No query is ever canceled: the registry that
-/// it is served by answers each question no, and each CancelRequest too.
+/// 18446744073709551615, by default 1000000000. The relation file comes from `file`; this call doesn't
+/// open FILE. The client's bytes are served with cursors, as
+/// [`serve_cursors_on`](crate::serve_cursors_on) does, with the replies to `out`. The client is told
+/// PID and KEY. No query is ever canceled: the client's registry answers no to each question and to
+/// each CancelRequest.
 ///
 /// The status is 0 where the client sent Terminate or a CancelRequest or its input ended; 2 where
 /// the words are no `serve`; 3 where the file is refused; 4 where a read of the client failed; 5
 /// where a write failed; 6 where the turns were spent; 7 where memory ran out; 9 where a read of
-/// the file failed; 10 at a bad frame; 11 at a fatal error. Each but 0 is told by a line on `err`.
-/// A write to `err` that fails changes no status; where it finds no memory, the status is 7. Words
-/// are judged first, then the file.
+/// the file failed; 10 at a bad frame; 11 at a fatal error. Each status but 0 comes with a line on
+/// `err`. A write to `err` that fails leaves the status as it is; one that finds no memory makes it
+/// 7. Words are judged first, then the file.
 ///
 /// Nothing was read of the client and nothing written to `out` after 2, 3 and 9.
 pub fn run_cursors<F: Source, S: Source, K: Sink, E: Sink>(
@@ -53,7 +54,7 @@ pub fn run_cursors<F: Source, S: Source, K: Sink, E: Sink>(
         (E.written err.new)
         (E.faults err.old) (E.faults err.new) }
 
-    // With turns enough, a file that isn't refused, and no fault, the status is a good end's.
+    // With enough turns, a file that isn't refused, and no fault, the conversation comes to its end.
     ensures complete { IsRunComplete (command_of words.now) result
         (surroundings F.left F.faults S.left S.reads S.faults K.written K.faults file.old client.old
         out.old)

@@ -1,4 +1,4 @@
--- A conversation that is served: what stands round it, and all that is owed of it.
+-- A conversation that is served: what surrounds it, and all that the server owes its client.
 use Rattle.std.specs.Prelude.{ℕ, List, ◌++◌, ◌≡◌, Option, Result, IfOk, OnOk}
 use Rattle.pg_client.specs.declared.desk.DeskCall.{DeskCall}
 use Rattle.pg_client.specs.declared.ends.EndKind.{EndKind}
@@ -11,8 +11,8 @@ use Rattle.conversation_runs.specs.Run.{Rules}
 use Rattle.conversation_runs.specs.Session.{whole_rules}
 use Rattle.pg_engine.specs.Serving.{Counts, EndsAtLast, FaultsNeverFall, HasCause, IsCalm, IsRunOverTaken, ReadsGaveBytes, WentSo, counts_of}
 
--- What stands round a conversation: the bytes that its source has to give and those that its sink has taken, where they are told; their
--- counts; what each was made over; and what its desk tells.
+-- What surrounds a conversation: the bytes that its source has to give and those that its sink has taken, where they
+-- are known; their counts; their origins; and its desk.
 pub record Around : Type 0 where
   pub left : Option (List ℕ)
   pub written : Option (List ℕ)
@@ -21,7 +21,7 @@ pub record Around : Type 0 where
   pub sink : List ℕ
   pub desk : DeskTold
 
--- the same by what the traits of a source, a sink and a desk tell
+-- the same, by the ghost functions of a source, a sink and a desk
 abbrev pub around : {S K D : Type 0} → (S → Option (List ℕ)) → (S → ℕ) → (S → ℕ) → (S → List ℕ) → (K → Option (List ℕ)) → (K → ℕ)
     → (K → List ℕ) → (D → DeskTold) → S → K → D → Around
 around left reads read_faults source_origin written write_faults sink_origin told source sink desk = record {
@@ -33,10 +33,11 @@ around left reads read_faults source_origin written write_faults sink_origin tol
   desk = told desk;
 }
 
--- A client was served by these rules from this state on, with so many turns: what was written and called is the answer to its bytes,
--- however cut; why the conversation came to an end or was given up; where it ended, nothing was taken behind its end, the bytes taken have
--- the same run by themselves, and no fault was counted; no count of faults fell; each read that was counted gave a byte; the desk goes on;
--- and the source and the sink are the same.
+-- A client was served by these rules, from this state on, with this many turns. What was written and called is the
+-- answer to its bytes, however they were cut. The end or the error has its cause. Where the conversation ended, nothing
+-- was taken after its end, the bytes taken have the same run by themselves, and no fault was counted. No count of
+-- faults fell. Each read that was counted gave a byte. The desk has changed only by calls. The source and the sink are
+-- the same ones.
 pub record Serves {T : Type 0} (rules : Rules T) (first : T) (turns : ℕ) (result : Result EndKind ServeError) (before after : Around) : Type 0
   where
     pub went : (calls : List DeskCall) × (after.desk.calls ≡ before.desk.calls ++ calls)
@@ -52,7 +53,7 @@ pub record Serves {T : Type 0} (rules : Rules T) (first : T) (turns : ℕ) (resu
     pub source : after.source ≡ before.source
     pub sink : after.sink ≡ before.sink
 
--- A client was served by a session over handlers that tell so, which begins with the pid and the key that the desk has.
+-- A client was served by a session over these handlers, which begins with the pid and the key of the desk.
 abbrev pub ServesSession : {S : Type 0} → Handlers S → ℕ → Result EndKind ServeError → Around → Around → Type 0
 ServesSession handlers turns result before after =
     Serves (whole_rules handlers) (first_state before.desk.registration.0 before.desk.registration.1) turns result before after

@@ -1,4 +1,5 @@
--- A conversation as the engine sees it: what it answers by, where it stands, and what a piece of the client's bytes does to it.
+-- A conversation as the engine sees it: the rules that it goes by, where it stands, and what a piece of the client's
+-- bytes does to it.
 use Rattle.std.specs.Prelude.{ℕ, Bool, List, ◌++◌, Option, Result, Ok, ◌≡◌}
 use Rattle.pg_client.specs.declared.desk.DeskCall.{DeskCall}
 use Rattle.conversation_runs.specs.declared.ends.Progress.{Progress}
@@ -15,8 +16,8 @@ pub record Talk (T : Type 0) : Type 0 where
   pub unsent : List ℕ
   pub is_open : Bool
 
--- A conversation took a piece: the frames of its rest and the piece are answered by its rules. What is left of the bytes is its rest where
--- it goes on; behind an end nobody asks for it.
+-- A conversation took a piece: the frames of its rest and the piece are answered by its rules. Where it goes on, what
+-- is left of the bytes is its rest. After an end nothing is said of its rest.
 abbrev pub TakesPiece : {T : Type 0} → Talk T → Talk T → List ℕ → Option (List ℕ) → Option (List ℕ) → List DeskCall → List DeskCall
     → Result Progress ServeError → Type 0
 TakesPiece old new piece written new_written calls new_calls result = (rest : List ℕ)

@@ -16,8 +16,7 @@ use pg_session::{
 use std::alloc::Global;
 
 /// A conversation with one client, which answers the frames of the client's bytes by a table. A
-/// session is one, and so is what stands in front of a session and answers some messages in another
-/// way.
+/// session is one, and so is a wrapper of a session that answers some messages in another way.
 pub trait Conversation {
     // the states of its table
     ghost At: { Type 0 };
@@ -27,7 +26,7 @@ pub trait Conversation {
     /// Takes a piece of the client's bytes, sends what waits, and writes the whole answer to the
     /// messages that the piece completes. Ok(More) says that no whole frame is left,
     /// Ok(Ended(kind)) that the conversation has ended. After that, and after an error, it is
-    /// closed: WriteFault comes where the sink failed, TurnLimit where a query wanted a turn and
+    /// closed: WriteFault comes where the sink failed, TurnLimit where a query needed a turn and
     /// none was left, NoMemory where memory ran out. ReadFault never comes.
     fn feed<D: CancelDesk, K: Sink>(
         &mut self,
@@ -53,7 +52,8 @@ pub trait Conversation {
         ensures registration { GoesOn (D.told desk.old) (D.told desk.new) }
         ensures sink { K.origin sink.new ≡ K.origin sink.old };
 
-    // its rules are those of a conversation: more answers change nothing where none was wanting
+    // its table keeps the law of conversation tables: further answers change nothing where none was
+    // missing
     ghost lawful: { (c : Self) → IsLawful (told c).rules.table (told c).rules.awaits };
 }
 

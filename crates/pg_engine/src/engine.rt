@@ -26,10 +26,11 @@ const READ_LEN: usize = 8192;
 /// conversation ends. A read that gives at least one byte or the end costs one turn, and so does
 /// each poll that finds a query unready.
 ///
-/// The store is empty. Ok tells how the conversation ended, with all of its replies written.
-/// ReadFault comes where a read failed, and the whole answer to the frames taken before is written;
-/// WriteFault where a write failed, TurnLimit where all turns were spent and one more was needed,
-/// NoMemory where memory ran out: then a front of the answer is written.
+/// The store has to be empty. Ok says how the conversation ended, and all of its replies are
+/// written then. ReadFault comes where a read failed, and the whole answer to the frames taken
+/// before is written then. WriteFault comes where a write failed, TurnLimit where all turns were
+/// spent and one more was needed, NoMemory where memory ran out. After these three a front of the
+/// answer is written.
 pub fn serve_connection<
     H: PgWireServerHandlers,
     St: PortalStore<
@@ -72,8 +73,8 @@ pub fn serve_connection<
     serve_whole(alloc, session, desk, source, sink, turn_limit)
 }
 
-/// A session that awaits the startup packet of the client whom this desk knows. The only error is
-/// want of memory.
+/// A session that awaits a client's startup packet, with the pid and the key of this desk. The only
+/// error is running out of memory.
 fn session_at<
     H: PgWireServerHandlers,
     St: PortalStore<
@@ -96,7 +97,7 @@ fn session_at<
     Session::new(alloc, handlers, store, pid, key)
 }
 
-/// Serves a client by a conversation of its own, as [`serve`] does, and lets the conversation go.
+/// Serves a client by a conversation, as [`serve`] does, and drops the conversation.
 pub fn serve_whole<C: Conversation + Drop, D: CancelDesk, S: Source, K: Sink>(
     alloc: Global,
     mut conversation: C,

@@ -14,6 +14,6 @@ abbrev pub outcome_of : {A : Type 0} → Option (Result A PgWireError) → Resul
 outcome_of (Some outcome) = outcome
 outcome_of None = Err wire.NoMemory
 
--- the polls that find the query unready, and what it gives then
+-- the number of polls that find the query unready, and its outcome after them
 abbrev pub query_told : {A : Type 0} → ℕ → Option (Result A PgWireError) → QueryTold (Result A PgWireError)
 query_told unready outcome = record { is_spent = is_given outcome; owes = unready; outcome = outcome_of outcome }

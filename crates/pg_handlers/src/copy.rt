@@ -18,10 +18,10 @@ use pg_portal::{PgWireError, PortalStore};
 use std::alloc::{AllocError, Global};
 
 /// What a server does with the data of a COPY from the client. Its calls may append replies, and
-/// change nothing else of the client. An error, which is the handler's own or NoMemory, ends the
-/// COPY; the replies before the handler's own stay in the outbox.
+/// change nothing else of the client. An error ends the COPY. It is NoMemory, or the handler's own,
+/// and then the replies before it stay in the outbox.
 pub trait CopyHandler {
-    // what it tells
+    // its replies to each message, and its errors
     ghost told: { Self → CopyTold };
 
     /// Takes data.
@@ -68,8 +68,8 @@ pub trait CopyHandler {
         ensures kept { take (length client.old.outbox) client.new.outbox ≡ client.old.outbox }
         ensures store { St.maps client.new.store ≡ St.maps client.old.store };
 
-    /// The error with which a COPY that the client gives up ends. An impl tells it in `on_fail`, or
-    /// `NoMemory`.
+    /// The error that ends a COPY where the client gives it up: the one that `told` has in
+    /// `on_fail`, or `NoMemory`.
     fn on_copy_fail<St: PortalStore>(
         &self,
         alloc: Global,
@@ -84,8 +84,8 @@ pub trait CopyHandler {
         ensures same { client.new ≡ client.old };
 }
 
-/// The error XX000 `COPY IN mode terminated by the user: ` and the client's text, or `NoMemory`:
-/// what a COPY handler answers to CopyFail that has nothing of its own to say.
+/// The error XX000 with the text `COPY IN mode terminated by the user: ` and the client's own text,
+/// or `NoMemory`. A COPY handler that has no error of its own returns it for CopyFail.
 pub fn copy_given_up(alloc: Global, fail: CopyFail) -> PgWireError
     requires { IsGiven (frontend.CopyFail fail) }
     ensures error { (result ≡ wire.UserError (copy_given_up fail.message))
@@ -98,7 +98,7 @@ pub fn copy_given_up(alloc: Global, fail: CopyFail) -> PgWireError
     }
 }
 
-/// What a client is told of a COPY that it gave up.
+/// What a client is told about a COPY that it gave up.
 fn given_up(alloc: Global, text: &str) -> Result<ErrorInfo, AllocError>
     ensures { IfOk result (λ info. info ≡ copy_given_up text.now) }
 {

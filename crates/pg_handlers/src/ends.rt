@@ -8,7 +8,7 @@ ghost use Rattle.conversation_table.specs.Outcomes.{session_outcome};
 use pg_client::SessionError;
 use pg_portal::PgWireError;
 
-/// The outcome of a message, as the session's.
+/// The outcome of a message, as one of a session.
 #[inline(always)]
 pub(crate) fn session_outcome(outcome: Result<(), PgWireError>) -> Result<(), SessionError>
     ensures { result ≡ session_outcome outcome }
@@ -19,7 +19,7 @@ pub(crate) fn session_outcome(outcome: Result<(), PgWireError>) -> Result<(), Se
     }
 }
 
-/// Memory ran out at a message: what is left of it is let go.
+/// Memory ran out at a message: what is left of it is dropped.
 #[cold]
 #[inline(never)]
 pub(crate) fn out_of_memory<T: Drop>(_left: T) -> Result<(), PgWireError>
@@ -28,7 +28,7 @@ pub(crate) fn out_of_memory<T: Drop>(_left: T) -> Result<(), PgWireError>
     Err(PgWireError::NoMemory)
 }
 
-/// Memory ran out at a query: what is left of it is let go.
+/// Memory ran out at a query: what is left of it is dropped.
 #[cold]
 #[inline(never)]
 pub(crate) fn query_out_of_memory<T: Drop>(_left: T) -> Result<(), SessionError>

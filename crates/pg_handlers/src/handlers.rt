@@ -18,7 +18,7 @@ pub trait PgWireServerHandlers: Drop {
     /// The type of the handler of COPY.
     type Copying: CopyHandler;
 
-    // what the three tell
+    // what the three handlers tell
     ghost told: { Self → Handlers Self.Extended.Statement };
 
     /// The handler of simple queries.

@@ -1,6 +1,6 @@
-//! What the messages of a client are answered while the session is ready: the handlers of extended
-//! and simple queries and of COPY, with the rules of the protocol as default bodies; and a query
-//! that owes polls before it gives its outcome.
+//! The handlers that answer a client's messages: those of extended queries, of simple queries and
+//! of COPY. The `on_` calls for queries have the rules of the protocol as default bodies.
+//! `PolledQuery` is a query that is unready for a number of polls, and then gives its outcome.
 #![tactic(auto)]
 
 mod copy;

@@ -23,7 +23,7 @@ use std::sync::Arc;
 #[derive(Drop)]
 pub struct NoopHandler;
 
-/// No row and no data.
+/// A source of no row and no data.
 #[derive(Drop)]
 pub struct NoRows;
 
@@ -91,7 +91,7 @@ impl QueryState for NoopExtendedQuery {
     }
 }
 
-/// What a client is told whose feature isn't implemented.
+/// What a client is told about a feature that isn't implemented.
 fn not_implemented(alloc: Global) -> Result<ErrorInfo, AllocError>
     ensures info { IfOk result (λ info. info ≡ not_implemented) }
     ensures tellable { IfOk result (λ info. IsTellable (wire.UserError info)) }

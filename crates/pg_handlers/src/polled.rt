@@ -1,4 +1,4 @@
-//! Queries that owe polls before they give what they answer.
+//! Queries that owe polls before they give their outcome.
 
 ghost use Rattle.std.specs.Prelude.{◌≡◌, Some};
 
@@ -6,8 +6,8 @@ use crate::query::{QueryState, Turn};
 use pg_portal::PgWireError;
 use std::alloc::AllocError;
 
-/// A query that is found unready by so many polls, and then gives its outcome once. Whoever polls it
-/// again finds no memory.
+/// A query that is unready for a number of polls, and then gives its outcome once. Any poll after
+/// that is an AllocError.
 #[derive(Drop)]
 pub struct PolledQuery<T> {
     unready: u32,
@@ -15,7 +15,7 @@ pub struct PolledQuery<T> {
 }
 
 impl<T: Drop> PolledQuery<T> {
-    /// A query of this outcome, which owes so many polls.
+    /// A query with this outcome, which is unready for `unready` polls first.
     pub fn new(unready: u32, outcome: Result<T, PgWireError>) -> PolledQuery<T>
         ensures unready { result.unready ≡ unready }
         ensures outcome { result.outcome ≡ Some outcome }

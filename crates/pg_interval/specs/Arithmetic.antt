@@ -23,7 +23,7 @@ interval_difference a b = record {
 abbrev pub hours_and_minutes : ℤ → ℤ → ℤ
 hours_and_minutes hours minutes = (hours *ℤ pos 3600000000) +ℤ (minutes *ℤ pos 60000000)
 
--- these with nanoseconds, whose part of a microsecond is rounded down
+-- these and the nanoseconds, whose part of a microsecond is rounded down
 abbrev pub time_amount : ℤ → ℤ → ℤ → ℤ
 time_amount hours minutes nanoseconds = hours_and_minutes hours minutes +ℤ int_div_euclid nanoseconds (pos 1000)
 

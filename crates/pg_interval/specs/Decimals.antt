@@ -1,5 +1,5 @@
--- A decimal, the unit that it stands beside, and what the two are worth: the appendix of PostgreSQL's
--- documentation on date/time input, and its section on interval input ("fractional parts of units").
+-- A decimal, its unit, and what the two are worth: the appendix of PostgreSQL's documentation on date/time input, and
+-- its section on interval input ("fractional parts of units").
 use Rattle.std.specs.Prelude.{ℕ, ◌+◌, ◌*◌, ◌/◌, ◌^◌, Bool, true, false, not, ◌&&◌, ◌==◌, nat_lt, if◌then◌else◌, List, [], ◌∷◌, ◌++◌, length, ℤ, pos, ◌+ℤ◌, ◌*ℤ◌, neg_ℤ, Result, Ok, Err}
 use Rattle.std.specs.List.{slice_split}
 use Rattle.std.specs.Str.Parse.{digits_value}
@@ -35,7 +35,7 @@ decimal_of_parts minus (whole ∷ []) = decimal_between minus whole []
 decimal_of_parts minus (whole ∷ fraction ∷ []) = decimal_between minus whole fraction
 decimal_of_parts minus _ = Err Malformed
 
--- a sign that may be missing, digits, and one point at most
+-- an optional sign, digits, and at most one point
 abbrev pub decimal_of : List ℕ → Result Decimal DecimalError
 decimal_of [] = Err Empty
 decimal_of (c ∷ cs) = decimal_of_parts (is_minus c) (slice_split is_point (without_sign (c ∷ cs)))

@@ -1,4 +1,4 @@
--- What a reader of fields keeps on its way, and what it answers from there.
+-- The state of a reader of fields, and its result from there.
 use Rattle.std.specs.Prelude.{ℕ, Bool, if◌then◌else◌, List, [], ◌∷◌, ◌++◌, codes, bytes_eq, Option, None, Some, Result, Ok, Err}
 use Rattle.std.specs.List.{list_all, list_any, slice_split}
 use Rattle.pg_interval.specs.Texts.{◌>>=◌, is_digit, is_sign, is_point, is_colon, is_minus, begins, tokens}
@@ -16,7 +16,7 @@ use Rattle.interval_errors.specs.declared.ParseError.TheVariants.{ParseIntErr}
 abbrev pub int_out_of_range : ParseError
 int_out_of_range = ParseIntErr OutOfRange
 
--- what a reader of one field answers
+-- the result of a reader of one field
 abbrev pub int_read : Result Number IntError → Result Decimal ParseError
 int_read (Ok n) = Ok (decimal_from n)
 int_read (Err e) = Err (ParseIntErr e)
@@ -28,7 +28,7 @@ number_capped (Err e) = Err e
 abbrev pub fraction_number : Bool → List ℕ → Result Decimal ParseError
 fraction_number minus fraction = if list_all is_digit fraction then Ok (number_of minus [] fraction) else Err (ParseIntErr InvalidDigit)
 
--- what pairs come to after this sum, unless the shape is broken
+-- this sum and the pairs after it, unless the shape is broken
 abbrev pub answer : Result Interval ParseError → Option (List Pair) → Option (Result Interval ParseError)
 answer r o = o >>= λ ps. Some (joined r (total_of int_out_of_range ps))
 
@@ -51,7 +51,7 @@ abbrev pub pairs_of_three : List ℕ → List ℕ → List ℕ → Option (List 
 pairs_of_three a b c = year_month_pairs a >>= λ year_month. day_pairs b >>= λ day. sql_time_pairs (begins is_minus c) c
     >>= λ time. Some (year_month ++ day ++ time)
 
--- a token in front of the rest, or none
+-- a token and then the rest, or no token
 abbrev pub token_first : List ℕ → List ℕ → List (List ℕ)
 token_first [] rest = []
 token_first (c ∷ cs) rest = (c ∷ cs) ∷ tokens rest

@@ -1,4 +1,4 @@
--- What the first try of a reader finds in front of a text.
+-- What the first try of a reader finds at the front of a text.
 use Rattle.std.specs.Prelude.{◌≡◌, ℕ, ◌*◌, ◌^◌, ◌<◌, Bool, true, false, not, if◌then◌else◌, List, [], ◌∷◌, ◌++◌, length, ℤ, pos, Option, Some, Result, Ok}
 use Rattle.std.specs.List.{list_all, list_any, slice_split}
 use Rattle.std.specs.Str.Parse.{digits_value}
@@ -17,7 +17,7 @@ use Rattle.interval_errors.specs.declared.ParseError.{ParseError}
 abbrev pub is_solid : ℕ → Bool
 is_solid c = not (is_whitespace c)
 
--- digits in front of a text, the number that they make, and what stands behind them
+-- digits at the front of a text, the number that they make, and what follows them
 pub record IsNumberFront (n : ℕ) (text rest : List ℕ) : Type 0 where
   pub digits : List ℕ
   pub are : are_digits digits ≡ true
@@ -25,7 +25,7 @@ pub record IsNumberFront (n : ℕ) (text rest : List ℕ) : Type 0 where
   pub small : n < 2 ^ 31
   pub parts : text ≡ digits ++ rest
 
--- a decimal in front of a text, as it is held with its sign turned if `turn` says so, and what stands behind it
+-- a decimal at the front of a text, as it is held with its sign turned if `turn` says so, and what follows it
 pub record IsDecimalFront (turn : Bool) (d : Decimal) (text rest : List ℕ) : Type 0 where
   pub number : List ℕ
   pub bytes : list_all is_number_byte number ≡ true
@@ -33,7 +33,7 @@ pub record IsDecimalFront (turn : Bool) (d : Decimal) (text rest : List ℕ) : T
   pub read : Ok d ≡ number_held turn (decimal_of number)
   pub parts : text ≡ number ++ rest
 
--- such a decimal and a word in front of a text, with one space between them, and what stands behind the word
+-- such a decimal and a word at the front of a text, with one space between them, and what follows the word
 pub record IsPairFront (turn : Bool) (d : Decimal) (text word rest : List ℕ) : Type 0 where
   pub behind : List ℕ
   pub decimal : IsDecimalFront turn d text behind
@@ -51,7 +51,7 @@ only_days z = record { months = pos 0; days = z; microseconds = pos 0 }
 abbrev pub only_time : ℤ → Interval
 only_time z = record { months = pos 0; days = pos 0; microseconds = z }
 
--- a token whose pairs come to this amount
+-- a token whose pairs add up to this amount
 pub record IsAmount (pairs : List ℕ → Option (List Pair)) (i : Interval) (token : List ℕ) : Type 0 where
   pub all : List Pair
   pub read : pairs token ≡ Some all
@@ -59,13 +59,13 @@ pub record IsAmount (pairs : List ℕ → Option (List Pair)) (i : Interval) (to
   pub bare : list_any is_whitespace token ≡ false
   pub filled : is_empty token ≡ false
 
--- such a token in front of a text, and what stands behind it
+-- such a token at the front of a text, and what follows it
 pub record IsAmountFront (pairs : List ℕ → Option (List Pair)) (i : Interval) (text rest : List ℕ) : Type 0 where
   pub token : List ℕ
   pub amount : IsAmount pairs i token
   pub parts : text ≡ token ++ rest
 
--- seconds with the fraction that may follow them, which come to so many microseconds under either sign
+-- seconds with the fraction that may follow them, which are this many microseconds with either sign
 pub record IsSeconds (size : ℕ) (text : List ℕ) : Type 0 where
   pub all : Bool → List Pair
   pub read : (minus : Bool) → second_pairs minus (slice_split is_point text) ≡ Some (all minus)
@@ -88,7 +88,7 @@ abbrev pub without_minus : List ℕ → List ℕ
 without_minus [] = []
 without_minus (c ∷ cs) = if is_minus c then cs else c ∷ cs
 
--- six digits between a point and `S` in front of a text, the number that they make, and what stands behind the `S`
+-- six digits between a point and `S` at the front of a text, the number that they make, and what follows the `S`
 pub record IsFraction (n : ℕ) (text rest : List ℕ) : Type 0 where
   pub digits : List ℕ
   pub are : are_digits digits ≡ true
@@ -100,10 +100,10 @@ pub record IsFraction (n : ℕ) (text rest : List ℕ) : Type 0 where
 abbrev pub sums_of : Sums → Interval
 sums_of s = record { months = s.months; days = s.days; microseconds = s.microseconds }
 
--- the amount was added if `done` says so, and the `T` stands where it stood
+-- the amount was added if `done` says so, and whether the `T` was there is as before
 abbrev pub HasAdded : Bool → Interval → Sums → Sums → Type 0
 HasAdded done more old new = (done ≡ true → sums_of new ≡ sum_of (sums_of old) more) × (new.in_time ≡ old.in_time)
 
--- what the rest of a text comes to after these sums
+-- the result of the rest of a text after these sums
 abbrev pub left_of : Sums → List ℕ → Option (Result Interval ParseError)
 left_of s text = left s.in_time (Ok (sums_of s)) text

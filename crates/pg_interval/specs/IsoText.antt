@@ -5,7 +5,7 @@ use Rattle.pg_interval.specs.Texts.{◌>>=◌, is_digit, is_point, is_minus}
 use Rattle.pg_interval.specs.Decimals.{TimeUnit, Year, Month, Day, Hour, Minute, Second}
 use Rattle.pg_interval.specs.Pairs.{Pair, decimal_pair}
 
--- a number as it is written, and the letter behind it
+-- a number as it is written, and the letter after it
 pub record Item : Type 0 where
   pub number : List ℕ
   pub letter : ℕ
@@ -14,7 +14,7 @@ pub record Item : Type 0 where
 abbrev pub is_designator : ℕ → Bool
 is_designator c = c == 89 || c == 77 || c == 68 || c == 72 || c == 83
 
--- the same items, the first number with a byte more in front
+-- the same items, with one more byte at the front of the first number
 abbrev pub longer : ℕ → List Item → Option (List Item)
 longer c [] = None
 longer c (item ∷ rest) = Some (record item { number = c ∷ item.number } ∷ rest)
@@ -25,7 +25,7 @@ items_of [] = Some []
 items_of (c ∷ cs) = if is_designator c then (items_of cs >>= λ rest. Some (record { number = []; letter = c } ∷ rest))
     else (items_of cs >>= longer c)
 
--- a minus that may be missing, then digits and points
+-- an optional minus, then digits and points
 abbrev pub is_item_number : List ℕ → Bool
 is_item_number [] = true
 is_item_number (c ∷ cs) = (is_minus c || is_digit c || is_point c) && list_all (λ d. is_digit d || is_point d) cs

@@ -1,4 +1,4 @@
--- What a reader of items keeps on its way, and what it answers from there.
+-- The state of a reader of items, and its result from there.
 use Rattle.std.specs.Prelude.{ℕ, Bool, true, false, not, ◌||◌, ◌==◌, if◌then◌else◌, List, [], ◌∷◌, Option, None, Some, Result}
 use Rattle.std.specs.List.{list_any, slice_split}
 use Rattle.pg_interval.specs.Texts.{◌>>=◌}
@@ -21,7 +21,7 @@ is_unmarked c = not (is_designator c || is_time_mark c)
 abbrev pub unit_at : Bool → ℕ → Option TimeUnit
 unit_at in_time l = if in_time then time_unit l else date_unit l
 
--- what the items of a half come to, after this sum
+-- the result of the items of a half, after this sum
 abbrev pub items_left : (ℕ → Option TimeUnit) → Result Interval ParseError → List ℕ → Option (Result Interval ParseError)
 items_left unit r text = items_of text >>= pairs_of_items unit >>= λ ps. Some (joined r (total_of out_of_range ps))
 
@@ -30,7 +30,7 @@ halves_left r (date ∷ []) = items_left date_unit r date
 halves_left r (date ∷ time ∷ []) = items_left date_unit r date >>= λ q. items_left time_unit q time
 halves_left r _ = None
 
--- what the rest of a text comes to, before its `T` and after it
+-- the result of the rest of a text, before its `T` and after it
 unfoldable pub left : Bool → Result Interval ParseError → List ℕ → Option (Result Interval ParseError)
 left true r text = if list_any is_time_mark text then None else items_left time_unit r text
 left false r text = halves_left r (slice_split is_time_mark text)
@@ -42,7 +42,7 @@ abbrev pub front_left : Items → Option (List ℕ) → Option (Result Interval 
 front_left s None = None
 front_left s (Some rest) = left_after s rest
 
--- an item in front of the rest
+-- an item, and then the rest
 abbrev pub item_left : Bool → Result Interval ParseError → List ℕ → ℕ → List ℕ → Option (Result Interval ParseError)
 item_left in_time r number letter rest = if is_item_number number then (unit_at in_time letter
     >>= λ u. left in_time (tallied out_of_range u (checked (decimal_of number)) r) rest) else None

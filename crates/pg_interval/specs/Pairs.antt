@@ -51,7 +51,7 @@ nothing = record { months = pos 0; days = pos 0; microseconds = pos 0 }
 abbrev pub sum_of : Interval → Interval → Interval
 sum_of i j = record { months = i.months +ℤ j.months; days = i.days +ℤ j.days; microseconds = i.microseconds +ℤ j.microseconds }
 
--- an amount more, in front of what the other pairs come to
+-- an amount and the sum of the other pairs
 abbrev pub plus : Interval → Result Interval ParseError → Result Interval ParseError
 plus i (Ok j) = Ok (sum_of i j)
 plus i (Err e) = Err e
@@ -60,8 +60,8 @@ abbrev pub added : ParseError → Result Decimal ParseError → TimeUnit → Res
 added range (Err e) u rest = Err e
 added range (Ok d) u rest = if fits_field u (whole_part d) then plus (worth u d) rest else Err range
 
--- What the pairs are worth in all, or the refusal of the first number from the left that fails. A number whose
--- whole part, with its sign, is outside the field of its unit fails as `range` says.
+-- What the pairs are worth in all, or the error of the first number from the left that fails. A number whose whole
+-- part, with its sign, is outside the field of its unit fails as `range` says.
 abbrev pub total_of : ParseError → List Pair → Result Interval ParseError
 total_of range [] = Ok nothing
 total_of range (p ∷ ps) = added range p.number p.unit (total_of range ps)
@@ -76,6 +76,6 @@ abbrev pub judged : Result Interval ParseError → Result Interval ParseError
 judged (Ok i) = interval_of_sums i
 judged (Err e) = Err e
 
--- the interval that the pairs add up to, or the refusal
+-- the interval that the pairs add up to, or the error
 abbrev pub interval_of_pairs : ParseError → List Pair → Result Interval ParseError
 interval_of_pairs range ps = judged (total_of range ps)

@@ -24,7 +24,8 @@ unit_of_verbose_word w =
     else (if bytes_eq w (codes "sec") || bytes_eq w (codes "secs") then Some Second
     else unit_of_word w)
 
--- what a token is: a number, a word, a number with a word joined behind it, a time with the numbers in it, or none of these
+-- what a token is: a number, a word, a number and a word without a space between them, a time with the numbers in it,
+-- or none of these
 pub data Token : Type 0 where
   Number : List ℕ → Token
   Word : List ℕ → Token
@@ -55,7 +56,7 @@ abbrev pub or_other : Option (List Pair) → Token
 or_other (Some ps) = Time ps
 or_other None = Other
 
--- a sign that may be missing, and hours, minutes and seconds with `:` between them
+-- an optional sign, and hours, minutes and seconds with `:` between them
 abbrev pub time_of : List ℕ → Token
 time_of text = or_other (time_pairs (begins is_minus text) (slice_split is_colon (without_sign text)))
 
@@ -68,7 +69,7 @@ token_of_parts number [] = Number number
 token_of_parts [] (c ∷ cs) = Word (c ∷ cs)
 token_of_parts (d ∷ ds) (c ∷ cs) = Joined (d ∷ ds) (c ∷ cs)
 
--- number bytes in front, and letters behind them
+-- number bytes first, and then letters
 abbrev pub token_split : List ℕ → List ℕ → Token
 token_split number rest = if list_all is_letter rest then token_of_parts number rest else Other
 

@@ -107,7 +107,7 @@ unfoldable pub without_last_zeros : List ℕ → List ℕ
 without_last_zeros [] = []
 without_last_zeros (d ∷ ds) = if list_all (λ c. c == 48) (d ∷ ds) then [] else d ∷ without_last_zeros ds
 
--- a digit in front of others, unless it is a zero and there are none
+-- a digit before others, unless it is a zero and there are none
 abbrev pub kept_digit : ℕ → Bool → List ℕ → List ℕ
 kept_digit digit first digits = if (digit == 0) && first then digits else (48 + digit) ∷ digits
 

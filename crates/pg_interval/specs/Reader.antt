@@ -1,4 +1,4 @@
--- What the readers of interval texts keep on their way through a text.
+-- The state of the readers of interval texts on their way through a text.
 use Rattle.std.specs.List.{list_all}
 use Rattle.std.specs.Prelude.{ℕ, ◌+◌, ◌*◌, ◌/◌, ◌^◌, min, Bool, true, false, not, ◌&&◌, ◌||◌, ◌==◌, if◌then◌else◌, List, [], ◌∷◌, pos, ◌-ℤ◌, Option, None, Some, Result, Ok, Err}
 use Rattle.pg_interval.specs.Texts.{is_whitespace, is_digit, is_letter, is_point, is_colon, is_minus}
@@ -30,7 +30,7 @@ is_kind NoMinus c = not (is_minus c)
 is_kind NoColon c = not (is_colon c)
 is_kind NoPoint c = not (is_point c)
 
--- a number, or the word's largest where it is larger
+-- a number, or the greatest u64 where the number is larger
 abbrev pub capped : ℕ → ℕ
 capped n = min n 18446744073709551615
 
@@ -45,7 +45,7 @@ decimal_from n = record { negative = n.negative; whole = n.whole; fraction = n.f
 abbrev pub turned_if : Bool → Decimal → Decimal
 turned_if turn d = if turn then negated d else d
 
--- what a reader of one decimal answers
+-- the result of a reader of one decimal
 abbrev pub number_read : {E : Type 0} → Result Number E → Result Decimal E
 number_read (Ok n) = Ok (decimal_from n)
 number_read (Err e) = Err e
@@ -54,7 +54,7 @@ abbrev pub number_held : {E : Type 0} → Bool → Result Decimal E → Result D
 number_held turn (Ok d) = Ok (capped_decimal (turned_if turn d))
 number_held turn (Err e) = Err e
 
--- the digits behind the point where one stands, or none, and nothing else
+-- the digits after the point, or no digits where nothing is left; None where anything else is left
 abbrev pub fraction_after : List ℕ → Option (List ℕ)
 fraction_after [] = Some []
 fraction_after (c ∷ cs) = if is_point c && list_all is_digit cs then Some cs else None
@@ -72,12 +72,12 @@ size_of decimals.Hour d = record { months = 0; days = 0; microseconds = 36000000
 size_of decimals.Minute d = record { months = 0; days = 0; microseconds = 60000000 * d.whole + 1000000 * rounded_size 60 d }
 size_of decimals.Second d = record { months = 0; days = 0; microseconds = 1000000 * d.whole + rounded_size 1000000 d }
 
--- the sum of both where it is wanted, else the first alone
+-- the sum of both if it is wanted, else the first alone
 abbrev pub with_if : Bool → Amount → Amount → Amount
 with_if true a b = record { months = a.months + b.months; days = a.days + b.days; microseconds = a.microseconds + b.microseconds }
 with_if false a b = a
 
--- the sum of what was added, less what was taken off, or the first refusal
+-- the sum of what was added, less what was taken off, or the first error
 abbrev pub sum_left : Amount → Amount → Interval
 sum_left p m = record {
   months = pos p.months -ℤ pos m.months;

@@ -24,7 +24,7 @@ pairs_of PostgresVerbose text = verbose_pairs text
 pairs_of Iso8601 text = iso_pairs text
 pairs_of SqlStandard text = sql_pairs text
 
--- the refusal of a number that is outside its field
+-- the error of a number that is outside its field
 abbrev pub out_of_range : Style → ParseError
 out_of_range SqlStandard = ParseIntErr integers.OutOfRange
 out_of_range _ = ParseFloatErr decimals.OutOfRange
@@ -33,12 +33,12 @@ abbrev pub of_shape : Style → Option (List Pair) → Result Interval ParseErro
 of_shape style None = Err (InvalidInterval Shape)
 of_shape style (Some ps) = interval_of_pairs (out_of_range style) ps
 
--- The interval that a text stands for, or else its one refusal: too long, of a broken shape, the first number from
--- the left that fails, or a sum that leaves its type.
+-- The interval that a text stands for, or else its one error: too long, of a broken shape, the first number from the
+-- left that fails, or a sum that leaves its type.
 unfoldable pub reading : Style → List ℕ → Result Interval ParseError
 reading style text = if nat_lt 4096 (length text) then Err (InvalidInterval TooLong) else of_shape style (pairs_of style text)
 
--- A text stands for one interval at most, and one that stands for none has one refusal, since `reading` is a function.
+-- A text stands for at most one interval, and one that stands for none has one error, since `reading` is a function.
 abbrev pub StandsFor : Style → List ℕ → Interval → Type 0
 StandsFor style text i = reading style text ≡ Ok i
 

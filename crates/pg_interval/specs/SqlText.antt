@@ -16,7 +16,7 @@ field_number minus (c ∷ cs) = if list_all is_digit (c ∷ cs) then Ok (number_
 abbrev pub field_pair : Bool → TimeUnit → List ℕ → Pair
 field_pair minus u field = record { number = field_number minus field; unit = u }
 
--- the part of a second that stands after the point: digits, or none, which is zero
+-- the part of a second after the point: digits, or none, which is zero
 abbrev pub fraction_pair : Bool → List ℕ → Pair
 fraction_pair minus fraction = record {
   number = if list_all is_digit fraction then Ok (number_of minus [] fraction)
@@ -47,7 +47,7 @@ second_pairs minus (s ∷ f ∷ []) = if is_field s && nat_le (length f) 6 then 
     else None
 second_pairs minus _ = None
 
--- hours and minutes, and seconds that may be missing
+-- hours and minutes, and optional seconds
 abbrev pub clock_pairs : Bool → List (List ℕ) → Option (List Pair)
 clock_pairs minus (h ∷ m ∷ []) = if is_field h && is_field m then Some (field_pair minus Hour h ∷ field_pair minus Minute m ∷ []) else None
 clock_pairs minus (h ∷ m ∷ s ∷ []) = if is_field h
@@ -55,7 +55,7 @@ clock_pairs minus (h ∷ m ∷ s ∷ []) = if is_field h
     >>= λ ps. Some (field_pair minus Hour h ∷ field_pair minus Minute m ∷ ps)) else None
 clock_pairs minus _ = None
 
--- a time that is negative where `minus` says so, its sign taken off
+-- a time without its sign, negative where `minus` says so
 abbrev pub sql_time_pairs : Bool → List ℕ → Option (List Pair)
 sql_time_pairs minus text = clock_pairs minus (slice_split is_colon (without_sign text))
 

@@ -1,4 +1,4 @@
--- Words on texts, which the four interval grammars share. A text is the list of its bytes.
+-- Terms about texts, which the four interval grammars share. A text is the list of its bytes.
 use Rattle.std.specs.Prelude.{ℕ, Bool, true, false, not, ◌&&◌, ◌||◌, ◌==◌, nat_le, if◌then◌else◌, List, [], ◌∷◌, filter, Option, option_and_then}
 use Rattle.std.specs.List.{slice_split, list_all}
 

@@ -1,4 +1,4 @@
--- What a reader of words and times keeps on its way, and what it answers from there.
+-- The state of a reader of words and times, and its result from there.
 use Rattle.std.specs.Prelude.{◌≡◌, ℕ, ◌<◌, Bool, true, false, ◌&&◌, if◌then◌else◌, List, [], ◌∷◌, length, map, codes, bytes_eq, Option, None, Some, option_map, Result, Ok, Err}
 use Rattle.std.specs.Borrow.{Bor}
 use Rattle.std.specs.List.{slice_split}
@@ -38,7 +38,7 @@ with_unit s Second = record s { second = true }
 abbrev pub none_seen : Seen
 none_seen = record { year = false; month = false; day = false; hour = false; minute = false; second = false }
 
--- the units seen, and the sums or the first refusal
+-- the units seen, and the sums or the first error
 pub record State : Type 0 where
   pub seen : Seen
   pub sum : Result Interval ParseError
@@ -79,7 +79,7 @@ taken_pair verbose turn s number word = unit_in verbose word >>= λ u. taken_one
 abbrev pub taken_word : Bool → State → Result Decimal DecimalError → List ℕ → Option State
 taken_word verbose s n word = unit_in verbose word >>= λ u. taken_one s u (checked n)
 
--- what the tokens of the rest of a text come to, after this state
+-- the result of the tokens of the rest of a text, after this state
 unfoldable pub left : Bool → Bool → State → List ℕ → Option (Result Interval ParseError)
 left verbose turn s text = pairs_of_tokens (unit_in verbose) (map token_of (tokens text)) >>= λ ps. taken turn s ps >>= λ t. Some t.sum
 
@@ -93,11 +93,11 @@ abbrev pub front_left : Bool → Bool → State → Option (List ℕ) → Option
 front_left verbose turn s None = None
 front_left verbose turn s (Some rest) = left verbose turn s rest
 
--- the rest of a text from its next token on, of fewer bytes than so many
+-- the rest of a text from its next token on, of fewer bytes than this bound
 abbrev pub IsNextToken : ℕ → List ℕ → Type 0
 IsNextToken bound next = (length next < bound) × (begins is_whitespace next ≡ false)
 
--- the answer that sums come to, where the shape isn't broken
+-- the result of the sums, where the shape isn't broken
 abbrev pub answered : Option (Result Interval ParseError) → Result Interval ParseError
 answered None = Err (InvalidInterval Shape)
 answered (Some r) = judged r
@@ -133,7 +133,7 @@ times_of_parts minus _ = None
 unfoldable pub times_of : List ℕ → Option Times
 times_of text = times_of_parts (begins is_minus text) (slice_split is_colon (without_sign text))
 
--- what a number and its word in front of the rest come to, and what a time in front of it comes to
+-- the result of a number and its word before the rest, and the result of a time before it
 abbrev pub pair_left : Bool → Bool → State → List ℕ → List ℕ → List ℕ → Option (Result Interval ParseError)
 pair_left verbose turn s number word rest = taken_pair verbose turn s number word >>= λ t. left verbose turn t rest
 
@@ -144,6 +144,6 @@ abbrev pub time_left : Bool → Bool → State → List ℕ → List ℕ → Opt
 time_left verbose turn s token rest = option_map (held_times turn) (times_of token) >>= λ t. taken_times s t
     >>= λ u. left verbose turn u rest
 
--- what stands between `@` and `ago`
+-- the text between `@` and `ago`
 unfoldable pub within_left : Bool → List ℕ → Option (Result Interval ParseError)
 within_left turn text = if bytes_eq text (codes "0") then Some (Ok nothing) else left true turn start text

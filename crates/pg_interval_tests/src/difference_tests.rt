@@ -3,7 +3,7 @@
 use crate::sum_tests::{Parts, is_answer, is_of};
 use pg_interval::Interval;
 
-/// From so many months the months are subtracted.
+/// Months, the months that are subtracted from them, and the difference.
 const DIFFERENCES: [(i32, i32, Option<Parts>); 2] = [
     (-20, i32::MIN, Some((2147483628, 0, 0))),
     (0, i32::MIN, None),
@@ -14,7 +14,7 @@ fn is_difference(start: i32, months: i32, difference: Option<Parts>) -> bool {
     is_answer(start.checked_sub(Interval::new(months, 0, 0)), difference)
 }
 
-/// From -20 months the years and months are subtracted.
+/// Years and months that are subtracted from -20 months, and the difference.
 const YEAR_MONTH_DIFFERENCES: [(i32, i32, Option<Parts>); 2] = [
     (-2147483648, 1, None),
     (1, 1, Some((-33, 0, 0))),
@@ -25,7 +25,7 @@ fn is_year_month_difference(years: i32, months: i32, difference: Option<Parts>) 
     is_answer(start.checked_sub_year_month(years, months), difference)
 }
 
-/// From -20 months the days, hours, minutes and nanoseconds are subtracted.
+/// Days, hours, minutes and nanoseconds that are subtracted from -20 months, and the difference.
 const DAY_TIME_DIFFERENCES: [((i32, i64, i64, i64), Option<Parts>); 2] = [
     ((1, 1, 1, 1999), Some((-20, -1, -3660000001))),
     ((i32::MIN, 0, 0, 0), None),

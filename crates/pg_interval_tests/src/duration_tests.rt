@@ -5,7 +5,7 @@ use pg_interval::Interval;
 
 const NANOS_PER_DAY: i128 = 86_400_000_000_000;
 
-/// Days and nanoseconds, and the days and microseconds of the interval of so long a time.
+/// Days and nanoseconds of a duration, and the days and microseconds of its interval.
 const DURATIONS: [(i64, i64, Option<(i32, i64)>); 5] = [
     (2147483650, 0, Some((2147483647, 259200000000))),
     (-2147483650, 0, Some((-2147483648, -172800000000))),

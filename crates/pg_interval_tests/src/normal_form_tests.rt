@@ -26,7 +26,7 @@ fn is_total(fields: IntervalNorm, interval: Interval) -> bool {
     }
 }
 
-/// Is the overflow told of the time, and else of the years and months?
+/// Is the error an overflow of the time, or, if not `of_time`, of the years and months?
 fn is_overflow(fields: IntervalNorm, of_time: bool) -> bool {
     match fields.try_into_interval() {
         Err(ParseError::InvalidTime(Reason::Overflow)) => of_time,
@@ -35,7 +35,7 @@ fn is_overflow(fields: IntervalNorm, of_time: bool) -> bool {
     }
 }
 
-/// So many years, months and hours.
+/// A normal form of these years, months and hours.
 fn fields(years: i32, months: i32, hours: i64) -> IntervalNorm {
     let mut fields = IntervalNorm::default();
     fields.years = years;

@@ -19,7 +19,7 @@ pub(crate) fn is_answer(answer: Option<Interval>, parts: Option<Parts>) -> bool 
     }
 }
 
-/// To so many months these parts are added.
+/// Months, the parts that are added to them, and the sum.
 const SUMS: [(i32, Parts, Option<Parts>); 2] = [
     (13, (2147483647, 1, 12), None),
     (13, (2147483634, 1, 12), Some((2147483647, 1, 12))),
@@ -33,7 +33,7 @@ fn is_sum(start: i32, other: Parts, sum: Option<Parts>) -> bool {
     )
 }
 
-/// To so many months the days, hours, minutes and nanoseconds are added.
+/// Months, the days, hours, minutes and nanoseconds that are added to them, and the sum.
 const DAY_TIME_SUMS: [(i32, (i32, i64, i64, i64), Option<Parts>); 5] = [
     (13, (2, 0, 0, 2123456789), Some((13, 2, 2123456))),
     // The hours and the minutes fit, and their sum doesn't.
@@ -51,8 +51,8 @@ fn is_day_time_sum(start: i32, time: (i32, i64, i64, i64), sum: Option<Parts>) -
     )
 }
 
-/// To -2,000,000,000 months the years and months are added. Joined first, they may leave the
-/// type where one after the other doesn't.
+/// Years and months that are added to -2,000,000,000 months, and the sum. The years and months are
+/// joined first. That may overflow where adding one after the other would not.
 const YEAR_MONTH_SUMS: [(i32, i32, Option<Parts>); 2] = [
     (178956970, 100, None),
     (178956970, 7, Some((147483647, 0, 0))),

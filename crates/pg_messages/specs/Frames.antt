@@ -1,5 +1,5 @@
--- The frames of a client (protocol: Message Formats). A frame's message tells its bytes, so each kind of
--- message is one layout, one record of what the layout can carry, and one arm of `Carries`.
+-- The frames of a client (protocol: Message Formats). A frame's message decides its bytes, so each kind of message is
+-- one layout, one record of what the layout can carry, and one arm of `Carries`.
 use Rattle.std.specs.Prelude.{ℕ, ℤ, Bool, true, false, List, [], ◌∷◌, ◌++◌, Option, Some, None, ◌≡◌, ◌≢◌, ◌≤◌, ◌<◌, ◌+◌, ◌^◌, ◌⊎◌, ◌==◌, if◌then◌else◌, length, take, drop, slice_index, IfSome, FitsSigned, Contains, codes}
 use Rattle.std.specs.List.{AllByRecursion, flat_map}
 use Rattle.std.specs.Int.{w16, w32, from_be_bytes}
@@ -37,7 +37,7 @@ statement_target = 83
 abbrev pub portal_target : ℕ
 portal_target = 80
 
--- Startup, behind the code: pairs of Strings, and a zero byte.
+-- Startup, after the code: pairs of Strings, and a zero byte.
 abbrev pub startup_body : Startup → List ℕ
 startup_body m = flat_map (λ pair. string pair.0 ++ string pair.1) m.parameters ++ 0 ∷ []
 
@@ -47,7 +47,7 @@ pub record IsParameter (pair : List ℕ × List ℕ) : Type 0 where
   pub named : pair.0 ≢ []
   pub value : IsText pair.1
 
--- A packet of a version that is spoken, 3.0 or 3.2, has this layout.
+-- A packet of a supported version, 3.0 or 3.2, has this layout.
 pub record IsSpoken (body : List ℕ) (m : Startup) : Type 0 where
   pub code : (m.code ≡ protocol_3_0) ⊎ (m.code ≡ protocol_3_2)
   pub layout : body ≡ startup_body m
@@ -57,13 +57,13 @@ pub record IsSpoken (body : List ℕ) (m : Startup) : Type 0 where
 abbrev pub known_codes : List ℕ
 known_codes = protocol_3_0 ∷ protocol_3_2 ∷ 80877102 ∷ 80877103 ∷ 80877104 ∷ []
 
--- Any other code is a version that isn't spoken, and the body isn't looked at.
+-- Any other code is a version that isn't supported, and the body isn't read.
 pub record IsUnspoken (m : Startup) : Type 0 where
   pub code : m.code < 2 ^ 32
   pub unknown : AllByRecursion (λ code. m.code ≢ code) known_codes
   pub parameters : m.parameters ≡ []
 
--- CancelRequest, behind the code: Int32 pid, and 4 to 256 bytes of key.
+-- CancelRequest, after the code: Int32 pid, and 4 to 256 bytes of key.
 abbrev pub cancel_body : CancelRequest → List ℕ
 cancel_body m = int32 m.pid ++ m.secret_key
 
@@ -151,7 +151,8 @@ copy_fail_body m = string m.message
 pub record IsCopyFail (m : CopyFail) : Type 0 where
   pub message : IsText m.message
 
--- What a body carries behind a kind: the code of a startup packet while that is awaited, a type byte afterwards.
+-- The message that a body carries after its kind: the code of a startup packet while that is awaited, a type byte
+-- afterwards.
 abbrev pub Carries : Bool → ℕ → List ℕ → PgWireFrontendMessage → Type 0
 Carries true kind body (client.Startup m) = (kind ≡ m.code) × (IsSpoken body m ⊎ IsUnspoken m)
 Carries true kind body (client.SslNegotiation m) = (kind ≡ negotiation_code m) × (body ≡ [])
@@ -198,7 +199,7 @@ abbrev pub awaits_startup_after : PgWireFrontendMessage → Bool → Bool
 awaits_startup_after (client.Startup m) awaiting = false
 awaits_startup_after _ awaiting = awaiting
 
--- the version that a startup packet's code asks for, where it is one that is spoken
+-- the version that a startup packet's code asks for, if it is a supported one
 abbrev pub protocol_of : ℕ → ProtocolVersion → ProtocolVersion
 protocol_of code before = if code == protocol_3_0 then PROTOCOL3_0 else (if code == protocol_3_2 then PROTOCOL3_2 else before)
 
@@ -207,7 +208,7 @@ abbrev pub context_after : PgWireFrontendMessage → DecodeContext → DecodeCon
 context_after (client.Startup m) context = record { awaiting_startup = false; protocol = protocol_of m.code context.protocol }
 context_after _ context = context
 
--- The header is the length, behind the type byte where there is one.
+-- The header is the length, after the type byte where there is one.
 abbrev pub header_len : Bool → ℕ
 header_len true = 4
 header_len false = 5
@@ -221,7 +222,7 @@ told_len false bytes = 1 + from_be_bytes w32 (take 4 (drop 1 bytes))
 abbrev pub type_bytes : List ℕ
 type_bytes = codes "QPBDECHSXdcf"
 
--- a header that a good frame may have: a length inside its limits, behind a type byte that is known
+-- a header that a good frame may have: a length inside its limits, after a type byte that is known
 abbrev pub IsGoodHeader : Bool → List ℕ → Type 0
 IsGoodHeader true bytes = (8 ≤ told_len true bytes) × (told_len true bytes ≤ 10000)
 IsGoodHeader false bytes = Contains type_bytes (slice_index bytes 0)

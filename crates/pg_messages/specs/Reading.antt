@@ -1,5 +1,6 @@
--- Reading fields from left to right, as functions on lists: the value and the bytes after it, or None where
--- no value stands there. They tie the private readers to the layouts; of what is public the law of TypedMessage alone cites them.
+-- Reading fields from left to right, as functions on lists: the value and the bytes after it, or None where no value
+-- stands there. They tie the private readers to the layouts. The law of TypedMessage is the only public clause that
+-- cites them.
 use Rattle.std.specs.Prelude.{◌≡◌, Bool, true, false, ℕ, ℤ, zero, suc, ◌+◌, ◌^◌, List, [], ◌∷◌, length, take, drop, Option, Some, None, option_and_then, Result, Ok, Err, nat_lt, ◌==◌, if◌then◌else◌}
 use Rattle.std.specs.List.{position}
 use Rattle.std.specs.Int.{Width, w16, w32, byte_len, from_be_bytes, cast_signed}
@@ -31,7 +32,7 @@ infixl 10 ◌>>=◌
 abbrev pub ◌>>=◌ : {A B : Type 0} → Option A → (A → Option B) → Option B
 o >>= f = option_and_then f o
 
--- one field, and another behind it
+-- one field, and then another
 abbrev pub both_at : {X Y : Type 0} → (List ℕ → Option (X × List ℕ)) → (List ℕ → Option (Y × List ℕ)) → List ℕ → Option ((X × Y) × List ℕ)
 both_at first second bytes = first bytes >>= λ x. second x.1 >>= λ y. Some ((x.0, y.0), y.1)
 
@@ -74,12 +75,12 @@ string_at bytes = position (λ byte. byte == 0) bytes >>= λ n. if is_utf8 (take
   drop (n + 1) bytes,
 ) else None
 
--- null, or as many bytes as a length told
+-- null, or as many bytes as the length says
 abbrev pub value_behind : ℕ × List ℕ → Option (Option (List ℕ) × List ℕ)
 value_behind n = if n.0 == 4294967295 then Some (None, n.1)
     else (if nat_lt n.0 (2 ^ 31) then (if nat_lt (length n.1) n.0 then None else Some (Some (take n.0 n.1), drop n.0 n.1)) else None)
 
--- a value behind its length, or null
+-- a value after its length, or null
 unfoldable pub value_at : List ℕ → Option (Option (List ℕ) × List ℕ)
 value_at bytes = number_at w32 bytes >>= value_behind
 
@@ -112,7 +113,7 @@ byte_at (byte ∷ rest) = Some (byte, rest)
 abbrev pub key_of : List ℕ → Option (List ℕ)
 key_of bytes = if nat_lt (length bytes) 4 then None else (if nat_lt 256 (length bytes) then None else Some bytes)
 
--- the key is what stands behind the pid
+-- the key is what follows the pid
 unfoldable pub cancel_of : List ℕ → Option CancelRequest
 cancel_of body = signed_at w32 body >>= λ pid. key_of pid.1 >>= λ key. Some (record { pid = pid.0; secret_key = key })
 
@@ -162,7 +163,7 @@ told_as message read = read >>= λ x. Some (message x)
 abbrev pub bare : List ℕ → PgWireFrontendMessage → Option PgWireFrontendMessage
 bare body message = if length body == 0 then Some message else None
 
--- what stands beside a key, or else
+-- the entry of a key, or else the given default
 abbrev pub beside : {X : Type 0} → ℕ → Option X → List (ℕ × Option X) → Option X
 beside key otherwise [] = otherwise
 beside key otherwise (entry ∷ entries) = if key == entry.0 then entry.1 else beside key otherwise entries
@@ -191,7 +192,7 @@ typed_readings body = (81, told_as client.Query (whole (query_at body)))
     ∷ (88, bare body (client.Terminate (record {})))
     ∷ (99, bare body (client.CopyDone (record {}))) ∷ []
 
--- while the startup packet is awaited by its code, afterwards by the type byte
+-- a body's message: by the code while the startup packet is awaited, by the type byte afterwards
 unfoldable pub message_at : Bool → ℕ → List ℕ → Option PgWireFrontendMessage
 message_at true code body = beside code (Some (startup_packet code [])) (startup_readings body)
 message_at false kind body = beside kind None (typed_readings body)

@@ -16,7 +16,7 @@ status_byte status.Idle = 73
 status_byte status.Transaction = 84
 status_byte status.Error = 69
 
--- the fields of an error: severity twice, code, message, each behind its byte, and a zero byte
+-- the fields of an error: severity twice, code, message, each after its byte, and a zero byte
 abbrev pub error_fields : ErrorInfo → List ℕ
 error_fields info = (83 ∷ string info.severity) ++ (86 ∷ string info.severity) ++ (67 ∷ string info.code) ++ (77 ∷ string info.message) ++ 0
     ∷ []
@@ -55,7 +55,7 @@ reply_type (server.CopyBothResponse m) = 87
 reply_type (server.CopyData m) = 100
 reply_type (server.CopyDone m) = 99
 
--- what stands behind the length
+-- the bytes that follow the length
 abbrev pub reply_body : PgWireBackendMessage → List ℕ
 reply_body (server.AuthenticationOk m) = count32 0
 reply_body (server.ParameterStatus m) = string m.name ++ string m.value
@@ -108,7 +108,7 @@ reply_counts _ = []
 abbrev pub HasNoZero : List ℕ → Type 0
 HasNoZero text = AllByRecursion (λ byte. byte ≢ 0) text
 
--- what can be sent: a body that isn't longer than a length can tell, counts that fit, and texts without a zero byte
+-- what can be sent: a body of at most 1,073,741,823 bytes, counts that fit in an Int16, and texts without a zero byte
 pub record IsEncodable (m : PgWireBackendMessage) : Type 0 where
   pub body : length (reply_body m) ≤ 1073741823
   pub counts : AllByRecursion (FitsSigned w16) (reply_counts m)

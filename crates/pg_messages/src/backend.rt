@@ -45,8 +45,8 @@ pub enum PgWireBackendMessage {
 }
 
 impl PgWireBackendMessage {
-    /// How many bytes stand behind the length; from the greatest u64 on that number. A reply can be
-    /// sent where there are at most 1,073,741,823.
+    /// How many bytes follow the length. The number saturates at the greatest u64. A reply with at
+    /// most 1,073,741,823 can be sent.
     #[inline(always)]
     pub fn body_len(&self) -> u64
         ensures { result ≡ min (length (reply_body self.now)) (2 ^ 64 - 1) }
@@ -114,7 +114,7 @@ pub fn is_one_byte(item: &PgWireBackendMessage) -> bool
     )
 }
 
-/// Appends what stands behind the length.
+/// Appends the bytes that follow the length.
 #[inline(always)]
 pub fn put_body(item: &PgWireBackendMessage, dst: &mut BytesMut)
     requires fits { IsEncodable item.now }

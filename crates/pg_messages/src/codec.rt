@@ -1,4 +1,4 @@
-//! Frames of a client taken off a buffer, and replies put behind one.
+//! The codec: takes a client's frames off a buffer, and appends replies to one.
 
 ghost use Rattle.std.specs.Prelude.{◌≡◌, ◌≤◌, ◌+◌, ◌++◌, ◌∷◌, ℕ, List, true, length, IfOk, OnOk, OnErr, IfSome, IfNone, MatchOption, IsErrOf};
 ghost use Rattle.pg_messages.specs.Frames.{IsFrame, IsUnfinished, IsBad, context_after};
@@ -16,7 +16,7 @@ use crate::startup::{PROTOCOL_3_0, PROTOCOL_3_2};
 use bytes::BytesMut;
 use std::alloc::{AllocError, Global};
 
-/// A version of the protocol that is spoken.
+/// A version of the protocol that the server supports.
 #[derive(Clone, Copy, Debug, PartialEq, Eq)]
 pub enum ProtocolVersion {
     /// Code 196608.
@@ -75,7 +75,7 @@ impl PgWireMessageServerCodec {
         }
     }
 
-    /// Takes the first frame off the bytes, and tells its message. While the startup packet is
+    /// Takes the first frame off the bytes, and returns its message. While the startup packet is
     /// awaited a frame is Int32 length, which counts itself, 8 to 10,000, and a body; afterwards
     /// Byte1 type, Int32 length, which counts itself and not the type byte, 4 to 1,048,576, and a
     /// body (protocol, "Message Formats").
@@ -115,10 +115,11 @@ impl PgWireMessageServerCodec {
     }
 
     /// Appends the bytes of a reply: Byte1 type, Int32 length, which counts itself and not the type
-    /// byte, and the body (protocol, "Message Formats"). The room is made at once, so want of
-    /// memory is the only error, and after it the bytes are as they were. The buffer's whole room,
-    /// its bytes and what it has spare, never falls.
-    // Inlined into each push, so that a reply whose kind is known there is told apart before it runs.
+    /// byte, and the body (protocol, "Message Formats"). All room is reserved first. The only error
+    /// is running out of memory, and the bytes are as they were then. The buffer's capacity, its
+    /// bytes and its spare room together, never shrinks.
+    // It is inlined into each push. Where the reply's kind is known there, the compiler picks the
+    // branches.
     #[inline(always)]
     pub fn encode(
         &mut self,
@@ -151,10 +152,11 @@ impl PgWireMessageServerCodec {
     }
 }
 
-/// Appends the bytes of a DataRow, as `encode` does of the reply: Byte1 `D`, Int32 length, Int16
-/// count of cells, and the cells as they stand. Rows are most of what is sent, so the room is made
-/// at once and nothing is dispatched. Want of memory is the only error, and after it the bytes are
-/// as they were. The buffer's whole room, its bytes and what it has spare, never falls.
+/// Appends the bytes of a DataRow, as `encode` does for the reply: Byte1 `D`, Int32 length, Int16
+/// count of cells, and the cells as they are. Most replies are rows, so this call reserves all room
+/// at once and looks for no other kind of reply. The only error is running out of memory, and the
+/// bytes are as they were then. The buffer's capacity, its bytes and its spare room together, never
+/// shrinks.
 #[inline(always)]
 pub fn put_row(row: &DataRow, dst: &mut BytesMut) -> Result<(), AllocError>
     requires { IsEncodable (server.DataRow row.now) }
@@ -184,10 +186,11 @@ fn row_head(row: &DataRow) -> [u8; 7]
     [b'D', a, b, c, d, e, f]
 }
 
-/// Appends the bytes of a CopyData, as `encode` does of the reply: Byte1 `d`, Int32 length, and the
-/// data as they stand. Lines of a COPY are sent as rows are, so the room is made at once and nothing
-/// is dispatched. Want of memory is the only error, and after it the bytes are as they were. The
-/// buffer's whole room, its bytes and what it has spare, never falls.
+/// Appends the bytes of a CopyData, as `encode` does for the reply: Byte1 `d`, Int32 length, and
+/// the data as they are. A COPY sends as many of them as a query sends rows, so this call reserves
+/// all room at once and looks for no other kind of reply. The only error is running out of memory,
+/// and the bytes are as they were then. The buffer's capacity, its bytes and its spare room
+/// together, never shrinks.
 #[inline(always)]
 pub fn put_copied(copied: &CopyData, dst: &mut BytesMut) -> Result<(), AllocError>
     requires { IsEncodable (server.CopyData copied.now) }

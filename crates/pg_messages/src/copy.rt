@@ -18,8 +18,8 @@ pub struct CopyData {
     pub payload: PgBytes,
 }
 
-/// The data of a COPY is complete, said by the client or by the server. Protocol, CopyDone: Byte1
-/// `c`, Int32 length 4.
+/// The data of a COPY is complete. Client and server send it. Protocol, CopyDone: Byte1 `c`, Int32
+/// length 4.
 #[derive(Drop)]
 pub struct CopyDone {}
 
@@ -78,7 +78,8 @@ impl Field for CopyFail {
     }
 }
 
-/// Appends what begins a COPY.
+/// Appends the body of a reply that begins a COPY: Int8 format, Int16 count of columns, and their
+/// Int16 format codes.
 pub fn put_columns(format: i8, columns: i16, column_formats: &[i16], dst: &mut BytesMut)
     requires { length (copy_columns format columns column_formats.now) ≤ dst.old.spare }
     ensures items { dst.new.items

@@ -1,4 +1,4 @@
-//! Rows, and what is told of their columns.
+//! Rows, and the descriptions of their columns.
 
 use crate::put::Put;
 use crate::values::{PgBytes, PgList, PgStr};
@@ -54,7 +54,7 @@ pub struct NoData {}
 /// cell Int32 length (-1 for null) and as many bytes.
 #[derive(Drop)]
 pub struct DataRow {
-    /// The cells as they are sent, each behind its length.
+    /// The cells as they are sent, each after its length.
     pub payload: PgBytes,
     /// How many cells the payload has.
     pub field_count: i16,

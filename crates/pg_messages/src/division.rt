@@ -15,13 +15,13 @@ pub fn frame_is_no_rest()
         → IsFrame awaiting frame m → ¬ IsBad awaiting (frame ++ rest) }
 {}
 
-/// No bytes are unfinished and bad.
+/// No bytes are both unfinished and bad.
 pub fn unfinished_is_not_bad()
     ensures { (awaiting : Bool) (rest : List ℕ) → IsUnfinished awaiting rest
         → ¬ IsBad awaiting rest }
 {}
 
-/// One frame at most begins a text, and it carries one message.
+/// At most one frame begins the bytes, and it carries one message.
 pub fn one_frame()
     ensures { (awaiting : Bool) (a b x y : List ℕ) (m n : PgWireFrontendMessage)
         → IsFrame awaiting a m → IsFrame awaiting b n → a ++ x ≡ b ++ y
@@ -41,7 +41,7 @@ pub fn texts_of_frames()
         → AllByRecursion (λ text. IsText text × (length text < length frame)) (message_texts m) }
 {}
 
-/// A text has one division at most into frames and a rest that is unfinished or bad.
+/// Bytes have at most one division into frames and a rest that is unfinished or bad.
 pub fn one_division()
     ensures { (ms ns : List PgWireFrontendMessage) (awaiting : Bool) (text x y : List ℕ)
         → DividesInto awaiting text ms x
@@ -53,14 +53,14 @@ pub fn one_division()
         → (ms ≡ ns) × (x ≡ y) }
 {}
 
-/// Bytes that come later keep the frames that are there.
+/// Bytes that come later don't change the frames that are there.
 pub fn more_bytes_keep_frames()
     ensures { (ms : List PgWireFrontendMessage) (awaiting : Bool) (text rest more : List ℕ)
         → DividesInto awaiting text ms rest
         → DividesInto awaiting (text ++ more) ms (rest ++ more) }
 {}
 
-/// Each text has a division: frames, and a rest that is unfinished or bad.
+/// All bytes have a division: frames, and a rest that is unfinished or bad.
 pub fn has_division()
     ensures { (awaiting : Bool) (text : List ℕ)
         → (ms : List PgWireFrontendMessage) × (rest : List ℕ) × DividesInto awaiting text ms rest
@@ -68,7 +68,7 @@ pub fn has_division()
         ⊎ IsBad (awaits_startup_after_all ms awaiting) rest) }
 {}
 
-/// The division of a rest goes on where the division before it ended.
+/// A division, and a division of its rest, join to one division.
 pub fn divisions_join()
     ensures messages { (ms ns : List PgWireFrontendMessage) (awaiting : Bool)
         (text mid rest : List ℕ) → DividesInto awaiting text ms mid
@@ -79,13 +79,13 @@ pub fn divisions_join()
         ≡ awaits_startup_after_all ns (awaits_startup_after_all ms awaiting) }
 {}
 
-/// Bytes that begin with a bad header or frame do so whatever follows.
+/// Bytes that begin with a bad header or frame stay bad when more bytes follow.
 pub fn bad_stays_bad()
     ensures { (awaiting : Bool) (rest more : List ℕ)
         → IsBad awaiting rest → IsBad awaiting (rest ++ more) }
 {}
 
-/// A codec awaits the startup packet where the division does.
+/// After each message a codec awaits the startup packet exactly where the division does.
 pub fn context_follows_division()
     ensures { (m : PgWireFrontendMessage) (context : DecodeContext)
         → (context_after m context).awaiting_startup

@@ -1,4 +1,4 @@
-//! The extended query: statements, portals, and what answers them.
+//! The messages of the extended query, and the replies to them.
 
 use crate::codec::FrameError;
 use crate::fields::{Field, list};
@@ -19,7 +19,7 @@ pub struct Parse {
     pub name: PgStr,
     /// The query's text.
     pub query: PgStr,
-    /// The types of the parameters that were told.
+    /// The parameter types that the client gave, which may be fewer than the parameters.
     pub type_oids: PgList<u32>,
 }
 
@@ -41,8 +41,8 @@ pub struct Bind {
     pub result_column_format_codes: PgList<i16>,
 }
 
-/// Asks what a statement takes and gives, or what a portal gives. Protocol, Describe: Byte1 `D`,
-/// Int32 length, Byte1 target, String name.
+/// Asks for the description of a statement or a portal. Protocol, Describe: Byte1 `D`, Int32
+/// length, Byte1 target, String name.
 #[derive(Drop)]
 pub struct Describe {
     /// `S` for a statement, `P` for a portal; any other byte is carried too.
@@ -60,7 +60,7 @@ pub struct Execute {
     pub max_rows: i32,
 }
 
-/// Lets a statement or portal go. Protocol, Close: Byte1 `C`, Int32 length, Byte1 target, String
+/// Removes a statement or portal. Protocol, Close: Byte1 `C`, Int32 length, Byte1 target, String
 /// name.
 #[derive(Drop)]
 pub struct Close {
@@ -70,7 +70,7 @@ pub struct Close {
     pub name: PgStr,
 }
 
-/// Asks for the replies that stand unsent. Protocol, Flush: Byte1 `H`, Int32 length 4.
+/// Asks for the replies that aren't sent yet. Protocol, Flush: Byte1 `H`, Int32 length 4.
 #[derive(Drop)]
 pub struct Flush {}
 
@@ -90,8 +90,8 @@ pub struct BindComplete {}
 #[derive(Drop)]
 pub struct CloseComplete {}
 
-/// An Execute met its limit, and the portal can be run on. Protocol, PortalSuspended: Byte1 `s`,
-/// Int32 length 4.
+/// An Execute reached its limit of rows, and another one can go on. Protocol, PortalSuspended:
+/// Byte1 `s`, Int32 length 4.
 #[derive(Drop)]
 pub struct PortalSuspended {}
 

@@ -13,12 +13,13 @@ pub trait Field: Sized {
     /// The value at the front of bytes, and what follows it.
     ghost field_at: { List ℕ → Option (Self × List ℕ) };
 
-    /// Reads the value at the front, and tells the bytes after it.
+    /// Reads the value at the front, and returns it with the bytes after it. `Bad`: no value stands
+    /// there.
     fn read(alloc: Global, bytes: &[u8]) -> Result<(Self, &[u8]), FrameError>
         ensures { Gives (λ x. (x.0, x.1.now)) result (field_at bytes.now) };
 }
 
-/// A value that is all of the bytes.
+/// Reads a value that takes all of the bytes. `Bad`: no value does.
 #[inline(always)]
 pub fn whole<T: Field + Drop>(alloc: Global, bytes: &[u8]) -> Result<T, FrameError>
     ensures { Gives (λ x. x) result (whole (T.field_at bytes.now)) }
@@ -79,7 +80,7 @@ impl Field for PgStr {
 
     ghost field_at = { string_at };
 
-    // Most names are empty, which takes no search, no test and no memory.
+    // Most names are empty. An empty one needs no search, no test of UTF-8 and no memory.
     #[inline(always)]
     #[tactic(auto, unfolding(crate::specs::Reading::string_at))]
     fn read(alloc: Global, bytes: &[u8]) -> Result<(PgStr, &[u8]), FrameError> {

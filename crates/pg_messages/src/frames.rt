@@ -10,7 +10,7 @@ use crate::headers::{startup_len, typed_len};
 use std::alloc::Global;
 
 /// The message of the first frame, and the length of the frame; None where there is no whole frame
-/// yet.
+/// yet. `Bad`: the bytes begin with a bad header, or with a whole frame that carries no message.
 pub fn first_frame(
     alloc: Global,
     awaiting: bool,
@@ -46,7 +46,7 @@ fn first_startup(
     Ok(Some((message, len)))
 }
 
-// What stands behind the length of a startup packet.
+// The code and the body that follow the length of a startup packet.
 fn code_and_body(frame: &[u8]) -> (u32, &[u8])
     requires { 8 ≤ length frame.now }
     ensures code { result.0 ≡ from_be_bytes w32 (take 4 (drop 4 frame.now)) }

@@ -56,7 +56,7 @@ impl PgWireFrontendMessage {
     }
 }
 
-/// The message of a body behind the code of a startup packet.
+/// The message that a startup packet's code and body give. `Bad`: no message has this body.
 #[tactic(auto, unfolding(crate::specs::Reading::message_at))]
 pub fn startup_message(
     alloc: Global,
@@ -86,7 +86,7 @@ pub fn startup_message(
     }
 }
 
-/// The message of a body behind a type byte.
+/// The message that a type byte and a body give. `Bad`: no message has this type byte and body.
 #[tactic(auto, unfolding(crate::specs::Reading::message_at))]
 pub fn typed_message(
     alloc: Global,
@@ -111,7 +111,7 @@ pub fn typed_message(
     }
 }
 
-/// The message of a body of COPY from the client, behind a type byte.
+/// The CopyData or CopyFail that a type byte and a body give.
 #[tactic(auto, unfolding(crate::specs::Reading::message_at))]
 fn copy_message(alloc: Global, kind: u8, body: &[u8]) -> Result<PgWireFrontendMessage, FrameError>
     requires { Contains (100 ∷ 102 ∷ []) kind }

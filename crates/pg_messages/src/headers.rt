@@ -10,7 +10,7 @@ use crate::codec::FrameError;
 /// The least length of a startup packet, which holds its length and a code.
 const LEAST_STARTUP: u32 = 8;
 
-/// The greatest length of a startup packet. PostgreSQL takes no longer one either.
+/// The greatest length of a startup packet. PostgreSQL has about the same limit.
 const MOST_STARTUP: u32 = 10_000;
 
 /// The least length of a typed frame, which holds its length.
@@ -27,8 +27,9 @@ pub fn header_len(awaiting: bool) -> usize
     if awaiting { 4 } else { 5 }
 }
 
-/// How many bytes the frame in front has by its header: the length of a startup packet, and one more
-/// than that of a typed frame, whose type byte it doesn't count. The header may be a bad one.
+/// How many bytes the first frame has, as its header says. For a startup packet it is the length.
+/// For a typed frame it is one more, since the length doesn't count the type byte. The header may
+/// be a bad one.
 pub fn told_len(awaiting: bool, bytes: &[u8]) -> usize
     requires { header_len awaiting ≤ length bytes.now }
     ensures { result ≡ told_len awaiting bytes.now }

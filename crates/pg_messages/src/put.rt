@@ -1,4 +1,4 @@
-//! Writing the data types that replies are made of, behind what a buffer holds.
+//! Appends the data types that replies are made of to a buffer.
 
 ghost use Rattle.std.specs.Prelude.{◌≡◌, ◌≤◌, ◌<◌, ◌+◌, ◌-◌, ◌^◌, ◌++◌, ℕ, List, min, length};
 ghost use Rattle.std.specs.List.{flat_map};
@@ -12,7 +12,7 @@ pub trait Put: Sized {
     /// The bytes of the value.
     ghost bytes_of: { Self → List ℕ };
 
-    /// How many bytes there are; from the greatest u64 on that number.
+    /// How many bytes there are. The number saturates at the greatest u64.
     fn byte_len(&self) -> u64
         ensures { result ≡ min (length (bytes_of self.now)) (2 ^ 64 - 1) };
 
@@ -94,7 +94,7 @@ impl Put for PgStr {
     }
 }
 
-/// How many bytes the values have behind so many others; from the greatest u64 on that number.
+/// How many bytes the values have, and `before` others. The number saturates at the greatest u64.
 pub fn list_len<T: Put>(before: u64, values: &[T]) -> u64
     ensures { result ≡ min (before + length (flat_map T.bytes_of values.now)) (2 ^ 64 - 1) }
 {

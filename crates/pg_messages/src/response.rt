@@ -1,4 +1,4 @@
-//! How a command ended, how a session stands, and what an error says.
+//! How a command ended, the transaction status, errors, and the answers to a request to encrypt.
 
 ghost use Rattle.std.specs.Prelude.{◌≡◌, ◌↔◌, ◌≤◌, ◌+◌, ◌++◌, ◌∷◌, IsTrue, codes, length};
 ghost use Rattle.pg_messages.specs.Fields.{string};
@@ -17,7 +17,7 @@ pub struct SslResponse {}
 #[derive(Drop)]
 pub struct GssEncResponse {}
 
-/// Where a session stands as to transactions.
+/// The transaction status of a session.
 #[derive(Clone, Copy, Debug, PartialEq, Eq)]
 pub enum TransactionStatus {
     /// Outside a transaction: `I`.
@@ -40,8 +40,8 @@ impl TransactionStatus {
         TransactionStatus::Idle
     }
 
-    /// The status after an error: outside a transaction it stays so, and in one the transaction has
-    /// failed.
+    /// The status after an error: outside a transaction it stays Idle. In a transaction, that one
+    /// has failed.
     pub fn to_error_state(self) -> TransactionStatus
         ensures meant { result ≡ to_error_state self }
         ensures idle { self ≡ Idle → result ≡ Idle }
@@ -52,7 +52,7 @@ impl TransactionStatus {
         }
     }
 
-    /// The status once a transaction was begun: in one, unless one is there that has failed.
+    /// The status once a transaction was begun. One that has failed stays failed.
     pub fn to_in_transaction_state(self) -> TransactionStatus
         ensures meant { result ≡ to_in_transaction_state self }
         ensures failed { self ≡ Error → result ≡ Error }
@@ -68,19 +68,18 @@ impl TransactionStatus {
 /// status, `I`, `T` or `E`.
 #[derive(Drop)]
 pub struct ReadyForQuery {
-    /// Where the session stands.
+    /// The session's transaction status.
     pub status: TransactionStatus,
 }
 
 /// A command was done. Protocol, CommandComplete: Byte1 `C`, Int32 length, String tag.
 #[derive(Drop)]
 pub struct CommandComplete {
-    /// What was done, as `SELECT 3`.
+    /// What was done, such as `SELECT 3`.
     pub tag: PgStr,
 }
 
-/// A query was empty, and so is what it gives. Protocol, EmptyQueryResponse: Byte1 `I`, Int32
-/// length 4.
+/// A query was empty, so it has no result. Protocol, EmptyQueryResponse: Byte1 `I`, Int32 length 4.
 #[derive(Drop)]
 pub struct EmptyQueryResponse {}
 

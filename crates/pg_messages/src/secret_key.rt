@@ -9,7 +9,7 @@ use std::fmt;
 use std::fmt::{Debug, Formatter};
 use std::marker::Model;
 
-/// The fewest bytes that a secret key has. A client of protocol 3.0 is told so many.
+/// The fewest bytes that a secret key has. A client of protocol 3.0 receives this many.
 const LEAST_LENGTH: usize = 4;
 
 /// The most bytes that a secret key has.
@@ -34,14 +34,15 @@ impl Model for SecretKey {
 /// Why there is no key.
 #[derive(Clone, Copy, Debug, PartialEq, Eq)]
 pub enum KeyError {
-    /// No key has so many bytes: below 4 or above 256.
+    /// No key has this many bytes: below 4 or above 256.
     BadLength(usize),
     /// There was no memory.
     NoMemory,
 }
 
 impl SecretKey {
-    /// A key of these bytes, which are copied.
+    /// A key of these bytes, which are copied. `BadLength` comes exactly below 4 and above 256
+    /// bytes. `NoMemory` comes where memory runs out.
     pub fn try_new(alloc: Global, bytes: &[u8]) -> Result<SecretKey, KeyError>
         ensures ok { IfOk result (λ key. key ≡ bytes.now) }
         ensures bad_length { (n : ℕ) → (result ≡ Err (KeyError.BadLength n))
@@ -57,7 +58,7 @@ impl SecretKey {
         }
     }
 
-    /// The same key once more, in memory of its own.
+    /// A copy of the key, in memory of its own.
     pub fn copy_of(&self) -> Result<SecretKey, AllocError>
         ensures { IfOk result (λ copy. copy ≡ self.now) }
     {
@@ -75,7 +76,8 @@ impl SecretKey {
         self.bytes.as_slice()
     }
 
-    /// Keeps the first four bytes, as many as a client of protocol 3.0 is told. It takes no memory.
+    /// Keeps the first four bytes, as many as a client of protocol 3.0 receives. It takes no
+    /// memory.
     pub fn narrow(&mut self)
         ensures { self.new ≡ take 4 self.old }
     {
@@ -83,7 +85,8 @@ impl SecretKey {
     }
 
     /// Whether the other is the same key. Keys of one length take the same time wherever they
-    /// differ, so that who guesses a key byte by byte isn't told how far a guess was right.
+    /// differ. So a client that guesses a key byte by byte can't measure how much of a guess was
+    /// right.
     pub fn is_same(&self, other: &SecretKey) -> bool
         ensures { IsTrue result ↔ (self.now ≡ other.now) }
     {

@@ -1,4 +1,4 @@
-//! The simple query, and its text, read where it stands.
+//! The simple query, and its text as a slice of the frame.
 
 ghost use Rattle.std.specs.Prelude.{◌≡◌, List, ℕ, false, drop, IfSome, IfNone};
 ghost use Rattle.pg_messages.specs.declared.frontend.PgWireFrontendMessage.TheVariants as client;
@@ -12,7 +12,7 @@ use crate::headers::typed_len;
 use crate::values::PgStr;
 use std::alloc::Global;
 
-/// Runs the queries of a text at once. Protocol, Query: Byte1 `Q`, Int32 length, String query.
+/// Runs the queries of a text. Protocol, Query: Byte1 `Q`, Int32 length, String query.
 #[derive(Drop)]
 pub struct Query {
     /// The text.
@@ -31,11 +31,11 @@ impl Field for Query {
     }
 }
 
-/// The text of the Query that a frame is, where it stands: Byte1 `Q`, Int32 length, itself
-/// included and the type byte not, and the text, as a String, which ends with a zero byte. None
-/// comes exactly where the bytes are no Query frame: another type byte, another length than there
-/// are bytes or one past 1,048,577 bytes in all, no zero byte at the end, one before it, or a text
-/// that isn't UTF-8. (Protocol, Message Formats: Query.) It takes no memory.
+/// The text of a Query frame, as a slice of it. The frame is Byte1 `Q`, Int32 length, which counts
+/// itself and not the type byte, and String query (protocol, Message Formats: Query). None comes
+/// exactly where the bytes are no Query frame: they have another type byte, another length than
+/// they tell, more than 1,048,577 bytes in all, no zero byte at the end, one before it, or a text
+/// that isn't UTF-8. It takes no memory.
 pub fn query_text(frame: &[u8]) -> Option<&str>
     ensures some { IfSome result (λ text.
         IsFrame false frame.now (client.Query (record { query = text.now }))) }
@@ -44,8 +44,8 @@ pub fn query_text(frame: &[u8]) -> Option<&str>
     text_of_string(query_body(frame)?)
 }
 
-/// What stands behind the header of a Query frame; None where the header isn't one that tells all
-/// of the bytes.
+/// The body of a Query frame. None where the header isn't good, has another type byte, or tells
+/// another length than that of the bytes.
 fn query_body(frame: &[u8]) -> Option<&[u8]>
     ensures some { IfSome result (λ body.
         HasQueryHeader frame.now × (body.now ≡ drop 5 frame.now)) }

@@ -1,4 +1,4 @@
-//! The start and the end of a session: startup packets and what answers them, and Terminate.
+//! The start and the end of a session: startup packets, the replies to them, and Terminate.
 
 ghost use Rattle.std.specs.Prelude.{◌≡◌, MatchOption, Some, None};
 ghost use Rattle.pg_messages.specs.Reading.{Gives, after_zero, all_parameters_at, key_of, cancel_of};
@@ -16,9 +16,8 @@ pub const PROTOCOL_3_0: u32 = 196608;
 pub const PROTOCOL_3_2: u32 = 196610;
 
 /// The first packet of a session. Protocol, "Message Formats", StartupMessage: Int32 length, which
-/// counts itself, Int32 version, pairs of Strings (name, value), and a zero byte. The packet of a
-/// version that isn't spoken, which is neither 196608 nor 196610, carries its code alone: what
-/// follows isn't looked at.
+/// counts itself, Int32 version, pairs of Strings (name, value), and a zero byte. Of a version that
+/// isn't supported, so neither 196608 nor 196610, only the code is read.
 #[derive(Drop)]
 pub struct Startup {
     /// The protocol version, its major part in the upper sixteen bits.
@@ -27,8 +26,8 @@ pub struct Startup {
     pub parameters: PgList<(PgStr, PgStr)>,
 }
 
-/// What a client asks for in the place of a startup packet, to encrypt the session. Protocol,
-/// SSLRequest and GSSENCRequest: Int32 length 8, Int32 code.
+/// A request to encrypt the session, in the place of a startup packet. Protocol, SSLRequest and
+/// GSSENCRequest: Int32 length 8, Int32 code.
 #[derive(Clone, Copy, PartialEq, Eq)]
 pub enum SslNegotiationKind {
     /// SSLRequest: code 80877103.
@@ -37,7 +36,7 @@ pub enum SslNegotiationKind {
     PostgresGss,
 }
 
-/// Asks, in the place of a startup packet, that a query of another session is canceled. Protocol,
+/// Asks to cancel a query of another session, in the place of a startup packet. Protocol,
 /// CancelRequest: Int32 length 16 to 268, Int32 code 80877102, Int32 pid, 4 to 256 bytes of key.
 #[derive(Drop)]
 pub struct CancelRequest {
@@ -51,12 +50,12 @@ pub struct CancelRequest {
 #[derive(Drop)]
 pub struct Terminate {}
 
-/// The client is let in. Protocol, "Message Formats", AuthenticationOk: Byte1 `R`, Int32 length 8,
-/// Int32 0.
+/// The client is accepted. Protocol, "Message Formats", AuthenticationOk: Byte1 `R`, Int32 length
+/// 8, Int32 0.
 #[derive(Drop)]
 pub struct AuthenticationOk {}
 
-/// A setting of the server, told at the start. Protocol, ParameterStatus: Byte1 `S`, Int32 length,
+/// A setting of the server, sent at the start. Protocol, ParameterStatus: Byte1 `S`, Int32 length,
 /// String name, String value.
 #[derive(Drop)]
 pub struct ParameterStatus {
@@ -76,7 +75,8 @@ pub struct BackendKeyData {
     pub secret_key: SecretKey,
 }
 
-/// The request to cancel of a body: its key is all that stands behind the pid.
+/// The request to cancel that a body holds. Its key is all that follows the pid. `Bad`: there is no
+/// pid, or the key is below 4 or above 256 bytes.
 #[tactic(auto, unfolding(crate::specs::Reading::cancel_of))]
 pub fn cancel_request(alloc: Global, body: &[u8]) -> Result<CancelRequest, FrameError>
     ensures { Gives (λ m. m) result (cancel_of body.now) }

@@ -13,17 +13,17 @@ use crate::simplequery::Query;
 use bytes::BytesMut;
 use std::alloc::Global;
 
-/// A message that is read as its own type, and not as one of all messages, where its type byte
-/// stands in front: Query, Parse, Bind, Describe, Execute, Close and Sync, of which most of a
-/// conversation consists.
+/// A message that is read as its own type, and not as a `PgWireFrontendMessage`, where its type
+/// byte stands in front. These are the most frequent ones: Query, Parse, Bind, Describe, Execute,
+/// Close and Sync.
 pub trait TypedMessage: Field + Drop {
     // the type byte
     ghost kind: { ℕ };
 
-    // the message, as one of all
+    // the message, as a `PgWireFrontendMessage`
     ghost message: { Self → PgWireFrontendMessage };
 
-    // what a body behind the type byte is
+    // a body after the type byte is read as this message, or as none
     ghost is_read: { (body : List ℕ)
         → message_at false kind body ≡ told_as message (whole (Self.Field.field_at body)) };
 }

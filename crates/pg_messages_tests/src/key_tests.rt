@@ -1,4 +1,4 @@
-//! That a copy is the same key until it is narrowed, and what is shown of a key.
+//! A copy is the same key until it is narrowed; and what is shown of a key.
 
 use pg_messages::SecretKey;
 use std::alloc::{AllocError, Global};
@@ -12,7 +12,7 @@ fn is_copied(key: &SecretKey) -> Result<bool, AllocError> {
     Ok(same && copy != *key && copy.as_slice() == [1, 2, 3, 4].as_slice())
 }
 
-/// Whether `Debug` shows of a key how many bytes it has, and none of them.
+/// Whether `Debug` shows how many bytes a key has, and none of the bytes.
 fn is_hidden(alloc: Global, key: &SecretKey) -> Result<bool, Fail> {
     let shown = format!(in alloc; "{key:?}")?;
     Ok(shown.as_str() == "SecretKey { length: 6 }")

@@ -1,5 +1,5 @@
-//! That each call on texts, bytes and lists which takes memory succeeds where there is enough. The
-//! table of frames and replies is the program message_rows.
+//! Each call on texts, bytes and lists that takes memory succeeds where there is enough. The table
+//! of frames and replies is the program message_rows.
 
 use pg_messages::{
     FORMAT_CODE_BINARY, FORMAT_CODE_TEXT, PgBytes, PgList, PgStr, TARGET_TYPE_BYTE_PORTAL,

@@ -1,5 +1,5 @@
-//! That each call which takes memory succeeds where there is enough, with replies that reach over
-//! the ends of chunks.
+//! Each call that takes memory succeeds where there is enough, with replies that reach over the ends
+//! of chunks.
 
 ghost use Rattle.std.specs.Prelude.{◌≡◌, ◌≤◌, IfOk, length};
 
@@ -8,7 +8,7 @@ use pg_outbox::{CHUNK, Outbox};
 use std::alloc::{AllocError, Global};
 use std::test::*;
 
-/// So many bytes.
+/// `len` bytes.
 fn bytes(alloc: Global, len: usize) -> Result<PgBytes, AllocError>
     ensures { IfOk result (λ bytes. length bytes ≡ len) }
 {
@@ -17,7 +17,7 @@ fn bytes(alloc: Global, len: usize) -> Result<PgBytes, AllocError>
     Ok(PgBytes::from_vec(bytes))
 }
 
-/// Appends a reply of so many bytes behind five.
+/// Appends a reply of five bytes and `len` more.
 fn push(outbox: &mut Outbox, alloc: Global, len: usize) -> Result<(), AllocError>
     requires { len ≤ 200000 }
 {
@@ -25,7 +25,7 @@ fn push(outbox: &mut Outbox, alloc: Global, len: usize) -> Result<(), AllocError
     outbox.push(&PgWireBackendMessage::CopyData(CopyData { payload }))
 }
 
-/// Appends a row of so many bytes behind seven.
+/// Appends a row of seven bytes and `len` more.
 fn push_row(outbox: &mut Outbox, alloc: Global, len: usize) -> Result<(), AllocError>
     requires { len ≤ 200000 }
 {
@@ -36,7 +36,7 @@ fn push_row(outbox: &mut Outbox, alloc: Global, len: usize) -> Result<(), AllocE
     })
 }
 
-/// Appends data of a COPY, of so many bytes behind five.
+/// Appends data of a COPY, of five bytes and `len` more.
 fn push_copied(outbox: &mut Outbox, alloc: Global, len: usize) -> Result<(), AllocError>
     requires { len ≤ 200000 }
 {
@@ -54,7 +54,7 @@ fn taken(outbox: &mut Outbox) -> usize {
     len
 }
 
-/// Takes all chunks, and tells whether they were so long.
+/// Takes all chunks, and tells whether they had these lengths.
 fn are_taken(outbox: &mut Outbox, lens: &[usize]) -> bool {
     for len in lens {
         if taken(outbox) != *len {
@@ -87,7 +87,7 @@ fn is_written_again(outbox: &mut Outbox, alloc: Global) -> Result<bool, AllocErr
     Ok(is_sent && outbox.len() == 234474 && are_taken(outbox, &[65536, 65536, 65536, 37866]))
 }
 
-/// Whether a chunk that is released is no byte of what waits.
+/// Whether no byte of what waits stands in a chunk that is released.
 fn is_released(outbox: &mut Outbox, alloc: Global) -> Result<bool, AllocError> {
     push(outbox, alloc, 65536)?;
     let is_sent = taken(outbox) == 65536;
@@ -123,7 +123,7 @@ fn has_pieces(outbox: &mut Outbox, alloc: Global) -> Result<bool, AllocError> {
     Ok(is_full && are_taken(outbox, &[65536, 65536, 65526]))
 }
 
-/// Whether all this holds of one outbox, which is empty again behind each.
+/// Whether all this holds of one outbox, which is empty again after each.
 fn holds_over_chunks(outbox: &mut Outbox, alloc: Global) -> Result<bool, AllocError> {
     Ok(
         fills_three_chunks(outbox, alloc)?

@@ -1,4 +1,4 @@
--- How an outbox keeps its bytes. No clause of it names what stands here: it is seen as its bytes.
+-- How an outbox keeps its bytes. No public clause names these definitions: contracts see an outbox as its bytes.
 use Rattle.std.specs.Prelude.{ℕ, List, ◌≡◌, ◌≤◌, length}
 use Rattle.std.specs.List.{AllByRecursion, flat_map}
 use Rattle.bytes.specs.Filled.{Filled}
@@ -11,7 +11,8 @@ chunk_bytes chunks = flat_map (λ chunk. chunk.items) chunks
 abbrev pub AreWhole : List Filled → Type 0
 AreWhole chunks = AllByRecursion (λ chunk. length chunk.items ≡ 65536) chunks
 
--- Chunks of 65,536 bytes, and the last, which may be shorter; of no more bytes than a count can tell.
+-- Whole chunks of 65,536 bytes, and a last one that may be shorter. They are so few that the number of their bytes fits
+-- in a usize.
 pub record IsCut (chunks : List Filled) (rest : List ℕ) : Type 0 where
   pub whole : AreWhole chunks
   pub last : length rest ≤ 65536

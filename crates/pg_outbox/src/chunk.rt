@@ -8,15 +8,15 @@ use pg_messages::PgWireBackendMessage;
 use std::alloc::{AllocError, Global};
 use std::collections::VecDeque;
 
-/// How many bytes a chunk has. A session sends what waits as soon as it is so many bytes or more
-/// after a message.
+/// How many bytes a chunk has. After a message a session sends what waits, if it is a chunk or
+/// more.
 pub const CHUNK: usize = 65536;
 
-// How many bytes the first chunk has room for at first: what a connection is answered at its start,
-// and short answers. It grows as it is written.
+// How many bytes the first chunk has room for at first: enough for the replies to a startup packet,
+// and for short answers. It grows as it is written.
 const FIRST_ROOM: usize = 512;
 
-// So many chunks are more than any machine has memory for, and their bytes can be counted.
+// The most chunks. No machine has memory for more, and the number of their bytes fits in a usize.
 pub const MOST_CHUNKS: usize = 4294967296;
 
 // The first chunk, which is empty.
@@ -26,7 +26,8 @@ pub fn first_chunk(alloc: Global) -> Result<BytesMut, AllocError>
     BytesMut::with_capacity(alloc, FIRST_ROOM)
 }
 
-// A chunk that begins with these bytes. Its room is reserved, and touched where it is written.
+// A chunk that begins with these bytes. Its room is reserved, and is touched only where it is
+// written.
 pub fn chunk_of(alloc: Global, bytes: &[u8]) -> Result<BytesMut, AllocError>
     ensures { IfOk result (λ chunk. chunk.items ≡ bytes.now) }
 {
@@ -52,7 +53,7 @@ pub fn next_chunk(
     Ok(chunk)
 }
 
-// Gives back the memory of a list of chunks that is empty again.
+// Frees the memory of a list of chunks, if it is empty.
 pub fn settle(alloc: Global, chunks: &mut VecDeque<BytesMut>)
     ensures { chunks.new.items ≡ chunks.old.items }
 {
@@ -61,7 +62,7 @@ pub fn settle(alloc: Global, chunks: &mut VecDeque<BytesMut>)
     }
 }
 
-// At least as many bytes as the reply has. What is sent most is measured in place.
+// At least as many bytes as the reply has. The most frequent replies are measured without a call.
 #[inline(always)]
 pub fn reply_len(message: &PgWireBackendMessage) -> u64
     requires { IsEncodable message.now }

@@ -1,4 +1,4 @@
-//! The outbox, seen as its bytes.
+//! The outbox, which contracts see as its bytes.
 
 ghost use Rattle.std.specs.Prelude.{◌≡◌, ◌≤◌, ◌<◌, ◌++◌, ℕ, List, [], length, take, drop, IfOk, OnOk, OnErr, IfSome, IfNone, OnSome};
 ghost use Rattle.pg_messages.specs.Replies.{IsEncodable, reply_bytes};
@@ -21,7 +21,7 @@ pub struct Outbox {
     // the chunks before the last
     whole: VecDeque<BytesMut>,
     last: BytesMut,
-    // the chunk that was sent last, which is to be written again
+    // the chunk that was sent last, whose memory is kept for the next one
     spare: Option<BytesMut>,
     alloc: Global,
 }
@@ -65,7 +65,7 @@ impl Outbox {
         self.spill(message)
     }
 
-    /// Appends the bytes of a DataRow, as `push` does of the reply with that row. After an error
+    /// Appends the bytes of a DataRow, as `push` does for the reply with that row. After an error
     /// the outbox is as it was.
     #[inline(always)]
     pub fn push_row(&mut self, row: &DataRow) -> Result<(), AllocError>
@@ -79,8 +79,8 @@ impl Outbox {
         self.spill_row(row)
     }
 
-    /// Appends the bytes of a CopyData, as `push` does of the reply with these data. After an error
-    /// the outbox is as it was.
+    /// Appends the bytes of a CopyData, as `push` does for the reply with these data. After an
+    /// error the outbox is as it was.
     #[inline(always)]
     pub fn push_copied(&mut self, copied: &CopyData) -> Result<(), AllocError>
         requires { IsEncodable (server.CopyData copied.now) }
@@ -129,9 +129,9 @@ impl Outbox {
         Some(self.last.as_slice())
     }
 
-    /// The bytes from a place to the end of their chunk. Replies that wait are walked by their
-    /// headers with it, where they lie: a header or a reply may reach into the next chunk, which
-    /// begins behind this piece.
+    /// The bytes from a position to the end of their chunk. With it the replies that wait can be
+    /// walked by their headers, without a copy. A header or a reply may reach into the next chunk,
+    /// which begins after this piece.
     #[inline(always)]
     pub fn piece_at(&self, at: usize) -> &[u8]
         requires { at < length self.now }
@@ -148,8 +148,8 @@ impl Outbox {
         piece
     }
 
-    /// Forgets the first chunk, which was sent. Its memory is kept, and is that of the next chunk
-    /// that is begun, until `release` gives it back.
+    /// Removes the first chunk, which was sent. Its memory is kept for the next chunk that is
+    /// begun, until `release` frees it.
     pub fn drop_front(&mut self)
         requires { 0 < length self.old }
         ensures { self.new ≡ drop 65536 self.old }
@@ -163,14 +163,14 @@ impl Outbox {
         }
     }
 
-    /// Gives back the memory of a chunk that was sent and not written again.
+    /// Frees the memory that is kept for the next chunk.
     pub fn release(&mut self)
         ensures { self.new ≡ self.old }
     {
         self.spare = None;
     }
 
-    /// Takes back what was appended since so many bytes waited.
+    /// Takes back all that was appended after the first `len` bytes.
     pub fn truncate(&mut self, len: usize)
         ensures { self.new ≡ take len self.old }
     {
@@ -187,7 +187,7 @@ impl Outbox {
         settle(self.alloc, &mut self.whole);
     }
 
-    // Appends a reply that reaches behind the end of the chunk.
+    // Appends a reply that reaches past the end of the chunk.
     #[cold]
     #[inline(never)]
     fn spill(&mut self, message: &PgWireBackendMessage) -> Result<(), AllocError>
@@ -201,7 +201,7 @@ impl Outbox {
         self.append_all(reply.as_slice())
     }
 
-    // Appends a row that reaches behind the end of the chunk.
+    // Appends a row that reaches past the end of the chunk.
     #[cold]
     #[inline(never)]
     fn spill_row(&mut self, row: &DataRow) -> Result<(), AllocError>
@@ -214,7 +214,7 @@ impl Outbox {
         self.append_all(reply.as_slice())
     }
 
-    // Appends data of a COPY that reach behind the end of the chunk.
+    // Appends data of a COPY that reach past the end of the chunk.
     #[cold]
     #[inline(never)]
     fn spill_copied(&mut self, copied: &CopyData) -> Result<(), AllocError>
@@ -228,7 +228,7 @@ impl Outbox {
         self.append_all(reply.as_slice())
     }
 
-    // Appends bytes that reach behind the end of the chunk; after an error the outbox is as it was.
+    // Appends bytes that reach past the end of the chunk. After an error the outbox is as it was.
     #[cold]
     #[inline(never)]
     fn append_all(&mut self, bytes: &[u8]) -> Result<(), AllocError>
@@ -243,7 +243,7 @@ impl Outbox {
         appended
     }
 
-    // Appends bytes; after an error some of them.
+    // Appends bytes. After an error some of them may be appended.
     fn append(&mut self, bytes: &[u8]) -> Result<(), AllocError>
         ensures ok { OnOk result (self.new ≡ self.old ++ bytes.now) }
         ensures err { OnErr result (take (length self.old) self.new ≡ self.old) }
@@ -257,7 +257,7 @@ impl Outbox {
         self.append_piece(rest)
     }
 
-    // Appends bytes that reach behind the end of one chunk at most.
+    // Appends bytes that reach past the end of one chunk at most.
     fn append_piece(&mut self, piece: &[u8]) -> Result<(), AllocError>
         requires { length piece.now ≤ 65536 }
         ensures ok { OnOk result (self.new ≡ self.old ++ piece.now) }

@@ -37,7 +37,7 @@ cell_bytes (Some bytes) = frame (Some (length bytes)) ++ bytes
 abbrev pub with_cell : RowSoFar → Option (List ℕ) → RowSoFar
 with_cell row cell = record { fields = row.fields; payload = row.payload ++ cell_bytes cell; cells = row.cells + 1 }
 
--- the cell of a value in a format, of what the value tells of itself in each
+-- the cell of a value in a format, by what the value gives in binary and in text
 abbrev pub field_cell : {T : Type 0} → (T → PgType → Cell) → (T → PgType → FormatOptions → Cell) → T → PgType → FieldFormat → FormatOptions
     → Cell
 field_cell binary text value ty Binary options = binary value ty
@@ -52,7 +52,7 @@ abbrev pub line_cell : ℕ → List ℕ → List ℕ
 line_cell zero text = text
 line_cell (suc index) text = 9 ∷ text
 
--- why there is no cell: as it is told, or want of memory
+-- why there is no cell: the error that was told, or NoMemory
 abbrev pub IsRefusal : Cell → CellError → Type 0
 IsRefusal (Ok cell) error = error ≡ NoMemory
 IsRefusal (Err told) error = (error ≡ told) ⊎ (error ≡ NoMemory)

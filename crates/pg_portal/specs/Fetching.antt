@@ -1,4 +1,4 @@
--- What a fetch answers, and how far the portal has come then (protocol: Extended Query, Execute).
+-- The result of a fetch, and how far the portal has come then (protocol: Extended Query, Execute).
 use Rattle.std.specs.Prelude.{ℤ, Bool, true, false, List, [], ◌∷◌, ◌++◌, map, Result, Ok, Err, IsOk, ◌≡◌, ◌≢◌, ◌⊎◌, ℕ, length, codes}
 use Rattle.pg_messages.specs.declared.data.DataRow.{DataRow}
 use Rattle.pg_results.specs.declared.error.PgWireError.{PgWireError}
@@ -13,8 +13,8 @@ pub record Fetched : Type 0 where
   pub answer : Result FetchResult PgWireError
   pub stage : Stage
 
--- How far a portal has come behind a page: suspended at its limit, finished at the end, and past an error, where the page's rows are
--- dropped. So many rows were delivered before the page.
+-- How far a portal has come after a page: suspended at its limit, finished at the end, or past an error, where the
+-- page's rows are dropped. The number counts the rows that were delivered before the page.
 abbrev pub stage_after : ToldRows → ℕ → List DataRow → PageEnd DataRow → Stage
 stage_after response delivered rows (AtLimit items) = Started (with_items response items) (delivered_after delivered (length rows))
 stage_after response delivered rows AtEnd = Ended (delivered_after delivered (length rows))
@@ -29,7 +29,7 @@ page_of response delivered rows suspended = record {
   delivered = delivered_after delivered (length rows);
 }
 
--- what a page that ended so answers
+-- the result of a page, by how it ended
 abbrev pub page_answer : ToldRows → ℕ → List DataRow → PageEnd DataRow → Result FetchResult PgWireError
 page_answer response delivered rows (AtLimit items) = Ok (page_of response delivered rows true)
 page_answer response delivered rows AtEnd = Ok (page_of response delivered rows false)
@@ -52,14 +52,14 @@ fetched limit (Started response delivered) =
     let page = item_page limit response.items in fetched_page response delivered page.rows page.ending
 fetched limit (Ended delivered) = record { answer = Ok (no_rows delivered); stage = Ended delivered }
 
--- What stands after want of memory: a started portal stays so, with a rest of its items, and as many rows delivered. Any other stays as
--- it is.
+-- What NoMemory leaves: a started portal stays started, with a rest of its items, and the same number of rows
+-- delivered. Any other stays as it is.
 abbrev pub IsKept : Stage → Stage → Type 0
 IsKept (Started old delivered) new = (left : ToldRows) × IsRest old left × (new ≡ Started left delivered)
 IsKept Unstarted new = new ≡ Unstarted
 IsKept (Ended delivered) new = new ≡ Ended delivered
 
--- a refused fetch: memory is wanting, or the error is the one that is told
+-- a refused fetch: memory ran out, or the error is the one that `fetched` gives
 abbrev pub IsRefusedFetch : ℤ → Stage → Stage → PgWireError → Type 0
 IsRefusedFetch limit old new error = ((error ≡ NoMemory) × IsKept old new)
     ⊎ ((Err error ≡ (fetched limit old).answer) × (new ≡ (fetched limit old).stage))
@@ -75,7 +75,7 @@ items_to_come Unstarted = []
 items_to_come (Started response delivered) = response.items
 items_to_come (Ended delivered) = []
 
--- but where memory is wanting, a fetch of a started portal takes its items in their order, each once
+-- unless memory runs out, a fetch of a started portal takes its items in their order, each once
 abbrev pub TakesInOrder : Stage → Stage → Result FetchResult PgWireError → Type 0
 TakesInOrder (Started old delivered) new result = result ≢ Err NoMemory → AreTaken old.items result (items_to_come new)
 TakesInOrder Unstarted new result = Unit {0}
@@ -86,7 +86,7 @@ abbrev pub rows_of : Result FetchResult PgWireError → List DataRow
 rows_of (Ok page) = page.rows
 rows_of (Err error) = []
 
--- two fetches are one: its rows are theirs, one after another, and it comes as far
+-- Two fetches are one: the one fetch gives the rows of both, one after another, and comes as far.
 pub record AreOneFetch (first second both : Fetched) : Type 0 where
   pub answered : IsOk both.answer
   pub rows : rows_of both.answer ≡ rows_of first.answer ++ rows_of second.answer
@@ -99,13 +99,13 @@ abbrev pub after_page : Bool → ToldRows → ℕ → Stage
 after_page true left delivered = Started left delivered
 after_page false left delivered = Ended delivered
 
--- the page that is told, and what it leaves
+-- a page, and what it leaves
 abbrev pub IsPage : ℤ → ToldRows → ℕ → ToldRows → FetchResult → Type 0
 IsPage limit old delivered new page = (Ok page ≡ (fetched limit (Started old delivered)).answer)
     × (after_page page.suspended new page.delivered ≡ (fetched limit (Started old delivered)).stage)
     × (old.items ≡ map Ok page.rows ++ items_to_come (after_page page.suspended new page.delivered))
 
--- no page: memory is wanting, or an error stands in the place of a row
+-- no page: memory ran out, or an error stands in the place of a row
 abbrev pub IsRefusedPage : ℤ → ToldRows → ℕ → ToldRows → PgWireError → Type 0
 IsRefusedPage limit old delivered new error = ((error ≡ NoMemory) × IsKept (Started old delivered) (Started new delivered))
     ⊎ ((Err error ≡ (fetched limit (Started old delivered)).answer)

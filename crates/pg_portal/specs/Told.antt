@@ -1,4 +1,4 @@
--- What a store tells of its statements and portals.
+-- The statements and portals of a store, as contracts see them.
 use Rattle.std.specs.Prelude.{ℕ, List, Option, Some, None}
 use Rattle.std.specs.Arc.{arc_value}
 use Rattle.pg_results.specs.declared.format.Format.{Format}
@@ -19,7 +19,7 @@ pub record BoundPortal (S : Type 0) : Type 0 where
   pub parameters : List (Option (List ℕ))
   pub result_column_format : Format
 
--- how far a portal has come: what is to come of its rows, and how many were delivered since it was started
+-- how far a portal has come: the rows to come, and how many were delivered since it was started
 pub data Stage : Type 0 where
   Unstarted : Stage
   Started : ToldRows → ℕ → Stage

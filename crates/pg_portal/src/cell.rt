@@ -1,5 +1,5 @@
-//! Cells as they are written: in a row behind their lengths (protocol: Message Formats, DataRow),
-//! in a line of a COPY behind tabs (protocol: COPY Operations).
+//! Cells as they are written: in a row, each after its length (protocol: Message Formats, DataRow);
+//! in a line of a COPY, with tabs between them (protocol: COPY Operations).
 
 ghost use Rattle.std.specs.Prelude.{◌≡◌, ◌≤◌, ◌+◌, ◌++◌, OnOk, OnErr, IfErr, Some, length};
 ghost use Rattle.pg_text.specs.Cells.{AtCell, IsShort};
@@ -20,7 +20,7 @@ fn frame(len: Option<u32>) -> [u8; 4]
     }
 }
 
-/// Appends the cell of these bytes to a row's.
+/// Appends a cell of these bytes to a row's payload.
 #[inline(always)]
 pub fn push_cell(payload: &mut Vec<u8>, bytes: &[u8]) -> Result<(), AllocError>
     requires { length bytes.now ≤ 2147483647 }
@@ -33,7 +33,7 @@ pub fn push_cell(payload: &mut Vec<u8>, bytes: &[u8]) -> Result<(), AllocError>
     payload.extend_from_slice(bytes)
 }
 
-/// Appends the cell of sixteen bytes to a row's, at once with its length.
+/// Appends a cell of sixteen bytes to a row's payload, in one copy with its length.
 #[inline(always)]
 pub fn push_cell_of_sixteen(payload: &mut Vec<u8>, bytes: [u8; 16]) -> Result<(), AllocError>
     ensures pushed { OnOk result (payload.new.items
@@ -46,8 +46,8 @@ pub fn push_cell_of_sixteen(payload: &mut Vec<u8>, bytes: [u8; 16]) -> Result<()
     payload.extend_from_slice(&cell)
 }
 
-/// Appends the cell of this text to those of a line, whose cells so far are as many as its index
-/// says: a tab stands before each but the first.
+/// Appends a cell of this text to a line of a COPY. `index` is the number of cells before it. A tab
+/// stands before each cell but the first.
 #[inline(always)]
 pub fn push_line_cell(payload: &mut Vec<u8>, index: usize, text: &[u8]) -> Result<(), AllocError>
     ensures pushed { OnOk result (payload.new.items
@@ -61,8 +61,8 @@ pub fn push_line_cell(payload: &mut Vec<u8>, index: usize, text: &[u8]) -> Resul
     payload.extend_from_slice(text)
 }
 
-/// Appends the cell of a value to a row's; its length is written once its bytes are there. After an
-/// error nothing is appended.
+/// Appends the cell of a value to a row's payload. Its length is written once its bytes are there.
+/// After an error nothing is appended.
 pub(crate) fn push_value<T: ToSql + ToSqlText>(
     payload: &mut BytesMut,
     value: &T,

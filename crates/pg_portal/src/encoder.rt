@@ -119,7 +119,7 @@ impl DataRowEncoder {
     }
 
     /// The row of the cells so far, which can be sent as a reply. The encoder is empty then, and
-    /// makes the next row of these columns; after an error it is as it was.
+    /// can make the next row of these columns. After an error it is as it was.
     pub fn take_row(&mut self) -> Result<DataRow, AllocError>
         ensures row { IfOk result (λ row. row ≡ data_row self.old) }
         ensures emptied { OnOk result (self.new ≡ no_cells self.old.fields) }

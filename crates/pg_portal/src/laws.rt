@@ -9,8 +9,8 @@ ghost use Rattle.named_entries.specs.Names.{NameMap};
 ghost use Rattle.pg_results.specs.SameFields.{is_same_field};
 ghost use Rattle.pg_portal.specs.Told.{Stage};
 
-/// Two fetches of positive limits, one after another and without a row's error, give the rows that
-/// one fetch of both limits together gives, and leave the portal as far.
+/// Two fetches with positive limits, one after another and without an error, give the rows that one
+/// fetch with the sum of the limits gives. They leave the portal at the same stage.
 pub fn two_fetches_are_one()
     ensures { (a b : ℕ) (stage : Stage) → 1 ≤ a → 1 ≤ b
         → IsOk (fetched (pos a) stage).answer
@@ -19,7 +19,7 @@ pub fn two_fetches_are_one()
         (fetched (pos (a + b)) stage) }
 {}
 
-/// What is put under a name is got under it, and all other names stay.
+/// What is put under a name is found under it, and the entries of all other names stay.
 pub fn what_is_put_is_got<T>()
     ensures put { (names : NameMap T) (name : List ℕ) (entry : T)
         → fin.get (fin.insert names name entry) name ≡ Some entry }

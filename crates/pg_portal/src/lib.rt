@@ -1,5 +1,5 @@
 //! Statements and portals of a session: how queries are parsed, bound and fetched page by page, and
-//! the store that keeps them. It lends the names of pg_results.
+//! the store that keeps them. It re-exports names of pg_results.
 #![tactic(auto)]
 
 mod cell;

@@ -14,7 +14,7 @@ use pg_results::{RowSource, StoredStatement};
 use std::alloc::{AllocError, Global};
 use std::sync::Arc;
 
-/// Statements and portals in two ordered maps, whose keys a look-up by a text finds without memory.
+/// Statements and portals in two maps of names. A look-up by a name takes no memory.
 #[derive(Drop)]
 pub struct MemPortalStore<S, R> {
     statements: Named<Entry<Arc<StoredStatement<S>>>>,
@@ -32,7 +32,8 @@ impl<S: Drop, R: RowSource> MemPortalStore<S, R> {
         }
     }
 
-    // Puts a statement whose name isn't empty, apart from what most calls do.
+    // Puts a statement whose name isn't empty. Most names are empty, so this is a function of its
+    // own.
     #[cold]
     #[inline(never)]
     fn put_named_statement(
@@ -51,7 +52,7 @@ impl<S: Drop, R: RowSource> MemPortalStore<S, R> {
         self.statements.put_named(name, Entry::Value(statement))
     }
 
-    // Puts a portal whose name isn't empty, apart from what most calls do.
+    // Puts a portal whose name isn't empty. Most names are empty, so this is a function of its own.
     #[cold]
     #[inline(never)]
     fn put_named_portal(&mut self, alloc: Global, portal: Portal<S, R>) -> Result<(), AllocError>

@@ -15,10 +15,10 @@ impl<S: Drop, R: RowSource> Portal<S, R> {
     /// The parameter at an index, read as a value of a type, or None for a null. Its format is that
     /// of the portal at this index; a text is read with the default options.
     ///
-    /// `InvalidRustTypeForParameter`, with the type's name, comes where the value isn't read of
-    /// that type; then `ParameterIndexOutOfBound` past the parameters or past individual formats;
-    /// then `FailedToParseParameter` with the refusal of the bytes. A value that finds no memory is
-    /// `NoMemory`.
+    /// `InvalidRustTypeForParameter`, with the type's name, comes where such a value isn't read
+    /// from that type. Next, `ParameterIndexOutOfBound` comes where the index is past the
+    /// parameters or past the individual formats. Then `FailedToParseParameter` comes with the
+    /// error of the bytes. Where memory runs out, the error is `NoMemory`.
     pub fn parameter<T: FromSql + FromSqlText>(
         &self,
         alloc: Global,

@@ -34,7 +34,7 @@ pub enum PortalExecutionState<R> {
     /// It wasn't started.
     #[default]
     Initial,
-    /// It was started: what is to come of its rows.
+    /// It was started. These are the rows to come.
     Suspended(QueryResponse<R>),
     /// A page of it was complete.
     Finished,
@@ -45,12 +45,12 @@ pub enum PortalExecutionState<R> {
 pub struct FetchResult {
     /// The rows.
     pub rows: PgList<DataRow>,
-    /// The command that gave them, as `SELECT`.
+    /// The command that gave them, such as `SELECT`.
     pub command_tag: PgStr,
     /// Whether the page ended at its limit.
     pub suspended: bool,
     /// How many rows were delivered since the portal was started, with those of this page. The
-    /// number stands still at the greatest u64.
+    /// number saturates at the greatest u64.
     pub delivered: u64,
 }
 
@@ -70,8 +70,8 @@ pub struct Portal<S, R> {
     /// How far it has come.
     pub state: PortalExecutionState<R>,
     /// How many rows were delivered since it was started. Rows of a page that an error cut short
-    /// aren't counted. The number stands still at the greatest u64, and tells nothing before the
-    /// portal is started.
+    /// aren't counted. The number saturates at the greatest u64. It means nothing before the portal
+    /// is started.
     pub delivered: u64,
 }
 
@@ -137,8 +137,8 @@ impl<S: Drop, R: RowSource> Portal<S, R> {
         &self.state
     }
 
-    /// Starts the portal with a response, whatever it was before: no row of it is delivered yet. No
-    /// memory is taken.
+    /// Starts the portal with a response, in whatever state the portal was. No row of the response
+    /// is delivered yet. No memory is taken.
     pub fn start(&mut self, response: QueryResponse<R>)
         ensures started { stage_of R.items self.new ≡ Started (told_rows R.items response) 0 }
         ensures bound { bound_of self.new ≡ bound_of self.old }
@@ -147,15 +147,15 @@ impl<S: Drop, R: RowSource> Portal<S, R> {
         self.delivered = 0;
     }
 
-    /// The next page: at most so many rows, and below 1 all of them. It is suspended where the
-    /// limit was reached, also where the last row reached it, and else complete. `delivered` of the
-    /// page and of the portal grow by its rows. A finished portal has no further row, the tag
-    /// `SELECT`, and the number that was delivered.
+    /// The next page: at most `max_rows` rows, or all that are left where `max_rows` is below 1. It
+    /// is suspended where the limit was reached, even by the last row. Else it is complete.
+    /// `delivered` of the page and of the portal grow by its rows. The page of a finished portal
+    /// has no row, the tag `SELECT`, and the number that was delivered.
     ///
-    /// `PortalNotStarted` comes exactly where the portal wasn't started. The error of an item is
-    /// answered; then the item and the rows of this page before it are gone, and aren't counted.
-    /// After `NoMemory` a started portal is still started, and rows of this page may be gone; any
-    /// other is as it was.
+    /// `PortalNotStarted` comes exactly where the portal wasn't started. An error in the place of a
+    /// row is returned. It is consumed then with the rows of this page before it, and these aren't
+    /// counted. After `NoMemory` a started portal is still started, and rows of this page may be
+    /// consumed. Any other portal is as it was.
     pub fn fetch(&mut self, alloc: Global, max_rows: i32) -> Result<FetchResult, PgWireError>
         ensures page { IfOk result (λ page.
             Ok page ≡ (fetched max_rows (stage_of R.items self.old)).answer) }
@@ -198,7 +198,7 @@ fn no_rows(alloc: Global, delivered: u64) -> Result<FetchResult, AllocError>
     })
 }
 
-/// The next page of a response, of which so many rows were delivered, as a list.
+/// The next page of a response, as a list. `delivered` rows were delivered before.
 fn next_page<R: RowSource>(
     alloc: Global,
     response: &mut QueryResponse<R>,

@@ -43,7 +43,7 @@ impl<T> Entry<T> {
         matches!(self, Entry::Empty)
     }
 
-    /// The value, lent, or None exactly where the entry is empty.
+    /// The value, borrowed mutably, or None exactly where the entry is empty.
     pub(crate) fn value_mut(&mut self) -> Option<&mut T>
         ensures* writes_back { sem 𝓛 (LendsIf (entry_row T.row) T.row self.entry result entry.Value
             self.old) }
@@ -56,9 +56,9 @@ impl<T> Entry<T> {
     }
 }
 
-/// Statements and portals under names: two finite maps. What is put replaces what stands under its
-/// name and leaves all else; after an error both maps are as they were. No memory is taken but by
-/// the calls that put.
+/// Statements and portals under names: two finite maps. A call that puts replaces what stands under
+/// the name, and changes nothing else. After an error both maps are as they were. Only the calls
+/// that put take memory.
 pub trait PortalStore: Drop {
     /// What a statement means.
     type Statement: Drop;
@@ -123,9 +123,9 @@ pub trait PortalStore: Drop {
         ensures { option_map (entry_map (λ portal. portal_of Self.Rows.items portal.now)) result
             ≡ fin.get (maps self.now).portals name.now };
 
-    /// The portal under a name, lent, or None exactly where none stands there or it is empty. What
-    /// it is when the borrow ends stands under this name, whatever its own name is then, and all
-    /// else is as it was.
+    /// The portal under a name, borrowed mutably, or None exactly where none stands there or it is
+    /// empty. When the borrow ends, the portal as it is then stands under this name, even if its
+    /// own name has changed. All else is as it was.
     fn portal_mut(&mut self, name: &str) -> Option<&mut Portal<Self::Statement, Self::Rows>>
         ensures* writes_back { sem 𝓛 (LendsSo Self.row (portal_row Self.Statement.row Self.Rows.row)
             self.entry result

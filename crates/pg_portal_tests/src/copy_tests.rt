@@ -41,7 +41,7 @@ fn first_byte(told: &Result<Option<Result<CopyData, PgWireError>>, AllocError>) 
     }
 }
 
-/// Whether a binary COPY gives its data, and none behind them.
+/// Whether a binary COPY gives its data, and nothing after them.
 fn is_given(alloc: Global) -> Result<bool, AllocError> {
     let mut response = CopyResponse::new(1, 2, two(alloc)?);
     let copies = response.data_stream();

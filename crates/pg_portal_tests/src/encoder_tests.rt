@@ -1,4 +1,4 @@
-//! Rows as they are made.
+//! How rows are made.
 
 ghost use Rattle.std.specs.Prelude.{◌≤◌, ◌+◌, IfOk, length};
 
@@ -36,13 +36,13 @@ fn encoder(alloc: Global) -> Result<DataRowEncoder, AllocError> {
     DataRowEncoder::new(alloc, Arc::new(alloc, columns(alloc)?)?)
 }
 
-/// Appends a cell where a column is left, and tells whether it was.
+/// Appends a cell where a column is left, and tells whether one was.
 fn is_encoded<T: ToSql + ToSqlText>(rows: &mut DataRowEncoder, value: &T) -> bool {
     rows.columns_left() > 0 && rows.encode_field(value).is_ok()
 }
 
-/// Appends a day and the same day that may be a null, and tells whether there was a column for both
-/// and for no third.
+/// Appends a day, and the same day as an `Option`, and tells whether there was a column for both and
+/// for no third cell.
 fn are_days_encoded(rows: &mut DataRowEncoder) -> bool {
     let day = Interval::new(0, 1, 0);
     is_encoded(rows, &day) && is_encoded(rows, &Some(day)) && !is_encoded(rows, &day)
@@ -68,7 +68,7 @@ const DAY_AND_DAY: [u8; 29] = [
 /// Two nulls.
 const NULLS: [u8; 8] = [255; 8];
 
-/// Whether the next row of an encoder is two days, and it has room for another row then.
+/// Whether the next row of an encoder is two days, and then it can take another row.
 fn gives_days(rows: &mut DataRowEncoder) -> Result<bool, AllocError> {
     let encoded = are_days_encoded(rows);
     let row = rows.take_row()?;

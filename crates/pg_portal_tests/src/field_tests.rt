@@ -35,7 +35,7 @@ fn styled(alloc: Global, style: &str) -> Result<FieldInfo, AllocError> {
     Ok(column(alloc)?.with_format_options(options))
 }
 
-/// Whether the column of a table is told as it is.
+/// Whether the description of the column of a table has all that the column has.
 fn is_told(alloc: Global, field: &FieldInfo) -> Result<bool, AllocError> {
     let told = field.to_description(alloc)?;
     Ok(
@@ -50,7 +50,7 @@ fn is_equal(field: &FieldInfo, other: FieldInfo) -> bool {
     *field == other
 }
 
-/// Whether a column is equal to its copy, and to what is read of what is told of it.
+/// Whether a column is equal to its copy, and to the one that is read from its description.
 fn is_read_back(alloc: Global, field: &FieldInfo) -> Result<bool, AllocError> {
     let copied = is_equal(field, field.copy_of(alloc)?);
     let read = FieldInfo::from_description(alloc, field.to_description(alloc)?)?;
@@ -65,7 +65,7 @@ fn is_compared(alloc: Global, field: &FieldInfo) -> Result<bool, AllocError> {
     Ok(!modified && same && !other)
 }
 
-/// What is told of a column of a type that isn't known, in a format that isn't.
+/// The description of a column of a type and a format that aren't known.
 fn unknown(alloc: Global) -> Result<FieldDescription, AllocError> {
     Ok(FieldDescription {
         name: PgStr::copy_of(alloc, "a")?,

@@ -9,8 +9,8 @@ use pg_portal::{FetchResult, ListRows, PgWireError, Portal};
 use std::alloc::{AllocError, Global};
 use std::test::Fail;
 
-/// Whether the next page has such rows, of one byte each, is suspended or not, and has this tag and
-/// number.
+/// Whether the next page has rows of these bytes, one each, is suspended as told, and has this tag
+/// and number.
 fn is_next(
     portal: &mut Portal<PgStr, ListRows>,
     alloc: Global,
@@ -62,7 +62,7 @@ fn refusal_in(told: &Result<FetchResult, PgWireError>) -> &'static str {
     }
 }
 
-/// Appends two rows, a row and an error behind it, and a row.
+/// Appends three rows, an error, and another row.
 fn push_all(alloc: Global, items: &mut Items) -> Result<(), AllocError>
     requires { AllByRecursion IsSendable items.old }
     ensures { AllByRecursion IsSendable items.new }
@@ -88,7 +88,8 @@ fn is_unstarted(portal: &mut Portal<PgStr, ListRows>, alloc: Global) -> bool {
         && refusal(portal, alloc) == "not started"
 }
 
-/// Whether the error drops the rows of its own page alone, up to the portal's end.
+/// Whether the error drops only the rows of its own page, and the pages after it come up to the
+/// portal's end.
 fn drops_a_page(portal: &mut Portal<PgStr, ListRows>, alloc: Global) -> Result<bool, AllocError> {
     start_all(portal, alloc)?;
     Ok(

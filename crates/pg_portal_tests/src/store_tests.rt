@@ -50,7 +50,7 @@ fn has_no_portal(store: &Store) -> bool {
     is_empty_portal(store, "p").is_none() && is_empty_portal(store, "").is_none()
 }
 
-/// Whether a store has what was put, and loses its portals alone.
+/// Whether a store has what was put, and `clear_portals` removes only its portals.
 fn are_cleared(alloc: Global, store: &mut Store) -> Result<bool, AllocError> {
     fill(store, alloc)?;
     let is_full = has_statements(store) && has_portals(store);

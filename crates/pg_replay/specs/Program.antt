@@ -59,8 +59,8 @@ IsClientUntouched old new = (new.client ≡ old.client) × (new.out ≡ old.out)
 abbrev pub IsUnwritten : Option (List ℕ) → Option (List ℕ) → ℕ → ℕ → Type 0
 IsUnwritten old new faults new_faults = (new ≡ old) × (new_faults ≡ faults)
 
--- What comes of writing a text, which ends so where all of it was written; a front was, where a write failed, and no more where memory ran
--- out.
+-- What comes of writing a text. The outcome is `written` where all of it was written. A front of it was written where a write failed or
+-- memory ran out.
 abbrev pub HasWritten : Outcome → List ℕ → Outcome → Option (List ℕ) → Option (List ℕ) → ℕ → ℕ → Type 0
 HasWritten written text outcome old new faults new_faults =
     (((outcome ≡ written) × GrowsBy old new text × (new_faults ≡ faults))
@@ -76,9 +76,9 @@ turns = 1000000000
 abbrev pub room : ℕ
 room = 268435456
 
--- A client was served over the relations under a pid and a key, and recorded: the registry answered each question no, what was sent and
--- called is the conversation tables' answer, why the session came to an end or was given up, that turns enough bring it to an end, and the
--- recording of it, or why there is none.
+-- A client was served over the relations under a pid and a key, and recorded. The registry answered each question no. What was sent and
+-- called is the conversation tables' answer. The session's end, or what it was given up for, has its cause. Enough turns bring it to its
+-- end. There is the recording of it, or why there is none.
 pub record WasRecorded (pid : ℤ) (key : List ℕ) (relations : List Relation) (answer : Result EndKind ServeError)
     (recorded : Result Recording RecordError) (left new_left : Option (List ℕ)) (before after : Counts) : Type 0 where
   pub calls : List DeskCall
@@ -155,7 +155,8 @@ abbrev pub HasToldVerdict : List Relation → Recording → Outcome → Option (
 HasToldVerdict relations r outcome old new faults new_faults = ((outcome ≡ NoMemory) × IsUnwritten old new faults new_faults)
     ⊎ ((v : Verdict) × IsVerified relations r v × HasWritten (verdict_outcome v) (verdict_line v) outcome old new faults new_faults)
 
--- What comes of a whole input: no recording has it as its text; or the one that has is verified, unless memory ran out before.
+-- What comes of a whole input: it is the text of no recording; or it is that of a recording, which is verified, unless memory ran out
+-- before.
 abbrev pub HasJudged : List Relation → List ℕ → Result Recording ReadError → Outcome → Option (List ℕ) → Option (List ℕ) → ℕ → ℕ → Type 0
 HasJudged relations text (Err e) outcome old new faults new_faults =
     ((outcome ≡ BadRecording) ⊎ (outcome ≡ NoMemory)) × IsUnwritten old new faults new_faults
@@ -179,7 +180,7 @@ HasVerifiedFile outcome old new = (relations : List Relation) × IsToldBy old.fi
 
 -- ---- the words
 
--- What comes of the words: nothing where they are no order; or what comes of it.
+-- What comes of the words: nothing where they are no order, and else what comes of the order.
 abbrev pub HasRun : Option Ordered → Outcome → Surroundings → Surroundings → Type 0
 HasRun (Some (record_under pid key)) outcome old new = HasRecordedFile pid key outcome old new
 HasRun (Some Verifying) outcome old new = HasVerifiedFile outcome old new

@@ -22,13 +22,13 @@ recorded_under (Some pid) (Some key) = Some (Recording pid key)
 recorded_under _ _ = None
 
 -- `record FILE PID KEY` or `verify FILE`: FILE is any word, PID is 1 to 2147483647, and KEY an even number of hexadecimal digits of either
--- case, 8 to 512 of them. None of any other words.
+-- case, 8 to 512 of them. None for any other words.
 abbrev pub order_of : List (List ℕ) → Option Ordered
 order_of (command ∷ file ∷ []) = if bytes_eq command (codes "verify") then Some Verifying else None
 order_of (command ∷ file ∷ pid ∷ key ∷ []) =
     if bytes_eq command (codes "record") then recorded_under (pid_of pid) (key_of key) else None
 order_of _ = None
 
--- FILE of good words; None of any others.
+-- FILE of good words; None for any others.
 abbrev pub file_of : List (List ℕ) → Option (List ℕ)
 file_of words = if is_some (order_of words) then slice_get words 1 else None

@@ -1,4 +1,4 @@
-//! The recording that stands on the input.
+//! The recording on the input.
 
 ghost use Rattle.std.specs.Prelude.{◌≡◌, ◌≤◌, ◌<◌, length, take, IfOk, IfErr};
 ghost use Rattle.relation_files.specs.Files.{GaveAll};

@@ -1,5 +1,5 @@
-//! Sessions recorded, and recordings replayed and verified: the text of a recording, and the program
-//! that records a client over a relation file and that verifies a recording.
+//! Sessions are recorded, and recordings are replayed and verified: the text of a recording, and the
+//! program that records a client over a relation file and verifies a recording.
 #![tactic(auto)]
 
 mod input;

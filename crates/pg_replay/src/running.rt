@@ -43,14 +43,14 @@ const ROOM: usize = 268_435_456;
 ///   as [`verify`](crate::verify) does. The verdict is a line on `out`: `same`, `calls N`,
 ///   `replies N` or `end`.
 ///
-/// The relation file comes from `file`, whatever FILE says. The status is 0 where the recording was
-/// written, or the recording is that of a run; 2 where the words are no order; 3 where the file is
-/// refused; 4 where a read of `client` failed; 5 where a write failed; 6 where the turns were spent;
-/// 7 where memory ran out; 9 where a read of the file failed; 20 where the recording isn't that of a
-/// run; 21 where there was no room for a session that came to its end; 22 where the input is no
-/// recording or has over 536,871,936 bytes. Each but 0 and 20 is told by a line on `err`. A write
-/// to `err` that fails changes no status; where it finds no memory, the status is 7. Words are
-/// judged first, then the file, then the rest.
+/// The relation file comes from `file`; this call doesn't open FILE. The status is 0 where the
+/// recording was written, or the recording is that of a run; 2 where the words are no order; 3
+/// where the file is refused; 4 where a read of `client` failed; 5 where a write failed; 6 where
+/// the turns were spent; 7 where memory ran out; 9 where a read of the file failed; 20 where the
+/// recording isn't that of a run; 21 where there was no room for a session that came to its end; 22
+/// where the input is no recording or has over 536,871,936 bytes. Each status but 0 and 20 comes
+/// with a line on `err`. A write to `err` that fails leaves the status as it is; one that finds no
+/// memory makes it 7. Words are judged first, then the file, then the rest.
 ///
 /// Nothing was read of the client and nothing written to `out` after 2, 3 and 9, and nothing was
 /// written after 4, 6, 21 and 22.
@@ -181,8 +181,8 @@ fn record_client<S: Source, K: Sink>(
     write_recorded(alloc, answer, &recorded, out)
 }
 
-/// Writes the recording of a session that came to its end, where there is one. A session in memory
-/// meets no write that fails.
+/// Writes the recording of a session that came to its end, where there is one. The session's replies
+/// go to memory, so no write of it fails.
 fn write_recorded<K: Sink>(
     alloc: Global,
     answer: Result<EndKind, ServeError>,
@@ -209,8 +209,8 @@ fn write_recorded<K: Sink>(
     }
 }
 
-/// Writes the text of a recording. One of 2^32 calls or more has none, and is more than memory is
-/// for.
+/// Writes the text of a recording. A recording of 2^32 calls or more has no text, and counts as want
+/// of memory.
 fn write_to<K: Sink>(alloc: Global, recording: &Recording, out: &mut K) -> Outcome
     ensures written { HasWritten Outcome.Done (recording_text recording.now) result
         (K.written out.old) (K.written out.new) (K.faults out.old) (K.faults out.new) }
@@ -225,7 +225,7 @@ fn write_to<K: Sink>(alloc: Global, recording: &Recording, out: &mut K) -> Outco
     }
 }
 
-/// Writes a text, and answers what comes of that: this outcome where all of it was written.
+/// Writes a text, and answers the outcome: `written` where all of it was written.
 fn send_to<K: Sink>(written: Outcome, text: &[u8], out: &mut K) -> Outcome
     ensures written { HasWritten written text.now result (K.written out.old) (K.written out.new)
         (K.faults out.old) (K.faults out.new) }
@@ -258,7 +258,7 @@ fn verify_input<S: Source, K: Sink>(
     };
     match read_recording(alloc, text.as_slice()) {
         Ok(recording) => {
-            // The text is given back before the replies of the replay are held beside the recorded ones.
+            // The text's memory is given back before the replay's replies take theirs.
             drop(text);
             verify_recording(alloc, relations, &recording, out)
         }

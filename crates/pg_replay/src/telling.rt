@@ -9,11 +9,11 @@ use conversation_runs::Sink;
 use status_lines::{OUT_OF_MEMORY, report_file, write_line};
 use std::alloc::Global;
 
-/// The line that tells the words.
+/// The line for words that are no order.
 const USAGE: &str = "usage: pg_replay record FILE PID KEY, verify FILE\n";
 
-/// Writes the line of an outcome, where there is one, and answers its status, or that of no memory
-/// where the line or the sink finds none.
+/// Writes the line of an outcome, where it has one, and answers its status, or 7 where there is no
+/// memory for the line or in the sink.
 pub(crate) fn tell<E: Sink>(alloc: Global, outcome: &Outcome, err: &mut E) -> u8
     ensures reported { IsReported (status_of outcome.now) (line_of outcome.now) result
         (E.written err.old) (E.written err.new) (E.faults err.old) (E.faults err.new) }

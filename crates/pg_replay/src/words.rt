@@ -20,7 +20,7 @@ pub(crate) enum Order {
 }
 
 /// What the words order: `record FILE PID KEY` or `verify FILE`. PID is 1 to 2147483647, KEY an even
-/// number of hexadecimal digits of either case, 8 to 512 of them. None is any other words.
+/// number of hexadecimal digits of either case, 8 to 512 of them. None for any other words.
 pub(crate) fn read_order(words: &[PgStr]) -> Option<Order>
     ensures { option_map told_order result ≡ order_of words.now }
 {
@@ -31,7 +31,7 @@ pub(crate) fn read_order(words: &[PgStr]) -> Option<Order>
     }
 }
 
-/// FILE, the second of words that are an order. None is any other words.
+/// FILE, the second of words that are an order. None for any other words.
 pub fn file_word<'w>(words: &'w [PgStr]) -> Option<&'w str>
     ensures { option_copied result ≡ file_of words.now }
 {

@@ -35,7 +35,7 @@ startup_replies pid key = server.AuthenticationOk (record {})
 abbrev pub done : List ℕ → PgWireBackendMessage
 done tag = server.CommandComplete (record { tag = tag })
 
--- the command, with so many rows
+-- CommandComplete whose tag is the command and a number of rows
 abbrev pub done_with : List ℕ → ℕ → PgWireBackendMessage
 done_with command rows = done (command ++ spaced rows)
 

@@ -1,4 +1,5 @@
--- What a response of a handler sends, in an Execute and in a Query alike (protocol: Message Flow, Simple Query; COPY Operations).
+-- The replies to a handler's response, the same in an Execute and in a Query (protocol: Message Flow, Simple Query;
+-- COPY Operations).
 use Rattle.std.specs.Prelude.{ℕ, pos, Bool, true, false, List, [], ◌∷◌, ◌++◌, Option, Some, None, Ok, if◌then◌else◌, not, map, length, filter, bytes_eq, codes}
 use Rattle.pg_messages.specs.declared.copy.CopyData.{CopyData}
 use Rattle.pg_messages.specs.declared.backend.PgWireBackendMessage.{PgWireBackendMessage}
@@ -16,7 +17,8 @@ use Rattle.pg_results.specs.Responses as response
 use Rattle.pg_results.specs.Responses.{ToldResponse, ToldCopy}
 use Rattle.pg_replies.specs.Replies.{Replies, error_reply, done, done_with, row_description, row_replies}
 
--- what was sent of a response: the replies, the status behind it, whether a COPY of the client has begun, and the error that cut it short
+-- what was sent of a response: the replies, the transaction status after it, whether a COPY of the client has begun,
+-- and the error that cut it short
 pub record Sent : Type 0 where
   pub replies : Replies
   pub status : TransactionStatus
@@ -26,20 +28,20 @@ pub record Sent : Type 0 where
 abbrev pub sent : TransactionStatus → Replies → Sent
 sent status replies = record { replies = replies; status = status; copying = false; refusal = None }
 
--- Replies, and others behind them unless an error stands where these would be.
+-- The first replies. The others follow, unless an error stands in their place.
 abbrev pub unless_error : {A : Type 0} → TransactionStatus → Bool → Replies → Replies → Option (PgWireError × A) → Sent
 unless_error status copying replies others None = record { replies = replies ++ others; status = status; copying = copying; refusal = None }
 unless_error status copying replies others (Some e) = record { replies = replies; status = status; copying = false; refusal = Some e.0 }
 
 -- ---- rows of a Query
 
--- the replies in front, a DataRow for each row, and the tag with their number
+-- the first replies, a DataRow for each row, and the tag with the number of rows
 abbrev pub sent_rows_behind : Replies → TransactionStatus → ToldRows → Sent
 sent_rows_behind front status r =
     let rows = before_error r.items in
     unless_error status false (front ++ row_replies rows) (done_with r.command_tag (length rows) ∷ []) (first_error r.items)
 
--- RowDescription stands in front of the rows where it is wanted.
+-- RowDescription before the rows, where it is asked for
 abbrev pub rows_front : Bool → ToldRows → Replies
 rows_front true r = row_description r.fields ∷ []
 rows_front false r = []
@@ -50,15 +52,15 @@ sent_rows status r = sent_rows_behind (rows_front true r) status r
 
 -- ---- COPY
 
--- the end of binary data, which isn't counted
+-- the trailer that ends binary data; it isn't counted
 abbrev pub is_trailer : CopyData → Bool
 is_trailer copied = bytes_eq copied.payload (255 ∷ 255 ∷ [])
 
--- the items that a COPY has to send, with the end of binary data behind them where it is still to come
+-- the items that a COPY has to send, and after them the trailer of binary data where it is still to come
 abbrev pub copy_items : ToldCopy → List CopyItem
 copy_items c = if c.trailer_left then c.items ++ Ok trailer ∷ [] else c.items
 
--- the end of binary data where it is still to come
+-- the trailer of binary data, where it is still to come
 abbrev pub trailer_items : Bool → List CopyItem
 trailer_items left = if left then Ok trailer ∷ [] else []
 
@@ -98,7 +100,7 @@ copy_replies sent = map (λ d. server.CopyData d) sent
 abbrev pub copy_end : ℕ → Replies
 copy_end count = server.CopyDone (record {}) ∷ done_with (codes "COPY") count ∷ []
 
--- the data of a COPY behind its head, and its end
+-- a COPY to the client: its first reply, its data, and its end
 abbrev pub sent_copy : TransactionStatus → Bool → PgWireBackendMessage → ToldCopy → Sent
 sent_copy status copying head c =
     let copied = copy_data c in
@@ -106,7 +108,8 @@ sent_copy status copying head c =
 
 -- ---- each response
 
--- What a response sends, where the status is this. An error among responses is told, and the next response follows.
+-- What a response sends at this transaction status. A response that is an error is sent, and the next response follows
+-- it.
 abbrev pub responded : TransactionStatus → ToldResponse → Sent
 responded now response.EmptyQuery = sent now (server.EmptyQueryResponse (record {}) ∷ [])
 responded now (response.Query r) = sent_rows now r

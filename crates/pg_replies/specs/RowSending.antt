@@ -1,4 +1,5 @@
--- Rows that are sent behind rows are sent as all of them: the law of who sends what it receives.
+-- Sending rows, and then more rows, sends the same bytes as sending all of them at once. A receiver that sends each row
+-- keeps this law.
 use Rattle.std.specs.Prelude.{ℕ, List, ◌++◌, ◌≡◌}
 use Rattle.std.proofs.Common.{sym, ap, ◌∙◌, append_assoc}
 use Rattle.std.proofs.lemmas.List.{map-append}

@@ -1,11 +1,11 @@
--- What becomes of a description that a handler told, or of its error.
+-- What becomes of a handler's description, or of its error.
 use Rattle.std.specs.Prelude.{ℕ, List, ◌++◌, ◌≡◌, Result, Ok, Err}
 use Rattle.pg_messages.specs.Replies.{replies_bytes}
 use Rattle.pg_results.specs.declared.error.PgWireError.{PgWireError}
 use Rattle.pg_results.specs.declared.error.PgWireError.TheVariants as wire
 use Rattle.pg_replies.specs.Replies.{Replies}
 
--- It is shown by its replies, or memory is wanting; an error is answered as it is.
+-- A description is appended as its replies, or memory ran out. An error is returned as it is.
 abbrev pub IsToldSo : {D A : Type 0} → (D → Replies) → Result D PgWireError → List ℕ → List ℕ → Result A PgWireError → Type 0
 IsToldSo shown (Ok d) out new_out (Ok x) = new_out ≡ out ++ replies_bytes (shown d)
 IsToldSo shown (Ok d) out new_out (Err e) = (e ≡ wire.NoMemory) × (new_out ≡ out)

@@ -1,5 +1,5 @@
-//! The replies to a client, as they are appended to its outbox: ready, done, columns, rows page by
-//! page, descriptions, and the data of a COPY.
+//! The replies that are appended to a client's outbox: ReadyForQuery, CommandComplete, the
+//! descriptions of statements and portals, rows page by page, and the data of a COPY.
 #![tactic(auto)]
 
 mod send;

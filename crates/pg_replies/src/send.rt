@@ -38,8 +38,8 @@ use pg_results::{
 use pg_types::PgType;
 use std::alloc::{AllocError, Global};
 
-/// Appends a reply, and lets it go. A reply of any kind is dropped here, and nowhere else. The only
-/// error is want of memory, after which the outbox is as it was.
+/// Appends a reply, and drops it. The only error is running out of memory, after which the outbox
+/// is as it was.
 #[inline(always)]
 pub fn push_reply(outbox: &mut Outbox, reply: PgWireBackendMessage) -> Result<(), AllocError>
     requires { IsEncodable reply }
@@ -87,8 +87,8 @@ pub fn send_execution_response(
     push_reply(outbox, PgWireBackendMessage::CommandComplete(complete))
 }
 
-/// Appends CommandComplete of a command with so many rows. The only error is want of memory, after
-/// which the outbox is as it was.
+/// Appends CommandComplete, whose tag is the command and the number of rows. The only error is
+/// running out of memory, after which the outbox is as it was.
 pub fn send_done(
     alloc: Global,
     outbox: &mut Outbox,
@@ -108,7 +108,7 @@ pub fn send_done(
     Ok(())
 }
 
-/// Appends the bytes of CommandComplete of a command with so many rows. After an error some of them.
+/// Appends the bytes that `send_done` appends. After an error some of them may be appended.
 fn push_done(outbox: &mut Outbox, command: &str, rows: u64) -> Result<(), AllocError>
     requires { IsTag command.now }
     ensures ok { OnOk result
@@ -121,8 +121,8 @@ fn push_done(outbox: &mut Outbox, command: &str, rows: u64) -> Result<(), AllocE
     push_many_done(outbox, command, rows)
 }
 
-/// Appends the bytes of CommandComplete of a command with less than ten rows, as most have: the
-/// digit needs no buffer. After an error some of them.
+/// Appends these bytes for fewer than ten rows, as most commands have. The digit needs no buffer.
+/// After an error some of them may be appended.
 #[inline(always)]
 fn push_few_done(outbox: &mut Outbox, command: &str, rows: u64) -> Result<(), AllocError>
     requires tag { IsTag command.now }
@@ -137,8 +137,7 @@ fn push_few_done(outbox: &mut Outbox, command: &str, rows: u64) -> Result<(), Al
     Ok(())
 }
 
-/// Appends the bytes of CommandComplete of a command with so many rows, piece by piece, with no
-/// text of the tag. After an error some of them.
+/// Appends these bytes piece by piece, without a text of the tag. An error may leave some of them.
 #[inline(never)]
 fn push_many_done(outbox: &mut Outbox, command: &str, rows: u64) -> Result<(), AllocError>
     requires { IsTag command.now }
@@ -156,7 +155,7 @@ fn push_many_done(outbox: &mut Outbox, command: &str, rows: u64) -> Result<(), A
     Ok(())
 }
 
-/// Type byte and length of a CommandComplete with so many bytes behind them.
+/// The type byte and the length of a CommandComplete, which `body` bytes follow.
 fn done_head(body: usize) -> [u8; 5]
     requires { body ≤ 1073741823 }
     ensures { result ≡ 67 ∷ count32 (4 + body) }
@@ -185,7 +184,7 @@ fn send_row_description(
     Ok(())
 }
 
-/// Appends the bytes of RowDescription, column by column. After an error some of them.
+/// Appends RowDescription column by column. After an error some of its bytes may be appended.
 fn push_row_description(outbox: &mut Outbox, fields: &[FieldInfo]) -> Result<(), AllocError>
     requires { IsEncodable (row_description fields.now) }
     ensures ok { OnOk result
@@ -199,7 +198,7 @@ fn push_row_description(outbox: &mut Outbox, fields: &[FieldInfo]) -> Result<(),
     Ok(())
 }
 
-/// How many bytes stand behind the length of a RowDescription: a count, and for each column its
+/// How many bytes follow the length of a RowDescription: two for the count, and for each column its
 /// name and 19 bytes.
 fn body_len(fields: &[FieldInfo]) -> usize
     requires { IsEncodable (row_description fields.now) }
@@ -212,7 +211,7 @@ fn body_len(fields: &[FieldInfo]) -> usize
     len
 }
 
-/// Type byte, length and count of a RowDescription with so many bytes behind the length.
+/// The type byte, length and count of a RowDescription with `body` bytes after the length.
 fn description_head(body: usize, count: usize) -> [u8; 7]
     requires body { body ≤ 1073741823 }
     requires count { count ≤ 32767 }
@@ -223,7 +222,7 @@ fn description_head(body: usize, count: usize) -> [u8; 7]
     [b'T', a, b, c, d, e, f]
 }
 
-/// Appends the bytes that tell of a column. After an error some of them.
+/// Appends the bytes that describe a column. After an error some of them may be appended.
 fn push_column(outbox: &mut Outbox, field: &FieldInfo) -> Result<(), AllocError>
     ensures ok { OnOk result
         (outbox.new ≡ outbox.old ++ field_description (description_of field.now)) }
@@ -234,8 +233,8 @@ fn push_column(outbox: &mut Outbox, field: &FieldInfo) -> Result<(), AllocError>
     Ok(())
 }
 
-/// What stands behind a column's name: the zero byte that ends it, and its numbers. An absent table
-/// or column is 0.
+/// The bytes after a column's name: the zero byte that ends the name, and the column's numbers. An
+/// absent table or column is 0.
 fn behind_name(field: &FieldInfo) -> [u8; 19]
     ensures { field_description (description_of field.now) ≡ field.now.name ++ result }
 {
@@ -270,7 +269,7 @@ fn column_bytes(
     [0, a, b, c, d, e, f, g, h, i, j, k, l, m, n, o, p, q, r]
 }
 
-/// The numbers of types.
+/// The OIDs of types.
 fn oids(alloc: Global, types: &[PgType]) -> Result<PgList<u32>, AllocError>
     ensures { IfOk result (λ told. told ≡ map oid_of types.now) }
 {
@@ -299,8 +298,8 @@ fn send_parameter_description(
     )
 }
 
-/// Appends what the columns of a statement or a portal are: RowDescription, or NoData where there
-/// is nothing to describe.
+/// Appends the description of the columns of a statement or a portal: RowDescription, or NoData
+/// where there is nothing to describe.
 fn send_columns<DR: DescribeResponse>(
     alloc: Global,
     outbox: &mut Outbox,
@@ -317,9 +316,9 @@ fn send_columns<DR: DescribeResponse>(
     send_row_description(alloc, outbox, describe_response.fields())
 }
 
-/// Appends what describes a statement or a portal: of a statement ParameterDescription, and then
-/// RowDescription, or NoData where there is nothing to describe. After an error the outbox is as it
-/// was.
+/// Appends the description of a statement or a portal. A statement's begins with
+/// ParameterDescription. RowDescription follows, or NoData where there is nothing to describe.
+/// After an error the outbox is as it was.
 pub fn send_describe_response<DR: DescribeResponse>(
     alloc: Global,
     outbox: &mut Outbox,
@@ -343,8 +342,8 @@ pub fn send_describe_response<DR: DescribeResponse>(
     Ok(())
 }
 
-/// Appends what describes a statement or a portal, as `send_describe_response`, and lets it go. The
-/// only error is want of memory, after which the outbox is as it was.
+/// Appends a description, as `send_describe_response` does, and drops it. The only error is running
+/// out of memory, after which the outbox is as it was.
 pub fn send_described<DR: DescribeResponse + Drop>(
     alloc: Global,
     outbox: &mut Outbox,
@@ -360,8 +359,7 @@ pub fn send_described<DR: DescribeResponse + Drop>(
     send_describe_response(alloc, outbox, &described)
 }
 
-/// Appends what describes a statement or a portal, or answers the error that was told in its place.
-/// After an error the outbox is as it was.
+/// Appends a description, or returns the error that came in its place. An error appends nothing.
 pub fn send_told<DR: DescribeResponse + Drop>(
     alloc: Global,
     outbox: &mut Outbox,
@@ -407,10 +405,10 @@ impl<'a> RowReceiver for RowSender<'a> {
         (rows_behind sender.outbox.now rows behind) };
 }
 
-/// Appends the next page of a response, of which so many rows were delivered: at most so many
-/// DataRows, and below 1 all of them; then PortalSuspended where the limit was reached, or else
-/// CommandComplete with the tag and the number of rows delivered. The error of an item is answered
-/// as by `send_partial_query_response`.
+/// Appends the next page of a response, of which `delivered` rows were sent before: at most
+/// `max_rows` DataRows, or all that are left where `max_rows` is below 1. PortalSuspended follows
+/// where the limit was reached, and else CommandComplete with the tag and the number of all rows
+/// delivered. The errors are those of `send_partial_query_response`.
 pub fn send_next_page<R: RowSource>(
     alloc: Global,
     outbox: &mut Outbox,
@@ -445,8 +443,8 @@ pub fn send_next_page<R: RowSource>(
     ensures kept { take (length outbox.old) outbox.new ≡ outbox.old }
 {
     let page = deliver_to(alloc, outbox, &mut results.data_rows, delivered, max_rows)?;
-    // A length is a usize, and the rows are no more than their bytes, so that their number doesn't
-    // stand still.
+    // The outbox holds at least one byte for each row, and its length is a usize. So the number of
+    // the page's rows is below 2^64.
     let _waiting = outbox.len();
     send_page_end(alloc, outbox, results.command_tag.as_str(), page)?;
     Ok(page)
@@ -498,11 +496,12 @@ fn send_page_end(
     send_done(alloc, outbox, command, page.delivered)
 }
 
-/// Appends a page of rows: at most so many DataRows, and below 1 all of them; then PortalSuspended
-/// where the limit was reached, which is answered by true, or else CommandComplete with the tag and
-/// the number of these rows. The error of an item is answered and the item consumed; the rows
-/// before it stay in the outbox. After NoMemory some of the rows may stand there, and are consumed.
-/// What waited before stays in front after every answer.
+/// Appends a page of rows: at most `max_rows` DataRows, or all that are left where `max_rows` is
+/// below 1. Where the limit was reached, PortalSuspended follows, and the result is true. Else
+/// CommandComplete follows with the tag and the number of these rows, and the result is false. An
+/// error in the place of a row is returned and consumed, and the rows before it stay in the outbox.
+/// After NoMemory some of the rows may stand there, and are consumed. What waited in the outbox
+/// before stays in front, after an error too.
 pub fn send_partial_query_response<R: RowSource>(
     alloc: Global,
     outbox: &mut Outbox,
@@ -533,10 +532,10 @@ pub fn send_partial_query_response<R: RowSource>(
     Ok(send_next_page(alloc, outbox, results, 0, max_rows)?.suspended)
 }
 
-/// Appends all rows of a query: RowDescription where it is wanted, a DataRow for each row,
-/// CommandComplete with the tag and their number. The error of an item is answered, and what stands
-/// before it, RowDescription and rows, stays in the outbox. After NoMemory any part of all this may
-/// stand there. What waited before stays in front after every answer.
+/// Appends all rows of a query: RowDescription where `send_describe` is true, a DataRow for each
+/// row, and CommandComplete with the tag and the number of rows. An error in the place of a row is
+/// returned, and the replies before it stay in the outbox. After NoMemory any part of the replies
+/// may stand there. What waited in the outbox before stays in front, after an error too.
 pub fn send_query_response<R: RowSource>(
     alloc: Global,
     outbox: &mut Outbox,
@@ -559,8 +558,8 @@ pub fn send_query_response<R: RowSource>(
     Ok(())
 }
 
-/// The next data of a COPY, and the trailer of binary data behind them. After an error all are
-/// still to come.
+/// The next data of a COPY, and after the last of them the trailer of binary data. An error takes
+/// nothing.
 fn next_data<C: CopySource>(
     alloc: Global,
     resp: &mut CopyResponse<C>,
@@ -577,8 +576,7 @@ fn next_data<C: CopySource>(
     }
 }
 
-/// The trailer of binary data where it is still to come, which it isn't then. After an error it
-/// still is.
+/// The trailer of binary data, where it is still to come. It is taken then. An error takes nothing.
 fn next_trailer(
     alloc: Global,
     trailer_left: &mut bool,
@@ -611,7 +609,7 @@ fn push_data(outbox: &mut Outbox, copied: &CopyData, count: usize) -> Result<usi
     }
     let is_trailer = bytes == [255, 255].as_slice();
     outbox.push_copied(copied)?;
-    // A length is a usize, so that the count, which is no larger, doesn't wrap.
+    // The count is at most the outbox's length, which is a usize. So the count doesn't wrap.
     let _waiting = outbox.len();
     if is_trailer {
         return Ok(count);
@@ -619,8 +617,8 @@ fn push_data(outbox: &mut Outbox, copied: &CopyData, count: usize) -> Result<usi
     Ok(count + 1)
 }
 
-/// Appends the data of a COPY, and answers how many count. Data that are made in the short way
-/// share their memory.
+/// Appends the data of a COPY, and returns how many of them count. Data that `next_copied` writes
+/// share one buffer.
 fn send_copy_data<C: CopySource>(
     alloc: Global,
     outbox: &mut Outbox,
@@ -639,7 +637,7 @@ fn send_copy_data<C: CopySource>(
     send_copy_through(alloc, outbox, resp, &mut copied)
 }
 
-/// Appends the data of a COPY, as `send_copy_data`, which are lent these.
+/// Appends the data of a COPY, as `send_copy_data` does. `lent` is the buffer for `next_copied`.
 #[inline(always)]
 fn send_copy_through<C: CopySource>(
     alloc: Global,
@@ -656,7 +654,7 @@ fn send_copy_through<C: CopySource>(
 {
     let mut count = 0;
     loop {
-        // Most data come in the short way.
+        // Most sources write their data into the lent buffer.
         if resp.data_stream.next_copied(lent)? {
             count = push_data(outbox, lent, count)?;
             continue;
@@ -698,8 +696,8 @@ pub fn send_copy_in_response<C: CopySource>(
     push_reply(outbox, PgWireBackendMessage::CopyInResponse(head))
 }
 
-/// Appends CopyInResponse, as `send_copy_in_response`, and lets the COPY go. The only error is want
-/// of memory, after which the outbox is as it was.
+/// Appends CopyInResponse, as `send_copy_in_response` does, and drops the COPY. The only error is
+/// running out of memory, after which the outbox is as it was.
 pub fn send_copy_in<C: CopySource>(
     alloc: Global,
     outbox: &mut Outbox,
@@ -751,10 +749,11 @@ fn send_copy_both_head<C: CopySource>(
     push_reply(outbox, PgWireBackendMessage::CopyBothResponse(head))
 }
 
-/// Appends a COPY to the client: CopyOutResponse, CopyData for each data that isn't empty,
-/// CopyDone, and CommandComplete `COPY n` for n data without the trailer. The error of an item is
-/// answered, and what stands before it stays in the outbox. After NoMemory any part of all this may
-/// stand there. What waited before stays in front after every answer.
+/// Appends a COPY to the client: CopyOutResponse, a CopyData for each data that isn't empty,
+/// CopyDone, and CommandComplete `COPY n`, where n is the number of CopyData without the trailer.
+/// An error in the place of data is returned, and the replies before it stay in the outbox. After
+/// NoMemory any part of the replies may stand there. What waited in the outbox before stays in
+/// front, after an error too.
 pub fn send_copy_out_response<C: CopySource>(
     alloc: Global,
     outbox: &mut Outbox,
@@ -774,8 +773,8 @@ pub fn send_copy_out_response<C: CopySource>(
     Ok(())
 }
 
-/// Appends a COPY both ways: CopyBothResponse, and then as `send_copy_out_response`, with its
-/// errors.
+/// Appends a COPY both ways: CopyBothResponse, and then the same as `send_copy_out_response`, with
+/// the same errors.
 pub fn send_copy_both_response<C: CopySource>(
     alloc: Global,
     outbox: &mut Outbox,

@@ -12,7 +12,7 @@ use Rattle.pg_results.specs.Rows.{IsItemError}
 abbrev pub CopyItem : Type 0
 CopyItem = Result CopyData PgWireError
 
--- The first item is taken, or there is none. Want of memory takes nothing.
+-- The first item is taken, or there is none. An AllocError takes nothing.
 abbrev pub IsNextCopy : List CopyItem → Result (Option CopyItem) AllocError → List CopyItem → Type 0
 IsNextCopy old (Ok (Some item)) new = old ≡ item ∷ new
 IsNextCopy old (Ok None) new = (old ≡ []) × (new ≡ [])

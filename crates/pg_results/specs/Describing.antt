@@ -1,9 +1,9 @@
--- What is told of a statement or a portal that is described (protocol: Extended Query, Describe).
+-- Descriptions of statements and portals (protocol: Extended Query, Describe).
 use Rattle.std.specs.Prelude.{Bool, true, false, List, [], ◌∷◌, Option, Some, None, ◌&&◌}
 use Rattle.pg_types.specs.declared.pg_type.PgType.{PgType}
 use Rattle.pg_results.specs.Fields.{Field}
 
--- parameters, where it is a statement, and columns
+-- the parameters of a statement, and the columns
 pub record Described : Type 0 where
   pub parameters : Option (List PgType)
   pub fields : List Field
@@ -21,7 +21,7 @@ has_none (Some types) = is_empty_list types
 abbrev pub is_no_data : Described → Bool
 is_no_data told = has_none told.parameters && is_empty_list told.fields
 
--- of a statement there is a list of parameters
+-- a statement has a list of parameters, and a portal none
 abbrev pub no_parameters : Bool → Option (List PgType)
 no_parameters true = Some []
 no_parameters false = None

@@ -9,7 +9,7 @@ use Rattle.pg_results.specs.Texts.{quoted}
 abbrev pub error : List ℕ → List ℕ → ErrorInfo
 error code message = record { severity = codes "ERROR"; code = code; message = message }
 
--- What is told of an error. Want of memory is never told: its text stands for completeness.
+-- What a client is told of an error. NoMemory is never told: its text is here for completeness.
 abbrev pub info_of : PgWireError → ErrorInfo
 info_of (wire.StatementNotFound name) = error (codes "26000") (codes "prepared statement " ++ quoted name ++ codes " does not exist")
 info_of (wire.PortalNotFound name) = error (codes "34000") (codes "portal " ++ quoted name ++ codes " does not exist")

@@ -32,7 +32,7 @@ plain_field name table column datatype format = record {
   type_modifier = negsuc 0;
 }
 
--- what is told of a column; an absent table or column is 0
+-- the description of a column; an absent table or column is 0
 abbrev pub description_of : Field → FieldDescription
 description_of field = record {
   name = field.name;
@@ -44,7 +44,7 @@ description_of field = record {
   format_code = format_code field.format;
 }
 
--- the column that was told; a type that isn't known is `unknown`
+-- the column of a description; an oid that isn't known is the type `unknown`
 abbrev pub described_field : FieldDescription → Field
 described_field told = record {
   name = told.name;

@@ -1,4 +1,4 @@
--- What the parser tells whose statement is the query's text.
+-- The parser whose statement is the query's text.
 use Rattle.std.specs.Prelude.{ℕ, true, List, [], Some, Ok}
 use Rattle.pg_results.specs.Told.{ParserTold}
 

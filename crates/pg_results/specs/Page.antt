@@ -3,7 +3,7 @@ use Rattle.std.specs.Prelude.{ℕ, ℤ, pos, negsuc, Bool, true, false, List, []
 use Rattle.pg_results.specs.declared.error.PgWireError.{PgWireError}
 use Rattle.pg_results.specs.declared.error.PgWireError.TheVariants.{NoMemory}
 
--- a limit of at least 1 that so many rows reach
+-- whether this many rows reach a limit, which is at least 1
 abbrev pub is_reached : ℤ → ℕ → Bool
 is_reached (pos limit) rows = nat_le 1 limit && nat_le limit rows
 is_reached (negsuc n) rows = false
@@ -18,7 +18,8 @@ page limit rows = if is_reached limit (length rows)
     then (record { rows = take (unsigned_abs limit) rows; suspended = true })
     else (record { rows = rows; suspended = false })
 
--- Rows delivered since a portal was started: those before a page, and those of it. Their number stands still at the greatest u64.
+-- Rows delivered since a portal was started: those before a page, and those of it. The number saturates at the greatest
+-- u64.
 abbrev pub delivered_after : ℕ → ℕ → ℕ
 delivered_after before rows = min (before + rows) (2 ^ 64 - 1)
 
@@ -29,7 +30,7 @@ before_error [] = []
 before_error (Ok item ∷ items) = item ∷ before_error items
 before_error (Err e ∷ items) = []
 
--- the first error, and the items behind it
+-- the first error, and the items after it
 abbrev pub first_error : {A : Type 0} → List (Result A PgWireError) → Option (PgWireError × List (Result A PgWireError))
 first_error [] = None
 first_error (Ok item ∷ items) = first_error items
@@ -58,13 +59,15 @@ item_page limit items =
 
 -- ---- a page that was delivered
 
--- How a page ended is told: suspended at its limit with these items left, or complete with none left. One at an error isn't delivered.
+-- How a page ended: suspended at its limit with these items left, or complete with none left. A page that met an error
+-- isn't delivered.
 abbrev pub EndsPage : {A : Type 0} → PageEnd A → Bool → List (Result A PgWireError) → Type 0
 EndsPage (AtLimit items) suspended left = (suspended ≡ true) × (left ≡ items)
 EndsPage AtEnd suspended left = (suspended ≡ false) × (left ≡ [])
 EndsPage (AtError error items) suspended left = ⊥
 
--- A page was cut short behind these rows: by an error that stood there, or because memory was wanting, where one more row may be lost.
+-- A page was cut short after these rows: by an error that stood there, or because memory ran out, and then one more row
+-- may be lost.
 abbrev pub CutsPage : {A : Type 0} → ℤ → List (Result A PgWireError) → List A → PgWireError → List (Result A PgWireError) → Type 0
 CutsPage {A} limit old rows error left =
     ((error ≡ NoMemory) × ((lost : List A) × (length lost ≤ 1) × (old ≡ map Ok (rows ++ lost) ++ left)))

@@ -1,4 +1,4 @@
--- What responses to queries tell (protocol: Simple Query; Extended Query; COPY Operations).
+-- Responses to queries, whose rows and data are lists (protocol: Simple Query; Extended Query; COPY Operations).
 use Rattle.std.specs.Prelude.{ℕ, ℤ, Bool, List, map}
 use Rattle.pg_messages.specs.declared.response.ErrorInfo.{ErrorInfo}
 use Rattle.pg_results.specs.declared.copy.CopyResponse.{CopyResponse}
@@ -9,14 +9,15 @@ use Rattle.pg_results.specs.Copying.{CopyItem}
 use Rattle.pg_results.specs.Rows.{RowItem}
 use Rattle.pg_results.specs.Told.{ToldRows, told_rows}
 
--- a COPY that was answered: the format and the number of its columns, the data to come, and whether a trailer follows
+-- a response that begins a COPY: the format and the number of its columns, the data to come, and whether a trailer
+-- follows
 pub record ToldCopy : Type 0 where
   pub format : ℤ
   pub columns : ℕ
   pub items : List CopyItem
   pub trailer_left : Bool
 
--- what a query answered
+-- a response to a query
 pub data ToldResponse : Type 0 where
   EmptyQuery : ToldResponse
   Query : ToldRows → ToldResponse
@@ -36,7 +37,7 @@ told_copy items copy = record {
   trailer_left = copy.trailer_left;
 }
 
--- what a response tells, of what its rows and its data tell
+-- a response, with the items of its rows and of its data
 abbrev pub told_response : {R C : Type 0} → (R → List RowItem) → (C → List CopyItem) → Response R C → ToldResponse
 told_response rows items response.EmptyQuery = EmptyQuery
 told_response rows items (response.Query query) = Query (told_rows rows query)
@@ -48,6 +49,6 @@ told_response rows items (response.CopyIn copy) = CopyIn (told_copy items copy)
 told_response rows items (response.CopyOut copy) = CopyOut (told_copy items copy)
 told_response rows items (response.CopyBoth copy) = CopyBoth (told_copy items copy)
 
--- what several responses tell, in their order
+-- several responses, in their order
 abbrev pub told_responses : {R C : Type 0} → (R → List RowItem) → (C → List CopyItem) → List (Response R C) → List ToldResponse
 told_responses rows items responses = map (told_response rows items) responses

@@ -1,4 +1,4 @@
--- Rows to come: what a row source tells, and what one call takes of it.
+-- Rows to come: the items of a row source, and what one call takes of them.
 use Rattle.std.specs.Prelude.{Bool, true, false, List, [], ◌∷◌, Option, Some, None, Result, Ok, Err, ◌≡◌, ◌≢◌, ◌⊎◌}
 use Rattle.std.specs.declared.alloc.AllocError.{AllocError}
 use Rattle.pg_messages.specs.declared.data.DataRow.{DataRow}
@@ -12,7 +12,7 @@ use Rattle.pg_results.specs.Errors.{info_of}
 abbrev pub RowItem : Type 0
 RowItem = Result DataRow PgWireError
 
--- The first item is taken, or there is none. Want of memory takes nothing.
+-- The first item is taken, or there is none. An AllocError takes nothing.
 abbrev pub IsNext : List RowItem → Result (Option RowItem) AllocError → List RowItem → Type 0
 IsNext old (Ok (Some item)) new = old ≡ item ∷ new
 IsNext old (Ok None) new = (old ≡ []) × (new ≡ [])
@@ -29,7 +29,7 @@ pub record IsTellable (error : PgWireError) : Type 0 where
   pub is_told : error ≢ NoMemory
   pub encodable : IsEncodable (server.ErrorResponse (record { info = info_of error }))
 
--- the errors that the session itself tells: want of memory, a canceled query, a message in a wrong state, a portal that isn't started
+-- the session's own errors: out of memory, a canceled query, a message in a wrong phase, a portal that isn't started
 abbrev pub is_of_session : PgWireError → Bool
 is_of_session NoMemory = true
 is_of_session QueryCanceled = true
@@ -37,7 +37,8 @@ is_of_session NotReadyForQuery = true
 is_of_session PortalNotStarted = true
 is_of_session _ = false
 
--- An error in the place of a row, of data, or of what a query answers: a reply can tell it, and it is none that the session itself tells.
+-- An error in the place of a row, of data, or of a query's response: a reply can tell it, and it is none of the
+-- session's own.
 pub record IsItemError (error : PgWireError) : Type 0 where
   pub tellable : IsTellable error
   pub is_own : is_of_session error ≡ false
@@ -51,10 +52,10 @@ abbrev pub IsSendable : RowItem → Type 0
 IsSendable (Ok row) = IsEncodable (server.DataRow row)
 IsSendable (Err error) = IsItemError error
 
--- an error that is answered: want of memory, or one that a reply can tell
+-- an error that a call may return: NoMemory, or one that a reply can tell
 abbrev pub IsAnswerable : PgWireError → Type 0
 IsAnswerable error = (error ≡ NoMemory) ⊎ IsTellable error
 
--- an error that ends a page, data or a query: want of memory, or one that stood in the place of an item
+-- an error that ends a page, data or a query: NoMemory, or one that stood in the place of an item
 abbrev pub IsAnswerableItem : PgWireError → Type 0
 IsAnswerableItem error = (error ≡ NoMemory) ⊎ IsItemError error

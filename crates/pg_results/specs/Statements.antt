@@ -9,11 +9,11 @@ use Rattle.pg_results.specs.declared.stmt.StoredStatement.{StoredStatement}
 use Rattle.pg_results.specs.Texts.{is_blank}
 use Rattle.pg_results.specs.Told.{ParserTold}
 
--- the types of these numbers, None where there is no such type
+-- the types with these oids, None where there is no such type
 abbrev pub types_of : List ℕ → List (Option PgType)
 types_of oids = map type_of_oid oids
 
--- the statement that a parser told, under the name of its Parse
+-- the statement that a parser gave, under the name of its Parse
 abbrev pub stored : {S : Type 0} → Parse → Result (Option S) PgWireError → Result (Option (StoredStatement S)) PgWireError
 stored message (Ok (Some statement)) = Ok (Some (record {
   id = message.name;
@@ -23,7 +23,7 @@ stored message (Ok (Some statement)) = Ok (Some (record {
 stored message (Ok None) = Ok None
 stored message (Err error) = Err error
 
--- The statement of a Parse. A blank query is an empty statement, of which the parser isn't asked.
+-- The statement of a Parse. A blank query is an empty statement, and the parser isn't called.
 abbrev pub prepared : {S : Type 0} → ParserTold S → ClientInfo → Parse → Result (Option (StoredStatement S)) PgWireError
 prepared parser client message =
     if is_blank message.query then Ok None else stored message (parser.parse client message.query (types_of message.type_oids))

@@ -1,4 +1,4 @@
--- What a parser of queries tells, and what a query answered with rows.
+-- What a parser of queries gives, and a response with rows.
 use Rattle.std.specs.Prelude.{ℕ, Bool, List, Option, Result, Err, ◌++◌, ◌≡◌, ◌⊎◌}
 use Rattle.std.specs.Arc.{arc_value}
 use Rattle.pg_types.specs.declared.pg_type.PgType.{PgType}
@@ -10,19 +10,20 @@ use Rattle.pg_results.specs.declared.response.QueryResponse.{QueryResponse}
 use Rattle.pg_results.specs.Fields.{Field}
 use Rattle.pg_results.specs.Rows.{RowItem}
 
--- the outcome that is told, or want of memory
+-- the result is the outcome that was told, or NoMemory
 abbrev pub IsOutcome : {A : Type 0} → Result A PgWireError → Result A PgWireError → Type 0
 IsOutcome told result = (result ≡ told) ⊎ (result ≡ Err NoMemory)
 
--- The statements that a parser can give; what it makes of a query of a client, with the types of parameters that were given, where
--- None is an empty statement; and of a statement that it can give its parameters' types, and its columns with formats and without.
+-- A parser: which statements it can give; the statement that it makes of a client's query and the parameter types that
+-- were given, where None is an empty statement; and the parameter types of a statement that it can give, and its
+-- columns with formats and without.
 pub record ParserTold (S : Type 0) : Type 0 where
   pub gives : S → Bool
   pub parse : ClientInfo → List ℕ → List (Option PgType) → Result (Option S) PgWireError
   pub parameter_types : S → Result (List PgType) PgWireError
   pub columns : S → Option Format → Result (List Field) PgWireError
 
--- what a query answered with rows: its tag, its columns, and the items to come
+-- a response with rows: its tag, its columns, and the items to come
 pub record ToldRows : Type 0 where
   pub command_tag : List ℕ
   pub fields : List Field

@@ -12,13 +12,13 @@ use std::marker::Model;
 /// The phase of a conversation.
 #[derive(Clone, Copy, Debug, PartialEq, Eq)]
 pub enum PgWireConnectionState {
-    /// The startup packet is to come.
+    /// The startup packet is awaited.
     AwaitingStartup,
-    /// A message is taken.
+    /// The session is ready for a query.
     ReadyForQuery,
     /// After an error messages are dropped up to the next Sync.
     AwaitingSync,
-    /// Data of a COPY is taken; true exactly where the COPY is of an extended query.
+    /// Data of a COPY is awaited. True exactly where an Execute began the COPY.
     CopyInProgress(bool),
 }
 
@@ -51,14 +51,14 @@ impl Metadata {
         }
     }
 
-    /// The parameters of a map, which is kept where it is.
+    /// The parameters of a map, which isn't copied.
     pub fn from_map(parameters: BTreeMap<PgStr, PgStr>) -> Metadata
         ensures { result ≡ fin.from_entries parameters.entries }
     {
         Metadata { parameters }
     }
 
-    /// The parameters as a map, which is kept where it is.
+    /// The parameters as a map, which isn't copied.
     pub fn into_map(self) -> BTreeMap<PgStr, PgStr>
         ensures { fin.from_entries result.entries ≡ self }
     {
@@ -96,13 +96,13 @@ impl Metadata {
 pub struct ClientInfo {
     /// The session's process number.
     pub pid: i32,
-    /// The session's secret, with which a query of it is canceled: as the client was told it.
+    /// The session's secret, which cancels its query. It is as long as the client received it.
     pub secret_key: SecretKey,
     /// The version of the protocol that the client asked for.
     pub protocol: ProtocolVersion,
     /// The startup parameters, with their names in lower case.
     pub metadata: Metadata,
-    /// Where the session stands as to transactions.
+    /// The session's transaction status.
     pub status: TransactionStatus,
     /// The phase of the conversation.
     pub state: PgWireConnectionState,

@@ -1,4 +1,4 @@
-//! Answers that begin a COPY, and the data that the server sends in one.
+//! Responses that begin a COPY, and the data that the server sends in one.
 
 ghost use Rattle.std.specs.Prelude.{◌≡◌, ◌≤◌, List, Ok, true, IfOk, IfSome};
 ghost use Rattle.pg_results.specs.Copying.{CopyItem, IsNextCopied, IsNextCopy, IsSendableCopy, IsSendableData, trailer};
@@ -14,18 +14,18 @@ pub trait CopySource: Drop {
     // the items to come
     ghost items: { Self → List CopyItem };
 
-    /// The next item, or None exactly at the end. Each can be sent as a reply, and no error in the
-    /// place of data is one that the session itself tells: `NoMemory`, `QueryCanceled`,
-    /// `NotReadyForQuery`, `PortalNotStarted`. After an AllocError all items are still to come.
+    /// The next item, or None exactly at the end. Each can be sent as a reply, and an error in the
+    /// place of data is none of the session's own: `NoMemory`, `QueryCanceled`, `NotReadyForQuery`,
+    /// `PortalNotStarted`. After an AllocError all items are still to come.
     fn next(&mut self) -> Result<Option<Result<CopyData, PgWireError>>, AllocError>
         ensures next { IsNextCopy (items self.old) result (items self.new) }
         ensures sendable { IfOk result (λ found. IfSome found IsSendableCopy) };
 
-    /// Writes the next item over data that are lent, where the item is data that are made in a
-    /// short way: in their memory, and without the room that an error in their place would take.
-    /// False takes nothing and says nothing of the items: `next` tells them. After an AllocError
-    /// all items are still to come. What the lent data were is nothing to what is written; unless
-    /// the answer is true, nothing is said of what they are then.
+    /// A faster `next`, for a source that can write its data into a buffer. It needs no new memory
+    /// for the data, and no room for an error in their place. True: the next item is data, and
+    /// `_copied` holds it, whatever it held before. False takes no item and says nothing about the
+    /// items: `next` gives the next one. After an AllocError all items are still to come. Unless
+    /// the result is true, nothing is known of what `_copied` holds.
     #[inline(always)]
     fn next_copied(&mut self, _copied: &mut CopyData) -> Result<bool, AllocError>
         ensures next { IsNextCopied (items self.old) result _copied.new (items self.new) }
@@ -98,7 +98,7 @@ impl<C: CopySource> CopyResponse<C> {
     ghost use Rattle.pg_results.specs.Copying.{formats, has_trailer};
     ghost use Rattle.pg_results.specs.contracts.copy.CopyResponse.{the_row};
 
-    /// A COPY of so many columns in a format, with these data. In the binary format, 1, a trailer
+    /// A COPY of `columns` columns in a format, with these data. In the binary format, 1, a trailer
     /// follows them.
     pub fn new(format: i8, columns: usize, data_stream: C) -> CopyResponse<C>
         requires { columns ≤ 32767 }
@@ -115,7 +115,7 @@ impl<C: CopySource> CopyResponse<C> {
         }
     }
 
-    /// The data to come, lent.
+    /// The data to come, borrowed mutably.
     pub fn data_stream(&mut self) -> &mut C
         ensures* writes_back { sem 𝓛 (Lends (the_row C.row) C.row self.entry result
             (λ w. record self.old { data_stream = w })) }
@@ -124,7 +124,7 @@ impl<C: CopySource> CopyResponse<C> {
         &mut self.data_stream
     }
 
-    /// The format of each column, which is the COPY's.
+    /// The format of each column, which is that of the whole COPY.
     pub fn column_formats(&self, alloc: Global) -> Result<PgList<i16>, AllocError>
         ensures { IfOk result (λ codes. codes ≡ formats self.now.format self.now.columns) }
     {

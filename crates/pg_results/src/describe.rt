@@ -1,4 +1,4 @@
-//! What is told of a statement or a portal that is described.
+//! Descriptions of statements and portals.
 
 ghost use Rattle.std.specs.Prelude.{◌≡◌, List, Option, IsTrue, ◌↔◌, [], Some, None};
 ghost use Rattle.std.specs.Option.{option_copied};
@@ -9,7 +9,7 @@ use pg_messages::PgList;
 use pg_types::PgType;
 use std::alloc::Global;
 
-/// What is told of a statement or a portal.
+/// A description of a statement or a portal.
 pub trait DescribeResponse: Sized {
     ghost use Rattle.std.specs.Prelude.{Bool};
     ghost use Rattle.pg_results.specs.Describing.{Described};

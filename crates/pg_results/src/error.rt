@@ -16,19 +16,19 @@ pub enum PgWireError {
     StatementNotFound(PgStr),
     /// No portal stands under this name.
     PortalNotFound(PgStr),
-    /// A Describe names neither a statement nor a portal but this byte.
+    /// The target of a Describe is neither a statement nor a portal but this byte.
     InvalidTargetType(u8),
     /// The query was canceled.
     QueryCanceled,
-    /// The error that a handler or a parser tells.
+    /// The error of a handler or a parser.
     UserError(ErrorInfo),
-    /// A query came before the session awaited one.
+    /// A query came while the session wasn't ready for one.
     NotReadyForQuery,
-    /// The text of an option, as it was given, is none of its values.
+    /// This text of an option is none of the option's values.
     InvalidOptionValue(PgStr),
     /// A portal was fetched before it was started.
     PortalNotStarted,
-    /// A parameter of the type of this name isn't read as the value that was asked for.
+    /// A parameter's type, which has this name, can't be read as the value that was asked for.
     InvalidRustTypeForParameter(PgStr),
     /// There is no parameter, or no format of one, at this index.
     ParameterIndexOutOfBound(usize),
@@ -50,8 +50,8 @@ impl From<AllocError> for PgWireError {
 }
 
 impl PgWireError {
-    /// What a client is told of the error: its severity, its code and its message. Want of memory
-    /// has no text, so `NoMemory` is always an error here.
+    /// What a client is told of the error: its severity, its code and its message. `NoMemory` has
+    /// no text, so it is always an error here.
     pub fn into_info(self, alloc: Global) -> Result<ErrorInfo, AllocError>
         ensures info { IfOk result (λ info. info ≡ info_of self) }
         ensures untold { self ≡ PgWireError.NoMemory → IsErr result }
@@ -90,7 +90,7 @@ impl PgWireError {
     }
 }
 
-/// What is told where no statement stands under a name.
+/// What a client is told where no statement has the name.
 fn statement_not_found(alloc: Global, name: &str) -> Result<ErrorInfo, AllocError>
     ensures { IfOk result (λ info. info ≡ info_of (PgWireError.StatementNotFound name.now)) }
 {
@@ -103,14 +103,14 @@ fn statement_not_found(alloc: Global, name: &str) -> Result<ErrorInfo, AllocErro
     )
 }
 
-/// What is told where no portal stands under a name.
+/// What a client is told where no portal has the name.
 fn portal_not_found(alloc: Global, name: &str) -> Result<ErrorInfo, AllocError>
     ensures { IfOk result (λ info. info ≡ info_of (PgWireError.PortalNotFound name.now)) }
 {
     error_of_parts(alloc, "34000", "portal \"", name, "\" does not exist")
 }
 
-/// What is told of a byte that names nothing to describe.
+/// What a client is told about a byte that is no target of a Describe.
 fn invalid_target_type(alloc: Global, byte: u8) -> Result<ErrorInfo, AllocError>
     ensures { IfOk result (λ info. info ≡ info_of (PgWireError.InvalidTargetType byte)) }
 {
@@ -124,7 +124,7 @@ fn invalid_target_type(alloc: Global, byte: u8) -> Result<ErrorInfo, AllocError>
     )
 }
 
-/// What is told of a canceled query.
+/// What a client is told about a canceled query.
 fn query_canceled(alloc: Global) -> Result<ErrorInfo, AllocError>
     ensures { IfOk result (λ info. info ≡ info_of PgWireError.QueryCanceled) }
 {
@@ -137,14 +137,15 @@ fn query_canceled(alloc: Global) -> Result<ErrorInfo, AllocError>
     )
 }
 
-/// What is told of an option's text that is none of its values.
+/// What a client is told about an option's text that is none of its values.
 fn invalid_option_value(alloc: Global, value: &str) -> Result<ErrorInfo, AllocError>
     ensures { IfOk result (λ info. info ≡ info_of (PgWireError.InvalidOptionValue value.now)) }
 {
     error_of_parts(alloc, "22023", "invalid option value \"", value, "\"")
 }
 
-/// What is told of a type, by its name, that isn't read as the value that was asked for.
+/// What a client is told about a type, by its name, that can't be read as the value that was asked
+/// for.
 fn invalid_rust_type(alloc: Global, name: &str) -> Result<ErrorInfo, AllocError>
     ensures { IfOk result (λ info. info
         ≡ info_of (PgWireError.InvalidRustTypeForParameter name.now)) }
@@ -158,7 +159,7 @@ fn invalid_rust_type(alloc: Global, name: &str) -> Result<ErrorInfo, AllocError>
     )
 }
 
-/// What is told of an index that has no parameter.
+/// What a client is told about an index that has no parameter.
 fn index_out_of_bound(alloc: Global, index: usize) -> Result<ErrorInfo, AllocError>
     ensures { IfOk result (λ info. info ≡ info_of (PgWireError.ParameterIndexOutOfBound index)) }
 {
@@ -172,7 +173,8 @@ fn index_out_of_bound(alloc: Global, index: usize) -> Result<ErrorInfo, AllocErr
     )
 }
 
-/// An error of severity ERROR with a code: its message is a text between two others.
+/// An error of severity ERROR with a code. Its message is `before`, `text` and `after`, one after
+/// another.
 pub fn error_of_parts(
     alloc: Global,
     code: &str,

@@ -150,7 +150,7 @@ impl FieldInfo {
         field
     }
 
-    /// What a client is told of the column. An absent table or column is 0.
+    /// The column as RowDescription describes it. An absent table or column is 0.
     pub fn to_description(&self, alloc: Global) -> Result<FieldDescription, AllocError>
         ensures { IfOk result (λ told. told ≡ description_of self.now) }
     {
@@ -165,7 +165,8 @@ impl FieldInfo {
         })
     }
 
-    /// The column that was told, with the default options. A type that isn't known is `unknown`.
+    /// The column of a description, with the default options. An oid that isn't known is the type
+    /// `unknown`.
     pub fn from_description(alloc: Global, value: FieldDescription) -> Result<FieldInfo, AllocError>
         ensures { IfOk result (λ field. field ≡ described_field value) }
     {

@@ -37,7 +37,7 @@ impl From<i16> for Format {
 
 impl Format {
     /// The formats of a Bind's codes: none is text, one is for all, several are one for each. The
-    /// only error is want of memory.
+    /// only error is running out of memory.
     pub fn from_codes(alloc: Global, codes: &[i16]) -> Result<Format, AllocError>
         ensures { IfOk result (λ format. format ≡ format_of codes.now) }
     {
@@ -48,8 +48,8 @@ impl Format {
         }
     }
 
-    /// The format of the value at an index, or None exactly where it is past individual codes. No
-    /// memory is taken.
+    /// The format of the value at an index, or None exactly where the index is past the individual
+    /// codes. It takes no memory.
     pub fn format_for(&self, idx: usize) -> Option<FieldFormat>
         ensures { result ≡ format_for self.now idx }
     {
@@ -63,7 +63,8 @@ impl Format {
         }
     }
 
-    /// Whether the value at an index is text, or None exactly where it is past individual codes.
+    /// Whether the value at an index is text, or None exactly where the index is past the
+    /// individual codes.
     pub fn is_text(&self, idx: usize) -> Option<bool>
         ensures { result ≡ option_map is_text (format_for self.now idx) }
     {
@@ -73,7 +74,8 @@ impl Format {
         }
     }
 
-    /// Whether the value at an index is binary, or None exactly where it is past individual codes.
+    /// Whether the value at an index is binary, or None exactly where the index is past the
+    /// individual codes.
     pub fn is_binary(&self, idx: usize) -> Option<bool>
         ensures { result ≡ option_map is_binary (format_for self.now idx) }
     {

@@ -1,4 +1,4 @@
-//! Rows, and data of a COPY, that are made at their turn.
+//! Rows, and data of a COPY, that are made when they are asked for.
 
 ghost use Rattle.std.specs.Prelude.{◌≡◌, ◌<◌, List, Some, Ok, true, IfOk, IfSome, length, drop, slice_get};
 ghost use Rattle.pg_results.specs.Making.{position_after};
@@ -11,8 +11,8 @@ use crate::rows::RowSource;
 use pg_messages::{CopyData, DataRow};
 use std::alloc::AllocError;
 
-/// What makes rows one at a time, each by its index: finitely many items, each a row or an error in
-/// its place.
+/// Makes rows one at a time, each by its index: finitely many items, each a row or an error in its
+/// place.
 pub trait RowMaker: Drop {
     // the items, in their order
     ghost items: { Self → List RowItem };
@@ -21,18 +21,18 @@ pub trait RowMaker: Drop {
     fn rows(&self) -> usize
         ensures { result ≡ length (items self.now) };
 
-    /// The item at an index, made anew. It can be sent as a reply, and no error in the place of a
-    /// row is one that the session itself tells: `NoMemory`, `QueryCanceled`, `NotReadyForQuery`,
+    /// Makes the item at an index. It can be sent as a reply, and an error in the place of a row is
+    /// none of the session's own: `NoMemory`, `QueryCanceled`, `NotReadyForQuery`,
     /// `PortalNotStarted`.
     fn make(&self, index: usize) -> Result<Result<DataRow, PgWireError>, AllocError>
         requires { index < length (items self.now) }
         ensures item { IfOk result (λ item. slice_get (items self.now) index ≡ Some item) }
         ensures sendable { IfOk result IsSendable };
 
-    /// Writes the row at an index over one that is lent, in a short way: in the memory of that row,
-    /// and without the room that an error in its place would take. False says nothing of the item:
-    /// `make` tells it. What the lent row was is nothing to what is written; unless the answer is
-    /// true, nothing is said of what it is then.
+    /// A faster `make`, for a maker that can write its row into a buffer. It needs no new memory
+    /// for the row, and no room for an error in its place. True: the item is a row, and `_row`
+    /// holds it, whatever it held before. False says nothing about the item: `make` gives it.
+    /// Unless the result is true, nothing is known of what `_row` holds.
     #[inline(always)]
     fn make_row(&self, _index: usize, _row: &mut DataRow) -> Result<bool, AllocError>
         requires { _index < length (items self.now) }
@@ -44,7 +44,7 @@ pub trait RowMaker: Drop {
     }
 }
 
-/// What makes data of a COPY one at a time, each by its index: finitely many items, each data or an
+/// Makes data of a COPY one at a time, each by its index: finitely many items, each data or an
 /// error in its place.
 pub trait CopyMaker: Drop {
     // the items, in their order
@@ -54,18 +54,18 @@ pub trait CopyMaker: Drop {
     fn data_len(&self) -> usize
         ensures { result ≡ length (items self.now) };
 
-    /// The item at an index, made anew. It can be sent as a reply, and no error in the place of
-    /// data is one that the session itself tells: `NoMemory`, `QueryCanceled`, `NotReadyForQuery`,
+    /// Makes the item at an index. It can be sent as a reply, and an error in the place of data is
+    /// none of the session's own: `NoMemory`, `QueryCanceled`, `NotReadyForQuery`,
     /// `PortalNotStarted`.
     fn make_data(&self, index: usize) -> Result<Result<CopyData, PgWireError>, AllocError>
         requires { index < length (items self.now) }
         ensures item { IfOk result (λ item. slice_get (items self.now) index ≡ Some item) }
         ensures sendable { IfOk result IsSendableCopy };
 
-    /// Writes the data at an index over data that are lent, in a short way: in their memory, and
-    /// without the room that an error in their place would take. False says nothing of the item:
-    /// `make_data` tells it. What the lent data were is nothing to what is written; unless the
-    /// answer is true, nothing is said of what they are then.
+    /// A faster `make_data`, for a maker that can write its data into a buffer. It needs no new
+    /// memory for the data, and no room for an error in their place. True: the item is data, and
+    /// `_copied` holds it, whatever it held before. False says nothing about the item: `make_data`
+    /// gives it. Unless the result is true, nothing is known of what `_copied` holds.
     #[inline(always)]
     fn make_copied(&self, _index: usize, _copied: &mut CopyData) -> Result<bool, AllocError>
         requires { _index < length (items self.now) }
@@ -80,7 +80,7 @@ pub trait CopyMaker: Drop {
 /// The items of a maker from a position on, each made when it is asked for. No item is kept.
 #[derive(Drop)]
 pub struct OnDemand<M> {
-    /// What makes the items.
+    /// The maker of the items.
     pub maker: M,
     /// The index of the next item; past the last one there is none.
     pub position: usize,
@@ -99,8 +99,8 @@ impl<M: RowMaker> OnDemand<M> {
 impl<M: RowMaker> RowSource for OnDemand<M> {
     ghost items = { λ source. drop source.position (M.items source.maker) };
 
-    /// One item is made, and the position moves by one. It stays at the end, and after want of
-    /// memory.
+    /// Makes one item, and moves the position by one. At the end, and after an AllocError, the
+    /// position stays.
     #[inline(always)]
     fn next(&mut self) -> Result<Option<Result<DataRow, PgWireError>>, AllocError>
         ensures next { IsNext (drop self.old.position (M.items self.old.maker)) result
@@ -127,8 +127,8 @@ impl<M: RowMaker> RowSource for OnDemand<M> {
         }
     }
 
-    /// The row that the maker makes in the short way, and the position moves by one. It stays where
-    /// none is made.
+    /// The row that the maker writes with `make_row`. The position moves by one, and stays where no
+    /// row is written.
     #[inline(always)]
     fn next_row(&mut self, row: &mut DataRow) -> Result<bool, AllocError> {
         if self.position >= self.maker.rows() {
@@ -145,8 +145,8 @@ impl<M: RowMaker> RowSource for OnDemand<M> {
 impl<M: CopyMaker> CopySource for OnDemand<M> {
     ghost items = { λ source. drop source.position (M.items source.maker) };
 
-    /// One item is made, and the position moves by one. It stays at the end, and after want of
-    /// memory.
+    /// Makes one item, and moves the position by one. At the end, and after an AllocError, the
+    /// position stays.
     fn next(&mut self) -> Result<Option<Result<CopyData, PgWireError>>, AllocError>
         ensures next { IsNextCopy (drop self.old.position (M.items self.old.maker)) result
             (drop self.new.position (M.items self.new.maker)) }
@@ -171,8 +171,8 @@ impl<M: CopyMaker> CopySource for OnDemand<M> {
         }
     }
 
-    /// The data that the maker makes in the short way, and the position moves by one. It stays
-    /// where none are made.
+    /// The data that the maker writes with `make_copied`. The position moves by one, and stays
+    /// where none are written.
     #[inline(always)]
     fn next_copied(&mut self, copied: &mut CopyData) -> Result<bool, AllocError> {
         if self.position >= self.maker.data_len() {

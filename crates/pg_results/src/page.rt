@@ -1,4 +1,4 @@
-//! A page of rows, and who receives it.
+//! A page of rows, and the receiver of its rows.
 
 ghost use Rattle.std.specs.Prelude.{◌≡◌, ◌++◌, [], ◌∷◌, List, Ok, true, false, pos, length, map, IfOk, IfErr, OnOk, OnErr};
 ghost use Rattle.std.proofs.Common.{append-nil, append_assoc};
@@ -13,18 +13,20 @@ use crate::rows::RowSource;
 use pg_messages::{DataRow, PgBytes, PgList};
 use std::alloc::{AllocError, Global};
 
-/// Who receives rows one by one.
+/// Receives rows one by one.
 pub trait RowReceiver {
-    // it, with these rows behind what it has received
+    // the receiver after these rows too
     ghost with_rows: { Self → List DataRow → Self };
 
-    /// Receives the next row, which can be sent as a reply. After an error it is as it was.
+    /// Receives the next row, which can be sent as a reply. After an error the receiver is as it
+    /// was.
     fn receive(&mut self, alloc: Global, row: &DataRow) -> Result<(), AllocError>
         requires { IsEncodable (server.DataRow row.now) }
         ensures ok { OnOk result (self.new ≡ with_rows self.old (row.now ∷ [])) }
         ensures err { OnErr result (self.new ≡ self.old) };
 
-    // no rows leave it as it is, and rows behind rows are all of them
+    // Receiving no rows leaves it as it is. Receiving rows, and then more, is receiving all of
+    // them.
     ghost none: { (receiver : Self) → with_rows receiver [] ≡ receiver };
 
     ghost more: { (receiver : Self) (rows behind : List DataRow)
@@ -51,14 +53,14 @@ impl RowReceiver for PgList<DataRow> {
 /// How a page ended.
 #[derive(Clone, Copy)]
 pub struct DeliveredPage {
-    /// Whether it ended at its limit, and else at the end of the rows.
+    /// Whether it ended at its limit. Else it ended at the end of the rows.
     pub suspended: bool,
     /// How many rows were delivered since the portal was started, with those of this page. The
-    /// number stands still at the greatest u64.
+    /// number saturates at the greatest u64.
     pub delivered: u64,
 }
 
-/// Whether a page of so many rows has reached its limit. A limit below 1 is never reached.
+/// Whether a page of `rows` rows has reached its limit. A limit below 1 is never reached.
 #[inline(always)]
 fn is_reached(max_rows: i32, rows: usize) -> bool
     ensures { result ≡ is_reached max_rows rows }
@@ -66,8 +68,8 @@ fn is_reached(max_rows: i32, rows: usize) -> bool
     max_rows >= 1 && max_rows.cast_unsigned() as usize <= rows
 }
 
-/// How many rows were delivered since a portal was started: so many before a page, and those of it.
-/// The number stands still at the greatest u64.
+/// How many rows were delivered since a portal was started: `before` of them before a page, and
+/// `rows` in it. The number saturates at the greatest u64.
 #[inline(always)]
 fn delivered_after(before: u64, rows: usize) -> u64
     ensures { result ≡ delivered_after before rows }
@@ -75,14 +77,13 @@ fn delivered_after(before: u64, rows: usize) -> u64
     before.saturating_add(rows as u64)
 }
 
-/// Delivers the next page of rows to a receiver: at most so many rows, and below 1 all of them. So
-/// many rows were delivered before. It is suspended where the limit was reached, also where the
-/// last row reached it, and else complete.
+/// Delivers the next page of rows to a receiver: at most `max_rows` rows, or all that are left
+/// where `max_rows` is below 1. `delivered` rows were delivered before. The page is suspended where
+/// the limit was reached, even by the last row. Else it is complete.
 ///
-/// The error of an item is answered: the receiver has the rows before it, and the item is gone.
-/// After `NoMemory` the receiver has the rows so far, and of those that are gone at most the last
-/// is lost. No row is taken ahead. The rows of a page that are made in the short way share their
-/// memory.
+/// An error in the place of a row is returned and consumed, and the receiver has the rows before
+/// it. After `NoMemory` the receiver has the rows so far, and at most one row that was taken is
+/// lost. No row is taken ahead. The rows of a page that `next_row` writes share one buffer.
 pub fn deliver_page<R: RowSource, T: RowReceiver>(
     alloc: Global,
     rows: &mut R,
@@ -110,7 +111,7 @@ pub fn deliver_page<R: RowSource, T: RowReceiver>(
     deliver_through(alloc, rows, receiver, &mut row, delivered, max_rows)
 }
 
-/// The next page, as `deliver_page`, whose rows are lent this one.
+/// Delivers the next page, as `deliver_page` does. `lent` is the buffer for `next_row`.
 #[inline(always)]
 fn deliver_through<R: RowSource, T: RowReceiver>(
     alloc: Global,
@@ -133,10 +134,11 @@ fn deliver_through<R: RowSource, T: RowReceiver>(
         × (receiver.new ≡ T.with_rows receiver.old received)) }
     ensures own { IfErr result IsAnswerableItem }
 {
-    // No list is so long that the count stands still; a receiver that counts rows alone may see it.
+    // No receiver that keeps its rows gets so many that the count saturates. One that only counts
+    // them may.
     let mut count = 0;
     while !is_reached(max_rows, count) {
-        // Most rows come in the short way.
+        // Most sources write their rows into the lent buffer.
         if rows.next_row(lent)? {
             receiver.receive(alloc, lent)?;
             count = count.saturating_add(1);
@@ -156,8 +158,8 @@ fn deliver_through<R: RowSource, T: RowReceiver>(
     })
 }
 
-/// Delivers the next item, which doesn't come in the short way, where it is a row, and answers
-/// whether there was an item. Where it is an error, that is answered.
+/// Delivers the next item, which `next_row` didn't write, where it is a row, and returns whether
+/// there was an item. An error in the place of a row is returned.
 #[cold]
 #[inline(never)]
 fn deliver_next<R: RowSource, T: RowReceiver>(

@@ -16,7 +16,7 @@ use std::sync::Arc;
 /// Rows that a query gives.
 #[derive(Drop)]
 pub struct QueryResponse<R> {
-    /// The command of their tag, as `SELECT`.
+    /// The command of their tag, such as `SELECT`.
     pub command_tag: PgStr,
     /// Their columns.
     pub row_schema: Arc<PgList<FieldInfo>>,
@@ -65,7 +65,7 @@ impl<R: RowSource> QueryResponse<R> {
         self.row_schema.clone()
     }
 
-    /// The rows to come, lent.
+    /// The rows to come, borrowed mutably.
     pub fn data_rows(&mut self) -> &mut R
         ensures* writes_back { sem 𝓛 (Lends (the_row R.row) R.row self.entry result
             (λ w. record self.old { data_rows = w })) }
@@ -75,7 +75,7 @@ impl<R: RowSource> QueryResponse<R> {
     }
 }
 
-/// What a query answers.
+/// A response to a query.
 #[derive(Drop)]
 pub enum Response<R, C> {
     /// The query was empty.

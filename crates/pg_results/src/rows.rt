@@ -14,18 +14,18 @@ pub trait RowSource: Drop {
     // the items to come
     ghost items: { Self → List RowItem };
 
-    /// The next item, or None exactly at the end. Each can be sent as a reply, and no error in the
-    /// place of a row is one that the session itself tells: `NoMemory`, `QueryCanceled`,
+    /// The next item, or None exactly at the end. Each can be sent as a reply, and an error in the
+    /// place of a row is none of the session's own: `NoMemory`, `QueryCanceled`,
     /// `NotReadyForQuery`, `PortalNotStarted`. After an AllocError all items are still to come.
     fn next(&mut self) -> Result<Option<Result<DataRow, PgWireError>>, AllocError>
         ensures next { IsNext (items self.old) result (items self.new) }
         ensures sendable { IfOk result (λ found. IfSome found IsSendable) };
 
-    /// Writes the next item over a row that is lent, where the item is a row that is made in a
-    /// short way: in the memory of that row, and without the room that an error in its place would
-    /// take. False takes nothing and says nothing of the items: `next` tells them. After an
-    /// AllocError all items are still to come. What the lent row was is nothing to what is written;
-    /// unless the answer is true, nothing is said of what it is then.
+    /// A faster `next`, for a source that can write its row into a buffer. It needs no new memory
+    /// for the row, and no room for an error in its place. True: the next item is a row, and `_row`
+    /// holds it, whatever it held before. False takes no item and says nothing about the items:
+    /// `next` gives the next one. After an AllocError all items are still to come. Unless the
+    /// result is true, nothing is known of what `_row` holds.
     #[inline(always)]
     fn next_row(&mut self, _row: &mut DataRow) -> Result<bool, AllocError>
         ensures next { IsNextRow (items self.old) result _row.new (items self.new) }

@@ -22,16 +22,17 @@ use pg_types::PgType;
 use std::alloc::{AllocError, Global};
 use std::sync::Arc;
 
-/// What the queries of clients mean.
+/// Parses the queries of clients.
 pub trait QueryParser {
     /// What a query means.
     type Statement: Drop;
 
-    // what it answers
+    // what each call returns
     ghost told: { Self → ParserTold Self.Statement };
 
     /// The statement of a query, whose parameters' types are given as far as the client knows them.
-    /// None is an empty statement.
+    /// None is an empty statement. The errors are the parser's own, which the client is told, and
+    /// `NoMemory`.
     fn parse_sql(
         &self,
         alloc: Global,
@@ -46,7 +47,8 @@ pub trait QueryParser {
             (λ s. IsTrue ((told self.now).gives s))) }
         ensures answerable { IfErr result IsAnswerable };
 
-    /// The types of a statement's parameters, as the server knows them.
+    /// The types of a statement's parameters, as the server knows them. The errors are as in
+    /// `parse_sql`.
     fn get_parameter_types(
         &self,
         alloc: Global,
@@ -56,8 +58,8 @@ pub trait QueryParser {
         ensures outcome { IsOutcome ((told self.now).parameter_types stmt.now) result }
         ensures answerable { IfErr result IsAnswerable };
 
-    /// The columns of a statement's rows, in these formats or in none yet. They can be sent as a
-    /// reply.
+    /// The columns of a statement's rows, in these formats, or without formats. They can be sent as
+    /// a reply. The errors are as in `parse_sql`.
     fn get_result_schema(
         &self,
         alloc: Global,
@@ -182,9 +184,10 @@ impl<S: Drop> StoredStatement<S> {
         }
     }
 
-    /// The statement of a Parse, under its name. None is an empty statement: of a query of
-    /// whitespace and semicolons alone, of which the parser isn't asked, and where the parser tells
-    /// None. A type that isn't known is left open. The errors are the parser's, and `NoMemory`.
+    /// The statement of a Parse, under its name. None is an empty statement. It comes where the
+    /// query is only whitespace and semicolons, and the parser isn't called then. It comes too
+    /// where the parser returns None. A type that isn't known is left open. The errors are the
+    /// parser's, and `NoMemory`.
     pub fn parse<Q: QueryParser<Statement = S>>(
         alloc: Global,
         client: &ClientInfo,
@@ -221,15 +224,15 @@ pub fn is_blank(query: &str) -> bool
     query.as_bytes().iter().all(|byte| is_padding(*byte))
 }
 
-/// Whether a byte counts for nothing round a query: whitespace, which is the bytes 09 to 0D and 20,
-/// or a semicolon.
+/// Whether a byte is ignored around a query: whitespace, which is the bytes 09 to 0D and 20, or a
+/// semicolon.
 pub fn is_padding(byte: u8) -> bool
     ensures { result ≡ is_padding byte }
 {
     matches!(byte, 9..=13 | b' ' | b';')
 }
 
-/// The types of these numbers, None where there is no such type.
+/// The types with these oids, None where there is no such type.
 fn types_of(alloc: Global, oids: &[u32]) -> Result<PgList<Option<PgType>>, AllocError>
     ensures { IfOk result (λ types. types ≡ map type_of_oid oids.now) }
 {

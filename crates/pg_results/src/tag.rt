@@ -7,7 +7,7 @@ use itoa::Buffer;
 use pg_messages::{CommandComplete, PgStr};
 use std::alloc::{AllocError, Global};
 
-/// The tag of a command: its name, and as the command has them an oid and a number of rows.
+/// The tag of a command: its name, and for some commands an oid and a number of rows.
 #[derive(Debug, Drop, PartialEq, Eq)]
 pub struct Tag {
     command: PgStr,
@@ -16,7 +16,7 @@ pub struct Tag {
 }
 
 impl Tag {
-    /// The tag of a command alone.
+    /// The tag of a command, without an oid and a number of rows.
     pub fn new(alloc: Global, command: &str) -> Result<Tag, AllocError>
         ensures { IfOk result (λ tag. tag ≡ tag_of command.now) }
     {
@@ -36,7 +36,7 @@ impl Tag {
         tag
     }
 
-    /// The tag with this oid, which is told only before a number of rows.
+    /// The tag with this oid, which is sent only before a number of rows.
     pub fn with_oid(self, oid: u32) -> Tag
         ensures { result ≡ tag_with_oid oid self }
     {
@@ -75,8 +75,8 @@ impl Tag {
     }
 }
 
-/// A copy of a command's name, with room behind it for what both numbers take: a space and at most
-/// ten digits, a space and at most twenty.
+/// A copy of a command's name, with room for both numbers after it: a space and at most ten digits,
+/// a space and at most twenty.
 fn with_room(alloc: Global, command: &str) -> Result<PgStr, AllocError>
     ensures { IfOk result (λ copy. copy ≡ command.now) }
 {

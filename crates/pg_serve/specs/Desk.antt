@@ -38,7 +38,7 @@ desk_calls entries = flat_map (λ e. desk_call e.call e.answer) entries
 abbrev pub registration_of : Connection → ℤ × List ℕ
 registration_of h = (h.pid, h.key)
 
--- what the desk over a connection tells, under the name of the reference that it was lent
+-- the desk over a connection, with the name of the reference that it was lent
 abbrev pub desk_over : ℕ → Connection → DeskTold
 desk_over name h =
     record { registration = registration_of h; calls = desk_calls h.mine; origin = origin_of name h.number h.issuer }
@@ -47,12 +47,13 @@ desk_over name h =
 abbrev pub desk_of : Connection → DeskTold
 desk_of h = desk_over 0 h
 
--- What stands round a client at a socket: no bytes are told, but the counts of the handles that are read and written, and the connection.
+-- What surrounds a client at a socket: no bytes are known, only the counts of the handles that are read and written,
+-- and the connection.
 abbrev pub around_socket : MaybeTls → MaybeTls → Connection → Around
 around_socket reader writer h =
     around (λ _. None) reads_of faults_of (λ _. []) (λ _. None) faults_of (λ _. []) desk_of reader writer h
 
--- The connection is the same one, behind the calls of a session: its key is narrowed where one of them is Narrow.
+-- The connection is the same one, after the calls of a session: its key is narrowed where one of them is Narrow.
 pub record ConnectionGoesOn (old new : Connection) : Type 0 where
   pub issuer : new.issuer ≡ old.issuer
   pub number : new.number ≡ old.number
@@ -60,8 +61,8 @@ pub record ConnectionGoesOn (old new : Connection) : Type 0 where
   pub grown : desk_calls new.mine ≡ desk_calls old.mine ++ calls
   pub registration : registration_of new ≡ narrowed (registration_of old) calls
 
--- The connection stays usable behind the calls of a session: it is the same one, and what it has seen of the one history goes on, is legal,
--- and has just its own calls under its number.
+-- The connection stays usable after the calls of a session. It is the same one. What it has seen of the one history has
+-- only grown, is legal, and has exactly its own calls under its number.
 pub record StaysUsable (old new : Connection) : Type 0 where
   pub same : ConnectionGoesOn old new
   pub seen : IsPrefix old.seen new.seen

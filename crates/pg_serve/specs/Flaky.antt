@@ -1,4 +1,4 @@
--- A desk over a script that finds no memory as it is told.
+-- A desk over a script, which fails the calls that it is told to fail.
 use Rattle.std.specs.Prelude.{ℕ, Bool, List, ◌≡◌, ◌==◌, Result, IsErr, IsTrue}
 use Rattle.std.specs.List.{list_any}
 use Rattle.pg_client.specs.Script.{Script}
@@ -14,12 +14,13 @@ pub record Flaky : Type 0 where
 abbrev pub is_next_refused : Flaky → Bool
 is_next_refused d = list_any (λ call. call == d.made) d.fails
 
--- a call was counted, and it has changed nothing of which calls fail
+-- a call was counted, and the calls that fail are as before
 pub record IsNextCall (old new : Flaky) : Type 0 where
   pub fails : new.fails ≡ old.fails
   pub made : new.made ≡ raised old.made
 
--- a call was counted, and one that is told to fail fails and changes nothing of what was called or is to be answered
+-- A call was counted. One that is told to fail does fail, and changes neither the calls that were answered nor the
+-- answers to come.
 pub record IsFlakyCall {T E : Type 0} (old new : Flaky) (result : Result T E) : Type 0 where
   pub next : IsNextCall old new
   pub refused : IsTrue (is_next_refused old) → IsErr result

@@ -11,7 +11,7 @@ use std::sync::Wait;
 /// A desk over a connection's handle. Its calls are the handle's own, which wait for the registry's
 /// turn.
 pub struct HandleDesk<'a, R: Wait> {
-    /// Who may wait.
+    /// The runtime, which lets calls wait.
     pub runtime: &'a R,
     /// The registry.
     pub manager: &'a ConnectionManager,

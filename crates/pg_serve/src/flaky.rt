@@ -1,4 +1,4 @@
-//! A desk that answers from a list, and finds no memory at the calls that it is told.
+//! A desk that answers from a list, and fails the calls that it is told to fail.
 
 ghost use Rattle.std.specs.Prelude.{◌≡◌, [], ◌∷◌, drop, take, IfOk, OnOk, OnErr};
 ghost use Rattle.pg_client.specs.declared.desk.DeskCall.{DeskCall};
@@ -11,7 +11,7 @@ use pg_session::{CancelDesk, DeskCall, ScriptDesk};
 use std::alloc::{AllocError, Global};
 use std::marker::Model;
 
-/// A desk that answers from a list, as a `ScriptDesk` does, but for the calls that it is told to
+/// A desk that answers from a list, as a `ScriptDesk` does, but fails the calls that it is told to
 /// fail.
 #[derive(Drop)]
 pub struct FlakyDesk {
@@ -30,9 +30,9 @@ impl Model for FlakyDesk {
 
 impl FlakyDesk {
     /// A desk of this registration, with these answers to come. Its calls of `start`, `ask`,
-    /// `cancel` and `narrow` are numbered from 0 on, those that fail too; the calls whose numbers
-    /// are in `fails` answer `AllocError` and change nothing that was called or is to be answered.
-    /// It takes no memory.
+    /// `cancel` and `narrow` are numbered from 0, those that fail too. The calls whose numbers are
+    /// in `fails` return `AllocError`, and change neither the calls that were answered nor the
+    /// answers to come. It takes no memory.
     pub fn new(
         alloc: Global,
         pid: i32,
@@ -64,7 +64,7 @@ impl FlakyDesk {
         self.desk.calls()
     }
 
-    /// Counts a call, and tells whether it fails.
+    /// Counts a call, and returns whether it fails.
     fn is_refused(&mut self) -> bool
         ensures told { result ≡ is_next_refused self.old }
         ensures script { self.new.script ≡ self.old.script }

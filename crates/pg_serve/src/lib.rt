@@ -1,5 +1,6 @@
-//! One client at a socket, under the shared cancel registry: the desk over a handle of the registry,
-//! and the calls that serve a connection. It lends the names of the engine and of its streams.
+//! Serves one client at a socket, with the shared cancel registry: the desk over a handle of the
+//! registry, a desk that fails as it is told, and the calls that serve a connection. It re-exports
+//! the names of pg_engine and of pg_streams.
 #![tactic(auto)]
 
 mod desk;

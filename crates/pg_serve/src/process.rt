@@ -1,4 +1,4 @@
-//! A client at a socket is served.
+//! Serves a client at a socket.
 
 ghost use Rattle.std.specs.Prelude.{◌≡◌, None};
 ghost use Rattle.std.specs.Arc.{arc_value};
@@ -43,7 +43,7 @@ pub fn process_socket<
 ) -> Result<EndKind, ServeError>
     requires empty { St.maps store ≡ no_maps }
     requires issued { handle.old.issuer ≡ manager.now }
-    // A socket tells no bytes; the end and the calls are those of some run.
+    // The bytes of a socket aren't known. The end and the calls are those of some run.
     ensures went { WentByCalls (whole_rules (H.told (arc_value handlers)))
         (first_state handle.old.pid handle.old.key)
         handle.old.mine handle.new.mine result None None None None }
@@ -82,7 +82,7 @@ pub fn process_socket_unix<
 ) -> Result<EndKind, ServeError>
     requires empty { St.maps store ≡ no_maps }
     requires issued { handle.old.issuer ≡ manager.now }
-    // A socket tells no bytes; the end and the calls are those of some run.
+    // The bytes of a socket aren't known. The end and the calls are those of some run.
     ensures went { WentByCalls (whole_rules (H.told (arc_value handlers)))
         (first_state handle.old.pid handle.old.key)
         handle.old.mine handle.new.mine result None None None None }
@@ -100,7 +100,8 @@ pub fn process_socket_unix<
     )
 }
 
-/// Serves a client through its connection to the registry. What the connection has seen goes on.
+/// Serves a client through its connection to the registry. What the connection had seen stays the
+/// beginning of what it has seen.
 fn serve_handle<
     R: Wait,
     H: PgWireServerHandlers,

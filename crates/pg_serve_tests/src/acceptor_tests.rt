@@ -28,11 +28,11 @@ impl<'p> Clock for Pauses<'p> {
     }
 }
 
-/// The number of a call that is made.
+/// The number that stands for a call that doesn't fail.
 const MADE: i32 = 0;
 
-/// A listener whose calls, in their order, fail with these numbers of the system. Those past them
-/// are made.
+/// A listener whose calls, in their order, fail with these error numbers of the system. The calls
+/// after those don't fail.
 #[derive(Drop)]
 struct Failing<'f> {
     numbers: &'f [i32],
@@ -86,11 +86,11 @@ fn is_given(acceptor: &mut SocketAcceptor<Failing<'_>, Pauses<'_>>) -> bool
     }
 }
 
-/// Whether an acceptor whose calls fail so gives a connection without delay, how many calls failed,
-/// and how many pauses were taken.
+/// What an acceptor does: whether it gives a connection that sends without delay, how many calls
+/// failed, and how many pauses were taken.
 type Told = (bool, u64, u64);
 
-/// What an acceptor at this listener does whose calls fail so.
+/// What an acceptor at this listener does where its calls fail with these numbers.
 fn told(listener: TcpListener, numbers: &[i32]) -> Told {
     let count = Cell::new(0);
     let failing = Failing {
@@ -103,7 +103,7 @@ fn told(listener: TcpListener, numbers: &[i32]) -> Told {
     (is_given, acceptor.faults, count.get())
 }
 
-/// What it does where a client waits.
+/// The same where a client waits.
 fn accepted(rt: &HostRuntime, numbers: &[i32]) -> io::Result<Told> {
     let listener = TcpListener::bind(rt, "127.0.0.1:0")?;
     let _client = TcpStream::connect(rt, listener.local_addr()?)?;
@@ -121,7 +121,7 @@ const FAILURES: [(&[i32], Told); 7] = [
     (&[MADE, 24, 9], (false, 2, 1)),
 ];
 
-/// Whether that comes of each.
+/// Whether each gives what it has to.
 fn are_waited_out(rt: &HostRuntime) -> bool {
     let mut are_so = true;
     for (numbers, told) in FAILURES {

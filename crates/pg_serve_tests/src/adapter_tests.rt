@@ -7,8 +7,8 @@ use pg_session::{Sink, SinkError, Source};
 use std::io;
 use std::io::{Read, Write};
 
-/// A reader and writer that gives and takes at most so many bytes at a time, and fails at the call
-/// of this number.
+/// A reader and writer that gives and takes at most `takes` bytes at a time, and whose call of the
+/// number `fails_at` fails.
 #[derive(Drop)]
 struct Narrow {
     calls: usize,
@@ -83,8 +83,8 @@ fn written(fails_at: usize, takes: usize) -> (Result<(), SinkError>, usize, u64)
     (answer, sink.writer.calls, sink.faults)
 }
 
-/// Five bytes take three writes and a flush. Behind a call that fails, or takes nothing, there is
-/// none.
+/// Five bytes take three writes and a flush. After a call that fails, or takes nothing, no other is
+/// made.
 #[test]
 fn a_sink_over_a_writer_counts_faults(rt: HostRuntime) {
     let fault = Err(SinkError::Failed);

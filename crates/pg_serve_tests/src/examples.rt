@@ -1,5 +1,5 @@
-//! An example of what a query is answered before its client awaits one. The function takes nothing
-//! and does nothing: its contract is the example.
+//! An example of what is answered to a query that comes while the session awaits Sync. The function
+//! takes nothing and does nothing: its contract is the example.
 
 ghost use Rattle.pg_client.specs.Effect.{Called};
 ghost use Rattle.pg_client.specs.State.{State};

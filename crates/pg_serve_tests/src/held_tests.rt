@@ -51,7 +51,7 @@ struct Canceler {
 }
 
 impl Canceler {
-    /// Cancels by the pid 7, and tells whether somebody has it.
+    /// Cancels by the pid 7 and the key, and tells whether a connection has them.
     fn is_met<R: Wait>(self, rt: &R) -> bool {
         let Canceler {
             manager,
@@ -62,8 +62,8 @@ impl Canceler {
     }
 }
 
-/// What the handler and its queries share: when the cancel is made, by whom, if it wasn't made yet,
-/// and how many queries were made and cancels met.
+/// What the handler and its queries share: when the cancel is made, who makes it, unless it was made
+/// already, and how many queries were made and cancels met.
 #[derive(Drop)]
 struct Stage<R> {
     rt: R,
@@ -174,8 +174,8 @@ impl<'s, R: Wait> PgWireServerHandlers for Held<'s, R> {
     }
 }
 
-/// A client that sends its first piece, and the next only where the server was ready for a query by
-/// then; else it ends.
+/// A client that sends its first piece, and each next one only if the server is ready for a query by
+/// then. Else its input ends.
 #[derive(Drop)]
 struct PatientSource<'f> {
     reads: u64,
@@ -326,7 +326,7 @@ fn is_told<R: Wait>(
     answer == Ok(EndKind::Terminate) && sink.sink.bytes().ends_with(CANCELED)
 }
 
-/// Whether it is so of a client on this stage.
+/// The same for a client on this stage.
 fn is_told_on<R: Wait>(
     rt: &R,
     alloc: Global,
@@ -363,7 +363,7 @@ fn is_heard<R: Wait + Copy>(
     Some(is_told_on(&rt, alloc, &registry.manager, &mut handle, &stage) && stage.is_over())
 }
 
-/// Whether it is so at a new registry.
+/// The same at a new registry.
 fn is_canceled<R: Wait + Copy>(rt: R, alloc: Global, moment: Moment) -> bool {
     match Registry::new(alloc) {
         Some(mut registry) => is_heard(rt, alloc, &mut registry, moment) == Some(true),

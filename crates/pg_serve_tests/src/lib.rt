@@ -1,6 +1,6 @@
 //! Tests of the engine's edges: what no row of a table program can say. Who accepts connections and
 //! where keys come from, adapters over readers and writers that fail, a cancel by another connection,
-//! and calls that a session doesn't make so.
+//! and calls that a session makes in another way.
 #![tactic(auto)]
 
 mod examples;

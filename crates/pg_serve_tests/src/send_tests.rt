@@ -61,7 +61,7 @@ fn are_pages_sent(
     page == Some(true) && rest == Some(false)
 }
 
-/// Whether the rows of a cursor are sent so, with its own tag behind them.
+/// Whether the rows of a cursor are sent in these two pages, with its own tag after them.
 fn are_sent(alloc: Global) -> Result<bool, AllocError> {
     let mut response = fetched(alloc)?;
     let mut outbox = Outbox::new(alloc)?;

@@ -1,4 +1,4 @@
-//! The conversation with one client: what each message is answered in each phase, what follows an
+//! The conversation with one client: how each message is answered in each phase, what follows an
 //! error, and the session that takes the client's bytes piece by piece.
 #![tactic(auto)]
 

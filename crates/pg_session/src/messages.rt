@@ -1,4 +1,4 @@
-//! What each message of a client is answered, by the phase of the conversation.
+//! How each message of a client is answered, by the phase of the conversation.
 
 ghost use Rattle.std.specs.Prelude.{◌≡◌};
 ghost use Rattle.pg_client.specs.State.{state_of};
@@ -20,7 +20,7 @@ pub(crate) use ready::ReadyMessage;
 use ready::on_ready;
 use unready::on_unready;
 
-/// The same answer, with an error of a message as one of a session.
+/// The same result, with an error of a message as one of a session.
 #[inline(always)]
 fn of_session(answer: Result<(), PgWireError>) -> Result<(), SessionError>
     ensures { result ≡ with_session_error answer }
@@ -31,7 +31,7 @@ fn of_session(answer: Result<(), PgWireError>) -> Result<(), SessionError>
     }
 }
 
-/// Answers a message, but for what follows an error.
+/// Answers a message. What follows an error is left to the caller.
 #[inline(always)]
 pub(crate) fn on_message<
     H: PgWireServerHandlers,

@@ -77,8 +77,9 @@ impl<
         Rows = <H::Extended as ExtendedQueryHandler>::Rows,
     >,
 > Session<H, St> {
-    /// A session that awaits the startup packet of a client, who is told this pid and key, in 3.0
-    /// the key's first four bytes. Its store is empty. The only error is want of memory.
+    /// A session that awaits a client's startup packet. The client will receive this pid and this
+    /// key, or in version 3.0 the key's first four bytes. The store has to be empty. The only error
+    /// is running out of memory.
     pub fn new(
         alloc: Global,
         handlers: Arc<H>,
@@ -150,7 +151,7 @@ impl<
         self.client.info.state
     }
 
-    /// Whether the session takes more bytes: until it ends or fails.
+    /// Whether the session takes more bytes. It does until it ends or fails.
     pub fn is_open(&self) -> bool
         ensures { result ≡ self.now.is_open }
     {
@@ -164,8 +165,8 @@ impl<
         &self.client.outbox
     }
 
-    /// Keeps so many bytes of the replies that wait, and puts these bytes behind them. After an
-    /// error, which is want of memory, the bytes that were to be kept wait alone.
+    /// Keeps the first `len` bytes of the replies that wait, and appends `bytes`. The only error is
+    /// running out of memory, after which only the kept bytes wait.
     pub fn replace_unsent(&mut self, len: usize, bytes: &[u8]) -> Result<(), AllocError>
         ensures ok { OnOk result (self.new.unsent ≡ take len self.old.unsent ++ bytes.now) }
         ensures err { OnErr result (self.new.unsent ≡ take len self.old.unsent) }
@@ -175,7 +176,7 @@ impl<
     }
 }
 
-/// Keeps so many bytes of an outbox, and puts these bytes behind them.
+/// Keeps the first `len` bytes of an outbox, and appends `bytes`.
 fn replace_behind(outbox: &mut Outbox, len: usize, bytes: &[u8]) -> Result<(), AllocError>
     ensures ok { OnOk result (outbox.new ≡ take len outbox.old ++ bytes.now) }
     ensures err { OnErr result (outbox.new ≡ take len outbox.old) }

@@ -35,10 +35,10 @@ use std::alloc::{AllocError, Global};
 use std::mem::drop;
 
 /// Answers a message while the startup packet is awaited (protocol: Message Flow, Start-up). A
-/// request for encryption is answered that there is none. A request to cancel is one call of the
+/// request for encryption is answered `N`: there is none. A request to cancel is one call of the
 /// registry, and ends the conversation. A startup packet of version 3.0 or 3.2 makes the session
-/// ready; of any other the error is 0A000 with FATAL. Every other message is let go. Where memory is
-/// wanting the error is NoMemory.
+/// ready. Any other version is the error 0A000 with severity FATAL. Every other message is dropped.
+/// Where memory runs out, the error is NoMemory.
 #[cold]
 #[inline(never)]
 pub fn on_startup_phase<St: PortalStore, D: CancelDesk>(
@@ -80,7 +80,8 @@ pub fn on_startup_phase<St: PortalStore, D: CancelDesk>(
     }
 }
 
-/// Cancels the query of the session that a client names: one call of the registry, and the end.
+/// Cancels the query of the session that a client names, by one call of the registry. The
+/// conversation ends.
 fn cancel<D: CancelDesk>(
     desk: &mut D,
     request: CancelRequest,
@@ -95,8 +96,8 @@ fn cancel<D: CancelDesk>(
     Ok(Some(EndKind::CancelServed))
 }
 
-/// The startup packet: the session is ready where its version is 3.0 or 3.2; every other is 0A000
-/// with FATAL.
+/// Answers the startup packet. Version 3.0 or 3.2 makes the session ready. Any other version is the
+/// error 0A000 with severity FATAL.
 fn on_startup<St: PortalStore, D: CancelDesk>(
     alloc: Global,
     client: &mut Client<St>,
@@ -124,7 +125,7 @@ fn on_startup<St: PortalStore, D: CancelDesk>(
     Ok(())
 }
 
-/// The version of a startup packet's code, where it is spoken.
+/// The version that a startup packet's code names, if the server supports it.
 fn spoken_version(code: u32) -> Option<ProtocolVersion>
     ensures { result ≡ spoken_version code }
 {
@@ -135,7 +136,7 @@ fn spoken_version(code: u32) -> Option<ProtocolVersion>
     }
 }
 
-/// Lets a client in that speaks this version.
+/// Accepts a client that speaks this version.
 fn accept<St: PortalStore, D: CancelDesk>(
     alloc: Global,
     client: &mut Client<St>,
@@ -170,9 +171,10 @@ fn accept<St: PortalStore, D: CancelDesk>(
     Ok(())
 }
 
-/// Narrows the registration, and then the key, to what a client of this version is told. A client
-/// of 3.0 can name four bytes of key alone, so its registration has to be known by them. A longer
-/// key is told whole in 3.2, so its first four bytes cancel nothing.
+/// Narrows the registration, and then the key, to the part of the key that a client of this version
+/// receives. A client of 3.0 can send only four bytes of a key, so its registration has to be found
+/// by those. A client of 3.2 receives the whole key, so the first four bytes of a longer key cancel
+/// nothing.
 fn narrow<D: CancelDesk>(
     desk: &mut D,
     protocol: ProtocolVersion,
@@ -191,7 +193,7 @@ fn narrow<D: CancelDesk>(
     Ok(())
 }
 
-/// Whether a client of this version is told less than the whole key.
+/// Whether a client of this version receives less than the whole key.
 fn tells_less(protocol: ProtocolVersion, key: &SecretKey) -> bool
     ensures { result ≡ tells_less protocol key.now }
 {
@@ -238,7 +240,8 @@ fn unsupported(alloc: Global, code: u32) -> Result<PgWireError, AllocError>
     )))
 }
 
-/// The text on a version: its upper sixteen bits are the major part, and its lower ones the minor.
+/// The error's text for a version's code: the upper sixteen bits are the major version, and the
+/// lower ones the minor.
 fn unsupported_text(alloc: Global, code: u32) -> Result<PgStr, AllocError>
     ensures { IfOk result (λ text. text ≡ unsupported_text code) }
 {
@@ -250,7 +253,7 @@ fn unsupported_text(alloc: Global, code: u32) -> Result<PgStr, AllocError>
     PgStr::copy_of(alloc, text.as_str())
 }
 
-/// Appends the answer to a request for encryption: none.
+/// Appends the answer to a request for encryption: `N`, there is none.
 fn push_no_encryption(outbox: &mut Outbox, kind: SslNegotiationKind) -> Result<(), AllocError>
     ensures { OnOk result (outbox.new ≡ outbox.old ++ replies_bytes (no_encryption kind ∷ [])) }
 {

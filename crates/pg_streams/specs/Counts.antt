@@ -6,7 +6,7 @@ use Rattle.conversation_runs.specs.declared.streams.SinkError.{SinkError}
 use Rattle.conversation_runs.specs.declared.streams.SinkError.TheVariants.{Failed, NoMemory}
 use Rattle.conversation_runs.specs.Streams.{HasRisen, greatest_count, reads_after}
 
--- a count that has risen by one, or stands still at the greatest
+-- a count raised by one; it saturates at the greatest count
 abbrev pub raised : ℕ → ℕ
 raised n = min (n + 1) greatest_count
 
@@ -14,7 +14,7 @@ raised n = min (n + 1) greatest_count
 abbrev pub counted : Bool → ℕ → ℕ
 counted failed n = if failed then raised n else n
 
--- whether the write failed; want of memory is no fault of the sink
+-- whether the write failed; NoMemory is no fault of the sink
 abbrev pub is_fault : Result (Unit {0}) SinkError → Bool
 is_fault (Ok done) = false
 is_fault (Err Failed) = true

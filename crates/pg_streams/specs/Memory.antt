@@ -16,7 +16,8 @@ pub record Tape : Type 0 where
   pub reads : ℕ
   pub faults : ℕ
 
--- a source that was never called, of bytes, of the most that each call gives, and of the numbers of the calls that fail
+-- a source that was never called, with these bytes, the most that each call gives, and the numbers of the calls that
+-- fail
 pub record IsUnread (bytes most failing : List ℕ) (t : Tape) : Type 0 where
   pub left : t.left ≡ bytes
   pub pieces : t.pieces ≡ most
@@ -34,11 +35,11 @@ abbrev pub most_of : Option ℕ → ℕ → ℕ
 most_of None room = room
 most_of (Some piece) room = min (max piece 1) room
 
--- what a read into so much room answers
+-- the result of a read into this much room
 abbrev pub received : Tape → ℕ → Result ℕ SourceFailed
 received t room = if is_told_to_fail t then Err (record {}) else Ok (min (most_of (slice_get t.pieces t.calls) room) (length t.left))
 
--- a call has raised the count of faults where it failed, and it has changed nothing of what the source is told
+-- A call was counted, and counted as a fault where it failed. What the source is told to do is as before.
 pub record IsNextCall (failed : Bool) (old new : Tape) : Type 0 where
   pub pieces : new.pieces ≡ old.pieces
   pub fails : new.fails ≡ old.fails
@@ -53,7 +54,7 @@ pub record Drain : Type 0 where
   pub calls : ℕ
   pub faults : ℕ
 
--- a sink that was never called, of the calls that fail
+-- a sink that was never called, with these calls that fail
 pub record IsUnwritten (failing : List (ℕ × ℕ)) (d : Drain) : Type 0 where
   pub bytes : d.bytes ≡ []
   pub fails : d.fails ≡ failing
@@ -64,7 +65,8 @@ pub record IsUnwritten (failing : List (ℕ × ℕ)) (d : Drain) : Type 0 where
 abbrev pub told_to_fail : Drain → Option (ℕ × ℕ)
 told_to_fail d = find (λ f. f.0 == d.calls) d.fails
 
--- A write takes all bytes, or the told number of them, at most all, where it is told to fail; without memory it takes none.
+-- A write takes all bytes, or the told number of them, at most all, where it is told to fail; where memory runs out it
+-- takes none.
 abbrev pub TakesAsTold : Option (ℕ × ℕ) → Result (Unit {0}) SinkError → List ℕ → List ℕ → List ℕ → Type 0
 TakesAsTold told (Ok done) old new bytes = (told ≡ None) × (new ≡ old ++ bytes)
 TakesAsTold (Some f) (Err Failed) old new bytes = new ≡ old ++ take f.1 bytes

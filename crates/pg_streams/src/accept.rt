@@ -1,4 +1,4 @@
-//! Where connections come from, where their jobs go, and where their keys come from.
+//! Acceptors of connections, spawners of their jobs, and sources of their keys.
 
 ghost use Rattle.std.specs.Prelude.{◌≡◌, ℕ, ◌+◌, ◌≤◌, ◌<◌, IfOk, OnOk, OnErr};
 ghost use Rattle.conversation_runs.specs.Streams.{HasRisen, greatest_count};
@@ -15,7 +15,7 @@ pub struct AcceptFailed {}
 #[derive(Clone, Copy, Debug, PartialEq, Eq)]
 pub struct SpawnFailed {}
 
-/// Where connections come from, each as a source of its client's bytes and a sink for the replies.
+/// Accepts connections, each as a source of its client's bytes and a sink for the replies.
 pub trait Acceptor {
     /// The source of a connection.
     type In: Source + Drop;
@@ -28,7 +28,8 @@ pub trait Acceptor {
     // the number of connections that were given
     ghost accepted: { Self → ℕ };
 
-    /// Waits for the next connection. No byte of it was read yet.
+    /// Waits for the next connection. No byte of it was read yet. AcceptFailed comes only where the
+    /// count of faults rose, and no connection was given then.
     fn accept(&mut self) -> Result<(Self::In, Self::Out), AcceptFailed>
         requires room { accepted self.old < greatest_count }
         ensures accepted { OnOk result (accepted self.new ≡ accepted self.old + 1) }
@@ -44,7 +45,7 @@ pub trait Job: Drop {
     ghost is_fresh: { Self → Type 0 };
 }
 
-/// Where jobs go, each to be run on its own.
+/// Starts jobs, each of which runs on its own.
 pub trait Spawner<J: Job> {
     // the number of calls that failed
     ghost faults: { Self → ℕ };

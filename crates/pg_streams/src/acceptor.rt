@@ -1,4 +1,4 @@
-//! Who accepts connections over sockets.
+//! Accepts connections over sockets.
 
 ghost use Rattle.std.specs.Prelude.{◌≡◌, ◌≤◌, ◌<◌, ◌+◌, IfOk, OnErr};
 ghost use Rattle.conversation_runs.specs.Streams.{HasRisen, greatest_count};
@@ -12,7 +12,7 @@ use std::net::TcpListener;
 use std::os::unix::net::UnixListener;
 use std::time::{Clock, Duration};
 
-/// Where connections come from, before they are counted.
+/// Takes connections, without a count of them.
 pub trait Listener {
     /// Waits for the next connection, and takes it. No byte of it was read yet.
     fn next_connection(&self) -> io::Result<MaybeTls>
@@ -22,7 +22,7 @@ pub trait Listener {
     fn second_handle(&self, connection: &MaybeTls) -> io::Result<MaybeTls>;
 }
 
-/// A place that was bound.
+/// A listener at a bound address.
 #[derive(Drop)]
 pub enum Listening {
     /// Over TCP.
@@ -59,17 +59,17 @@ impl Listener for Listening {
     }
 }
 
-/// How many milliseconds a failure that passes is waited out before the call is made again.
+/// How many milliseconds to wait after a failure that may pass, before the call is made again.
 const PAUSE: u64 = 10;
 
-/// The numbers of Linux for failures that pass and that have no kind of their own: no descriptor in
-/// the system (ENFILE) or in the process (EMFILE), no buffers (ENOBUFS, ENOSR), and what befell a
-/// connection before it was taken (ENONET, EPROTO, ENOPROTOOPT, EHOSTDOWN).
+/// Linux's error numbers for failures that may pass and have no `ErrorKind` of their own: no
+/// descriptor in the system (ENFILE) or in the process (EMFILE), no buffers (ENOBUFS, ENOSR), and
+/// errors of a connection before it was taken (ENONET, EPROTO, ENOPROTOOPT, EHOSTDOWN).
 const PASSING_NUMBERS: [i32; 8] = [23, 24, 105, 63, 64, 71, 92, 112];
 
 /// Whether a failed call may succeed when it is made again: it was interrupted, the connection was
-/// given up before it was taken, the network or a filter of packets refused it, or memory,
-/// descriptors or buffers were wanting.
+/// given up before it was taken, the network or a packet filter refused it, or memory, descriptors
+/// or buffers ran out.
 fn passes(error: &io::Error) -> bool {
     match error.kind() {
         ErrorKind::Interrupted
@@ -92,19 +92,19 @@ fn passes(error: &io::Error) -> bool {
 /// An acceptor of connections over sockets. Each is given as two handles of one stream, one to read
 /// and one to write.
 ///
-/// Each call of the listener that fails is counted. One that may succeed later, as where no
-/// descriptor is left, is waited out by the clock and made again, for as long as it takes; any
-/// other is told as AcceptFailed at once. A connection that was taken isn't given up for want of a
-/// second handle.
+/// Each call of the listener that fails is counted. Where a call may succeed later, for example
+/// because no descriptor is left, the acceptor sleeps and makes it again, as often as it takes. Any
+/// other failure is returned as AcceptFailed at once. A connection that was taken isn't given up
+/// because its second handle can't be made yet.
 #[derive(Drop)]
 pub struct SocketAcceptor<L, C> {
     /// Where connections come from.
     pub listener: L,
-    /// What pauses are taken by.
+    /// The clock for pauses.
     pub clock: C,
     /// How many connections were given.
     pub accepted: u64,
-    /// How many calls failed. The count stands still at the greatest `u64`.
+    /// How many calls failed. The count saturates at the greatest `u64`.
     pub faults: u64,
 }
 
@@ -124,7 +124,7 @@ impl<L, C> SocketAcceptor<L, C> {
 }
 
 impl<L: Listener, C: Clock> SocketAcceptor<L, C> {
-    /// Counts a failure, and waits a moment where it passes. AcceptFailed tells that it stays.
+    /// Counts a failure, and sleeps where the failure may pass. AcceptFailed says that it doesn't.
     fn wait_out(&mut self, error: &io::Error) -> Result<(), AcceptFailed>
         ensures accepted { self.new.accepted ≡ self.old.accepted }
         ensures risen { HasRisen self.old.faults self.new.faults }

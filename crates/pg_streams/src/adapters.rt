@@ -7,7 +7,7 @@ ghost use Rattle.pg_streams.specs.Counts.{CountsFaults, IsCountedRead};
 use conversation_runs::{Sink, SinkError, Source, SourceFailed};
 use std::io::{Read, Write};
 
-/// A source over a reader, which is read once for each call. A count stands still at the greatest
+/// A source over a reader, which is read once for each call. Its counts saturate at the greatest
 /// `u64`.
 #[derive(Drop)]
 pub struct ReaderSource<R: Read> {
@@ -27,7 +27,7 @@ impl<R: Read> Source for ReaderSource<R> {
     ghost faults = { λ s. s.faults };
 
     fn receive(&mut self, into: &mut [u8]) -> Result<usize, SourceFailed>
-        // what is known of the reader's bytes goes on
+        // a read takes its bytes off those that are known of the reader
         ensures reader { ReadConsumes (R.remaining self.old.reader)
             (R.remaining self.new.reader) result into.new }
         ensures counted { IsCountedRead result (length into.old)
@@ -48,8 +48,8 @@ impl<R: Read> Source for ReaderSource<R> {
     }
 }
 
-/// A sink over a writer, which is written to until it took all bytes and then flushed.
-/// The count stands still at the greatest `u64`.
+/// A sink over a writer, which is written to until it took all bytes, and then flushed. The count
+/// saturates at the greatest `u64`.
 #[derive(Drop)]
 pub struct WriterSink<W: Write> {
     /// Where the bytes go.
@@ -79,7 +79,8 @@ impl<W: Write> Sink for WriterSink<W> {
     }
 }
 
-/// Writes all bytes and flushes, and answers whether both were done. A write that takes none fails.
+/// Writes all bytes and flushes, and returns whether both were done. A write that takes no byte
+/// fails.
 pub fn write_whole<W: Write>(writer: &mut W, bytes: &[u8]) -> bool
     ensures { IsTrue result → Appends (W.contents writer.old) (W.contents writer.new) bytes.now }
 {

@@ -10,7 +10,7 @@ use std::random::RandomSource;
 /// How many bytes a key has.
 const LENGTH: usize = 32;
 
-/// Keys of the system's random bytes.
+/// Keys of a source's random bytes.
 #[derive(Drop)]
 pub struct RandomKeys<R: RandomSource> {
     alloc: Global,
@@ -25,8 +25,8 @@ impl<R: RandomSource> RandomKeys<R> {
 }
 
 impl<R: RandomSource> KeySource for RandomKeys<R> {
-    /// The next key, of 32 bytes. Where the source gives none, or memory runs out, there is no key:
-    /// none is told twice.
+    /// The next key, of 32 bytes. Where the source gives no bytes, or memory runs out, there is no
+    /// key. An earlier key is never given again.
     fn next_key(&mut self) -> Result<SecretKey, AllocError>
         ensures { IfOk result (λ key. length key ≡ 32) }
     {

@@ -1,6 +1,5 @@
-//! Where a client's bytes come from and where the replies go: sources and sinks in memory, over
-//! readers and writers, and at sockets; who accepts connections, who starts their jobs, and where
-//! their keys come from.
+//! Sources of a client's bytes and sinks for the replies: in memory, over readers and writers, and
+//! at sockets. Acceptors of connections, spawners of their jobs, and sources of their keys.
 #![tactic(auto)]
 
 mod accept;

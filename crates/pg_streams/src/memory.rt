@@ -43,9 +43,9 @@ impl Model for MemorySource {
 }
 
 impl MemorySource {
-    /// A source of these bytes. Its call of number i, from 0, gives at most `pieces[i]` bytes,
-    /// where 0 counts as 1; past the list, as many as fit. The calls whose numbers are in `fails`
-    /// fail and take nothing.
+    /// A source of these bytes. Call number i, from 0, gives at most `pieces[i]` bytes, where 0
+    /// counts as 1. Past the list a call gives as many as fit. The calls whose numbers are in
+    /// `fails` fail and take nothing.
     pub fn new(bytes: PgBytes, pieces: PgList<usize>, fails: PgList<u64>) -> MemorySource
         ensures { IsUnread bytes pieces fails result }
     {
@@ -61,7 +61,7 @@ impl MemorySource {
     }
 }
 
-/// The most that a call gives into so much room.
+/// The most bytes that a call gives, where there is room for `room` bytes.
 fn most_given(piece: Option<usize>, room: usize) -> usize
     ensures { result ≡ most_of piece room }
 {
@@ -71,7 +71,7 @@ fn most_given(piece: Option<usize>, room: usize) -> usize
     }
 }
 
-/// Copies as many bytes as are there, are asked for and fit, and answers their number.
+/// Copies at most `most` bytes, as many as are there, and returns their number.
 fn copy_front(from: &[u8], most: usize, into: &mut [u8]) -> usize
     requires { most ≤ length into.old }
     ensures count { result ≡ min most (length from.now) }
@@ -139,8 +139,9 @@ impl Model for MemorySink {
 }
 
 impl MemorySink {
-    /// A sink to which nothing was written. Its calls, numbered from 0, whose numbers are in
-    /// `fails` fail after they took the number of bytes that stands beside, at most the piece.
+    /// A sink to which nothing was written. Calls are numbered from 0. A call whose number is in
+    /// `fails` takes the number of bytes beside it there, or all where there are fewer, and then
+    /// fails.
     pub fn new(alloc: Global, fails: PgList<(u64, usize)>) -> MemorySink
         ensures { IsUnwritten fails result }
     {
@@ -196,7 +197,7 @@ impl Sink for MemorySink {
 }
 
 impl MemorySink {
-    /// Appends bytes, and without memory none of them.
+    /// Appends bytes. Where memory runs out, it appends none of them.
     fn append(&mut self, bytes: &[u8]) -> Result<(), SinkError>
         ensures ok { OnOk result (self.new
             ≡ record self.old { bytes = self.old.bytes ++ bytes.now }) }

@@ -1,4 +1,4 @@
-//! Sockets: the sources and sinks over them. What goes over a socket no clause tells.
+//! Sources and sinks over sockets. No clause says which bytes go over a socket.
 
 ghost use Rattle.std.specs.Prelude.{◌≡◌, None, length, OnOk, IsErrOf};
 ghost use Rattle.std.specs.Io.KnownBytes.{ReadConsumes, Appends};
@@ -11,7 +11,7 @@ use std::io::{Read, Write};
 use std::net::TcpStream;
 use std::os::unix::net::UnixStream;
 
-/// A stream, and counts of what was done with it. A count stands still at the greatest `u64`.
+/// A stream, and counts of what was done with it. The counts saturate at the greatest `u64`.
 #[derive(Drop)]
 pub struct Counted<T> {
     /// The stream.
@@ -49,7 +49,7 @@ pub enum MaybeTls {
 impl<T: Read> Counted<T> {
     /// Reads once, and counts.
     fn receive(&mut self, into: &mut [u8]) -> Result<usize, SourceFailed>
-        // what is known of the stream's bytes goes on
+        // a read takes its bytes off those that are known of the stream
         ensures reader { ReadConsumes (T.remaining self.old.stream)
             (T.remaining self.new.stream) result into.new }
         ensures counted { IsCountedRead result (length into.old)

@@ -1,4 +1,4 @@
--- What a value writes of itself into a cell, and what is read of one.
+-- What a value writes into a cell, and what is read from one.
 use Rattle.std.specs.Prelude.{◌≡◌, ◌≤◌, ◌⊎◌, ◌++◌, ℕ, Bool, true, false, List, [], length, Option, None, Some, Result, Ok, Err, OnOk, OnErr}
 use Rattle.pg_types.specs.declared.error.CellError.{CellError}
 use Rattle.pg_types.specs.declared.error.CellError.TheVariants.{NoMemory, WrongType}
@@ -18,12 +18,12 @@ abbrev pub bytes_of : Option (List ℕ) → List ℕ
 bytes_of None = []
 bytes_of (Some bytes) = bytes
 
--- the answer that is told, or want of memory in place of a cell
+-- the answer for this cell, or NoMemory
 abbrev pub IsAnswer : Cell → Result IsNull CellError → Type 0
 IsAnswer (Ok cell) result = (result ≡ Ok (null_of cell)) ⊎ (result ≡ Err NoMemory)
 IsAnswer (Err error) result = (result ≡ Err error) ⊎ (result ≡ Err NoMemory)
 
--- P of the cell that is told, where there is one
+-- there is a cell, and P holds of it
 abbrev pub AtCell : Cell → (Option (List ℕ) → Type 0) → Type 0
 AtCell (Ok cell) P = P cell
 AtCell (Err error) P = ⊥
@@ -32,7 +32,7 @@ AtCell (Err error) P = ⊥
 abbrev pub IsShort : Option (List ℕ) → Type 0
 IsShort cell = length (bytes_of cell) ≤ 32000
 
--- what a call that is told a cell writes: its bytes, which are few, and nothing after an error
+-- What a call writes for a cell: the cell's bytes, at most 32,000, and nothing after an error.
 pub record WritesCell (told : Cell) (result : Result IsNull CellError) (before after : List ℕ) : Type 0 where
   pub appended : OnOk result (AtCell told (λ cell. after ≡ before ++ bytes_of cell))
   pub short : OnOk result (AtCell told IsShort)
@@ -57,7 +57,7 @@ abbrev pub read_if_some : {T : Type 0} → (List ℕ → Result T CellError) →
 read_if_some read [] = Ok None
 read_if_some read input = some_of (read input)
 
--- What is told: a value takes no memory, and in place of a refusal it may be wanting.
+-- The result is the one that was told. A value takes no memory. In place of an error NoMemory may come.
 abbrev pub IsRead : {T : Type 0} → Result T CellError → Result T CellError → Type 0
 IsRead (Ok x) result = result ≡ Ok x
 IsRead (Err e) result = (result ≡ Err e) ⊎ (result ≡ Err NoMemory)

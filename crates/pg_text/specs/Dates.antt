@@ -22,11 +22,11 @@ around_comma [] = None
 around_comma (c ∷ cs) = if starts_with nat_eq (c ∷ cs) (codes ", ") then Some ([], drop 2 (c ∷ cs))
     else option_map (λ p. (c ∷ p.0, p.1)) (around_comma cs)
 
--- the style in front of the comma, or in the whole text, and ISO where that is none
+-- the style that a text names, and ISO where it names none
 abbrev pub display_in : List ℕ → DateStyleDisplayStyle
 display_in text = unwrap_or (date_display_of text) ISO
 
--- the order behind the comma, and YMD where that is none
+-- the order that a text names, and YMD where it names none
 abbrev pub order_in : List ℕ → DateStyleOrder
 order_in text = unwrap_or (date_order_of text) YMD
 
@@ -54,7 +54,7 @@ full_format Postgres (Some DMY) = codes "%a %e %b %H:%M:%S%.6f %Y"
 full_format Postgres _ = codes "%a %b %e %H:%M:%S%.6f %Y"
 full_format German _ = codes "%d.%m.%Y %H:%M:%S%.6f"
 
--- how a time zone is written behind a date and a time
+-- how a time zone is written after a date and a time
 abbrev pub zone_format : DateStyleDisplayStyle → List ℕ
 zone_format ISO = codes "%:::z"
 zone_format _ = codes " %Z"

@@ -17,7 +17,7 @@ use Rattle.pg_text.specs.declared.format.interval_style.IntervalStyle.{IntervalS
 use Rattle.pg_types.specs.declared.pg_type.PgType.{PgType}
 use Rattle.pg_types.specs.declared.pg_type.PgType.TheVariants as types
 
--- intervals go into columns of the type `interval` alone
+-- intervals are written only to columns of the type `interval`
 abbrev pub is_interval_type : PgType → Bool
 is_interval_type types.Interval = true
 is_interval_type _ = false
@@ -29,7 +29,7 @@ int64_of bytes = cast_signed w64 (from_be_bytes w64 bytes)
 abbrev pub int32_of : List ℕ → ℤ
 int32_of bytes = cast_signed w32 (from_be_bytes w32 bytes)
 
--- Int64 microseconds, Int32 days, Int32 months; later bytes count for nothing
+-- Int64 microseconds, Int32 days, Int32 months; later bytes are ignored
 unfoldable pub interval_in : List ℕ → Interval
 interval_in raw = record {
   months = int32_of (slice_range raw 12 16);
@@ -40,7 +40,7 @@ interval_in raw = record {
 abbrev pub read_interval : List ℕ → Result Interval CellError
 read_interval raw = if nat_lt (length raw) 16 then Err ShortCell else Ok (interval_in raw)
 
--- the style that the options name, or the refusal of its text
+-- the style that the options name, or the error with its text
 abbrev pub style_under : FormatOptions → Result IntervalStyle CellError
 style_under options = or_invalid options.interval_style (interval_style_of options.interval_style)
 

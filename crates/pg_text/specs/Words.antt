@@ -24,7 +24,7 @@ word_of text = str_to_ascii_lowercase (trimmed text)
 abbrev pub value_named : {T : Type 0} → (T → List ℕ) → List T → List ℕ → Option T
 value_named name values text = find (λ value. bytes_eq (name value) (word_of text)) values
 
--- the value, or the refusal that holds the text as it was given
+-- the value, or the error that holds the text as it was given
 abbrev pub or_invalid : {T : Type 0} → List ℕ → Option T → Result T CellError
 or_invalid text None = Err (InvalidOptionValue text)
 or_invalid text (Some value) = Ok value

@@ -3,7 +3,7 @@ ghost use Rattle.std.specs.Prelude.{ℕ, Bool, List, Result, ◌≡◌};
 use pg_interval::Interval;
 use pg_types::{CellError, PgType};
 
-/// A value that is read of a cell in the binary format of its type.
+/// A value that is read from a cell in the binary format of its type.
 pub trait FromSql: Sized {
     ghost use Rattle.pg_types.specs.declared.pg_type.PgType.{PgType};
     ghost use Rattle.pg_types.specs.declared.error.CellError.{CellError};
@@ -13,7 +13,7 @@ pub trait FromSql: Sized {
 
     ghost accepted: { PgType → Bool };
 
-    /// Whether such values are read of a column of this type.
+    /// Whether such values are read from a column of this type.
     fn accepts(ty: PgType) -> bool
         ensures { result ≡ accepted ty };
 

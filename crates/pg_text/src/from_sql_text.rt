@@ -6,7 +6,7 @@ use pg_interval::Interval;
 use pg_types::{CellError, FormatOptions, PgType};
 use std::alloc::Global;
 
-/// A value that is read of a cell's text.
+/// A value that is read from a cell's text.
 pub trait FromSqlText: Sized {
     ghost use Rattle.pg_types.specs.declared.pg_type.PgType.{PgType};
     ghost use Rattle.pg_types.specs.declared.error.CellError.{CellError};
@@ -15,7 +15,7 @@ pub trait FromSqlText: Sized {
     // the value of a text in a column of a type, under these options, or why there is none
     ghost read: { PgType → List ℕ → FormatOptions → Result Self CellError };
 
-    /// The value that this text stands for under the options. Only a refusal takes memory.
+    /// The value that this text stands for under the options. Only an error takes memory.
     fn from_sql_text(
         alloc: Global,
         ty: PgType,
@@ -31,8 +31,8 @@ impl FromSqlText for Interval {
     ghost read = { λ _ input options. read_text input options };
 
     /// The interval that the text stands for in the options' style. `InvalidOptionValue`, with the
-    /// style's text, comes where that names none of the four, then `NotUtf8`, then `Parse` with the
-    /// reader's refusal.
+    /// style's text, comes first, where that text names none of the four styles. Next comes
+    /// `NotUtf8`, then `Parse` with the reader's error.
     fn from_sql_text(
         alloc: Global,
         _ty: PgType,

@@ -21,7 +21,7 @@ pub trait ToSql {
 
     ghost accepted: { PgType → Bool };
 
-    /// Whether such values go into a column of this type.
+    /// Whether such values can be written to a column of this type.
     fn accepts(ty: PgType) -> bool
         ensures { result ≡ accepted ty };
 

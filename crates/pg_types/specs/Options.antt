@@ -21,7 +21,7 @@ default_options = record {
 abbrev pub setting : BTreeMap (List ℕ) (List ℕ) → List ℕ → Option (List ℕ)
 setting parameters name = get (slice_cmp nat_cmp) parameters name
 
--- a sign that may be missing and one or more digits, whose number an i8 holds
+-- an optional sign and one or more digits, whose number an i8 holds
 abbrev pub IsSmallNumber : List ℕ → Type 0
 IsSmallNumber text = IsNumeral 10 (without_leading_sign text) × FitsSigned w8 (signed_digits_value 10 text)
 

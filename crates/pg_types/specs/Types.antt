@@ -8,7 +8,7 @@ abbrev pub types : List PgType
 types = Bool ∷ Bytea ∷ Char ∷ Name ∷ Int8 ∷ Int2 ∷ Int4 ∷ Text ∷ Oid ∷ Json ∷ Float4 ∷ Float8 ∷ Unknown ∷ Bpchar ∷ Varchar
     ∷ Date ∷ Time ∷ Timestamp ∷ Timestamptz ∷ Interval ∷ IntervalArray ∷ Timetz ∷ Numeric ∷ Void ∷ Uuid ∷ Jsonb ∷ []
 
--- the number of a type in the catalog
+-- the oid of a type in the catalog
 abbrev pub oid_of : PgType → ℕ
 oid_of Bool = 16
 oid_of Bytea = 17
@@ -65,6 +65,6 @@ name_of Void = codes "void"
 name_of Uuid = codes "uuid"
 name_of Jsonb = codes "jsonb"
 
--- the type of this number, or None where the table has none
+-- the type with this oid, or None where the list has none
 abbrev pub type_of_oid : ℕ → Option PgType
 type_of_oid oid = find (λ t. oid_of t == oid) types

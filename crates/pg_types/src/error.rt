@@ -8,7 +8,7 @@ use std::alloc::{AllocError, Global};
 /// Why a cell isn't written or read, or an option has no meaning.
 #[derive(Debug, Drop)]
 pub enum CellError {
-    /// Values of this kind don't go into a column of the type.
+    /// A value of this kind can't be written to a column of the type.
     WrongType,
     /// A binary cell has too few bytes.
     ShortCell,
@@ -16,7 +16,7 @@ pub enum CellError {
     NotUtf8,
     /// A text cell stands for no value.
     Parse(ParseError),
-    /// The text of an option, as it was given, is none of its values.
+    /// This text of an option is none of the option's values.
     InvalidOptionValue(PgStr),
     /// A duration is too long for an interval.
     DurationOverflow,

@@ -9,10 +9,10 @@ use std::collections::BTreeMap;
 
 const DEFAULT_DATE_STYLE: &str = "ISO, YMD";
 
-/// The name of the interval style that is the default.
+/// The name of the default interval style.
 pub const INTERVAL_STYLE_POSTGRES: &str = "postgres";
 
-/// The name of the output of byte strings that is the default.
+/// The name of the default output of byte strings.
 pub const BYTEA_OUTPUT_HEX: &str = "hex";
 
 const DEFAULT_TIME_ZONE: &str = "Etc/UTC";
@@ -22,21 +22,20 @@ const DEFAULT_FLOAT_DIGITS: i8 = 1;
 /// The options of a session by which values are written as text.
 #[derive(Debug, Drop, PartialEq, Eq, PartialOrd, Ord)]
 pub struct FormatOptions {
-    /// `DateStyle`: a display style and an order, as `ISO, YMD`.
+    /// `DateStyle`: a display style and an order, such as `ISO, YMD`.
     pub date_style: PgStr,
-    /// `IntervalStyle`: one of the four interval styles, as `postgres`.
+    /// `IntervalStyle`: one of the four interval styles, such as `postgres`.
     pub interval_style: PgStr,
     /// `bytea_output`: `hex` or `escape`.
     pub bytea_output: PgStr,
     /// `TimeZone`: the name of a time zone.
     pub time_zone: PgStr,
-    /// `extra_float_digits`: digits more than the usual ones of a float.
+    /// `extra_float_digits`: how many digits more than usual a float is written with.
     pub extra_float_digits: i8,
 }
 
 impl FormatOptions {
-    /// The options of a session that says nothing of them: `ISO, YMD`, `postgres`, `hex`, `Etc/UTC`
-    /// and 1.
+    /// The default options: `ISO, YMD`, `postgres`, `hex`, `Etc/UTC` and 1.
     pub fn new_default(alloc: Global) -> Result<FormatOptions, AllocError>
         ensures { IfOk result (λ options. options ≡ default_options) }
     {

@@ -1,5 +1,5 @@
 //! The types of values, the formats in which they are sent, the options by which they are written,
-//! and why one isn't written or read.
+//! and the errors of writing and reading them.
 #![tactic(auto)]
 
 mod error;

@@ -33,7 +33,7 @@ pub enum PgType {
 }
 
 impl PgType {
-    /// The type with this number in the catalog, or None where it is none of these.
+    /// The type with this oid in the catalog, or None where it is none of these.
     pub fn from_oid(oid: u32) -> Option<PgType>
         ensures { result ≡ type_of_oid oid }
     {
@@ -69,7 +69,7 @@ impl PgType {
         Some(found)
     }
 
-    /// The type's number in the catalog.
+    /// The type's oid in the catalog.
     pub fn oid(self) -> u32
         ensures { result ≡ oid_of self }
     {

@@ -1,4 +1,4 @@
--- What a file gives, as it could be opened.
+-- What a file gives, which could be opened or not.
 use Rattle.std.specs.Prelude.{ℕ, List, Option, Result, IsErr}
 use Rattle.std.specs.Io.KnownBytes.{ReadConsumes}
 use Rattle.conversation_runs.specs.declared.streams.SourceFailed.{SourceFailed}

@@ -14,7 +14,7 @@ pub record Written : Type 0 where
 abbrev pub written_to : {K : Type 0} → (K → Option (List ℕ)) → (K → ℕ) → K → Written
 written_to bytes faults sink = record { bytes = bytes sink; faults = faults sink }
 
--- The program ends with this status: that of an error, which was told by its line.
+-- The program ends with this status: that of an error, whose line was written.
 abbrev pub EndsBy : ServeError → ℕ → Written → Written → Type 0
 EndsBy error status old new = IsReported (status_of_conversation (Err error)) (line_of_conversation (Err error)) status old.bytes new.bytes
     old.faults new.faults

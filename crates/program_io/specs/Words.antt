@@ -3,7 +3,7 @@ use Rattle.std.specs.Prelude.{ℕ, List, [], ◌∷◌, Option, Some, None, code
 use Rattle.std.specs.Str.{bytes_eq}
 
 -- The text that the words ask for: the help where they are the one word `--help`, the version where they are the one word `--version`; None
--- of any other words.
+-- for any other words.
 abbrev pub told_text : List (List ℕ) → List ℕ → List ℕ → Option (List ℕ)
 told_text (word ∷ []) help version =
     if bytes_eq word (codes "--help") then Some help

@@ -1,5 +1,6 @@
-//! What a main does with what is outside: it reads the words of the command line, tells of the
-//! program itself, opens the file that the words name, and takes the standard streams.
+//! What the `main` of a program does with the outside: it reads the words of the command line,
+//! writes the help or the version, opens the file that the words name, and takes the standard
+//! streams.
 #![tactic(auto)]
 
 mod opened_file;

@@ -1,4 +1,4 @@
-//! A file, as it could be opened.
+//! A file, which could be opened or not.
 
 ghost use Rattle.std.specs.Prelude.{◌≡◌, None, length};
 ghost use Rattle.std.specs.Option.{option_copied};
@@ -31,8 +31,8 @@ impl<R: Read> Source for OpenedFile<R> {
     ghost faults = { faults_of_file };
 
     fn receive(&mut self, into: &mut [u8]) -> Result<usize, SourceFailed>
-        // what is known of the file's bytes goes on, and no read is answered for a file that isn't
-        // there
+        // the bytes come in the file's order, where they are known, and each read of a file that
+        // could not be opened fails
         ensures read { ReadsOn R.remaining self.old self.new result into.new }
         ensures counted { IsCountedRead result (length into.old)
             (reads_of_file self.old) (reads_of_file self.new)
@@ -48,7 +48,7 @@ impl<R: Read> Source for OpenedFile<R> {
     }
 }
 
-/// The file at a path, where there is one and it can be opened. No path is no file.
+/// Opens the file at a path. Where there is no path, or the file can't be opened, all reads fail.
 pub fn open_file<R: Files>(rt: &R, path: Option<&str>) -> OpenedFile<R::File>
     ensures reads { reads_of_file result ≡ 0 }
     ensures faults { faults_of_file result ≡ 0 }

@@ -17,7 +17,7 @@ pub fn standard_input<R: Input>(rt: &R) -> ReaderSource<R::Reader>
     }
 }
 
-/// A sink over a writer, as over the standard output or the error output.
+/// A sink over a writer, such as the standard output or the error output.
 pub fn sink_over<W: Write>(writer: W) -> WriterSink<W>
     ensures writer { result.writer ≡ writer }
     ensures faults { result.faults ≡ 0 }

@@ -1,4 +1,4 @@
-//! How a program tells a text or an end, and its exit status.
+//! How a program writes a text or reports an end, and its exit status.
 
 ghost use Rattle.std.specs.Prelude.{◌≡◌, [], ◌∷◌, None, IfOk, IfErr, OnOk};
 ghost use Rattle.conversation_runs.specs.declared.ends.ServeError.TheVariants.{NoMemory};
@@ -39,10 +39,10 @@ pub fn out_of_memory<E: Sink>(err: &mut E) -> u8
     report_conversation(Err(ServeError::NoMemory), err)
 }
 
-/// The words of the command line, where they are to be obeyed; then nothing was written. Else the
-/// program ends, and the error is its exit status: that of telling the help or the version to `out`,
-/// where the one word asks for it, or 7, with the line `out of memory` on `err`, where there was no
-/// memory for the words.
+/// The words of the command line, where they don't ask for the help or the version; then nothing was
+/// written. The error is the exit status with which the program is to end. Where the only word is
+/// `--help` or `--version`, that text goes to `out`, and the status is the one of [`tell`]. Where
+/// there was no memory for the words, the line `out of memory` goes to `err`, and the status is 7.
 pub fn words_to_obey<R: Env + AllocGlobal, K: Sink, E: Sink>(
     rt: &R,
     help: &str,

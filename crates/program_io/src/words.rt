@@ -15,8 +15,8 @@ pub fn read_words<R: Env + AllocGlobal>(rt: &R) -> Result<PgList<PgStr>, AllocEr
     words_of(rt.alloc(), env::args(rt))
 }
 
-/// The words of a command line, without the program's name. Where it could not be read, as where a
-/// word isn't UTF-8, it is a faulty one, of no words; the error tells that memory ran out.
+/// The words of a command line, without the program's name. Where the line could not be read, for
+/// example since a word isn't UTF-8, there are no words. The error comes where memory ran out.
 pub fn words_of(alloc: Global, args: io::Result<Args>) -> Result<PgList<PgStr>, AllocError>
     ensures words { IfOk args (λ args. IfOk result (λ words. words
         ≡ map string_bytes (drop 1 (into_iter_items args)))) }
@@ -41,7 +41,7 @@ fn words_behind(alloc: Global, mut args: Args) -> Result<PgList<PgStr>, AllocErr
     Ok(words)
 }
 
-/// No words, or want of memory where that is why they weren't read.
+/// No words, or the error where want of memory is why they weren't read.
 fn no_words(alloc: Global, error: &io::Error) -> Result<PgList<PgStr>, AllocError>
     ensures { IfOk result (λ words. words ≡ []) }
 {
@@ -52,7 +52,7 @@ fn no_words(alloc: Global, error: &io::Error) -> Result<PgList<PgStr>, AllocErro
 }
 
 /// The text that the words ask for: the help where they are the one word `--help`, the version where
-/// they are the one word `--version`. None is any other words, which are to be obeyed.
+/// they are the one word `--version`. None for any other words, which are to be obeyed.
 pub fn told_word<'a>(words: &[PgStr], help: &'a str, version: &'a str) -> Option<&'a str>
     ensures { option_copied result ≡ told_text words.now help.now version.now }
 {

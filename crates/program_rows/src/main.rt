@@ -45,7 +45,7 @@ const WORDS: [&str; 24] = [
     "taken",
 ];
 
-/// What is otherwise than a row expects, if anything is.
+/// What differs from what a row expects, if anything does.
 fn row_difference<'t, R: Wait>(
     rt: &R,
     alloc: Global,
@@ -61,7 +61,7 @@ fn some_text(text: String) -> Option<String> {
     if text.is_empty() { None } else { Some(text) }
 }
 
-/// Writes what is otherwise than a row expects.
+/// Writes what differs from what a row expects.
 fn judge_row<'t, R: Wait>(
     rt: &R,
     alloc: Global,

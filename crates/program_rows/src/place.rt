@@ -95,7 +95,7 @@ impl Place {
         (status, note.is_some())
     }
 
-    /// How many calls the registry got so far, which is the number of a registration more, under
+    /// How many calls the registry got so far, which is the number of one more registration, under
     /// the pid 0.
     pub fn calls<'t, R: Wait>(&mut self, rt: &R) -> Result<u64, Fault<'t>> {
         match self.register(rt, 0, &[0; 4]) {
@@ -104,7 +104,7 @@ impl Place {
         }
     }
 
-    /// Whether somebody is registered under a pid. It is taken then in any case.
+    /// Whether somebody is registered under a pid. Afterwards it is taken in any case.
     pub fn is_taken<'t, R: Wait>(&mut self, rt: &R, digits: &'t str) -> Result<bool, Fault<'t>> {
         let pid = parsed::<i32>(digits)?;
         match self.register(rt, pid, &[0; 4]) {

@@ -1,4 +1,4 @@
-//! A second client on one connection of the registry, behind one whose session failed.
+//! A second client on one connection of the registry, after one whose session failed.
 
 ghost use Rattle.std.specs.Prelude.{◌≡◌};
 
@@ -23,9 +23,9 @@ pub type Ends = (Result<EndKind, ServeError>, Result<EndKind, ServeError>);
 enum Failing {
     /// The read of this number, where each gives one byte.
     Reads,
-    /// The write, behind so many bytes.
+    /// The write, after this many bytes.
     Writes,
-    /// The turns: there are so many, where each read gives one byte.
+    /// The turns: there are this many, where each read gives one byte.
     Turns,
 }
 
@@ -129,7 +129,7 @@ fn source_of(
     Ok(MemorySource::new(PgBytes::copy_of(alloc, bytes)?, pieces, fails))
 }
 
-/// A sink, whose first write fails behind so many bytes, if a number is told.
+/// A sink, whose first write fails after `write_fails` bytes, if a number is told.
 fn sink_of(alloc: Global, write_fails: Option<usize>) -> Result<RowSink, AllocError> {
     let fails = match write_fails {
         None => None,
@@ -186,8 +186,8 @@ fn is_served_behind<'t, R: Wait>(
     are_served_in_turn(rt, alloc, example, failing, first, &mut second)
 }
 
-/// Whether the first of two clients fails so, and the second one on the same connection is served
-/// whole.
+/// Whether the session of the first client fails as it has to, and the second client on the same
+/// connection is served whole.
 fn are_served_in_turn<'t, R: Wait>(
     rt: &R,
     alloc: Global,
@@ -207,7 +207,7 @@ fn are_served_in_turn<'t, R: Wait>(
     )
 }
 
-/// Whether the first session fails so, and the second is served to its end.
+/// Whether the first session fails with this error, and the second is served to its end.
 fn are_ends(ends: Ends, error: ServeError) -> bool {
     let (first, second) = ends;
     first == Err(error) && second == Ok(EndKind::Terminate)
@@ -234,7 +234,7 @@ fn ends_of<'t, R: Wait>(
 }
 
 /// Serves the client in each case of what the word names, and again on the same connection, and
-/// writes in which case that goes otherwise.
+/// writes in which cases that goes wrong.
 pub fn judge_sessions<'t, R: Wait>(
     rt: &R,
     alloc: Global,

@@ -17,8 +17,8 @@ pub struct RowSink {
 }
 
 impl RowSink {
-    /// A sink of which each failure tells the number of a call and how many bytes it takes, and
-    /// whose call of the other number finds no memory.
+    /// A sink with failures, each of which is the number of a call and how many bytes it takes. The
+    /// call of the number `short_at` finds no memory.
     pub fn new(alloc: Global, failures: PgList<(u64, usize)>, short_at: Option<u64>) -> RowSink {
         RowSink {
             sink: MemorySink::new(alloc, failures),
@@ -63,8 +63,8 @@ pub fn sinks_of<'t>(alloc: Global, lines: &[&'t str]) -> Result<Sinks, Fault<'t>
     })
 }
 
-/// A sink of which a call fails after so many bytes, if a line with the first word tells one, and a
-/// call finds no memory, if a line with the second word tells one.
+/// A sink of which a call fails, if a line with the word `fails` tells one with its bytes, and of
+/// which a call finds no memory, if a line with the word `short` tells one.
 fn sink_of<'t>(
     alloc: Global,
     lines: &[&'t str],

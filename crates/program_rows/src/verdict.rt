@@ -1,4 +1,4 @@
-//! What is otherwise than a row expects.
+//! What differs from what a row expects.
 
 use crate::WORDS;
 use crate::command::run_told;
@@ -9,8 +9,8 @@ use row_files::{Fault, common_len, lines_of, number_told, told, told_by, unescap
 use std::alloc::{AllocError, Global};
 use std::sync::Wait;
 
-/// Runs the commands of a row, up to the first that goes otherwise than it expects, and writes what
-/// is otherwise.
+/// Runs the commands of a row, up to the first that differs from what it expects, and writes what
+/// differs.
 pub fn judge_commands<'t, R: Wait>(
     rt: &R,
     alloc: Global,
@@ -51,7 +51,7 @@ fn occupy<'t, R: Wait>(rt: &R, place: &mut Place, lines: &[&'t str]) -> Result<(
     Ok(())
 }
 
-/// Runs a command, whose words stand in the first line, and writes what is otherwise than the
+/// Runs a command, whose words stand in the first line, and writes what differs from what the
 /// further lines expect.
 fn judge_part<'t, R: Wait>(
     rt: &R,
@@ -66,7 +66,7 @@ fn judge_part<'t, R: Wait>(
     judge_command(rt, alloc, place, words, text, lines.as_slice(), found)
 }
 
-/// Runs the words, and writes what is otherwise than the lines expect.
+/// Runs the words, and writes what differs from what the lines expect.
 fn judge_command<'t, R: Wait>(
     rt: &R,
     alloc: Global,
@@ -81,7 +81,7 @@ fn judge_command<'t, R: Wait>(
     judge_answer(alloc, words, text, lines, status, is_noted, &sinks, found)
 }
 
-/// Writes where a command was answered otherwise than the lines expect.
+/// Writes where the answer to a command differs from what the lines expect.
 fn judge_answer<'t>(
     alloc: Global,
     words: &str,
@@ -97,7 +97,7 @@ fn judge_answer<'t>(
     judge_out(alloc, words, text, lines, &sinks.out, found)
 }
 
-/// Writes the status and whether there is a note, where the lines expect otherwise.
+/// Writes the status and whether there is a note, where they differ from what the lines expect.
 fn judge_status<'t>(
     words: &str,
     lines: &[&'t str],
@@ -120,7 +120,7 @@ fn expected_of<'t>(lines: &[&'t str]) -> Result<(u64, bool), Fault<'t>> {
     }
 }
 
-/// Writes where the line of errors is other than the lines expect.
+/// Writes where the line of errors differs from what the lines expect.
 fn judge_err<'t>(
     alloc: Global,
     words: &str,
@@ -145,7 +145,7 @@ fn tell_err(
     write!(found, "{words}: the line {line}; ")
 }
 
-/// Writes where the output is other than the lines expect.
+/// Writes where the output differs from what the lines expect.
 fn judge_out<'t>(
     alloc: Global,
     words: &str,
@@ -179,7 +179,7 @@ fn output_told<'t>(alloc: Global, text: &'t str, lines: &[&'t str]) -> Result<Ve
     }
 }
 
-/// Writes what the registry has got otherwise than the lines expect.
+/// Writes where the calls and pids of the registry differ from what the lines expect.
 fn judge_registry<'t, R: Wait>(
     rt: &R,
     place: &mut Place,
@@ -191,7 +191,7 @@ fn judge_registry<'t, R: Wait>(
     judge_pids(rt, place, told(lines, "taken").unwrap_or(""), true, found)
 }
 
-/// Writes how many calls the registry got, where that is another number than the lines expect.
+/// Writes how many calls the registry got, where that differs from what the lines expect.
 fn judge_calls<'t>(calls: u64, lines: &[&'t str], found: &mut String) -> Result<(), Fault<'t>> {
     match number_told(lines, "calls")? {
         Some(expected) if expected != calls => Ok(write!(found, "{calls} calls; ")?),
@@ -199,7 +199,7 @@ fn judge_calls<'t>(calls: u64, lines: &[&'t str], found: &mut String) -> Result<
     }
 }
 
-/// Writes which of the pids are taken, or are not, against what is expected.
+/// Writes which of the pids are taken, or free, though the other is expected.
 fn judge_pids<'t, R: Wait>(
     rt: &R,
     place: &mut Place,

@@ -1,11 +1,11 @@
--- Texts of queries: what counts for nothing round them, and their words.
+-- Texts of queries: what is ignored around them, and their words.
 use Rattle.std.specs.Prelude.{ℕ, Bool, List, [], ◌∷◌, if◌then◌else◌, reverse, not, filter}
 use Rattle.std.specs.List.{slice_split}
 use Rattle.std.specs.Str.{str_eq_ignore_ascii_case}
 use Rattle.pg_results.specs.Describing.{is_empty_list}
 use Rattle.pg_results.specs.Texts.{is_whitespace, is_padding}
 
--- the text behind the whitespace and semicolons at its front
+-- the text after the whitespace and semicolons at its front
 abbrev pub without_front_padding : List ℕ → List ℕ
 without_front_padding [] = []
 without_front_padding (byte ∷ bytes) = if is_padding byte then without_front_padding bytes else (byte ∷ bytes)

@@ -1,5 +1,5 @@
-//! Texts of queries: what counts for nothing round them, and their words. Whitespace is the bytes
-//! 09 to 0D and 20.
+//! Texts of queries: what is ignored around them, and their words. Whitespace is the bytes 09 to 0D
+//! and 20.
 #![tactic(auto)]
 
 mod trimming;

@@ -1,4 +1,4 @@
-//! What counts for nothing round a query.
+//! What is ignored around a query: whitespace and semicolons.
 
 ghost use Rattle.std.specs.Prelude.{◌≡◌, take, drop};
 ghost use Rattle.std.specs.Str.{IsCharBoundary};

@@ -1,4 +1,4 @@
-//! The words of a text, which whitespace parts.
+//! The words of a text, which whitespace separates.
 
 ghost use Rattle.std.specs.Prelude.{◌≡◌, ◌<◌, false, [], ◌∷◌, IsNone, IfSome, length, take, drop};
 ghost use Rattle.std.specs.Str.{IsCharBoundary};
@@ -6,8 +6,7 @@ ghost use Rattle.pg_results.specs.Texts.{is_whitespace};
 ghost use Rattle.query_texts.specs.QueryTexts.{words};
 ghost use Rattle.query_texts.specs.Stops.{StopsAt};
 
-/// The first word, with no whitespace in it, and the text behind it. None is a text of whitespace
-/// alone.
+/// The first word, and the text after it. None comes where the text is only whitespace.
 pub fn first_word(text: &str) -> Option<(&str, &str)>
     ensures none { IsNone result → words text.now ≡ [] }
     ensures some { IfSome result (λ p. words text.now ≡ p.0.now ∷ words p.1.now) }

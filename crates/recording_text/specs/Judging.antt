@@ -1,5 +1,5 @@
--- Which bytes are no recording text, and why: fields are judged from the left. A field is read as its value and the bytes behind it. Of
--- `all` bytes, those from a field on tell its place.
+-- Which bytes are no recording text, and why: fields are judged from the left. A field is read as its value and the bytes behind it. Its
+-- place is told by how many of the `all` bytes are left from it on.
 use Rattle.std.specs.Prelude.{◌≡◌, ◌⊎◌, ◌-◌, ℕ, ℤ, zero, suc, Bool, true, false, List, [], ◌∷◌, length, take, drop, Result, Ok, Err, nat_lt, nat_le, ◌==◌, ◌&&◌, if◌then◌else◌}
 use Rattle.std.specs.Int.{Width, w16, w32, w64, byte_len, from_be_bytes, cast_signed}
 use Rattle.pg_client.specs.declared.desk.DeskCall.{DeskCall}
@@ -11,11 +11,11 @@ use Rattle.recording_text.specs.declared.recording.ReadError.{ReadError}
 use Rattle.recording_text.specs.declared.recording.ReadError.TheVariants.{Truncated, BadField, Trailing, NoMemory}
 use Rattle.recording_text.specs.Text.{tag}
 
--- The call answers so, unless memory runs out.
+-- The call answers what is told, unless memory runs out.
 abbrev pub AnswersUnlessNoMemory : {X : Type 0} → Result X ReadError → Result X ReadError → Type 0
 AnswersUnlessNoMemory {X} result told = (result ≡ told) ⊎ (result ≡ Err NoMemory)
 
--- What a call returned, seen by view, is what reading gives, unless memory ran out.
+-- Reading fails with this error, unless the error is that memory ran out.
 abbrev pub Fails : {Y : Type 0} → ReadError → Result Y ReadError → Type 0
 Fails NoMemory read = Unit {0}
 Fails Truncated read = read ≡ Err Truncated
@@ -48,7 +48,7 @@ abbrev pub items_at : {X : Type 0} → Reading X → ℕ → Reading (List X)
 items_at field zero bytes = Ok ([], bytes)
 items_at field (suc n) bytes = field bytes >>= λ x. items_at field n x.1 >>= λ xs. Ok (x.0 ∷ xs.0, xs.1)
 
--- so many bytes
+-- n bytes
 abbrev pub bytes_at : ℕ → Reading (List ℕ)
 bytes_at n bytes = if nat_lt (length bytes) n then Err Truncated else Ok (take n bytes, drop n bytes)
 
@@ -117,7 +117,7 @@ end_at all (suc (suc (suc zero)) ∷ rest) = Ok (end.Fatal, rest)
 end_at all (suc (suc (suc (suc zero))) ∷ rest) = Ok (end.CancelServed, rest)
 end_at all (suc (suc (suc (suc (suc byte)))) ∷ rest) = Err (BadField (all - suc (length rest)))
 
--- the fields of a recording, one behind another
+-- the fields of a recording, one after another
 abbrev pub Parts : Type 0
 Parts = (((((ℕ × ℤ) × List ℕ) × List ℕ) × List DeskCall) × List ℕ) × EndKind
 

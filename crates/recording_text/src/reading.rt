@@ -1,4 +1,4 @@
-//! Recordings read.
+//! How the bytes of a recording are read.
 
 ghost use Rattle.std.specs.Prelude.{◌≡◌, ◌≤◌, ◌-◌, ℕ, length, IfOk, IfErr, Ok};
 ghost use Rattle.std.specs.Int.{w16, w32, w64};
@@ -19,8 +19,8 @@ const TAG: u32 = 0x5047_5231;
 ///
 /// Fields are judged from the left. Truncated: a field's bytes aren't all there. BadField: the tag
 /// isn't `PGR1`, a key's length isn't 4 to 256, the byte of a call is above 5, that of the end above
-/// 4. Trailing: bytes stand behind the end. NoMemory: memory ran out; a count makes no room before
-/// its bytes or calls are seen to be there.
+/// 4. Trailing: bytes stand behind the end. NoMemory: memory ran out. No memory is taken for a count
+/// before its bytes or calls are seen to be there.
 pub fn read_recording(alloc: Global, bytes: &[u8]) -> Result<Recording, ReadError>
     // What is read has these bytes as its text.
     ensures found { IfOk result (λ r. IsRecordable r × (bytes.now ≡ recording_text r)) }
@@ -74,7 +74,7 @@ fn front(
     Ok(((((tag, pid), key), client), rest))
 }
 
-/// The place of the first of these bytes, the last ones of so many.
+/// The place of the first of these bytes, which are the last ones of `all` bytes.
 fn place(all: usize, bytes: &[u8]) -> u64
     ensures { result ≡ all - length bytes.now }
 {

@@ -13,7 +13,7 @@ use std::sync::Wait;
 pub enum Key {
     /// The first connection's.
     First,
-    /// Another one for its pid.
+    /// Another key, for the first connection's pid.
     Other,
     /// The second connection's.
     Second,
@@ -75,7 +75,7 @@ pub enum Stop {
     NoMemory,
     /// A line wasn't printed.
     Output,
-    /// A pid was taken, or it wasn't.
+    /// A registration was refused that has to succeed, or the other way round.
     OtherAnswer,
 }
 

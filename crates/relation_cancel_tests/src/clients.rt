@@ -16,7 +16,7 @@ pub(crate) const STARTUP: &[u8] = b"\0\0\0\x13\0\x03\0\0user\0demo\0\0";
 /// The same of version 3.2.
 pub(crate) const STARTUP_3_2: &[u8] = b"\0\0\0\x13\0\x03\0\x02user\0demo\0\0";
 
-/// What a client of 3.0 is told behind its startup packet under the pid 7 and the key 01020304:
+/// What a client of 3.0 is told after its startup packet under the pid 7 and the key 01020304:
 /// AuthenticationOk, four ParameterStatus, BackendKeyData, ReadyForQuery.
 pub(crate) const BEGUN: &[u8] = b"R\0\0\0\x08\0\0\0\0\
 S\0\0\0\x18server_version\016.0\0\
@@ -96,7 +96,7 @@ impl Registry {
         Some((manager, relations))
     }
 
-    /// Whether nobody has a pid, who is registered under it now.
+    /// Whether nobody has a pid. Afterwards a connection is registered under it.
     pub(crate) fn is_free<R: Wait>(&mut self, rt: &R, pid: i32) -> bool {
         self.register(rt, pid).is_some()
     }

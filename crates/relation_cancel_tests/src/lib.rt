@@ -1,5 +1,6 @@
-//! Tests of cancels that come beside the queries that they mean: from other connections over TCP, and
-//! from a thread beside a connection over memory. Which comes first is not settled, so no row says it.
+//! Tests of cancels that come while the queries that they mean run: from other connections over TCP,
+//! and from another thread than that of a connection over memory. Their order isn't settled, so no
+//! row says it.
 #![tactic(auto)]
 
 #[cfg(test)]

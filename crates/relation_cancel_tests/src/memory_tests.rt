@@ -36,7 +36,7 @@ struct Canceler {
 }
 
 impl Canceler {
-    /// Cancels by the pid 7 and this key, again and again, and tells how often somebody had it.
+    /// Cancels by the pid 7 and this key, again and again, and tells how often a connection had them.
     fn cancel<R: Wait>(&mut self, rt: &R, key: &SecretKey) -> u32 {
         let mut met = 0u32;
         for _ in 0..ROUNDS {
@@ -144,7 +144,7 @@ fn cancels_at<R: Wait + Threads + Copy + Send + 'static>(
     thread::spawn(&rt, move || run(&rt, canceler, &key)).ok()
 }
 
-/// Whether that is so while cancels come beside the queries, and each cancel meets the connection.
+/// Whether that is so while cancels come from another thread, and each cancel meets the connection.
 fn are_answered_beside<R: Wait + Threads + Copy + Send + 'static>(
     rt: R,
     registry: &mut Registry,

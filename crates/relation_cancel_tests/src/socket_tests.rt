@@ -19,7 +19,7 @@ use std::time::{Clock, Duration};
 /// How often a query is canceled.
 const CANCELS: u32 = 50;
 
-/// Two clients, of whom one's query is canceled so often, and the other's twice so often.
+/// Two clients, and the cancels of their queries: 50 for the one, and twice as many for the other.
 const CONNECTIONS: u64 = 152;
 
 /// The pids of the clients, and that of the last connection.
@@ -47,7 +47,7 @@ fn cancels<R: Net<Stream = TcpStream>>(
     }
 }
 
-/// Whether that is done from many connections, one after another. Some come while the query runs.
+/// Whether that is so of many connections, one after another. Some come while the query runs.
 fn cancels_often<R: Net<Stream = TcpStream> + Clock>(
     rt: &R,
     server: SocketAddr,
@@ -62,7 +62,7 @@ fn cancels_often<R: Net<Stream = TcpStream> + Clock>(
     are_so
 }
 
-/// Whether a client reads what it is told behind its startup packet, and asks a query that never
+/// Whether a client reads what it is told after its startup packet, and asks a query that never
 /// ends.
 fn asks(stream: &mut TcpStream, startup: &[u8], begun: &mut [u8]) -> bool {
     sends(stream, startup) && reads(stream, begun) && sends(stream, b"Q\0\0\0\x0cendless\0")
@@ -75,7 +75,8 @@ fn is_silent(stream: &mut TcpStream) -> bool {
     is_set && is_silent && stream.set_nonblocking(false).is_ok()
 }
 
-/// Whether a client is told that its query was canceled, and nothing else up to its end behind its Terminate.
+/// Whether a client is told that its query was canceled, and nothing else before the connection ends
+/// after its Terminate.
 fn is_told(stream: &mut TcpStream) -> bool {
     let mut reply = [0u8; CANCELED.len()];
     reads(stream, &mut reply)
@@ -113,7 +114,7 @@ fn is_canceled_by_a_long_key<R: Net<Stream = TcpStream> + Clock>(
         && is_told(stream)
 }
 
-/// Whether one of both is so of a new client: the second, if that is meant.
+/// Whether that holds of a new client: the case of 3.2 if `is_long`, and else that of 3.0.
 fn is_one_canceled<R: Net<Stream = TcpStream> + Clock>(
     rt: &R,
     server: SocketAddr,
@@ -131,7 +132,7 @@ fn is_one_canceled<R: Net<Stream = TcpStream> + Clock>(
     }
 }
 
-/// Whether both are so, one after another.
+/// Whether both cases hold, one after another.
 fn are_canceled<R: Net<Stream = TcpStream> + Clock>(rt: &R, server: SocketAddr) -> bool {
     let is_canceled = is_one_canceled(rt, server, false);
     is_one_canceled(rt, server, true) && is_canceled
@@ -186,8 +187,8 @@ fn are_taken_in_at<R: Wait + Clock + RandomSource + Copy + Drop>(
     are_taken_in(rt, registry, &mut acceptor, spawner) == Some(true)
 }
 
-/// Whether so it is at a new registry, and the jobs run to their ends and have given their
-/// registrations back then.
+/// The same at a new registry; and the jobs run to their ends, and then have ended their
+/// registrations.
 fn are_served<R: Wait + Clock + RandomSource + Copy + Drop>(
     rt: R,
     alloc: Global,
@@ -235,7 +236,7 @@ fn are_served_beside<
     Some(client.join(&rt) && are_served)
 }
 
-/// Whether so it is where jobs are started so.
+/// The same where jobs are started in this way.
 fn are_served_on<
     R: Threads
         + Wait
@@ -261,7 +262,7 @@ fn threads_of(alloc: Global) -> Result<(JobThreads, JobThreads), AllocError> {
 }
 
 /// Queries that never end are canceled while their connections are being served and others come.
-/// Each job then ends, and gives its registration back.
+/// Each job then ends, and has ended its registration.
 #[test]
 fn a_query_is_canceled_over_tcp(rt: HostRuntime) -> Result<(), Fail> {
     jobs_cross_threads();

@@ -35,7 +35,7 @@ unfoldable pub asking : ℕ → List ℕ
 asking i = frame_bytes false 80 (parse_body (parse i)) ++ frame_bytes false 66 (bind_body bind)
     ++ frame_bytes false 69 (execute_body execute) ++ frame_bytes false 83 []
 
--- Demo client: the startup packet, the queries of so many relations in their order, and Terminate.
+-- Demo client: the startup packet, the queries of the relations below `count` in their order, and Terminate.
 unfoldable pub demo_client : ℕ → List ℕ
 demo_client count = frame_bytes true protocol_3_0 (startup_body startup) ++ flat_map asking (range_with_len 0 count)
     ++ frame_bytes false 88 []

@@ -13,7 +13,7 @@ is_row _ = false
 abbrev pub row_count : List PgWireBackendMessage → ℕ
 row_count messages = count_by is_row messages
 
--- an Int32 tells the length of the body and of itself
+-- the length of the body, and four for the length itself, fit in 32 bits
 abbrev pub IsTold : PgWireBackendMessage → Type 0
 IsTold m = 4 + length (reply_body m) < 2 ^ 32
 

@@ -5,7 +5,7 @@ use Rattle.std.specs.Prelude.{ℕ, zero, suc, ◌+◌, ◌*◌, ◌/◌, ◌%◌
 unfoldable pub step : ℕ → ℕ
 step x = (x * 6364136223846793005 + 1442695040888963407) % 2 ^ 64
 
--- the number after so many steps
+-- the number after n steps
 unfoldable pub after : ℕ → ℕ → ℕ
 after x zero = x
 after x (suc n) = step (after x n)

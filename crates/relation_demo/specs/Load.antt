@@ -23,7 +23,7 @@ row x width = each_below width (λ c. cell (after x (3 * c)))
 abbrev pub rows : ℕ → ℕ → ℕ → List (List Interval)
 rows x width count = each_below count (λ r. row (after x (3 * width * r)) width)
 
--- the first three draws of a relation: the polls that it owes, its columns, its rows
+-- the first three draws of a relation: how many unready polls, columns and rows it has
 abbrev pub unready : ℕ → ℕ
 unready x = draw x 0 % 3
 
@@ -59,6 +59,6 @@ unfoldable pub before : ℕ → ℕ → ℕ
 before seed zero = seed
 before seed (suc i) = let x = before seed i in after x (draws x)
 
--- Demo relations: so many, drawn from the seed on.
+-- Demo relations: `count` of them, drawn from the seed on.
 unfoldable pub demo_relations : ℕ → ℕ → List Relation
 demo_relations seed count = each_below count (λ i. relation (before seed i) i)

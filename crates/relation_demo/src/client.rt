@@ -25,7 +25,7 @@ const SYNC: &[u8] = b"S\0\0\0\x04";
 /// Terminate.
 const TERMINATE: &[u8] = b"X\0\0\0\x04";
 
-/// The bytes of the client that asks for all rows of so many relations, one after another: a
+/// The bytes of the client that asks for all rows of `count` relations, one after another: a
 /// startup packet, for each relation Parse, Bind, Execute and Sync, and Terminate.
 #[tactic(auto, using(crate::proofs::ClientLemmas::is_short))]
 pub fn demo_client(alloc: Global, count: u32) -> Result<PgBytes, AllocError>

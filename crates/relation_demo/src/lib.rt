@@ -1,5 +1,5 @@
 //! The generated load of a server of relations: relations that are drawn from a seed, a client that
-//! asks for each, and the number of rows that it is answered.
+//! asks for each, and the count of the rows among the replies.
 #![tactic(auto)]
 
 mod client;

@@ -13,7 +13,7 @@ use relation_handlers::{RelationTable, TableError};
 use relation_tables::Relation;
 use std::alloc::{AllocError, Global};
 
-/// The table of so many relations, drawn from a seed. Each keeps the rules of a table, so want of
+/// The table of `count` relations, drawn from a seed. Each keeps the rules of a table, so want of
 /// memory is the only error.
 #[tactic(auto, using(crate::proofs::LoadLemmas::is_valid, crate::proofs::LoadLemmas::hold_intervals, crate::proofs::LoadLemmas::few_polls))]
 pub fn demo_table(alloc: Global, seed: u64, count: u32) -> Result<RelationTable, AllocError>
@@ -37,7 +37,7 @@ fn memory_error(error: TableError) -> AllocError
     AllocError
 }
 
-/// So many relations, drawn from a seed.
+/// `count` relations, drawn from a seed.
 fn relations(alloc: Global, seed: u64, count: u32) -> Result<PgList<Relation>, AllocError>
     requires { count ≤ 10000 }
     ensures { IfOk result (λ relations. relations ≡ load.demo_relations seed count) }
@@ -67,7 +67,7 @@ fn relation(alloc: Global, draws: &mut Draws, number: u32) -> Result<Relation, A
     })
 }
 
-/// The names of so many columns.
+/// The names of `width` columns.
 fn columns(alloc: Global, width: u32) -> Result<PgList<PgStr>, AllocError>
     ensures { IfOk result (λ columns. columns ≡ load.each_below width load.column_name) }
 {

@@ -1,4 +1,4 @@
--- What a relation file is answered with, by what it gave.
+-- What comes of reading a relation file, by the bytes that it gave.
 use Rattle.std.specs.Prelude.{ℕ, ◌≡◌, ◌≤◌, ◌<◌, List, [], ◌++◌, Option, Some, None, IfSome, length}
 use Rattle.conversation_runs.specs.Streams.{HasRisen}
 use Rattle.relation_tables.specs.declared.Relation.{Relation}
@@ -39,8 +39,8 @@ abbrev pub IsRefusalOf : Option (List ℕ) → Option (List ℕ) → ℕ → Lin
 IsRefusalOf left new_left number reason = (text : List ℕ) × GaveAll left new_left text × (length text ≤ file_limit)
     × (first_bad_line (lines_of text) ≡ Some (number, reason))
 
--- Why a file tells no table: the line that its whole text is refused for, too many bytes, or a read that failed before they were. The
--- count of faults stood at the first number, and stands at the second.
+-- Why a file tells no table: the line that its whole text is refused for, too many bytes, or a read that failed before there were too many.
+-- The count of faults stood at the first number, and stands at the second.
 abbrev pub IsFileCause : FileError → Option (List ℕ) → Option (List ℕ) → ℕ → ℕ → Type 0
 IsFileCause (BadLine number reason) left new_left faults new_faults = IsRefusalOf left new_left number reason
 IsFileCause TooLong left new_left faults new_faults = GaveTooMuch left new_left

@@ -39,7 +39,7 @@ cells_reason (cell ∷ cells) = cell_reason (reading Postgres cell) (cells_reaso
 abbrev pub row_reason : ℕ → List (List ℕ) → Option LineReason
 row_reason width cells = if not (length cells == width) then Some Width else cells_reason cells
 
--- the fields of a row, where a relation of so many columns is open, or else of a header
+-- the fields of a row, where a relation of this width is open, or else of a header
 abbrev pub fields_reason : (List ℕ → Bool) → Option ℕ → List (List ℕ) → Option LineReason
 fields_reason is_taken None fields = header_reason is_taken fields
 fields_reason is_taken (Some width) fields = row_reason width fields
@@ -53,8 +53,8 @@ abbrev pub at_line : ℕ → Option LineReason → Option (ℕ × LineReason) �
 at_line number None later = later
 at_line number (Some reason) later = Some (number, reason)
 
--- The first line of those from this number on that breaks a rule, and which: behind headers of these names, in a relation
--- of so many columns, if one is open. An empty line ends a relation; behind it stands a header, and behind that rows.
+-- The first line that breaks a rule, of the lines from this number on, and which rule. The headers before had these names, and a relation
+-- of this width is open, or none is. An empty line ends a relation; after it comes a header, and after that rows.
 abbrev pub first_bad_line_from : ℕ → List (List ℕ) → Option ℕ → List (List ℕ) → Option (ℕ × LineReason)
 first_bad_line_from number names width [] = None
 first_bad_line_from number names width ([] ∷ lines) = first_bad_line_from (number + 1) names None lines

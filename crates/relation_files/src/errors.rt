@@ -14,17 +14,17 @@ pub enum LineReason {
     /// A header has fewer than two fields, or the second is no decimal number of at most
     /// 4,294,967,295.
     Header,
-    /// A header's name is none that a table of relations takes, or is that of an earlier header.
+    /// A header's name is one that no table of relations takes, or is that of an earlier header.
     Name,
     /// A header has over 1,600 columns, or a column's name is over 63 bytes or holds a zero byte.
     Column,
     /// A row has more or fewer fields than the relation has columns.
     Width,
-    /// A row's first field that is no interval in the style `postgres` is refused for this.
+    /// A field of a row is no interval in the style `postgres`. The error is that of the first one.
     Cell(ParseError),
 }
 
-/// Why a relation file tells no table.
+/// Why a relation file gives no table.
 #[derive(Debug, PartialEq, Eq, Drop)]
 pub enum FileError {
     /// The line of this number, counted from 1, is the first that breaks a rule.

@@ -31,7 +31,7 @@ use std::alloc::Global;
 pub fn read_relations<F: Source>(alloc: Global, file: &mut F) -> Result<RelationTable, FileError>
     // The table is told by the whole text of the file, in which no line breaks a rule.
     ensures ok { IfOk result (λ table. IsToldBy (F.left file.old) (F.left file.new) table) }
-    // BadLine has the refusal of the whole text; TooLong comes only where too many bytes were
+    // BadLine has the first bad line of the whole text; TooLong comes only where too many bytes were
     // taken, and FileFault only where the count of faults rose.
     ensures refused { IfErr result (λ error. IsFileCause error (F.left file.old) (F.left file.new)
         (F.faults file.old) (F.faults file.new)) }

@@ -18,7 +18,7 @@ use pg_portal::Named;
 use relation_tables::{MOST_COLUMNS, Relation, is_column_name, is_name};
 use std::alloc::{AllocError, Global};
 
-/// The relation of a header, which has no row yet. Names of earlier headers are taken.
+/// The relation of a header, which has no row yet. `taken` has the names of earlier headers.
 pub(crate) fn read_header(
     alloc: Global,
     taken: &Named<()>,

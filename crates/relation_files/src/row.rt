@@ -12,7 +12,7 @@ use pg_interval::Interval;
 use pg_messages::PgList;
 use std::alloc::Global;
 
-/// The intervals of a row of a relation with so many columns.
+/// The intervals of a row of a relation with `width` columns.
 pub(crate) fn read_row(
     alloc: Global,
     width: usize,
@@ -29,7 +29,7 @@ pub(crate) fn read_row(
     read_fields(alloc, width, text)
 }
 
-/// The intervals of a row's text, which has to have so many fields.
+/// The intervals of a row's text, which has to have `width` fields.
 fn read_fields(alloc: Global, width: usize, text: &str) -> Result<PgList<Interval>, LineError>
     ensures good { IfOk result (λ _. row_reason width (fields_of text.now) ≡ None) }
     ensures row { IfOk result (λ row. row ≡ row_of text.now) }
@@ -42,7 +42,7 @@ fn read_fields(alloc: Global, width: usize, text: &str) -> Result<PgList<Interva
     read_cells(alloc, width, text)
 }
 
-/// The intervals of cells. There will be so many, where none is refused.
+/// The intervals of the cells. There is room for `width` of them from the start.
 fn read_cells(alloc: Global, width: usize, text: &str) -> Result<PgList<Interval>, LineError>
     ensures good { IfOk result (λ _. cells_reason (fields_of text.now) ≡ None) }
     ensures row { IfOk result (λ row. row ≡ row_of text.now) }

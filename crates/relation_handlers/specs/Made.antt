@@ -20,7 +20,8 @@ use Rattle.relation_tables.specs.RelationHandler.{column_formats, line_item, or_
 use Rattle.relation_handlers.specs.Tables.{IsSound}
 use Rattle.pg_results.specs.declared.on_demand.OnDemand.{OnDemand}
 
--- what makes the rows of a relation: the table and the relation's place in it, the formats of a row, and the options of a text
+-- the maker of a relation's rows: the table and the relation's place in it, the formats of a row, and the options of a
+-- text
 pub record ToldMaker : Type 0 where
   pub relations : List Relation
   pub relation : ℕ
@@ -31,7 +32,7 @@ pub record ToldMaker : Type 0 where
 abbrev pub relation_of : ToldMaker → Relation
 relation_of m = relation_at m.relations m.relation
 
--- the style of options, or the refusal of the text that names none
+-- the style of options, or the error with the text that names none
 abbrev pub style_in : FormatOptions → Result IntervalStyle PgWireError
 style_in options = or_refused options.interval_style (interval_style_of options.interval_style)
 
@@ -42,19 +43,19 @@ row_items m = map (row_item (style_in m.options) (column_formats m.formats (rela
 abbrev pub line_items : ToldMaker → List CopyItem
 line_items m = map (line_item (style_in m.options)) (relation_of m).rows
 
--- those to come of what makes these rows, and of what makes these lines
+-- the rows that are still to come, and the lines that are still to come
 abbrev pub rows_left : OnDemand ToldMaker → List RowItem
 rows_left source = drop source.position (row_items source.maker)
 
 abbrev pub lines_left : OnDemand ToldMaker → List CopyItem
 lines_left source = drop source.position (line_items source.maker)
 
--- each of so many columns has a format
+-- each of this many columns has a format
 abbrev pub GivesFormats : Format → ℕ → Type 0
 GivesFormats formats count = (index : ℕ) → index < count → IsTrue (is_some (format_for formats index))
 
--- What is true of each maker: its relation is in the table and sound, each column has a format, and the style's text is short; what it
--- keeps beside are the relation's rows, the formats of the columns and the style.
+-- What is true of each maker: its relation is in the table and sound, each column has a format, and the style's text is
+-- short. It also keeps the relation's rows, the formats of the columns and the style.
 pub record IsMaker (m : ToldMaker) (kept_rows : List (List Interval)) (kept_formats : List FieldFormat)
     (kept_style : Result IntervalStyle PgWireError) : Type 0 where
   pub place : m.relation < length m.relations
@@ -69,7 +70,8 @@ pub record IsMaker (m : ToldMaker) (kept_rows : List (List Interval)) (kept_form
 abbrev pub session_options : ClientInfo → FormatOptions
 session_options client = record default_options { interval_style = style_text client }
 
--- The options of a query in these formats: those of its session, and where all results are binary any, since nothing is written as text.
+-- The options of a query in these formats are those of its session. Where all results are binary they may be any, since
+-- nothing is written as text.
 abbrev pub IsSettled : Format → ClientInfo → FormatOptions → Type 0
 IsSettled format.UnifiedText client options = options ≡ session_options client
 IsSettled format.UnifiedBinary client options = ⊤

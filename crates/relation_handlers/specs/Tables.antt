@@ -1,4 +1,4 @@
--- Relations, and the rules of a table of them: those of names and columns stand with relation_tables.
+-- Relations, and the rules of a table of them. The rules of names and columns are in relation_tables.
 use Rattle.std.specs.Prelude.{ℕ, Bool, true, List, [], ◌∷◌, ◌++◌, Option, Some, None, ◌≡◌, ◌||◌, not, is_some, if◌then◌else◌, length}
 use Rattle.std.specs.List.{AllByRecursion}
 use Rattle.pg_interval.specs.declared.pg_interval.Interval.{Interval}
@@ -9,7 +9,8 @@ use Rattle.relation_tables.specs.Relations.{place_of, are_even}
 use Rattle.relation_handlers.specs.declared.table.TableError.{TableError}
 use Rattle.relation_handlers.specs.declared.table.TableError.TheVariants.{BadName, BadColumn, RaggedRow, NoMemory}
 
--- what a relation at a place is refused for, its name before its columns before its rows; its name may be that of an earlier one
+-- the rule that a relation at a place breaks: its name is judged first, which may be that of an earlier relation, then
+-- its columns, then its rows
 abbrev pub refusal_at : ℕ → Bool → Relation → Option TableError
 refusal_at place is_taken r =
     if is_taken || not (is_name r.name) then Some (BadName place)
@@ -40,7 +41,7 @@ refusal relations = refusal_after [] relations
 abbrev pub IsValid : List Relation → Type 0
 IsValid relations = refusal relations ≡ None
 
--- why a table was refused: its refusal, or want of memory
+-- why a table was refused: its refusal, or NoMemory
 abbrev pub IsCause : List Relation → TableError → Type 0
 IsCause relations NoMemory = Unit {0}
 IsCause relations e = refusal relations ≡ Some e

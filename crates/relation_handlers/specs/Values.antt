@@ -28,7 +28,7 @@ abbrev pub tabbed : ℕ → Result (List ℕ) PgWireError → Result (List ℕ) 
 tabbed index (Ok text) = Ok (line_cell index text)
 tabbed index (Err e) = Err e
 
--- the texts, split by tabs
+-- the texts, separated by tabs
 abbrev pub tab_joined : Result (List (List ℕ)) PgWireError → Result (List ℕ) PgWireError
 tab_joined (Ok texts) = Ok (join_with_byte 9 texts)
 tab_joined (Err e) = Err e

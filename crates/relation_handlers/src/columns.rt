@@ -146,7 +146,7 @@ fn column_format(formats: &Format, index: usize) -> FieldFormat
     }
 }
 
-/// The columns of these names, in as many formats.
+/// The columns of these names, each in its format.
 pub(crate) fn columns(
     alloc: Global,
     formats: &[FieldFormat],

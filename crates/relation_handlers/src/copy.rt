@@ -9,8 +9,8 @@ use pg_portal::{CopySource, OnDemand, PgWireError};
 use std::alloc::AllocError;
 use std::marker::Model;
 
-/// The lines of a relation from a position on, each made when it is asked for from the memory of an
-/// allocator.
+/// The lines of a relation from a position on, each made when it is asked for, with the memory of
+/// an allocator.
 #[derive(Drop)]
 pub struct RelationCopy<'r, A> {
     lines: OnDemand<RelationRows<'r>>,
@@ -39,12 +39,12 @@ impl<'r, A: Drop> RelationCopy<'r, A> {
 impl<'r, A: Drop> CopySource for RelationCopy<'r, A> {
     ghost items = { λ items. items };
 
-    /// One line is made. After want of memory it is still to come.
+    /// Makes one line. After an AllocError the line is still to come.
     fn next(&mut self) -> Result<Option<Result<CopyData, PgWireError>>, AllocError> {
         CopySource::next(&mut self.lines)
     }
 
-    /// One line in the short way.
+    /// Writes one line into the lent buffer.
     #[inline(always)]
     fn next_copied(&mut self, copied: &mut CopyData) -> Result<bool, AllocError> {
         CopySource::next_copied(&mut self.lines, copied)

@@ -17,8 +17,8 @@ use pg_text::IntervalStyle;
 use std::alloc::{AllocError, Global};
 use std::mem;
 
-/// A row as a line, or `InvalidOptionValue` in its place where the session's style isn't one. It
-/// can be sent as a reply.
+/// A row as a line, or `InvalidOptionValue` in its place where the session's style text names no
+/// style. It can be sent as a reply.
 #[inline(always)]
 pub(crate) fn line_item(
     alloc: Global,
@@ -38,8 +38,8 @@ pub(crate) fn line_item(
     }
 }
 
-/// Writes a row as a line over data that are lent, where the session's style is one, and answers
-/// whether it is. What is written can be sent as a reply.
+/// Writes a row as a line into lent data, if the session has a style, and returns whether it has
+/// one. What is written can be sent as a reply.
 #[inline(always)]
 pub(crate) fn write_line_in_style(
     alloc: Global,
@@ -60,8 +60,8 @@ pub(crate) fn write_line_in_style(
     }
 }
 
-/// A row as a line where the session's style is a text that names none: `InvalidOptionValue` in its
-/// place where it has a column. One that is refused takes no memory but for its error.
+/// A row as a line, where the session's style text names no style: `InvalidOptionValue` in its
+/// place if it has a column. A refused row takes memory only for its error.
 #[cold]
 #[inline(never)]
 fn line_without_style(
@@ -78,11 +78,11 @@ fn line_without_style(
     if !row.is_empty() {
         return Ok(Err(refusal(alloc, text)?));
     }
-    // Without a text any style will do.
+    // A row without a text needs no style.
     Ok(Ok(copy_line_of(alloc, IntervalStyle::Postgres, row)?))
 }
 
-/// A row as a line: its texts in a style, split by tabs and ended by a newline.
+/// A row as a line: its texts in a style, separated by tabs and ended by a newline.
 fn copy_line_of(
     alloc: Global,
     style: IntervalStyle,
@@ -99,7 +99,7 @@ fn copy_line_of(
     Ok(made)
 }
 
-/// Writes a row as a line over data that are lent, in their memory.
+/// Writes a row as a line into lent data, whose memory it uses again.
 #[inline(always)]
 fn write_line(
     alloc: Global,
@@ -120,8 +120,8 @@ fn write_line(
     Ok(())
 }
 
-/// Writes the texts of a row, split by tabs. There is room for them, each of at most 96 bytes, and
-/// for the newline.
+/// Writes the texts of a row, separated by tabs. It reserves room for them, each of at most 96
+/// bytes, and for the newline.
 #[inline(always)]
 fn push_texts(
     payload: &mut Vec<u8>,
@@ -141,7 +141,7 @@ fn push_texts(
     Ok(())
 }
 
-/// Appends the text at an index of a line, behind its tab.
+/// Appends the text at an index of a line, after its tab.
 #[inline(always)]
 fn push_cell(
     payload: &mut Vec<u8>,

@@ -23,7 +23,7 @@ use std::alloc::{AllocError, Global};
 use std::mem;
 
 /// A row in these formats, one for each column, or `InvalidOptionValue` in its place where a column
-/// is text and the session's style isn't one. It can be sent as a reply.
+/// is text and the session's style text names no style. It can be sent as a reply.
 #[inline(always)]
 pub(crate) fn row_item(
     alloc: Global,
@@ -44,8 +44,8 @@ pub(crate) fn row_item(
     }
 }
 
-/// Writes a row in these formats over one that is lent, where the session's style is one, and
-/// answers whether it is. What is written can be sent as a reply.
+/// Writes a row in these formats into a lent row, if the session has a style, and returns whether
+/// it has one. What is written can be sent as a reply.
 #[inline(always)]
 pub(crate) fn write_in_style(
     alloc: Global,
@@ -67,8 +67,8 @@ pub(crate) fn write_in_style(
     }
 }
 
-/// A row where the session's style is a text that names none: `InvalidOptionValue` in its place
-/// where a column is text. One that is refused takes no memory but for its error.
+/// A row, where the session's style text names no style: `InvalidOptionValue` in its place if a
+/// column is text. A refused row takes memory only for its error.
 #[cold]
 #[inline(never)]
 fn item_without_style(
@@ -86,7 +86,7 @@ fn item_without_style(
     if have_text(formats) {
         return Ok(Err(refusal(alloc, text)?));
     }
-    // Without a text any style will do.
+    // A row without a text needs no style.
     Ok(Ok(data_row_of(alloc, IntervalStyle::Postgres, formats, row)?))
 }
 
@@ -109,7 +109,8 @@ fn data_row_of(
     Ok(made)
 }
 
-/// Writes a row in these formats, whose texts are in a style, over one that is lent, in its memory.
+/// Writes a row in these formats, whose texts are in a style, into a lent row, whose memory it uses
+/// again.
 #[inline(always)]
 fn write_row(
     alloc: Global,

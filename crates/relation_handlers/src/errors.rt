@@ -1,4 +1,4 @@
-//! The error that relations are refused by.
+//! The error for an unknown relation.
 
 ghost use Rattle.std.specs.Prelude.{◌≡◌, IfOk};
 ghost use Rattle.relation_tables.specs.Errors.{unknown_relation};

@@ -26,8 +26,8 @@ use relation_tables::RelationStatement;
 use std::alloc::{AllocError, Global};
 use std::sync::Arc;
 
-/// It serves relations: extended queries of them, and simple queries of them, which may be `COPY
-/// name TO STDOUT`. COPY from the client is left to another handler.
+/// Serves relations: extended and simple queries of them. A simple query may be `COPY name TO
+/// STDOUT`. COPY from the client goes to `NoopHandler`, which refuses it.
 #[derive(Drop)]
 pub struct RelationHandlerOver<B> {
     /// The relations.
@@ -159,8 +159,8 @@ impl<B: ServedRelations> PgWireServerHandlers for RelationHandlerOver<B> {
     }
 }
 
-/// The types of parameters as they were given, and `unknown` where they weren't. As many as an
-/// Int16 counts can be sent as a reply.
+/// The types of parameters as they were given, and `unknown` where they weren't. They are at most
+/// as many as an Int16 counts, so they can be sent as a reply.
 fn given_types(alloc: Global, types: &[Option<PgType>]) -> Result<PgList<PgType>, AllocError>
     requires { length types.now ≤ 32767 }
     ensures types { IfOk result (λ all. all ≡ given_types types.now) }

@@ -25,8 +25,8 @@ use std::alloc::{AllocError, Global};
 use std::marker::Model;
 use std::sync::Arc;
 
-/// Relations that keep the rules, under their names. It tells what queries mean among them: BEGIN,
-/// COMMIT, or a relation by its name. Any other is the error 42P01.
+/// Relations that keep the rules, under their names. As a parser it gives what a query means among
+/// them: BEGIN, COMMIT, or a relation by its name. Any other text is the error 42P01.
 #[derive(Drop)]
 pub struct NamedRelations {
     relations: PgList<Relation>,
@@ -132,7 +132,7 @@ impl QueryParser for NamedRelations {
         }
     }
 
-    /// There are none.
+    /// No statement has parameters of its own.
     fn get_parameter_types(
         &self,
         alloc: Global,

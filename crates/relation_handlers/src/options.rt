@@ -50,7 +50,7 @@ impl Settings {
     }
 }
 
-/// The default options, but for an interval style by its very name.
+/// The default options, but with an interval style by its exact name.
 #[derive(Drop)]
 pub(crate) struct StyledOptions {
     options: Arc<FormatOptions>,
@@ -101,7 +101,7 @@ impl StyledOptions {
     }
 }
 
-/// The options in each of the four styles by its very name.
+/// The options in each of the four styles, by its exact name.
 #[derive(Drop)]
 pub(crate) struct SharedOptions {
     // those in `postgres`, the style of a session that names none
@@ -128,8 +128,8 @@ impl SharedOptions {
         self.postgres.settings()
     }
 
-    /// The settings of a session that names this style. Where that is one of the four by its very
-    /// name they are shared, which takes no memory.
+    /// The settings of a session that names this style. Where that is one of the four by its exact
+    /// name, the settings are shared, which takes no memory.
     pub(crate) fn named(&self, alloc: Global, text: &str) -> Result<Settings, AllocError>
         requires { IsShortText text.now }
         ensures { IfOk result (λ settings.
@@ -190,7 +190,7 @@ fn own_settings(alloc: Global, text: &str) -> Result<Settings, AllocError>
     Ok(Settings { options, style })
 }
 
-/// The default options, but for the style of this text, in memory of their own.
+/// The default options, but with the style of this text, in memory of their own.
 fn options_in(alloc: Global, style: &str) -> Result<Arc<FormatOptions>, AllocError>
     ensures { IfOk result (λ options.
         arc_value options ≡ record default_options { interval_style = style.now }) }

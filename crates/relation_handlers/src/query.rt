@@ -1,11 +1,11 @@
-//! What is answered of relations, and the queries that give it.
+//! Responses of relations, and the queries that give them.
 
 use crate::served::ServedRelations;
 use pg_handlers::PolledQuery;
 use pg_messages::PgList;
 use pg_portal::Response;
 
-/// What is answered of relations.
+/// A response of relations.
 pub(crate) type RelationResponse<B> = Response<
     <B as ServedRelations>::Rows,
     <B as ServedRelations>::Lines,

@@ -19,8 +19,8 @@ use std::alloc::{AllocError, Global};
 use std::marker::Model;
 use std::sync::Arc;
 
-/// What makes the rows of a relation, and the lines of a COPY of it, each by its index. It keeps
-/// none of them.
+/// Makes the rows of a relation, and the lines of a COPY of it, each by its index. It keeps none of
+/// them.
 #[derive(Drop)]
 pub struct RelationRows<'r> {
     /// The table.
@@ -29,8 +29,8 @@ pub struct RelationRows<'r> {
     pub relation: u32,
     /// The formats of the columns in a row. A line is text.
     pub formats: Format,
-    /// The options whose interval style a text has: those of the session. Where no row is asked for
-    /// as text they may be others.
+    /// The options with the interval style of texts: those of the session. Where all rows are
+    /// binary they may be others.
     pub options: Arc<FormatOptions>,
     // the rows of the relation, looked up once
     rows: &'r PgList<PgList<Interval>>,
@@ -63,8 +63,8 @@ impl<'r> Model for RelationRows<'r> {
 }
 
 impl<'r> RelationRows<'r> {
-    /// What makes the rows of the relation at a place, where the format of each column and the
-    /// style of the options are judged already. It takes no memory.
+    /// The maker of the rows of the relation at a place. The format of each column and the style of
+    /// the options are judged already. It takes no memory.
     pub(crate) fn new(
         alloc: Global,
         relations: &'r RelationTable,
@@ -138,7 +138,7 @@ impl<'r> RowMaker for RelationRows<'r> {
         row_item(self.alloc, &self.style, formats, self.row(index))
     }
 
-    /// The row at an index, where the session's style is one.
+    /// Writes the row at an index, if the session has a style.
     #[inline(always)]
     fn make_row(&self, index: usize, made: &mut DataRow) -> Result<bool, AllocError> {
         let formats = self.each_format.as_slice();
@@ -161,7 +161,7 @@ impl<'r> CopyMaker for RelationRows<'r> {
         line_item(self.alloc, &self.style, self.row(index))
     }
 
-    /// The line at an index, where the session's style is one.
+    /// Writes the line at an index, if the session has a style.
     #[inline(always)]
     fn make_copied(&self, index: usize, made: &mut CopyData) -> Result<bool, AllocError> {
         write_line_in_style(self.alloc, &self.style, self.row(index), made)

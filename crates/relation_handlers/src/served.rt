@@ -27,7 +27,8 @@ use relation_tables::RelationStatement;
 use std::alloc::{AllocError, Global};
 use std::sync::Arc;
 
-/// Relations that are served. Handlers are generic in them, and used with a `&RelationTable` alone.
+/// Relations that are served. Handlers are generic in them, and are used only with a
+/// `&RelationTable`.
 pub trait ServedRelations: Drop {
     /// The parser of queries of them.
     type Parser: QueryParser<Statement = RelationStatement> + Drop;
@@ -166,8 +167,8 @@ fn copy_response<'r>(
     Ok(CopyResponse::new(0, named.at(place).columns.len(), lines))
 }
 
-/// The settings of a query in these formats. Where all results are binary the client's style counts
-/// for nothing, and isn't looked up.
+/// The settings of a query in these formats. Where all results are binary, the client's style
+/// doesn't matter, and isn't looked up.
 #[inline(always)]
 fn query_settings(
     alloc: Global,

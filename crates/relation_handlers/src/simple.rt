@@ -103,7 +103,7 @@ fn copy_query<B: ServedRelations>(
     }
 }
 
-/// What a COPY of the relation at a place is answered: its lines as text.
+/// The response to a COPY of the relation at a place, in a list: its lines as text.
 fn copy_responses<B: ServedRelations>(
     alloc: Global,
     served: &B,
@@ -119,7 +119,7 @@ fn copy_responses<B: ServedRelations>(
     alone(alloc, Response::CopyOut(lines))
 }
 
-/// The query that the error 42P01 refuses, with a text.
+/// A query that is refused with the error 42P01 for this text.
 fn refused_query<R: RowSource, C: CopySource>(
     alloc: Global,
     text: &str,

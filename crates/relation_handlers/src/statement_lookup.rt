@@ -7,7 +7,7 @@ ghost use Rattle.relation_tables.specs.Relations.{meaning_of};
 use crate::named_relations::NamedRelations;
 use relation_tables::RelationStatement;
 
-/// What a trimmed text means: BEGIN and COMMIT in any ASCII case, or a relation by its very name.
+/// What a trimmed text means: BEGIN and COMMIT in any ASCII case, or a relation by its exact name.
 pub(crate) fn find_trimmed_statement(
     relations: &NamedRelations,
     text: &str,

@@ -1,4 +1,4 @@
-//! What statements of relations are answered.
+//! The responses to statements of relations.
 
 ghost use Rattle.std.specs.Prelude.{◌≡◌, Ok, IfOk, IsTrue, length};
 ghost use Rattle.pg_results.specs.Clients.{HasShortMetadata};
@@ -28,7 +28,7 @@ pub(crate) fn polls_of(relations: &NamedRelations, means: RelationStatement) -> 
     }
 }
 
-/// What a statement comes to, with its rows in these formats.
+/// The response to a statement, with its rows in these formats.
 #[inline(always)]
 pub(crate) fn response_of<B: ServedRelations>(
     alloc: Global,

@@ -48,7 +48,7 @@ impl SessionStyle {
         SessionStyle::named(alloc, text_under(client, &name))
     }
 
-    /// The style that a text names. One that is a style takes no memory.
+    /// The style that a text names. A text that names one takes no memory.
     pub(crate) fn named(alloc: Global, text: &str) -> Result<SessionStyle, AllocError>
         requires { IsShortText text.now }
         ensures { IfOk result (λ style.
@@ -58,7 +58,7 @@ impl SessionStyle {
         Ok(SessionStyle { style })
     }
 
-    /// A style that is one.
+    /// The session style that is this style.
     #[inline(always)]
     pub(crate) fn known(style: IntervalStyle) -> SessionStyle
         ensures { result ≡ Ok style }
@@ -93,7 +93,7 @@ impl SessionStyle {
     }
 }
 
-/// The refusal of a text that names no style.
+/// The error for a text that names no style.
 #[cold]
 #[inline(never)]
 pub(crate) fn refusal(alloc: Global, text: &PgStr) -> Result<PgWireError, AllocError>

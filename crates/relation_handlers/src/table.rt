@@ -74,8 +74,8 @@ impl Model for RelationTable {
 }
 
 impl RelationTable {
-    /// The table of these relations, of which each keeps the rules that `TableError` tells. The
-    /// relations are judged in their order, and of one the name before the columns before the rows.
+    /// The table of these relations, if each keeps the rules that `TableError` tells. The relations
+    /// are judged in their order; of each the name first, then the columns, then the rows.
     pub fn try_new(alloc: Global, relations: PgList<Relation>) -> Result<RelationTable, TableError>
         requires { length relations < 2 ^ 32 }
         ensures ok { IfOk result (λ table. table ≡ relations) }
@@ -115,8 +115,9 @@ impl RelationTable {
         Ok(self.named.clone()?)
     }
 
-    /// The settings of a client, whose interval style is looked up once. Where that is one of the
-    /// four by its very name, as it is without one, they are shared, which takes no memory.
+    /// The settings of a client, whose interval style is looked up once. Where the client names one
+    /// of the four styles by its exact name, or no style, the settings are shared, which takes no
+    /// memory.
     #[inline(always)]
     pub(crate) fn settings_of(
         &self,
@@ -162,7 +163,7 @@ fn judged(alloc: Global, relations: PgList<Relation>) -> Result<Arc<NamedRelatio
     Ok(NamedRelations::shared(alloc, relations, places, columns)?)
 }
 
-/// Where each name stands among relations that keep the rules.
+/// The place of each name among relations that keep the rules.
 fn places_of(alloc: Global, relations: &[Relation]) -> Result<Named<u32>, TableError>
     requires { length relations.now < 2 ^ 32 }
     ensures places { IfOk result (λ places. (name : List ℕ) → map.get places name
@@ -183,7 +184,7 @@ fn places_of(alloc: Global, relations: &[Relation]) -> Result<Named<u32>, TableE
     Ok(places)
 }
 
-/// What the relation at this place is refused for, if for anything.
+/// The rule that the relation at this place breaks, if it breaks one.
 fn judge(place: u32, is_taken: bool, relation: &Relation) -> Option<TableError>
     ensures { result ≡ refusal_at place is_taken relation.now }
 {

@@ -1,5 +1,5 @@
-//! The numbers of intervals lie in their types, which a table knows of its relations once it has
-//! visited each.
+//! Visits each interval of a table's relations, which shows that the numbers of intervals lie in
+//! their types.
 
 ghost use Rattle.pg_interval.specs.Cell.{IsInterval};
 ghost use Rattle.relation_handlers.specs.Tables.{IsRowWithin, AreRowsWithin, HoldIntervals};

@@ -6,8 +6,8 @@ ghost use Rattle.relation_tables.specs.Queries.{words, is_word, copied_name};
 
 use query_texts::first_word;
 
-/// The name in `COPY name TO STDOUT`, four words of which the others are in any ASCII case. None is
-/// any other text.
+/// The name in `COPY name TO STDOUT`. The other three words may be in any ASCII case. Any other
+/// text gives None.
 pub(crate) fn copied_name(text: &str) -> Option<&str>
     ensures { option_copied result ≡ copied_name (words text.now) }
 {
@@ -17,8 +17,8 @@ pub(crate) fn copied_name(text: &str) -> Option<&str>
     }
 }
 
-/// The name, where the other words are in capitals and a space stands between words, as in most
-/// texts: such a text is read once, and its words aren't counted.
+/// The name, where the other words are in capitals and one space stands between words, as in most
+/// texts. Such a text is read once, and its words aren't counted.
 fn plainly_copied_name(text: &str) -> Option<&str>
     ensures { IfSome result (λ name. copied_name (words text.now) ≡ Some name.now) }
 {

@@ -1,5 +1,5 @@
--- What each error of the relation server comes from: a message that is taken in a state, over relations and under the registry's answers to
--- come.
+-- The cause of each error of the relation server: a message that is taken in a state, over relations and with the
+-- registry's answers to come.
 use Rattle.std.specs.Prelude.{ℕ, ℤ, Bool, true, List, [], ◌≡◌, ◌≢◌, ◌≤◌, ◌<◌, ◌-◌, ◌⊎◌, Some, None, IsTrue, length, drop, zip, codes}
 use Rattle.std.specs.List.{Contains}
 use Rattle.std.specs.Str.{str_eq_ignore_ascii_case}
@@ -33,11 +33,11 @@ use Rattle.relation_tables.specs.Relations.{meaning, place_of, relation_at, colu
 abbrev pub Cause : Type 1
 Cause = List Relation → List Bool → State RelationStatement → PgWireFrontendMessage → Type 0
 
--- what the message is answered
+-- the answer to the message
 abbrev pub answer : List Relation → List Bool → State RelationStatement → PgWireFrontendMessage → Answer (State RelationStatement)
 answer relations answers s m = whole_table (relation_handlers relations) answers s m
 
--- what messages are answered in turn from the start of a session, under a registration: a pid and a key
+-- the answer to messages one after another, from the start of a session with a registration: a pid and a key
 abbrev pub from_start : List Relation → ℤ × List ℕ → List Bool → List PgWireFrontendMessage → Answer (State RelationStatement)
 from_start relations registration answers messages =
     conversation (whole_table (relation_handlers relations)) answers (first_state registration.0 registration.1) messages
@@ -157,7 +157,7 @@ HasCell rows = (row : List Interval) × Contains rows row × (row ≢ [])
 abbrev pub last_rows : {A : Type 0} → List (List Interval) → List A → List (List Interval)
 last_rows rows items = drop (length rows - length items) rows
 
--- the rows of its relation that are to come of a portal
+-- the rows of a portal's relation that are still to come
 abbrev pub rows_to_come : List (List Interval) → Stage → List (List Interval)
 rows_to_come rows Unstarted = rows
 rows_to_come rows (Started r delivered) = last_rows rows r.items
@@ -209,6 +209,6 @@ IsCopyData (client.CopyData m) = Unit {0}
 IsCopyData (client.CopyDone m) = Unit {0}
 IsCopyData _ = ⊥
 
--- CopyData or CopyDone is taken in COPY, of which the handlers of relations take none.
+-- CopyData or CopyDone is taken in a COPY from the client. The handlers of relations refuse both.
 abbrev pub SendsCopy : Cause
 SendsCopy relations answers s m = IsInCopy s × IsCopyData m

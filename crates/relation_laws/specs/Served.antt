@@ -16,7 +16,8 @@ use Rattle.relation_tables.specs.Relations.{relation_at}
 use Rattle.relation_laws.specs.Told.{TellsCode}
 use Rattle.relation_laws.specs.Causes.{Cause, answer, last_rows}
 
--- What is to come of a started portal: an item for each of the last rows of its relation, in this style and in the portal's formats.
+-- The items to come of a started portal: one for each of the last rows of its relation, in this style and in the
+-- portal's formats.
 pub record IsRest (relations : List Relation) (style : Result IntervalStyle PgWireError) (p : BoundPortal RelationStatement)
     (r : ToldRows) : Type 0 where
   pub place : ℕ
@@ -29,8 +30,8 @@ IsStageOf relations style p Unstarted = Unit {0}
 IsStageOf relations style p (Started r delivered) = IsRest relations style p r
 IsStageOf relations style p (Ended delivered) = Unit {0}
 
--- A state in which relations are served: what is to come of each started portal is a rest of its relation in the session's style, and
--- before the startup packet no portal is stored.
+-- A state in which relations are served: the items to come of each started portal are the last rows of its relation in
+-- the session's style, and before the startup packet no portal is stored.
 pub record IsServed (relations : List Relation) (s : State RelationStatement) : Type 0 where
   pub portals : (name : List ℕ) (p : TablePortal RelationStatement) → value_under (fin.get s.portals name) ≡ Some p
       → IsStageOf relations (session_style s.info) p.bound p.stage

@@ -54,7 +54,7 @@ pub fn errors_have_causes()
     // A question of this query was answered true.
     ensures canceled { IsToldExactlyWhere (codes "ERROR") (codes "57014") IsCanceled }
 
-    // A text cell is met under a style text that is none of the four.
+    // A text cell is met, and the session's style text names none of the four styles.
     ensures style { IsToldExactlyWhere (codes "ERROR") (codes "22023") MeetsTextWithoutStyle }
 
     // CopyFail is taken in COPY.
@@ -80,9 +80,9 @@ pub fn errors_have_causes()
 {}
 
 /// Whatever messages a session begins with and whatever the registry answers, relations are served
-/// in the state that they lead to, so that every message behind them is answered by the law above.
-/// No COPY from the client is ever in progress, so the errors of one are never told; nor are those
-/// of a query that comes too early and of a portal that isn't started.
+/// in the state that they lead to, so that every further message is answered by the law above. No
+/// COPY from the client is ever in progress, so its errors are never told. The errors of a query
+/// that comes too early, and of a portal that isn't started, are never told either.
 pub fn served_states_are_kept()
     ensures served { (relations : List Relation) (registration : ℤ × List ℕ) (answers : List Bool)
         (messages : List PgWireFrontendMessage) (s : State RelationStatement)

@@ -1,4 +1,4 @@
-//! Laws of the server of relations: what each error that it tells comes from.
+//! Laws of the server of relations: the cause of each error that it tells.
 #![tactic(auto)]
 
 mod laws;

@@ -43,7 +43,7 @@ impl Registry {
         self.manager.register(rt, &mut self.door, pid, key).ok()
     }
 
-    /// Whether nobody has a pid, who is registered under it now.
+    /// Whether nobody has a pid. Afterwards a connection is registered under it.
     pub(crate) fn is_free<R: Wait>(&mut self, rt: &R, pid: i32) -> bool {
         self.register(rt, pid).is_some()
     }

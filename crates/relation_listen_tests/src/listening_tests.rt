@@ -103,8 +103,8 @@ fn pid_of(number: u64) -> Option<i32> {
     i32::try_from(number.saturating_add(1)).ok()
 }
 
-/// Whether a job is that of the connection of this number, from 0: it has the pid and the key of
-/// that, the program's turns and relations, and nothing was read or written.
+/// Whether a job is that of the connection of this number, from 0: it has that connection's pid and
+/// key, and the program's turns and relations, and nothing was read or written.
 fn is_good(job: &SilentJob, number: u64) -> bool {
     pid_of(number) == Some(job.handle.pid())
         && job.handle.key().as_slice() == key_of(number).as_slice()
@@ -114,7 +114,7 @@ fn is_good(job: &SilentJob, number: u64) -> bool {
         && job.sink.calls == 0
 }
 
-/// Whether so it is of a job, which is dropped.
+/// The same for a job that is dropped then.
 fn was_good(job: SilentJob, number: u64) -> bool {
     is_good(&job, number)
 }
@@ -138,7 +138,7 @@ impl Spawner<SilentJob> for Judging {
     }
 }
 
-/// Another key for each connection, and none behind so many.
+/// Another key for each connection, `most` of them.
 #[derive(Drop)]
 struct Keys {
     alloc: Global,
@@ -287,8 +287,8 @@ fn status_of<R: Wait>(
 /// jobs started.
 type Told = (u8, &'static str, u64, u64);
 
-/// Whether this line was written, and so many connections were accepted and good jobs started, and
-/// no other.
+/// Whether this line was written, and as many connections were accepted and good jobs started as
+/// told, and no other job was.
 fn has(stage: &Stage, line: &MemorySink, told: &Told) -> bool {
     line.bytes() == told.1.as_bytes()
         && stage.acceptor.accepted == told.2
@@ -296,7 +296,7 @@ fn has(stage: &Stage, line: &MemorySink, told: &Told) -> bool {
         && stage.spawner.good == told.3
 }
 
-/// Whether the program answers so.
+/// Whether the program does what it has to with what it is given.
 fn is_answered<R: Wait>(rt: &R, alloc: Global, given: &Given, told: &Told) -> bool {
     let (words, taken, accept_fails_at, start_fails_at, keys) = *given;
     let mut stage = Stage::new(alloc, accept_fails_at, start_fails_at, keys);
@@ -306,7 +306,7 @@ fn is_answered<R: Wait>(rt: &R, alloc: Global, given: &Given, told: &Told) -> bo
     status == Some(told.0) && has
 }
 
-/// The line that tells the commands.
+/// The line for words that are no command.
 const USAGE: &str = "usage: relation_server serve FILE PID KEY [TURNS], demo SEED N, \
     listen tcp PORT FILE [COUNT], listen unix PATH FILE [COUNT]\n";
 
@@ -329,7 +329,7 @@ const CASES: [(Given, Told); 8] = [
     (("listen tcp 0 f", 9, NEVER, NEVER, 9), (2, USAGE, 0, 0)),
 ];
 
-/// Whether the program answers so each time.
+/// Whether it does in each case.
 fn are_answered<R: Wait>(rt: &R, alloc: Global) -> bool {
     let mut are_so = true;
     for (given, told) in &CASES {

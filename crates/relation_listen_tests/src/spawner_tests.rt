@@ -90,7 +90,7 @@ fn idle_job<R: Wait + Net>(rt: &R, registry: &mut Registry, pid: i32) -> Option<
     job_at(rt, registry, pid, served)
 }
 
-/// What is answered to a job for whose thread there is no room.
+/// What comes of starting a job for whose thread there is no room.
 fn refused<R: Threads + Wait + Clock + Net + Copy + Send + 'static>(
     rt: R,
     threads: &JobThreads,
@@ -104,8 +104,8 @@ fn refused<R: Threads + Wait + Clock + Net + Copy + Send + 'static>(
 /// How many milliseconds a client stays.
 const WHILE: u64 = 200;
 
-/// One client goes away after a while, if there is one, and behind it another one, which has told so
-/// by then.
+/// One client, if there is one, goes away after a while. Then another one does, and tells so just
+/// before.
 fn leave<R: Clock>(rt: &R, first: Option<UnixStream>, last: UnixStream, has_left: &AtomicBool) {
     rt.sleep(Duration::from_millis(WHILE));
     drop(first);
@@ -125,14 +125,14 @@ fn leaving<R: Threads + Clock + Copy + Send + 'static>(
     thread::spawn(&rt, move || leave(&rt, first, last, &theirs)).ok()
 }
 
-/// Whether a job for whose thread there is no room is refused, behind five or six tries. There are
+/// Whether a job for whose thread there is no room is refused, after five or six tries. There are
 /// six where another job ran at the first.
 fn is_refused(tries: Option<Tries>) -> bool {
     tries.is_some_and(|tries| !tries.is_started && (tries.failed == 5 || tries.failed == 6))
 }
 
-/// Whether a job, for whose thread there is no room while another runs that ends after a while, is
-/// refused behind the end of that.
+/// Whether a job for whose thread there is no room is refused only after the end of another job,
+/// which runs for a while.
 fn is_refused_behind<R: Threads + Wait + Clock + Net + Copy + Send + 'static>(
     rt: R,
     threads: &JobThreads,
@@ -147,7 +147,7 @@ fn is_refused_behind<R: Threads + Wait + Clock + Net + Copy + Send + 'static>(
     Some(is_refused && is_ended)
 }
 
-/// Whether that is so, and the other job has given its registration back.
+/// Whether that is so, and the other job has ended its registration.
 fn is_refused_late<R: Threads + Wait + Clock + Net + Copy + Send + 'static>(
     rt: R,
     threads: &JobThreads,
@@ -165,7 +165,7 @@ fn begun(alloc: Global) -> Option<(JobThreads, Registry)> {
     Some((threads, registry))
 }
 
-/// Where no thread can be started, a job that runs is waited for, and the job is refused behind
+/// Where no thread can be started, a job that runs is waited for, and the new job is refused after
 /// five tries while none runs.
 #[test]
 fn a_job_waits_for_room(rt: HostRuntime) {
@@ -229,8 +229,7 @@ fn finish_two<R: Threads + Wait + Clock + Net + Copy + Send + 'static>(
     Some(is_over && registry.is_free(&rt, 1) && registry.is_free(&rt, 2))
 }
 
-/// `finish` waits for each client that stays, and behind it the jobs have given their registrations
-/// back.
+/// `finish` waits for each client that stays, and after it the jobs have ended their registrations.
 #[test]
 fn finish_waits_for_a_client_that_stays(rt: HostRuntime) {
     let told = match begun(rt.alloc()) {
@@ -240,7 +239,7 @@ fn finish_waits_for_a_client_that_stays(rt: HostRuntime) {
     assert!(rt; told == Some(true));
 }
 
-/// A spawner whose jobs are all answered so.
+/// A spawner that gives this answer to each job.
 fn answering(alloc: Global, tries: Tries) -> Option<ThreadSpawner<()>>
     ensures { IfSome result (λ spawner. spawner.started ≡ 0) }
 {
@@ -263,7 +262,7 @@ fn is_taken<R: Wait + Net>(
     Some(spawner.start(job).is_ok())
 }
 
-/// What a spawner tells of a job, under this pid, that is answered so: whether it is taken as
+/// What a spawner tells of a job, under this pid, that gets this answer: whether it is taken as
 /// started, and the count of faults.
 fn counted<R: Wait + Net>(
     rt: &R,
@@ -284,7 +283,7 @@ const ANSWERS: [(i32, bool, u64, u64); 4] = [
     (4, false, 2, 2),
 ];
 
-/// Whether a spawner tells so of each.
+/// Whether a spawner tells that of each.
 fn are_counted<R: Wait + Net>(rt: &R, registry: &mut Registry) -> bool {
     let mut are_so = true;
     for (pid, is_started, failed, faults) in ANSWERS {

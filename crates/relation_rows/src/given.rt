@@ -34,7 +34,7 @@ pub fn push_repeats<'t>(
     Ok(())
 }
 
-/// Numbers that spaces split. `{3*1 }` is `1 1 1 `.
+/// Numbers with spaces between them. `{3*1 }` is `1 1 1 `.
 fn numbers_of<'t, T: FromStr + Drop>(alloc: Global, text: &'t str) -> Result<PgList<T>, Fault<'t>>
 where
     <T as FromStr>::Err: Drop,

@@ -1,6 +1,6 @@
-//! What a generated load is, as lines: one for each relation with the polls that it owes, its
-//! columns, how many rows it has and its first cell; then the sums over all relations and all cells,
-//! and how many bytes the client sends and their sum.
+//! What a generated load is, as lines. There is a line for each relation: its unready polls, its
+//! columns, how many rows it has and its first cell. Then come the sums over all relations and all
+//! cells, and how many bytes the client sends and their sum.
 
 ghost use Rattle.std.specs.Prelude.{◌≤◌};
 
@@ -76,8 +76,7 @@ fn put_relations(out: &mut String, relations: &[Relation]) -> Result<(), AllocEr
     Ok(())
 }
 
-/// Puts a relation's name, the polls that it owes, its columns, how many rows it has, and its first
-/// cell.
+/// Puts a relation's name, its unready polls, its columns, how many rows it has, and its first cell.
 fn put_relation(out: &mut String, relation: &Relation) -> Result<(), AllocError> {
     let name = relation.name.as_str();
     let unready = relation.unready;

@@ -7,7 +7,7 @@ use relation_handlers::RelationTable;
 use relation_tables::Relation;
 use std::alloc::{AllocError, Global};
 
-/// The relations, one behind another, or the refusal.
+/// The relations, one after another, or the refusal.
 pub fn told_answer(
     alloc: Global,
     answer: &Result<RelationTable, FileError>,

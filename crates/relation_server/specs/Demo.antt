@@ -20,8 +20,8 @@ use Rattle.relation_server.specs.declared.outcome.Outcome.TheVariants.{Done, Pid
 use Rattle.relation_server.specs.Jobs.{IsLeftBehind}
 use Rattle.relation_server.specs.Program.{demo_lines, demo_registration}
 
--- The demo's client was not registered: the door's last entry is its Register, which was answered that a live registration has the pid; or
--- memory ran out, and the door gained nothing.
+-- The demo's client was not registered: the door's last entry is its Register, which was answered Taken, since a live registration has the
+-- pid; or memory ran out, and the door gained nothing.
 abbrev pub IsNotRegistered : Outcome → List Entry → List Entry → Type 0
 IsNotRegistered PidTaken seen seen' = (number : ℕ) × (holder : ℕ)
     × Registers number (Register demo_registration.0 demo_registration.1) seen seen' (Taken holder)

@@ -22,8 +22,8 @@ use Rattle.relation_serving.specs.Serving.{WentByTables}
 abbrev pub IsFresh : ℕ → Connection → Type 0
 IsFresh reads h = (reads ≡ 0) × (h.mine ≡ entry h.number (Register h.pid h.key) Registered ∷ [])
 
--- What a connection that is gone had seen: a legal history, which goes on from what it had seen before, with its calls before, those that
--- it made, and the end of its registration, or without that where memory ran out.
+-- What a connection that is gone had seen: a legal history that begins with what it had seen before. The connection's own calls there are
+-- its earlier ones, those that it made, and the end of its registration, or no such end where memory ran out.
 pub record IsLeftBehind (h : Connection) (made : List Entry) (note : Witness) : Type 0 where
   pub issuer : note.issuer ≡ h.issuer
   pub seen : IsPrefix h.seen note.seen
@@ -31,9 +31,9 @@ pub record IsLeftBehind (h : Connection) (made : List Entry) (note : Witness) : 
   pub own : (calls_of h.number note.seen ≡ (h.mine ++ made) ++ entry h.number Unregister Done ∷ [])
       ⊎ (calls_of h.number note.seen ≡ h.mine ++ made)
 
--- A connection's client was served, and its registration then ended: what was written and the calls that the connection made are the
--- conversation tables' answer to the client's bytes; why the conversation came to an end or was given up, that nothing behind its end was
--- read, and that no count of faults falls, nor rises at Ok; and that turns enough bring it to an end.
+-- A connection's client was served, and its registration then ended. What was written and the calls that the connection made are the
+-- conversation tables' answer to the client's bytes. The conversation's end, or what it was given up for, has its cause. Nothing behind the
+-- end was read. No count of faults falls, and none rises at Ok. Enough turns bring the conversation to its end.
 pub record HasConversed (h : Connection) (relations : List Relation) (turns : ℕ) (answer : Result EndKind ServeError)
     (left new_left old new : Option (List ℕ)) (before after : Counts) (note : Witness) : Type 0 where
   pub made : List Entry

@@ -43,8 +43,8 @@ pub record HasRegistered (seen seen' : List Entry) (n : ℕ) : Type 0 where
   pub pids_are : AreOfPids gained n
   pub registered : AreRegistered gained
 
--- The door gained these and then, as its last entry, a Register of the next pid, which was answered that the registration at place m has
--- it.
+-- The door gained a Register of each pid from 1 to n, each answered Registered, and then, as its last entry, a Register of the next pid.
+-- That was answered Taken: the registration at place m has the pid.
 pub record IsRefusedAt (m : ℕ) (seen seen' : List Entry) : Type 0 where
   pub n : ℕ
   pub before : List Entry
@@ -60,7 +60,7 @@ pub record HasAdmitted (seen seen' : List Entry) (pid : ℕ) : Type 0 where
   pub pid_is : pid_of_call last.call ≡ Some (pos pid)
   pub registered : last.answer ≡ Registered
 
--- The door gained one Register, its last entry, of this pid, which was answered that the registration at place m has it.
+-- The door gained one Register, of this pid, as its last entry. It was answered Taken: the registration at place m has the pid.
 pub record HasRefused (m : ℕ) (seen seen' : List Entry) (pid : ℕ) : Type 0 where
   pub before : List Entry
   pub last : Entry
@@ -69,14 +69,14 @@ pub record HasRefused (m : ℕ) (seen seen' : List Entry) (pid : ℕ) : Type 0 w
   pub pid_is : pid_of_call last.call ≡ Some (pos pid)
   pub taken : last.answer ≡ Taken m
 
--- A connection was not registered under this pid: the door's last entry is its Register, which was answered that the registration at a
--- place has it; or memory ran out, and the door gained nothing.
+-- A connection was not registered under this pid: its Register was refused, since another registration has the pid; or memory ran out, and
+-- the door gained nothing.
 abbrev pub IsTurnedAway : ListenError → ℕ → List Entry → List Entry → Type 0
 IsTurnedAway (PidTaken m) pid seen seen' = HasRefused m seen seen' pid
 IsTurnedAway NoMemory pid seen seen' = seen' ≡ seen
 IsTurnedAway error pid seen seen' = ⊥
 
--- what a server that listens had counted when it began, and counted when it came to an end
+-- what a server that listens has counted: connections that it accepted, jobs that it started, and the faults of both
 pub record Taking : Type 0 where
   pub accepted : ℕ
   pub accept_faults : ℕ
@@ -91,12 +91,12 @@ taking_of accepted accept_faults started start_faults acceptor spawner = record 
   start_faults = start_faults spawner;
 }
 
--- so many connections were accepted, and so many jobs started
+-- these numbers of connections were accepted and of jobs were started
 abbrev pub HasTaken : Taking → Taking → ℕ → ℕ → Type 0
 HasTaken old new connections jobs = (new.accepted ≡ old.accepted + connections) × (new.started ≡ old.started + jobs)
 
 -- Why a server ends: all connections were taken in, registered and started; or a call failed, whose count has risen; or a pid was taken; or
--- memory ran out. Without the call that failed, each connection was accepted, registered and started, and they were fewer than were wanted.
+-- memory ran out. Before what failed, each connection was accepted, registered and started, and they were fewer than were wanted.
 abbrev pub HasEndedSo : Result ℕ ListenError → Option ℕ → Taking → Taking → List Entry → List Entry → Type 0
 HasEndedSo (Ok n) count old new seen seen' = (n ≡ connections_of count) × HasTaken old new n n × HasRegistered seen seen' n
 HasEndedSo (Err AcceptFault) count old new seen seen' = HasRisen old.accept_faults new.accept_faults

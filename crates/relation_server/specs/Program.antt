@@ -159,7 +159,7 @@ pub record AreDemoLines (l : Load) (made : List Entry) (lines : List ℕ) : Type
       (demo_client l.count) replies (desk_calls made) kind
   pub lines_are : lines ≡ demo_lines l.count (row_count run.fed.replies) (length (demo_client l.count)) (length replies)
 
--- The demo load was served, and a text that grew so tells of it.
+-- The demo load was served, lines count it, and they were written as `Grows` says.
 pub record WasShown (issuer : Issuer) (l : Load) (noted : Option Witness) (old new : Surroundings) (Grows : List ℕ → Type 0) : Type 0 where
   pub made : List Entry
   pub connected : WasConnected issuer demo_registration made noted old new
@@ -205,13 +205,13 @@ pub record ListenSurroundings : Type 0 where
 abbrev pub listen_surroundings : Option (List ℕ) → ℕ → Taking → List Entry → ListenSurroundings
 listen_surroundings file file_faults taking seen = record { file = file; file_faults = file_faults; taking = taking; seen = seen }
 
--- No relations came to be shared: the file was refused; or memory ran out behind its relations.
+-- There are no relations to share: the file was refused; or memory ran out after its relations were read.
 abbrev pub HasNoRelations : Outcome → Option (List ℕ) → Option (List ℕ) → ℕ → ℕ → Type 0
 HasNoRelations (File e) left new_left faults new_faults = IsFileCause e left new_left faults new_faults
 HasNoRelations (Conversation (Err NoMemory)) left new_left faults new_faults = (relations : List Relation) × IsToldBy left new_left relations
 HasNoRelations outcome left new_left faults new_faults = ⊥
 
--- What came of listening for so many connections: the file was refused; or connections were taken in over its relations; or memory ran
+-- What came of listening for `count` connections: the file was refused; or connections were taken in over its relations; or memory ran
 -- out before.
 abbrev pub HasListened : Option ℕ → Outcome → ListenSurroundings → ListenSurroundings → Type 0
 HasListened count (File e) old new = IsFileCause e old.file new.file old.file_faults new.file_faults × (new.taking ≡ old.taking)
@@ -220,15 +220,15 @@ HasListened count outcome old new = ((relations : List Relation) × IsToldBy old
     × (((result : Result ℕ ListenError) × (outcome ≡ outcome_of result) × HasEndedSo result count old.taking new.taking old.seen new.seen)
     ⊎ ((outcome ≡ Conversation (Err NoMemory)) × (new.taking ≡ old.taking) × (new.seen ≡ old.seen)))
 
--- What came of the words: nothing where they don't order to listen; or what comes of it.
+-- What came of the words: nothing where they are no `listen`, and else what came of listening.
 abbrev pub HasRunListening : Option (Option ℕ) → Outcome → ListenSurroundings → ListenSurroundings → Type 0
 HasRunListening None outcome old new = (outcome ≡ Usage) × (new ≡ old)
 HasRunListening (Some count) outcome old new = HasListened count outcome old new
 
 -- ---- all of it
 
--- What came of the words: nothing where they are no command; or what comes of it. There may be no memory for the key of `serve`; then
--- nothing was done.
+-- What came of the words: nothing where they are no command, and else what came of the command. There may be no memory for the key of
+-- `serve`; then nothing was done.
 abbrev pub HasRun : Issuer → Option Command → Outcome → Option Witness → Surroundings → Surroundings → Type 0
 HasRun issuer None outcome noted old new = (outcome ≡ Usage) × (noted ≡ None) × (new ≡ old)
 HasRun issuer (Some (command.Serve s)) outcome noted old new = HasServedFile issuer s outcome noted old new
@@ -246,7 +246,7 @@ IsFree pid new = (m : ℕ) → ¬ HasPid (before_last new.seen) m pid
 abbrev pub IsSound : Surroundings → Surroundings → Type 0
 IsSound old new = ¬ HasRisen old.file_faults new.file_faults × ¬ HasFault old.counts new.counts
 
--- a good end of `serve`, or want of memory
+-- `serve` came to the end of a conversation (0, 10 at a bad frame, 11 at a fatal error), or memory ran out (7)
 abbrev pub IsServeEnd : ℕ → Type 0
 IsServeEnd status = (status ≡ 0) ⊎ ((status ≡ 10) ⊎ ((status ≡ 11) ⊎ (status ≡ 7)))
 
@@ -260,7 +260,8 @@ IsServeComplete s status old new = IfSome old.file (λ text. IfSome old.client (
     → IsUnfinished (awaits_startup_after_all messages true) rest ⊎ IsBad (awaits_startup_after_all messages true) rest
     → HasTurns (relations_of (lines_of text)) s.turns bytes messages → old.counts.reads + s.turns < 2 ^ 64 → IsServeEnd status))
 
--- Complete: so it is of `serve`; and where pid 1 is free and no write fails, all lines of `demo` are written, or memory runs out.
+-- Completeness of each command. Of `serve` it is the above. Of `demo`: where pid 1 is free and no write fails, all lines are written, or
+-- memory runs out.
 abbrev pub IsRunComplete : Option Command → ℕ → Surroundings → Surroundings → Type 0
 IsRunComplete None status old new = Unit {0}
 IsRunComplete (Some (command.Serve s)) status old new = IsServeComplete s status old new

@@ -32,13 +32,13 @@ pub enum ListenError {
 }
 
 /// Accepts connections, registers each under the next pid, from 1 on, and starts its job. It ends
-/// after so many connections, or after the one with the greatest pid, and answers their number. It
-/// reads no byte of a connection.
+/// after `count` connections, or after the one with the greatest pid, and answers how many it took
+/// in. It reads no byte of a connection.
 ///
 /// AcceptFault comes where a connection could not be accepted, SpawnFault where a job could not be
 /// started, PidTaken where the next pid has a live registration, NoMemory where memory ran out or
-/// there was no key. A connection that was accepted then is dropped, and the jobs that were started
-/// go on.
+/// there was no key. At an error, a connection that was accepted but has no job is dropped. The
+/// jobs that were started go on.
 pub fn listen<R: Wait, A: Acceptor, P: Spawner<ConnectionJob<A::In, A::Out>>, G: KeySource>(
     rt: &R,
     acceptor: &mut A,
@@ -58,8 +58,8 @@ pub fn listen<R: Wait, A: Acceptor, P: Spawner<ConnectionJob<A::In, A::Out>>, G:
         (taking_of A.accepted A.faults P.started P.faults acceptor.new spawner.new)
         door.old.seen door.new.seen }
 
-    // A pid is taken exactly where the door gained Registers of the pids from 1 on, of which the
-    // last is its last entry and was answered so, and the others were answered Registered.
+    // PidTaken comes exactly where the door gained Registers of the pids from 1 on, the last one is
+    // the door's last entry and was answered Taken, and the others were answered Registered.
     ensures exactly { (m : ℕ) → (result ≡ Err (ListenError.PidTaken m))
         ↔ IsRefusedAt m door.old.seen door.new.seen }
     ensures never_falls { NeverFalls
@@ -133,8 +133,8 @@ fn take_in<R: Wait, A: Acceptor, P: Spawner<ConnectionJob<A::In, A::Out>>, G: Ke
     )
 }
 
-/// Registers a connection under this pid, and gives what its job shares with the server, and the
-/// registration.
+/// Registers a connection under this pid. It gives the registry and the relations, which the job
+/// shares with the server, and the registration.
 fn admit<R: Wait, G: KeySource>(
     rt: &R,
     keys: &mut G,

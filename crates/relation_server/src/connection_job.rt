@@ -81,7 +81,7 @@ impl<S: Source, K: Sink> ConnectionJob<S, K> {
 
     /// Serves the connection and then ends its registration. It hands back what the service came
     /// to, the source, the sink, and what the connection had seen of the registry's history. Where
-    /// memory ran out before the registration was ended, it stays.
+    /// memory ran out before the registration was ended, the registration stays.
     pub fn run<R: Wait>(self, rt: &R, alloc: Global) -> (Result<EndKind, ServeError>, S, K, Note)
         ensures conversed { HasConversed self.handle (arc_value self.relations) self.turn_limit
             result.0

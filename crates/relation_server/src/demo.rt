@@ -35,12 +35,12 @@ const KEY: [u8; 4] = [0; 4];
 /// How many turns the demo's client has.
 const TURNS: u64 = 1 << 63;
 
-/// How many bytes of replies are kept at most.
+/// The most bytes of replies that are counted.
 const GREATEST_LENGTH: usize = 4_294_967_295;
 
-/// Serves the generated load, and writes four lines that count it. The replies are kept for that:
-/// some 6 MB of ten thousand relations. Of more than 4,294,967,295 bytes, which no load comes near,
-/// it tells that memory ran out.
+/// Serves the generated load, and writes four lines that count it. The replies are kept in memory
+/// for that: some 6 MB for ten thousand relations. Where they have more than 4,294,967,295 bytes,
+/// which no load comes near, the outcome is that memory ran out.
 pub(crate) fn show_demo<R: Wait, K: Sink>(
     rt: &R,
     alloc: Global,
@@ -108,7 +108,7 @@ fn register_client<R: Wait>(
     }
 }
 
-/// Serves the client under its registration, ends that, and writes the lines.
+/// Serves the client under its registration, ends the registration, and writes the lines.
 fn serve_demo<R: Wait, K: Sink>(
     rt: &R,
     alloc: Global,
@@ -142,8 +142,8 @@ fn serve_demo<R: Wait, K: Sink>(
     (outcome, Some(note))
 }
 
-/// Tells of a conversation that came to its end. With so many turns and no faults, only want of
-/// memory gives one up.
+/// Writes the lines of a conversation that came to its end. With 2^63 turns and no faults, a
+/// conversation is given up only where memory ran out.
 fn tell_end<K: Sink>(
     alloc: Global,
     answer: Result<EndKind, ServeError>,

@@ -1,5 +1,5 @@
-//! The server of relations of intervals: clients through the shared registry, each connection as a
-//! job for a thread of its own, and the program.
+//! The server of relations of intervals. Clients are served through a shared registry, each
+//! connection is a job for a thread of its own, and the program's commands stand on both.
 #![tactic(auto)]
 
 mod accept_loop;

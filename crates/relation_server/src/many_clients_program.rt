@@ -30,16 +30,16 @@ use std::sync::{Arc, Wait};
 const TURNS: u64 = 1_000_000_000;
 
 /// The program over many clients. The words are `listen tcp PORT FILE [COUNT]` or `listen unix PATH
-/// FILE [COUNT]`: it reads the relation file from `file`, and then takes in COUNT connections, or
-/// as many as there are pids, each under the next pid from 1 on and with 1,000,000,000 turns, by
-/// [`listen`]. PORT is 1 to 65535, PATH isn't empty, and COUNT is 0 to 10000. What the acceptor
-/// listens to is for the caller to choose, by [`listen_place`].
+/// FILE [COUNT]`. PORT is 1 to 65535, PATH isn't empty, and COUNT is 0 to 10000. It reads the
+/// relation file from `file`. Then [`listen`] takes in COUNT connections, or as many as there are
+/// pids, each under the next pid from 1 on and with 1,000,000,000 turns. The caller chooses what
+/// the acceptor listens to, by [`listen_place`].
 ///
-/// The status is 0 after COUNT connections; 2 where the words are others; 3 where the file is
+/// The status is 0 after COUNT connections; 2 where the words are any others; 3 where the file is
 /// refused; 7 where memory ran out; 8 where the next pid has a live registration; 9 where a read of
 /// the file failed; 12 where a connection could not be accepted; 13 where the job of a connection
-/// could not be started. Each but 0 is told by a line on `err`. A write to `err` that fails changes
-/// no status; where it finds no memory, the status is 7.
+/// could not be started. Each status but 0 comes with a line on `err`. A write to `err` that fails
+/// leaves the status as it is; one that finds no memory makes it 7.
 ///
 /// [`listen_place`]: relation_words::listen_place
 pub fn run_listen<
@@ -87,7 +87,7 @@ pub fn run_listen<
     report(alloc, &outcome, err)
 }
 
-/// Takes in so many connections over the relations of the file.
+/// Reads the relations of the file, and takes in connections over them.
 fn listen_over<
     R: Wait,
     F: Source,

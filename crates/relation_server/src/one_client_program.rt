@@ -28,20 +28,20 @@ use std::sync::Wait;
 ///   serves the client's bytes with the replies to `out`, and ends the registration. PID is 1 to
 ///   2147483647, KEY an even number of hexadecimal digits, 8 to 512 of them, and TURNS 1 to
 ///   18446744073709551615, by default 1000000000.
-/// - `demo SEED N` generates N relations from SEED and a client that runs each, serves it under pid
-///   1 and key 00000000 with 2^63 turns, and writes four lines to `out`: `relations N`, `rows R`
-///   (rows that were sent), `in B` and `out C` (bytes of the client and of the replies). SEED is 0
-///   to 18446744073709551615, and N 0 to 10000.
+/// - `demo SEED N` generates N relations from SEED and a client that runs each, serves that client
+///   under pid 1 and key 00000000 with 2^63 turns, and writes four lines to `out`: `relations N`,
+///   `rows R` (rows that were sent), `in B` and `out C` (bytes of the client and of the replies).
+///   SEED is 0 to 18446744073709551615, and N 0 to 10000.
 ///
 /// The status is 0 where the client sent Terminate or a CancelRequest or its input ended, or the
 /// demo's lines were written; 2 where the words are no command; 3 where the file is refused; 4
 /// where a read of the client failed; 5 where a write failed; 6 where the turns were spent; 7 where
 /// memory ran out; 8 where the pid has a live registration; 9 where a read of the file failed; 10
-/// at a bad frame; 11 at a fatal error. Each but 0 is told by a line on `err`. A write to `err`
-/// that fails changes no status; where it finds no memory, the status is 7.
+/// at a bad frame; 11 at a fatal error. Each status but 0 comes with a line on `err`. A write to
+/// `err` that fails leaves the status as it is; one that finds no memory makes it 7.
 ///
-/// Beside the status stands what the connection had seen of the registry's history, None exactly
-/// where no registration was made. Where memory ran out before the registration was ended, it
+/// The note is what the connection had seen of the registry's history. It is None exactly where no
+/// registration was made. Where memory ran out before the registration was ended, the registration
 /// stays.
 pub fn run<R: Wait, F: Source, S: Source, K: Sink, E: Sink>(
     rt: &R,
@@ -137,7 +137,7 @@ fn serve_file<R: Wait, F: Source, S: Source, K: Sink>(
     }
 }
 
-/// Serves the client over a table under the registration.
+/// Registers the pid and the key of the service, and serves the client over a table.
 fn serve_table<R: Wait, S: Source, K: Sink>(
     rt: &R,
     alloc: Global,

@@ -21,8 +21,8 @@ use std::alloc::Global;
 use std::sync::Wait;
 
 /// Serves a client over relations, as [`serve_relations_on`] does, through its connection to the
-/// shared registry, so that the clients of other threads may cancel its queries. It waits for
-/// nobody but for the registry's turn, once for each call of the registry.
+/// shared registry, so that the clients of other threads may cancel its queries. It waits for others
+/// only at the registry, for its turn, once for each call.
 ///
 /// The connection stays usable, whatever is answered.
 pub fn serve_relations<R: Wait, S: Source, K: Sink>(
@@ -38,7 +38,8 @@ pub fn serve_relations<R: Wait, S: Source, K: Sink>(
     requires issued { handle.old.issuer ≡ manager.now }
 
     // The bytes written and the connection's new calls are the conversation tables' answer to the
-    // client's bytes, however cut. Each cell that was written stands for a stored interval.
+    // client's bytes, whatever reads these come in. Each cell that was written stands for a stored
+    // interval.
     ensures went { (made : List Entry) × (handle.new.mine ≡ handle.old.mine ++ made)
         × WentByTables relations.now (handle.old.pid, handle.old.key) result (S.left source.old) (S.left source.new)
         (K.written sink.old) (K.written sink.new) (desk_calls made) }
@@ -47,7 +48,7 @@ pub fn serve_relations<R: Wait, S: Source, K: Sink>(
         (counts_of S.reads S.faults K.faults source.old sink.old)
         (counts_of S.reads S.faults K.faults source.new sink.new) }
 
-    // With turns enough, and where no read and no write fails, any bytes are served to their end.
+    // With enough turns, and where no read and no write fails, any bytes are served to their end.
     ensures complete { IsComplete relations.now turn_limit result (S.left source.old)
         (counts_of S.reads S.faults K.faults source.old sink.old)
         (counts_of S.reads S.faults K.faults source.new sink.new) }
@@ -57,8 +58,8 @@ pub fn serve_relations<R: Wait, S: Source, K: Sink>(
         ServesSession (relation_handlers relations.now) turn_limit result
         (round source.old sink.old handle.old) (round source.new sink.new handle.new) }
 
-    // What the connection has seen of the one history goes on, and is legal, and has just its own
-    // calls under its number.
+    // What the connection has seen of the registry's history grows and is legal, and what stands
+    // there under the connection's number is just its own calls.
     ensures usable { StaysUsable handle.old handle.new }
 {
     let before = manager.note(handle);

@@ -9,12 +9,12 @@ use conversation_runs::Sink;
 use status_lines::{report_conversation, report_file, write_line};
 use std::alloc::Global;
 
-/// The line that tells the commands.
+/// The line for words that are no command.
 const USAGE: &str =
     "usage: relation_server serve FILE PID KEY [TURNS], demo SEED N, listen tcp PORT FILE [COUNT], listen unix PATH FILE [COUNT]\n";
 
-/// Writes the line of an outcome, where there is one, and answers its status, or that of no memory
-/// where the line or the sink finds none.
+/// Writes the line of an outcome, where it has one, and answers its status, or 7 where there is no
+/// memory for the line or in the sink.
 pub(crate) fn report<E: Sink>(alloc: Global, outcome: &Outcome, err: &mut E) -> u8
     ensures reported { IsReported (status_of outcome.now) (line_of outcome.now) result
         (E.written err.old)

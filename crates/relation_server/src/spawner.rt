@@ -11,24 +11,24 @@ use std::sync::{Arc, Condvar, CondvarTimeouts, Mutex, Wait};
 use std::thread::{Builder, Promise, Threads};
 use std::time::{Clock, Duration};
 
-/// The bytes of a thread's stack. Without a size a thread would reserve what the C library gives,
-/// mostly 8 MiB.
+/// How many bytes a thread's stack has. Without a size, a thread would reserve the C library's
+/// default, mostly 8 MiB.
 const STACK: usize = 512 * 1024;
 
-/// How many milliseconds are waited before a thread is tried again. Meanwhile the thread of a job
-/// that has ended goes too, and a want of memory may pass.
+/// How many milliseconds pass before a thread is tried again. Meanwhile the thread of a job that
+/// has ended may end too, and memory may be given back.
 const PAUSE: u64 = 100;
 
-/// How many tries in turn fail while no job runs, until a job is dropped. So one refused allocation
-/// is waited out, and a failure that stays is told.
+/// After how many failed tries in a row, while no job ends, a job is dropped. So a refused
+/// allocation that passes costs no job, and a failure that stays is reported.
 const TRIES: u64 = 5;
 
-/// How many milliseconds a thread whose job has ended waits for the next one, before it ends. It has
-/// ended before a thread that couldn't be made is tried again.
+/// How many milliseconds a thread whose job has ended waits for the next one, before it ends. They
+/// are fewer than `PAUSE`, so that it has ended before another thread is tried again.
 const IDLE: u64 = 50;
 
-/// How many jobs run, and how many have ended, wrapping; and the stack of the thread that waits for
-/// a job, if one does, and the job that it is given.
+/// How many jobs run, and how many have ended, which wraps. `idle` is the stack of the thread that
+/// waits for a job, if one does, and `next` the job that it is given.
 #[derive(Drop)]
 struct Count {
     running: u64,
@@ -37,7 +37,7 @@ struct Count {
     next: Option<ConnectionJob<MaybeTls, MaybeTls>>,
 }
 
-/// The count of jobs, and who waits until it changes.
+/// The count of jobs. `changed` tells that it changed, `given` that a waiting thread got a job.
 #[derive(Drop)]
 struct Running {
     jobs: Mutex<Count>,
@@ -46,14 +46,15 @@ struct Running {
 }
 
 impl Running {
-    /// One job more runs. It answers how many have ended.
+    /// Counts one more job that runs, and answers how many have ended.
     fn enter<R: Wait>(&self, rt: &R) -> u64 {
         let mut jobs = self.jobs.lock(rt);
         jobs.running = jobs.running.saturating_add(1);
         jobs.ended
     }
 
-    /// Gives a job to the thread that waits for one, if one does that has so large a stack.
+    /// Gives a job to the thread that waits for one, if one does and its stack has this size. Else
+    /// it answers the job.
     fn give<R: Wait>(
         &self,
         rt: &R,
@@ -71,8 +72,8 @@ impl Running {
         None
     }
 
-    /// A job has ended. It answers the next one of its thread, which waits a while for it where no
-    /// other thread does.
+    /// Counts a job that has ended, and answers the next one of its thread. The thread waits `IDLE`
+    /// milliseconds for it, but not where another thread waits or was just given one.
     fn leave<R: Wait + Clock>(
         &self,
         rt: &R,
@@ -95,15 +96,15 @@ impl Running {
         jobs.next.take()
     }
 
-    /// A job didn't come to run.
+    /// Takes back the count of a job whose thread could not be made.
     fn withdraw<R: Wait>(&self, rt: &R) {
         let mut jobs = self.jobs.lock(rt);
         jobs.running = jobs.running.saturating_sub(1);
         self.changed.notify_all();
     }
 
-    /// Waits until another number of jobs has ended than this, or none runs. It answers whether one
-    /// has ended.
+    /// Waits until another job has ended, beside the first `ended`, or no job runs. It answers
+    /// whether one has ended.
     fn wait_for_end<R: Wait>(&self, rt: &R, ended: u64) -> bool {
         let jobs = self.changed.wait_while(rt, self.jobs.lock(rt), |jobs| {
             jobs.running > 0 && jobs.ended == ended
@@ -168,8 +169,8 @@ impl JobThreads {
         self.share_with_stack(self.stack)
     }
 
-    /// The same threads, for another owner, whose threads have so many bytes of stack. With more
-    /// than there can be, no thread can be started.
+    /// The same threads, for another owner, who starts threads with `stack` bytes of stack. With
+    /// more bytes than can be had, no thread can be started.
     pub fn share_with_stack(&self, stack: usize) -> Result<JobThreads, AllocError> {
         Ok(JobThreads {
             alloc: self.alloc,
@@ -178,14 +179,16 @@ impl JobThreads {
         })
     }
 
-    /// Starts a thread that runs a job, and doesn't wait for it. Where no thread can be made, it
-    /// waits until one of the jobs that run has ended and tries again. Where none runs, it tries
-    /// again every 100 milliseconds, and drops the job behind the fifth such try in turn that
-    /// fails. The answer tells how many tries failed, and whether the job was dropped.
+    /// Starts a thread that runs a job, and doesn't wait for it. A thread that waits for a job is
+    /// taken instead, if its stack has the same size. Where no thread can be made, it waits until
+    /// one of the jobs that run has ended, and 100 milliseconds more, and tries again. Where none
+    /// runs, it tries again every 100 milliseconds, and drops the job after five such tries in a
+    /// row have failed. Where there is no memory to share the count of jobs, the job is dropped at
+    /// once. The answer tells how many tries failed, and whether the job was dropped.
     ///
     /// A job that has ended leaves nothing behind: its sockets, its buffers and what its service
-    /// came to are dropped on its thread. That waits 50 milliseconds for another job with the same
-    /// stack, where no other thread waits so, and then ends. Nobody joins it.
+    /// came to are dropped on its thread. The thread then waits 50 milliseconds for another job
+    /// with the same stack, where no other thread waits so, and ends. Nobody joins it.
     pub fn start<R: Threads + Wait + Clock + Copy + Send + 'static>(
         &self,
         rt: R,
@@ -210,7 +213,8 @@ impl JobThreads {
         }
     }
 
-    /// Starts a thread that does this, which tells that it has ended.
+    /// Starts a thread that does this work, with the tries of [`JobThreads::start`]. The work itself
+    /// counts its end.
     fn start_thread<R: Threads + Wait + Clock, F: FnOnce() + Send + Drop + 'static>(
         &self,
         rt: &R,
@@ -252,8 +256,8 @@ impl JobThreads {
         }
     }
 
-    /// Waits until each job that was started has ended: its client was served, and, but where
-    /// memory ran out, its registration given back. It waits for as long as a client stays.
+    /// Waits until each job that was started has ended: its client was served, and its registration
+    /// was ended, but where memory ran out for that. It waits for as long as a client stays.
     pub fn finish<R: Wait>(&self, rt: &R) {
         self.running.wait(rt);
     }
@@ -269,7 +273,7 @@ impl Promise<()> for Apart {
     ghost kept_by = { λ _ _. ⊤ };
 }
 
-/// Runs a job to its end, and tells that it has ended; then the next one that its thread is given.
+/// Runs a job to its end and counts that end, and then each next job that the thread is given.
 fn run_jobs<R: Wait + Clock>(
     rt: &R,
     alloc: Global,
@@ -290,10 +294,10 @@ fn run_jobs<R: Wait + Clock>(
 /// How a job is started.
 pub type StartJob = Box<dyn Fn(ConnectionJob<MaybeTls, MaybeTls>) -> Tries + Drop>;
 
-/// A spawner of the jobs of sockets. How it starts one is its maker's choice: by
-/// [`JobThreads::start`], say, for which the maker needs the leave to start threads. Each try that
-/// failed is counted, also those of a job that was started in the end. It keeps the threads, for
-/// whoever waits for them in the end.
+/// A spawner of jobs over sockets. Its maker chooses how it starts one: by [`JobThreads::start`],
+/// for example, which needs a runtime that may start threads. Each try that failed is counted, also
+/// those of a job that was started in the end. It keeps the threads, so that its owner can wait for
+/// them.
 #[derive(Drop)]
 pub struct ThreadSpawner<T> {
     /// The threads.
@@ -349,8 +353,8 @@ fn may_be_sent<T: Send>() {}
 
 fn may_be_shared<T: Send + Sync>() {}
 
-/// Threads may share a registry and relations, and the job of a connection may be sent to another
-/// thread.
+/// Shows, since it compiles, that threads may share a registry and relations, and that the job of a
+/// connection may be sent to another thread. It does nothing.
 pub fn jobs_cross_threads() {
     may_be_shared::<ConnectionManager>();
     may_be_shared::<RelationTable>();

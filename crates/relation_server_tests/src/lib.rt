@@ -1,5 +1,5 @@
-//! Tests of what a server of relations offers, which no row of a table program can say and no
-//! contract: jobs, threads and sockets. Conversations are rows of programs of their own.
+//! Tests of what no row of a table program and no contract can say of a server of relations: jobs,
+//! threads and sockets. Conversations are rows of programs of their own.
 #![tactic(auto)]
 
 mod examples;

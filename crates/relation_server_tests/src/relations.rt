@@ -1,4 +1,4 @@
-//! Tables of relations, and those that are refused.
+//! Tables of relations that are refused.
 
 use pg_messages::{PgList, PgStr};
 use relation_server::{Relation, RelationTable, TableError};

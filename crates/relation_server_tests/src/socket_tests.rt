@@ -74,7 +74,7 @@ fn is_served_by<R: Wait>(
     Some(end == Ok(EndKind::Terminate))
 }
 
-/// Whether so it is under the pid 7 of a new registry.
+/// The same under the pid 7 of a new registry.
 fn is_served<R: Wait>(
     rt: &R,
     alloc: Global,
@@ -86,7 +86,7 @@ fn is_served<R: Wait>(
     is_served_by(rt, alloc, &registry.manager, &mut handle, reader, writer)
 }
 
-/// Whether the first connection to come is served so. It is ended then.
+/// The same for the first connection to come. The connection is ended then.
 fn is_next_served<R: Wait + Clock + Copy + Drop>(
     rt: R,
     alloc: Global,

@@ -26,8 +26,8 @@ abbrev pub most_unready : List Relation → ℕ
 most_unready [] = 0
 most_unready (r ∷ relations) = max r.unready (most_unready relations)
 
--- The turns are enough for these bytes, whose frames are these messages: one for each byte and one for the end, and for each message that
--- runs a query as many as a relation has unready polls at most.
+-- The turns are enough for these bytes, whose frames are these messages: one for each byte and one for the end, and for
+-- each message that runs a query as many as the most unready polls of a relation.
 abbrev pub HasTurns : List Relation → ℕ → List ℕ → List PgWireFrontendMessage → Type 0
 HasTurns relations turns text messages = length text + 1 + runs messages * most_unready relations ≤ turns
 
@@ -41,9 +41,9 @@ IsEndOrNoMemory (Ok kind) = Unit {0}
 IsEndOrNoMemory (Err NoMemory) = Unit {0}
 IsEndOrNoMemory (Err _) = ⊥
 
--- Complete: whatever bytes the source tells, the conversation comes to an end, or memory runs out, where no count of faults rises and the
--- turns are enough. The whole frames are those that stand before bytes that hold no further one. The turns speak of reads whose count
--- doesn't come to its end.
+-- Complete: whatever the source's bytes are, the conversation comes to an end, or memory runs out, where no count of
+-- faults rises and the turns are enough. The whole frames are those before bytes that hold no further one. What is said
+-- of turns holds while the count of reads doesn't saturate.
 abbrev pub IsComplete : List Relation → ℕ → Result EndKind ServeError → Option (List ℕ) → Counts → Counts → Type 0
 IsComplete relations turns answer left before after = IfSome left (λ text.
     (messages : List PgWireFrontendMessage) (rest : List ℕ) → DividesInto true text messages rest

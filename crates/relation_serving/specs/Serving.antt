@@ -1,4 +1,5 @@
--- What the server of relations owes its client: the answer of the whole table, and of the core table where the client speaks as that does.
+-- What the server of relations owes its client: the answer of the whole table, and of the core table where the client
+-- speaks as the core table does.
 use Rattle.std.specs.Prelude.{ℕ, ℤ, true, List, ◌++◌, Option, Result, Ok, Err, IfSome, ◌≡◌}
 use Rattle.pg_messages.specs.declared.frontend.PgWireFrontendMessage.{PgWireFrontendMessage}
 use Rattle.pg_messages.specs.declared.backend.PgWireBackendMessage.{PgWireBackendMessage}
@@ -22,7 +23,7 @@ use Rattle.relation_tables.specs.RelationHandler.{relation_handlers}
 use Rattle.cell_laws.specs.ShownCells.{ShowStored}
 use Rattle.relation_serving.specs.Completeness.{IsComplete}
 
--- the conversation by the core table
+-- the rules of the conversation by the core table
 abbrev pub core_rules : Setting → Rules CoreState
 core_rules setting = record { table = core_table setting; awaits = core_awaits }
 
@@ -30,8 +31,8 @@ core_rules setting = record { table = core_table setting; awaits = core_awaits }
 abbrev pub setting_of : List Relation → ℤ × List ℕ → Setting
 setting_of relations registration = record { relations = relations; pid = registration.0; key = registration.1 }
 
--- The client speaks as the core table does: whatever frames its bytes begin with, a startup packet comes first, and behind it messages of
--- the extended query, whose results are binary, up to Terminate.
+-- The client speaks as the core table does: whatever frames its bytes begin with, a startup packet comes first, and
+-- after it messages of the extended query, whose results are binary, up to Terminate.
 abbrev pub SpeaksCore : List ℕ → Type 0
 SpeaksCore text = (messages : List PgWireFrontendMessage) (rest : List ℕ) → DividesInto true text messages rest
     → IsCoreConversation messages
@@ -77,16 +78,18 @@ pub record ShowsCells (relations : List Relation) (registration : ℤ × List �
     pub written : WritesReplies answer old new replies
     pub shown : ShowStored relations messages replies
 
--- What was written and called is the answer of both tables: of the whole table whatever the client sends, and of the core table where the
--- client, as far as it tells its bytes, speaks as that does. Each cell that was written stands for a stored interval.
+-- What was written and called is the answer of both tables: of the whole table whatever the client sends, and of the
+-- core table where the client's bytes are known and speak as the core table does. Each cell that was written stands for
+-- a stored interval.
 pub record WentByTables (relations : List Relation) (registration : ℤ × List ℕ) (answer : Result EndKind ServeError)
     (left new_left old new : Option (List ℕ)) (calls : List DeskCall) : Type 0 where
   pub whole : WentByWhole relations registration answer left new_left old new calls
   pub core : IfSome left (λ text. SpeaksCore text → WentByCore relations registration answer left new_left old new calls)
   pub cells : ShowsCells relations registration answer left new_left old new
 
--- A client of relations was served, for the registration that the desk has: what was written and called is the answer of both tables, turns
--- enough bring the conversation to its end, and all else is as a session over the relations serves.
+-- A client of relations was served, with the registration that the desk has. What was written and called is the answer
+-- of both tables. With enough turns the conversation comes to its end. All else is as a session over the relations
+-- serves.
 pub record ServesRelations (relations : List Relation) (turns : ℕ) (answer : Result EndKind ServeError) (before after : Around) : Type 0
   where
     pub went : (calls : List DeskCall) × (after.desk.calls ≡ before.desk.calls ++ calls)

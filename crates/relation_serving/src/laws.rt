@@ -6,9 +6,9 @@ ghost use Rattle.pg_messages.specs.declared.frontend.PgWireFrontendMessage.{PgWi
 ghost use Rattle.relation_serving.specs.Serving.{SpeaksCore};
 ghost use Rattle.relation_tables.specs.Premises.{IsCoreConversation};
 
-/// A client speaks as the core table does where the whole frames of its bytes do: a startup packet
-/// comes first, and behind it messages of the extended query, whose results are binary, up to
-/// Terminate. What is left behind these frames may be any rest that is unfinished or bad.
+/// The whole frames of a client's bytes decide whether it speaks as the core table does: a startup
+/// packet comes first, and after it messages of the extended query, whose results are binary, up to
+/// Terminate. The bytes after these frames may be any rest that is unfinished or bad.
 pub fn whole_frames_decide()
     ensures { (text rest : List ℕ) (messages : List PgWireFrontendMessage)
         → DividesInto true text messages rest

@@ -1,5 +1,5 @@
-//! A client of relations is served on any desk: the engine over the handlers of relations. It lends
-//! the names of the relations that need no file.
+//! Serves a client of relations on any desk: the engine over the handlers of relations. It
+//! re-exports the names that a server of relations without a file needs.
 #![tactic(auto)]
 
 mod laws;

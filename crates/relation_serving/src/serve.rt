@@ -1,4 +1,4 @@
-//! A client of relations is served.
+//! Serves a client of relations.
 
 ghost use Rattle.std.specs.Prelude.{◌≡◌, ◌++◌, List};
 ghost use Rattle.std.specs.Arc.{arc_value};
@@ -23,10 +23,10 @@ use std::sync::Arc;
 /// STDOUT` too; COPY from the client is refused. A read that gives at least one byte or the end
 /// costs one turn, and so does each poll that finds a query unready.
 ///
-/// Ok tells how the conversation ended, with all of its replies written. ReadFault comes where a
-/// read failed, and the whole answer to the frames taken before is written; WriteFault where a
-/// write failed, TurnLimit where all turns were spent and one more was needed, NoMemory where
-/// memory ran out: then a front of the answer is written.
+/// Ok says how the conversation ended, and all of its replies are written then. ReadFault comes
+/// where a read failed, and the whole answer to the frames taken before is written then. WriteFault
+/// comes where a write failed, TurnLimit where all turns were spent and one more was needed,
+/// NoMemory where memory ran out. After these three a front of the answer is written.
 pub fn serve_relations_on<D: CancelDesk, S: Source, K: Sink>(
     alloc: Global,
     desk: &mut D,
@@ -53,8 +53,8 @@ pub fn serve_relations_on<D: CancelDesk, S: Source, K: Sink>(
         (counts_of S.reads S.faults K.faults source.old sink.old)
         (counts_of S.reads S.faults K.faults source.new sink.new) }
 
-    // Nothing behind the end was read, each read that was counted gave a byte, and what was lent is
-    // the same again.
+    // Nothing after the end was read, each read that was counted gave a byte, and the source, the
+    // sink and the desk are the same ones.
     ensures serves { let round = around S.left S.reads S.faults S.origin K.written K.faults K.origin D.told in
         ServesSession (relation_handlers relations.now) turn_limit result
         (round source.old sink.old desk.old) (round source.new sink.new desk.new) }
@@ -67,8 +67,8 @@ pub fn serve_relations_on<D: CancelDesk, S: Source, K: Sink>(
     serve_by(alloc, handlers, desk, source, sink, turn_limit)
 }
 
-/// Serves a client by these handlers, with a store in memory: `serve_connection`, where the
-/// handlers are any, so that no check has to compare what their types are made of.
+/// Serves a client by these handlers, with a store in memory, as `serve_connection` does. It is
+/// generic in the handlers, so that no check has to compare what their types are made of.
 fn serve_by<H: PgWireServerHandlers, D: CancelDesk, S: Source, K: Sink>(
     alloc: Global,
     handlers: Arc<H>,

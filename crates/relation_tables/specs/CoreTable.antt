@@ -115,7 +115,7 @@ core_startup setting s m =
 abbrev pub core_stored : CoreState → List ℕ → Entry CoreStatement → Answer CoreState
 core_stored s name e = core_says (server.ParseComplete (record {}) ∷ []) (record s { statements = fin.insert s.statements name e })
 
--- a parameter's type: the one that was told, or that of an unknown one
+-- the oid of a parameter's type: the one that was given, or 705, `unknown`, where it isn't a known one
 abbrev pub core_oid : ℕ → ℕ
 core_oid oid = if is_some (type_of_oid oid) then oid else 705
 
@@ -131,7 +131,7 @@ core_parse setting s m =
 abbrev pub core_put : CoreState → Bind → Entry CorePortal → Answer CoreState
 core_put s m e = core_says (server.BindComplete (record {}) ∷ []) (record s { portals = fin.insert s.portals m.portal_name e })
 
--- An empty statement takes no values. Of a statement's result codes, several have to be as many as its columns at least.
+-- An empty statement takes no values. Two or more result codes have to be at least as many as the statement's columns.
 abbrev pub core_bound : Setting → CoreState → Bind → Option (Entry CoreStatement) → Answer CoreState
 core_bound setting s m None = core_refuses s (wire.StatementNotFound m.statement_name)
 core_bound setting s m (Some entry.Empty) =
@@ -148,7 +148,7 @@ core_bound setting s m (Some (entry.Value statement)) =
 abbrev pub core_bind : Setting → CoreState → Bind → Answer CoreState
 core_bind setting s m = core_bound setting s m (fin.get s.statements m.statement_name)
 
--- the columns in a format, or that there is no data
+-- the columns in a format, or NoData
 abbrev pub core_columns : FieldFormat → Bool → List (List ℕ) → PgWireBackendMessage
 core_columns format has_no_data columns = if has_no_data then server.NoData (record {}) else row_description (map (column format) columns)
 
@@ -180,7 +180,7 @@ core_describe setting s m =
 
 -- ---- Execute
 
--- the portal behind a page
+-- the portal after a page
 abbrev pub core_portal_after : CorePortal → Page (List Interval) → CorePortal
 core_portal_after p page = record p {
   position = p.position + length page.rows;
@@ -188,7 +188,7 @@ core_portal_after p page = record p {
   is_started = true;
 }
 
--- behind a page's rows: that the portal is suspended, or the tag with the number of rows delivered
+-- after a page's rows: PortalSuspended, or the tag with the number of rows delivered
 abbrev pub core_page_end : CorePortal → Bool → PgWireBackendMessage
 core_page_end after suspended = if suspended then server.PortalSuspended (record {}) else done_with (codes "SELECT") after.delivered
 

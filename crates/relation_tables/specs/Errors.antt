@@ -1,4 +1,4 @@
--- The error that relations are refused by (PostgreSQL: Error Codes).
+-- The error for an unknown relation (PostgreSQL: Error Codes).
 use Rattle.std.specs.Prelude.{ℕ, List, ◌++◌, codes}
 use Rattle.pg_messages.specs.declared.response.ErrorInfo.{ErrorInfo}
 use Rattle.pg_results.specs.Errors.{error}

@@ -1,4 +1,4 @@
--- The messages of which the core table speaks, and when two answers are alike.
+-- The messages that the core table is about, and when two answers are alike.
 use Rattle.std.specs.Prelude.{ℤ, pos, Bool, List, [], ◌∷◌, ◌≡◌, ◌≢◌, IsTrue}
 use Rattle.std.specs.List.{AllByRecursion}
 use Rattle.pg_messages.specs.declared.frontend.PgWireFrontendMessage.{PgWireFrontendMessage}
@@ -6,7 +6,7 @@ use Rattle.pg_messages.specs.declared.frontend.PgWireFrontendMessage.TheVariants
 use Rattle.pg_client.specs.Answer.{Answer, Next, Goes, Ends, Stops}
 use Rattle.relation_tables.specs.CoreTable.{is_served}
 
--- result codes for binary alone: they aren't empty, and each is 1
+-- result codes for binary only: they aren't empty, and each is 1
 abbrev pub AreBinary : List ℤ → Type 0
 AreBinary codes = (codes ≢ []) × AllByRecursion (λ code. code ≡ pos 1) codes
 
@@ -26,18 +26,18 @@ IsCore _ = ⊥
 abbrev pub AreCore : List PgWireFrontendMessage → Type 0
 AreCore messages = AllByRecursion IsCore messages
 
--- this of what stands behind a message, unless the message is Terminate, which ends the conversation
+-- a condition on the messages after this one, unless this one is Terminate, which ends the conversation
 abbrev pub UnlessTerminate : PgWireFrontendMessage → Type 0 → Type 0
 UnlessTerminate (client.Terminate m) behind = Unit {0}
 UnlessTerminate _ behind = behind
 
--- the messages up to Terminate are such
+-- the messages up to Terminate are core messages
 abbrev pub AreCoreToTerminate : List PgWireFrontendMessage → Type 0
 AreCoreToTerminate [] = Unit {0}
 AreCoreToTerminate (m ∷ messages) = IsCore m × UnlessTerminate m (AreCoreToTerminate messages)
 
--- Messages of a core conversation: a startup packet comes first, and where its version is served, the messages behind it are such up to the
--- end.
+-- Messages of a core conversation: a startup packet comes first, and where its version is served, the messages after it
+-- are core messages up to the end.
 abbrev pub IsCoreConversation : List PgWireFrontendMessage → Type 0
 IsCoreConversation [] = Unit {0}
 IsCoreConversation (client.Startup m ∷ messages) = IsTrue (is_served m.code) → AreCoreToTerminate messages

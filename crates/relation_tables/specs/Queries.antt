@@ -1,4 +1,4 @@
--- The words of a COPY; and, for those who name them from here, what counts for nothing round a query, and the words of a text.
+-- The words of a COPY. What is ignored around a query, and the words of a text, are re-exported from query_texts.
 use Rattle.std.specs.Prelude.{ℕ, List, [], ◌∷◌, ◌&&◌, Option, Some, None, if◌then◌else◌, codes}
 pub use Rattle.query_texts.specs.QueryTexts.{without_front_padding, without_end_padding, trimmed, words, is_word}
 

@@ -1,4 +1,5 @@
--- What the relation server's handlers tell: the parser, the answers to extended and to simple queries, and that no COPY is taken.
+-- The handlers of the relation server, as contracts see them: the parser, the answers to extended and to simple
+-- queries, and the refusal of COPY from the client.
 use Rattle.std.specs.Prelude.{ℕ, pos, Bool, true, false, List, [], ◌∷◌, ◌++◌, ◌+◌, Option, Some, None, Result, Ok, Err, map, length, zip, codes, nat_lt, unwrap_or}
 use Rattle.std.specs.List.{concat, join_with_byte}
 use Rattle.std.specs.FinMap as fin
@@ -42,7 +43,7 @@ use Rattle.relation_tables.specs.Relations.{meaning, place_of, relation_at, colu
 abbrev pub style_text : ClientInfo → List ℕ
 style_text client = unwrap_or (fin.get client.metadata (codes "intervalstyle")) (codes "postgres")
 
--- the style, or the refusal of the text that names none
+-- the style, or the error with the text that names none
 abbrev pub or_refused : List ℕ → Option IntervalStyle → Result IntervalStyle PgWireError
 or_refused text None = Err (wire.InvalidOptionValue text)
 or_refused text (Some style) = Ok style
@@ -62,7 +63,7 @@ abbrev pub all_or_error : {A : Type 0} → List (Result A PgWireError) → Resul
 all_or_error [] = Ok []
 all_or_error (x ∷ xs) = in_front x (all_or_error xs)
 
--- an interval's text in the session's style, where that is one
+-- an interval's text in the session's style, or the error where there is no style
 abbrev pub text_of : Result IntervalStyle PgWireError → Interval → Result (List ℕ) PgWireError
 text_of (Ok style) i = Ok (printed (printed_style style) i)
 text_of (Err e) i = Err e
@@ -80,7 +81,7 @@ abbrev pub row_of_values : ℕ → Result (List (List ℕ)) PgWireError → RowI
 row_of_values count (Ok values) = Ok (record { payload = concat values; field_count = pos count })
 row_of_values count (Err e) = Err e
 
--- a row in these formats, one for each column; it is an error where the style isn't one and a column is text
+-- a row in these formats, one for each column; it is an error where the session has no style and a column is text
 abbrev pub row_item : Result IntervalStyle PgWireError → List FieldFormat → List Interval → RowItem
 row_item style formats row = row_of_values (length row) (all_or_error (map (λ p. value style p.0 p.1) (zip formats row)))
 
@@ -88,7 +89,7 @@ abbrev pub line_of_texts : Result (List (List ℕ)) PgWireError → CopyItem
 line_of_texts (Ok texts) = Ok (record { payload = join_with_byte 9 texts ++ 10 ∷ [] })
 line_of_texts (Err e) = Err e
 
--- a row as a line of texts, split by tabs; a row without a column has no text, which the style could refuse
+-- a row as a line of texts, separated by tabs; a row without a column has no text, and needs no style
 abbrev pub line_item : Result IntervalStyle PgWireError → List Interval → CopyItem
 line_item style row = line_of_texts (all_or_error (map (text_of style) row))
 
@@ -157,7 +158,7 @@ rows_response client formats r = response.Query (record {
   items = map (row_item (session_style client) (column_formats formats r.columns)) r.rows;
 })
 
--- what a statement comes to; BEGIN and COMMIT owe no poll, and a relation its own
+-- the query of a statement: for BEGIN and COMMIT it owes no poll, for a relation it owes the relation's polls
 abbrev pub query_of : List Relation → ClientInfo → Format → RelationStatement → ToldQuery ToldResponse
 query_of relations client formats statement.Begin = record { owes = 0; outcome = Ok (response.TransactionStart (tag_of (codes "BEGIN"))) }
 query_of relations client formats statement.Commit = record { owes = 0; outcome = Ok (response.TransactionEnd (tag_of (codes "COMMIT"))) }
@@ -184,18 +185,18 @@ copy_response client r = response.CopyOut (record {
   trailer_left = false;
 })
 
--- a query of a relation that there isn't is refused at once
+-- a query of a relation that doesn't exist is refused at once
 abbrev pub refused_query : List ℕ → ToldQuery (List ToldResponse)
 refused_query name = record { owes = 0; outcome = Err (wire.UserError (unknown_relation name)) }
 
--- what the COPY of a name comes to, by the place of its relation
+-- the query of a COPY of a name, by the place of its relation
 abbrev pub copy_of : List Relation → ClientInfo → List ℕ → Option ℕ → ToldQuery (List ToldResponse)
 copy_of relations client name None = refused_query name
 copy_of relations client name (Some place) =
     let r = relation_at relations place in
     record { owes = r.unready; outcome = Ok (copy_response client r ∷ []) }
 
--- what a text comes to that is a COPY of a name, or no query at all
+-- the query of a text that is a COPY of a name, or is unknown
 abbrev pub copy_or_unknown : List Relation → ClientInfo → List ℕ → Option (List ℕ) → ToldQuery (List ToldResponse)
 copy_or_unknown relations client text None = refused_query text
 copy_or_unknown relations client text (Some name) = copy_of relations client name (place_of relations name)

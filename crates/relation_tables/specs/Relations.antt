@@ -25,18 +25,18 @@ abbrev pub relation_meaning : Option ℕ → Option RelationStatement
 relation_meaning None = None
 relation_meaning (Some place) = Some (statement.Relation place)
 
--- the meaning of a trimmed text: BEGIN and COMMIT in any ASCII case, or a relation by its very name
+-- the meaning of a trimmed text: BEGIN and COMMIT in any ASCII case, or a relation by its exact name
 abbrev pub meaning_of : List Relation → List ℕ → Option RelationStatement
 meaning_of relations text =
     if str_eq_ignore_ascii_case text (codes "BEGIN") then Some statement.Begin
     else if str_eq_ignore_ascii_case text (codes "COMMIT") then Some statement.Commit
     else relation_meaning (place_of relations text)
 
--- the meaning of a query, whose whitespace and semicolons at both ends count for nothing
+-- the meaning of a query, whose whitespace and semicolons at both ends are ignored
 abbrev pub meaning : List Relation → List ℕ → Option RelationStatement
 meaning relations query = meaning_of relations (trimmed query)
 
--- ---- the relation at a place; none has no column and no row
+-- ---- the relation at a place; where there is none, it has no column and no row
 
 abbrev pub no_relation : Relation
 no_relation = record { name = []; unready = 0; columns = []; rows = [] }

@@ -11,10 +11,9 @@ ghost use Rattle.relation_tables.specs.Premises.{AreCore, IsCoreConversation, Ar
 ghost use Rattle.relation_tables.specs.RelationHandler.{relation_handlers};
 ghost use Rattle.relation_tables.specs.Relations.{HaveEvenRows};
 
-/// Over relations whose rows are as wide as their columns, messages of extended queries with binary
-/// results are answered alike by the whole table, whose handlers tell what those of relations tell,
-/// and by the core table; and so are the messages of a core conversation, whatever stands behind
-/// its end.
+/// Over relations whose rows are as wide as their columns, the whole table with the handlers of
+/// relations and the core table answer alike. They do so for messages of extended queries with
+/// binary results, and for the messages of a core conversation, whatever follows its end.
 pub fn whole_is_core()
     ensures each { (setting : Setting) (answers : List Bool) (messages : List PgWireFrontendMessage)
         → HaveEvenRows setting.relations → AreCore messages

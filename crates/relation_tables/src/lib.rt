@@ -1,5 +1,5 @@
-//! Relations of intervals: their names, what queries of them mean, what their handlers tell, and the
-//! core conversation table.
+//! Relations of intervals: their names, what queries of them mean, how their handlers answer, and
+//! the core conversation table.
 #![tactic(auto)]
 
 mod laws;
@@ -15,7 +15,7 @@ use pg_messages::{PgList, PgStr};
 pub struct Relation {
     /// What a query calls it.
     pub name: PgStr,
-    /// How many polls a query of it finds not ready.
+    /// How many polls find a query of it unready.
     pub unready: u32,
     /// The names of the columns.
     pub columns: PgList<PgStr>,
@@ -23,7 +23,7 @@ pub struct Relation {
     pub rows: PgList<PgList<Interval>>,
 }
 
-/// What a query means: a relation is told by its place among the relations.
+/// What a query means. A relation is named by its place among the relations.
 #[derive(Clone, Copy, Debug, PartialEq, Eq)]
 pub enum RelationStatement {
     /// BEGIN.

@@ -31,7 +31,7 @@ abbrev pub service : Option ℤ → Option (List ℕ) → Option ℕ → Option 
 service (Some pid) (Some key) (Some turns) = Some (record { pid = pid; key = key; turns = turns })
 service _ _ _ = None
 
--- the service that the program's type of a service without a key of its own holds
+-- the service that a value of the program's `Serving` stands for
 abbrev pub told_serving : Serving → Service
 told_serving serving = record { pid = serving.pid; key = serving.key; turns = serving.turns }
 
@@ -54,6 +54,6 @@ load_of (command ∷ seed ∷ count ∷ []) =
     if bytes_eq command (codes "demo") then load (seed_of seed) (count_of count) else None
 load_of _ = None
 
--- What good words of `serve` or of `demo` order; None of any others.
+-- What good words of `serve` or of `demo` order; None for any others.
 abbrev pub command_of : List (List ℕ) → Option Command
 command_of words = option_or (option_map Serve (service_of words)) (option_map Demo (load_of words))

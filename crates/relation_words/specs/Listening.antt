@@ -49,10 +49,10 @@ listening_of _ = None
 abbrev pub told_listening : Listening → Place × Option ℕ
 told_listening listening = (told_place listening.place, listening.count)
 
--- The place that good words of `listen` tell; None of any others.
+-- The place that good words of `listen` tell; None for any others.
 abbrev pub listen_place_of : List (List ℕ) → Option Place
 listen_place_of words = option_map (λ told. told.0) (listening_of words)
 
--- The bound that they tell, or that there is none.
+-- The bound that good words of `listen` tell, or that they tell none; None for any others.
 abbrev pub listen_count_of : List (List ℕ) → Option (Option ℕ)
 listen_count_of words = option_map (λ told. told.1) (listening_of words)

@@ -35,7 +35,7 @@ pub struct Service {
     pub turns: u64,
 }
 
-/// What good words of `serve` tell beside their file, while there is no key of its own yet.
+/// What good words of `serve` tell beside their file, before the key is copied to memory of its own.
 #[derive(Drop)]
 struct Serving {
     pid: i32,
@@ -55,8 +55,9 @@ pub struct Load {
 /// The command that the words give: `serve FILE PID KEY [TURNS]` or `demo SEED N`. PID is 1 to
 /// 2147483647, KEY an even number of hexadecimal digits of either case, 8 to 512 of them, TURNS 1 to
 /// 18446744073709551615 and 1000000000 where it is left out, SEED 0 to 18446744073709551615, N 0 to
-/// 10000. Numbers are in decimal, without a sign or a leading zero. None is any other words.
-/// Judging the words takes no memory; the key of a good `serve` does.
+/// 10000. Numbers are in decimal, without a sign or a leading zero. None for any other words.
+/// Judging the words takes no memory. The key of a good `serve` takes some, and the error comes
+/// where there is none.
 pub fn read_command(alloc: Global, words: &[PgStr]) -> Result<Option<Command>, AllocError>
     ensures ok { IfOk result (λ command. command ≡ command_of words.now) }
     ensures err { OnErr result ((service : Service)
@@ -108,7 +109,7 @@ fn read_serving(words: &[PgStr]) -> Option<Serving>
     }
 }
 
-/// What they tell, where the command is `serve` and the pid, the key and the turns are good.
+/// What the words tell, where the command is `serve` and the pid, the key and the turns are good.
 fn make_serving(command: &str, pid: &str, key: &str, turns: Option<u64>) -> Option<Serving>
     ensures { option_map told_serving result ≡ (if bytes_eq command.now (codes "serve") then service
         (pid_of pid.now) (key_of key.now) turns else None) }
@@ -132,7 +133,7 @@ fn read_load(words: &[PgStr]) -> Option<Load>
     }
 }
 
-/// The load of this seed and so many relations, where the command is `demo` and both numbers are
+/// The load of this seed and this many relations, where the command is `demo` and both numbers are
 /// good.
 fn make_load(command: &str, seed: &str, count: &str) -> Option<Load>
     ensures { result ≡ (if bytes_eq command.now (codes "demo") then load (seed_of seed.now)

@@ -8,7 +8,7 @@ use crate::commands::is_serving;
 use crate::listening::is_listening;
 use pg_messages::PgStr;
 
-/// FILE, which is any word, of a good `serve` or a good `listen`. None is any other words.
+/// FILE, which is any word, of a good `serve` or a good `listen`. None for any other words.
 pub fn file_word<'a>(words: &'a [PgStr]) -> Option<&'a str>
     ensures { option_copied result ≡ file_of words.now }
 {

@@ -26,15 +26,15 @@ struct Listening<'a> {
 
 /// Where the words order to listen: `listen tcp PORT FILE [COUNT]` or `listen unix PATH FILE
 /// [COUNT]`. PORT is 1 to 65535, PATH isn't empty, COUNT is 0 to 10000. Numbers are in decimal,
-/// without a sign or a leading zero. None is any other words.
+/// without a sign or a leading zero. None for any other words.
 pub fn listen_place<'a>(words: &'a [PgStr]) -> Option<ListenPlace<'a>>
     ensures { option_map told_place result ≡ listen_place_of words.now }
 {
     Some(read_listening(words)?.place)
 }
 
-/// COUNT of the same words, or `Some(None)` where they leave it out, so that there is no bound.
-/// None is any other words.
+/// COUNT of the words that [`listen_place`] reads, or `Some(None)` where they leave it out, so that
+/// there is no bound. None for any other words.
 pub fn listen_count(words: &[PgStr]) -> Option<Option<u64>>
     ensures { result ≡ listen_count_of words.now }
 {
@@ -64,7 +64,7 @@ fn read_listening<'a>(words: &'a [PgStr]) -> Option<Listening<'a>>
     }
 }
 
-/// What they tell, where the command is `listen` and the place and the count are good.
+/// What the words tell, where the command is `listen` and the place and the count are good.
 fn make_listening<'a>(
     command: &str,
     kind: &str,

@@ -5,8 +5,8 @@ ghost use Rattle.std.specs.Char.{is_ascii_digit};
 ghost use Rattle.std.specs.List.{list_all};
 ghost use Rattle.relation_words.specs.Numbers.{is_numeral, has_leading_zero, number_of, number_within};
 
-/// The number that the word writes in decimal, without a sign or a leading zero. None is any other
-/// word, and a number of 2^64 or more.
+/// The number that the word writes in decimal, without a sign or a leading zero. None for any other
+/// word, and for a number of 2^64 or more.
 pub(crate) fn read_number(word: &str) -> Option<u64>
     ensures { result ≡ number_of word.now }
 {

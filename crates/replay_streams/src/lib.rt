@@ -1,5 +1,5 @@
-//! What a replay stands on: a source over bytes that are lent to it and a sink in memory, of which
-//! neither fails, and which recordings are those of a run.
+//! What a replay uses: a source over bytes that are lent to it, whose reads never fail, and a sink
+//! in memory, whose writes fail only where memory runs out. And which recordings are those of a run.
 #![tactic(auto)]
 
 mod sink;

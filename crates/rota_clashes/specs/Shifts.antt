@@ -38,7 +38,7 @@ HasShift place moments old new =
     ((new ≡ old) × (micros_at moments (place + 1) ≤ micros_at moments place))
     ⊎ ((s : Shift) × IsShift moments s × (s.place ≡ place) × (new ≡ old ++ s ∷ []))
 
--- the pairs of a shift of each list that stand so to one another
+-- the pairs of a shift of each list that R relates
 abbrev pub IsJoined : (Shift → Shift → Type 0) → (Shift → Shift → ℕ × ℕ) → List Shift → List Shift → ℕ × ℕ → Type 0
 IsJoined R pair shifts others p =
     (a : Shift) × ((b : Shift) × Contains shifts a × Contains others b × R a b × (p ≡ pair a b))

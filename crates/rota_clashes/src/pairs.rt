@@ -13,12 +13,12 @@ use pg_messages::PgList;
 use rota_moments::Moment;
 use std::alloc::{AllocError, Global};
 
-/// The pairs of a shift of the first rota and one of the second that share a moment, each once, by
-/// the place of the first and then by that of the second; places are counted from 0. The moments of
-/// either rota may stand in any order.
+/// The pairs of a shift of the first rota and one of the second that share a moment. Each pair
+/// stands once. They are sorted by the place of the first shift and then by that of the second;
+/// places are counted from 0. The moments of either rota may stand in any order.
 ///
-/// It takes the time of two sorts of the lists, and of one of the pairs. AllocError comes where
-/// memory ran out.
+/// It takes the time to sort each of the lists and the pairs once. AllocError comes where memory ran
+/// out.
 pub fn clashes(
     alloc: Global,
     first: &[Moment],
@@ -34,7 +34,7 @@ pub fn clashes(
     let second = shifts_of(alloc, second)?;
     let mut pairs = all_pairs(alloc, first.as_slice(), second.as_slice())?;
     pairs.sort_unstable();
-    // No pair stands there twice; that none does is plain from here on.
+    // No pair stands there twice. This call makes that plain to the proof.
     pairs.dedup();
     Ok(PgList::from_vec(pairs))
 }
@@ -61,7 +61,7 @@ fn all_pairs(
     Ok(pairs)
 }
 
-/// Puts those pairs at the end whose second shift begins while the first is on.
+/// Appends the pairs whose second shift begins while the first is on.
 fn push_begun(
     pairs: &mut Vec<(u32, u32)>,
     first: &[Shift],
@@ -77,7 +77,7 @@ fn push_begun(
     Ok(())
 }
 
-/// Puts those pairs at the end whose first shift begins while the second is on already.
+/// Appends the pairs whose first shift begins while the second is on already.
 fn push_running(
     pairs: &mut Vec<(u32, u32)>,
     first: &[Shift],
@@ -93,8 +93,7 @@ fn push_running(
     Ok(())
 }
 
-/// Puts the pairs of this place of the first rota and each of these shifts of the second at the
-/// end.
+/// Appends the pairs of this place of the first rota and each of these shifts of the second.
 fn push_with_first(
     pairs: &mut Vec<(u32, u32)>,
     place: u32,
@@ -109,8 +108,7 @@ fn push_with_first(
     Ok(())
 }
 
-/// Puts the pairs of each of these shifts of the first rota and this place of the second at the
-/// end.
+/// Appends the pairs of each of these shifts of the first rota and this place of the second.
 fn push_with_second(
     pairs: &mut Vec<(u32, u32)>,
     others: &[Shift],

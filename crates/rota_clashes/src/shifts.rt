@@ -14,9 +14,9 @@ const DAY_MICROS: u64 = 86_400_000_000;
 /// A shift that isn't empty.
 #[derive(Clone, Copy)]
 pub(crate) struct Shift {
-    /// The microseconds from 0001-01-01 to its beginning,
+    /// The microseconds from 0001-01-01 to its beginning.
     pub(crate) start: u64,
-    /// and those to the moment before which it ends.
+    /// The microseconds from 0001-01-01 to its end, at which it isn't on any more.
     pub(crate) stop: u64,
     /// Its place in the rota, counted from 0.
     pub(crate) place: u32,
@@ -30,7 +30,7 @@ fn micros_up_to(moment: Moment) -> u64
     (moment.day + 719_162).unsigned_abs() as u64 * DAY_MICROS + moment.micro
 }
 
-/// Puts the shift at a place at the end, if it isn't empty.
+/// Appends the shift at a place, if it isn't empty.
 fn push_shift(shifts: &mut Vec<Shift>, moments: &[Moment], place: usize) -> Result<(), AllocError>
     requires valid { All IsMoment moments.now }
     requires few { length moments.now < 2 ^ 32 }

@@ -15,12 +15,13 @@ abbrev pub IsSinkCause : SinkError → ℕ → ℕ → Type 0
 IsSinkCause Failed faults new_faults = HasRisen faults new_faults
 IsSinkCause NoMemory faults new_faults = new_faults ≡ faults
 
--- What came of a text: all of it was written, or a front of it, and a cause.
+-- What came of a text: all of it was written, or a front of it was, for a cause.
 abbrev pub HasWritten : Result (Unit {0}) SinkError → List ℕ → Option (List ℕ) → Option (List ℕ) → ℕ → ℕ → Type 0
 HasWritten (Ok done) text old new faults new_faults = GrowsBy old new text × (new_faults ≡ faults)
 HasWritten (Err e) text old new faults new_faults = GrowsByFront old new text × IsSinkCause e faults new_faults
 
--- Whatever text is on its way, of which some waits, it is so with a piece more; or a front of that was written, for a cause.
+-- Of each text that was on its way, whose rest waits: now the text with this piece behind it is on its way; or a front of that was written,
+-- for a cause.
 abbrev pub GoesOn : Result (Unit {0}) SinkError → List ℕ → List ℕ → List ℕ → Option (List ℕ) → Option (List ℕ) → ℕ → ℕ → Type 0
 GoesOn (Ok done) piece waiting new_waiting old new faults new_faults =
     ((first : Option (List ℕ)) (text : List ℕ) → IsOnItsWay first old text waiting → IsOnItsWay first new (text ++ piece) new_waiting)

@@ -18,7 +18,7 @@ use std::alloc::Global;
 /// Why a rota isn't reported.
 #[derive(Clone, Copy, Debug, PartialEq, Eq)]
 pub enum ReportError {
-    /// A step leads out of the years 1 to 9999. Want of memory is told by `NoMemory`.
+    /// A step leads out of the years 1 to 9999. Where memory ran out, the error is `NoMemory` below.
     Rota(RotaError),
     /// The step at this place, counted from 0, is the first with which the total is no interval.
     TotalOverflow(u64),
@@ -33,10 +33,10 @@ pub enum ReportError {
 /// total. Tabs split the fields, and each line ends with `\n`. The text is written by pieces of
 /// some 64 KiB.
 ///
-/// Moments and total are taken first: Rota tells the first step that is refused, else TotalOverflow
-/// the first whose total is no interval, and nothing was written. WriteFault comes only where the
-/// sink's count of faults rose, and NoMemory where memory ran out; then a front of the text may
-/// stand written.
+/// The moments and the total are made first. Rota tells the first step that is refused, and else
+/// TotalOverflow the first step with which the total is no interval; then nothing was written.
+/// WriteFault comes only where the sink's count of faults rose, and NoMemory where memory ran out;
+/// then a front of the text may stand written.
 pub fn report<K: Sink>(
     alloc: Global,
     start: Moment,

@@ -13,7 +13,7 @@ use pg_text::IntervalStyle;
 use rota_moments::Moment;
 use std::alloc::{AllocError, Global};
 
-/// From how many bytes on a text is sent.
+/// A text that has this many bytes or more is sent.
 const FULL: usize = 65_536;
 
 /// Writes the text of a rota of these steps, moments and total.

@@ -8,7 +8,7 @@ use Rattle.rota_moments.specs.declared.moment.RangeError.{RangeError}
 use Rattle.rota_moments.specs.declared.moment.RangeError.TheVariants.{Months, Days, Time}
 use Rattle.rota_moments.specs.Calendar.{civil_date, month_length, day_number, date_of}
 
--- a day has as many microseconds
+-- how many microseconds a day has
 abbrev pub day_micros : ℕ
 day_micros = 86400000000
 
@@ -54,13 +54,13 @@ day_in_month year month day =
 abbrev pub day_of_month : ℤ → ℕ → Option ℤ
 day_of_month t day = day_in_month (int_div_euclid t (pos 12)) (unsigned_abs (int_rem_euclid t (pos 12)) + 1) day
 
--- so many months later
+-- the day `months` months later
 abbrev pub after_months : ℤ → ℤ → Option ℤ
 after_months day months =
     let date = date_of day in
     day_of_month (pos (12 * date.year + date.month - 1) +ℤ months) date.day
 
--- so many days later
+-- the day `days` days later
 abbrev pub after_days : ℤ → ℤ → Option ℤ
 after_days day days = day_if_any (day +ℤ days)
 
@@ -70,7 +70,7 @@ moment_at t =
     let day = int_div_euclid t (pos day_micros) in
     if is_day day then Some (moment day (unsigned_abs (int_rem_euclid t (pos day_micros)))) else None
 
--- so many microseconds later
+-- the moment `micros` microseconds later
 abbrev pub after_time : Moment → ℤ → Option Moment
 after_time m micros = moment_at (instant m +ℤ micros)
 
@@ -78,7 +78,7 @@ abbrev pub and_then : {A B : Type 0} → Result A RangeError → (A → Result B
 and_then (Ok x) f = f x
 and_then (Err e) f = Err e
 
--- so many days and then so many microseconds later
+-- the moment `days` days and then `micros` microseconds later
 abbrev pub after_days_and_time : Moment → ℤ → ℤ → Result Moment RangeError
 after_days_and_time m days micros =
     and_then (ok_or (after_days m.day days) Days) (λ day. ok_or (after_time (moment day m.micro) micros) Time)

@@ -17,7 +17,7 @@ pub record Clock : Type 0 where
 abbrev pub clock : ℕ → ℕ → ℕ → Clock
 clock hour minute second = record { hour = hour; minute = minute; second = second }
 
--- the time of day so many microseconds after midnight
+-- the time of day `micro` microseconds after midnight
 abbrev pub clock_of : ℕ → Clock
 clock_of micro = clock (micro / 3600000000) (micro / 60000000 % 60) (micro / 1000000 % 60)
 

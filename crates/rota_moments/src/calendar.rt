@@ -10,10 +10,10 @@ use crate::moment::RangeError;
 use jiff::ToSpan;
 use jiff::civil::Date;
 
-/// More months than this lead from any year of 1 to 9999 to none of them.
+/// More months than this lead out of the years 1 to 9999, from any day of them.
 const MOST_MONTHS: u32 = 119_987;
 
-/// More days than this lead from any day of these years to none.
+/// More days than this lead out of these years, from any day of them.
 const MOST_DAYS: u32 = 3_652_058;
 
 /// The date of a day.
@@ -44,7 +44,7 @@ pub(crate) fn day_of(date: Date) -> Option<i32>
     if day < -719_162 { None } else { Some(day) }
 }
 
-/// The day so many months later: the same day of its month, or the last of a month that has no such
+/// The day `months` months later: the same day of its month, or the last of a month that has no such
 /// day.
 pub(crate) fn months_later(day: i32, months: i32) -> Result<i32, RangeError>
     requires { IsDay day }
@@ -60,7 +60,7 @@ pub(crate) fn months_later(day: i32, months: i32) -> Result<i32, RangeError>
     }
 }
 
-/// The day so many days later.
+/// The day `days` days later.
 pub(crate) fn days_later(day: i32, days: i32) -> Result<i32, RangeError>
     requires { IsDay day }
     ensures value { result ≡ ok_or (after_days day days) RangeError.Days }

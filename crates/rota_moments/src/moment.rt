@@ -32,10 +32,10 @@ pub enum RangeError {
 }
 
 impl Moment {
-    /// The moment after an interval. Its months come first: the same day of the month that so many
-    /// months lead to, or the last day of a month that has no such day. Then come its days, and
-    /// then its microseconds, which may go over the end of a day. The first of the three that leads
-    /// out of the years 1 to 9999 is refused.
+    /// The moment after an interval. Its months come first: they lead to the same day of a month, or
+    /// to the last day of a month that has no such day. Then come its days, and then its
+    /// microseconds, which may go over the end of a day. The first of the three that leads out of
+    /// the years 1 to 9999 is refused.
     pub fn add(self, step: Interval) -> Result<Moment, RangeError>
         requires { IsMoment self }
         ensures value { result ≡ moment_after self step }
@@ -46,7 +46,7 @@ impl Moment {
     }
 }
 
-/// The moment so many days and then so many microseconds later than this place in a day.
+/// The moment `days` days and then `microseconds` microseconds later than this place in a day.
 fn days_and_time_later(
     day: i32,
     micro: u64,
@@ -61,7 +61,7 @@ fn days_and_time_later(
     time_later(Moment { day, micro }, microseconds)
 }
 
-/// The moment so many microseconds later.
+/// The moment `microseconds` microseconds later.
 fn time_later(start: Moment, microseconds: i64) -> Result<Moment, RangeError>
     requires { IsMoment start }
     ensures value { result ≡ ok_or (after_time start microseconds) RangeError.Time }

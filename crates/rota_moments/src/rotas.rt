@@ -50,8 +50,8 @@ pub fn rota(alloc: Global, start: Moment, steps: &[Interval]) -> Result<PgList<M
     Ok(moments)
 }
 
-/// The total of the steps: the sums of their months, days and microseconds. Err tells the place,
-/// counted from 0, of the first step whose running sum has a number that leaves its type.
+/// The total of the steps: the sums of their months, days and microseconds. The error is the place,
+/// counted from 0, of the first step with which one of the three sums doesn't fit its type.
 pub fn total(steps: &[Interval]) -> Result<Interval, u64>
     ensures { IsTotal steps.now result }
 {

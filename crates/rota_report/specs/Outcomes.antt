@@ -63,7 +63,7 @@ abbrev pub IsTooMuch : Moment → List Interval → Type 0
 IsTooMuch start steps = ((moments : List Moment) × (moments_of steps start ≡ Ok moments)) × ((place : ℕ) × IsTotal steps (Err place))
 
 -- What comes of the report of a rota: there is no such column; or the report was written, all of it, or a front where a write failed or
--- memory ran out; or nothing was, for the rota, or else for the total.
+-- memory ran out; or nothing was written, since a step of the rota is refused, or else the total.
 abbrev pub HasListed : Moment → Style → Option (List Interval) → Result (Unit {0}) Failure → Option (List ℕ) → Option (List ℕ) → ℕ → ℕ
     → Type 0
 HasListed start style None (Err NoColumn) old new faults new_faults = IsUntouched old new faults new_faults
@@ -88,7 +88,7 @@ IsClashText start steps other others text = (first : List Moment) × ((second : 
     × (text ≡ clash_text pairs)))
 
 -- What comes of the clashes of two rotas: one of them has no such column; or the lines were written, all of them, or a front where a write
--- failed or memory ran out; or nothing was, for a rota that is refused.
+-- failed or memory ran out; or nothing was written, since a step of one rota is refused.
 abbrev pub HasCompared : Moment → Moment → Option (List Interval) → Option (List Interval) → Result (Unit {0}) Failure
     → Option (List ℕ) → Option (List ℕ) → ℕ → ℕ → Type 0
 HasCompared start other (Some steps) (Some others) (Ok done) old new faults new_faults =

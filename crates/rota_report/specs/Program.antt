@@ -40,7 +40,7 @@ HasCarriedOut o (Err (File e)) old new = IsFileCause e old.file new.file old.fil
     × IsUntouched old.out new.out old.out_faults new.out_faults
 HasCarriedOut o result old new = (relations : List Relation) × IsToldBy old.file new.file relations × HasTold o relations result old new
 
--- What comes of the words: nothing where they are no order; or what comes of their order.
+-- What comes of the words: nothing where they are no order, and else what comes of their order.
 abbrev pub HasRun : List (List ℕ) → Result (Unit {0}) Failure → Surroundings → Surroundings → Type 0
 HasRun words (Err Usage) old new = ((o : Ordered) → ¬ Orders words o) × (new ≡ old)
 HasRun words result old new = (o : Ordered) × Orders words o × HasCarriedOut o result old new

@@ -1,4 +1,4 @@
-//! The clashes of two rotas whose steps are there.
+//! The clashes of two rotas whose steps were read.
 
 ghost use Rattle.std.specs.Prelude.{◌≤◌, ◌<◌, ◌+◌, ◌^◌, Some, length};
 ghost use Rattle.rota_moments.specs.Moments.{IsMoment};

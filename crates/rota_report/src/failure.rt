@@ -15,7 +15,7 @@ pub enum Failure {
     Usage,
     /// The relation file was refused.
     File(FileError),
-    /// The file tells no relation of the name, or that has no column of the name.
+    /// The file has no relation of the name, or that relation has no column of the name.
     NoColumn,
     /// A step of a rota leads out of the years 1 to 9999.
     OutOfRange,

@@ -1,4 +1,4 @@
-//! The report of a rota whose steps are there.
+//! The report of a rota whose steps were read.
 
 ghost use Rattle.std.specs.Prelude.{◌≤◌, Some};
 ghost use Rattle.pg_text.specs.Words.{printed_style};

@@ -24,18 +24,18 @@ use std::alloc::Global;
 /// - `lines FILE RELATION COLUMN START STYLE` writes the report of a rota, as
 ///   [`report`](crate::report) does: its steps are the intervals of the relation's column.
 /// - `clashes FILE RELATION COLUMN START RELATION COLUMN START` writes the clashes of two such
-///   rotas, as [`clashes`](crate::clashes) gives them: a line `i j` a pair.
+///   rotas, as [`clashes`](crate::clashes) gives them: a line `i j` for each pair.
 ///
-/// The relation file comes from `file`, whatever FILE says. COLUMN is the first column of that
-/// name, START a text that [`Moment::read`](crate::Moment::read) takes, STYLE one that
+/// The relation file comes from `file`; this call doesn't open FILE. COLUMN is the first column of
+/// that name, START a text that [`Moment::read`](crate::Moment::read) takes, STYLE one that
 /// `IntervalStyle::try_from_text` takes. The text goes to `out`.
 ///
 /// The status is 0 where the text was written; 2 where the words are no order; 3 where the file is
 /// refused; 5 where a write failed; 7 where memory ran out; 9 where a read of the file failed; 20
 /// where there is no such relation or column; 21 where a step leads out of the years 1 to 9999; 22
 /// where the total is no interval. They are judged in this order: words, file, columns, rotas,
-/// total. Each but 0 is told by a line on `err`. A write to `err` that fails changes no status;
-/// where it finds no memory, the status is 7.
+/// total. Each status but 0 comes with a line on `err`. A write to `err` that fails leaves the
+/// status as it is; one that finds no memory makes it 7.
 ///
 /// Nothing was written to `out` after 2, 3, 9, 20, 21 and 22; after 5 a front of the text, and
 /// after 7 a front or nothing.

@@ -9,12 +9,12 @@ use conversation_runs::Sink;
 use status_lines::{OUT_OF_MEMORY, report_file, write_line};
 use std::alloc::Global;
 
-/// The line that tells the orders.
+/// The line for words that are no order.
 const USAGE: &str =
     "usage: rota_report lines FILE RELATION COLUMN START STYLE, clashes FILE RELATION COLUMN START RELATION COLUMN START\n";
 
-/// Writes the line of an order, where there is one, and answers its status, or that of no memory
-/// where the line or the sink finds none.
+/// Writes the line of an order's answer, where it has one, and answers its status, or 7 where there
+/// is no memory for the line or in the sink.
 pub(crate) fn tell<E: Sink>(alloc: Global, answer: &Result<(), Failure>, err: &mut E) -> u8
     ensures reported { IsReported (status_of answer.now) (line_of answer.now) result
         (E.written err.old) (E.written err.new) (E.faults err.old) (E.faults err.new) }

@@ -1,4 +1,4 @@
--- What the words of a command line order of rotas.
+-- What the words of rota_report's command line order.
 use Rattle.std.specs.Prelude.{ℕ, ◌≡◌, List, [], ◌∷◌, Some, Ok, codes}
 use Rattle.pg_text.specs.Words.{interval_style_of}
 use Rattle.pg_text.specs.declared.format.interval_style.IntervalStyle.{IntervalStyle}

@@ -1,4 +1,4 @@
-//! The words of the program that tells rotas.
+//! The words of the program rota_report.
 #![tactic(auto)]
 
 mod orders;

@@ -14,7 +14,7 @@ use std::alloc::Global;
 
 /// What the words order: `lines FILE RELATION COLUMN START STYLE` or `clashes FILE RELATION COLUMN
 /// START RELATION COLUMN START`. FILE, RELATION and COLUMN are any words, START is a text that
-/// `Moment::read` takes, and STYLE one that `IntervalStyle::try_from_text` takes. None is any other
+/// `Moment::read` takes, and STYLE one that `IntervalStyle::try_from_text` takes. None for any other
 /// words.
 pub fn read_order<'w>(alloc: Global, words: &'w [PgStr]) -> Option<Order<'w>>
     ensures some { IfSome result (λ o. Orders words.now (told_order o)) }
@@ -44,7 +44,7 @@ pub fn read_order<'w>(alloc: Global, words: &'w [PgStr]) -> Option<Order<'w>>
     }
 }
 
-/// FILE, the second of words that are an order. None is any other words.
+/// FILE, the second of words that are an order. None for any other words.
 pub fn file_word<'w>(alloc: Global, words: &'w [PgStr]) -> Option<&'w str>
     ensures some { IfSome result (λ file. slice_get words.now 1 ≡ Some file.now) }
     ensures ordered { IsSome result ↔ ((o : Ordered) × Orders words.now o) }

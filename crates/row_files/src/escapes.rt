@@ -5,8 +5,8 @@ use crate::hexadecimal::hex_byte;
 use std::alloc::{AllocError, Global};
 
 /// Appends the bytes of a text. `\s`, `\t`, `\n`, `\v`, `\f` and `\r` are whitespace, the bytes 20
-/// and 09 to 0D, and `\x7c` is the byte of that hexadecimal number; the byte FF where nothing
-/// stands behind `\x` or another `\`.
+/// and 09 to 0D. `\x7c` is the byte of that hexadecimal number. `\x` at the end, or before another
+/// `\`, is the byte FF.
 pub fn push_unescaped<'t>(bytes: &mut Vec<u8>, text: &'t str) -> Result<(), Fault<'t>> {
     for (place, part) in text.split("\\").enumerate() {
         if place == 0 {
@@ -18,14 +18,14 @@ pub fn push_unescaped<'t>(bytes: &mut Vec<u8>, text: &'t str) -> Result<(), Faul
     Ok(())
 }
 
-/// The bytes of a text, with those that stand behind backslashes.
+/// The bytes of a text, as [`push_unescaped`] appends them.
 pub fn unescaped<'t>(alloc: Global, text: &'t str) -> Result<Vec<u8>, Fault<'t>> {
     let mut bytes = Vec::new(alloc);
     push_unescaped(&mut bytes, text)?;
     Ok(bytes)
 }
 
-/// Appends the bytes of a text so many times.
+/// Appends the bytes of a text `times` times.
 pub fn push_repeated<'t>(
     alloc: Global,
     bytes: &mut Vec<u8>,

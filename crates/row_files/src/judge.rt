@@ -9,7 +9,7 @@ use std::io;
 
 /// What judges a row.
 pub trait Judge {
-    /// What is otherwise than a row expects, if anything is. The text is the whole file.
+    /// What differs from what a row expects, if anything does. The text is the whole file.
     fn difference<'t>(
         &self,
         alloc: Global,
@@ -21,7 +21,7 @@ pub trait Judge {
 /// How rows stand in a file.
 #[derive(Clone, Copy)]
 enum Layout {
-    /// Each is a line; empty ones and comments are none. Its name stands before its first bar.
+    /// Each is a line that is neither empty nor a comment. Its name stands before its first bar.
     Lines,
     /// Each is a block between empty lines that begins with `row` and its name.
     Blocks,
@@ -62,7 +62,7 @@ pub fn judge_blocks<R: Print + Input, J: Judge>(
     judge_input(rt, alloc, judge, Layout::Blocks)
 }
 
-/// Judges the rows of standard input, which stand so.
+/// Judges the rows of standard input, which have this layout.
 fn judge_input<R: Print + Input, J: Judge>(
     rt: &R,
     alloc: Global,
@@ -73,7 +73,7 @@ fn judge_input<R: Print + Input, J: Judge>(
     judge_text(rt, alloc, judge, layout, text.as_str())
 }
 
-/// Judges the rows of a text, which stand so, and prints a line for each and their number.
+/// Judges the rows of a text, which have this layout, and prints a line for each and their number.
 fn judge_text<R: Print, J: Judge>(
     rt: &R,
     alloc: Global,

@@ -1,4 +1,4 @@
-//! Rows that are blocks of lines, each with a word that it begins with.
+//! Rows that are blocks of lines, each of which begins with a word.
 
 use crate::fault::Fault;
 use crate::parts::parsed;

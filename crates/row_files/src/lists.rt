@@ -2,7 +2,7 @@
 
 use std::alloc::{AllocError, Global};
 
-/// So many ones: what each read gives, where it gives single bytes.
+/// `count` ones: what each read gives, where reads give single bytes.
 pub fn singles(alloc: Global, count: usize) -> Result<Vec<usize>, AllocError> {
     let mut ones = Vec::new(alloc);
     for _ in 0..count {

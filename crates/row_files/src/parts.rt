@@ -66,8 +66,8 @@ where
     parsed(text.split_whitespace().nth(place).unwrap_or(""))
 }
 
-/// How many times a word says what stands behind its `*`, and that; once where it has no number and
-/// `*`.
+/// The number and the rest of a word that is a number, `*` and a rest. For any other word, 1 and the
+/// word.
 pub fn times_and_rest(word: &str) -> (u32, &str) {
     match word.split_once("*") {
         Some((count, rest)) => match count.parse::<u32>() {

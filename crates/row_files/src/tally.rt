@@ -6,7 +6,7 @@ ghost use Rattle.row_files.specs.Tallies.{as_expected, counted};
 use crate::fault::Fault;
 use std::io;
 
-/// How many rows there were, and how many of them were as they expect.
+/// How many rows there were, and how many of them came out as they expect.
 #[derive(Drop)]
 pub struct Tally {
     rows: u64,
@@ -22,7 +22,7 @@ impl Tally {
         Tally { rows: 0, good: 0 }
     }
 
-    /// Counts a row, and prints its line: its name, and `ok` or what is otherwise than it expects.
+    /// Counts a row, and prints its line: its name, and `ok` or what differs from what it expects.
     pub fn tell<'t, R: Print>(
         &mut self,
         rt: &R,

@@ -1,4 +1,4 @@
--- What handlers tell that answer each query with rows.
+-- What is told by handlers that answer each query with rows.
 use Rattle.std.specs.Prelude.{ℕ, true, List, [], ◌∷◌, Option, Some, None, Result, Ok, Err, unwrap_or, codes}
 use Rattle.pg_results.specs.Fields.{Field}
 use Rattle.pg_results.specs.Responses as response

@@ -26,9 +26,9 @@ pub trait RowAnswers: Drop {
     // what it answers
     ghost told: { Self → AnswersTold Self.Statement };
 
-    /// The statement of a query that isn't blank. Of a simple query, which has no parameters, the
-    /// types are None; else they are those that the client gives the parameters. The errors are
-    /// one's own, which the client is told, and `NoMemory`.
+    /// The statement of a query that isn't blank. `types` is None for a simple query, which has no
+    /// parameters; else it has the types that the client gives the parameters. The error is
+    /// `NoMemory`, or one of the implementer's choice, which is sent to the client.
     fn parse(
         &self,
         alloc: Global,
@@ -62,8 +62,8 @@ pub trait RowAnswers: Drop {
         ensures sendable { IfOk result (λ fields. IsEncodable (row_description fields)) };
 
     /// The rows of a statement with its parameters, in these formats. A simple query has no
-    /// parameter, and its rows are text. The errors are one's own, which the client is told in
-    /// place of the rows, and `NoMemory`.
+    /// parameter, and its rows are text. The error is `NoMemory`, or one of the implementer's choice,
+    /// which is sent to the client in place of the rows.
     fn rows(
         &self,
         alloc: Global,

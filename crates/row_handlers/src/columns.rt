@@ -1,4 +1,4 @@
-//! Columns and rows, made in short.
+//! Short ways to make columns and rows.
 
 ghost use Rattle.std.specs.Prelude.{◌≡◌, ◌++◌, [], ◌∷◌, Ok, IfOk, OnOk, OnErr, length};
 ghost use Rattle.pg_messages.specs.declared.backend.PgWireBackendMessage.TheVariants as server;
@@ -10,8 +10,9 @@ use pg_portal::{FieldInfo, Format, ListRows};
 use pg_text::{FieldFormat, PgType};
 use std::alloc::{AllocError, Global};
 
-/// The column of this name at this place, counted from 0: of no table, and in the format of its
-/// place, or text where there is none. A type of varying length has the size -1.
+/// The column of this name at place `index`, counted from 0. It belongs to no table. Its format is
+/// the one that `formats` has for its place, or text where there is none. `size` is that of a value
+/// in bytes, and -1 for a type of varying length.
 pub fn column(
     alloc: Global,
     formats: &Format,
@@ -29,8 +30,8 @@ pub fn column(
     Ok(field.with_type_size(size))
 }
 
-/// Appends the column of this name, at the place behind those that are there. It is as `column`
-/// makes it. The only error is want of memory, and then the columns are as they were.
+/// Appends the column that `column` makes for the place after those that are there. The only error
+/// is want of memory, and then the columns are as they were.
 pub fn put_column(
     alloc: Global,
     fields: &mut PgList<FieldInfo>,
@@ -47,7 +48,7 @@ pub fn put_column(
     fields.push(column(alloc, formats, place, name, datatype, size)?)
 }
 
-/// This row alone.
+/// The rows that are this row alone.
 pub fn one_row(alloc: Global, row: DataRow) -> Result<ListRows, AllocError>
     requires { IsEncodable (server.DataRow row) }
     ensures { IfOk result (λ rows. rows ≡ Ok row ∷ []) }

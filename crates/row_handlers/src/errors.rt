@@ -1,4 +1,4 @@
-//! Errors of one's own.
+//! Errors that handlers of one's own answer.
 
 ghost use Rattle.std.specs.Prelude.{◌≡◌, IfOk};
 ghost use Rattle.pg_results.specs.Errors.{error};

@@ -43,7 +43,7 @@ impl<A: RowAnswers> Model for RowHandlers<A> {
 impl<A: RowAnswers> RowHandlers<A> {
     ghost use Rattle.row_handlers.specs.Told.{alone, simple_answer};
 
-    /// Handlers that answer so.
+    /// Handlers that answer queries as `answers` says.
     pub fn new(alloc: Global, answers: A) -> Result<RowHandlers<A>, AllocError>
         ensures { IfOk result (λ handlers. handlers ≡ answers) }
     {

@@ -1,5 +1,5 @@
-//! Handlers that answer each query with rows: what a server's queries mean and which rows they have
-//! is one trait's, and the handlers over it do the rest.
+//! Handlers that answer each query with rows. The trait [`RowAnswers`] says what queries mean and
+//! which rows they have, and [`RowHandlers`] does the rest.
 #![tactic(auto)]
 
 mod answers;

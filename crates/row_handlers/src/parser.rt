@@ -6,7 +6,7 @@ use pg_portal::{ClientInfo, FieldInfo, Format, PgWireError, QueryParser};
 use pg_text::PgType;
 use std::alloc::Global;
 
-/// The statements of queries are those of the answers.
+/// A parser that gives a query the statement that the answers give it.
 #[derive(Drop)]
 pub struct RowParser<A> {
     /// What queries are answered with.

@@ -69,7 +69,7 @@ fn rows_under<R: RowSource>(
     QueryResponse::new(alloc, Arc::new(alloc, fields)?, rows)
 }
 
-/// The query that gives this outcome at its first poll. Want of memory begins none.
+/// The query that gives this outcome at its first poll. Where memory ran out, none begins.
 pub(crate) fn begun<T: Drop>(outcome: Result<T, PgWireError>) -> Result<PolledQuery<T>, AllocError>
     ensures owes { IfOk result (λ query. query.unready ≡ 0) }
     ensures outcome { IfOk result (λ query. query.outcome ≡ Some outcome) }

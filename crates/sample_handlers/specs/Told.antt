@@ -80,7 +80,7 @@ division_by_zero = wire.UserError (error (codes "22012") (codes "division by zer
 abbrev pub broken_items : FieldFormat → List RowItem
 broken_items f = Ok (first_row f) ∷ Err division_by_zero ∷ Ok second_row ∷ Ok second_row ∷ []
 
--- so many rows, an error, and another row
+-- `count` rows, an error, and another row
 abbrev pub long_items : ℕ → FieldFormat → List RowItem
 long_items count f = replicate count (Ok (first_row f)) ++ Err division_by_zero ∷ Ok second_row ∷ []
 
@@ -89,7 +89,7 @@ rows_told formats items = record { command_tag = codes "SELECT"; fields = column
 
 -- ---- COPY
 
--- each of the data is one byte: how many are left with it
+-- each of the data is one byte: how many are left, itself included
 abbrev pub data_left : ℕ → List CopyItem
 data_left zero = []
 data_left (suc n) = Ok (record { payload = suc n ∷ [] }) ∷ data_left n
@@ -187,6 +187,6 @@ told_copying copying.Taken = record {
   on_fail = λ client message. wire.UserError (copy_given_up message);
 }
 
--- all that the sample handlers tell that do this with a COPY from the client
+-- all that the sample handlers tell, by what they do with a COPY from the client
 abbrev pub sample_handlers : SampleCopying → Handlers SampleStatement
 sample_handlers copying = handlers_of told_extended told_simple (told_copying copying)

@@ -63,7 +63,7 @@ fn pair(alloc: Global, formats: &Format) -> Result<Answer, AllocError>
     rows_response(alloc, formats, rows)
 }
 
-/// Both rows, and an error between them.
+/// A row, an error, and another row twice.
 fn broken(alloc: Global, formats: &Format) -> Result<Answer, AllocError>
     ensures { IfOk result (λ response. told_response (λ rows. rows) (λ c. data_left c.left) response
         ≡ told.Query (rows_told formats.now (broken_items (column_format formats.now 1)))) }
@@ -72,7 +72,7 @@ fn broken(alloc: Global, formats: &Format) -> Result<Answer, AllocError>
     rows_response(alloc, formats, rows)
 }
 
-/// So many rows, and an error behind them.
+/// `count` rows, an error, and another row.
 fn long(alloc: Global, formats: &Format, count: usize) -> Result<Answer, AllocError>
     ensures { IfOk result (λ response. told_response (λ rows. rows) (λ c. data_left c.left) response
         ≡ told.Query (rows_told formats.now
@@ -91,7 +91,7 @@ fn rows_response(alloc: Global, formats: &Format, rows: ListRows) -> Result<Answ
     Ok(Response::Query(QueryResponse::new(alloc, schema, rows)?))
 }
 
-/// A COPY of one column in a format, with so many data.
+/// A COPY of one column in a format, with `count` data.
 fn copy(alloc: Global, format: i8, count: u8) -> CopyResponse<SampleCopy>
     ensures { told_copy (λ c. data_left c.left) result ≡ copy_told format count }
 {

@@ -6,7 +6,7 @@ use pg_messages::{CopyData, PgBytes};
 use pg_portal::{CopySource, PgWireError};
 use std::alloc::{AllocError, Global};
 
-/// So many data, each of one byte: how many are left with it.
+/// Data of a COPY, `left` of them. Each is one byte, which says how many are left, itself included.
 #[derive(Drop)]
 pub struct SampleCopy {
     alloc: Global,
@@ -14,7 +14,7 @@ pub struct SampleCopy {
 }
 
 impl SampleCopy {
-    /// So many data.
+    /// `left` data.
     pub fn new(alloc: Global, left: u8) -> SampleCopy
         ensures { result.left ≡ left }
     {

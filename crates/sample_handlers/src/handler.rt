@@ -131,7 +131,7 @@ fn version_statement(protocol: ProtocolVersion) -> SampleStatement
     }
 }
 
-/// The query of several statements, which owes so many polls.
+/// The query of several statements, which `polls` polls find unready.
 #[tactic(auto, using(crate::proofs::Sendable::responses_sendable))]
 fn listed(
     alloc: Global,

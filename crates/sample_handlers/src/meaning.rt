@@ -28,7 +28,7 @@ pub enum SampleStatement {
     Late,
 }
 
-/// What a query means, whose whitespace and semicolons at both ends count for nothing.
+/// What a query means. Whitespace and semicolons at both ends count for nothing.
 pub(crate) fn meaning(query: &str) -> Option<SampleStatement>
     ensures { result ≡ meaning query.now }
 {

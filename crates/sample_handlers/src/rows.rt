@@ -96,7 +96,7 @@ pub(crate) fn broken_rows(alloc: Global, format: FieldFormat) -> Result<ListRows
     Ok(ListRows::new(items))
 }
 
-/// So many first rows, an error, and the second row.
+/// `count` first rows, an error, and the second row.
 pub(crate) fn long_rows(
     alloc: Global,
     format: FieldFormat,

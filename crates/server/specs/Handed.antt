@@ -1,4 +1,4 @@
--- What is handed to the program: a place, as it could be bound.
+-- What is handed to the program: a place, which could be bound or not.
 use Rattle.std.specs.Prelude.{ℕ}
 use Rattle.server.specs.declared.places.BoundPlace.{BoundPlace}
 use Rattle.server.specs.declared.places.BoundPlace.TheVariants.{Bound, Unbound}

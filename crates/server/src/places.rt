@@ -1,4 +1,4 @@
-//! Where the program listens, as it could be bound.
+//! The place where the program listens, which could be bound or not.
 
 ghost use Rattle.std.specs.Prelude.{◌≡◌, IfOk};
 ghost use Rattle.server.specs.Handed.{accepted_at};
@@ -22,7 +22,7 @@ pub enum BoundPlace<'w, R> {
     Unbound(u64),
 }
 
-/// A place that was bound, and that is told before the first connection is taken.
+/// A place that was bound. It is printed before the first connection is taken.
 #[derive(Drop)]
 pub struct ToldPlace<'w, R> {
     acceptor: SocketAcceptor<Listening, R>,
@@ -58,7 +58,7 @@ impl<'w, R: Clock + Print> Acceptor for BoundPlace<'w, R> {
     }
 }
 
-/// Tells where the program listens.
+/// Prints where the program listens.
 fn tell_place<R: Print>(rt: &R, place: ListenPlace<'_>) -> io::Result<()> {
     match place {
         ListenPlace::Tcp(port) => println!(rt; "listening on 127.0.0.1:{port}"),
@@ -66,8 +66,8 @@ fn tell_place<R: Print>(rt: &R, place: ListenPlace<'_>) -> io::Result<()> {
     }
 }
 
-/// Binds a place: 127.0.0.1 with a port, or a path. It is told when its first connection is waited
-/// for.
+/// Binds a place: 127.0.0.1 with a port, or a path. It is printed when its first connection is
+/// waited for.
 pub fn bind_place<'w, R: Net<Stream = TcpStream, Listener = TcpListener> + Files + Clock + Copy>(
     rt: R,
     place: ListenPlace<'w>,
@@ -84,7 +84,8 @@ pub fn bind_place<'w, R: Net<Stream = TcpStream, Listener = TcpListener> + Files
     }
 }
 
-/// Gives a place back, so that nobody comes to it any more: the file of a Unix socket goes.
+/// Closes a place that was bound, and removes the file of a Unix socket. Then nobody can connect to
+/// it any more.
 pub fn leave_place<R: Files>(rt: &R, place: ListenPlace<'_>, bound: BoundPlace<'_, R>)
 where
     R: Drop,
@@ -107,7 +108,7 @@ fn bind<R: Net<Stream = TcpStream, Listener = TcpListener> + Files>(
     }
 }
 
-/// Binds a path. What a server that is gone left there is taken over.
+/// Binds a path. The socket of a server that is gone is replaced.
 fn bind_path<R: Net + Files>(rt: &R, path: &str) -> io::Result<UnixListener> {
     match UnixListener::bind(rt, path) {
         Err(error) if error.kind() == ErrorKind::AddrInUse && is_left_over(rt, path) => {
@@ -118,8 +119,8 @@ fn bind_path<R: Net + Files>(rt: &R, path: &str) -> io::Result<UnixListener> {
     }
 }
 
-/// Whether a socket stands at a path at which nobody listens any more, so that a connection is
-/// refused. No other file is one: a connection to it is refused too.
+/// Whether a socket stands at a path, and nobody listens at it, so that a connection is refused. The
+/// kind of the file is asked too, since a connection to a file that is no socket is refused as well.
 fn is_left_over<R: Net + Files>(rt: &R, path: &str) -> bool {
     let Ok(found) = fs::symlink_metadata(rt, path) else {
         return false;

@@ -16,14 +16,14 @@ bytes_of (Some bytes) = bytes
 abbrev pub gone : List ℕ → Option (List ℕ) → ℕ
 gone text now = length text - length (bytes_of now)
 
--- Of the bytes that a source had to give, those that it gave since were kept, the first ones, as many as there is room for, and all were
--- counted; it has the others left.
+-- Of the bytes that a source has given since, the first ones were kept, as many as there is room for, and all were counted. It has the
+-- others left.
 pub record IsTakenOf (text : List ℕ) (now : Option (List ℕ)) (room : ℕ) (kept : List ℕ) (count : ℕ) : Type 0 where
   pub rest : now ≡ Some (drop (gone text now) text)
   pub front : kept ≡ take room (take (gone text now) text)
   pub number : count ≡ counted (length (take (gone text now) text))
 
--- what a sink has taken behind these bytes
+-- what a sink has taken after these bytes
 abbrev pub behind : List ℕ → Option (List ℕ) → List ℕ
 behind before now = drop (length before) (bytes_of now)
 
@@ -40,7 +40,7 @@ pub record IsSentTo (before : List ℕ) (until now : Option (List ℕ)) (room : 
 abbrev pub IsEndOf : List DeskCall → List DeskCall → Type 0
 IsEndOf calls last = drop (length calls - length last) calls ≡ last
 
--- what is told or isn't, as numbers
+-- bytes that are known or not, as numbers
 abbrev pub told_numbers : Option (List ℕ) → List ℕ
 told_numbers None = 0 ∷ []
 told_numbers (Some bytes) = 1 ∷ bytes

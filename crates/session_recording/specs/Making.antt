@@ -9,13 +9,13 @@ use Rattle.session_recording.specs.declared.error.RecordError.{RecordError}
 use Rattle.session_recording.specs.declared.error.RecordError.TheVariants as refusal
 use Rattle.session_recording.specs.declared.recorder.Kept.{Kept}
 
--- there is room for so many bytes, and none of them is used
+-- there is room for `room` bytes, and none of it is used
 pub record IsUnused (first : FirstBytes) (room : ℕ) : Type 0 where
   pub room_for : first.room ≡ room
   pub bytes : first.bytes.items ≡ []
   pub count : first.count ≡ 0
 
--- a session that was answered so may have met a send that was refused
+-- a session with this answer may have met a send that was refused
 abbrev pub MayMeetRefusal : Result EndKind ServeError → Type 0
 MayMeetRefusal (Err WriteFault) = Unit {0}
 MayMeetRefusal (Err NoMemory) = Unit {0}

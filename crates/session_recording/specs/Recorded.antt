@@ -32,7 +32,7 @@ IsSent (Err WriteFault) old new sent = (front : List ℕ) × GrowsBy old new (se
 IsSent (Err NoMemory) old new sent = (front : List ℕ) × GrowsBy old new (sent ++ front)
 IsSent answer old new sent = GrowsBy old new sent
 
--- These bytes the session took from the source, and these it sent.
+-- The session took the bytes `taken` from the source, and sent the bytes `sent`.
 pub record HasPassed (answer : Result EndKind ServeError) (p : Passage) (taken sent : List ℕ) : Type 0 where
   pub from_source : TakesFrom p.left p.new_left taken
   pub to_sink : IsSent answer p.written p.new_written sent
@@ -51,9 +51,9 @@ pub record IsRecordingOf (registration : ℤ × List ℕ) (came_to : EndKind) (p
   pub replies : GrowsBy p.written p.new_written r.replies
   pub kind : r.end ≡ came_to
 
--- What comes of recording a session that was answered so, with so much room: where it came to its end and there was room, the recording of
--- it; TooLong with the greater of the numbers of bytes, where that passes the room; Unended, where that doesn't and the session was given up.
--- Of memory that runs out nothing is said.
+-- What comes of recording a session with this answer, in this room. Where it came to its end and there was room: the recording of it. Where
+-- the greater of the two numbers of bytes passes the room: TooLong with that number. Where it doesn't, and the session was given up:
+-- Unended. Nothing is said of memory that runs out.
 abbrev pub IsRecorded : ℤ × List ℕ → ℕ → Result EndKind ServeError → Result Recording RecordError → Passage → List DeskCall → Type 0
 IsRecorded registration room (Ok kind) (Ok r) p calls =
     IsRecordingOf registration kind p calls r × (length r.client ≤ room) × (length r.replies ≤ room)

@@ -9,12 +9,12 @@ use pg_client::{CancelDesk, DeskCall};
 use pg_messages::SecretKey;
 use std::alloc::{AllocError, Global};
 
-/// A desk whose calls are kept, with their answers. It makes room for a call before it makes it, and
-/// is seen as the desk that it was made over.
+/// A desk whose calls are kept, with their answers. It reserves room for a call before it makes the
+/// call. Contracts see it as the desk that it was made over.
 pub struct RecordingDesk<'a, D: CancelDesk> {
     /// The desk that is asked.
     pub desk: &'a mut D,
-    /// Its calls since it is recorded, with their answers.
+    /// Its calls since the recording began, with their answers.
     pub kept: Vec<DeskCall>,
     pub ghost recorded: { IsEndOf (D.told desk.now).calls kept.items } by { Prim.hlevel props },
 }

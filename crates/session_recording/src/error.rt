@@ -3,13 +3,13 @@
 /// Why there is no recording of a session.
 #[derive(Clone, Copy, Debug, PartialEq, Eq)]
 pub enum RecordError {
-    /// There was no room for all bytes: the number of those that were taken, or of those of the
-    /// sends that were answered with Ok, whichever is the greater. It stands still at the greatest
-    /// `u64`.
+    /// There was no room for all bytes. The number is how many were read, or how many were sent by
+    /// the sends that were answered with Ok, whichever is the greater. It stands still at the
+    /// greatest `u64`.
     TooLong(u64),
     /// The session was given up before its end.
     Unended,
     /// Memory ran out before anything was served; or a send found none and the session went on, so
-    /// that nothing tells what the sink has taken.
+    /// that it isn't known what the sink has taken.
     NoMemory,
 }

@@ -1,4 +1,5 @@
-//! What is kept of bytes that pass: the first ones, as many as there is room for, and their number.
+//! What is kept of bytes that pass: the first ones, as many as there is room for, and the number of
+//! all.
 
 ghost use Rattle.std.specs.Prelude.{◌≡◌, ◌≤◌, ◌<◌, ◌+◌, ◌^◌, ◌∷◌, ◌++◌, [], take, length, vec_len, vec_capacity, IfOk, OnOk};
 ghost use Rattle.session_recording.specs.Kept.{counted};
@@ -20,7 +21,7 @@ pub struct FirstBytes {
 }
 
 impl FirstBytes {
-    /// Room for so many bytes, of which none has passed. AllocError: there isn't memory enough.
+    /// Room for `room` bytes, none of which has passed yet. AllocError: there isn't enough memory.
     pub fn with_room(alloc: Global, room: usize) -> Result<FirstBytes, AllocError>
         ensures room { IfOk result (λ first. first.room ≡ room) }
         ensures bytes { IfOk result (λ first. first.bytes.items ≡ []) }

@@ -26,16 +26,16 @@ use relation_serving::serve_relations_on;
 use std::alloc::{AllocError, Global};
 
 /// Serves a client over relations, as [`serve_relations_on`] does, and records the session. The
-/// first answer is that of serving; the second the recording, whose `pid` and `key` are those that
-/// the desk had before.
+/// first answer is that of serving; the second is the recording, whose `pid` and `key` are those
+/// that the desk had before.
 ///
-/// There is room for so many bytes of the client, and for so many of the replies, which is made
-/// before anything is served: where there isn't memory enough, both answers are NoMemory. Then each
-/// byte is copied once, and memory is taken for calls of the desk alone.
+/// Room for `room` bytes of the client, and for `room` bytes of the replies, is taken before
+/// anything is served. Where there isn't enough memory, both answers are NoMemory. Then each byte is
+/// copied once, and only calls of the desk take more memory.
 ///
-/// TooLong comes where there was no room for all bytes, and tells the number of those taken or of
-/// those of the sends that were answered with Ok, whichever is the greater. Else Unended comes where
-/// the first answer is an error.
+/// TooLong comes where there was no room for all bytes. It tells how many were read, or how many
+/// were sent by the sends that were answered with Ok, whichever is the greater. Else Unended comes
+/// where the first answer is an error.
 pub fn record_session<D: CancelDesk, S: Source, K: Sink>(
     alloc: Global,
     relations: &RelationTable,
@@ -183,13 +183,13 @@ fn serve_recorded<D: CancelDesk, S: Source, K: Sink>(
     (answer, kept)
 }
 
-/// Gives back what was lent: from here on it is its owner's again, and stands as it was left. A
-/// reference that stood beside memory in a struct isn't followed back to its owner by itself.
+/// Gives a borrow back, so that the owner's value is what the borrow left. The checker needs this
+/// call for a reference that stood in a struct beside memory.
 fn give_back<T>(_lent: &mut T)
     ensures { _lent.new ≡ _lent.old }
 {}
 
-/// The recording of a session that was answered so, or why there is none.
+/// The recording of a session with this answer, or why there is none.
 fn recording_of(
     answer: Result<EndKind, ServeError>,
     room: usize,
@@ -201,7 +201,7 @@ fn recording_of(
     ensures refused { IfErr result (IsRefusedOf answer room kept) }
 {
     if kept.has_refused && !may_be_refused(answer) {
-        // A send found no memory, and the session went on; nothing tells what the sink has taken.
+        // A send found no memory, and the session went on; it isn't known what the sink has taken.
         return Err(RecordError::NoMemory);
     }
     let needed = kept.client.count.max(kept.replies.count);
@@ -221,7 +221,7 @@ fn recording_of(
     }
 }
 
-/// Whether a session that is answered so may have met a send that was refused.
+/// Whether a session with this answer may have met a send that was refused.
 fn may_be_refused(answer: Result<EndKind, ServeError>) -> bool
     ensures { IsTrue result ↔ MayMeetRefusal answer }
 {

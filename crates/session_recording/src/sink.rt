@@ -8,15 +8,15 @@ use crate::keeping::FirstBytes;
 use conversation_runs::{Sink, SinkError};
 use std::snapshot::Snapshot;
 
-/// A sink to which the first bytes written are kept, as many as there is room for, and all are
-/// counted: those of the sends that it answers with Ok, up to the first that it refuses. It is seen
-/// as the sink that it was made over.
+/// A sink of which the first bytes written are kept, as many as there is room for, and all are
+/// counted: those of the sends that it answers with Ok, up to the first that it refuses. Contracts
+/// see it as the sink that it was made over.
 pub struct RecordingSink<'a, K: Sink> {
     /// The sink that is written to.
     pub sink: &'a mut K,
     /// The sink as it was before.
     pub before: Snapshot<K>,
-    /// The sink behind the last send that was answered with Ok, up to the first that was refused.
+    /// The sink after the last send that was answered with Ok, up to the first that was refused.
     pub until: Snapshot<K>,
     /// What it has taken since, up to there.
     pub kept: FirstBytes,

@@ -9,7 +9,7 @@ use conversation_runs::{Source, SourceFailed};
 use std::snapshot::Snapshot;
 
 /// A source of which the first bytes are kept, as many as there is room for, and all are counted.
-/// It is seen as the source that it was made over.
+/// Contracts see it as the source that it was made over.
 pub struct RecordingSource<'a, S: Source> {
     /// The source that is read.
     pub source: &'a mut S,

@@ -10,7 +10,7 @@ pub(crate) fn other_byte(made: &[u8], told: &[u8]) -> Option<usize>
     ensures some { IfSome result (λ place. DiffersAt made.now told.now place) }
     ensures none { IfNone result (made.now ≡ told.now) }
 {
-    // Mostly they are the same, which is seen sooner of all of them at once.
+    // Mostly they are the same, and one comparison of them all shows that sooner.
     if made == told {
         return None;
     }

@@ -20,11 +20,11 @@ use replay_streams::{BytesSink, BytesSource};
 use std::alloc::{AllocError, Global};
 
 /// Replays a recording over relations, and tells whether it has the calls, the replies and the end
-/// of its replay: the client's bytes are served once more, by a registry that gives the recorded
-/// answers in their order, and past them answers no.
+/// of its replay. The replay serves the client's bytes once more, by a registry that gives the
+/// recorded answers in their order, and after the last of them answers no.
 ///
-/// The recording is neither changed nor copied but for its key and its answers. AllocError: memory
-/// ran out.
+/// The recording isn't changed, and only its key and its answers are copied. AllocError: memory ran
+/// out.
 pub fn verify(
     alloc: Global,
     relations: &RelationTable,
@@ -93,8 +93,8 @@ fn answers_of(alloc: Global, calls: &[DeskCall]) -> Result<PgList<bool>, AllocEr
     Ok(answers)
 }
 
-/// The verdict by what the replay was answered, called and wrote. Where it spent all turns, it had
-/// asked more than the recording tells, so that its calls are others.
+/// The verdict by the end of the replay, its calls and its replies. Where it spent all turns, it had
+/// asked more questions than the recording has, so that its calls differ.
 fn judge(
     answer: Result<EndKind, ServeError>,
     calls: &[DeskCall],

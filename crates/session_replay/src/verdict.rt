@@ -2,7 +2,7 @@
 
 use pg_handlers::EndKind;
 
-/// What the replay of a recording says of it: the first of calls, replies and end that are others.
+/// What the replay of a recording says of it: the first of calls, replies and end that differs.
 #[derive(Clone, Copy, Debug, PartialEq, Eq)]
 pub enum Verdict {
     /// The recorded calls, replies and end are those of the replay.

@@ -1,4 +1,4 @@
--- What programs tell: a status, and a line on their error output where there is one.
+-- How programs report an outcome: by a status, and by a line on their error output where there is one.
 use Rattle.std.specs.Prelude.{ℕ, List, [], ◌++◌, ◌∷◌, ◌≡◌, ◌≢◌, ◌⊎◌, Option, Result, Ok, Err, codes, decimal}
 use Rattle.pg_client.specs.declared.ends.EndKind.{EndKind}
 use Rattle.pg_client.specs.declared.ends.EndKind.TheVariants.{Terminate, InputEnd, BadFrame, Fatal, CancelServed}
@@ -67,7 +67,7 @@ line_of_file file.TooLong = line (codes "file too long")
 line_of_file file.FileFault = line (codes "file fault")
 line_of_file file.NoMemory = line (codes "out of memory")
 
--- What came of writing a line as errors. With this status, all of it was written, or a front of it where the count of faults has risen.
+-- What came of writing a line of an error. With this status, all of it was written, or a front of it where the count of faults has risen.
 -- With status 7, where there is a line, a front of it was written, no memory was found, and no fault was counted.
 abbrev pub IsReported : ℕ → List ℕ → ℕ → Option (List ℕ) → Option (List ℕ) → ℕ → ℕ → Type 0
 IsReported status text ended old new faults new_faults =

@@ -1,4 +1,4 @@
-//! What programs tell of an outcome: a status, and a line on their error output.
+//! How programs report an outcome: by a status, and by a line on their error output.
 #![tactic(auto)]
 
 ghost use Rattle.std.specs.Prelude.{◌≡◌, ◌≢◌, ◌≤◌, [], string_bytes, IfOk};
@@ -75,8 +75,8 @@ pub fn report_conversation<E: Sink>(answer: Result<EndKind, ServeError>, err: &m
     }
 }
 
-/// Writes a line, and answers this status, or 7, that of no memory, where the sink finds none.
-/// After a write that failed a front of the line was written, and the status is the same.
+/// Writes a line, and answers this status, or 7 where the sink finds no memory. After a write that
+/// failed, a front of the line was written, and the status is the same.
 pub fn write_line<E: Sink>(status: u8, line: &str, err: &mut E) -> u8
     requires { line.now ≢ [] }
     ensures reported { IsReported status line.now result (E.written err.old) (E.written err.new)

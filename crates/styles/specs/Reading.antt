@@ -16,8 +16,8 @@ use Rattle.pg_results.specs.Errors.{error}
 use Rattle.pg_results.specs.declared.error.PgWireError.{PgWireError}
 use Rattle.pg_results.specs.declared.error.PgWireError.TheVariants as wire
 
--- The style that a text is read in: `@` begins one of postgres_verbose and `P` one of iso_8601; any other with a letter is one of
--- postgres, and one without of sql_standard.
+-- The style that a text is read in: postgres_verbose where the text begins with `@`, iso_8601 where it begins with `P`, else postgres where
+-- it has a letter, and else sql_standard.
 abbrev pub style_of : List ℕ → IntervalStyle
 style_of text =
     if begins (λ byte. byte == 64) text then style.PostgresVerbose

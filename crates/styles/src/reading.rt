@@ -44,8 +44,8 @@ pub(crate) fn read_parameter(
     }
 }
 
-/// The style that a text is read in, and its name: `@` begins one of postgres_verbose and `P` one of
-/// iso_8601; any other with a letter is one of postgres, and one without of sql_standard.
+/// The style that a text is read in, and its name: postgres_verbose where the text begins with `@`,
+/// iso_8601 where it begins with `P`, else postgres where it has a letter, and else sql_standard.
 fn style_of(text: &[u8]) -> (IntervalStyle, &'static str)
     ensures style { result.0 ≡ style_of text.now }
     ensures name { result.1.now ≡ interval_style_name (style_of text.now) }

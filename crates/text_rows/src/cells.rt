@@ -10,7 +10,7 @@ use row_files::{push_pairs, three_numbers};
 use std::alloc::{AllocError, Global};
 use std::io;
 
-/// Prints what a row on cells is answered. The first field of a row on text cells is the interval
+/// Prints the answer to a row on cells. The first field of a row on text cells is the interval
 /// style.
 pub(crate) fn answer(rt: &HostRuntime, word: &str, fields: &str) -> io::Result<()> {
     let (first, second) = cut(fields);
@@ -77,7 +77,7 @@ fn read(rt: &HostRuntime, options: &FormatOptions, word: &str, cell: &[u8]) -> i
     }
 }
 
-/// Months, days and microseconds, split by spaces; zeros where the text is no such.
+/// Months, days and microseconds, with spaces between them; zeros where the text isn't of this form.
 fn interval_of(text: &str) -> Interval {
     let (months, days, microseconds) = three_numbers(text).unwrap_or((0, 0, 0));
     Interval::new(months, days, microseconds)
@@ -143,7 +143,7 @@ fn show_digits(rt: &HostRuntime, answer: Result<IsNull, CellError>, held: &[u8])
     rt.println("")
 }
 
-/// Prints nothing for a cell, `null` or the error.
+/// Prints nothing for a cell that isn't null, `null` for a null, or the error.
 fn show_answer(rt: &HostRuntime, answer: Result<IsNull, CellError>) -> io::Result<()> {
     match answer {
         Ok(IsNull::No) => Ok(()),

@@ -8,7 +8,7 @@ use pg_interval::{DecimalError, IntError, Interval, ParseError, Reason};
 use std::alloc::{AllocError, Global};
 use std::io;
 
-/// Prints what a row on an interval's text is answered.
+/// Prints the answer to a row on an interval's text.
 pub(crate) fn answer(rt: &HostRuntime, word: &str, fields: &str) -> io::Result<()> {
     let answer = answer_of(rt.alloc(), word, fields)?;
     println!(rt; "{}", answer.as_str())
@@ -32,7 +32,7 @@ fn answer_of(alloc: Global, word: &str, fields: &str) -> Result<String, AllocErr
     }
 }
 
-/// What the piece, so many times, stands for.
+/// What the piece, `count` times, stands for.
 fn read(alloc: Global, style: &str, count: &str, piece: &str) -> Result<String, AllocError> {
     let mut text = String::new(alloc);
     for _ in 0..count.parse::<u32>().unwrap_or(0) {

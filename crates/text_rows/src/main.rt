@@ -1,6 +1,6 @@
-// Rows on interval texts, options and cells, one a line, which it answers. A row is a word and its
-// fields, split by `|`; what is told of a cell begins with the byte `>`, which stands in the buffer
-// before.
+// Answers rows on interval texts, options and cells, one on each line. A row is a word and its
+// fields, with `|` between them. What is printed of a cell begins with the byte `>`, which stands in
+// the buffer before the cell is appended.
 #![tactic(auto)]
 
 mod cells;
@@ -21,7 +21,7 @@ fn answer_line(rt: &HostRuntime, row: String) -> io::Result<()> {
     answer_row(rt, row.as_str())
 }
 
-/// Prints a row and what it is answered.
+/// Prints a row and the answer to it.
 fn answer_row(rt: &HostRuntime, row: &str) -> io::Result<()> {
     print!(rt; "{row} => ")?;
     let (word, fields) = cut(row);

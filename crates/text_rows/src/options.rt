@@ -14,7 +14,7 @@ use std::cmp::Ordering;
 use std::collections::BTreeMap;
 use std::io;
 
-/// Prints what a row on options is answered, or else one on cells.
+/// Prints the answer to a row on options, or to one on cells.
 pub(crate) fn answer(rt: &HostRuntime, word: &str, fields: &str) -> io::Result<()> {
     match word {
         "default" => default_options(rt),
@@ -42,7 +42,7 @@ fn show_copy(rt: &HostRuntime, options: &FormatOptions) -> io::Result<()> {
     show_options(rt, &copy)
 }
 
-/// Prints the options of parameters, or what they are beside the default options.
+/// Prints the options of parameters, or how they compare with the default options.
 fn client_options(rt: &HostRuntime, fields: &str, is_compared: bool) -> io::Result<()> {
     let options = client_of(rt.alloc(), fields)?;
     if is_compared {
@@ -58,7 +58,7 @@ fn client_of(alloc: Global, fields: &str) -> Result<FormatOptions, AllocError> {
     FormatOptions::from_client_metadata(alloc, &parameters)
 }
 
-/// Prints the order of the default options beside others, and whether they are equal.
+/// Prints how the default options are ordered against others, and whether they are equal.
 fn show_beside_default(rt: &HostRuntime, options: &FormatOptions) -> io::Result<()> {
     let first = FormatOptions::new_default(rt.alloc())?;
     show_compared(

@@ -1,4 +1,4 @@
-// How values are told, each at the end of a line but an error.
+// How values are printed. Each ends its line, but `show_error` doesn't.
 use pg_interval::Interval;
 use pg_text::{CellError, FormatOptions};
 use std::fmt::Debug;

@@ -1,4 +1,4 @@
-//! What queries and replies come to.
+//! Which commands queries are, and what becomes of the replies to them.
 
 use cursor_commands::{CursorCommand, new_replies, read_cursor};
 use pg_outbox::Outbox;
@@ -57,7 +57,7 @@ fn command_text(alloc: Global, command: &CursorCommand) -> Result<String, AllocE
     }
 }
 
-/// What the command of a row's query makes of replies; None where the query is none.
+/// What the command of a row's query makes of replies; None where the query is no command.
 fn query_replied<'t>(
     alloc: Global,
     given: &'t str,
@@ -67,7 +67,7 @@ fn query_replied<'t>(
     Ok(replied(alloc, query.as_str(), replies)?)
 }
 
-/// What a query's command makes of replies; None where it is none.
+/// What a query's command makes of replies; None where it is no command.
 fn replied(alloc: Global, query: &str, replies: &[u8]) -> Result<Option<String>, AllocError> {
     match read_cursor(alloc, query)? {
         None => Ok(None),

@@ -1,4 +1,4 @@
-//! Recordings read and written again.
+//! Recordings that are read and written again.
 
 use recording_text::{ReadError, Recording, read_recording, write_recording};
 use row_files::{Fault, hex_words};
@@ -45,8 +45,8 @@ fn written_again(
     }
 }
 
-/// What the reader answers to every front of the bytes but the whole, where that is the same; else
-/// the first that isn't `truncated`.
+/// `truncated` where the reader answers that to every front of the bytes but the whole; else the
+/// first other answer, with the length of its front.
 fn answer_to_fronts(alloc: Global, bytes: &[u8]) -> Result<String, AllocError> {
     for len in 0..bytes.len() {
         let answer = read_answer(alloc, &bytes[..len])?;

@@ -1,4 +1,5 @@
-//! What rotas come to, as a line: texts of moments, sums, moments, totals, lines and clashes.
+//! The answers to questions about rotas, as a line: texts of moments, sums, moments, totals, lines
+//! and clashes.
 
 ghost use Rattle.std.specs.Prelude.{All, length, ◌<◌, ◌^◌};
 ghost use Rattle.rota_moments.specs.Moments.{IsMoment};
@@ -106,7 +107,7 @@ fn put_moments(answer: &mut String, moments: &[Moment]) -> Result<(), AllocError
     Ok(())
 }
 
-/// `STEPS`: the total, or the first step that it overflows with.
+/// `STEPS`: the total, or the first step with which it overflows.
 fn put_total<'t>(alloc: Global, answer: &mut String, given: &'t str) -> Result<(), Fault<'t>> {
     let steps = intervals(alloc, given)?;
     match total(steps.as_slice()) {

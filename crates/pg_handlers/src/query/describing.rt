@@ -1,4 +1,5 @@
-//! Describe of a name under which no statement or portal stands, or an empty one.
+//! What a Describe names, and its answer where no statement or portal has the name, or an empty one
+//! has it.
 
 ghost use Rattle.std.specs.Prelude.{◌≡◌, None, Some, IfOk, IfErr, OnOk, OnErr};
 ghost use Rattle.std.specs.FinMap as fin;
@@ -24,7 +25,8 @@ use pg_replies::send_described;
 use std::alloc::Global;
 use std::mem::drop;
 
-/// The statement that a Describe names, or the message where none has this name, or an empty one.
+/// The statement that a Describe names. Err gives the message back, where no statement has the name
+/// or an empty one has it.
 pub(crate) fn described_statement<St: PortalStore>(
     store: &St,
     message: Describe,
@@ -44,7 +46,8 @@ pub(crate) fn described_statement<St: PortalStore>(
     }
 }
 
-/// The portal that a Describe names, or the message where none has this name, or an empty one.
+/// The portal that a Describe names. Err gives the message back, where no portal has the name or an
+/// empty one has it.
 pub(crate) fn described_portal<St: PortalStore>(
     store: &St,
     message: Describe,
@@ -64,7 +67,7 @@ pub(crate) fn described_portal<St: PortalStore>(
     }
 }
 
-/// A Describe names neither a statement nor a portal.
+/// The error of a Describe whose target is neither a statement nor a portal.
 pub(crate) fn invalid_target(message: Describe) -> PgWireError
     ensures error { result ≡ wire.InvalidTargetType message.target_type }
     ensures answerable { IsAnswerable result }
@@ -72,7 +75,8 @@ pub(crate) fn invalid_target(message: Describe) -> PgWireError
     PgWireError::InvalidTargetType(message.target_type)
 }
 
-/// Describe where no statement has this name, or an empty one, which has no data.
+/// Answers a Describe where no statement has the name, or an empty one has it. An empty one has no
+/// data.
 pub(crate) fn describe_no_statement<St: PortalStore>(
     alloc: Global,
     client: &mut Client<St>,
@@ -100,7 +104,8 @@ pub(crate) fn describe_no_statement<St: PortalStore>(
     Ok(send_described(alloc, &mut client.outbox, described)?)
 }
 
-/// Describe where no portal has this name, or an empty one, which has no data.
+/// Answers a Describe where no portal has the name, or an empty one has it. An empty one has no
+/// data.
 pub(crate) fn describe_no_portal<St: PortalStore>(
     alloc: Global,
     client: &mut Client<St>,

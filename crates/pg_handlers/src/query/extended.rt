@@ -52,21 +52,20 @@ use std::alloc::{AllocError, Global};
 use std::mem::drop;
 use std::sync::Arc;
 
-/// What a server does for extended queries. What it tells of its queries and descriptions is its
-/// own; the `on_` calls have the protocol's rules as their bodies, and append their replies to the
-/// client's outbox.
+/// What a server does for extended queries. An implementation gives its own queries and
+/// descriptions. The `on_` calls have the protocol's rules as their bodies, and append their
+/// replies to the client's outbox.
 ///
-/// An `on_` call has the condition that its message is one that a good frame carries, and that the
-/// client's store is good, and it leaves the store good. Its error is an error of the message,
-/// which is told to the client by whoever called it; what stands then is what the message has
-/// replied and changed before its error. After each error of Parse, Bind, Describe, Close and Sync,
-/// `NoMemory` too, the statements, the portals, what is known of the client and the outbox are as
-/// they were. After `NoMemory` the session is given up.
+/// An `on_` call requires that its message is one that a good frame carries, and that the client's
+/// state is good. It leaves the state good. Its error is an error of the message, and the caller
+/// tells the client. What the message replied and changed before its error stays. After each error
+/// of Parse, Bind, Describe, Close and Sync, `NoMemory` too, the statements, the portals, what is
+/// known of the client and the outbox are as they were. After `NoMemory` the session is closed.
 pub trait ExtendedQueryHandler {
     /// What a statement means.
     type Statement: Drop;
 
-    /// What makes statements of queries.
+    /// The parser, which makes statements of queries.
     type QueryParser: QueryParser<Statement = Self::Statement> + Drop;
 
     /// Where the rows of a query come from.
@@ -78,10 +77,10 @@ pub trait ExtendedQueryHandler {
     /// A query that was begun.
     type Query: QueryState<Out = Result<Response<Self::Rows, Self::CopyRows>, PgWireError>>;
 
-    // what it tells
+    // its parser, its queries and its descriptions
     ghost told: { Self → ExtendedTold Self.Statement };
 
-    /// What makes statements of queries. The only error is want of memory.
+    /// The parser of queries. The only error is running out of memory.
     fn query_parser(&self, alloc: Global) -> Result<Arc<Self::QueryParser>, AllocError>
         ensures { IfOk result (λ parser.
             Self.QueryParser.told (arc_value parser) ≡ (told self.now).parser) };
@@ -116,8 +115,8 @@ pub trait ExtendedQueryHandler {
         ensures sendable { IfOk result (λ d. IsEncodable (row_description d.fields)) }
         ensures answerable { IfErr result IsAnswerable };
 
-    /// Begins the query of a portal that isn't started. What it gives can be sent as replies. The
-    /// only error is want of memory, and nothing was begun then.
+    /// Begins the query of a portal that isn't started. Its responses can be sent as replies. The
+    /// only error is running out of memory, and nothing was begun then.
     fn do_query(
         &self,
         alloc: Global,
@@ -134,9 +133,9 @@ pub trait ExtendedQueryHandler {
         ensures sendable { IfOk result (λ query. IsSendableOutcome
             ((told self.now).query client.now (bound_of portal.now) max_rows).outcome) };
 
-    /// Parse: stores the statement that the parser makes of the query, an empty one for None or a
-    /// blank query, and appends ParseComplete. The errors are the parser's, and NoMemory; after
-    /// them the client is as it was.
+    /// Answers Parse: stores the statement that the parser makes of the query, and appends
+    /// ParseComplete. A blank query, and one for which the parser gives None, is stored as an empty
+    /// statement. The errors are the parser's, and NoMemory. After each the client is as it was.
     fn on_parse<St: PortalStore<Statement = Self::Statement, Rows = Self::Rows>>(
         &self,
         alloc: Global,
@@ -171,10 +170,10 @@ pub trait ExtendedQueryHandler {
         }
     }
 
-    /// Bind: stores a portal of the statement, and appends BindComplete. StatementNotFound comes
-    /// exactly where no statement has this name; 08P01 where an empty statement is given
-    /// parameters, or where there are two result codes or more and fewer than the columns. The
-    /// other errors are the parser's, and NoMemory. After each the client is as it was.
+    /// Answers Bind: stores a portal of the statement, and appends BindComplete. StatementNotFound
+    /// comes exactly where no statement has this name. 08P01 comes where an empty statement is
+    /// given parameters, or where there are two or more result codes, but fewer than the columns.
+    /// The other errors are the parser's, and NoMemory. After each the client is as it was.
     fn on_bind<St: PortalStore<Statement = Self::Statement, Rows = Self::Rows>>(
         &self,
         alloc: Global,
@@ -211,9 +210,9 @@ pub trait ExtendedQueryHandler {
         bind_checked(alloc, client, parser, message, statement)
     }
 
-    /// Execute: the row of the table where the client awaits a query, and NotReadyForQuery, which
-    /// changes nothing, where it doesn't. The other errors are those of `_on_execute`. After
-    /// TurnLimit the client is as it was.
+    /// Answers Execute by the conversation table, where the session is ready. Elsewhere the error
+    /// is NotReadyForQuery, and nothing has changed. The other errors are those of `_on_execute`.
+    /// After TurnLimit the client is as it was.
     fn on_execute<St: PortalStore<Statement = Self::Statement, Rows = Self::Rows>, D: CancelDesk>(
         &self,
         alloc: Global,
@@ -260,18 +259,19 @@ pub trait ExtendedQueryHandler {
         }
     }
 
-    /// Execute, whatever the client awaits. PortalNotFound comes exactly where no portal has this
-    /// name. An empty portal gives EmptyQueryResponse. A portal that isn't started calls the desk's
-    /// `start` and is then polled: each poll that finds it unready spends a turn and is followed by
-    /// one question; yes is QueryCanceled, and no turn left is TurnLimit, and both leave the portal
-    /// unstarted and the client as it was. Rows start it; every other response leaves it as it is.
-    /// A started portal gives its next page: DataRows, then PortalSuspended or CommandComplete.
+    /// Answers Execute in any phase. PortalNotFound comes exactly where no portal has this name. An
+    /// empty portal gives EmptyQueryResponse. A started portal gives its next page: DataRows, then
+    /// PortalSuspended or CommandComplete. For a portal that isn't started the desk's `start` is
+    /// called, and its query is polled. Each poll that finds the query unready spends a turn, and
+    /// the desk is then asked once whether the query was canceled. Where it was, the error is
+    /// QueryCanceled. Where no turn is left, it is TurnLimit. Both leave the portal unstarted and
+    /// the client as it was. A response with rows starts the portal, and no other does.
     ///
-    /// The other errors are the query's own, after which the client is as it was; that of an item
-    /// in the place of a row or of data; and NoMemory. The error of a row is consumed with the rows
-    /// before it, which are taken back from the outbox; the data before an error stay there. After
-    /// NoMemory the rows that were read are consumed, the portal may be started, and the outbox may
-    /// hold a part of the replies.
+    /// The other errors are the query's own, after which the client is as it was; an error in the
+    /// place of a row or of data; and NoMemory. An error in the place of a row is consumed with the
+    /// rows before it, and those rows are taken back from the outbox. The data of a COPY before an
+    /// error stay there. After NoMemory the rows that were read are consumed, the portal may be
+    /// started, and the outbox may hold a part of the replies.
     fn _on_execute<St: PortalStore<Statement = Self::Statement, Rows = Self::Rows>, D: CancelDesk>(
         &self,
         alloc: Global,
@@ -317,10 +317,10 @@ pub trait ExtendedQueryHandler {
         run_unstarted(alloc, client, message, query, desk, turns)
     }
 
-    /// Describe of a statement (`S`) or a portal (`P`): what describes it. StatementNotFound and
-    /// PortalNotFound come exactly where none has this name, InvalidTargetType for any other byte.
-    /// The other errors are those of `do_describe_statement` and `do_describe_portal`, and
-    /// NoMemory. After each the client is as it was.
+    /// Answers Describe: appends the description of a statement (`S`) or a portal (`P`).
+    /// StatementNotFound and PortalNotFound come exactly where none has this name,
+    /// InvalidTargetType for any other byte. The other errors are those of `do_describe_statement`
+    /// and `do_describe_portal`, and NoMemory. After each the client is as it was.
     fn on_describe<St: PortalStore<Statement = Self::Statement, Rows = Self::Rows>>(
         &self,
         alloc: Global,
@@ -344,7 +344,7 @@ pub trait ExtendedQueryHandler {
         self._on_describe(alloc, client, message)
     }
 
-    /// Describe, as `on_describe`.
+    /// Answers Describe, as `on_describe` does.
     fn _on_describe<St: PortalStore<Statement = Self::Statement, Rows = Self::Rows>>(
         &self,
         alloc: Global,
@@ -384,7 +384,7 @@ pub trait ExtendedQueryHandler {
         }
     }
 
-    /// Flush: nothing. What waits is sent at the end of each `feed`.
+    /// Answers Flush, which needs nothing: what waits is sent at the end of each `feed`.
     fn on_flush<St: PortalStore<Statement = Self::Statement, Rows = Self::Rows>>(
         &self,
         client: &mut Client<St>,
@@ -401,8 +401,8 @@ pub trait ExtendedQueryHandler {
         Ok(())
     }
 
-    /// Sync: the unnamed portal is removed, ReadyForQuery is appended, and the client awaits a
-    /// query. The only error is NoMemory, after which the client is as it was.
+    /// Answers Sync: the unnamed portal is removed, ReadyForQuery is appended, and the session is
+    /// ready. The only error is NoMemory, after which the client is as it was.
     fn on_sync<St: PortalStore<Statement = Self::Statement, Rows = Self::Rows>>(
         &self,
         client: &mut Client<St>,
@@ -430,9 +430,9 @@ pub trait ExtendedQueryHandler {
         Ok(())
     }
 
-    /// Close: removes the statement (`S`) or the portal (`P`) of this name, where there is one, and
-    /// appends CloseComplete. Portals of a removed statement stay. The only error is NoMemory,
-    /// after which the client is as it was.
+    /// Answers Close: removes the statement (`S`) or the portal (`P`) of this name, where there is
+    /// one, and appends CloseComplete. Portals of a removed statement stay. The only error is
+    /// NoMemory, after which the client is as it was.
     fn on_close<St: PortalStore<Statement = Self::Statement, Rows = Self::Rows>>(
         &self,
         client: &mut Client<St>,

@@ -1,4 +1,4 @@
-//! Queries: how they are polled, and what is sent of what they answer.
+//! Queries: how they are polled, and how their responses are sent.
 
 ghost use Rattle.std.specs.Prelude.{◌≡◌, ◌≤◌, false, IfErr, OnErr, List};
 ghost use Rattle.pg_client.specs.Desk.{KeepsDesk};
@@ -18,16 +18,16 @@ pub mod simple;
 mod started;
 mod statements;
 
-/// What a poll answers.
+/// The result of a poll.
 #[derive(Drop)]
 pub enum Turn<T> {
     /// The query isn't ready yet.
     Unready,
-    /// What the query gives.
+    /// The outcome of the query.
     Ready(T),
 }
 
-/// A query that was begun, and is asked again and again until it is ready.
+/// A query that was begun, and is polled until it is ready.
 pub trait QueryState: Drop {
     /// What it gives.
     type Out: Drop;
@@ -35,9 +35,9 @@ pub trait QueryState: Drop {
     // whether its outcome was given; until then how many polls it owes, and its outcome
     ghost told: { Self → QueryTold Self.Out };
 
-    /// Unready exactly where a poll is owed, of which there is then one less. Else what the query
-    /// gives, after which it is spent and isn't asked again. The only error is want of memory,
-    /// after which nothing has changed.
+    /// Polls the query. The result is Unready exactly where a poll is owed, and one fewer is owed
+    /// then. Else it is the outcome, and the query is spent then and isn't polled again. The only
+    /// error is running out of memory, after which nothing has changed.
     fn poll(&mut self) -> Result<Turn<Self::Out>, AllocError>
         requires { (told self.old).is_spent ≡ false }
         ensures { IsPolled (told self.old) result (told self.new) };
@@ -45,7 +45,7 @@ pub trait QueryState: Drop {
 
 /// Waits for a query: each poll that finds it unready spends a turn, and the desk is then asked
 /// whether the query was canceled. Where it was, the error is QueryCanceled. TurnLimit comes where
-/// no turn is left and one more was met.
+/// a poll finds it unready and no turn is left.
 #[inline(always)]
 fn wait<Q: QueryState, D: CancelDesk>(
     query: &mut Q,
@@ -77,7 +77,7 @@ fn wait<Q: QueryState, D: CancelDesk>(
     }
 }
 
-/// Waits for a query as `wait`, and lets it go.
+/// Waits for a query as `wait` does, and drops it.
 #[inline(always)]
 pub(crate) fn wait_for<Q: QueryState, D: CancelDesk>(
     mut query: Q,

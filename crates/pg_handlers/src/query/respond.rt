@@ -1,4 +1,4 @@
-//! What responses send, in an Execute and in a Query alike.
+//! How responses are sent, the same in an Execute and in a Query.
 
 ghost use Rattle.std.specs.Prelude.{◌≡◌, ◌⊎◌, ◌++◌, ◌∷◌, [], None, Some, false, List, map, length, take, IfOk, IfErr, OnOk, OnErr, codes};
 ghost use Rattle.std.specs.List.{AllByRecursion};
@@ -37,7 +37,7 @@ use pg_replies::{
 };
 use std::alloc::{AllocError, Global};
 
-/// What a response left: the transaction status behind it, and whether a COPY of the client has
+/// What a response left: the transaction status after it, and whether a COPY of the client has
 /// begun.
 #[derive(Clone, Copy)]
 pub(crate) struct Behind {
@@ -46,7 +46,7 @@ pub(crate) struct Behind {
 }
 
 impl Behind {
-    /// No COPY has begun.
+    /// This status, and no COPY has begun.
     fn at(status: TransactionStatus) -> Behind
         ensures { result ≡ record { status = status; copying = false } }
     {
@@ -85,8 +85,8 @@ fn send_error(outbox: &mut Outbox, info: ErrorInfo) -> Result<(), PgWireError>
     Ok(())
 }
 
-/// Appends what a response sends where the transaction status is this, and answers what it left. An
-/// error in the place of a row or of data is answered; what stands before it stays in the outbox.
+/// Appends the replies to a response at this transaction status, and returns what it left. An error
+/// in the place of a row or of data is returned, and the replies before it stay in the outbox.
 #[inline(always)]
 pub(crate) fn send_response<R: RowSource, C: CopySource>(
     alloc: Global,
@@ -107,7 +107,7 @@ pub(crate) fn send_response<R: RowSource, C: CopySource>(
     Ok(left)
 }
 
-/// What a response leaves where the transaction status is this and all of it is sent.
+/// What a response leaves at this transaction status, if all of it is sent.
 fn left_by<R: RowSource, C: CopySource>(
     status: TransactionStatus,
     response: &Response<R, C>,
@@ -128,7 +128,7 @@ fn left_by<R: RowSource, C: CopySource>(
     }
 }
 
-/// Appends what a response sends, whatever the transaction status is.
+/// Appends the replies to a response. They are the same at every transaction status.
 fn send_replies<R: RowSource, C: CopySource>(
     alloc: Global,
     outbox: &mut Outbox,
@@ -153,8 +153,8 @@ fn send_replies<R: RowSource, C: CopySource>(
     }
 }
 
-/// Appends what several responses send, in their order, up to the first error in the place of a row
-/// or of data.
+/// Appends the replies to several responses, in their order. The first error in the place of a row
+/// or of data is returned, and the replies before it stay in the outbox.
 pub(crate) fn send_responses<R: RowSource, C: CopySource>(
     alloc: Global,
     outbox: &mut Outbox,
@@ -187,8 +187,8 @@ pub(crate) fn is_unstarted<S: Drop, R: RowSource>(portal: &Portal<S, R>) -> bool
     matches!(portal.state, PortalExecutionState::Initial)
 }
 
-/// Appends the next page of a started portal, and counts its rows. The error of an item is
-/// answered, and the rows before it are taken back and not counted.
+/// Appends the next page of a started portal, and counts its rows. An error in the place of a row
+/// is returned, and the rows before it are taken back and not counted.
 pub(crate) fn send_page<S: Drop, R: RowSource>(
     alloc: Global,
     outbox: &mut Outbox,

@@ -1,4 +1,4 @@
-//! The query of a portal that isn't started, and what an Execute makes of its response.
+//! How an Execute runs the query of a portal that isn't started, and answers with its response.
 
 ghost use Rattle.std.specs.Prelude.{◌≡◌, ◌≤◌, false, length, take, Some, IfErr, OnOk, OnErr};
 ghost use Rattle.pg_messages.specs.declared.frontend.PgWireFrontendMessage.TheVariants as frontend;
@@ -26,8 +26,8 @@ use pg_portal::{CopySource, PgWireError, PortalStore, QueryResponse, Response};
 use std::alloc::Global;
 use std::mem::drop;
 
-/// What an Execute does with the query of a portal that isn't started, behind the desk's `start`:
-/// it waits for the query, and answers with its response. Until then nothing is changed.
+/// Waits for the query of a portal that isn't started, after the desk's `start`, and answers the
+/// Execute with the query's response. Nothing changes before the response.
 #[inline(always)]
 pub(crate) fn run_unstarted<
     St: PortalStore,
@@ -87,7 +87,7 @@ pub(crate) fn run_unstarted<
 }
 
 /// Answers an Execute with the response of its portal's query: rows start the portal, and its first
-/// page is appended; any other response leaves the portal as it is.
+/// page is appended. Any other response leaves the portal unstarted.
 #[inline(always)]
 fn answer<St: PortalStore, C: CopySource>(
     alloc: Global,

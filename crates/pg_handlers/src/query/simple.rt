@@ -37,7 +37,7 @@ use pg_replies::send_ready_for_query;
 use std::alloc::{AllocError, Global};
 use std::mem::drop;
 
-/// What a server does for simple queries. What it tells of its queries is its own; the `on_` calls
+/// What a server does for simple queries. An implementation gives its own queries. The `on_` calls
 /// have the protocol's rules as their bodies.
 pub trait SimpleQueryHandler {
     /// Where the rows of a query come from.
@@ -49,11 +49,11 @@ pub trait SimpleQueryHandler {
     /// A query that was begun.
     type Query: QueryState<Out = Result<PgList<Response<Self::Rows, Self::CopyRows>>, PgWireError>>;
 
-    // what it tells of a query of a client
+    // its query for a client and a text
     ghost told: { Self → SimpleTold };
 
-    /// Begins a query that isn't blank. What it gives can be sent as replies. The only error is
-    /// want of memory, and nothing was begun then.
+    /// Begins a query that isn't blank. Its responses can be sent as replies. The only error is
+    /// running out of memory, and nothing was begun then.
     fn do_query(
         &self,
         alloc: Global,
@@ -69,8 +69,8 @@ pub trait SimpleQueryHandler {
         ensures sendable { IfOk result (λ state. AreSendable
             (told self.now client.now query.now).outcome) };
 
-    /// Query: the row of the table where the client awaits a query, and NotReadyForQuery, which
-    /// changes nothing, where it doesn't. The other errors are those of `_on_query`.
+    /// Answers Query by the conversation table, where the session is ready. Elsewhere the error is
+    /// NotReadyForQuery, and nothing has changed. The other errors are those of `_on_query`.
     fn on_query<St: PortalStore, D: CancelDesk>(
         &self,
         alloc: Global,
@@ -116,16 +116,17 @@ pub trait SimpleQueryHandler {
         }
     }
 
-    /// Query, whatever the client awaits. A blank text gives EmptyQueryResponse and ReadyForQuery,
-    /// and asks nothing. Any other calls the desk's `start` and is then polled: each poll that
-    /// finds it unready spends a turn and is followed by one question; yes is QueryCanceled, and no
-    /// turn left is TurnLimit. Then come its responses in their order, and ReadyForQuery with the
-    /// status that they left, unless a COPY has begun.
+    /// Answers Query in any phase. A blank text gives EmptyQueryResponse and ReadyForQuery, and the
+    /// desk isn't called. For any other text the desk's `start` is called, and the query is polled.
+    /// Each poll that finds the query unready spends a turn, and the desk is then asked once
+    /// whether the query was canceled. Where it was, the error is QueryCanceled. Where no turn is
+    /// left, it is TurnLimit. Then come the replies to its responses in their order, and
+    /// ReadyForQuery with the status that they left, unless a COPY has begun.
     ///
-    /// The other errors are the query's own, with which nothing is sent; that of an item in the
-    /// place of a row or of data, and what was sent before it stays in the outbox; and NoMemory,
-    /// after which the outbox may hold a part of the replies. After each error the status, the
-    /// phase and the store are as they were.
+    /// The other errors are the query's own, with which nothing is sent; an error in the place of a
+    /// row or of data, and the replies before it stay in the outbox; and NoMemory, after which the
+    /// outbox may hold a part of the replies. After each error the status, the phase and the store
+    /// are as they were.
     fn _on_query<St: PortalStore, D: CancelDesk>(
         &self,
         alloc: Global,
@@ -171,7 +172,7 @@ pub trait SimpleQueryHandler {
     }
 }
 
-/// Answers a blank Query, where the transaction status is this.
+/// Answers a blank Query at this transaction status.
 fn answer_blank(outbox: &mut Outbox, status: TransactionStatus) -> Result<(), PgWireError>
     ensures ok { OnOk result (outbox.new ≡ outbox.old ++ replies_bytes
         (server.EmptyQueryResponse (record {}) ∷ ready status ∷ [])) }
@@ -183,8 +184,8 @@ fn answer_blank(outbox: &mut Outbox, status: TransactionStatus) -> Result<(), Pg
     Ok(())
 }
 
-/// Waits for a query that was begun, behind the desk's `start`, and answers with its responses.
-/// Until then nothing is changed.
+/// Waits for a query that was begun, after the desk's `start`, and answers with its responses.
+/// Nothing changes before the responses.
 fn run_query<
     St: PortalStore,
     R: RowSource,

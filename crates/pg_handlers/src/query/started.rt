@@ -1,4 +1,4 @@
-//! Execute of a portal that was started, and of none.
+//! Execute of a portal that was started, and Execute where no portal has the name.
 
 ghost use Rattle.std.specs.Prelude.{◌≡◌, false, length, take, Some, None, IfSome, IfErr, OnOk, OnErr};
 ghost use Rattle.std.specs.FinMap as fin;
@@ -24,7 +24,8 @@ use pg_portal::{Entry, Portal, PortalStore};
 use std::alloc::Global;
 use std::mem::drop;
 
-/// The portal under a name, if it isn't started; None where it is, and where there is none.
+/// The portal under a name, if it isn't started. None where it is, where no portal has the name,
+/// and where an empty one has it.
 #[inline(always)]
 pub(crate) fn unstarted_portal<'s, St: PortalStore>(
     store: &'s St,
@@ -49,8 +50,8 @@ pub(crate) fn unstarted_portal<'s, St: PortalStore>(
     }
 }
 
-/// Execute of a portal that was started: its next page; or where no portal has this name, or an
-/// empty one.
+/// Answers Execute with the next page of a portal that was started. Where no portal has the name,
+/// the error is PortalNotFound. An empty one gives EmptyQueryResponse.
 pub(crate) fn execute_started<St: PortalStore>(
     alloc: Global,
     client: &mut Client<St>,

@@ -44,7 +44,7 @@ use std::alloc::{AllocError, Global};
 use std::mem::drop;
 use std::sync::Arc;
 
-/// No statement has this name.
+/// The error that no statement has this name.
 pub(crate) fn missing_statement(name: PgStr) -> PgWireError
     requires { IsShortText name }
     ensures error { result ≡ wire.StatementNotFound name }
@@ -68,7 +68,7 @@ pub(crate) fn statement_under<'s, St: PortalStore>(
     }
 }
 
-/// The name that a Parse tells.
+/// The name of the statement in a Parse.
 #[inline(always)]
 pub(crate) fn name_of(message: Parse) -> PgStr
     ensures { result ≡ message.name }
@@ -76,7 +76,7 @@ pub(crate) fn name_of(message: Parse) -> PgStr
     message.name
 }
 
-/// The statement of a Parse, as `StoredStatement::parse`, and the parser is let go.
+/// The statement of a Parse, as `StoredStatement::parse` makes it. The parser is dropped.
 #[inline(always)]
 pub(crate) fn parse_by<Q: QueryParser + Drop>(
     alloc: Global,
@@ -95,7 +95,7 @@ pub(crate) fn parse_by<Q: QueryParser + Drop>(
     StoredStatement::parse(alloc, client, message, &*parser)
 }
 
-/// No portal has this name.
+/// The error that no portal has this name.
 pub(crate) fn missing_portal(name: PgStr) -> PgWireError
     requires { IsShortText name }
     ensures error { result ≡ wire.PortalNotFound name }
@@ -172,7 +172,7 @@ fn protocol_violation(alloc: Global, text: String) -> Result<PgWireError, AllocE
     )))
 }
 
-/// Parameters were given for an empty statement.
+/// The error that parameters were given for an empty statement.
 fn values_for_empty(alloc: Global, count: usize, name: &str) -> Result<PgWireError, AllocError>
     requires name { IsShortText name.now }
     ensures error { IfOk result (λ error. error
@@ -185,7 +185,7 @@ fn values_for_empty(alloc: Global, count: usize, name: &str) -> Result<PgWireErr
     protocol_violation(alloc, text)
 }
 
-/// There are fewer result codes than columns.
+/// The error that there are fewer result codes than columns.
 fn too_few_codes(alloc: Global, count: usize, columns: usize) -> Result<PgWireError, AllocError>
     ensures error { IfOk result (λ error. error ≡ wire.UserError (too_few_codes count columns)) }
     ensures answerable { IfOk result IsAnswerable }
@@ -196,8 +196,8 @@ fn too_few_codes(alloc: Global, count: usize, columns: usize) -> Result<PgWireEr
     protocol_violation(alloc, text)
 }
 
-/// Bind where no statement has this name, or an empty one: an empty portal of an empty statement,
-/// where there are no parameters.
+/// Answers Bind where no statement has the name, or an empty one has it. Without one the error is
+/// StatementNotFound. An empty one is bound as `bind_empty` does.
 pub(crate) fn bind_no_statement<St: PortalStore>(
     alloc: Global,
     client: &mut Client<St>,
@@ -232,7 +232,7 @@ pub(crate) fn bind_no_statement<St: PortalStore>(
     bound
 }
 
-/// No statement has the name that a Bind tells.
+/// The error that no statement has the name in a Bind.
 fn no_statement(message: Bind) -> PgWireError
     requires { IsGiven (frontend.Bind message) }
     ensures error { result ≡ wire.StatementNotFound message.statement_name }
@@ -241,7 +241,8 @@ fn no_statement(message: Bind) -> PgWireError
     missing_statement(message.statement_name)
 }
 
-/// Bind of an empty statement: an empty portal, where there are no parameters.
+/// Answers Bind of an empty statement: stores an empty portal, where there are no parameters. With
+/// parameters the error is 08P01.
 fn bind_empty<St: PortalStore>(
     alloc: Global,
     client: &mut Client<St>,
@@ -270,7 +271,7 @@ fn bind_empty<St: PortalStore>(
     Ok(())
 }
 
-/// Whether a Bind has enough result codes: none, one, or one for each column.
+/// Checks that a Bind has enough result codes: none, one, or as many as the columns or more.
 fn check_codes<Q: QueryParser>(
     alloc: Global,
     parser: &Q,
@@ -296,8 +297,8 @@ fn check_codes<Q: QueryParser>(
     Ok(())
 }
 
-/// Bind of a statement with two result codes or more, of which the parser is asked: as
-/// `bind_statement` where they are enough.
+/// Answers Bind with two or more result codes. The parser tells the statement's columns. Where the
+/// codes are enough, the portal is stored as by `bind_statement`.
 pub(crate) fn bind_checked<St: PortalStore, Q: QueryParser<Statement = St::Statement> + Drop>(
     alloc: Global,
     client: &mut Client<St>,
@@ -329,8 +330,8 @@ pub(crate) fn bind_checked<St: PortalStore, Q: QueryParser<Statement = St::State
     bind_statement(alloc, client, message, statement)
 }
 
-/// Bind of a statement of whose columns there are enough result codes: a portal of it, unstarted.
-/// The only error is NoMemory.
+/// Answers Bind with enough result codes: stores a portal of the statement, unstarted. The only
+/// error is NoMemory.
 #[inline(always)]
 pub(crate) fn bind_statement<St: PortalStore>(
     alloc: Global,
@@ -445,7 +446,7 @@ fn push_bind_complete(outbox: &mut Outbox) -> Result<(), AllocError>
     push_reply(outbox, PgWireBackendMessage::BindComplete(BindComplete {}))
 }
 
-/// Execute where no portal has this name, or an empty one.
+/// Answers Execute where no portal has the name, or an empty one has it.
 pub(crate) fn execute_no_portal<St: PortalStore>(
     client: &mut Client<St>,
     name: PgStr,

@@ -1,5 +1,5 @@
-// Bytes in an array, written from its end to its front: a call writes in front of what stands from
-// `end` on, and tells where its own bytes begin.
+// Bytes in an array, written from its end to its front: a call writes before the bytes from `end`
+// on, and returns where its own bytes begin.
 ghost use Rattle.std.specs.Prelude.{◌≡◌, ◌+◌, ◌^◌, ◌<◌, ◌≤◌, ◌==◌, ◌++◌, ◌∷◌, [], length, drop, unsigned_abs, if◌then◌else◌};
 ghost use Rattle.pg_interval.specs.Printed.{fraction_of, six_digits, after_hours};
 ghost use Rattle.pg_interval.specs.Widths.{HasRoom};
@@ -19,8 +19,8 @@ pub fn put_byte(byte: u8, text: &mut [u8; LONGEST], end: usize) -> usize
     end - 1
 }
 
-/// Writes the byte where it is wanted. It is written always, which takes no branch, and then not
-/// counted.
+/// Writes the byte if it is wanted. The byte is always written, which needs no branch, and only
+/// counted if it is wanted.
 #[inline(always)]
 #[tactic(auto, using(crate::proofs::PutDigits::behind_byte))]
 pub fn put_byte_if(wanted: bool, byte: u8, text: &mut [u8; LONGEST], end: usize) -> usize

@@ -1,4 +1,4 @@
-// The digits of a number, two at a time, in front of what stands from `end` on.
+// The digits of a number, two at a time, before the bytes from `end` on.
 ghost use Rattle.std.specs.Prelude.{◌≡◌, ◌+◌, ◌/◌, ◌%◌, ◌<◌, ◌≤◌, ◌++◌, ◌∷◌, length, drop, decimal};
 ghost use Rattle.pg_interval.specs.Printed.{last_digits, two_digits_of, six_digits};
 

@@ -8,7 +8,7 @@ use super::digits::put_digits;
 use crate::interval_norm::IntervalNorm;
 
 /// Writes the text in the style `iso_8601`: `PT0S` for zero, else `P` and each number that isn't
-/// zero with its own minus and its letter, the time's behind a `T`.
+/// zero, with its own minus and its letter. A `T` stands before the numbers of the time.
 #[inline(always)]
 #[tactic(auto, using(crate::proofs::PrintedLemmas::signed_passed), unfolding(crate::specs::Printed::iso_text))]
 pub fn put_iso(fields: &IntervalNorm, text: &mut [u8; LONGEST], end: usize) -> usize

@@ -146,8 +146,8 @@ impl IntervalNorm {
         text.to_string(alloc)
     }
 
-    /// The text in the style `iso_8601`: `PT0S` for zero, else `P` and each number that isn't zero
-    /// with its own minus and its letter, the time's behind a `T`.
+    /// The text in the style `iso_8601`: `PT0S` for zero, else `P` and each number that isn't zero,
+    /// with its own minus and its letter. A `T` stands before the numbers of the time.
     #[inline(always)]
     pub fn into_iso_8601(self, alloc: Global) -> Result<String, AllocError>
         requires { IsNormal self }
@@ -157,8 +157,9 @@ impl IntervalNorm {
         text.to_string(alloc)
     }
 
-    /// The text in the style `sql_standard`: `0` for zero, years and months alone, days and time
-    /// alone where no two have opposite signs, and else all three, each with its sign.
+    /// The text in the style `sql_standard`: `0` for zero; only years and months where the rest is
+    /// zero; only days and time where the rest is zero and the two have no opposite signs; else all
+    /// three, each with its sign.
     #[inline(always)]
     pub fn into_sql(self, alloc: Global) -> Result<String, AllocError>
         requires { IsNormal self }

@@ -7,7 +7,7 @@ use super::back::{put_byte, put_byte_if, put_word};
 use super::digits::put_digits;
 
 /// Writes a space, a number, a space and its word, with an `s` unless the number is 1, and nothing
-/// for zero. `words` is what stands behind a number of many.
+/// for zero. `words` is what follows a number other than 1: a space, the word and an `s`.
 #[inline(always)]
 #[tactic(auto, using(crate::proofs::PrintedLemmas::signed_passed), unfolding(crate::specs::Printed::part_text))]
 pub fn put_part(

@@ -11,7 +11,7 @@ use crate::pg_interval::Interval;
 
 /// Writes the text in the style `postgres`: the years, months and days that aren't zero, each with
 /// its own minus, and the time, unless it is zero. Zero prints `00:00:00`. Each part is written
-/// behind a space, and the first space isn't counted.
+/// after a space, and the first space isn't counted.
 #[inline(always)]
 pub fn put_postgres(interval: Interval, text: &mut [u8; LONGEST]) -> usize
     ensures place { result ≤ 96 }
@@ -28,7 +28,7 @@ pub fn put_postgres(interval: Interval, text: &mut [u8; LONGEST]) -> usize
     }
 }
 
-/// Writes the years, months and days that aren't zero, each behind a space.
+/// Writes the years, months and days that aren't zero, each after a space.
 #[inline(always)]
 fn put_date_parts(interval: &Interval, text: &mut [u8; LONGEST], end: usize) -> usize
     requires { (60 ≤ end) × (end ≤ 96) }

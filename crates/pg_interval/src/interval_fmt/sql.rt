@@ -24,8 +24,9 @@ impl IntervalNorm {
     }
 }
 
-/// Writes the text in the style `sql_standard`: `0` for zero, years and months alone, days and time
-/// alone where no two have opposite signs, and else all three, each with its sign.
+/// Writes the text in the style `sql_standard`: `0` for zero; only years and months where the rest
+/// is zero; only days and time where the rest is zero and the two have no opposite signs; else all
+/// three, each with its sign.
 #[inline(always)]
 #[tactic(auto, using(crate::proofs::PrintedLemmas::signed_passed), unfolding(crate::specs::Printed::sql_text, crate::specs::Printed::fields_text))]
 pub fn put_sql(fields: &IntervalNorm, text: &mut [u8; LONGEST], end: usize) -> usize

@@ -5,7 +5,7 @@ use super::LONGEST;
 use std::alloc::{AllocError, Global};
 use std::marker::Model;
 
-/// The text of an interval in a style, ASCII bytes that stand in the value itself: it takes no
+/// The text of an interval in a style. The value itself holds its ASCII bytes, so it takes no
 /// memory.
 #[derive(Drop)]
 pub struct IntervalText {

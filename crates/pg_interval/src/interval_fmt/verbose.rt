@@ -59,7 +59,7 @@ pub fn put_verbose(fields: &IntervalNorm, text: &mut [u8; LONGEST], end: usize) 
     put_byte(b'@', text, date)
 }
 
-/// Writes the word at the end where the text has it.
+/// Writes `ago` at the end, if the text has it.
 #[inline(always)]
 fn put_ago_end(ago: bool, text: &mut [u8; LONGEST], end: usize) -> usize
     requires { (4 ≤ end) × (end ≤ 96) }
@@ -211,7 +211,7 @@ fn put_without_last_zeros(number: u64, text: &mut [u8; LONGEST], end: usize) -> 
     }
 }
 
-/// The same, digit by digit.
+/// Does the same as `put_without_last_zeros`, digit by digit.
 #[tactic(auto, unfolding(crate::specs::Printed::six_digits))]
 fn put_some_digits(number: u64, text: &mut [u8; LONGEST], end: usize) -> usize
     requires { (number < 1000000) × (6 ≤ end) × (end ≤ 96) }
@@ -228,8 +228,8 @@ fn put_some_digits(number: u64, text: &mut [u8; LONGEST], end: usize) -> usize
     place
 }
 
-/// Writes the last digit of the number in front of the digits up to `end`, unless it is a zero
-/// behind which no digit stands.
+/// Writes the last digit of the number before the digits up to `end`, unless it is a zero and no
+/// digit follows it.
 #[inline(always)]
 fn put_unless_last_zero(number: u64, text: &mut [u8; LONGEST], place: usize, end: usize) -> usize
     requires { (1 ≤ place) × (place ≤ 96) }

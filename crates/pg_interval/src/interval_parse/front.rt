@@ -1,5 +1,5 @@
-// Numbers in front of a text, as a reader's first try takes them: digits that make a number below 2
-// ^ 31.
+// Numbers at the front of a text, as a reader's first try takes them: digits that make a number
+// below 2 ^ 31.
 ghost use Rattle.std.specs.Prelude.{◌≡◌, ◌≤◌, ◌<◌, ◌^◌, length, take, true, IfSome, Ok};
 ghost use Rattle.std.specs.List.{list_all};
 ghost use Rattle.std.specs.Str.Parse.{digits_value};
@@ -14,8 +14,8 @@ use super::parts::Number;
 use super::texts::{Kind, cut, is_digit, is_whitespace};
 use crate::pg_interval::Interval;
 
-/// The number that digits in front of the text make, and how many they are. Past 18 digits it is
-/// any number.
+/// The number that the digits at the front of the text make, and how many digits there are. Past 18
+/// digits the number means nothing.
 #[inline(always)]
 fn digits_front(text: &[u8]) -> (u64, usize)
     ensures value { result.1 ≤ 18 → result.0 ≡ digits_value 10 (take result.1 text.now) }
@@ -32,8 +32,8 @@ fn digits_front(text: &[u8]) -> (u64, usize)
     (value, text.len())
 }
 
-/// The number below 2 ^ 31 in front of the text, and what stands behind it. `None` comes where
-/// there is none.
+/// The number below 2 ^ 31 at the front of the text, and what follows it. `None` comes where there
+/// is none.
 #[inline(always)]
 pub(super) fn number_front(text: &[u8]) -> Option<(u64, &[u8])>
     ensures { IfSome result (λ front. IsNumberFront front.0 text.now front.1.now) }
@@ -46,8 +46,8 @@ pub(super) fn number_front(text: &[u8]) -> Option<(u64, &[u8])>
     Some((value, rest))
 }
 
-/// The number of two digits in front of the text, and what stands behind it. `None` comes where
-/// there is none.
+/// The number of two digits at the front of the text, and what follows it. `None` comes where there
+/// is none.
 #[inline(always)]
 pub(super) fn two_digits_front(text: &[u8]) -> Option<(u64, &[u8])>
     ensures { IfSome result (λ front. IsNumberFront front.0 text.now front.1.now) }
@@ -62,9 +62,9 @@ pub(super) fn two_digits_front(text: &[u8]) -> Option<(u64, &[u8])>
     ))
 }
 
-/// The decimal in front of the text, its sign turned if `turn` says so, and what stands behind it:
-/// a number below 2 ^ 31 with at most six digits behind the point. `None` comes where there is
-/// none.
+/// The decimal at the front of the text, its sign turned if `turn` says so, and what follows it.
+/// The decimal is a number below 2 ^ 31 with at most six digits after the point. `None` comes where
+/// there is none.
 #[inline(always)]
 fn decimal_front(text: &[u8], turn: bool) -> Option<(Number, &[u8])>
     ensures { IfSome result
@@ -109,8 +109,8 @@ fn whole_number(negative: bool, whole: u64) -> Number
     }
 }
 
-/// The decimal in front of the text, the word behind it with one space between them, and what
-/// stands behind the word.
+/// The decimal at the front of the text, the word after it with one space between them, and what
+/// follows the word.
 #[inline(always)]
 pub(super) fn pair_front(text: &[u8], turn: bool) -> Option<(Number, &[u8], &[u8])>
     ensures { IfSome result

@@ -36,7 +36,7 @@ pub(super) fn unit_at(in_time: bool, letter: u8) -> Option<Unit>
     }
 }
 
-/// Is it a minus that may be missing, then digits and points?
+/// Is it an optional minus, then digits and points?
 fn is_item_number(number: &[u8]) -> bool
     ensures { result ≡ is_item_number number.now }
 {
@@ -66,8 +66,8 @@ impl Items {
         Some(rest)
     }
 
-    /// Takes the `T` or the item in front of the text, and returns the rest. `None` comes where the
-    /// shape is broken.
+    /// Takes the `T` or the item at the front of the text, and returns the rest. `None` comes where
+    /// the shape is broken.
     fn take_front<'a>(&mut self, text: &'a [u8]) -> Option<&'a [u8]>
         requires room { self.old.totals.count < 16384 }
         requires filled { 0 < length text.now }
@@ -95,7 +95,7 @@ impl Items {
     }
 }
 
-/// What the text behind its `P` comes to. `None` comes where the shape is broken.
+/// The sums of the text after its `P`. `None` comes where the shape is broken.
 fn read_items(text: &[u8]) -> Option<Totals>
     requires { length text.now ≤ 4096 }
     ensures { option_map so_far result ≡ left false (Ok nothing) text.now }
@@ -114,7 +114,7 @@ fn read_items(text: &[u8]) -> Option<Totals>
     Some(items.totals)
 }
 
-/// What the text of the style `iso_8601` comes to.
+/// The sums of a text of the style `iso_8601`. `None` comes where the shape is broken.
 fn read_iso(text: &[u8]) -> Option<Totals>
     requires { length text.now ≤ 4096 }
     ensures { answered (option_map so_far result) ≡ of_shape Iso8601 (iso_pairs text.now) }
@@ -131,9 +131,9 @@ fn read_iso(text: &[u8]) -> Option<Totals>
 
 impl Interval {
     /// The interval that the text stands for in the style `iso_8601`, as `P1Y2M3DT4H5M6.7S`: `P`,
-    /// then numbers with their letters, those of the time behind a `T`.
+    /// then numbers with their letters, and a `T` before those of the time.
     ///
-    /// The refusals are those of `from_postgres`.
+    /// The errors are those of `from_postgres`.
     pub fn from_iso(text: &str) -> Result<Interval, ParseError>
         ensures { result ≡ reading Iso8601 text.now }
     {

@@ -1,6 +1,5 @@
 // A first try at reading the style `iso_8601`: items whose numbers lie below 2 ^ 31, and six digits
-// behind a point. It answers for the texts that it knows, and leaves all others to the whole
-// reader.
+// after a point. It reads the texts that it knows, and leaves all others to the whole reader.
 ghost use Rattle.std.specs.Prelude.{◌≡◌, ◌≤◌, ◌<◌, ◌^◌, ◌∷◌, true, false, length, IfSome, Some, Ok};
 ghost use Rattle.pg_interval.specs.Pairs.{nothing};
 ghost use Rattle.pg_interval.specs.Reader.{time_unit};
@@ -15,7 +14,7 @@ use super::number::{after_byte, sign_of};
 use super::parts::Unit;
 use crate::pg_interval::Interval;
 
-/// What the items so far come to, and whether the `T` stood among them.
+/// The sums of the items so far, and whether the `T` was among them.
 #[derive(Clone, Copy)]
 pub(super) struct Sums {
     in_time: bool,
@@ -78,8 +77,8 @@ impl Sums {
         }
     }
 
-    /// Takes the item in front of the text, and returns the rest. `None` comes where it isn't
-    /// written so.
+    /// Takes the item at the front of the text, and returns the rest. `None` comes where this
+    /// reader doesn't know the item.
     #[inline(always)]
     fn take_item<'a>(&mut self, text: &'a [u8]) -> Option<&'a [u8]>
         ensures left { IfSome result
@@ -113,8 +112,8 @@ impl Sums {
         Some(rest)
     }
 
-    /// Takes the `T` or the item in front of the text, and returns the rest. `None` comes where
-    /// they aren't written so.
+    /// Takes the `T` or the item at the front of the text, and returns the rest. `None` comes where
+    /// this reader doesn't know the item.
     #[inline(always)]
     fn take_front<'a>(&mut self, text: &'a [u8]) -> Option<&'a [u8]>
         ensures left { IfSome result
@@ -144,8 +143,8 @@ fn without_minus(text: &[u8]) -> &[u8]
     rest
 }
 
-/// The number of the six digits between a point and `S` in front of the text, and what stands
-/// behind the `S`.
+/// The number of the six digits between a point and `S` at the front of the text, and what follows
+/// the `S`.
 #[inline(always)]
 fn fraction_front(text: &[u8]) -> Option<(u64, &[u8])>
     ensures { IfSome result (λ front. IsFraction front.0 text.now front.1.now) }
@@ -165,7 +164,7 @@ fn fraction_front(text: &[u8]) -> Option<(u64, &[u8])>
     Some((fraction, rest))
 }
 
-/// What the text behind its `P` comes to. `None` comes where it isn't written so.
+/// The sums of the text after its `P`. `None` comes where this reader doesn't know the text.
 #[inline(always)]
 fn read_items(text: &[u8]) -> Option<Sums>
     ensures { IfSome result (λ sums. left false (Ok nothing) text.now ≡ Some (Ok (sums_of sums))) }
@@ -186,8 +185,8 @@ fn read_items(text: &[u8]) -> Option<Sums>
     Some(sums)
 }
 
-/// The interval of a `P` and items. `None` comes where the text isn't written so, or may be
-/// refused.
+/// The interval of a `P` and items. `None` comes where this reader doesn't know the text, or the
+/// text may be refused.
 pub(super) fn read_short(text: &[u8]) -> Option<Interval>
     ensures { IfSome result (λ i. of_shape Iso8601 (iso_pairs text.now) ≡ Ok i) }
 {

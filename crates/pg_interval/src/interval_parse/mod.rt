@@ -17,7 +17,7 @@ mod texts;
 mod totals;
 
 /// A law: what a style prints, its reader reads back as the same interval, whatever the interval.
-/// It does nothing.
+/// The function does nothing: its contract is the law.
 pub fn printed_texts_are_read_back()
     ensures postgres { (i : Interval) → IsInterval i
         → reading Postgres (printed Postgres i) ≡ Ok i }

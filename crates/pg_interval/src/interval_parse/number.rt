@@ -15,7 +15,7 @@ use interval_errors::DecimalError;
 /// The most digits after the point.
 const MOST_PLACES: usize = 18;
 
-/// The number that the digits write, or the largest word where it is larger.
+/// The number that the digits write, or the greatest u64 where the number is larger.
 #[inline(always)]
 pub(super) fn digits_value(digits: &[u8]) -> u64
     requires { list_all is_digit digits.now ≡ true }
@@ -43,8 +43,8 @@ pub(super) fn without_sign(text: &[u8]) -> &[u8]
     rest
 }
 
-/// The decimal that the text is, its sign turned if `turn` says so: a sign that may be missing,
-/// digits, and one point at most.
+/// The decimal that the text is, its sign turned if `turn` says so: an optional sign, digits, and
+/// at most one point.
 pub(super) fn decimal(text: &[u8], turn: bool) -> Result<Number, DecimalError>
     ensures { number_read result ≡ number_held turn (decimal_of text.now) }
 {
@@ -89,8 +89,8 @@ pub(super) fn number_of(negative: bool, whole: &[u8], fraction: &[u8]) -> Number
     }
 }
 
-/// The digits behind the point where one stands, or none. `None` comes where something else stands
-/// there.
+/// The digits after the point, or no digits where nothing is left. `None` comes where anything else
+/// is left.
 #[inline(always)]
 pub(super) fn fraction_after(rest: &[u8]) -> Option<&[u8]>
     ensures { MatchOption result (fraction_after rest.now ≡ None) (λ f. fraction_after rest.now
@@ -109,7 +109,8 @@ pub(super) fn fraction_after(rest: &[u8]) -> Option<&[u8]>
     Some(digits)
 }
 
-/// What stands behind this byte. `None` comes where the text doesn't begin with it.
+/// What follows this byte at the front of the text. `None` comes where the text doesn't begin with
+/// it.
 #[inline(always)]
 pub(super) fn after_byte(byte: u8, text: &[u8]) -> Option<&[u8]>
     ensures { MatchOption result (begins (λ c. c == byte) text.now ≡ false) (λ rest. text.now
@@ -143,7 +144,7 @@ impl Number {
         self.whole < least || (self.negative && self.whole == least)
     }
 
-    /// What is left after the point, in so many parts of the unit, rounded half up.
+    /// The part after the point, as a number of `parts`-ths of the unit, rounded half up.
     #[inline(always)]
     fn rounded(self, parts: u64) -> u128
         requires { parts ≤ 1000000 }

@@ -16,7 +16,7 @@ pub(super) enum Unit {
 }
 
 /// A number of a text: whole + fraction / 10 ^ places, negated if it is negative. A whole part that
-/// no word holds is kept as the largest word, which lies outside every field.
+/// no u64 holds is kept as the greatest u64, which lies outside every field.
 #[derive(Clone, Copy)]
 pub(super) struct Number {
     pub(super) negative: bool,
@@ -34,7 +34,7 @@ pub(super) struct Amount {
     pub(super) microseconds: u128,
 }
 
-/// What the numbers so far come to, or the refusal of the first of them that failed.
+/// The sums of the numbers so far, or the error of the first of them that failed.
 #[derive(Drop)]
 pub(super) struct Totals {
     pub(super) plus: Amount,
@@ -57,7 +57,7 @@ pub(super) struct Seen {
     pub(super) second: bool,
 }
 
-/// What the tokens so far come to: one number of a unit at most.
+/// The sums of the tokens so far, with at most one number of each unit.
 #[derive(Drop)]
 pub(super) struct Words {
     pub(super) seen: Seen,
@@ -73,7 +73,7 @@ pub(super) struct Clock {
     pub(super) seconds: Number,
 }
 
-/// What the items so far come to, and whether the `T` stood among them.
+/// The sums of the items so far, and whether the `T` was among them.
 #[derive(Drop)]
 pub(super) struct Items {
     pub(super) in_time: bool,

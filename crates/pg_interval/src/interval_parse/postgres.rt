@@ -172,8 +172,8 @@ impl Words {
         Some(trim_start(rest))
     }
 
-    /// Takes the tokens in front of the text that belong together, a time or a number and its word,
-    /// and returns the rest from its next token on. `None` comes where the shape is broken.
+    /// Takes the tokens at the front of the text that belong together, a time or a number and its
+    /// word, and returns the rest from its next token on. `None` comes where the shape is broken.
     fn take_front<'a>(&mut self, text: &'a [u8], verbose: bool, turn: bool) -> Option<&'a [u8]>
         requires filled { 0 < length text.now }
         requires solid { begins is_whitespace text.now ≡ false }
@@ -196,7 +196,8 @@ impl Words {
         self.pass_pair(number, next, rest, verbose, turn)
     }
 
-    /// Takes what `take_front` takes: at once where it is a small number, a space and a word.
+    /// Takes what `take_front` takes, and is faster where that is a small number, a space and a
+    /// word.
     #[inline(always)]
     fn take_next<'a>(&mut self, text: &'a [u8], verbose: bool, turn: bool) -> Option<&'a [u8]>
         requires filled { 0 < length text.now }
@@ -257,7 +258,7 @@ fn unit_of(word: &[u8], verbose: bool) -> Option<Unit>
     }
 }
 
-/// What the text's tokens come to, their signs turned if `turn` says so. `None` comes where the
+/// The sums of the text's tokens, their signs turned if `turn` says so. `None` comes where the
 /// shape is broken.
 fn read_words(text: &[u8], verbose: bool, turn: bool) -> Option<Totals>
     ensures { option_map so_far result ≡ left verbose turn start text.now }
@@ -273,7 +274,7 @@ fn read_words(text: &[u8], verbose: bool, turn: bool) -> Option<Totals>
     Some(words.totals)
 }
 
-/// The interval that the sums come to. Where there are none, the text's shape was broken.
+/// The interval of the sums. None says that the text's shape was broken.
 pub(super) fn interval_of(totals: Option<Totals>) -> Result<Interval, ParseError>
     ensures { result ≡ answered (option_map so_far totals) }
 {
@@ -283,7 +284,7 @@ pub(super) fn interval_of(totals: Option<Totals>) -> Result<Interval, ParseError
     }
 }
 
-/// What the text between `@` and `ago` comes to.
+/// The sums of the text between `@` and `ago`.
 fn read_within(text: &[u8], turn: bool) -> Option<Totals>
     ensures { option_map so_far result ≡ within_left turn text.now }
 {
@@ -293,7 +294,7 @@ fn read_within(text: &[u8], turn: bool) -> Option<Totals>
     read_words(text, true, turn)
 }
 
-/// What the text of the style `postgres_verbose` comes to.
+/// The sums of a text of the style `postgres_verbose`. `None` comes where the shape is broken.
 fn read_verbose(text: &[u8]) -> Option<Totals>
     ensures { answered (option_map so_far result)
         ≡ of_shape PostgresVerbose (verbose_pairs text.now) }
@@ -313,9 +314,9 @@ impl Interval {
     /// The interval that the text stands for in the style `postgres`, as `1 year 2 mons 3 days
     /// 04:05:06.7`: times, and numbers with their words, in any order.
     ///
-    /// A text of more than 4,096 bytes is `InvalidInterval(TooLong)` and one of another shape
-    /// `InvalidInterval(Shape)`. Then comes the first number that fails, a `ParseFloatErr`, and
-    /// then a sum that leaves its type.
+    /// A text of more than 4,096 bytes is `InvalidInterval(TooLong)`, and one of another shape is
+    /// `InvalidInterval(Shape)`. Then comes the error of the first number that fails, a
+    /// `ParseFloatErr`, and then that of a sum that leaves its type.
     pub fn from_postgres(text: &str) -> Result<Interval, ParseError>
         ensures { result ≡ reading Postgres text.now }
     {
@@ -330,7 +331,7 @@ impl Interval {
     /// -3 days ago`: `@`, and what `from_postgres` reads. With `ago` at the end each number has the
     /// other sign.
     ///
-    /// The refusals are those of `from_postgres`.
+    /// The errors are those of `from_postgres`.
     pub fn from_postgres_verbose(text: &str) -> Result<Interval, ParseError>
         ensures { result ≡ reading PostgresVerbose text.now }
     {

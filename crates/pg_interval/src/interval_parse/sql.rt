@@ -39,7 +39,7 @@ fn field_number(field: &[u8], minus: bool) -> Result<Number, IntError>
     Ok(number_of(minus, field, b""))
 }
 
-/// The number that the digits after the point are, of which there are six at most.
+/// The number of the digits after the point, at most six of them.
 #[inline(always)]
 fn fraction_number(fraction: &[u8], minus: bool) -> Result<Number, IntError>
     requires { length fraction.now ≤ 6 }
@@ -203,7 +203,7 @@ impl Totals {
         self.take_year_month(first)
     }
 
-    /// Takes days and a time, which has the sign before the days where it has none. `false` comes
+    /// Takes days and a time. A time without a sign has the sign before the days. `false` comes
     /// where they have another shape.
     fn take_two(&mut self, first: &[u8], second: &[u8]) -> bool
         requires { self.old.count + 5 ≤ 16384 }
@@ -234,7 +234,7 @@ impl Totals {
     }
 }
 
-/// Is the sign of the time a minus? It is the sign before the days where the time has none.
+/// Is the sign of the time a minus? A time without a sign has the sign before the days.
 #[inline(always)]
 pub(super) fn sign_of_two(first: &[u8], second: &[u8]) -> bool
     ensures { result ≡ begins is_minus (if begins is_sign second.now then second.now
@@ -246,7 +246,7 @@ pub(super) fn sign_of_two(first: &[u8], second: &[u8]) -> bool
     sign_of(first, false)
 }
 
-/// The first token of the text, and what stands behind it. Both are empty where there is none.
+/// The first token of the text, and what follows it. Both are empty where there is none.
 #[inline(always)]
 fn next_token(text: &[u8]) -> (&[u8], &[u8])
     ensures { tokens text.now ≡ token_first result.0.now result.1.now }
@@ -254,7 +254,7 @@ fn next_token(text: &[u8]) -> (&[u8], &[u8])
     cut(Kind::Solid, trim_start(text))
 }
 
-/// What the text of the style `sql_standard` comes to. `None` comes where the shape is broken.
+/// The sums of a text of the style `sql_standard`. `None` comes where the shape is broken.
 fn read_sql(text: &[u8]) -> Option<Totals>
     ensures { option_map so_far result ≡ answer (Ok nothing) (sql_pairs text.now) }
 {
@@ -285,7 +285,7 @@ impl Interval {
     /// The interval that the text stands for in the style `sql_standard`, as `+1-2 +3 +4:05:06.7`:
     /// years and months, days and a time, a time alone, or all three.
     ///
-    /// The refusals are those of `from_postgres`, but a number that fails is a `ParseIntErr`.
+    /// The errors are those of `from_postgres`, but a number that fails is a `ParseIntErr`.
     pub fn from_sql(text: &str) -> Result<Interval, ParseError>
         ensures { result ≡ reading SqlStandard text.now }
     {

@@ -1,5 +1,5 @@
-// A first try at reading the style `sql_standard`: the printed forms that have a time. It answers
-// for the texts that it knows, and leaves all others to the whole reader.
+// A first try at reading the style `sql_standard`: the printed forms that have a time. It reads the
+// texts that it knows, and leaves all others to the whole reader.
 ghost use Rattle.std.specs.Prelude.{◌≡◌, ◌<◌, ◌^◌, Bool, true, IfSome, Ok};
 ghost use Rattle.std.specs.List.{list_any};
 ghost use Rattle.pg_interval.specs.Texts.{begins, is_colon, is_minus};
@@ -13,8 +13,8 @@ use super::number::{after_byte, sign_of, without_sign};
 use super::sql::sign_of_two;
 use crate::pg_interval::Interval;
 
-/// The months that years and months in front of the text come to, without their sign, and what
-/// stands behind them.
+/// The months in the years and months at the front of the text, without their sign, and what
+/// follows them.
 #[inline(always)]
 fn months_front(text: &[u8]) -> Option<(u64, &[u8])>
     ensures amount { let minus = begins is_minus text.now in IfSome result
@@ -34,7 +34,7 @@ fn months_front(text: &[u8]) -> Option<(u64, &[u8])>
     Some((12 * years + months, rest))
 }
 
-/// The days in front of the text, without their sign, and what stands behind them.
+/// The days at the front of the text, without their sign, and what follows them.
 #[inline(always)]
 fn days_front(text: &[u8]) -> Option<(u64, &[u8])>
     ensures amount { let minus = begins is_minus text.now in IfSome result
@@ -100,8 +100,8 @@ fn time(text: &[u8]) -> Option<u64>
     Some(3_600_000_000 * hours + 60_000_000 * minutes + rest)
 }
 
-/// The interval of years and months, days and a time. `None` comes where the text isn't written so,
-/// or may be refused.
+/// The interval of years and months, days and a time. `None` comes where this reader doesn't know
+/// the text, or the text may be refused.
 pub(super) fn read_three(text: &[u8]) -> Option<Interval>
     ensures { IfSome result (λ i. of_shape SqlStandard (sql_pairs text.now) ≡ Ok i) }
 {
@@ -127,8 +127,8 @@ pub(super) fn read_three(text: &[u8]) -> Option<Interval>
     )
 }
 
-/// The interval of days and a time, which has the sign before the days where it has none. `None`
-/// comes where the text isn't written so, or may be refused.
+/// The interval of days and a time. A time without a sign has the sign before the days. `None`
+/// comes where this reader doesn't know the text, or the text may be refused.
 #[inline(always)]
 fn read_two(text: &[u8]) -> Option<Interval>
     ensures { IfSome result (λ i. of_shape SqlStandard (sql_pairs text.now) ≡ Ok i) }
@@ -149,8 +149,8 @@ fn read_two(text: &[u8]) -> Option<Interval>
     )
 }
 
-/// The interval of a time, or of days and a time. `None` comes where the text isn't written so, or
-/// may be refused.
+/// The interval of a time, or of days and a time. `None` comes where this reader doesn't know the
+/// text, or the text may be refused.
 pub(super) fn read_fewer(text: &[u8]) -> Option<Interval>
     ensures { IfSome result (λ i. of_shape SqlStandard (sql_pairs text.now) ≡ Ok i) }
 {

@@ -9,7 +9,7 @@ ghost use Rattle.pg_interval.specs.Reader.{is_kind};
 /// The most bytes of a text that is read.
 pub(super) const LONGEST_TEXT: usize = 4096;
 
-/// A kind of bytes that stand in a row.
+/// The kind of the bytes in a run.
 #[derive(Clone, Copy)]
 pub(super) enum Kind {
     /// A decimal digit.
@@ -115,7 +115,7 @@ pub(super) fn run_len(kind: Kind, text: &[u8]) -> usize
     text.len()
 }
 
-/// The bytes of this kind that the text begins with, and what stands behind them.
+/// The bytes of this kind that the text begins with, and what follows them.
 #[inline(always)]
 pub(super) fn cut(kind: Kind, text: &[u8]) -> (&[u8], &[u8])
     ensures parts { text.now ≡ result.0.now ++ result.1.now }

@@ -26,7 +26,7 @@ impl Amount {
         }
     }
 
-    /// The sum of both where it is wanted, else this amount alone.
+    /// The sum of both if it is wanted, else this amount alone.
     #[inline(always)]
     fn with(self, wanted: bool, more: Amount) -> Amount
         requires self_within { IsWithin 16384 self }
@@ -95,7 +95,7 @@ impl Totals {
         }
     }
 
-    /// Keeps the refusal, unless an earlier number failed.
+    /// Keeps the error, unless an earlier number failed.
     #[inline(always)]
     pub(super) fn refuse(&mut self, error: ParseError)
         ensures sums { so_far self.new ≡ joined (so_far self.old) (Err error) }
@@ -106,7 +106,7 @@ impl Totals {
         }
     }
 
-    /// The interval of the three sums, or the refusal.
+    /// The interval of the three sums, or the error.
     pub(super) fn interval(self) -> Result<Interval, ParseError>
         ensures { result ≡ judged (so_far self) }
     {
@@ -129,7 +129,7 @@ impl Totals {
     }
 }
 
-/// What is left of the first number after the second is taken off.
+/// The first number less the second.
 #[inline(always)]
 fn difference(plus: u128, minus: u128) -> i128
     requires plus { plus < 2 ^ 126 }

@@ -1,6 +1,5 @@
-//! What each message is answered while the session is ready. The messages of which most of a
-//! conversation consists are answered as their own types, so that none of them is moved as one of
-//! all messages.
+//! How each message is answered while the session is ready. The most frequent messages are answered
+//! as their own types, so that they needn't be moved as the larger enum of all messages.
 
 ghost use Rattle.std.specs.Prelude.{◌≡◌};
 ghost use Rattle.pg_results.specs.declared.client.PgWireConnectionState.TheVariants as phase;
@@ -26,13 +25,13 @@ use std::mem::drop;
 
 /// A message that a ready session reads and answers as its own type.
 pub(crate) trait ReadyMessage: TypedMessage {
-    /// Whether an error of the message waits for Sync.
+    /// Whether the session waits for Sync after an error of the message.
     fn waits_for_sync() -> bool
         ensures { (message : Self) → scope_for result ≡ scope_in
             phase.ReadyForQuery
             (Self.TypedMessage.message message) };
 
-    /// Answers the message, but for what follows an error.
+    /// Answers the message. What follows an error is left to the caller.
     fn answer<
         H: PgWireServerHandlers,
         St: PortalStore<
@@ -257,7 +256,7 @@ impl ReadyMessage for Query {
     }
 }
 
-/// The same answer, of a message that doesn't end the conversation.
+/// The same result, as that of a message that doesn't end the conversation.
 #[inline(always)]
 fn going(answer: Result<(), SessionError>) -> Result<Option<EndKind>, SessionError>
     ensures { result ≡ going answer }
@@ -268,7 +267,7 @@ fn going(answer: Result<(), SessionError>) -> Result<Option<EndKind>, SessionErr
     }
 }
 
-/// A message of a session that is ready.
+/// Answers a message while the session is ready.
 #[inline(always)]
 pub(crate) fn on_ready<
     H: PgWireServerHandlers,
@@ -320,8 +319,8 @@ pub(crate) fn on_ready<
     }
 }
 
-/// A message of a session that is ready and that isn't answered as its own type: Flush goes to its
-/// handler, Terminate ends the conversation, and messages of a COPY are dropped.
+/// Answers a message that isn't answered as its own type, while the session is ready: Flush goes to
+/// its handler, Terminate ends the conversation, and messages of a COPY are dropped.
 #[inline(never)]
 fn on_rarer<
     H: PgWireServerHandlers,

@@ -1,4 +1,4 @@
-//! What a message is answered while the session isn't ready: before the startup packet, in a COPY
+//! How a message is answered while the session isn't ready: before the startup packet, in a COPY
 //! from the client, and after an error in an extended message, up to Sync.
 
 ghost use Rattle.std.specs.Prelude.{◌≡◌, ◌≢◌, Some, IfOk, IfErr, OnOk};
@@ -27,7 +27,7 @@ use pg_startup::on_startup_phase;
 use std::alloc::Global;
 use std::mem::drop;
 
-/// The same answer, with an error of a message as one of a session.
+/// The same result, with an error of a message as one of a session.
 #[inline(always)]
 fn with_session_error(
     answer: Result<Option<EndKind>, PgWireError>,
@@ -40,7 +40,7 @@ fn with_session_error(
     }
 }
 
-/// A message of a session that isn't ready. It spends no turns.
+/// Answers a message while the session isn't ready. It spends no turns.
 #[inline(never)]
 pub(crate) fn on_unready<
     H: PgWireServerHandlers,
@@ -78,7 +78,7 @@ pub(crate) fn on_unready<
     }
 }
 
-/// A message after an error: all but Sync and Terminate is dropped.
+/// Answers a message after an error: every one but Sync and Terminate is dropped.
 #[inline(never)]
 fn on_awaiting_sync<
     H: PgWireServerHandlers,
@@ -117,7 +117,8 @@ fn on_awaiting_sync<
     }
 }
 
-/// A message of a COPY from the client: all but those of the COPY and Terminate are dropped.
+/// Answers a message during a COPY from the client: every one but those of the COPY and Terminate
+/// is dropped.
 #[inline(never)]
 fn on_copy<
     H: PgWireServerHandlers,
@@ -154,7 +155,7 @@ fn on_copy<
     }
 }
 
-/// A message of a COPY from the client that doesn't end the conversation.
+/// Answers a message during a COPY from the client, where the message doesn't end the conversation.
 fn on_copied<
     H: PgWireServerHandlers,
     St: PortalStore<
@@ -196,7 +197,7 @@ fn on_copied<
     }
 }
 
-/// All data of a COPY have come.
+/// Answers CopyDone: all data of the COPY have come.
 fn copy_done<
     H: PgWireServerHandlers,
     St: PortalStore<
@@ -233,8 +234,8 @@ fn copy_done<
     Ok(())
 }
 
-/// The COPY is done: in a Query ReadyForQuery with the status that was kept, in an extended query
-/// nothing is said.
+/// Ends a COPY. One that a Query began ends with ReadyForQuery and the status that was kept. One
+/// that an Execute began ends without a reply.
 fn end_copy<St: PortalStore>(client: &mut Client<St>, is_extended: bool) -> Result<(), PgWireError>
     ensures ok { OnOk result (IsEffect
         (copied is_extended (state_of St.maps client.old))

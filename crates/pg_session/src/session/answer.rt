@@ -44,11 +44,11 @@ fn stays_open(outcome: &Result<Option<EndKind>, SessionError>) -> bool
     }
 }
 
-/// Answers a message, but for what follows an error. Its replies wait in the session's outbox, and
-/// are sent by the next `feed` before its own. Some(end) says that the conversation has ended. An
-/// error of the message leaves the session open, without its ErrorResponse and all that follows it:
-/// `process_error` does that. TurnLimit comes where a query wants a turn and none is left. An end,
-/// want of memory and TurnLimit close the session.
+/// Answers a message. Its replies wait in the session's outbox, and the next `feed` sends them
+/// before its own. Some(end) says that the conversation has ended. An error of the message leaves
+/// the session open. Its ErrorResponse and what follows that aren't appended yet: `process_error`
+/// does so. TurnLimit comes where a query needs a turn and none is left. An end, NoMemory and
+/// TurnLimit close the session.
 #[inline(always)]
 pub fn process_message<
     H: PgWireServerHandlers,
@@ -94,7 +94,7 @@ pub fn process_message<
     outcome
 }
 
-/// Appends the ErrorResponse of an error, and tells whether its severity is FATAL.
+/// Appends the ErrorResponse of an error, and returns whether its severity is FATAL.
 #[cold]
 #[inline(never)]
 fn tell_error(alloc: Global, outbox: &mut Outbox, error: PgWireError) -> Result<bool, AllocError>
@@ -110,7 +110,7 @@ fn tell_error(alloc: Global, outbox: &mut Outbox, error: PgWireError) -> Result<
     Ok(is_fatal)
 }
 
-/// Appends an ErrorResponse, and lets it go.
+/// Appends an ErrorResponse, and drops it.
 fn push_error(outbox: &mut Outbox, info: ErrorInfo) -> Result<(), AllocError>
     requires { IsEncodable (error_reply info) }
     ensures { OnOk result (outbox.new ≡ outbox.old ++ reply_bytes (error_reply info)) }
@@ -118,14 +118,15 @@ fn push_error(outbox: &mut Outbox, info: ErrorInfo) -> Result<(), AllocError>
     outbox.push(&PgWireBackendMessage::ErrorResponse(ErrorResponse { info }))
 }
 
-/// Tells the client an error of a message, and does what follows it: ErrorResponse, and where the
-/// error's severity is FATAL the end; else the transaction status of an error, and the wait for
-/// Sync where that is wanted (after an extended message or in a COPY of one), or ReadyForQuery. The
-/// session is open, and the error is no want of memory. Before the startup packet an error is
-/// FATAL: any other would leave the client without its startup replies.
+/// Tells the client an error of a message, and does what follows it. ErrorResponse is appended.
+/// Where the error's severity is FATAL, the conversation ends. Else the transaction status becomes
+/// that of an error. Then the session waits for Sync, where `wait_for_sync` is true (after an
+/// extended message, or in a COPY that an Execute began); else ReadyForQuery is appended. The
+/// session has to be open, and the error must not be NoMemory. An error before the startup packet
+/// should be FATAL: any other would leave the client without its startup replies.
 ///
-/// The replies wait for the next `feed`. An end closes the session, and so does AllocError, after
-/// which nothing more is said of what waits.
+/// The replies wait for the next `feed`. An end closes the session. So does AllocError, after which
+/// nothing is known of the replies that wait.
 #[cold]
 #[inline(never)]
 pub fn process_error<
@@ -157,7 +158,7 @@ pub fn process_error<
     outcome
 }
 
-/// Whether a session is open after an error that it told.
+/// Whether a session is open after it told the client an error.
 fn goes_on(outcome: &Result<Option<EndKind>, AllocError>) -> bool
     ensures { result ≡ goes_on outcome.now }
 {
@@ -200,7 +201,8 @@ fn error_told<St: PortalStore>(
     Ok(None)
 }
 
-/// Whether an error of a message waits for Sync: it does but in a Query, and in a COPY of one.
+/// Whether the session waits for Sync after an error of a message. It does, but not after a Query
+/// or in a COPY that a Query began.
 #[inline(always)]
 fn waits_for_sync(state: PgWireConnectionState, message: &PgWireFrontendMessage) -> bool
     ensures { scope_for result ≡ scope_in state message.now }
@@ -220,10 +222,10 @@ impl<
     >,
 > Session<H, St> {
     /// Answers a message, as the conversation table says, and does what follows its error. The
-    /// replies wait until they are sent. Some(end) says that the conversation has ended, after
-    /// which the session is closed. So it is after an error: TurnLimit where a query wanted a turn
-    /// and none was left, NoMemory where memory ran out. After an error nothing is known of the
-    /// replies that wait: they are not to be sent.
+    /// replies wait until they are sent. Some(end) says that the conversation has ended, and the
+    /// session is closed then. An error closes it too: TurnLimit where a query needed a turn and
+    /// none was left, NoMemory where memory ran out. After an error nothing is known of the replies
+    /// that wait: don't send them.
     #[inline(never)]
     pub fn answer<D: CancelDesk>(
         &mut self,
@@ -244,7 +246,7 @@ impl<
         }
     }
 
-    /// Answers a message of a session that is ready as its own type, as `answer` does.
+    /// Answers a message as its own type while the session is ready. It does what `answer` does.
     #[inline(always)]
     pub(crate) fn answer_as<M: ReadyMessage, D: CancelDesk>(
         &mut self,
@@ -266,7 +268,7 @@ impl<
         }
     }
 
-    /// Ends the session for want of a turn, or does what follows an error of a message.
+    /// Closes the session at TurnLimit, or does what follows an error of a message.
     #[cold]
     #[inline(never)]
     fn fail(
@@ -290,8 +292,8 @@ impl<
         }
     }
 
-    /// Tells the client an error of a message, and does what follows it. Want of memory isn't told,
-    /// and closes the session.
+    /// Tells the client an error of a message, and does what follows it. NoMemory isn't told. It
+    /// closes the session.
     #[cold]
     #[inline(never)]
     fn tell(

@@ -30,7 +30,7 @@ fn flush<K: Sink>(outbox: &mut Outbox, sink: &mut K) -> Result<(), ServeError>
     Ok(())
 }
 
-/// Sends what waits in the outbox, and gives back the memory that waited to be written again.
+/// Sends what waits in the outbox, and frees the memory that was kept for the next chunk.
 fn flush_all<K: Sink>(outbox: &mut Outbox, sink: &mut K) -> Result<(), ServeError>
     ensures empty { OnOk result (outbox.new ≡ []) }
     ensures ok { OnOk result (GrowsBy (K.written sink.old) (K.written sink.new) outbox.old) }
@@ -74,7 +74,7 @@ impl<
     >,
 > Session<H, St> {
     /// Sends all the replies that wait, each chunk by one call of the sink. After an error some of
-    /// them may have been sent, and it isn't told which wait still.
+    /// them may have been sent, and nothing is known of those that still wait.
     pub fn flush<K: Sink>(&mut self, sink: &mut K) -> Result<(), ServeError>
         ensures empty { OnOk result (self.new.unsent ≡ []) }
         ensures ok { OnOk result (GrowsBy (K.written sink.old) (K.written sink.new)
@@ -88,7 +88,7 @@ impl<
         flush_all(&mut self.client.outbox, sink)
     }
 
-    /// Sends what waits where it is a chunk or more. Some tells that this failed.
+    /// Sends what waits where it is a chunk or more. Some has the error where this failed.
     #[inline(always)]
     fn sent_if_full<K: Sink>(&mut self, sink: &mut K) -> Option<Result<Progress, ServeError>>
         ensures sent { SentBehind (K.written sink.old) (K.written sink.new) self.old.unsent
@@ -103,7 +103,7 @@ impl<
         }
     }
 
-    /// Answers the whole frames of the bytes, and sends all that is answered.
+    /// Answers each whole frame of the bytes that the session holds, and sends all replies.
     fn run<D: CancelDesk, K: Sink>(
         &mut self,
         alloc: Global,
@@ -136,8 +136,8 @@ impl<
         }
     }
 
-    /// Takes a step. None says that the next one follows; where none does, all that is answered is
-    /// sent.
+    /// Takes a step. None says that another step follows. Some(Ok) says that none does, and that
+    /// all replies were sent.
     #[inline(always)]
     fn advance<D: CancelDesk, K: Sink>(
         &mut self,
@@ -170,8 +170,9 @@ impl<
         self.told_behind(sink, step)
     }
 
-    /// Sends all that waits where a step tells something, and tells it then; where it tells nothing,
-    /// what waits if it is a chunk or more. An error is told at once.
+    /// Sends the replies that wait after a step. Where no other step follows, all of them are sent,
+    /// and the step's result is returned. Where another follows, they are sent if they are a chunk
+    /// or more. An error of the step is returned at once.
     #[inline(always)]
     fn told_behind<K: Sink>(
         &mut self,
@@ -197,11 +198,11 @@ impl<
     }
 
     /// Takes a piece of the client's bytes, sends what waits, and writes the whole answer to the
-    /// messages that the piece completes. Ok(More) says that no whole frame is left: then the
+    /// messages that the piece completes. Ok(More) says that no whole frame is left. Then the
     /// session holds at most 9,999 bytes before the startup packet, and 1,048,576 after it.
-    /// Ok(Ended(kind)) says that the conversation has ended, after which the session is closed. So
-    /// it is after an error: WriteFault where the sink failed, TurnLimit where a query wanted a
-    /// turn and none was left, NoMemory where memory ran out. ReadFault never comes.
+    /// Ok(Ended(kind)) says that the conversation has ended, and the session is closed then. An
+    /// error closes it too: WriteFault where the sink failed, TurnLimit where a query needed a turn
+    /// and none was left, NoMemory where memory ran out. ReadFault never comes.
     pub fn feed<D: CancelDesk, K: Sink>(
         &mut self,
         alloc: Global,

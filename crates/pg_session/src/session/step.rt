@@ -26,7 +26,7 @@ fn awaits_startup(state: PgWireConnectionState) -> bool
     matches!(state, PgWireConnectionState::AwaitingStartup)
 }
 
-/// What a step tells where no message could be read.
+/// The result of a step where no message could be read.
 fn unread(error: FrameError) -> Result<Option<Progress>, ServeError>
     ensures { result ≡ unread error }
 {
@@ -36,7 +36,8 @@ fn unread(error: FrameError) -> Result<Option<Progress>, ServeError>
     }
 }
 
-/// What a step tells of the answer to a message: its end, if it has one, or its error.
+/// The result of a step that answered a message: how the conversation ended, if it did, or the
+/// error.
 #[inline(always)]
 fn told_end(answer: Result<Option<EndKind>, ServeError>) -> Result<Option<Progress>, ServeError>
     ensures { result ≡ told_end answer }
@@ -55,7 +56,7 @@ impl<
     >,
 > Session<H, St> {
     /// Takes the next message off the bytes and answers it. None says that the conversation goes on
-    /// with the next one. What is answered waits to be sent.
+    /// with the next one. The replies wait to be sent.
     #[inline(always)]
     pub(crate) fn step<D: CancelDesk>(
         &mut self,
@@ -77,8 +78,8 @@ impl<
         }
     }
 
-    /// A step by the message that this type byte begins, of a session that is ready. It is a
-    /// function of its own so that neither proof is long.
+    /// Takes a step where this type byte begins the next message and the session is ready. It is
+    /// separate from `step` so that neither proof is long.
     #[inline(always)]
     fn step_by<D: CancelDesk>(
         &mut self,
@@ -113,7 +114,8 @@ impl<
         }
     }
 
-    /// A step by a message that its type byte tells, read and answered as its own type.
+    /// Takes a step by a message whose type byte is that of `M`. The message is read and answered
+    /// as its own type.
     #[inline(always)]
     fn step_as<M: ReadyMessage, D: CancelDesk>(
         &mut self,
@@ -134,8 +136,8 @@ impl<
         }
     }
 
-    /// Takes the next message off the bytes, which its type byte begins. After None and after an error
-    /// nothing has changed.
+    /// Takes the next message, whose type byte is that of `M`, off the bytes. After None and after
+    /// an error nothing has changed.
     #[inline(always)]
     fn next_typed<M: TypedMessage>(&mut self, alloc: Global) -> Result<Option<M>, FrameError>
         requires ready { self.old.state.info.state ≡ phase.ReadyForQuery }
@@ -153,7 +155,7 @@ impl<
         decode_typed::<M>(alloc, &mut self.rest)
     }
 
-    /// A step by a message of any type, in any phase.
+    /// Takes a step by a message of any type, in any phase.
     #[inline(always)]
     fn step_any<D: CancelDesk>(
         &mut self,
@@ -171,8 +173,8 @@ impl<
         }
     }
 
-    /// Takes the next message off the bytes. Err has what a step tells where they begin with no good
-    /// frame: more of them are awaited, or the conversation ends, or memory was wanting.
+    /// Takes the next message off the bytes. Where they begin with no good frame, Err has the
+    /// result of the step: more bytes are awaited, the conversation ends, or memory ran out.
     #[inline(always)]
     fn next_message(
         &mut self,

@@ -6,6 +6,7 @@ use crate::format::words::{is_name, trimmed};
 use pg_types::{BYTEA_OUTPUT_HEX, CellError};
 use std::alloc::Global;
 
+/// The name of the output of byte strings with escapes.
 pub const BYTEA_OUTPUT_ESCAPE: &str = "escape";
 
 /// How byte strings are written as text (`bytea_output`).
@@ -13,7 +14,7 @@ pub const BYTEA_OUTPUT_ESCAPE: &str = "escape";
 pub enum ByteaOutput {
     /// Two hexadecimal digits for each byte.
     Hex,
-    /// Characters, and an octal escape for each byte that is none.
+    /// Characters, and an octal escape for each byte that isn't one.
     Escape,
 }
 
@@ -28,9 +29,9 @@ impl Default for ByteaOutput {
 }
 
 impl ByteaOutput {
-    /// The output that a text names: whitespace at its ends is left out, ASCII letters are lowered,
-    /// and the two are compared with their names. `InvalidOptionValue` holds a text that is none,
-    /// as it was given.
+    /// The output that a text names. Whitespace at its ends and the case of ASCII letters don't
+    /// matter. A text that names none is the error `InvalidOptionValue`, which holds the text as it
+    /// was given.
     pub fn try_from_text(alloc: Global, value: &str) -> Result<ByteaOutput, CellError>
         ensures { IsRead (or_invalid value.now (bytea_output_of value.now)) result }
     {

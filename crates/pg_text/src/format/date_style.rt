@@ -7,18 +7,25 @@ use crate::format::words::{is_name, trimmed};
 use pg_types::CellError;
 use std::alloc::{AllocError, Global};
 
+/// The name of the order day, month, year.
 pub const DATE_STYLE_ORDER_DMY: &str = "dmy";
 
+/// The name of the order month, day, year.
 pub const DATE_STYLE_ORDER_MDY: &str = "mdy";
 
+/// The name of the order year, month, day.
 pub const DATE_STYLE_ORDER_YMD: &str = "ymd";
 
+/// The name of the display style ISO.
 pub const DATE_STYLE_DISPLAY_ISO: &str = "iso";
 
+/// The name of the display style SQL.
 pub const DATE_STYLE_DISPLAY_SQL: &str = "sql";
 
+/// The name of the display style German.
 pub const DATE_STYLE_DISPLAY_GERMAN: &str = "german";
 
+/// The name of the display style Postgres.
 pub const DATE_STYLE_DISPLAY_POSTGRES: &str = "postgres";
 
 /// The order of day, month and year in a date.
@@ -40,9 +47,9 @@ impl Default for DateStyleOrder {
 }
 
 impl DateStyleOrder {
-    /// The order that a text names: whitespace at its ends is left out, ASCII letters are lowered,
-    /// and the orders are compared with their names. `InvalidOptionValue` holds a text that is
-    /// none, as it was given.
+    /// The order that a text names. Whitespace at its ends and the case of ASCII letters don't
+    /// matter. A text that names none is the error `InvalidOptionValue`, which holds the text as it
+    /// was given.
     pub fn try_from_text(alloc: Global, value: &str) -> Result<DateStyleOrder, CellError>
         ensures { IsRead (or_invalid value.now (date_order_of value.now)) result }
     {
@@ -93,9 +100,9 @@ impl Default for DateStyleDisplayStyle {
 }
 
 impl DateStyleDisplayStyle {
-    /// The style that a text names: whitespace at its ends is left out, ASCII letters are lowered,
-    /// and the styles are compared with their names. `InvalidOptionValue` holds a text that is
-    /// none, as it was given.
+    /// The style that a text names. Whitespace at its ends and the case of ASCII letters don't
+    /// matter. A text that names none is the error `InvalidOptionValue`, which holds the text as it
+    /// was given.
     pub fn try_from_text(alloc: Global, value: &str) -> Result<DateStyleDisplayStyle, CellError>
         ensures { IsRead (or_invalid value.now (date_display_of value.now)) result }
     {
@@ -132,8 +139,8 @@ pub struct DateStyle {
 }
 
 impl DateStyle {
-    /// The style and the order of a `DateStyle` text, which are split at its first `, `. Without
-    /// one there is no order. A style that isn't known is ISO, and an order that isn't known YMD.
+    /// The style and the order of a `DateStyle` text, which is split at its first `, `. Without a
+    /// `, ` there is no order. A style that isn't known is ISO, and an order that isn't known YMD.
     pub fn new(config: &str) -> DateStyle
         ensures style { display_of result ≡ display_before config.now (around_comma config.now) }
         ensures order { order_of result ≡ order_behind (around_comma config.now) }
@@ -150,7 +157,7 @@ impl DateStyle {
         }
     }
 
-    /// The pattern of a date and a time, in the words of `strftime`.
+    /// The pattern of a date and a time, in the notation of `strftime`.
     pub fn full_format_str(&self) -> &'static str
         ensures { result.now ≡ full_format (display_of self.now) (order_of self.now) }
     {
@@ -207,7 +214,7 @@ impl DateStyle {
         }
     }
 
-    /// The pattern of a time zone behind a date and a time.
+    /// The pattern of a time zone after a date and a time.
     fn zone_format_str(&self) -> &'static str
         ensures { result.now ≡ zone_format (display_of self.now) }
     {

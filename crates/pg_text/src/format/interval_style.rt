@@ -12,10 +12,13 @@ use pg_interval::{Interval, IntervalText, ParseError};
 use pg_types::{CellError, INTERVAL_STYLE_POSTGRES};
 use std::alloc::{AllocError, Global};
 
+/// The name of the style of ISO 8601.
 pub const INTERVAL_STYLE_ISO_8601: &str = "iso_8601";
 
+/// The name of the style of the SQL standard.
 pub const INTERVAL_STYLE_SQL_STANDARD: &str = "sql_standard";
 
+/// The name of the verbose style of PostgreSQL.
 pub const INTERVAL_STYLE_POSTGRES_VERBOSE: &str = "postgres_verbose";
 
 /// How intervals are written as text (`IntervalStyle`).
@@ -42,9 +45,9 @@ impl Default for IntervalStyle {
 }
 
 impl IntervalStyle {
-    /// The style that a text names: whitespace at its ends is left out, ASCII letters are lowered,
-    /// and the styles are compared with their names. `InvalidOptionValue` holds a text that is
-    /// none, as it was given.
+    /// The style that a text names. Whitespace at its ends and the case of ASCII letters don't
+    /// matter. A text that names none is the error `InvalidOptionValue`, which holds the text as it
+    /// was given.
     pub fn try_from_text(alloc: Global, value: &str) -> Result<IntervalStyle, CellError>
         ensures { IsRead (or_invalid value.now (interval_style_of value.now)) result }
     {
@@ -106,7 +109,7 @@ impl IntervalStyle {
     }
 
     /// The interval that a text cell stands for in this style. `NotUtf8` comes before `Parse`,
-    /// which has the reader's refusal. No memory is taken.
+    /// which holds the reader's error. No memory is taken.
     #[tactic(auto, using(crate::proofs::Texts::read_as_text, crate::proofs::Texts::read_no_text))]
     pub fn read(self, input: &[u8]) -> Result<Interval, CellError>
         ensures { result ≡ read_in input.now (Ok self) }

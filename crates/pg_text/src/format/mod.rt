@@ -1,5 +1,4 @@
-// The values of the options by which values are written as text: PostgreSQL's "Locale and
-// Formatting" settings.
+// The values of the options for text output: PostgreSQL's "Locale and Formatting" settings.
 pub mod bytea_output;
 pub mod date_style;
 pub mod interval_style;
