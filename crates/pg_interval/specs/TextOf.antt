@@ -5,7 +5,7 @@ use Rattle.pg_interval.specs.Printed.{printed, IsPrintedOnlyFor}
 use Rattle.pg_interval.specs.Reading.{Style, StandsForOnly}
 use Rattle.pg_interval.specs.declared.pg_interval.Interval.{Interval}
 
--- a text on the stack: these bytes, which are short
+-- A printed text has these bytes. They are at most 96, and valid UTF-8.
 pub record IsPrintedAs (told text : List ℕ) : Type 0 where
   pub printed : text ≡ told
   pub short : length text ≤ 96

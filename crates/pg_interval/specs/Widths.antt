@@ -14,7 +14,7 @@ pub record HasWidths (n : IntervalNorm) : Type 0 where
   pub seconds_small : unsigned_abs n.seconds < 100
   pub microseconds_small : unsigned_abs n.microseconds < 1000000
 
--- a text of the numbers of a normal form, of so many bytes at most, has room in front of `end`
+-- The numbers are as short as a normal form's, and of the array's 96 bytes at least `most` come before `end`.
 pub record HasRoom (most : ℕ) (n : IntervalNorm) (end : ℕ) : Type 0 where
   pub widths : HasWidths n
   pub room : (most ≤ end) × (end ≤ 96)

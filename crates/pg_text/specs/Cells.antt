@@ -32,7 +32,7 @@ AtCell (Err error) P = ⊥
 abbrev pub IsShort : Option (List ℕ) → Type 0
 IsShort cell = length (bytes_of cell) ≤ 32000
 
--- what a call that is told a cell writes: its bytes, which are few, and nothing after an error
+-- What a call writes for a cell: the cell's bytes, at most 32,000, and nothing after an error.
 pub record WritesCell (told : Cell) (result : Result IsNull CellError) (before after : List ℕ) : Type 0 where
   pub appended : OnOk result (AtCell told (λ cell. after ≡ before ++ bytes_of cell))
   pub short : OnOk result (AtCell told IsShort)
