@@ -101,28 +101,20 @@ pub fn send_done(
     ensures err { OnErr result (outbox.new ≡ outbox.old) }
 {
     let start = outbox.len();
-    if let Err(error) = push_done(outbox, command, rows) {
+    let pushed = if rows < 10 {
+        push_few_done(outbox, command, rows)
+    } else {
+        push_many_done(outbox, command, rows)
+    };
+    if let Err(error) = pushed {
         outbox.truncate(start);
         return Err(error);
     }
     Ok(())
 }
 
-/// Appends the bytes that `send_done` appends. After an error some of them may be appended.
-fn push_done(outbox: &mut Outbox, command: &str, rows: u64) -> Result<(), AllocError>
-    requires { IsTag command.now }
-    ensures ok { OnOk result
-        (outbox.new ≡ outbox.old ++ replies_bytes (done_with command.now rows ∷ [])) }
-    ensures err { OnErr result (take (length outbox.old) outbox.new ≡ outbox.old) }
-{
-    if rows < 10 {
-        return push_few_done(outbox, command, rows);
-    }
-    push_many_done(outbox, command, rows)
-}
-
-/// Appends these bytes for fewer than ten rows, as most commands have. The digit needs no buffer.
-/// After an error some of them may be appended.
+/// Appends the bytes that `send_done` appends, for fewer than ten rows, as most commands have. The
+/// digit needs no buffer. After an error some of them may be appended.
 #[inline(always)]
 fn push_few_done(outbox: &mut Outbox, command: &str, rows: u64) -> Result<(), AllocError>
     requires tag { IsTag command.now }
@@ -189,7 +181,7 @@ fn push_row_description(outbox: &mut Outbox, fields: &[FieldInfo]) -> Result<(),
     requires { IsEncodable (row_description fields.now) }
     ensures ok { OnOk result
         (outbox.new ≡ outbox.old ++ replies_bytes (row_description fields.now ∷ [])) }
-    ensures err { OnErr result (take (length outbox.old) outbox.new ≡ outbox.old) }
+    ensures kept { take (length outbox.old) outbox.new ≡ outbox.old }
 {
     outbox.push_bytes(&description_head(body_len(fields), fields.len()))?;
     for field in fields {
@@ -572,25 +564,15 @@ fn next_data<C: CopySource>(
 {
     match resp.data_stream.next()? {
         Some(item) => Ok(Some(item)),
-        None => next_trailer(alloc, &mut resp.trailer_left),
+        None => {
+            if !resp.trailer_left {
+                return Ok(None);
+            }
+            let trailer = finish_copy_binary(alloc)?;
+            resp.trailer_left = false;
+            Ok(Some(Ok(trailer)))
+        }
     }
-}
-
-/// The trailer of binary data, where it is still to come. It is taken then. An error takes nothing.
-fn next_trailer(
-    alloc: Global,
-    trailer_left: &mut bool,
-) -> Result<Option<Result<CopyData, PgWireError>>, AllocError>
-    ensures next { IsNextCopy (trailer_items trailer_left.old) result
-        (trailer_items trailer_left.new) }
-    ensures sendable { IfOk result (λ found. IfSome found IsSendableCopy) }
-{
-    if !*trailer_left {
-        return Ok(None);
-    }
-    let trailer = finish_copy_binary(alloc)?;
-    *trailer_left = false;
-    Ok(Some(Ok(trailer)))
 }
 
 /// Appends data of a COPY and counts them: empty data are skipped, and the trailer isn't counted.
