@@ -11,6 +11,7 @@ pub mod Lends
 pub mod Narrowing
 pub mod Parsing
 pub mod Queried
+pub mod QueryErrors
 pub mod Rows
 pub mod Starting
 pub mod Steady

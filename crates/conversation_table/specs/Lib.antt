@@ -10,3 +10,4 @@ pub mod Good
 pub mod Noop
 pub mod Lawful
 pub mod Outcomes
+pub mod Waiting

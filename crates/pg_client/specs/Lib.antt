@@ -6,3 +6,4 @@ pub mod State
 pub mod Effect
 pub mod Ends
 pub mod StartupRows
+pub mod Before

@@ -17,13 +17,13 @@ ghost use Rattle.pg_client.specs.State.{state_of};
 ghost use Rattle.pg_client.specs.Effect.{IsEffect, IsRefusedEffect, IsRow, IsRefusedRow, Done, says, when_ready};
 ghost use Rattle.conversation_table.specs.ExtendedRows.{on_parse, on_bind, on_describe, on_close, on_sync};
 ghost use Rattle.conversation_table.specs.ExecuteRow.{on_execute};
-ghost use Rattle.conversation_table.specs.Executing.{IsLeftBehind};
 ghost use Rattle.pg_results.specs.declared.client.PgWireConnectionState.TheVariants as phase;
 ghost use Rattle.pg_results.specs.declared.error.PgWireError.TheVariants as wire;
 ghost use Rattle.pg_client.specs.declared.ends.SessionError.TheVariants as session;
 ghost use Rattle.conversation_table.specs.Good.{IsGiven, IsSendableOutcome, IsSendableDescription, IsGoodStatement, IsGoodPortal, IsGoodState};
 ghost use Rattle.conversation_table.specs.Questions.{IsCausedSo, HasSpent, questions_since};
-ghost use Rattle.pg_client.specs.Ends.{IsAnswerableError, AtTurnLimit};
+ghost use Rattle.pg_client.specs.Before.{IsAsBefore};
+ghost use Rattle.conversation_table.specs.Waiting.{HasWaited, IsQueryError, KeptByExecute};
 
 use crate::ends::{out_of_memory, query_out_of_memory};
 use crate::query::QueryState;
@@ -151,9 +151,7 @@ pub trait ExtendedQueryHandler {
             (on_parse (told self.now) (state_of St.maps client.old) message)
             client.old.outbox client.new.outbox (state_of St.maps client.new)) }
         ensures answerable { IfErr result IsAnswerable }
-        ensures kept { OnErr result
-            (state_of St.maps client.new ≡ state_of St.maps client.old) }
-        ensures waiting { OnErr result (client.new.outbox ≡ client.old.outbox) }
+        ensures kept { OnErr result (IsAsBefore St.maps client.old client.new) }
         ensures good { IsGoodState (told self.now).parser (state_of St.maps client.new) }
     {
         let Ok(parser) = self.query_parser(alloc) else {
@@ -189,9 +187,7 @@ pub trait ExtendedQueryHandler {
             (on_bind (told self.now) (state_of St.maps client.old) message)
             client.old.outbox client.new.outbox (state_of St.maps client.new)) }
         ensures answerable { IfErr result IsAnswerable }
-        ensures kept { OnErr result
-            (state_of St.maps client.new ≡ state_of St.maps client.old) }
-        ensures waiting { OnErr result (client.new.outbox ≡ client.old.outbox) }
+        ensures kept { OnErr result (IsAsBefore St.maps client.old client.new) }
         ensures good { IsGoodState (told self.now).parser (state_of St.maps client.new) }
     {
         let Some(statement) = statement_under(&client.store, message.statement_name.as_str()) else {
@@ -233,18 +229,12 @@ pub trait ExtendedQueryHandler {
             (on_execute (told self.now) answers (state_of St.maps client.old) message))
             client.old.outbox client.new.outbox (D.told desk.old).calls (D.told desk.new).calls
             (state_of St.maps client.new)) }
-        ensures answerable { IfErr result IsAnswerableError }
+        ensures errors { IfErr result (IsQueryError St.maps client.old client.new) }
         ensures not_ready { client.old.info.state ≢ phase.ReadyForQuery
             → result ≡ Err (session.Wire wire.NotReadyForQuery) }
         ensures caused { client.old.info.state ≡ phase.ReadyForQuery
             → IfErr result (IsCausedSo (D.told desk.old).calls (D.told desk.new).calls) }
-        ensures limit { IfErr result (λ e. AtTurnLimit e
-            ((state_of St.maps client.new ≡ state_of St.maps client.old)
-            × (client.new.outbox ≡ client.old.outbox))) }
-        ensures info { OnErr result (client.new.info ≡ client.old.info) }
-        ensures left { OnErr result (IsLeftBehind (St.maps client.old.store) message.name
-            (St.maps client.new.store)) }
-        ensures kept { take (length client.old.outbox) client.new.outbox ≡ client.old.outbox }
+        ensures kept { KeptByExecute St.maps message.name client.old client.new result }
         ensures good { IsGoodState (told self.now).parser (state_of St.maps client.new) }
         ensures turns { HasSpent turns.old turns.new
             (questions_since (D.told desk.old).calls (D.told desk.new).calls) result }
@@ -290,20 +280,10 @@ pub trait ExtendedQueryHandler {
             (λ answers. on_execute (told self.now) answers (state_of St.maps client.old) message)
             client.old.outbox client.new.outbox (D.told desk.old).calls (D.told desk.new).calls
             (state_of St.maps client.new)) }
-        ensures answerable { IfErr result IsAnswerableError }
-        ensures caused { IfErr result (IsCausedSo (D.told desk.old).calls (D.told desk.new).calls) }
-        ensures limit { IfErr result (λ e. AtTurnLimit e
-            ((state_of St.maps client.new ≡ state_of St.maps client.old)
-            × (client.new.outbox ≡ client.old.outbox))) }
-        ensures info { OnErr result (client.new.info ≡ client.old.info) }
-        ensures left { OnErr result (IsLeftBehind (St.maps client.old.store) message.name
-            (St.maps client.new.store)) }
-        ensures kept { take (length client.old.outbox) client.new.outbox ≡ client.old.outbox }
+        ensures errors { IfErr result (IsQueryError St.maps client.old client.new) }
+        ensures kept { KeptByExecute St.maps message.name client.old client.new result }
         ensures good { IsGoodState (told self.now).parser (state_of St.maps client.new) }
-        ensures turns { HasSpent turns.old turns.new
-            (questions_since (D.told desk.old).calls (D.told desk.new).calls) result }
-        ensures bounded { turns.old.spent ≤ turns.old.limit → turns.new.spent ≤ turns.new.limit }
-        ensures keeps { KeepsDesk (D.told desk.old) (D.told desk.new) }
+        ensures waited { HasWaited (D.told desk.old) (D.told desk.new) turns.old turns.new result }
     {
         let Some(portal) = unstarted_portal(&client.store, message.name.as_str()) else {
             return execute_started(alloc, client, message);
@@ -336,9 +316,7 @@ pub trait ExtendedQueryHandler {
             (on_describe (told self.now) (state_of St.maps client.old) message)
             client.old.outbox client.new.outbox (state_of St.maps client.new)) }
         ensures answerable { IfErr result IsAnswerable }
-        ensures kept { OnErr result
-            (state_of St.maps client.new ≡ state_of St.maps client.old) }
-        ensures waiting { OnErr result (client.new.outbox ≡ client.old.outbox) }
+        ensures kept { OnErr result (IsAsBefore St.maps client.old client.new) }
         ensures good { IsGoodState (told self.now).parser (state_of St.maps client.new) }
     {
         self._on_describe(alloc, client, message)
@@ -360,9 +338,7 @@ pub trait ExtendedQueryHandler {
             (on_describe (told self.now) (state_of St.maps client.old) message)
             client.old.outbox client.new.outbox (state_of St.maps client.new)) }
         ensures answerable { IfErr result IsAnswerable }
-        ensures kept { OnErr result
-            (state_of St.maps client.new ≡ state_of St.maps client.old) }
-        ensures waiting { OnErr result (client.new.outbox ≡ client.old.outbox) }
+        ensures kept { OnErr result (IsAsBefore St.maps client.old client.new) }
         ensures good { IsGoodState (told self.now).parser (state_of St.maps client.new) }
     {
         match message.target_type {
@@ -417,9 +393,7 @@ pub trait ExtendedQueryHandler {
             (on_sync (state_of St.maps client.old))
             client.old.outbox client.new.outbox (state_of St.maps client.new)) }
         ensures answerable { IfErr result IsAnswerable }
-        ensures kept { OnErr result
-            (state_of St.maps client.new ≡ state_of St.maps client.old) }
-        ensures waiting { OnErr result (client.new.outbox ≡ client.old.outbox) }
+        ensures kept { OnErr result (IsAsBefore St.maps client.old client.new) }
         ensures good { IsGoodState (told self.now).parser (state_of St.maps client.new) }
     {
         let Ok(()) = send_ready_for_query(&mut client.outbox, client.info.status) else {
@@ -447,9 +421,7 @@ pub trait ExtendedQueryHandler {
             (on_close (state_of St.maps client.old) message)
             client.old.outbox client.new.outbox (state_of St.maps client.new)) }
         ensures answerable { IfErr result IsAnswerable }
-        ensures kept { OnErr result
-            (state_of St.maps client.new ≡ state_of St.maps client.old) }
-        ensures waiting { OnErr result (client.new.outbox ≡ client.old.outbox) }
+        ensures kept { OnErr result (IsAsBefore St.maps client.old client.new) }
         ensures good { IsGoodState (told self.now).parser (state_of St.maps client.new) }
     {
         push_reply(

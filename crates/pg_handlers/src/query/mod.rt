@@ -5,6 +5,7 @@ ghost use Rattle.pg_client.specs.Desk.{KeepsDesk};
 ghost use Rattle.conversation_table.specs.Handlers.{QueryTold};
 ghost use Rattle.pg_handlers.specs.Polling.{IsPolled};
 ghost use Rattle.conversation_table.specs.Questions.{Verdict, IsAsked, IsVerdict, IsCausedSo, HasSpent, questions_since};
+ghost use Rattle.conversation_table.specs.Waiting.{HasWaited};
 
 use pg_client::{CancelDesk, SessionError, Turns};
 use pg_portal::PgWireError;
@@ -56,11 +57,7 @@ fn wait<Q: QueryState, D: CancelDesk>(
     ensures asked { (verdict : Verdict)
         × IsAsked (Q.told query.old).owes (D.told desk.old).calls (D.told desk.new).calls verdict
         × IsVerdict (Q.told query.old).outcome verdict result }
-    ensures caused { IfErr result (IsCausedSo (D.told desk.old).calls (D.told desk.new).calls) }
-    ensures turns { HasSpent turns.old turns.new
-        (questions_since (D.told desk.old).calls (D.told desk.new).calls) result }
-    ensures bounded { turns.old.spent ≤ turns.old.limit → turns.new.spent ≤ turns.new.limit }
-    ensures keeps { KeepsDesk (D.told desk.old) (D.told desk.new) }
+    ensures waited { HasWaited (D.told desk.old) (D.told desk.new) turns.old turns.new result }
 {
     loop {
         match query.poll() {
@@ -88,11 +85,7 @@ pub(crate) fn wait_for<Q: QueryState, D: CancelDesk>(
     ensures asked { (verdict : Verdict)
         × IsAsked (Q.told query).owes (D.told desk.old).calls (D.told desk.new).calls verdict
         × IsVerdict (Q.told query).outcome verdict result }
-    ensures caused { IfErr result (IsCausedSo (D.told desk.old).calls (D.told desk.new).calls) }
-    ensures turns { HasSpent turns.old turns.new
-        (questions_since (D.told desk.old).calls (D.told desk.new).calls) result }
-    ensures bounded { turns.old.spent ≤ turns.old.limit → turns.new.spent ≤ turns.new.limit }
-    ensures keeps { KeepsDesk (D.told desk.old) (D.told desk.new) }
+    ensures waited { HasWaited (D.told desk.old) (D.told desk.new) turns.old turns.new result }
 {
     wait(&mut query, desk, turns)
 }

@@ -20,6 +20,7 @@ ghost use Rattle.conversation_table.specs.SimpleRows.{responded_all};
 ghost use Rattle.pg_replies.specs.Sending.{IsAllSent};
 ghost use Rattle.pg_handlers.specs.Sending.{behind};
 ghost use Rattle.pg_client.specs.State.{state_of};
+ghost use Rattle.conversation_table.specs.Waiting.{OnlyAnswers};
 
 use crate::ends::out_of_memory;
 use pg_client::Client;
@@ -285,10 +286,7 @@ fn respond_otherwise<St: PortalStore, C: CopySource>(
         (told_response St.Rows.items C.items response)) client.old.outbox client.new.outbox
         (state_of St.maps client.new)) }
     ensures answerable { IfErr result IsAnswerableItem }
-    ensures metadata { client.new.info.metadata ≡ client.old.info.metadata }
-    ensures store { client.new.store ≡ client.old.store }
-    ensures info { OnErr result (client.new.info ≡ client.old.info) }
-    ensures kept { take (length client.old.outbox) client.new.outbox ≡ client.old.outbox }
+    ensures kept { OnlyAnswers client.old client.new result }
 {
     let left = send_response(alloc, &mut client.outbox, client.info.status, response)?;
     client.info.status = left.status;

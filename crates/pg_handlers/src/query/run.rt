@@ -9,14 +9,14 @@ ghost use Rattle.pg_portal.specs.Told.{TablePortal};
 ghost use Rattle.pg_client.specs.Desk.{KeepsDesk};
 ghost use Rattle.pg_client.specs.Effect.{IsEffect, IsRefusedEffect, Done};
 ghost use Rattle.conversation_table.specs.ExecuteRow.{executed, execute_polled, fetched};
-ghost use Rattle.conversation_table.specs.Executing.{HasUnstarted, IsLeftBehind, portal_under};
+ghost use Rattle.conversation_table.specs.Executing.{HasUnstarted, portal_under};
 ghost use Rattle.conversation_table.specs.Outcomes.{IsRunEnd};
 ghost use Rattle.pg_replies.specs.Replies.{IsTag};
 ghost use Rattle.conversation_table.specs.Good.{IsGiven, IsGoodState, IsSendableOutcome, IsSendableResponse};
 ghost use Rattle.conversation_table.specs.Handlers.{told_one};
 ghost use Rattle.conversation_table.specs.Questions.{Verdict, IsAsked, IsCausedSo, HasSpent, questions_since};
-ghost use Rattle.pg_client.specs.Ends.{IsAnswerableError, AtTurnLimit};
 ghost use Rattle.pg_client.specs.State.{state_of};
+ghost use Rattle.conversation_table.specs.Waiting.{HasWaited, IsQueryError, KeptByExecute};
 
 use crate::query::respond::{respond, send_page};
 use crate::query::{QueryState, wait_for};
@@ -53,22 +53,12 @@ pub(crate) fn run_unstarted<
         × IsRunEnd (execute_polled (state_of St.maps client.old) message p verdict
         (told_one St.Rows.items C.items (Q.told query).outcome)) verdict
         client.old.outbox client.new.outbox (state_of St.maps client.new) result }
-    ensures answerable { IfErr result IsAnswerableError }
-    ensures caused { IfErr result (IsCausedSo (D.told desk.old).calls (D.told desk.new).calls) }
-    ensures limit { IfErr result (λ e. AtTurnLimit e
-        ((state_of St.maps client.new ≡ state_of St.maps client.old)
-        × (client.new.outbox ≡ client.old.outbox))) }
-    ensures info { OnErr result (client.new.info ≡ client.old.info) }
-    ensures left { OnErr result (IsLeftBehind (St.maps client.old.store) message.name
-        (St.maps client.new.store)) }
-    ensures kept { take (length client.old.outbox) client.new.outbox ≡ client.old.outbox }
+    ensures errors { IfErr result (IsQueryError St.maps client.old client.new) }
+    ensures kept { KeptByExecute St.maps message.name client.old client.new result }
     ensures good { (parser : ParserTold St.Statement)
         → IsGoodState parser (state_of St.maps client.old)
         → IsGoodState parser (state_of St.maps client.new) }
-    ensures turns { HasSpent turns.old turns.new
-        (questions_since (D.told desk.old).calls (D.told desk.new).calls) result }
-    ensures bounded { turns.old.spent ≤ turns.old.limit → turns.new.spent ≤ turns.new.limit }
-    ensures keeps { KeepsDesk (D.told desk.old) (D.told desk.new) }
+    ensures waited { HasWaited (D.told desk.old) (D.told desk.new) turns.old turns.new result }
 {
     match wait_for(query, desk, turns) {
         Ok(Ok(response)) => {
@@ -109,10 +99,7 @@ fn answer<St: PortalStore, C: CopySource>(
         (told_response St.Rows.items C.items response)) client.old.outbox client.new.outbox
         (state_of St.maps client.new)) }
     ensures answerable { IfErr result IsAnswerableItem }
-    ensures info { OnErr result (client.new.info ≡ client.old.info) }
-    ensures left { OnErr result (IsLeftBehind (St.maps client.old.store) message.name
-        (St.maps client.new.store)) }
-    ensures kept { take (length client.old.outbox) client.new.outbox ≡ client.old.outbox }
+    ensures kept { KeptByExecute St.maps message.name client.old client.new result }
     ensures good { (parser : ParserTold St.Statement)
         → IsGoodState parser (state_of St.maps client.old)
         → IsGoodState parser (state_of St.maps client.new) }
@@ -147,10 +134,7 @@ fn start_portal<St: PortalStore>(
         (fetched (state_of St.maps client.old) message p (told_rows St.Rows.items rows) 0)
         client.old.outbox client.new.outbox (state_of St.maps client.new)) }
     ensures answerable { IfErr result IsAnswerableItem }
-    ensures info { client.new.info ≡ client.old.info }
-    ensures left { OnErr result (IsLeftBehind (St.maps client.old.store) message.name
-        (St.maps client.new.store)) }
-    ensures kept { take (length client.old.outbox) client.new.outbox ≡ client.old.outbox }
+    ensures kept { KeptByExecute St.maps message.name client.old client.new result }
     ensures good { (parser : ParserTold St.Statement)
         → IsGoodState parser (state_of St.maps client.old)
         → IsGoodState parser (state_of St.maps client.new) }

@@ -18,10 +18,10 @@ ghost use Rattle.conversation_table.specs.Outcomes.{IsRunEnd};
 ghost use Rattle.pg_replies.specs.Replies.{ready};
 ghost use Rattle.conversation_table.specs.Good.{IsGiven, AreSendable, IsSendableResponse};
 ghost use Rattle.conversation_table.specs.Questions.{Verdict, IsAsked, IsCausedSo, HasSpent, questions_since};
-ghost use Rattle.pg_client.specs.Ends.{IsAnswerableError, AtTurnLimit};
 ghost use Rattle.pg_results.specs.declared.client.PgWireConnectionState.TheVariants as phase;
 ghost use Rattle.pg_results.specs.declared.error.PgWireError.TheVariants as wire;
 ghost use Rattle.pg_client.specs.declared.ends.SessionError.TheVariants as session;
+ghost use Rattle.conversation_table.specs.Waiting.{HasWaited, IsQueryError, OnlyAnswers};
 
 use crate::ends::{query_out_of_memory, session_outcome};
 use crate::query::respond::{send_empty_query_response, send_responses};
@@ -91,18 +91,12 @@ pub trait SimpleQueryHandler {
             (on_query (told self.now) answers (state_of St.maps client.old) query))
             client.old.outbox client.new.outbox (D.told desk.old).calls (D.told desk.new).calls
             (state_of St.maps client.new)) }
-        ensures answerable { IfErr result IsAnswerableError }
-        ensures store { client.new.store ≡ client.old.store }
+        ensures errors { IfErr result (IsQueryError St.maps client.old client.new) }
         ensures not_ready { client.old.info.state ≢ phase.ReadyForQuery
             → result ≡ Err (session.Wire wire.NotReadyForQuery) }
         ensures caused { client.old.info.state ≡ phase.ReadyForQuery
             → IfErr result (IsCausedSo (D.told desk.old).calls (D.told desk.new).calls) }
-        ensures limit { IfErr result (λ e. AtTurnLimit e
-            ((state_of St.maps client.new ≡ state_of St.maps client.old)
-            × (client.new.outbox ≡ client.old.outbox))) }
-        ensures info { OnErr result (client.new.info ≡ client.old.info) }
-        ensures kept { take (length client.old.outbox) client.new.outbox ≡ client.old.outbox }
-        ensures metadata { client.new.info.metadata ≡ client.old.info.metadata }
+        ensures kept { OnlyAnswers client.old client.new result }
         ensures turns { HasSpent turns.old turns.new
             (questions_since (D.told desk.old).calls (D.told desk.new).calls) result }
         ensures bounded { turns.old.spent ≤ turns.old.limit → turns.new.spent ≤ turns.new.limit }
@@ -145,19 +139,9 @@ pub trait SimpleQueryHandler {
             (λ answers. on_query (told self.now) answers (state_of St.maps client.old) query)
             client.old.outbox client.new.outbox (D.told desk.old).calls (D.told desk.new).calls
             (state_of St.maps client.new)) }
-        ensures answerable { IfErr result IsAnswerableError }
-        ensures store { client.new.store ≡ client.old.store }
-        ensures caused { IfErr result (IsCausedSo (D.told desk.old).calls (D.told desk.new).calls) }
-        ensures limit { IfErr result (λ e. AtTurnLimit e
-            ((state_of St.maps client.new ≡ state_of St.maps client.old)
-            × (client.new.outbox ≡ client.old.outbox))) }
-        ensures info { OnErr result (client.new.info ≡ client.old.info) }
-        ensures kept { take (length client.old.outbox) client.new.outbox ≡ client.old.outbox }
-        ensures metadata { client.new.info.metadata ≡ client.old.info.metadata }
-        ensures turns { HasSpent turns.old turns.new
-            (questions_since (D.told desk.old).calls (D.told desk.new).calls) result }
-        ensures bounded { turns.old.spent ≤ turns.old.limit → turns.new.spent ≤ turns.new.limit }
-        ensures keeps { KeepsDesk (D.told desk.old) (D.told desk.new) }
+        ensures errors { IfErr result (IsQueryError St.maps client.old client.new) }
+        ensures kept { OnlyAnswers client.old client.new result }
+        ensures waited { HasWaited (D.told desk.old) (D.told desk.new) turns.old turns.new result }
     {
         if is_blank(query.query.as_str()) {
             drop(query);
@@ -206,19 +190,9 @@ fn run_query<
         × IsRunEnd (query_polled (state_of St.maps client.old) verdict
         (told_all R.items C.items (Q.told query).outcome)) verdict
         client.old.outbox client.new.outbox (state_of St.maps client.new) result }
-    ensures answerable { IfErr result IsAnswerableError }
-    ensures store { client.new.store ≡ client.old.store }
-    ensures caused { IfErr result (IsCausedSo (D.told desk.old).calls (D.told desk.new).calls) }
-    ensures limit { IfErr result (λ e. AtTurnLimit e
-        ((state_of St.maps client.new ≡ state_of St.maps client.old)
-        × (client.new.outbox ≡ client.old.outbox))) }
-    ensures info { OnErr result (client.new.info ≡ client.old.info) }
-    ensures kept { take (length client.old.outbox) client.new.outbox ≡ client.old.outbox }
-    ensures metadata { client.new.info.metadata ≡ client.old.info.metadata }
-    ensures turns { HasSpent turns.old turns.new
-        (questions_since (D.told desk.old).calls (D.told desk.new).calls) result }
-    ensures bounded { turns.old.spent ≤ turns.old.limit → turns.new.spent ≤ turns.new.limit }
-    ensures keeps { KeepsDesk (D.told desk.old) (D.told desk.new) }
+    ensures errors { IfErr result (IsQueryError St.maps client.old client.new) }
+    ensures kept { OnlyAnswers client.old client.new result }
+    ensures waited { HasWaited (D.told desk.old) (D.told desk.new) turns.old turns.new result }
 {
     let responses = wait_for(query, desk, turns)??;
     session_outcome(answer_query(alloc, client, responses))
@@ -238,10 +212,7 @@ fn answer_query<St: PortalStore, R: RowSource, C: CopySource>(
         (answered_all (state_of St.maps client.old) (told_responses R.items C.items responses))
         client.old.outbox client.new.outbox (state_of St.maps client.new)) }
     ensures answerable { IfErr result IsAnswerableItem }
-    ensures info { OnErr result (client.new.info ≡ client.old.info) }
-    ensures kept { take (length client.old.outbox) client.new.outbox ≡ client.old.outbox }
-    ensures store { client.new.store ≡ client.old.store }
-    ensures metadata { client.new.info.metadata ≡ client.old.info.metadata }
+    ensures kept { OnlyAnswers client.old client.new result }
 {
     let left = send_responses(alloc, &mut client.outbox, client.info.status, responses)?;
     if left.copying {

@@ -26,6 +26,7 @@ ghost use Rattle.pg_results.specs.Formats.{format_of};
 ghost use Rattle.conversation_table.specs.ExecuteRow.{executed_nothing};
 ghost use Rattle.conversation_table.specs.Good.{IsGiven, IsGoodStatement, IsGoodState};
 ghost use Rattle.pg_client.specs.State.{state_of, with_portal, with_statement};
+ghost use Rattle.pg_client.specs.Before.{IsAsBefore};
 
 use crate::ends::out_of_memory;
 use crate::query::respond::send_empty_query_response;
@@ -141,9 +142,7 @@ pub(crate) fn store_parsed<St: PortalStore>(
     ensures replied { OnOk result (client.new.outbox
         ≡ client.old.outbox ++ replies_bytes parse_complete) }
     ensures refused { IfErr result (λ e. e ≡ wire.NoMemory) }
-    ensures kept { OnErr result
-        (state_of St.maps client.new ≡ state_of St.maps client.old) }
-    ensures waiting { OnErr result (client.new.outbox ≡ client.old.outbox) }
+    ensures kept { OnErr result (IsAsBefore St.maps client.old client.new) }
 {
     let start = client.outbox.len();
     let complete = PgWireBackendMessage::ParseComplete(ParseComplete {});
@@ -213,9 +212,7 @@ pub(crate) fn bind_no_statement<St: PortalStore>(
         (on_bind h (state_of St.maps client.old) message)
         client.old.outbox client.new.outbox (state_of St.maps client.new)) }
     ensures answerable { IfErr result IsAnswerable }
-    ensures kept { OnErr result
-        (state_of St.maps client.new ≡ state_of St.maps client.old) }
-    ensures waiting { OnErr result (client.new.outbox ≡ client.old.outbox) }
+    ensures kept { OnErr result (IsAsBefore St.maps client.old client.new) }
     ensures good { (parser : ParserTold St.Statement)
         → IsGoodState parser (state_of St.maps client.old)
         → IsGoodState parser (state_of St.maps client.new) }
@@ -256,9 +253,7 @@ fn bind_empty<St: PortalStore>(
         (bound_empty (state_of St.maps client.old) message.now)
         client.old.outbox client.new.outbox (state_of St.maps client.new)) }
     ensures answerable { IfErr result IsAnswerable }
-    ensures kept { OnErr result
-        (state_of St.maps client.new ≡ state_of St.maps client.old) }
-    ensures waiting { OnErr result (client.new.outbox ≡ client.old.outbox) }
+    ensures kept { OnErr result (IsAsBefore St.maps client.old client.new) }
     ensures good { (parser : ParserTold St.Statement)
         → IsGoodState parser (state_of St.maps client.old)
         → IsGoodState parser (state_of St.maps client.new) }
@@ -317,9 +312,7 @@ pub(crate) fn bind_checked<St: PortalStore, Q: QueryParser<Statement = St::State
         (arc_value statement))
         client.old.outbox client.new.outbox (state_of St.maps client.new)) }
     ensures answerable { IfErr result IsAnswerable }
-    ensures kept { OnErr result
-        (state_of St.maps client.new ≡ state_of St.maps client.old) }
-    ensures waiting { OnErr result (client.new.outbox ≡ client.old.outbox) }
+    ensures kept { OnErr result (IsAsBefore St.maps client.old client.new) }
     ensures good { IsGoodState (Q.told (arc_value parser)) (state_of St.maps client.old)
         → IsGoodState (Q.told (arc_value parser)) (state_of St.maps client.new) }
 {
@@ -343,9 +336,7 @@ pub(crate) fn bind_statement<St: PortalStore>(
         (bound_portal (state_of St.maps client.old) message (arc_value statement))
         client.old.outbox client.new.outbox (Done (state_of St.maps client.new))) }
     ensures refused { IfErr result (λ e. e ≡ wire.NoMemory) }
-    ensures kept { OnErr result
-        (state_of St.maps client.new ≡ state_of St.maps client.old) }
-    ensures waiting { OnErr result (client.new.outbox ≡ client.old.outbox) }
+    ensures kept { OnErr result (IsAsBefore St.maps client.old client.new) }
     ensures good { (parser : ParserTold St.Statement) → IsGoodStatement parser (arc_value statement)
         → HasEnough (length message.result_column_format_codes)
         (parser.columns (arc_value statement).statement None)
@@ -400,9 +391,7 @@ fn store_portal<St: PortalStore>(
     ensures replied { OnOk result (client.new.outbox
         ≡ client.old.outbox ++ replies_bytes bind_complete) }
     ensures refused { IfErr result (λ e. e ≡ wire.NoMemory) }
-    ensures kept { OnErr result
-        (state_of St.maps client.new ≡ state_of St.maps client.old) }
-    ensures waiting { OnErr result (client.new.outbox ≡ client.old.outbox) }
+    ensures kept { OnErr result (IsAsBefore St.maps client.old client.new) }
 {
     let start = client.outbox.len();
     let Ok(()) = push_bind_complete(&mut client.outbox) else {
@@ -425,9 +414,7 @@ fn store_empty_portal<St: PortalStore>(
         ≡ with_portal (state_of St.maps client.old) name.now entry.Empty) }
     ensures replied { OnOk result (client.new.outbox
         ≡ client.old.outbox ++ replies_bytes bind_complete) }
-    ensures err { OnErr result
-        (state_of St.maps client.new ≡ state_of St.maps client.old) }
-    ensures waiting { OnErr result (client.new.outbox ≡ client.old.outbox) }
+    ensures err { OnErr result (IsAsBefore St.maps client.old client.new) }
 {
     let start = client.outbox.len();
     push_bind_complete(&mut client.outbox)?;

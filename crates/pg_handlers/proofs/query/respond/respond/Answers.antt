@@ -64,16 +64,16 @@ pub returns-in_default-clause-answerable : goal.returns-in_default-clause-answer
 returns-in_default-clause-answerable g c = c.respond_otherwise.ensures.answerable
 
 pub returns-in_default-clause-metadata : goal.returns-in_default-clause-metadata
-returns-in_default-clause-metadata g c = c.respond_otherwise.ensures.metadata
+returns-in_default-clause-metadata g c = c.respond_otherwise.ensures.kept.metadata
 
 pub returns-in_default-clause-store : goal.returns-in_default-clause-store
-returns-in_default-clause-store g c = inl (ap g.St.PortalStore.maps c.respond_otherwise.ensures.store)
+returns-in_default-clause-store g c = inl (ap g.St.PortalStore.maps c.respond_otherwise.ensures.kept.store)
 
 pub returns-in_default-clause-info : goal.returns-in_default-clause-info
-returns-in_default-clause-info g c = c.respond_otherwise.ensures.info
+returns-in_default-clause-info g c = c.respond_otherwise.ensures.kept.info
 
 pub returns-in_default-clause-kept : goal.returns-in_default-clause-kept
-returns-in_default-clause-kept g c = c.respond_otherwise.ensures.kept
+returns-in_default-clause-kept g c = c.respond_otherwise.ensures.kept.kept
 
 pub returns-in_default-clause-ok : goal.returns-in_default-clause-ok
 returns-in_default-clause-ok g c =

@@ -20,9 +20,11 @@ returns-in_default g c =
       refused = λ p e. subst (λ effect. IfErr c.respond.result (IsRefusedEffect effect c.args.client.now.outbox
           c.respond.new.client.outbox s')) (sym (executed_plain s m p r plain)) c.respond.ensures.refused;
       answerable = c.respond.ensures.answerable;
-      info = c.respond.ensures.info;
-      left = left_same maps c.respond.result c.args.client.now.store c.respond.new.client.store m.name c.respond.ensures.left;
-      kept = c.respond.ensures.kept;
+      kept = record {
+        info = c.respond.ensures.info;
+        left = left_same maps c.respond.result c.args.client.now.store c.respond.new.client.store m.name c.respond.ensures.left;
+        kept = c.respond.ensures.kept;
+      };
       good = λ parser good. good_responded parser s good s'.info (maps c.respond.new.client.store) c.respond.ensures.metadata
           c.respond.ensures.store;
     }

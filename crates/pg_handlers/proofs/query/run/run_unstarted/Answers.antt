@@ -13,6 +13,7 @@ use Rattle.conversation_table.specs.Handlers.{told_one}
 use Rattle.conversation_table.specs.Questions.{Passed, Verdict, questions_since}
 use Rattle.pg_client.specs.State.{State, state_of}
 use Rattle.conversation_table.proofs.Causes.{item_answerable, item_caused}
+use Rattle.conversation_table.proofs.QueryErrors.{query_error}
 use Rattle.pg_replies.proofs.Sent.{kept_as}
 use Rattle.conversation_table.proofs.Waits.{at_limit, spent_as, wait_answerable, wait_ran}
 use Rattle.pg_handlers.proofs.query.run.run_unstarted.Goals as goal
@@ -36,7 +37,7 @@ module _ {S : Type 0} (s : State S) (m : Execute) (p : TablePortal S) (verdict :
 
 pub returns-in-Err : goal.returns-in-Err
 returns-in-Err g c =
-    let told = g.D.CancelDesk.told in let out = c.args.client.now.outbox in let x = c.in-Err.ensures in
+    let told = g.D.CancelDesk.told in let out = c.args.client.now.outbox in let x = c.in-Err.ensures in let w = x.waited in
     let s = state_of g.St.PortalStore.maps c.args.client.now in
     let outcome = (g.Q.QueryState.told c.args.query).outcome in
     let all = told_one g.St.Rows.RowSource.items g.C.CopySource.items outcome in
@@ -46,21 +47,22 @@ returns-in-Err g c =
         x.asked.1,
         wait_ran s out (λ verdict. execute_polled s c.args.message p verdict all) refl refl x.asked.0 outcome c.in-Err.error x.asked.2,
       );
-      answerable = wait_answerable outcome x.asked.0 c.in-Err.error x.asked.2;
-      caused = x.caused;
-      limit = at_limit c.in-Err.error ((s ≡ s) × (out ≡ out)) (refl, refl);
-      info = refl;
-      left = inl refl;
-      kept = kept_as out out refl;
+      errors = query_error {A = Unit {0}} g.St.PortalStore.maps c.args.client.now c.args.client.now (Err c.in-Err.error)
+          (wait_answerable outcome x.asked.0 c.in-Err.error x.asked.2) (at_limit c.in-Err.error ((s ≡ s) × (out ≡ out)) (refl, refl));
+      kept = record { info = refl; left = inl refl; kept = kept_as out out refl };
       good = λ parser good. good;
-      turns = spent_as outcome c.args.turns.now c.wait_for.new.turns (questions_since (told c.args.desk.now).calls (told c.wait_for.new.desk).calls) c.in-Err.error x.turns;
-      bounded = x.bounded;
-      keeps = x.keeps;
+      waited = record {
+        caused = w.caused;
+        turns = spent_as outcome c.args.turns.now c.wait_for.new.turns
+            (questions_since (told c.args.desk.now).calls (told c.wait_for.new.desk).calls) c.in-Err.error w.turns;
+        bounded = w.bounded;
+        keeps = w.keeps;
+      };
     }
 
 pub returns-in-Ok-Err : goal.returns-in-Ok-Err
 returns-in-Ok-Err g c =
-    let told = g.D.CancelDesk.told in let out = c.args.client.now.outbox in let x = c.in-Ok-Err.ensures in
+    let told = g.D.CancelDesk.told in let out = c.args.client.now.outbox in let x = c.in-Ok-Err.ensures in let w = x.waited in
     let one = told_one g.St.Rows.RowSource.items g.C.CopySource.items in
     let e = c.in-Ok-Err.error in
     let is = ap one (sym x.asked.2.1 ∙ c.in-Ok-Err.field-0-is) in
@@ -72,22 +74,21 @@ returns-in-Ok-Err g c =
         refused_ran (state_of g.St.PortalStore.maps c.args.client.now) c.args.message p x.asked.0
             (one (g.Q.QueryState.told c.args.query).outcome) out x.asked.2.0 e is,
       );
-      answerable = item_answerable e item;
-      caused = item_caused (told c.args.desk.now).calls (told c.wait_for.new.desk).calls e item;
-      limit = tt;
-      info = refl;
-      left = inl refl;
-      kept = kept_as out out refl;
+      errors = item_answerable e item;
+      kept = record { info = refl; left = inl refl; kept = kept_as out out refl };
       good = λ parser good. good;
-      turns = inl x.turns;
-      bounded = x.bounded;
-      keeps = x.keeps;
+      waited = record {
+        caused = item_caused (told c.args.desk.now).calls (told c.wait_for.new.desk).calls e item;
+        turns = inl w.turns;
+        bounded = w.bounded;
+        keeps = w.keeps;
+      };
     }
 
 pub returns-in_err-answer-in-Ok-Ok : goal.returns-in_err-answer-in-Ok-Ok
 returns-in_err-answer-in-Ok-Ok g c =
     let maps = g.St.PortalStore.maps in
-    let told = g.D.CancelDesk.told in let x = c.in-Ok-Ok.ensures in
+    let told = g.D.CancelDesk.told in let x = c.in-Ok-Ok.ensures in let w = x.waited in
     let one = told_one g.St.Rows.RowSource.items g.C.CopySource.items in
     let e = c.in_err-answer-in-Ok-Ok.field-0.0 in
     let a = c.in_err-answer-in-Ok-Ok.ensures in
@@ -102,22 +103,21 @@ returns-in_err-answer-in-Ok-Ok g c =
             (told_response g.St.Rows.RowSource.items g.C.CopySource.items c.in-Ok-Ok.response) c.answer.new.client.outbox
             (state_of maps c.answer.new.client) e (ap one (sym x.asked.2.1 ∙ c.in-Ok-Ok.field-0-is)) (a.refused p q)),
       );
-      answerable = rw is (item_answerable e a.answerable);
-      caused = rw is (item_caused (told c.args.desk.now).calls (told c.wait_for.new.desk).calls e a.answerable);
-      limit = rw is tt;
-      info = rw is a.info;
-      left = rw is a.left;
-      kept = a.kept;
+      errors = rw is (item_answerable e a.answerable);
+      kept = rw is (record { info = a.kept.info; left = a.kept.left; kept = a.kept.kept });
       good = a.good;
-      turns = rw is (inl x.turns);
-      bounded = x.bounded;
-      keeps = x.keeps;
+      waited = rw is (record {
+        caused = item_caused (told c.args.desk.now).calls (told c.wait_for.new.desk).calls e a.answerable;
+        turns = inl w.turns;
+        bounded = w.bounded;
+        keeps = w.keeps;
+      });
     }
 
 pub returns-in_ok-answer-in-Ok-Ok : goal.returns-in_ok-answer-in-Ok-Ok
 returns-in_ok-answer-in-Ok-Ok g c =
     let maps = g.St.PortalStore.maps in
-    let x = c.in-Ok-Ok.ensures in
+    let x = c.in-Ok-Ok.ensures in let w = x.waited in
     let one = told_one g.St.Rows.RowSource.items g.C.CopySource.items in
     let a = c.in_ok-answer-in-Ok-Ok.ensures in
     record {
@@ -129,14 +129,8 @@ returns-in_ok-answer-in-Ok-Ok g c =
             (told_response g.St.Rows.RowSource.items g.C.CopySource.items c.in-Ok-Ok.response) c.answer.new.client.outbox
             (state_of maps c.answer.new.client) (ap one (sym x.asked.2.1 ∙ c.in-Ok-Ok.field-0-is)) (a.ok p q),
       );
-      answerable = tt;
-      caused = tt;
-      limit = tt;
-      info = tt;
-      left = tt;
-      kept = a.kept;
+      errors = tt;
+      kept = record { info = tt; left = tt; kept = a.kept.kept };
       good = a.good;
-      turns = x.turns;
-      bounded = x.bounded;
-      keeps = x.keeps;
+      waited = record { caused = tt; turns = w.turns; bounded = w.bounded; keeps = w.keeps };
     }

@@ -1,4 +1,5 @@
-use Rattle.std.proofs.Common.{w32, refl, ◌∙◌}
+use Rattle.std.proofs.Common.{w32, refl, ◌∙◌, Result, Ok, Err}
+use Rattle.std.specs.Prelude.{OnErr}
 use Rattle.std.proofs.lemmas.Int.{to_z-of_z}
 use Rattle.pg_results.specs.Told.{told_rows}
 use Rattle.pg_portal.specs.Told.{portal_of}
@@ -7,6 +8,11 @@ use Rattle.pg_client.specs.State.{state_of}
 use Rattle.conversation_table.proofs.Lends.{lent}
 use Rattle.conversation_table.proofs.Starting.{first_page}
 use Rattle.pg_handlers.proofs.query.run.start_portal.Goals as goal
+
+-- what holds anyway holds behind an error
+behind_error : {A E P : Type 0} (r : Result A E) → P → OnErr r P
+behind_error (Ok x) p = tt
+behind_error (Err e) p = p
 
 pub returns : goal.returns
 returns g c =
@@ -24,8 +30,6 @@ returns g c =
       ok = f.ok;
       refused = f.refused;
       answerable = c.send_page.ensures.answerable;
-      info = refl;
-      left = f.left;
-      kept = c.send_page.ensures.kept;
+      kept = record { info = behind_error c.send_page.result refl; left = f.left; kept = c.send_page.ensures.kept };
       good = f.good;
     }

@@ -55,10 +55,7 @@ returns-in_err-left g c =
       ok = rw is tt;
       refused = rw is (cut_off s sent sent.refusal c.args.client.now.outbox c.send_responses.new.outbox c.in_err-left.field-0.0 e.sent);
       answerable = rw is e.answerable;
-      info = rw is refl;
-      kept = e.kept;
-      store = refl;
-      metadata = refl;
+      kept = record { info = rw is refl; kept = e.kept; store = refl; metadata = refl };
     }
 
 pub returns-then-left : goal.returns-then-left
@@ -72,10 +69,7 @@ returns-then-left g c =
           c.if-left.true;
       refused = tt;
       answerable = tt;
-      info = tt;
-      kept = e.kept;
-      store = refl;
-      metadata = refl;
+      kept = record { info = tt; kept = e.kept; store = refl; metadata = refl };
     }
 
 pub returns-in_err-send_ready_for_query : goal.returns-in_err-send_ready_for_query
@@ -88,10 +82,7 @@ returns-in_err-send_ready_for_query g c =
       ok = rw is tt;
       refused = rw is (inl refl);
       answerable = rw is (inl refl);
-      info = rw is refl;
-      kept = kept_through out mid new c.in_ok-left.ensures.kept (kept_as mid new c.in_err-send_ready_for_query.ensures.err);
-      store = refl;
-      metadata = refl;
+      kept = record { info = rw is refl; kept = kept_through out mid new c.in_ok-left.ensures.kept (kept_as mid new c.in_err-send_ready_for_query.ensures.err); store = refl; metadata = refl };
     }
 
 pub returns : goal.returns
@@ -105,8 +96,5 @@ returns g c =
       ok = ready_again s sent sent.refusal out c.in_ok-left.left e.left new e.sent.0 mid e.sent.1 c.if-left.false last;
       refused = tt;
       answerable = tt;
-      info = tt;
-      kept = kept_through out mid new e.kept (kept_in_front mid new (replies_bytes (ready c.in_ok-left.left.status ∷ [])) last);
-      store = refl;
-      metadata = refl;
+      kept = record { info = tt; kept = kept_through out mid new e.kept (kept_in_front mid new (replies_bytes (ready c.in_ok-left.left.status ∷ [])) last); store = refl; metadata = refl };
     }

@@ -19,6 +19,7 @@ use Rattle.pg_client.specs.Ends.{AtTurnLimit, IsAnswerableError}
 use Rattle.conversation_table.specs.SimpleRows.{answered_all, query_polled}
 use Rattle.pg_client.specs.State.{State, state_of}
 use Rattle.conversation_table.proofs.Causes.{item_answerable, item_caused}
+use Rattle.conversation_table.proofs.QueryErrors.{query_error}
 use Rattle.pg_replies.proofs.Sent.{kept_as}
 use Rattle.conversation_table.proofs.Waits.{at_limit, spent_as, wait_answerable, wait_ran}
 use Rattle.pg_handlers.proofs.query.simple.run_query.Goals as goal
@@ -96,19 +97,12 @@ returns-in_err-wait_for g c =
     let x = wait_ended (state_of g.St.PortalStore.maps c.args.client.now) c.args.client.now.info out (told c.args.desk.now).calls
     (told c.wait_for.new.desk).calls c.args.turns.now c.wait_for.new.turns _ _ e.asked.0
     (told_all g.R.RowSource.items g.C.CopySource.items (g.Q.QueryState.told c.args.query).outcome)
-    (g.Q.QueryState.told c.args.query).outcome _ e.asked.2 e.caused e.turns (refl, refl) c.from_residual.result (u.1 ∙ ap Err u.2) in
+    (g.Q.QueryState.told c.args.query).outcome _ e.asked.2 e.waited.caused e.waited.turns (refl, refl) c.from_residual.result (u.1 ∙ ap Err u.2) in
     record {
       ran = (e.asked.0, e.asked.1, x.ran);
-      answerable = x.answerable;
-      store = refl;
-      caused = x.caused;
-      limit = x.limit;
-      info = x.same;
-      kept = kept_as out out refl;
-      metadata = refl;
-      turns = x.spent;
-      bounded = e.bounded;
-      keeps = e.keeps;
+      errors = query_error g.St.PortalStore.maps c.args.client.now c.args.client.now c.from_residual.result x.answerable x.limit;
+      kept = record { info = x.same; kept = kept_as out out refl; store = refl; metadata = refl };
+      waited = record { caused = x.caused; turns = x.spent; bounded = e.waited.bounded; keeps = e.waited.keeps };
     }
 
 pub returns-in_err-responses : goal.returns-in_err-responses
@@ -119,20 +113,13 @@ returns-in_err-responses g c =
     let x = refused_ended (state_of g.St.PortalStore.maps c.args.client.now) c.args.client.now.info out (told c.args.desk.now).calls
     (told c.wait_for.new.desk).calls c.args.turns.now c.wait_for.new.turns _ _ e.asked.0
     (all (g.Q.QueryState.told c.args.query).outcome) c.in_err-responses.field-0.0 e.asked.2.0
-    (ap all (sym e.asked.2.1 ∙ c.in_err-responses.was)) c.requires.sendable e.turns c.from_residual-in_err-responses.result
+    (ap all (sym e.asked.2.1 ∙ c.in_err-responses.was)) c.requires.sendable e.waited.turns c.from_residual-in_err-responses.result
     (u.1 ∙ ap Err u.2) in
     record {
       ran = (e.asked.0, e.asked.1, x.ran);
-      answerable = x.answerable;
-      store = refl;
-      caused = x.caused;
-      limit = x.limit;
-      info = x.same;
-      kept = kept_as out out refl;
-      metadata = refl;
-      turns = x.spent;
-      bounded = e.bounded;
-      keeps = e.keeps;
+      errors = query_error g.St.PortalStore.maps c.args.client.now c.args.client.now c.from_residual-in_err-responses.result x.answerable x.limit;
+      kept = record { info = x.same; kept = kept_as out out refl; store = refl; metadata = refl };
+      waited = record { caused = x.caused; turns = x.spent; bounded = e.waited.bounded; keeps = e.waited.keeps };
     }
 
 pub returns : goal.returns
@@ -145,18 +132,12 @@ returns g c =
     (all (g.Q.QueryState.told c.args.query).outcome)
     (told_responses g.R.RowSource.items g.C.CopySource.items c.in_ok-responses.responses) (state_of maps c.answer_query.new.client)
     c.answer_query.new.client.info c.answer_query.new.client.outbox e.asked.2.0
-    (ap all (sym e.asked.2.1 ∙ c.in_ok-responses.was)) e.turns c.answer_query.result a.ok a.refused a.answerable a.info in
+    (ap all (sym e.asked.2.1 ∙ c.in_ok-responses.was)) e.waited.turns c.answer_query.result a.ok a.refused a.answerable a.kept.info in
     let is = c.session_outcome.ensures in
     record {
       ran = (e.asked.0, e.asked.1, rw is x.ran);
-      answerable = rw is x.answerable;
-      store = a.store;
-      caused = rw is x.caused;
-      limit = rw is x.limit;
-      info = rw is x.same;
-      kept = a.kept;
-      metadata = a.metadata;
-      turns = rw is x.spent;
-      bounded = e.bounded;
-      keeps = e.keeps;
+      errors = rw is (query_error maps c.args.client.now c.answer_query.new.client (session_outcome c.answer_query.result) x.answerable
+          x.limit);
+      kept = record { info = rw is x.same; kept = a.kept.kept; store = a.kept.store; metadata = a.kept.metadata };
+      waited = record { caused = rw is x.caused; turns = rw is x.spent; bounded = e.waited.bounded; keeps = e.waited.keeps };
     }

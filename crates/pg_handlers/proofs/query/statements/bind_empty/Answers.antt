@@ -43,8 +43,7 @@ returns-in_err-values_for_empty g c =
       ok = tt;
       refused = inl p.2;
       answerable = inl p.2;
-      kept = refl;
-      waiting = refl;
+      kept = record { state = refl; waiting = refl };
       good = λ parser good. good;
     })
 
@@ -60,8 +59,7 @@ returns-then-count-gt0 g c =
       refused = values_refused (state_of g.St.PortalStore.maps c.args.client.now) m c.args.client.now.outbox _ more
           (e.error ∙ counted ∙ named);
       answerable = e.answerable;
-      kept = refl;
-      waiting = refl;
+      kept = record { state = refl; waiting = refl };
       good = λ parser good. good;
     }
 
@@ -74,8 +72,7 @@ returns-in_err-store_empty_portal g c =
       refused = inl p.2;
       answerable = inl p.2;
       kept = e.err;
-      waiting = e.waiting;
-      good = λ parser good. subst (IsGoodState parser) (sym e.err) good;
+      good = λ parser good. subst (IsGoodState parser) (sym e.err.state) good;
     })
 
 pub returns : goal.returns
@@ -87,6 +84,5 @@ returns g c =
       refused = tt;
       answerable = tt;
       kept = tt;
-      waiting = tt;
       good = λ parser good. subst (IsGoodState parser) (sym e.ok) (good_with_empty_portal parser s c.as_str-2.result.now good);
     }

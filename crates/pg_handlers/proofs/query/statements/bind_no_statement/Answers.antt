@@ -55,8 +55,7 @@ returns-then-is_none g c =
       ok = λ h. tt;
       refused = λ h. none_bound h s c.args.message c.args.client.now.outbox c.no_statement.result none c.no_statement.ensures.error;
       answerable = c.no_statement.ensures.answerable;
-      kept = refl;
-      waiting = refl;
+      kept = record { state = refl; waiting = refl };
       good = λ parser good. good;
     }
 
@@ -78,6 +77,5 @@ returns g c =
           (empty_bound h s c.args.message found) told.refused;
       answerable = told.answerable;
       kept = told.kept;
-      waiting = told.waiting;
       good = told.good;
     }

@@ -11,8 +11,7 @@ returns-in_default g c = rw c.out_of_memory.ensures (record {
   ok = tt;
   replied = tt;
   refused = refl;
-  kept = refl;
-  waiting = c.in_default.ensures.err;
+  kept = record { state = refl; waiting = c.in_default.ensures.err };
 })
 
 pub returns-in_default-stored : goal.returns-in_default-stored
@@ -20,9 +19,7 @@ returns-in_default-stored g c = rw c.out_of_memory-in_default-stored.ensures (re
   ok = tt;
   replied = tt;
   refused = refl;
-  kept = ap (state_in c.args.client.now.info) c.in_default-stored.ensures.err;
-  waiting = c.truncate.ensures ∙ ap (λ n. take n c.push_reply.new.outbox) c.len-start.ensures
-      ∙ kept_in_front c.args.client.now.outbox c.push_reply.new.outbox _ c.in-Ok.ensures.ok;
+  kept = record { state = ap (state_in c.args.client.now.info) c.in_default-stored.ensures.err; waiting = c.truncate.ensures ∙ ap (λ n. take n c.push_reply.new.outbox) c.len-start.ensures ∙ kept_in_front c.args.client.now.outbox c.push_reply.new.outbox _ c.in-Ok.ensures.ok };
 })
 
 pub returns : goal.returns
@@ -34,5 +31,4 @@ returns g c =
       replied = c.in-Ok.ensures.ok ∙ ap (λ bytes. c.args.client.now.outbox ++ bytes) (one_reply (server.ParseComplete (record {})));
       refused = tt;
       kept = tt;
-      waiting = tt;
     }

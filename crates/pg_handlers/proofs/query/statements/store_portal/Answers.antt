@@ -8,8 +8,7 @@ returns-in_default g c = rw c.out_of_memory.ensures (record {
   ok = tt;
   replied = tt;
   refused = refl;
-  kept = refl;
-  waiting = c.in_default.ensures.err;
+  kept = record { state = refl; waiting = c.in_default.ensures.err };
 })
 
 pub returns-in_default-put_portal : goal.returns-in_default-put_portal
@@ -17,9 +16,7 @@ returns-in_default-put_portal g c = rw c.out_of_memory-in_default-put_portal.ens
   ok = tt;
   replied = tt;
   refused = refl;
-  kept = ap (state_in c.args.client.now.info) c.in_default-put_portal.ensures.err;
-  waiting = c.truncate.ensures ∙ ap (λ n. take n c.push_bind_complete.new.outbox) c.len-start.ensures
-      ∙ kept_in_front c.args.client.now.outbox c.push_bind_complete.new.outbox _ c.in-Ok.ensures.ok;
+  kept = record { state = ap (state_in c.args.client.now.info) c.in_default-put_portal.ensures.err; waiting = c.truncate.ensures ∙ ap (λ n. take n c.push_bind_complete.new.outbox) c.len-start.ensures ∙ kept_in_front c.args.client.now.outbox c.push_bind_complete.new.outbox _ c.in-Ok.ensures.ok };
 })
 
 pub returns : goal.returns
@@ -28,5 +25,4 @@ returns g c = record {
   replied = c.in-Ok.ensures.ok;
   refused = tt;
   kept = tt;
-  waiting = tt;
 }

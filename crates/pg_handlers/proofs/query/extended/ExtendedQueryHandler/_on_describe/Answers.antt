@@ -15,6 +15,7 @@ use Rattle.pg_client.specs.State.{State, state_of}
 use Rattle.conversation_table.specs.ExtendedRows.{on_describe, statement_description, portal_description}
 use Rattle.conversation_table.specs.Good.{IsGiven, IsGoodState, IsSendableDescription}
 use Rattle.conversation_table.specs.Handlers.{ExtendedTold}
+use Rattle.pg_client.proofs.Before.{as_before}
 use Rattle.conversation_table.proofs.Telling.{describes_statement, describes_portal, told_ok, told_refused}
 use Rattle.pg_handlers.proofs.query.extended.ExtendedQueryHandler._on_describe.Goals as goal
 
@@ -88,10 +89,10 @@ pub returns-in-Ok-clause-answerable : goal.returns-in-Ok-clause-answerable
 returns-in-Ok-clause-answerable g c = c.send_told.ensures.answerable
 
 pub returns-in-Ok-clause-kept : goal.returns-in-Ok-clause-kept
-returns-in-Ok-clause-kept g c = behind_error c.send_told.result refl
-
-pub returns-in-Ok-clause-waiting : goal.returns-in-Ok-clause-waiting
-returns-in-Ok-clause-waiting g c = c.send_told.ensures.waiting
+returns-in-Ok-clause-kept g c =
+    let now = c.args.client.now in
+    as_before g.St.PortalStore.maps now (record now { outbox = c.send_told.new.outbox }) c.send_told.result (behind_error c.send_told.result refl)
+    c.send_told.ensures.waiting
 
 pub returns-in-Ok-clause-good : goal.returns-in-Ok-clause-good
 returns-in-Ok-clause-good g c = c.requires.good
@@ -100,10 +101,9 @@ pub returns-in-Ok-described_portal-clause-answerable : goal.returns-in-Ok-descri
 returns-in-Ok-described_portal-clause-answerable g c = c.send_told-in-Ok-described_portal.ensures.answerable
 
 pub returns-in-Ok-described_portal-clause-kept : goal.returns-in-Ok-described_portal-clause-kept
-returns-in-Ok-described_portal-clause-kept g c = behind_error c.send_told-in-Ok-described_portal.result refl
-
-pub returns-in-Ok-described_portal-clause-waiting : goal.returns-in-Ok-described_portal-clause-waiting
-returns-in-Ok-described_portal-clause-waiting g c = c.send_told-in-Ok-described_portal.ensures.waiting
+returns-in-Ok-described_portal-clause-kept g c =
+    let now = c.args.client.now in let r = c.send_told-in-Ok-described_portal in
+    as_before g.St.PortalStore.maps now (record now { outbox = r.new.outbox }) r.result (behind_error r.result refl) r.ensures.waiting
 
 pub returns-in-Ok-described_portal-clause-good : goal.returns-in-Ok-described_portal-clause-good
 returns-in-Ok-described_portal-clause-good g c = c.requires.good
@@ -128,8 +128,7 @@ returns-in-Err g c =
       refused = subst (λ m. IfErr r.result (IsRefusedEffect (on_describe h s m) out r.new.client.outbox
           (state_of maps r.new.client))) same (r.ensures.refused h);
       answerable = r.ensures.answerable;
-      kept = behind_error r.result r.ensures.same;
-      waiting = r.ensures.waiting;
+      kept = as_before maps c.args.client.now r.new.client r.result (behind_error r.result r.ensures.same) r.ensures.waiting;
       good = subst (IsGoodState h.parser) (sym r.ensures.same) c.requires.good;
     }
 
@@ -153,8 +152,7 @@ returns-in-Err-described_portal g c =
       refused = subst (λ m. IfErr r.result (IsRefusedEffect (on_describe h s m) out r.new.client.outbox
           (state_of maps r.new.client))) same (r.ensures.refused h);
       answerable = r.ensures.answerable;
-      kept = behind_error r.result r.ensures.same;
-      waiting = r.ensures.waiting;
+      kept = as_before maps c.args.client.now r.new.client r.result (behind_error r.result r.ensures.same) r.ensures.waiting;
       good = subst (IsGoodState h.parser) (sym r.ensures.same) c.requires.good;
     }
 
@@ -173,10 +171,7 @@ pub returns-in_default-clause-answerable : goal.returns-in_default-clause-answer
 returns-in_default-clause-answerable g c = c.invalid_target.ensures.answerable
 
 pub returns-in_default-clause-kept : goal.returns-in_default-clause-kept
-returns-in_default-clause-kept g c = refl
-
-pub returns-in_default-clause-waiting : goal.returns-in_default-clause-waiting
-returns-in_default-clause-waiting g c = refl
+returns-in_default-clause-kept g c = record { state = refl; waiting = refl }
 
 pub returns-in_default-clause-good : goal.returns-in_default-clause-good
 returns-in_default-clause-good g c = c.requires.good

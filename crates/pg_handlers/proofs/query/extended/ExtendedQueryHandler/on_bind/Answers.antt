@@ -81,23 +81,14 @@ returns-in_default-clause-answerable g c = c.bind_no_statement.ensures.answerabl
 pub returns-in_default-clause-kept : goal.returns-in_default-clause-kept
 returns-in_default-clause-kept g c = c.bind_no_statement.ensures.kept
 
-pub returns-in_default-clause-waiting : goal.returns-in_default-clause-waiting
-returns-in_default-clause-waiting g c = c.bind_no_statement.ensures.waiting
-
 pub returns-then-len-lt2-clause-kept : goal.returns-then-len-lt2-clause-kept
 returns-then-len-lt2-clause-kept g c = c.bind_statement.ensures.kept
-
-pub returns-then-len-lt2-clause-waiting : goal.returns-then-len-lt2-clause-waiting
-returns-then-len-lt2-clause-waiting g c = c.bind_statement.ensures.waiting
 
 pub returns-clause-answerable : goal.returns-clause-answerable
 returns-clause-answerable g c = c.bind_checked.ensures.answerable
 
 pub returns-clause-kept : goal.returns-clause-kept
 returns-clause-kept g c = c.bind_checked.ensures.kept
-
-pub returns-clause-waiting : goal.returns-clause-waiting
-returns-clause-waiting g c = c.bind_checked.ensures.waiting
 
 pub returns-then-len-lt2-clause-refused : goal.returns-then-len-lt2-clause-refused
 returns-then-len-lt2-clause-refused g c =
@@ -119,8 +110,7 @@ returns-in_default-clone g c = rw c.out_of_memory.ensures (record {
   ok = tt;
   refused = inl refl;
   answerable = inl refl;
-  kept = refl;
-  waiting = refl;
+  kept = record { state = refl; waiting = refl };
   good = c.requires.good;
 })
 
@@ -129,8 +119,7 @@ returns-in_default-query_parser g c = rw c.out_of_memory-in_default-query_parser
   ok = tt;
   refused = inl refl;
   answerable = inl refl;
-  kept = refl;
-  waiting = refl;
+  kept = record { state = refl; waiting = refl };
   good = c.requires.good;
 })
 

@@ -24,13 +24,10 @@ returns-in_default g c =
       ok = tt;
       refused = inr (refused_unready s (λ answers. on_execute (g.Self.ExtendedQueryHandler.told c.args.self.now) answers s c.args.message)
           c.args.client.now.outbox (g.D.CancelDesk.told c.args.desk.now).calls c.in_default.not-ReadyForQuery);
-      answerable = not_ready_told;
+      errors = not_ready_told;
       not_ready = λ _. refl;
       caused = λ ready. absurd (c.in_default.not-ReadyForQuery ready);
-      limit = tt;
-      info = refl;
-      left = inl refl;
-      kept = kept_as c.args.client.now.outbox _ refl;
+      kept = record { info = refl; left = inl refl; kept = kept_as c.args.client.now.outbox _ refl };
       good = c.requires.good;
       turns = inl (no_turn c.args.turns.now (g.D.CancelDesk.told c.args.desk.now).calls);
       bounded = λ h. h;
@@ -48,15 +45,12 @@ returns-in-ReadyForQuery g c =
       refused = ready_refused s (λ answers. on_execute (g.Self.ExtendedQueryHandler.told c.args.self.now) answers s c.args.message)
           c.args.client.now.outbox r.new.client.outbox (told c.args.desk.now).calls (told r.new.desk).calls
           (state_of maps r.new.client) r.result c.in-ReadyForQuery.is e.refused;
-      answerable = e.answerable;
+      errors = e.errors;
       not_ready = λ other. absurd (other c.in-ReadyForQuery.is);
-      caused = λ _. e.caused;
-      limit = e.limit;
-      info = e.info;
-      left = e.left;
+      caused = λ _. e.waited.caused;
       kept = e.kept;
       good = e.good;
-      turns = e.turns;
-      bounded = e.bounded;
-      keeps = e.keeps;
+      turns = e.waited.turns;
+      bounded = e.waited.bounded;
+      keeps = e.waited.keeps;
     }

@@ -15,6 +15,7 @@ use Rattle.conversation_table.specs.ExtendedRows.{entry_of, on_parse, parsed, pa
 use Rattle.conversation_table.specs.Handlers.{ExtendedTold}
 use Rattle.conversation_table.specs.Good.{IsGoodState}
 use Rattle.pg_client.specs.State.{State, state_of, with_statement}
+use Rattle.pg_client.proofs.Before.{state_before}
 use Rattle.conversation_table.proofs.GoodStores.{good_with_statement, put_or_kept}
 use Rattle.conversation_table.proofs.Parsing.{parsed_is_good, parsed_named}
 use Rattle.pg_handlers.proofs.query.extended.ExtendedQueryHandler.on_parse.Goals as goal
@@ -61,7 +62,8 @@ returns-in-Ok-found-clause-good g c =
     let same : there ≡ parser = c.in-Ok.ensures in
     let found = c.in-Ok-found.found in
     put_or_kept c.store_parsed.result (IsGoodState parser) s (state_of g.St.PortalStore.maps c.store_parsed.new.client) _
-    c.store_parsed.ensures.ok c.store_parsed.ensures.kept
+    c.store_parsed.ensures.ok
+    (state_before g.St.PortalStore.maps c.args.client.now c.store_parsed.new.client c.store_parsed.result c.store_parsed.ensures.kept)
     (good_with_statement parser s c.name_of-name.result (entry_of found)
     (parsed_is_good parser there c.args.client.now.info c.args.message found same c.requires.given.1.carries.2.count
     c.in-Ok-found.ensures.outcome c.in-Ok-found.ensures.given) c.requires.good) c.requires.good
@@ -77,8 +79,7 @@ returns-in_default g c = rw c.out_of_memory.ensures (record {
   ok = tt;
   refused = inl refl;
   answerable = inl refl;
-  kept = refl;
-  waiting = refl;
+  kept = record { state = refl; waiting = refl };
   good = c.requires.good;
 })
 
@@ -102,9 +103,6 @@ returns-in-Ok-found-clause-answerable g c = wanting IsTellable c.store_parsed.re
 pub returns-in-Ok-found-clause-kept : goal.returns-in-Ok-found-clause-kept
 returns-in-Ok-found-clause-kept g c = c.store_parsed.ensures.kept
 
-pub returns-in-Ok-found-clause-waiting : goal.returns-in-Ok-found-clause-waiting
-returns-in-Ok-found-clause-waiting g c = c.store_parsed.ensures.waiting
-
 pub returns-in-Err : goal.returns-in-Err
 returns-in-Err g c =
     let s = state_of g.St.PortalStore.maps c.args.client.now in
@@ -114,8 +112,7 @@ returns-in-Err g c =
           (g.Self.QueryParser.QueryParser.told (arc_value c.in-Ok.parser)) c.in-Ok.ensures c.in-Err.error c.in-Err.ensures.outcome
           c.args.client.now.outbox;
       answerable = c.in-Err.ensures.answerable;
-      kept = refl;
-      waiting = refl;
+      kept = record { state = refl; waiting = refl };
       good = c.requires.good;
     }
 

@@ -4,6 +4,7 @@ use Rattle.pg_results.specs.Texts.{is_blank}
 use Rattle.pg_client.specs.State.{state_of}
 use Rattle.conversation_table.specs.Good.{AreSendable}
 use Rattle.conversation_table.proofs.Queried.{blank_queried, none_begun, none_started, query_ran, returned}
+use Rattle.conversation_table.proofs.QueryErrors.{query_answerable, query_error, query_limit}
 use Rattle.pg_handlers.proofs.query.simple.SimpleQueryHandler._on_query.Goals as goal
 
 pub returns-then-is_blank : goal.returns-then-is_blank
@@ -17,16 +18,9 @@ returns-then-is_blank g c =
     record {
       ok = x.ok;
       refused = x.refused;
-      answerable = x.answerable;
-      store = refl;
-      caused = x.caused;
-      limit = x.limit;
-      info = x.info;
-      kept = x.kept;
-      metadata = refl;
-      turns = x.spent;
-      bounded = x.bounded;
-      keeps = x.keeps;
+      errors = query_error maps c.args.client.now (record c.args.client.now { outbox = c.answer_blank.new.outbox }) c.session_outcome.result x.answerable x.limit;
+      kept = record { info = x.info; kept = x.kept; store = refl; metadata = refl };
+      waited = record { caused = x.caused; turns = x.spent; bounded = x.bounded; keeps = x.keeps };
     }
 
 pub returns-in_default : goal.returns-in_default
@@ -38,16 +32,9 @@ returns-in_default g c =
     record {
       ok = x.ok;
       refused = x.refused;
-      answerable = x.answerable;
-      store = refl;
-      caused = x.caused;
-      limit = x.limit;
-      info = x.info;
-      kept = x.kept;
-      metadata = refl;
-      turns = x.spent;
-      bounded = x.bounded;
-      keeps = x.keeps;
+      errors = query_error maps c.args.client.now c.args.client.now c.query_out_of_memory.result x.answerable x.limit;
+      kept = record { info = x.info; kept = x.kept; store = refl; metadata = refl };
+      waited = record { caused = x.caused; turns = x.spent; bounded = x.bounded; keeps = x.keeps };
     }
 
 pub returns-in_err-state : goal.returns-in_err-state
@@ -61,16 +48,9 @@ returns-in_err-state g c =
     record {
       ok = x.ok;
       refused = x.refused;
-      answerable = x.answerable;
-      store = refl;
-      caused = x.caused;
-      limit = x.limit;
-      info = x.info;
-      kept = x.kept;
-      metadata = refl;
-      turns = x.spent;
-      bounded = x.bounded;
-      keeps = x.keeps;
+      errors = query_error maps c.args.client.now c.args.client.now c.from_residual.result x.answerable x.limit;
+      kept = record { info = x.info; kept = x.kept; store = refl; metadata = refl };
+      waited = record { caused = x.caused; turns = x.spent; bounded = x.bounded; keeps = x.keeps };
     }
 
 pub run_query-requires-clause-sendable : goal.run_query-requires-clause-sendable
@@ -87,19 +67,14 @@ returns g c =
     let e = c.run_query.ensures in
     let x = query_ran h m s busy (told c.args.desk.now) (told c.start.new.self) c.in-Ok.ensures.ok c.args.turns.now out
     (state_of maps c.run_query.new.client) c.run_query.new.client.outbox (told c.run_query.new.desk) c.run_query.new.turns
-    c.run_query.result _ (c.in_ok-state.ensures.told ∙ ap (h s.info) c.as_str-2.ensures) e.ran e.answerable e.caused e.limit e.info e.kept
-    e.turns e.bounded e.keeps in
+    c.run_query.result _ (c.in_ok-state.ensures.told ∙ ap (h s.info) c.as_str-2.ensures) e.ran
+    (query_answerable maps c.args.client.now c.run_query.new.client c.run_query.result e.errors) e.waited.caused
+    (query_limit maps c.args.client.now c.run_query.new.client c.run_query.result e.errors) e.kept.info e.kept.kept
+    e.waited.turns e.waited.bounded e.waited.keeps in
     record {
       ok = x.ok;
       refused = x.refused;
-      answerable = x.answerable;
-      store = e.store;
-      caused = x.caused;
-      limit = x.limit;
-      info = x.info;
-      kept = x.kept;
-      metadata = e.metadata;
-      turns = x.spent;
-      bounded = x.bounded;
-      keeps = x.keeps;
+      errors = e.errors;
+      kept = e.kept;
+      waited = record { caused = x.caused; turns = x.spent; bounded = x.bounded; keeps = x.keeps };
     }

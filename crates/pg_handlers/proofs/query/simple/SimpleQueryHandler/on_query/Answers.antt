@@ -24,14 +24,10 @@ returns-in_default g c =
       ok = tt;
       refused = inr (refused_unready s (λ answers. on_query (g.Self.SimpleQueryHandler.told c.args.self.now) answers s c.args.query)
           c.args.client.now.outbox (g.D.CancelDesk.told c.args.desk.now).calls c.in_default.not-ReadyForQuery);
-      answerable = not_ready_told;
-      store = refl;
+      errors = not_ready_told;
       not_ready = λ _. refl;
       caused = λ ready. absurd (c.in_default.not-ReadyForQuery ready);
-      limit = tt;
-      info = refl;
-      kept = kept_as c.args.client.now.outbox _ refl;
-      metadata = refl;
+      kept = record { info = refl; kept = kept_as c.args.client.now.outbox _ refl; store = refl; metadata = refl };
       turns = inl (no_turn c.args.turns.now (g.D.CancelDesk.told c.args.desk.now).calls);
       bounded = λ h. h;
       keeps = keeps_none _;
@@ -48,15 +44,11 @@ returns-in-ReadyForQuery g c =
       refused = ready_refused s (λ answers. on_query (g.Self.SimpleQueryHandler.told c.args.self.now) answers s c.args.query)
           c.args.client.now.outbox r.new.client.outbox (told c.args.desk.now).calls (told r.new.desk).calls
           (state_of maps r.new.client) r.result c.in-ReadyForQuery.is e.refused;
-      answerable = e.answerable;
-      store = e.store;
+      errors = e.errors;
       not_ready = λ other. absurd (other c.in-ReadyForQuery.is);
-      caused = λ _. e.caused;
-      limit = e.limit;
-      info = e.info;
+      caused = λ _. e.waited.caused;
       kept = e.kept;
-      metadata = e.metadata;
-      turns = e.turns;
-      bounded = e.bounded;
-      keeps = e.keeps;
+      turns = e.waited.turns;
+      bounded = e.waited.bounded;
+      keeps = e.waited.keeps;
     }

@@ -1,5 +1,6 @@
 use Rattle.pg_messages.specs.declared.frontend.PgWireFrontendMessage.TheVariants as client
 use Rattle.pg_client.specs.State.{state_of}
+use Rattle.conversation_table.proofs.QueryErrors.{query_answerable}
 use Rattle.conversation_runs.proofs.MessageRows.{called_row}
 use Rattle.pg_session.proofs.messages.ready.ExecuteReadyMessage.answer.Goals as goal
 
@@ -15,4 +16,4 @@ returns g c =
     answered.new.turns answered.result c.requires.ready
     (rw (← c.extended_query_handler.ensures) (rw c.requires.ready at told.ok))
     (rw (← c.extended_query_handler.ensures) (rw c.requires.ready at told.refused))
-    told.answerable (rw (← c.extended_query_handler.ensures) told.good) told.turns told.bounded told.keeps
+    (query_answerable maps old new answered.result told.errors) (rw (← c.extended_query_handler.ensures) told.good) told.turns told.bounded told.keeps

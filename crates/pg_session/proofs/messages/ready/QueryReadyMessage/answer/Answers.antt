@@ -2,6 +2,7 @@ use Rattle.std.proofs.Common.{ap}
 use Rattle.pg_messages.specs.declared.frontend.PgWireFrontendMessage.TheVariants as client
 use Rattle.pg_client.specs.State.{state_of}
 use Rattle.conversation_table.proofs.GoodStores.{good_parts}
+use Rattle.conversation_table.proofs.QueryErrors.{query_answerable}
 use Rattle.conversation_runs.proofs.MessageRows.{called_row}
 use Rattle.pg_session.proofs.messages.ready.QueryReadyMessage.answer.Goals as goal
 
@@ -20,7 +21,7 @@ returns g c =
     answered.new.turns answered.result c.requires.ready
     (rw (← c.simple_query_handler.ensures) (rw c.requires.ready at told.ok))
     (rw (← c.simple_query_handler.ensures) (rw c.requires.ready at told.refused))
-    told.answerable
-    (good_parts h.extended.parser s t.info t.statements t.portals told.metadata (ap (λ st. (maps st).statements) told.store)
-    (ap (λ st. (maps st).portals) told.store) c.requires.good)
+    (query_answerable maps old new answered.result told.errors)
+    (good_parts h.extended.parser s t.info t.statements t.portals told.kept.metadata (ap (λ st. (maps st).statements) told.kept.store)
+    (ap (λ st. (maps st).portals) told.kept.store) c.requires.good)
     told.turns told.bounded told.keeps
