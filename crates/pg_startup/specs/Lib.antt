@@ -1,1 +1,2 @@
 pub mod Startup
+pub mod Steady

@@ -7,7 +7,6 @@ ghost use Rattle.pg_messages.specs.Frames.{IsFrame};
 ghost use Rattle.pg_messages.specs.Replies.{HasNoZero, replies_bytes};
 ghost use Rattle.pg_messages.specs.declared.frontend.PgWireFrontendMessage.TheVariants as frontend;
 ghost use Rattle.pg_messages.specs.declared.backend.PgWireBackendMessage.TheVariants as server;
-ghost use Rattle.pg_results.specs.Clients.{HasShortMetadata};
 ghost use Rattle.pg_results.specs.Rows.{IsTellable, IsAnswerable};
 ghost use Rattle.pg_results.specs.declared.error.PgWireError.TheVariants as wire;
 ghost use Rattle.pg_client.specs.Desk.{GoesOn, after_calls};
@@ -21,6 +20,7 @@ ghost use Rattle.pg_client.specs.declared.desk.DeskCall.{DeskCall};
 ghost use Rattle.pg_client.specs.declared.ends.EndKind.TheVariants.{InputEnd, CancelServed};
 ghost use Rattle.pg_client.specs.declared.ends.SessionError.TheVariants as session;
 ghost use Rattle.pg_startup.specs.Startup.{spoken_version};
+ghost use Rattle.pg_startup.specs.Steady.{StaysSound};
 
 use pg_client::{CancelDesk, Client, EndKind, SessionError};
 use pg_messages::{
@@ -59,9 +59,7 @@ pub fn on_startup_phase<St: PortalStore, D: CancelDesk>(
     ensures answerable { IfErr result IsAnswerableError }
     ensures unlimited { IfErr result (λ error. error ≢ session.TurnLimit) }
     ensures ends { IfOk result (λ end. end ≢ Some InputEnd) }
-    ensures store { client.new.store ≡ client.old.store }
-    ensures metadata { HasShortMetadata client.old.info → HasShortMetadata client.new.info }
-    ensures registration { GoesOn (D.told desk.old) (D.told desk.new) }
+    ensures stays { StaysSound client.old client.new (D.told desk.old) (D.told desk.new) }
 {
     match message {
         PgWireFrontendMessage::SslNegotiation(kind) => {
@@ -114,9 +112,7 @@ fn on_startup<St: PortalStore, D: CancelDesk>(
         client.old.outbox client.new.outbox (D.told desk.old).calls (D.told desk.new).calls
         (state_of St.maps client.new) (session.Wire error)) }
     ensures answerable { IfErr result IsAnswerable }
-    ensures store { client.new.store ≡ client.old.store }
-    ensures metadata { HasShortMetadata client.old.info → HasShortMetadata client.new.info }
-    ensures registration { GoesOn (D.told desk.old) (D.told desk.new) }
+    ensures stays { StaysSound client.old client.new (D.told desk.old) (D.told desk.new) }
 {
     let Some(protocol) = spoken_version(message.code) else {
         return Err(unsupported(alloc, message.code)?);
@@ -152,9 +148,7 @@ fn accept<St: PortalStore, D: CancelDesk>(
     ensures cut { OnErr result (IsCutRow
         (λ answers. accepts (state_of St.maps client.old) protocol message)
         (D.told desk.old).calls (D.told desk.new).calls) }
-    ensures store { client.new.store ≡ client.old.store }
-    ensures metadata { HasShortMetadata client.old.info → HasShortMetadata client.new.info }
-    ensures registration { GoesOn (D.told desk.old) (D.told desk.new) }
+    ensures stays { StaysSound client.old client.new (D.told desk.old) (D.told desk.new) }
 {
     let metadata = metadata_of(alloc, message)?;
     narrow(desk, protocol, &mut client.info.secret_key)?;

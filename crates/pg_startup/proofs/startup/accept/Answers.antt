@@ -12,8 +12,8 @@ returns-in_err-metadata-clause-cut g c =
     on_err_always c.from_residual.result (accept_cut_first (state_of g.St.PortalStore.maps c.args.client.now) c.args.protocol
     c.args.message calls calls refl)
 
-pub returns-in_err-metadata-clause-registration : goal.returns-in_err-metadata-clause-registration
-returns-in_err-metadata-clause-registration g c = goes_on_none _
+pub returns-in_err-metadata-clause-stays : goal.returns-in_err-metadata-clause-stays
+returns-in_err-metadata-clause-stays g c = record { store = refl; metadata = λ short. short; registration = goes_on_none _ }
 
 pub returns-in_err-narrow-clause-cut : goal.returns-in_err-narrow-clause-cut
 returns-in_err-narrow-clause-cut g c =
@@ -21,8 +21,8 @@ returns-in_err-narrow-clause-cut g c =
     c.args.message (g.D.CancelDesk.told c.args.desk.now).calls (g.D.CancelDesk.told c.narrow.new.desk).calls
     (ap (λ d. d.calls) c.in_err-narrow.ensures.err))
 
-pub returns-in_err-narrow-clause-registration : goal.returns-in_err-narrow-clause-registration
-returns-in_err-narrow-clause-registration g c = goes_on_as _ _ c.in_err-narrow.ensures.err
+pub returns-in_err-narrow-clause-stays : goal.returns-in_err-narrow-clause-stays
+returns-in_err-narrow-clause-stays g c = record { store = refl; metadata = λ short. short; registration = goes_on_as _ _ c.in_err-narrow.ensures.err }
 
 pub returns-in_err-push_startup-clause-cut : goal.returns-in_err-push_startup-clause-cut
 returns-in_err-push_startup-clause-cut g c =
@@ -30,12 +30,13 @@ returns-in_err-push_startup-clause-cut g c =
     c.args.protocol c.args.message (g.D.CancelDesk.told c.args.desk.now).calls (g.D.CancelDesk.told c.narrow.new.desk).calls
     (ap (λ d. d.calls) c.in_ok-narrow.ensures.registration))
 
-pub returns-in_err-push_startup-clause-registration : goal.returns-in_err-push_startup-clause-registration
-returns-in_err-push_startup-clause-registration g c = goes_on_after _ _ _ c.in_ok-narrow.ensures.registration
+pub returns-in_err-push_startup-clause-stays : goal.returns-in_err-push_startup-clause-stays
+returns-in_err-push_startup-clause-stays g c = record { store = refl; metadata = λ short. short; registration = goes_on_after _ _ _ c.in_ok-narrow.ensures.registration }
 
-pub returns-clause-metadata : goal.returns-clause-metadata
-returns-clause-metadata g c = λ before. subst (λ metadata. AllByRecursion IsShortPair (fin.entries metadata))
-    (sym c.in_ok-metadata.ensures) (metadata_short c.requires.0 c.args.message c.requires.1)
-
-pub returns-clause-registration : goal.returns-clause-registration
-returns-clause-registration g c = goes_on_after _ _ _ c.in_ok-narrow.ensures.registration
+pub returns-clause-stays : goal.returns-clause-stays
+returns-clause-stays g c = record {
+  store = refl;
+  metadata = λ before. subst (λ metadata. AllByRecursion IsShortPair (fin.entries metadata)) (sym c.in_ok-metadata.ensures)
+      (metadata_short c.requires.0 c.args.message c.requires.1);
+  registration = goes_on_after _ _ _ c.in_ok-narrow.ensures.registration;
+}

@@ -16,9 +16,7 @@ returns-in_err-unsupported g c =
       refused = row_without_memory (λ answers. on_startup s c.args.message) c.args.client.now.outbox c.args.client.now.outbox
           _ _ s (session.Wire p.0) refl (ap session.Wire p.2);
       answerable = inl p.2;
-      store = refl;
-      metadata = λ short. short;
-      registration = goes_on_none _;
+      stays = record { store = refl; metadata = λ short. short; registration = goes_on_none _ };
     })
 
 pub returns-in_default : goal.returns-in_default
@@ -30,9 +28,7 @@ returns-in_default g c =
       refused = unspoken_refused s s c.args.message c.args.client.now.outbox c.args.client.now.outbox calls calls
           (sym c.in_default.is ∙ c.spoken_version.ensures) c.in_ok-unsupported.field-0 c.in_ok-unsupported.ensures.error refl refl refl;
       answerable = inr c.in_ok-unsupported.ensures.tellable;
-      store = refl;
-      metadata = λ short. short;
-      registration = goes_on_none _;
+      stays = record { store = refl; metadata = λ short. short; registration = goes_on_none _ };
     }
 
 pub returns-in_err-accept : goal.returns-in_err-accept
@@ -47,9 +43,7 @@ returns-in_err-accept g c =
           c.args.client.now.outbox c.accept.new.client.outbox (told c.args.desk.now).calls (told c.accept.new.desk).calls
           c.in-Some.protocol (sym c.in-Some.is ∙ c.spoken_version.ensures) p.0 p.2 e.cut;
       answerable = inl p.2;
-      store = e.store;
-      metadata = e.metadata;
-      registration = e.registration;
+      stays = e.stays;
     })
 
 pub returns : goal.returns
@@ -62,7 +56,5 @@ returns g c =
           c.in-Some.protocol (sym c.in-Some.is ∙ c.spoken_version.ensures) e.ok;
       refused = tt;
       answerable = tt;
-      store = e.store;
-      metadata = e.metadata;
-      registration = e.registration;
+      stays = e.stays;
     }

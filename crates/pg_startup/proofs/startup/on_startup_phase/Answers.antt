@@ -50,9 +50,7 @@ returns-in_err-push_no_encryption-in-SslNegotiation g c =
       answerable = answerable_as p.0 wire.NoMemory p.2 (inl refl);
       unlimited = no_limit p.0 wire.NoMemory p.2;
       ends = tt;
-      store = refl;
-      metadata = λ short. short;
-      registration = goes_on_none _;
+      stays = record { store = refl; metadata = λ short. short; registration = goes_on_none _ };
     })
 
 pub returns-in_ok-push_no_encryption-in-SslNegotiation : goal.returns-in_ok-push_no_encryption-in-SslNegotiation
@@ -66,9 +64,7 @@ returns-in_ok-push_no_encryption-in-SslNegotiation g c =
       answerable = tt;
       unlimited = tt;
       ends = no_end_yet;
-      store = refl;
-      metadata = λ short. short;
-      registration = goes_on_none _;
+      stays = record { store = refl; metadata = λ short. short; registration = goes_on_none _ };
     }
 
 pub returns-in_err-cancel-in-CancelRequest : goal.returns-in_err-cancel-in-CancelRequest
@@ -83,9 +79,7 @@ returns-in_err-cancel-in-CancelRequest g c =
       answerable = answerable_as p.0 wire.NoMemory p.2 (inl refl);
       unlimited = no_limit p.0 wire.NoMemory p.2;
       ends = tt;
-      store = refl;
-      metadata = λ short. short;
-      registration = c.in_err-cancel-in-CancelRequest.ensures.registration;
+      stays = record { store = refl; metadata = λ short. short; registration = c.in_err-cancel-in-CancelRequest.ensures.registration };
     })
 
 pub returns-in_err-on_startup-in-Startup : goal.returns-in_err-on_startup-in-Startup
@@ -102,9 +96,7 @@ returns-in_err-on_startup-in-Startup g c =
       answerable = answerable_as p.0 _ p.2 e.answerable;
       unlimited = no_limit p.0 _ p.2;
       ends = tt;
-      store = e.store;
-      metadata = e.metadata;
-      registration = e.registration;
+      stays = e.stays;
     })
 
 pub returns-in_ok-on_startup-in-Startup : goal.returns-in_ok-on_startup-in-Startup
@@ -119,28 +111,18 @@ returns-in_ok-on_startup-in-Startup g c =
       answerable = tt;
       unlimited = tt;
       ends = no_end_yet;
-      store = e.store;
-      metadata = e.metadata;
-      registration = e.registration;
+      stays = e.stays;
     }
 
-pub returns-in_default-clause-metadata : goal.returns-in_default-clause-metadata
-returns-in_default-clause-metadata g c = λ short. short
+pub returns-in_default-clause-stays : goal.returns-in_default-clause-stays
+returns-in_default-clause-stays g c = record { store = refl; metadata = λ short. short; registration = goes_on_none _ }
 
-pub returns-in_default-clause-registration : goal.returns-in_default-clause-registration
-returns-in_default-clause-registration g c = goes_on_none _
-
-pub returns-in_default-clause-store : goal.returns-in_default-clause-store
-returns-in_default-clause-store g c = refl
-
-pub returns-in_ok-cancel-in-CancelRequest-clause-store : goal.returns-in_ok-cancel-in-CancelRequest-clause-store
-returns-in_ok-cancel-in-CancelRequest-clause-store g c = refl
-
-pub returns-in_ok-cancel-in-CancelRequest-clause-metadata : goal.returns-in_ok-cancel-in-CancelRequest-clause-metadata
-returns-in_ok-cancel-in-CancelRequest-clause-metadata g c = λ short. short
-
-pub returns-in_ok-cancel-in-CancelRequest-clause-registration : goal.returns-in_ok-cancel-in-CancelRequest-clause-registration
-returns-in_ok-cancel-in-CancelRequest-clause-registration g c = c.in_ok-cancel-in-CancelRequest.ensures.registration
+pub returns-in_ok-cancel-in-CancelRequest-clause-stays : goal.returns-in_ok-cancel-in-CancelRequest-clause-stays
+returns-in_ok-cancel-in-CancelRequest-clause-stays g c = record {
+  store = refl;
+  metadata = λ short. short;
+  registration = c.in_ok-cancel-in-CancelRequest.ensures.registration;
+}
 
 pub returns-in_default-clause-ends : goal.returns-in_default-clause-ends
 returns-in_default-clause-ends g c = no_end_yet

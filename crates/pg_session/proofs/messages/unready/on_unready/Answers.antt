@@ -27,16 +27,16 @@ returns-in-AwaitingStartup g c = λ turns.
       answerable = behind.answerable;
       ends = behind.ends;
       good = record {
-        statements = subst (λ st. Each (IsGoodStatement h.extended.parser) (g.St.PortalStore.maps st).statements) (sym behind.store)
+        statements = subst (λ st. Each (IsGoodStatement h.extended.parser) (g.St.PortalStore.maps st).statements) (sym behind.stays.store)
             c.requires.good.statements;
-        portals = subst (λ st. Each (IsGoodPortal h.extended.parser) (g.St.PortalStore.maps st).portals) (sym behind.store)
+        portals = subst (λ st. Each (IsGoodPortal h.extended.parser) (g.St.PortalStore.maps st).portals) (sym behind.stays.store)
             c.requires.good.portals;
-        metadata = behind.metadata c.requires.good.metadata;
+        metadata = behind.stays.metadata c.requires.good.metadata;
       };
       turns = startup_turns s t c.args.message turns old.outbox answered.new.client.outbox calls new_calls answered.result behind.ok
           behind.refused behind.unlimited;
       bounded = λ within. within;
-      registration = behind.registration;
+      registration = behind.stays.registration;
     }
 
 pub returns-in-CopyInProgress : goal.returns-in-CopyInProgress
