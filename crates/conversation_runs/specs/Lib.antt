@@ -3,3 +3,5 @@ pub mod Run
 pub mod Session
 pub mod Steps
 pub mod Streams
+pub mod Causes
+pub mod Ready

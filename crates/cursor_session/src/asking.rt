@@ -3,8 +3,8 @@
 ghost use Rattle.std.specs.Prelude.{◌≡◌, [], true, false, OnOk, OnErr};
 ghost use Rattle.std.specs.List.{AllByRecursion};
 ghost use Rattle.conversation_table.specs.Table.{is_startup_phase};
+ghost use Rattle.conversation_runs.specs.Causes.{HasFlushedTo};
 ghost use Rattle.conversation_runs.specs.Session.{ChangesUnsent};
-ghost use Rattle.conversation_runs.specs.Streams.{HasFlushed};
 ghost use Rattle.cursor_commands.specs.Asking.{CanBeSent};
 ghost use Rattle.cursor_session.specs.Asking.{AreResponses};
 ghost use Rattle.cursor_session.specs.Fronts.{SendsReplies, SendsFront};
@@ -56,8 +56,7 @@ pub(crate) fn send_replies<C: FrontedSession, K: Sink>(
     ensures err { OnErr result (SendsFront command.now (C.seen inner.old).unsent
         (K.written sink.old) (K.written sink.new)) }
     ensures empty { OnOk result ((C.seen inner.new).unsent ≡ []) }
-    ensures cause { HasFlushed (K.faults sink.old) (K.faults sink.new) result }
-    ensures sink { K.origin sink.new ≡ K.origin sink.old }
+    ensures sink { HasFlushedTo K.faults K.origin sink.old sink.new result }
     ensures same { ChangesUnsent (C.seen inner.old) (C.seen inner.new) }
 {
     let len = inner.unsent().len();

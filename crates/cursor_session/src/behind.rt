@@ -1,13 +1,12 @@
 //! The session behind a front.
 
 ghost use Rattle.std.specs.Prelude.{◌≡◌, ◌≤◌, ◌++◌, [], true, take, OnOk, OnErr};
-ghost use Rattle.pg_client.specs.Desk.{GoesOn};
 ghost use Rattle.conversation_table.specs.Handlers.{Handlers};
-ghost use Rattle.conversation_table.specs.Questions.{questions_since};
+ghost use Rattle.conversation_runs.specs.Causes.{HasCauses, HasFlushedTo};
 ghost use Rattle.conversation_runs.specs.Messages.{IsGivenIn};
-ghost use Rattle.conversation_runs.specs.Session.{SessionValue, ChangesUnsent, whole_rules, HasFed, is_more};
+ghost use Rattle.conversation_runs.specs.Session.{SessionValue, ChangesUnsent, whole_rules, is_more};
 ghost use Rattle.conversation_runs.specs.Steps.{IsResponse, WasFed};
-ghost use Rattle.conversation_runs.specs.Streams.{GrowsBy, GrowsByFront, HasFlushed, HasSinkCause};
+ghost use Rattle.conversation_runs.specs.Streams.{GrowsBy, GrowsByFront};
 
 use pg_messages::PgWireFrontendMessage;
 use pg_outbox::Outbox;
@@ -54,12 +53,8 @@ pub(crate) trait FrontedSession: Drop {
         ensures handlers { (seen self.new).handlers ≡ (seen self.old).handlers }
 
         // The cause of each error.
-        ensures cause { HasSinkCause (K.faults sink.old) (K.faults sink.new) result }
-        ensures turns { HasFed turns.old turns.new
-            (questions_since (D.told desk.old).calls (D.told desk.new).calls) result }
-        ensures bounded { turns.old.spent ≤ turns.old.limit → turns.new.spent ≤ turns.new.limit }
-        ensures registration { GoesOn (D.told desk.old) (D.told desk.new) }
-        ensures sink { K.origin sink.new ≡ K.origin sink.old };
+        ensures causes { HasCauses K.faults K.origin sink.old sink.new (D.told desk.old)
+            (D.told desk.new) turns.old turns.new result };
 
     /// Answers a message, as [`Session::answer`] does.
     fn answer<D: CancelDesk>(
@@ -91,9 +86,8 @@ pub(crate) trait FrontedSession: Drop {
             (GrowsBy (K.written sink.old) (K.written sink.new) (seen self.old).unsent) }
         ensures err { OnErr result
             (GrowsByFront (K.written sink.old) (K.written sink.new) (seen self.old).unsent) }
-        ensures cause { HasFlushed (K.faults sink.old) (K.faults sink.new) result }
-        ensures same { ChangesUnsent (seen self.old) (seen self.new) }
-        ensures sink { K.origin sink.new ≡ K.origin sink.old };
+        ensures sink { HasFlushedTo K.faults K.origin sink.old sink.new result }
+        ensures same { ChangesUnsent (seen self.old) (seen self.new) };
 }
 
 impl<

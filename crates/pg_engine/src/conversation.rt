@@ -1,11 +1,9 @@
 //! What the engine serves: a conversation that takes a client's bytes piece by piece.
 
 ghost use Rattle.std.specs.Prelude.{◌≡◌, ◌≤◌, [], true, OnOk};
-ghost use Rattle.pg_client.specs.Desk.{GoesOn};
 ghost use Rattle.conversation_table.specs.Lawful.{IsLawful};
-ghost use Rattle.conversation_table.specs.Questions.{questions_since};
-ghost use Rattle.conversation_runs.specs.Session.{HasFed, is_more};
-ghost use Rattle.conversation_runs.specs.Streams.{HasSinkCause};
+ghost use Rattle.conversation_runs.specs.Causes.{HasCauses};
+ghost use Rattle.conversation_runs.specs.Session.{is_more};
 ghost use Rattle.pg_engine.specs.Conversing.{Talk, TakesPiece};
 
 use pg_portal::PortalStore;
@@ -45,12 +43,8 @@ pub trait Conversation {
         ensures open { (told self.new).is_open ≡ is_more result }
 
         // The cause of each error.
-        ensures cause { HasSinkCause (K.faults sink.old) (K.faults sink.new) result }
-        ensures turns { HasFed turns.old turns.new
-            (questions_since (D.told desk.old).calls (D.told desk.new).calls) result }
-        ensures bounded { turns.old.spent ≤ turns.old.limit → turns.new.spent ≤ turns.new.limit }
-        ensures registration { GoesOn (D.told desk.old) (D.told desk.new) }
-        ensures sink { K.origin sink.new ≡ K.origin sink.old };
+        ensures causes { HasCauses K.faults K.origin sink.old sink.new (D.told desk.old)
+            (D.told desk.new) turns.old turns.new result };
 
     // its table keeps the law of conversation tables: further answers change nothing where none was
     // missing

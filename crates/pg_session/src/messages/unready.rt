@@ -24,7 +24,7 @@ use pg_handlers::{
 use pg_messages::{CopyDone, PgWireFrontendMessage};
 use pg_portal::{PgWireConnectionState, PgWireError, PortalStore};
 use pg_startup::on_startup_phase;
-use std::alloc::Global;
+use std::alloc::{AllocError, Global};
 use std::mem::drop;
 
 /// The same result, with an error of a message as one of a session.
@@ -236,11 +236,10 @@ fn copy_done<
 
 /// Ends a COPY. One that a Query began ends with ReadyForQuery and the status that was kept. One
 /// that an Execute began ends without a reply.
-fn end_copy<St: PortalStore>(client: &mut Client<St>, is_extended: bool) -> Result<(), PgWireError>
+fn end_copy<St: PortalStore>(client: &mut Client<St>, is_extended: bool) -> Result<(), AllocError>
     ensures ok { OnOk result (IsEffect
         (copied is_extended (state_of St.maps client.old))
         client.old.outbox client.new.outbox (Done (state_of St.maps client.new))) }
-    ensures refused { IfErr result (λ e. e ≡ PgWireError.NoMemory) }
     ensures store { client.new.store ≡ client.old.store }
     ensures metadata { client.new.info.metadata ≡ client.old.info.metadata }
 {

@@ -16,6 +16,7 @@ ghost use Rattle.conversation_table.specs.Good.{IsGiven};
 ghost use Rattle.conversation_table.specs.Questions.{HasSpent, questions_since};
 ghost use Rattle.conversation_table.specs.Table.{message_row, scope_in};
 ghost use Rattle.conversation_runs.specs.Messages.{IsGivenIn, scope_for, next_of};
+ghost use Rattle.conversation_runs.specs.Ready.{IsReady};
 ghost use Rattle.conversation_runs.specs.Session.{stays_open, goes_on};
 ghost use Rattle.conversation_runs.specs.Steps.{FailedSo, FollowsError, IsResponse};
 ghost use Rattle.conversation_runs.specs.declared.ends.ServeError.TheVariants as serve;
@@ -255,8 +256,7 @@ impl<
         turns: &mut Turns,
         message: M,
     ) -> Result<Option<EndKind>, ServeError>
-        requires open { self.old.is_open ≡ true }
-        requires ready { self.old.state.info.state ≡ phase.ReadyForQuery }
+        requires ready { IsReady self.old }
         requires given { IsGiven (M.TypedMessage.message message) }
         ensures { IsResponse H.told (M.TypedMessage.message message) self.old self.new
             (D.told desk.old) (D.told desk.new) turns.old turns.new result }

@@ -1,12 +1,11 @@
 //! The session takes the client's bytes piece by piece, and sends what it answers.
 
 ghost use Rattle.std.specs.Prelude.{◌≡◌, ◌≤◌, ◌<◌, ◌++◌, [], true, Option, None, length, IfNone, IfSome, OnOk, OnErr, Ok};
-ghost use Rattle.pg_client.specs.Desk.{GoesOn};
-ghost use Rattle.conversation_table.specs.Questions.{questions_since};
 ghost use Rattle.conversation_table.specs.Table.{awaits};
-ghost use Rattle.conversation_runs.specs.Session.{ChangesUnsent, told_or_more, whole_rules, HasFed, is_more, most_held};
+ghost use Rattle.conversation_runs.specs.Causes.{HasCauses, HasFlushedTo};
+ghost use Rattle.conversation_runs.specs.Session.{ChangesUnsent, told_or_more, whole_rules, is_more, most_held};
 ghost use Rattle.conversation_runs.specs.Steps.{Flows, RoundSo, SentBehind, WasFed};
-ghost use Rattle.conversation_runs.specs.Streams.{HasSentCause, GrowsBy, GrowsByFront, HasSinkCause, HasFlushed};
+ghost use Rattle.conversation_runs.specs.Streams.{HasSentCause, GrowsBy, GrowsByFront};
 ghost use Rattle.conversation_runs.specs.declared.ends.Progress.TheVariants.{More};
 
 use crate::session::Session;
@@ -20,8 +19,7 @@ fn flush<K: Sink>(outbox: &mut Outbox, sink: &mut K) -> Result<(), ServeError>
     ensures empty { OnOk result (outbox.new ≡ []) }
     ensures ok { OnOk result (GrowsBy (K.written sink.old) (K.written sink.new) outbox.old) }
     ensures err { OnErr result (GrowsByFront (K.written sink.old) (K.written sink.new) outbox.old) }
-    ensures cause { HasFlushed (K.faults sink.old) (K.faults sink.new) result }
-    ensures sink { K.origin sink.new ≡ K.origin sink.old }
+    ensures sink { HasFlushedTo K.faults K.origin sink.old sink.new result }
 {
     'chunks: while let Some(front) = outbox.front() {
         sink.send(front)?;
@@ -35,8 +33,7 @@ fn flush_all<K: Sink>(outbox: &mut Outbox, sink: &mut K) -> Result<(), ServeErro
     ensures empty { OnOk result (outbox.new ≡ []) }
     ensures ok { OnOk result (GrowsBy (K.written sink.old) (K.written sink.new) outbox.old) }
     ensures err { OnErr result (GrowsByFront (K.written sink.old) (K.written sink.new) outbox.old) }
-    ensures cause { HasFlushed (K.faults sink.old) (K.faults sink.new) result }
-    ensures sink { K.origin sink.new ≡ K.origin sink.old }
+    ensures sink { HasFlushedTo K.faults K.origin sink.old sink.new result }
 {
     let flushed = flush(outbox, sink);
     outbox.release();
@@ -49,8 +46,7 @@ fn flush_if_full<K: Sink>(outbox: &mut Outbox, sink: &mut K) -> Result<(), Serve
     ensures ok { OnOk result (Flows (K.written sink.old) (K.written sink.new) outbox.old outbox.new
         []) }
     ensures err { OnErr result (GrowsByFront (K.written sink.old) (K.written sink.new) outbox.old) }
-    ensures cause { HasFlushed (K.faults sink.old) (K.faults sink.new) result }
-    ensures sink { K.origin sink.new ≡ K.origin sink.old }
+    ensures sink { HasFlushedTo K.faults K.origin sink.old sink.new result }
 {
     if outbox.len() < CHUNK {
         return Ok(());
@@ -81,9 +77,8 @@ impl<
             self.old.unsent) }
         ensures err { OnErr result (GrowsByFront (K.written sink.old) (K.written sink.new)
             self.old.unsent) }
-        ensures cause { HasFlushed (K.faults sink.old) (K.faults sink.new) result }
+        ensures sink { HasFlushedTo K.faults K.origin sink.old sink.new result }
         ensures same { ChangesUnsent self.old self.new }
-        ensures sink { K.origin sink.new ≡ K.origin sink.old }
     {
         flush_all(&mut self.client.outbox, sink)
     }
@@ -121,12 +116,8 @@ impl<
         ensures sent { OnOk result (self.new.unsent ≡ []) }
         ensures open { result ≡ Ok More → self.new.is_open ≡ true }
         ensures handlers { self.new.handlers ≡ self.old.handlers }
-        ensures cause { HasSinkCause (K.faults sink.old) (K.faults sink.new) result }
-        ensures turns { HasFed turns.old turns.new
-            (questions_since (D.told desk.old).calls (D.told desk.new).calls) result }
-        ensures bounded { turns.old.spent ≤ turns.old.limit → turns.new.spent ≤ turns.new.limit }
-        ensures registration { GoesOn (D.told desk.old) (D.told desk.new) }
-        ensures sink { K.origin sink.new ≡ K.origin sink.old }
+        ensures causes { HasCauses K.faults K.origin sink.old sink.new (D.told desk.old)
+            (D.told desk.new) turns.old turns.new result }
     {
         'messages: loop {
             match self.advance(alloc, desk, sink, turns) {
@@ -157,14 +148,8 @@ impl<
         ensures open { told_or_more result ≡ Ok More → self.new.is_open ≡ true }
         ensures handlers { self.new.handlers ≡ self.old.handlers }
         ensures shorter { IfNone result (length self.new.rest < length self.old.rest) }
-        ensures cause { HasSinkCause (K.faults sink.old) (K.faults sink.new)
-            (told_or_more result) }
-        ensures turns { HasFed turns.old turns.new
-            (questions_since (D.told desk.old).calls (D.told desk.new).calls)
-            (told_or_more result) }
-        ensures bounded { turns.old.spent ≤ turns.old.limit → turns.new.spent ≤ turns.new.limit }
-        ensures registration { GoesOn (D.told desk.old) (D.told desk.new) }
-        ensures sink { K.origin sink.new ≡ K.origin sink.old }
+        ensures causes { HasCauses K.faults K.origin sink.old sink.new (D.told desk.old)
+            (D.told desk.new) turns.old turns.new (told_or_more result) }
     {
         let step = self.step(alloc, desk, turns);
         self.told_behind(sink, step)
@@ -226,12 +211,8 @@ impl<
         ensures handlers { self.new.handlers ≡ self.old.handlers }
 
         // The cause of each error.
-        ensures cause { HasSinkCause (K.faults sink.old) (K.faults sink.new) result }
-        ensures turns { HasFed turns.old turns.new
-            (questions_since (D.told desk.old).calls (D.told desk.new).calls) result }
-        ensures bounded { turns.old.spent ≤ turns.old.limit → turns.new.spent ≤ turns.new.limit }
-        ensures registration { GoesOn (D.told desk.old) (D.told desk.new) }
-        ensures sink { K.origin sink.new ≡ K.origin sink.old }
+        ensures causes { HasCauses K.faults K.origin sink.old sink.new (D.told desk.old)
+            (D.told desk.new) turns.old turns.new result }
     {
         match self.rest.extend_from_slice(piece) {
             Ok(()) => {

@@ -4,6 +4,7 @@ ghost use Rattle.std.specs.Prelude.{◌≡◌, ◌++◌, ◌∷◌, [], take, �
 ghost use Rattle.pg_messages.specs.Frames.{IsFrame, IsUnfinished, IsBad};
 ghost use Rattle.pg_results.specs.declared.client.PgWireConnectionState.TheVariants as phase;
 ghost use Rattle.conversation_table.specs.Table.{awaits, is_startup_phase};
+ghost use Rattle.conversation_runs.specs.Ready.{IsReady};
 ghost use Rattle.conversation_runs.specs.Session.{ChangesRest, told_end, unread, IsUnread};
 ghost use Rattle.conversation_runs.specs.Steps.{IsStep};
 
@@ -88,8 +89,7 @@ impl<
         turns: &mut Turns,
         kind: u8,
     ) -> Result<Option<Progress>, ServeError>
-        requires open { self.old.is_open ≡ true }
-        requires ready { self.old.state.info.state ≡ phase.ReadyForQuery }
+        requires ready { IsReady self.old }
         requires kind { take 1 self.old.rest ≡ kind ∷ [] }
         ensures { IsStep H.told self.old.rest self.old self.new (D.told desk.old)
             (D.told desk.new) turns.old turns.new result }
@@ -123,8 +123,7 @@ impl<
         desk: &mut D,
         turns: &mut Turns,
     ) -> Result<Option<Progress>, ServeError>
-        requires open { self.old.is_open ≡ true }
-        requires ready { self.old.state.info.state ≡ phase.ReadyForQuery }
+        requires ready { IsReady self.old }
         requires kind { take 1 self.old.rest ≡ M.TypedMessage.kind ∷ [] }
         ensures { IsStep H.told self.old.rest self.old self.new (D.told desk.old)
             (D.told desk.new) turns.old turns.new result }

@@ -52,9 +52,9 @@ turns-preserved g c =
     let stands = subst (λ o. Stands first.rules.awaits fed.0 new.state took.0 o) c.in-Ok-More.field-0-is fed.2 in
     let kept = took.2 (ap Ok c.in-Ok-More.field-0-is) in
     let asked = questions_since (g.D.CancelDesk.told c.turns.desk).calls (g.D.CancelDesk.told c.feed.new.desk).calls in
-    let spent_is : c.feed.new.turns.spent ≡ c.turns.turns.spent + 1 + asked = ap (λ t. t.spent) c.in-Ok-More.ensures.turns
+    let spent_is : c.feed.new.turns.spent ≡ c.turns.turns.spent + 1 + asked = ap (λ t. t.spent) c.in-Ok-More.ensures.causes.turns
     ∙ ap (λ n. n + asked) c.if-not-spend.ensures.spent in
-    let limit_is : c.feed.new.turns.limit ≡ c.turns.turns.limit = ap (λ t. t.limit) c.in-Ok-More.ensures.turns
+    let limit_is : c.feed.new.turns.limit ≡ c.turns.turns.limit = ap (λ t. t.limit) c.in-Ok-More.ensures.causes.turns
     ∙ c.if-not-spend.ensures.limit in
     let below : c.turns.turns.spent < c.turns.turns.limit = c.if-not-spend.ensures.left.0 refl in
     let below_limit : c.turns.turns.spent < c.args.turns.now.limit = let l = i.limit in omega arith in
@@ -84,13 +84,13 @@ turns-preserved g c =
       gave = gave_more (g.S.Source.left c.args.source.now) (g.S.Source.left c.turns.source) (g.S.Source.left c.receive.new.self)
           (g.S.Source.reads c.args.source.now) (g.S.Source.reads c.turns.source) (g.S.Source.reads c.receive.new.self)
           c.in-Ok.n c.receive.new.into i.gave c.in-Ok.ensures.bytes c.in-Ok.ensures.counts;
-      spent = c.in-Ok-More.ensures.bounded
+      spent = c.in-Ok-More.ensures.causes.bounded
           (let s = c.if-not-spend.ensures.spent in let l = c.if-not-spend.ensures.limit in omega (arith, s, l, below));
       read_faults = c.in-Ok.ensures.calm ∙ i.read_faults;
-      write_faults = c.in-Ok-More.ensures.cause.calm ∙ i.write_faults;
-      registration = goes_on_then _ _ _ i.registration c.in-Ok-More.ensures.registration;
+      write_faults = c.in-Ok-More.ensures.causes.cause.calm ∙ i.write_faults;
+      registration = goes_on_then _ _ _ i.registration c.in-Ok-More.ensures.causes.registration;
       source = c.in-Ok.ensures.origin ∙ i.source;
-      sink = c.in-Ok-More.ensures.sink ∙ i.sink;
+      sink = c.in-Ok-More.ensures.causes.same ∙ i.sink;
     }
 
 -- ---- counts and turns
@@ -121,9 +121,9 @@ turns_go_down spent limit asked new_spent new_limit below s l = omega (arith, be
 pub turns-smaller : goal.turns-smaller
 turns-smaller g c =
     let asked = questions_since (g.D.CancelDesk.told c.turns.desk).calls (g.D.CancelDesk.told c.feed.new.desk).calls in
-    let spent_is : c.feed.new.turns.spent ≡ c.turns.turns.spent + 1 + asked = ap (λ t. t.spent) c.in-Ok-More.ensures.turns
+    let spent_is : c.feed.new.turns.spent ≡ c.turns.turns.spent + 1 + asked = ap (λ t. t.spent) c.in-Ok-More.ensures.causes.turns
     ∙ ap (λ n. n + asked) c.if-not-spend.ensures.spent in
-    let limit_is : c.feed.new.turns.limit ≡ c.turns.turns.limit = ap (λ t. t.limit) c.in-Ok-More.ensures.turns
+    let limit_is : c.feed.new.turns.limit ≡ c.turns.turns.limit = ap (λ t. t.limit) c.in-Ok-More.ensures.causes.turns
     ∙ c.if-not-spend.ensures.limit in
     turns_go_down c.turns.turns.spent c.turns.turns.limit asked c.feed.new.turns.spent c.feed.new.turns.limit
     (c.if-not-spend.ensures.left.0 refl) spent_is limit_is
@@ -276,9 +276,9 @@ returns-in-Ok-Ended g c =
           (g.D.CancelDesk.told c.turns.desk).calls) c.turns.turns.spent c.args.turns.now.limit c.in-Ok.ensures.counts c.if-n-eq0.false
           (i.counted fits) below_limit fits in
           let none = no_end_turn c.in-Ok-Ended.kind stands.0 in
-          let spent_is = ap (λ t. t.spent) c.in-Ok-Ended.ensures.turns in
-          let limit_is = ap (λ t. t.limit) c.in-Ok-Ended.ensures.turns in
-          let within = c.in-Ok-Ended.ensures.bounded (omega (arith, once, kept_limit, below)) in
+          let spent_is = ap (λ t. t.spent) c.in-Ok-Ended.ensures.causes.turns in
+          let limit_is = ap (λ t. t.limit) c.in-Ok-Ended.ensures.causes.turns in
+          let within = c.in-Ok-Ended.ensures.causes.bounded (omega (arith, once, kept_limit, below)) in
           omega (arith, more, over, none, spent_is, limit_is, within, once, kept_limit, same_limit);
       last =
           ends_at_last (g.C.Conversation.told c.args.conversation.now).rules (g.C.Conversation.told c.args.conversation.now).state
@@ -290,19 +290,19 @@ returns-in-Ok-Ended g c =
           c.in-Ok-Ended.kind takes fed.1 (stands.1 []);
       calm = record {
         read_faults = c.in-Ok.ensures.calm ∙ i.read_faults;
-        write_faults = c.in-Ok-Ended.ensures.cause.calm ∙ i.write_faults;
+        write_faults = c.in-Ok-Ended.ensures.causes.cause.calm ∙ i.write_faults;
       };
       never_falls = record {
         read_faults = not_fallen _ _ (c.in-Ok.ensures.calm ∙ i.read_faults);
-        write_faults = not_fallen _ _ (c.in-Ok-Ended.ensures.cause.calm ∙ i.write_faults);
+        write_faults = not_fallen _ _ (c.in-Ok-Ended.ensures.causes.cause.calm ∙ i.write_faults);
       };
       reads = gave_more (g.S.Source.left c.args.source.now) (g.S.Source.left c.turns.source) (g.S.Source.left c.receive.new.self)
           (g.S.Source.reads c.args.source.now) (g.S.Source.reads c.turns.source) (g.S.Source.reads c.receive.new.self) c.in-Ok.n
           c.receive.new.into
           i.gave c.in-Ok.ensures.bytes c.in-Ok.ensures.counts;
-      registration = goes_on_then _ _ _ i.registration c.in-Ok-Ended.ensures.registration;
+      registration = goes_on_then _ _ _ i.registration c.in-Ok-Ended.ensures.causes.registration;
       source = c.in-Ok.ensures.origin ∙ i.source;
-      sink = c.in-Ok-Ended.ensures.sink ∙ i.sink;
+      sink = c.in-Ok-Ended.ensures.causes.same ∙ i.sink;
     }
 
 -- ---- the conversation was given up
@@ -327,7 +327,7 @@ returns-in-Err g c =
           (takes_more old_left (g.S.Source.left c.turns.source) left i.taken c.in-Ok.n c.receive.new.into i.takes c.in-Ok.ensures.bytes) in (
             cut.made,
             cut.grown,
-            went_by_error first.rules first.state c.in-Err.error old_left left _ _ _ (λ q. c.in-Err.ensures.cause.no_read_fault (ap Err q))
+            went_by_error first.rules first.state c.in-Err.error old_left left _ _ _ (λ q. c.in-Err.ensures.causes.cause.no_read_fault (ap Err q))
                 (cut_run_of_taken first.rules first.state old_left left takes cut)
                 (λ q.
                 let stopped = subst (λ e. WasFed first.rules first.state (i.taken ++ c.front_of.result.now) new.state took.0
@@ -352,30 +352,30 @@ returns-in-Err g c =
           (questions_since (g.D.CancelDesk.told c.args.desk.now).calls (g.D.CancelDesk.told c.feed.new.desk).calls)
           (counts_of g.S.Source.reads g.S.Source.faults g.K.Sink.faults c.args.source.now c.args.sink.now)
           (counts_of g.S.Source.reads g.S.Source.faults g.K.Sink.faults c.receive.new.self c.feed.new.sink)
-          (λ q. c.in-Err.ensures.cause.no_read_fault (ap Err q))
+          (λ q. c.in-Err.ensures.causes.cause.no_read_fault (ap Err q))
           (λ q. risen_since (g.K.Sink.faults c.args.sink.now) (g.K.Sink.faults c.turns.sink) (g.K.Sink.faults c.feed.new.sink)
-          (let same = i.write_faults in omega (arith, same)) c.in-Err.ensures.cause.never_falls
-          (c.in-Err.ensures.cause.write_fault (ap Err q)))
+          (let same = i.write_faults in omega (arith, same)) c.in-Err.ensures.causes.cause.never_falls
+          (c.in-Err.ensures.causes.cause.write_fault (ap Err q)))
           (λ q fits.
           let more = counted_more c.in-Ok.n (g.S.Source.reads c.turns.source) (g.S.Source.reads c.receive.new.self)
           (g.S.Source.reads c.args.source.now) (questions_since (g.D.CancelDesk.told c.args.desk.now).calls
           (g.D.CancelDesk.told c.turns.desk).calls) c.turns.turns.spent c.args.turns.now.limit c.in-Ok.ensures.counts c.if-n-eq0.false
           (i.counted fits) below_limit fits in
-          let fed = subst (λ e. HasFed {A = Progress} c.spend.new.self c.feed.new.turns asked (Err e)) q c.in-Err.ensures.turns in
-          let all = all_spent c.spend.new.self c.feed.new.turns asked fed c.in-Err.ensures.bounded (omega (arith, once, kept_limit, below)) in
+          let fed = subst (λ e. HasFed {A = Progress} c.spend.new.self c.feed.new.turns asked (Err e)) q c.in-Err.ensures.causes.turns in
+          let all = all_spent c.spend.new.self c.feed.new.turns asked fed c.in-Err.ensures.causes.bounded (omega (arith, once, kept_limit, below)) in
           omega (arith, more, over, all, once, kept_limit, same_limit));
       last = tt;
       taken = tt;
       calm = tt;
       never_falls = record {
         read_faults = not_fallen _ _ (c.in-Ok.ensures.calm ∙ i.read_faults);
-        write_faults = fallen_not _ _ _ i.write_faults c.in-Err.ensures.cause.never_falls;
+        write_faults = fallen_not _ _ _ i.write_faults c.in-Err.ensures.causes.cause.never_falls;
       };
       reads = gave_more (g.S.Source.left c.args.source.now) (g.S.Source.left c.turns.source) (g.S.Source.left c.receive.new.self)
           (g.S.Source.reads c.args.source.now) (g.S.Source.reads c.turns.source) (g.S.Source.reads c.receive.new.self) c.in-Ok.n
           c.receive.new.into
           i.gave c.in-Ok.ensures.bytes c.in-Ok.ensures.counts;
-      registration = goes_on_then _ _ _ i.registration c.in-Err.ensures.registration;
+      registration = goes_on_then _ _ _ i.registration c.in-Err.ensures.causes.registration;
       source = c.in-Ok.ensures.origin ∙ i.source;
-      sink = c.in-Err.ensures.sink ∙ i.sink;
+      sink = c.in-Err.ensures.causes.same ∙ i.sink;
     }

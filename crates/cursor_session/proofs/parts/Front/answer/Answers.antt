@@ -38,7 +38,8 @@ returns-in-Ok-send_replies g c = λ frame m carries asked.
     c.in_ok-messages.ensures c.in-Ok.ensures in
     subst (λ p. FrontTakes g.C.FrontedSession.told v frame w a b (Ok p)) (sym c.told_by.ensures)
     (command_takes g.C.FrontedSession.told v asked_v c.args.command.now c.requires.ready q.opened q.sent c.requires.none c.requires.held c.requires.owed
-    frame m carries asked a b sent_v c.in-Ok.end x same.state same.handlers c.send_replies.ensures.sink same.rest same.opened r.empty r.ok r.cause)
+    frame m carries asked a b sent_v c.in-Ok.end x same.state same.handlers c.send_replies.ensures.sink.sink same.rest same.opened r.empty r.ok
+    r.sink.cause)
 
 pub returns-in-Err-send_replies : goal.returns-in-Err-send_replies
 returns-in-Err-send_replies g c = λ frame m carries asked.
@@ -53,8 +54,8 @@ returns-in-Err-send_replies g c = λ frame m carries asked.
     let x = subst (λ l. AreResponses g.C.FrontedSession.told l v.inner asked_v a.desk b.desk a.turns b.turns (Ok c.in-Ok.end))
     c.in_ok-messages.ensures c.in-Ok.ensures in
     command_takes_cut g.C.FrontedSession.told v asked_v c.args.command.now c.requires.ready q.opened q.sent c.requires.none c.requires.held c.requires.owed
-    frame m carries asked a b sent_v c.in-Ok.end x same.state same.handlers c.send_replies.ensures.sink c.in-Err-send_replies.error r.err
-    r.cause
+    frame m carries asked a b sent_v c.in-Ok.end x same.state same.handlers c.send_replies.ensures.sink.sink c.in-Err-send_replies.error r.err
+    r.sink.cause
 
 pub returns-in-Err : goal.returns-in-Err
 returns-in-Err g c = λ frame m carries asked.

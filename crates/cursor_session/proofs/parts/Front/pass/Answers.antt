@@ -17,8 +17,8 @@ returns g c =
     let f = c.feed.ensures in
     record {
       took = pass_takes (g.C.FrontedSession.told old.handlers) old.state text c.args.owed new.state new.rest (new.rest ++ held) old.unsent a b
-          c.feed.result c.requires.begun c.requires.quiet.sent (ap (λ l. new.rest ++ l) c.requires.held ∙ append-nil new.rest) f.fed f.cause
-          f.turns f.bounded f.registration f.sink;
+          c.feed.result c.requires.begun c.requires.quiet.sent (ap (λ l. new.rest ++ l) c.requires.held ∙ append-nil new.rest) f.fed
+          f.causes.cause f.causes.turns f.causes.bounded f.causes.registration f.causes.same;
       stands = λ more.
           pass_stands (g.C.FrontedSession.told old.handlers) old.state text (record { inner = new; held = held; owed = c.args.owed })
           a.written b.written old.unsent a.desk.calls b.desk.calls c.requires.begun c.requires.held

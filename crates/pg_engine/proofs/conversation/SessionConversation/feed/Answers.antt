@@ -14,17 +14,5 @@ returns-clause-sent g c = c.feed.ensures.sent
 pub returns-clause-open : goal.returns-clause-open
 returns-clause-open g c = c.feed.ensures.«open»
 
-pub returns-clause-cause : goal.returns-clause-cause
-returns-clause-cause g c = c.feed.ensures.cause
-
-pub returns-clause-turns : goal.returns-clause-turns
-returns-clause-turns g c = c.feed.ensures.turns
-
-pub returns-clause-bounded : goal.returns-clause-bounded
-returns-clause-bounded g c = c.feed.ensures.bounded
-
-pub returns-clause-registration : goal.returns-clause-registration
-returns-clause-registration g c = c.feed.ensures.registration
-
-pub returns-clause-sink : goal.returns-clause-sink
-returns-clause-sink g c = c.feed.ensures.sink
+pub returns-clause-causes : goal.returns-clause-causes
+returns-clause-causes g c = c.feed.ensures.causes

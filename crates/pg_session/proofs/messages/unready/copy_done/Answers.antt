@@ -94,13 +94,13 @@ pub returns-in_err-end_copy-clause-refused : goal.returns-in_err-end_copy-clause
 returns-in_err-end_copy-clause-refused g c =
     let from = c.from_residual-in_err-end_copy in
     let p = err_from_is_err_and from.result from.ensures.1 in
-    rw p.1 (inl (p.2 ∙ c.in_err-end_copy.ensures.refused))
+    rw p.1 (inl p.2)
 
 pub returns-in_err-end_copy-clause-answerable : goal.returns-in_err-end_copy-clause-answerable
 returns-in_err-end_copy-clause-answerable g c =
     let from = c.from_residual-in_err-end_copy in
     let p = err_from_is_err_and from.result from.ensures.1 in
-    rw p.1 (inl (p.2 ∙ c.in_err-end_copy.ensures.refused))
+    rw p.1 (inl p.2)
 
 pub returns-clause-ok : goal.returns-clause-ok
 returns-clause-ok g c =

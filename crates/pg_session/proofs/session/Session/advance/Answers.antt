@@ -32,19 +32,16 @@ returns-clause-shorter g c =
 pub returns-clause-handlers : goal.returns-clause-handlers
 returns-clause-handlers g c = c.told_behind.ensures.same.handlers ∙ c.step-step.ensures.handlers
 
-pub returns-clause-cause : goal.returns-clause-cause
-returns-clause-cause g c = caused_behind _ _ _ _ c.step-step.result c.told_behind.result _ _ c.told_behind.ensures.sent
-    c.step-step.ensures.only c.told_behind.ensures.cause
-
-pub returns-clause-turns : goal.returns-clause-turns
-returns-clause-turns g c = spent_behind _ _ _ _ c.step-step.result c.told_behind.result _ _ c.args.turns.now c.step-step.new.turns _
-    c.told_behind.ensures.sent c.told_behind.ensures.cause c.step-step.ensures.turns
-
-pub returns-clause-bounded : goal.returns-clause-bounded
-returns-clause-bounded g c = c.step-step.ensures.bounded
-
-pub returns-clause-registration : goal.returns-clause-registration
-returns-clause-registration g c = c.step-step.ensures.registration
+pub returns-clause-causes : goal.returns-clause-causes
+returns-clause-causes g c = record {
+  cause = caused_behind _ _ _ _ c.step-step.result c.told_behind.result _ _ c.told_behind.ensures.sent c.step-step.ensures.only
+      c.told_behind.ensures.cause;
+  turns = spent_behind _ _ _ _ c.step-step.result c.told_behind.result _ _ c.args.turns.now c.step-step.new.turns _
+      c.told_behind.ensures.sent c.told_behind.ensures.cause c.step-step.ensures.turns;
+  bounded = c.step-step.ensures.bounded;
+  registration = c.step-step.ensures.registration;
+  same = c.told_behind.ensures.sink;
+}
 
 pub returns-clause-open : goal.returns-clause-open
 returns-clause-open g c = λ more. c.told_behind.ensures.same.opened

@@ -11,17 +11,17 @@ pub answer-requires-clause-given : goal.answer-requires-clause-given
 answer-requires-clause-given g c = c.requires.given
 
 pub answer-requires-clause-ready : goal.answer-requires-clause-ready
-answer-requires-clause-ready g c = ap (λ v. v.state.info.state) c.self.view_is ∙ c.requires.ready
+answer-requires-clause-ready g c = ap (λ v. v.state.info.state) c.self.view_is ∙ c.requires.ready.ready
 
 pub answer-requires-clause-good : goal.answer-requires-clause-good
 answer-requires-clause-good g c =
-    rw c.deref-handlers.ensures (c.self.invariant (ap (λ v. v.is_open) c.self.view_is ∙ c.requires.«open»))
+    rw c.deref-handlers.ensures (c.self.invariant (ap (λ v. v.is_open) c.self.view_is ∙ c.requires.ready.opened))
 
 pub invariant_of-self : goal.invariant_of-self
 invariant_of-self g c = λ stays. rw c.deref-handlers.ensures at c.answer.ensures.good
 
 pub fail-requires-clause-open : goal.fail-requires-clause-open
-fail-requires-clause-open g c = λ stays. ap (λ v. v.is_open) c.self.view_is ∙ c.requires.«open»
+fail-requires-clause-open g c = λ stays. ap (λ v. v.is_open) c.self.view_is ∙ c.requires.ready.opened
 
 pub fail-requires-clause-answerable : goal.fail-requires-clause-answerable
 fail-requires-clause-answerable g c = (rw c.in-Err.is at c.answer.ensures).answerable
@@ -47,7 +47,7 @@ returns-in-Ok g c =
       unsent = c.answer.new.client.outbox;
       is_open = inside.opened;
     }) desk new_desk before after (Ok None)) c.self.view_is
-    (done_response told m _ _ desk new_desk before after None row.ok row.ends row.turns row.bounded row.registration (ap (λ v. v.is_open) c.self.view_is ∙ c.requires.«open») refl refl)
+    (done_response told m _ _ desk new_desk before after None row.ok row.ends row.turns row.bounded row.registration (ap (λ v. v.is_open) c.self.view_is ∙ c.requires.ready.opened) refl refl)
 
 pub returns-in-Err : goal.returns-in-Err
 returns-in-Err g c =
@@ -65,7 +65,7 @@ returns-in-Err g c =
     let scope = scope_for c.waits_for_sync.result in
     let row = subst (λ (x : g.row.H.Denot). IsMessageRow (told x) m s t inside.client.outbox c.answer.new.client.outbox desk new_desk before
     after (Err c.in-Err.error)) c.deref-handlers.ensures (rw c.in-Err.is at c.answer.ensures) in
-    let ready = ap (λ v. v.state.info.state) c.self.view_is ∙ c.requires.ready in
+    let ready = ap (λ v. v.state.info.state) c.self.view_is ∙ c.requires.ready.ready in
     subst (λ v. IsResponse told m v c.fail.new.self desk new_desk before after c.fail.result) c.self.view_is
     (failed_response told m _ c.fail.new.self desk new_desk before after (record {
       handlers = arc_value inside.handlers;

@@ -3,6 +3,7 @@ use Rattle.pg_client.proofs.Desks.{goes_on_none, goes_on_then}
 use Rattle.pg_client.specs.Answer.{Goes}
 use Rattle.conversation_runs.specs.Session.{whole_rules}
 use Rattle.conversation_runs.specs.Steps.{IsServed, WasFed}
+use Rattle.conversation_runs.specs.Streams.{HasSinkCause}
 use Rattle.conversation_runs.specs.declared.ends.Progress.TheVariants.{More}
 use Rattle.conversation_runs.proofs.Answering.{whole_lawful}
 use Rattle.conversation_runs.proofs.Rounds.{told_then, turns_then}
@@ -44,8 +45,8 @@ returns-in-Some-clause-fed g c =
     (subst (λ y. WasFed (at y) before.state before.rest after.state after.rest written now before.unsent l m c.in-Some.told)
     so_far.handlers c.in-Some.ensures.round)
 
-pub returns-in-Some-clause-turns : goal.returns-in-Some-clause-turns
-returns-in-Some-clause-turns g c =
+pub returns-in-Some-clause-causes : goal.returns-in-Some-clause-causes
+returns-in-Some-clause-causes g c =
     let at = λ (x : g.row.H.Denot). whole_rules (g.H.PgWireServerHandlers.told x) in
     let first = c.args.self.now in
     let before = c.messages.self in
@@ -55,14 +56,19 @@ returns-in-Some-clause-turns g c =
     let l = (g.D.CancelDesk.told c.messages.desk).calls in
     let m = (g.D.CancelDesk.told c.advance.new.desk).calls in
     let so_far = c.messages.invariant in
-    turns_then (at first.handlers) (whole_lawful (g.H.PgWireServerHandlers.told first.handlers)) first.state before.state after.state
-    first.rest before.rest after.rest (g.K.Sink.written c.args.sink.now) written now first.unsent before.unsent
-    (g.D.CancelDesk.told c.args.desk.now).calls l m so_far.served c.in-Some.told c.args.turns.now c.messages.turns c.advance.new.turns
-    (subst (λ y. WasFed (at y) before.state before.rest after.state after.rest written now before.unsent l m c.in-Some.told)
-    so_far.handlers c.in-Some.ensures.round) so_far.turns c.in-Some.ensures.turns
-
-pub returns-in-Some-clause-registration : goal.returns-in-Some-clause-registration
-returns-in-Some-clause-registration g c = goes_on_then _ _ _ c.messages.invariant.registration c.in-Some.ensures.registration
+    let told = c.in-Some.ensures.causes in
+    record {
+      cause = subst (λ faults. HasSinkCause faults (g.K.Sink.faults c.advance.new.sink) c.in-Some.told) so_far.faults told.cause;
+      turns = turns_then (at first.handlers) (whole_lawful (g.H.PgWireServerHandlers.told first.handlers)) first.state before.state
+          after.state first.rest before.rest after.rest (g.K.Sink.written c.args.sink.now) written now first.unsent before.unsent
+          (g.D.CancelDesk.told c.args.desk.now).calls l m so_far.served c.in-Some.told c.args.turns.now c.messages.turns
+          c.advance.new.turns
+          (subst (λ y. WasFed (at y) before.state before.rest after.state after.rest written now before.unsent l m c.in-Some.told)
+          so_far.handlers c.in-Some.ensures.round) so_far.turns told.turns;
+      bounded = λ within. told.bounded (so_far.bounded within);
+      registration = goes_on_then _ _ _ so_far.registration told.registration;
+      same = told.same ∙ so_far.origin;
+    }
 
 pub messages-preserved : goal.messages-preserved
 messages-preserved g c =
@@ -83,10 +89,10 @@ messages-preserved g c =
       served = serves_then (at x) (whole_lawful (g.H.PgWireServerHandlers.told x)) so_far.served round;
       opened = told.«open» refl;
       handlers = told.handlers ∙ so_far.handlers;
-      faults = told.cause.calm ∙ so_far.faults;
+      faults = told.causes.cause.calm ∙ so_far.faults;
       turns = fed_then c.args.turns.now c.messages.turns c.advance.new.turns k l m so_far.served.called round.called (Ok More)
-          so_far.served.grown round.grown so_far.turns told.turns;
-      bounded = λ within. told.bounded (so_far.bounded within);
-      registration = goes_on_then _ _ _ so_far.registration told.registration;
-      origin = told.sink ∙ so_far.origin;
+          so_far.served.grown round.grown so_far.turns told.causes.turns;
+      bounded = λ within. told.causes.bounded (so_far.bounded within);
+      registration = goes_on_then _ _ _ so_far.registration told.causes.registration;
+      origin = told.causes.same ∙ so_far.origin;
     }

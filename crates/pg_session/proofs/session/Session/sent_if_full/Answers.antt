@@ -18,6 +18,6 @@ returns-clause-sent g c =
 
 pub returns-clause-cause : goal.returns-clause-cause
 returns-clause-cause g c = elim c.match-flush_if_full.branch [
-  | in-Ok w ↦ rw w.result-is w.in-Ok.ensures.cause.calm
-  | in-Err w ↦ rw w.result-is (flushed_as (Unit {0}) Progress _ _ w.in-Err.error w.in-Err.ensures.cause)
+  | in-Ok w ↦ rw w.result-is w.in-Ok.ensures.sink.cause.calm
+  | in-Err w ↦ rw w.result-is (flushed_as (Unit {0}) Progress _ _ w.in-Err.error w.in-Err.ensures.sink.cause)
 ]

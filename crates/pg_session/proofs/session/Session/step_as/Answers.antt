@@ -12,7 +12,7 @@ pub answer_as-requires-clause-given : goal.answer_as-requires-clause-given
 answer_as-requires-clause-given g c =
     let found = rw c.in-Ok-Some.field-0-is at c.in-Ok-Some.ensures.found in (
       found.0,
-      subst (λ p. IsFrame (is_startup_phase p) found.0 (g.M.TypedMessage.message c.in-Ok-Some.message)) c.requires.ready found.2,
+      subst (λ p. IsFrame (is_startup_phase p) found.0 (g.M.TypedMessage.message c.in-Ok-Some.message)) c.requires.ready.ready found.2,
     )
 
 pub returns-in-Ok-Some : goal.returns-in-Ok-Some
@@ -38,7 +38,7 @@ returns-in-Ok-None g c =
     let rest = rw c.in-Ok-None.field-0-is at c.in-Ok-None.ensures.kept in
     let unfinished = rw c.in-Ok-None.field-0-is at c.in-Ok-None.ensures.none in
     step_unread g.H.PgWireServerHandlers.told c.args.self.now c.next_typed.new.self (g.D.CancelDesk.told c.args.desk.now)
-    c.args.turns.now (Ok (Some progress.More)) kept.same.handlers kept.same.state rest kept.same.unsent kept.same.opened c.requires.«open» unfinished
+    c.args.turns.now (Ok (Some progress.More)) kept.same.handlers kept.same.state rest kept.same.unsent kept.same.opened c.requires.ready.opened unfinished
 
 pub returns-in-Err : goal.returns-in-Err
 returns-in-Err g c =
@@ -47,4 +47,4 @@ returns-in-Err g c =
     let is_unread = subst (λ t. IsUnread (awaits s.state) s.rest t) (sym c.unread.ensures)
     (unread_as (awaits s.state) s.rest c.in-Err.error (λ e. c.in-Err.ensures.bad (ap Err e))) in
     step_unread g.H.PgWireServerHandlers.told s c.next_typed.new.self (g.D.CancelDesk.told c.args.desk.now) c.args.turns.now
-    c.unread.result kept.same.handlers kept.same.state c.in-Err.ensures.err kept.same.unsent kept.same.opened c.requires.«open» is_unread
+    c.unread.result kept.same.handlers kept.same.state c.in-Err.ensures.err kept.same.unsent kept.same.opened c.requires.ready.opened is_unread

@@ -41,7 +41,7 @@ returns-in-Ok-flush-clause-cause g c =
     let result : Result Progress ServeError = Ok c.in-Some.told in
     subst (λ step. HasSentCause a b step (Some result)) (sym c.in-Ok.is)
     (subst (λ told. HasSentCause a b (Ok told) (Some result)) (sym c.in-Some.is)
-    (flushed_told a b c.in-Some.told c.in-Ok-flush.ensures.cause.calm))
+    (flushed_told a b c.in-Some.told c.in-Ok-flush.ensures.sink.cause.calm))
 
 pub returns-in-Err-flush-clause-cause : goal.returns-in-Err-flush-clause-cause
 returns-in-Err-flush-clause-cause g c =
@@ -50,7 +50,7 @@ returns-in-Err-flush-clause-cause g c =
     let result : Result Progress ServeError = Err c.in-Err-flush.error in
     subst (λ step. HasSentCause a b step (Some result)) (sym c.in-Ok.is)
     (subst (λ told. HasSentCause a b (Ok told) (Some result)) (sym c.in-Some.is)
-    (flushed_as (Unit {0}) Progress a b c.in-Err-flush.error c.in-Err-flush.ensures.cause))
+    (flushed_as (Unit {0}) Progress a b c.in-Err-flush.error c.in-Err-flush.ensures.sink.cause))
 
 pub returns-in-None-clause-sent : goal.returns-in-None-clause-sent
 returns-in-None-clause-sent g c =

@@ -46,14 +46,13 @@ flushed_ok a b x same = record {
 pub chunks-init : goal.chunks-init
 chunks-init g c = record { flows = Flows-none (g.K.Sink.written c.args.sink.now) c.args.outbox.now; faults = refl; origin = refl }
 
-pub returns-in_err-send-clause-cause : goal.returns-in_err-send-clause-cause
-returns-in_err-send-clause-cause g c =
-    flushed_err (g.K.Sink.faults c.args.sink.now) (g.K.Sink.faults c.chunks.sink) (g.K.Sink.faults c.send.new.self)
-    c.from_residual.result c.in_err-send.field-0.0 c.from_residual.ensures.1 c.chunks.invariant.faults
-    (λ is. c.in_err-send.ensures.failed (ap Err is)) c.in_err-send.ensures.never_falls
-
 pub returns-in_err-send-clause-sink : goal.returns-in_err-send-clause-sink
-returns-in_err-send-clause-sink g c = c.in_err-send.ensures.origin ∙ c.chunks.invariant.origin
+returns-in_err-send-clause-sink g c = record {
+  cause = flushed_err (g.K.Sink.faults c.args.sink.now) (g.K.Sink.faults c.chunks.sink) (g.K.Sink.faults c.send.new.self)
+      c.from_residual.result c.in_err-send.field-0.0 c.from_residual.ensures.1 c.chunks.invariant.faults
+      (λ is. c.in_err-send.ensures.failed (ap Err is)) c.in_err-send.ensures.never_falls;
+  sink = c.in_err-send.ensures.origin ∙ c.chunks.invariant.origin;
+}
 
 pub returns-in_err-send-clause-err : goal.returns-in_err-send-clause-err
 returns-in_err-send-clause-err g c =
@@ -79,8 +78,8 @@ chunks-preserved g c =
 pub returns-clause-ok : goal.returns-clause-ok
 returns-clause-ok g c = all_sent c.chunks.invariant.flows c.in_default.ensures.none
 
-pub returns-clause-cause : goal.returns-clause-cause
-returns-clause-cause g c = flushed_ok (g.K.Sink.faults c.args.sink.now) (g.K.Sink.faults c.chunks.sink) tt c.chunks.invariant.faults
-
 pub returns-clause-sink : goal.returns-clause-sink
-returns-clause-sink g c = c.chunks.invariant.origin
+returns-clause-sink g c = record {
+  cause = flushed_ok (g.K.Sink.faults c.args.sink.now) (g.K.Sink.faults c.chunks.sink) tt c.chunks.invariant.faults;
+  sink = c.chunks.invariant.origin;
+}
