@@ -1,7 +1,7 @@
 -- A desk over a script that finds no memory as it is told.
-use Rattle.std.specs.Prelude.{ℕ, Bool, List, ◌≡◌, ◌==◌, Result, IsErr, IsTrue}
+use Rattle.std.specs.Prelude.{ℕ, Bool, List, ◌≡◌, ◌==◌, Result, IsErr, IsTrue, OnErr}
 use Rattle.std.specs.List.{list_any}
-use Rattle.pg_client.specs.Script.{Script}
+use Rattle.pg_client.specs.Script.{Script, script_told}
 use Rattle.pg_streams.specs.Counts.{raised}
 
 -- What such a desk has: the script, the numbers of the calls that fail, and how many calls there were, those that failed among them.
@@ -19,8 +19,10 @@ pub record IsNextCall (old new : Flaky) : Type 0 where
   pub fails : new.fails ≡ old.fails
   pub made : new.made ≡ raised old.made
 
--- a call was counted, and one that is told to fail fails and changes nothing of what was called or is to be answered
+-- A call was counted. One that is told to fail fails, and changes nothing of what was called or is to be answered. A call that fails is not
+-- called.
 pub record IsFlakyCall {T E : Type 0} (old new : Flaky) (result : Result T E) : Type 0 where
   pub next : IsNextCall old new
   pub refused : IsTrue (is_next_refused old) → IsErr result
   pub unchanged : IsTrue (is_next_refused old) → new.script ≡ old.script
+  pub uncalled : OnErr result (script_told new.script ≡ script_told old.script)

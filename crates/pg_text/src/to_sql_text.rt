@@ -27,7 +27,8 @@ pub trait ToSqlText {
         format_options: &FormatOptions,
     ) -> Result<IsNull, CellError>
         ensures answer { IsAnswer (text self.now ty format_options.now) result }
-        ensures written { WritesCell (text self.now ty format_options.now) result out.old.items out.new.items };
+        ensures written { WritesCell (text self.now ty format_options.now) result
+            out.old.items out.new.items };
 }
 
 impl ToSqlText for Interval {
@@ -46,7 +47,8 @@ impl ToSqlText for Interval {
         format_options: &FormatOptions,
     ) -> Result<IsNull, CellError>
         ensures answer { IsAnswer (interval_text self.now format_options.now) result }
-        ensures written { WritesCell (interval_text self.now format_options.now) result out.old.items out.new.items }
+        ensures written { WritesCell (interval_text self.now format_options.now) result
+            out.old.items out.new.items }
         // so the text stands for this interval and for no other
         ensures stands { OnOk result (AtCell (interval_text self.now format_options.now)
             (λ cell. StandsIn (style_under format_options.now) (bytes_of cell) self.now)) }
