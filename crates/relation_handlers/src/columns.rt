@@ -31,25 +31,11 @@ pub(crate) fn fields_of(
     match means {
         RelationStatement::Begin => Ok(PgList::new(alloc)),
         RelationStatement::Commit => Ok(PgList::new(alloc)),
-        RelationStatement::Relation(place) => fields_at(alloc, relations, place, formats),
+        RelationStatement::Relation(place) => {
+            let names = relations.at(place).columns.as_slice();
+            fields_in(alloc, relations.columns_at(place), formats, names)
+        }
     }
-}
-
-/// The columns of the relation at a place in these formats, each made anew, which can be sent as a
-/// reply.
-fn fields_at(
-    alloc: Global,
-    relations: &NamedRelations,
-    place: u32,
-    formats: &Format,
-) -> Result<PgList<FieldInfo>, AllocError>
-    requires { place < length relations.now }
-    ensures fields { IfOk result (λ fields.
-        fields ≡ columns_in formats.now (relation_at relations.now place).columns) }
-    ensures encodable { IfOk result (λ fields. IsEncodable (row_description fields)) }
-{
-    let names = relations.at(place).columns.as_slice();
-    fields_in(alloc, relations.columns_at(place), formats, names)
 }
 
 /// The columns of these names in these formats, each made anew. Where all have one format they are

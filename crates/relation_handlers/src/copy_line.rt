@@ -30,10 +30,11 @@ pub(crate) fn line_item(
     ensures sendable { IfOk result IsSendableCopy }
 {
     match style.or_text() {
-        Ok(style) => match copy_line_of(alloc, style, row) {
-            Ok(line) => Ok(Ok(line)),
-            Err(error) => Err(error),
-        },
+        Ok(style) => {
+            let mut made = no_data(alloc);
+            write_line(alloc, style, row, &mut made)?;
+            Ok(Ok(made))
+        }
         Err(text) => line_without_style(alloc, text, row),
     }
 }
@@ -79,24 +80,17 @@ fn line_without_style(
         return Ok(Err(refusal(alloc, text)?));
     }
     // A row without a text needs no style.
-    Ok(Ok(copy_line_of(alloc, IntervalStyle::Postgres, row)?))
+    let mut made = no_data(alloc);
+    write_line(alloc, IntervalStyle::Postgres, row, &mut made)?;
+    Ok(Ok(made))
 }
 
-/// A row as a line: its texts in a style, separated by tabs and ended by a newline.
-fn copy_line_of(
-    alloc: Global,
-    style: IntervalStyle,
-    row: &[Interval],
-) -> Result<CopyData, AllocError>
-    requires { length row.now ≤ 1600 }
-    ensures item { IfOk result (λ made. Ok made ≡ line_item (Ok style) row.now) }
-    ensures encodable { IfOk result (λ made. IsEncodable (server.CopyData made)) }
-{
-    let mut made = CopyData {
+/// No data, which take no memory.
+#[inline(always)]
+fn no_data(alloc: Global) -> CopyData {
+    CopyData {
         payload: PgBytes::from_vec(Vec::new(alloc)),
-    };
-    write_line(alloc, style, row, &mut made)?;
-    Ok(made)
+    }
 }
 
 /// Writes a row as a line into lent data, whose memory it uses again.

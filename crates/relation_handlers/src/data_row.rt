@@ -36,10 +36,11 @@ pub(crate) fn row_item(
     ensures sendable { IfOk result IsSendable }
 {
     match style.or_text() {
-        Ok(style) => match data_row_of(alloc, style, formats, row) {
-            Ok(row) => Ok(Ok(row)),
-            Err(error) => Err(error),
-        },
+        Ok(style) => {
+            let mut made = empty_row(alloc);
+            write_row(alloc, style, formats, row, &mut made)?;
+            Ok(Ok(made))
+        }
         Err(text) => item_without_style(alloc, text, formats, row),
     }
 }
@@ -87,26 +88,18 @@ fn item_without_style(
         return Ok(Err(refusal(alloc, text)?));
     }
     // A row without a text needs no style.
-    Ok(Ok(data_row_of(alloc, IntervalStyle::Postgres, formats, row)?))
+    let mut made = empty_row(alloc);
+    write_row(alloc, IntervalStyle::Postgres, formats, row, &mut made)?;
+    Ok(Ok(made))
 }
 
-/// A row in these formats, whose texts are in a style.
-fn data_row_of(
-    alloc: Global,
-    style: IntervalStyle,
-    formats: &[FieldFormat],
-    row: &[Interval],
-) -> Result<DataRow, AllocError>
-    requires { HasFormats row.now formats.now }
-    ensures item { IfOk result (λ made. Ok made ≡ row_item (Ok style) formats.now row.now) }
-    ensures encodable { IfOk result (λ made. IsEncodable (server.DataRow made)) }
-{
-    let mut made = DataRow {
+/// A row without a cell, which takes no memory.
+#[inline(always)]
+fn empty_row(alloc: Global) -> DataRow {
+    DataRow {
         payload: PgBytes::from_vec(Vec::new(alloc)),
         field_count: 0,
-    };
-    write_row(alloc, style, formats, row, &mut made)?;
-    Ok(made)
+    }
 }
 
 /// Writes a row in these formats, whose texts are in a style, into a lent row, whose memory it uses

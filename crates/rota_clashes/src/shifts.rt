@@ -50,19 +50,6 @@ fn push_shift(shifts: &mut Vec<Shift>, moments: &[Moment], place: usize) -> Resu
     Ok(())
 }
 
-/// The shifts of a rota that aren't empty, by their places.
-fn all_shifts(alloc: Global, moments: &[Moment]) -> Result<Vec<Shift>, AllocError>
-    requires valid { All IsMoment moments.now }
-    requires few { length moments.now < 2 ^ 32 }
-    ensures { IfOk result (λ shifts. AreShifts moments.now shifts.items) }
-{
-    let mut shifts = Vec::new(alloc);
-    for place in 0..moments.len().saturating_sub(1) {
-        push_shift(&mut shifts, moments, place)?;
-    }
-    Ok(shifts)
-}
-
 /// The shifts of a rota that aren't empty, by their beginnings.
 pub(crate) fn shifts_of(alloc: Global, moments: &[Moment]) -> Result<Vec<Shift>, AllocError>
     requires valid { All IsMoment moments.now }
@@ -70,7 +57,10 @@ pub(crate) fn shifts_of(alloc: Global, moments: &[Moment]) -> Result<Vec<Shift>,
     ensures shifts { IfOk result (λ shifts. AreShifts moments.now shifts.items) }
     ensures in_order { IfOk result (λ shifts. IsNonDecreasingBy start_of shifts.items) }
 {
-    let mut shifts = all_shifts(alloc, moments)?;
+    let mut shifts = Vec::new(alloc);
+    for place in 0..moments.len().saturating_sub(1) {
+        push_shift(&mut shifts, moments, place)?;
+    }
     shifts.sort_unstable_by_key(|shift| shift.start);
     Ok(shifts)
 }

@@ -1,7 +1,8 @@
 //! The clashes of two rotas whose steps were read.
 
-ghost use Rattle.std.specs.Prelude.{◌≤◌, ◌<◌, ◌+◌, ◌^◌, Some, length};
+ghost use Rattle.std.specs.Prelude.{◌<◌, ◌+◌, ◌^◌, Some, length};
 ghost use Rattle.rota_moments.specs.Moments.{IsMoment};
+ghost use Rattle.status_lines.specs.Counts.{OnStream};
 ghost use Rattle.rota_report.specs.Outcomes.{HasCompared};
 
 use crate::failure::Failure;
@@ -25,9 +26,8 @@ pub(crate) fn write_comparison<K: Sink>(
     requires other_valid { IsMoment other }
     requires few { length steps.now + 1 < 2 ^ 32 }
     requires others_few { length others.now + 1 < 2 ^ 32 }
-    ensures compared { HasCompared start other (Some steps.now) (Some others.now) result
+    ensures { OnStream (HasCompared start other (Some steps.now) (Some others.now) result)
         (K.written out.old) (K.written out.new) (K.faults out.old) (K.faults out.new) }
-    ensures never_falls { K.faults out.old ≤ K.faults out.new }
 {
     let first = rota(alloc, start, steps)?;
     let second = rota(alloc, other, others)?;

@@ -4,10 +4,10 @@ use Rattle.pg_messages.specs.Replies.{IsEncodable}
 use Rattle.pg_replies.specs.Replies.{row_description}
 use Rattle.relation_tables.specs.RelationHandler.{columns_in}
 use Rattle.relation_handlers.proofs.ResponseLemmas.{sendable_columns}
-use Rattle.relation_handlers.proofs.columns.fields_at.Goals as goal
+use Rattle.relation_handlers.proofs.columns.fields_of.Goals as goal
 
-pub returns-clause-encodable : goal.returns-clause-encodable
-returns-clause-encodable c =
+pub returns-in-Relation-clause-encodable : goal.returns-in-Relation-clause-encodable
+returns-in-Relation-clause-encodable c =
     let formats = c.args.formats.now in
     let names = c.as_slice-names.result.now in
     let r = c.at.result.now in

@@ -11,6 +11,6 @@ returns-then-have_text-clause-item c =
 
 pub returns-clause-item : goal.returns-clause-item
 returns-clause-item c =
-    c.in_ok-data_row_of.ensures.item
+    c.in_ok-write_row.ensures.item
     ∙ sym (row_without_text (Err (wire.InvalidOptionValue c.args.text.now)) (Ok style.Postgres) c.args.formats.now c.args.row.now
     (sym c.have_text.ensures ∙ c.if-have_text.false))
