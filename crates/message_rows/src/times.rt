@@ -52,21 +52,13 @@ pub fn time_reply(rt: &HostRuntime, count: u32, reply: &PgWireBackendMessage) ->
     requires { IsEncodable reply.now }
 {
     let start = Instant::now(rt)?;
-    encode(rt.alloc(), count, reply)?;
-    show_time(rt, start, count)
-}
-
-/// Encodes a reply `count` times.
-fn encode(alloc: Global, count: u32, reply: &PgWireBackendMessage) -> Result<(), AllocError>
-    requires { IsEncodable reply.now }
-{
     let mut codec = PgWireMessageServerCodec::new();
-    let mut dst = BytesMut::new(alloc);
+    let mut dst = BytesMut::new(rt.alloc());
     for _ in 0..count {
         dst.clear();
         codec.encode(reply, &mut dst)?;
     }
-    Ok(())
+    show_time(rt, start, count)
 }
 
 /// Prints the nanoseconds of a frame of each stream.
