@@ -14,6 +14,7 @@ mod spawner;
 
 pub use accept_loop::{ListenError, listen};
 pub use connection_job::ConnectionJob;
+pub use job_threads::Tries;
 pub use many_clients_program::run_listen;
 pub use one_client_program::run;
 pub use registered_client::serve_relations;
@@ -23,4 +24,4 @@ pub use relation_serving::{
     serve_relations_on,
 };
 pub use relation_words::{ListenPlace, listen_place};
-pub use spawner::{JobThreads, StartJob, ThreadSpawner, Tries, jobs_cross_threads};
+pub use spawner::{JobThreads, StartJob, ThreadSpawner, jobs_cross_threads};
