@@ -1,11 +1,13 @@
 use Rattle.std.proofs.Common.{◌≢◌, ◌∙◌, ◌+◌, ℕ, Result, Ok, Err, arith, add-one, refl}
 use Rattle.std.proofs.lemmas.Result.{err_from_is_err_and}
+use Rattle.std.specs.Arc.{arc_value}
 use Rattle.pg_cancel.proofs.Prefixes.{prefix_self, prefix_trans}
-use Rattle.relation_server.specs.declared.accept_loop.ListenError.{ListenError}
-use Rattle.relation_server.specs.declared.accept_loop.ListenError.TheVariants.{PidTaken}
-use Rattle.relation_server.specs.Listening.{taking_of}
-use Rattle.relation_server.proofs.Taking.{exactly_refused, gives_up, none_registered, one_more, refused_never}
-use Rattle.relation_server.proofs.accept_loop.listen.Goals as goal
+use Rattle.many_clients.specs.declared.accept_loop.ListenError.{ListenError}
+use Rattle.many_clients.specs.declared.accept_loop.ListenError.TheVariants.{PidTaken}
+use Rattle.many_clients.specs.Listening.{taking_of}
+use Rattle.many_clients.proofs.Serving.{goes_on, none_yet, served}
+use Rattle.many_clients.proofs.Taking.{exactly_refused, gives_up, none_registered, none_started, one_more, refused_never}
+use Rattle.many_clients.proofs.accept_loop.listen_with.Goals as goal
 
 no_refusal : (count m : ℕ) → ◌≢◌ {A = Result ℕ ListenError} (Ok count) (Err (PidTaken m))
 no_refusal count m is = absurd (let k = is in cc)
@@ -16,6 +18,8 @@ connections-init g c = record {
   registered = none_registered c.args.door.now.seen;
   accepted = omega arith;
   started = omega arith;
+  served = none_yet (g.M.JobMaker.makes (g.M.JobMaker.common c.args.maker.now)) (arc_value c.args.manager)
+      (g.A.Acceptor.coming c.args.acceptor.now) (g.P.Spawner.taken c.args.spawner.now);
   falls = (omega arith, omega arith);
   seen = prefix_self c.args.door.now.seen;
   issued = refl;
@@ -31,6 +35,11 @@ connections-preserved g c =
           (add-one c.connections.pid) i.registered t.1;
       accepted = omega (arith, t.0.0, i.accepted);
       started = omega (arith, t.0.1, i.started);
+      served = goes_on (g.M.JobMaker.makes (g.M.JobMaker.common c.args.maker.now)) (arc_value c.args.manager)
+          (g.A.Acceptor.coming c.args.acceptor.now)
+          (g.A.Acceptor.coming c.connections.acceptor) (g.A.Acceptor.coming c.take_in.new.acceptor)
+          (g.P.Spawner.taken c.args.spawner.now) (g.P.Spawner.taken c.connections.spawner) (g.P.Spawner.taken c.take_in.new.spawner)
+          c.connections.pid (c.connections.pid + 1) refl i.served c.in_ok-take_in.ensures.job;
       falls = (
         omega (arith, i.falls.0, c.take_in.ensures.never_falls.0),
         omega (arith, i.falls.1, c.take_in.ensures.never_falls.1),
@@ -53,6 +62,24 @@ returns-in_err-take_in-clause-ended g c =
     (omega (arith, c.connections-test.true, c.most_connections-most.ensures.count)) (i.accepted, i.started) i.registered i.falls
     c.take_in.ensures.never_falls c.in_err-take_in.ensures.taken)
 
+pub returns-in_err-take_in-clause-jobs : goal.returns-in_err-take_in-clause-jobs
+returns-in_err-take_in-clause-jobs g c =
+    let i = c.connections.invariant in
+    let none = none_started c.in_err-take_in.field-0.0 (c.connections.pid + 1)
+    (taking_of g.A.Acceptor.accepted g.A.Acceptor.faults g.P.Spawner.started g.P.Spawner.faults c.connections.acceptor
+    c.connections.spawner)
+    (taking_of g.A.Acceptor.accepted g.A.Acceptor.faults g.P.Spawner.started g.P.Spawner.faults c.take_in.new.acceptor
+    c.take_in.new.spawner)
+    c.connections.door.seen c.take_in.new.door.seen c.in_err-take_in.ensures.taken in (
+      c.connections.pid,
+      none ∙ i.started,
+      served (g.M.JobMaker.makes (g.M.JobMaker.common c.args.maker.now)) (arc_value c.args.manager)
+          (g.A.Acceptor.coming c.args.acceptor.now)
+          (g.A.Acceptor.coming c.connections.acceptor)
+          (g.P.Spawner.taken c.args.spawner.now) (g.P.Spawner.taken c.connections.spawner) (g.P.Spawner.taken c.take_in.new.spawner)
+          c.connections.pid i.served c.in_err-take_in.ensures.untaken,
+    )
+
 pub returns-in_err-take_in-clause-exactly : goal.returns-in_err-take_in-clause-exactly
 returns-in_err-take_in-clause-exactly g c m =
     exactly_refused m c.from_residual.result c.args.count
@@ -64,6 +91,18 @@ returns-in_err-take_in-clause-exactly g c m =
 pub returns-in_err-take_in-clause-seen : goal.returns-in_err-take_in-clause-seen
 returns-in_err-take_in-clause-seen g c =
     prefix_trans c.args.door.now.seen c.connections.door.seen c.take_in.new.door.seen c.connections.invariant.seen c.take_in.ensures.seen
+
+pub returns-clause-jobs : goal.returns-clause-jobs
+returns-clause-jobs g c =
+    let i = c.connections.invariant in (
+      c.connections.pid,
+      i.started,
+      served (g.M.JobMaker.makes (g.M.JobMaker.common c.args.maker.now)) (arc_value c.args.manager)
+          (g.A.Acceptor.coming c.args.acceptor.now)
+          (g.A.Acceptor.coming c.connections.acceptor)
+          (g.P.Spawner.taken c.args.spawner.now) (g.P.Spawner.taken c.connections.spawner) (g.P.Spawner.taken c.connections.spawner)
+          c.connections.pid i.served refl,
+    )
 
 pub returns-clause-exactly : goal.returns-clause-exactly
 returns-clause-exactly g c m = (

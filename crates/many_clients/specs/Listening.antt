@@ -6,8 +6,8 @@ use Rattle.pg_cancel.specs.declared.entries.RegistryCall.TheVariants.{Register}
 use Rattle.pg_cancel.specs.declared.entries.RegistryAnswer.TheVariants.{Registered, Taken}
 use Rattle.pg_cancel.specs.Connections.{registers_of}
 use Rattle.conversation_runs.specs.Streams.{HasRisen}
-use Rattle.relation_server.specs.declared.accept_loop.ListenError.{ListenError}
-use Rattle.relation_server.specs.declared.accept_loop.ListenError.TheVariants.{AcceptFault, SpawnFault, PidTaken, NoMemory}
+use Rattle.many_clients.specs.declared.accept_loop.ListenError.{ListenError}
+use Rattle.many_clients.specs.declared.accept_loop.ListenError.TheVariants.{AcceptFault, SpawnFault, PidTaken, NoMemory}
 
 -- the greatest pid
 abbrev pub greatest_pid : ℕ

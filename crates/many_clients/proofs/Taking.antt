@@ -7,9 +7,9 @@ use Rattle.pg_cancel.specs.declared.entries.RegistryCall.{RegistryCall}
 use Rattle.pg_cancel.specs.declared.entries.RegistryCall.TheVariants.{Register, Start, Ask, Cancel, Narrow, Unregister}
 use Rattle.pg_cancel.specs.declared.entries.RegistryAnswer.TheVariants.{Registered, Taken}
 use Rattle.pg_cancel.specs.Connections.{is_register, registers_of, entry, Registers}
-use Rattle.relation_server.specs.declared.accept_loop.ListenError.{ListenError}
-use Rattle.relation_server.specs.declared.accept_loop.ListenError.TheVariants.{AcceptFault, SpawnFault, PidTaken, NoMemory}
-use Rattle.relation_server.specs.Listening.{pids, pid_of_call, HasRegistered, IsRefusedAt, HasAdmitted, HasRefused, IsTurnedAway, Taking, HasEndedSo, HasTakenIn, NeverFalls, HasTaken, connections_of}
+use Rattle.many_clients.specs.declared.accept_loop.ListenError.{ListenError}
+use Rattle.many_clients.specs.declared.accept_loop.ListenError.TheVariants.{AcceptFault, SpawnFault, PidTaken, NoMemory}
+use Rattle.many_clients.specs.Listening.{pids, pid_of_call, HasRegistered, IsRefusedAt, HasAdmitted, HasRefused, IsTurnedAway, Taking, HasEndedSo, HasTakenIn, NeverFalls, HasTaken, connections_of}
 use Rattle.conversation_runs.specs.Streams.{HasRisen}
 use Rattle.pg_engine.proofs.Serving.{risen_since}
 
@@ -80,6 +80,14 @@ turned_away AcceptFault pid old new seen seen' accepted started h = absurd h
 turned_away SpawnFault pid old new seen seen' accepted started h = absurd h
 turned_away (PidTaken m) pid old new seen seen' accepted started h = ((accepted, omega (arith, started)), h)
 turned_away NoMemory pid old new seen seen' accepted started h = ((accepted, omega (arith, started)), h)
+
+-- no job was started where a connection wasn't taken in
+pub none_started : (e : ListenError) (pid : ℕ) (old new : Taking) (seen seen' : List Entry) → HasTakenIn (Err e) pid old new seen seen'
+    → new.started ≡ old.started
+none_started AcceptFault pid old new seen seen' h = omega (arith, h.1.1)
+none_started SpawnFault pid old new seen seen' h = omega (arith, h.1.1)
+none_started (PidTaken m) pid old new seen seen' h = omega (arith, h.0.1)
+none_started NoMemory pid old new seen seen' h = omega (arith, h.0.1)
 
 -- ---- all of them
 

@@ -11,9 +11,9 @@ use Rattle.pg_cancel.specs.declared.entries.RegistryAnswer.TheVariants.{Register
 use Rattle.pg_cancel.specs.declared.manager.RegisterError.TheVariants as refusal
 use Rattle.pg_cancel.specs.Connections.{Connection, Registers, Witness, entry}
 use Rattle.pg_cancel.proofs.Prefixes.{prefix_self}
-use Rattle.relation_server.specs.Jobs.{IsFresh}
-use Rattle.relation_server.proofs.Taking.{admits, refuses}
-use Rattle.relation_server.proofs.accept_loop.register_next.Goals as goal
+use Rattle.many_clients.specs.Registrations.{IsFresh}
+use Rattle.many_clients.proofs.Taking.{admits, refuses}
+use Rattle.many_clients.proofs.accept_loop.register_next.Goals as goal
 
 -- what was seen goes on with the Register
 goes_on : (n : ℕ) (call : RegistryCall) (seen seen' : List Entry) (answer : RegistryAnswer) → Registers n call seen seen' answer
@@ -37,6 +37,11 @@ returns-in_err-key g c =
       seen = prefix_self c.args.door.now.seen;
       issued = refl;
     })
+
+pub returns-in-Ok-clause-handle : goal.returns-in-Ok-clause-handle
+returns-in-Ok-clause-handle g c =
+    let fits : c.args.pid < 2 ^ 31 = omega (arith, c.requires.pid) in
+    (c.in-Ok.ensures.handle.0, c.in-Ok.ensures.handle.1 ∙ to_z_pos w32 c.args.pid fits)
 
 pub returns-in-Ok-clause-fresh : goal.returns-in-Ok-clause-fresh
 returns-in-Ok-clause-fresh g c =

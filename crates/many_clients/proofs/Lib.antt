@@ -1,0 +1,3 @@
+pub mod Handles
+mod Serving
+mod Taking

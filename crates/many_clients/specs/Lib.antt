@@ -1,0 +1,4 @@
+pub mod Clients
+pub mod Jobs
+pub mod Listening
+pub mod Registrations
