@@ -2,8 +2,9 @@
 """Checks docs/WRONG_BODIES.md against the crates: usage: check_wrong_bodies.py
 
 Every row of a table headed "Wrong body | Refused by" names in backticks the edits and tests that refuse it. The check
-asks that each is there (an edit under some crate's must-fail/ or held/, a test function, a row of a table program), and that
-each edit of the crates is named; that no two edits of a crate have one name; and that each names a file of its crate, in which each
+asks that each is there (an edit under some crate's must-fail/ or held/, a test function, a row of a table program; or a script
+of tools/ or bench/, and behind it words of the lines that it tells, which have to stand in it), and that each edit of the crates is
+named; that no two edits of a crate have one name; and that each names a file of its crate, in which each
 `old:` text stands exactly once, behind what the pairs before it have made. It prints what is wrong, and its status is then 1.
 """
 import re
@@ -48,6 +49,16 @@ def misplaced(path):
     return "it has no pair of lines old: and new:" if old is not None or not texts or len(lines) < 3 else None
 
 
+def lacking(names, known):
+    """Those names that aren't known, nor are scripts, nor words of the script that is named before them."""
+    script = ""
+    for name in names:
+        if re.fullmatch(r"(tools|bench)/\w+(\.\w+)?", name) and (TOP / name).is_file():
+            script = (TOP / name).read_text()
+        elif not any(name in some for some in known) and name not in script:
+            yield name
+
+
 def main():
     crates = listed_crates()
     tests, told = known_examples(crates)
@@ -60,9 +71,7 @@ def main():
         named |= set(names)
         if len(cells) != 2 or not names:
             problems.append(f"{place}: names no edit or test in backticks")
-        for name in names:
-            if name not in edits and name not in tests and name not in told:
-                problems.append(f"{place}: no edit, test or row is called `{name}`")
+        problems += [f"{place}: no edit, test, row or check is called `{name}`" for name in lacking(names, (edits, tests, told))]
     problems += [f"docs/WRONG_BODIES.md: no row names {path}" for name, path in sorted(edits.items()) if name not in named]
     problems += [f"{path.relative_to(TOP)}: {why}" for path in sorted(found) if (why := misplaced(path))]
     of_crates = [(path.parent.parent.name, path.stem) for path in found]
