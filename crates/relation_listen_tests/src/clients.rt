@@ -2,7 +2,7 @@
 
 ghost use Rattle.std.specs.Prelude.{◌≡◌, IfSome};
 ghost use Rattle.std.specs.Arc.{arc_value};
-ghost use Rattle.relation_server.specs.Jobs.{IsFresh};
+ghost use Rattle.many_clients.specs.Registrations.{IsFresh};
 
 use pg_cancel::{ConnectionHandle, ConnectionManager, Door};
 use pg_messages::SecretKey;

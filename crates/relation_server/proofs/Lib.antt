@@ -1,5 +1,3 @@
 mod Completing
-mod Handles
 mod Loads
 mod Registering
-mod Taking

@@ -17,7 +17,7 @@ use Rattle.relation_tables.specs.declared.Relation.{Relation}
 use Rattle.relation_tables.specs.RelationHandler.{relation_handlers}
 use Rattle.relation_server.specs.declared.outcome.Outcome.{Outcome}
 use Rattle.relation_server.specs.declared.outcome.Outcome.TheVariants.{Done, PidTaken, Conversation}
-use Rattle.relation_server.specs.Jobs.{IsLeftBehind}
+use Rattle.many_clients.specs.Registrations.{IsLeftBehind}
 use Rattle.relation_server.specs.Program.{demo_lines, demo_registration}
 
 -- The demo's client was not registered: the door's last entry is its Register, which was answered that a live registration has the pid; or

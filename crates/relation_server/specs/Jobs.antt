@@ -1,11 +1,7 @@
--- What becomes of a connection whose client is served.
-use Rattle.std.specs.Prelude.{◌≡◌, ◌⊎◌, ◌++◌, ℕ, List, [], ◌∷◌, Option, Result, IfOk, OnOk}
-use mathlib.Core.List.{IsPrefix}
+-- What becomes of a connection whose client is served over relations.
+use Rattle.std.specs.Prelude.{ℕ, List, Option, Result, IfOk, OnOk}
 use Rattle.pg_cancel.specs.declared.entries.Entry.{Entry}
-use Rattle.pg_cancel.specs.declared.entries.RegistryCall.TheVariants.{Register, Unregister}
-use Rattle.pg_cancel.specs.declared.entries.RegistryAnswer.TheVariants.{Registered, Done}
-use Rattle.pg_cancel.specs.Connections.{Connection, Witness, calls_of, entry}
-use Rattle.pg_cancel.specs.LegalHistory.{IsLegal}
+use Rattle.pg_cancel.specs.Connections.{Connection, Witness}
 use Rattle.pg_client.specs.declared.ends.EndKind.{EndKind}
 use Rattle.pg_client.specs.State.{first_state}
 use Rattle.conversation_table.specs.Questions.{questions}
@@ -17,19 +13,7 @@ use Rattle.relation_tables.specs.declared.Relation.{Relation}
 use Rattle.relation_tables.specs.RelationHandler.{relation_handlers}
 use Rattle.relation_serving.specs.Completeness.{IsComplete}
 use Rattle.relation_serving.specs.Serving.{WentByTables}
-
--- no byte of the client was read, and the connection has made no call but its Register
-abbrev pub IsFresh : ℕ → Connection → Type 0
-IsFresh reads h = (reads ≡ 0) × (h.mine ≡ entry h.number (Register h.pid h.key) Registered ∷ [])
-
--- What a connection that is gone had seen: a legal history, which goes on from what it had seen before, with its calls before, those that
--- it made, and the end of its registration, or without that where memory ran out.
-pub record IsLeftBehind (h : Connection) (made : List Entry) (note : Witness) : Type 0 where
-  pub issuer : note.issuer ≡ h.issuer
-  pub seen : IsPrefix h.seen note.seen
-  pub legal : IsLegal note.seen
-  pub own : (calls_of h.number note.seen ≡ (h.mine ++ made) ++ entry h.number Unregister Done ∷ [])
-      ⊎ (calls_of h.number note.seen ≡ h.mine ++ made)
+use Rattle.many_clients.specs.Registrations.{IsLeftBehind}
 
 -- A connection's client was served, and its registration then ended: what was written and the calls that the connection made are the
 -- conversation tables' answer to the client's bytes; why the conversation came to an end or was given up, that nothing behind its end was

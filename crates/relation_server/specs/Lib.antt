@@ -1,5 +1,5 @@
 pub mod Demo
 pub mod Jobs
-pub mod Listening
 pub mod Outcomes
 pub mod Program
+pub mod RelationJobs

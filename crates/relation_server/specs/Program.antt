@@ -32,10 +32,11 @@ use Rattle.relation_words.specs.declared.commands.Load.{Load}
 use Rattle.relation_words.specs.declared.commands.Service.{Service}
 use Rattle.relation_server.specs.declared.outcome.Outcome.{Outcome}
 use Rattle.relation_server.specs.declared.outcome.Outcome.TheVariants.{Done, Usage, File, PidTaken, Conversation, AcceptFault, SpawnFault}
-use Rattle.relation_server.specs.declared.accept_loop.ListenError.{ListenError}
-use Rattle.relation_server.specs.declared.accept_loop.ListenError.TheVariants as listen
-use Rattle.relation_server.specs.Jobs.{HasConversed, IsLeftBehind}
-use Rattle.relation_server.specs.Listening.{Taking, HasEndedSo}
+use Rattle.many_clients.specs.declared.accept_loop.ListenError.{ListenError}
+use Rattle.many_clients.specs.declared.accept_loop.ListenError.TheVariants as listen
+use Rattle.many_clients.specs.Registrations.{IsLeftBehind}
+use Rattle.relation_server.specs.Jobs.{HasConversed}
+use Rattle.many_clients.specs.Listening.{Taking, HasEndedSo}
 
 -- What the program sees of its surroundings, when it begins and when it ends: what is left of the relation file and of the client's bytes,
 -- what was written, the counts, and what the door has seen of the registry's history.

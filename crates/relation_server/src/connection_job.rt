@@ -1,6 +1,6 @@
 //! The service of one connection, as a value that a thread may take.
 
-ghost use Rattle.std.specs.Prelude.{List, ◌≡◌, ◌++◌, []};
+ghost use Rattle.std.specs.Prelude.{List, ◌≡◌, ◌++◌};
 ghost use Rattle.std.specs.Arc.{arc_value};
 ghost use Rattle.pg_cancel.specs.declared.entries.Entry.{Entry};
 ghost use Rattle.conversation_table.specs.Questions.{questions_since};
@@ -10,10 +10,11 @@ ghost use Rattle.pg_engine.specs.Serving.{HasCause, counts_of};
 ghost use Rattle.relation_tables.specs.RelationHandler.{relation_handlers};
 ghost use Rattle.relation_serving.specs.Completeness.{IsComplete};
 ghost use Rattle.relation_serving.specs.Serving.{WentByTables};
-ghost use Rattle.relation_server.specs.Jobs.{HasConversed, IsLeftBehind};
+ghost use Rattle.relation_server.specs.Jobs.{HasConversed};
 
 use crate::registered_client::serve_relations;
 use conversation_runs::{ServeError, Sink, Source};
+use many_clients::leave;
 use pg_cancel::{ConnectionHandle, ConnectionManager, Note};
 use pg_client::EndKind;
 use pg_serve::Job;
@@ -143,19 +144,8 @@ pub(crate) fn serve_and_leave<R: Wait, S: Source, K: Sink>(
     (answer, leave(rt, manager, handle))
 }
 
-/// Ends a registration, and answers what its connection had seen.
-fn leave<R: Wait>(rt: &R, manager: &ConnectionManager, handle: ConnectionHandle) -> Note
-    requires issued { handle.issuer ≡ manager.now }
-    ensures { IsLeftBehind handle [] result }
-{
-    match manager.unregister(rt, handle) {
-        Ok(note) => note,
-        Err((mut handle, _no_memory)) => manager.note(&mut handle),
-    }
-}
-
 impl<S: Source + Drop, K: Sink + Drop> Job for ConnectionJob<S, K> {
-    ghost use Rattle.relation_server.specs.Jobs.{IsFresh};
+    ghost use Rattle.many_clients.specs.Registrations.{IsFresh};
 
     ghost is_fresh = { λ job. IsFresh (S.reads job.source) job.handle };
 }

@@ -12,8 +12,9 @@ mod registered_client;
 mod report;
 mod spawner;
 
-pub use accept_loop::{ListenError, listen};
+pub use accept_loop::listen;
 pub use connection_job::ConnectionJob;
+pub use many_clients::ListenError;
 pub use many_clients_program::run_listen;
 pub use one_client_program::run;
 pub use registered_client::serve_relations;

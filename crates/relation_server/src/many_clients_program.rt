@@ -6,17 +6,19 @@ ghost use Rattle.relation_files.specs.Files.{IsToldBy};
 ghost use Rattle.relation_words.specs.Listening.{listen_count_of};
 ghost use Rattle.relation_server.specs.declared.outcome.Outcome.{Outcome};
 ghost use mathlib.Core.List.{IsPrefix};
-ghost use Rattle.relation_server.specs.Listening.{taking_of};
+ghost use Rattle.many_clients.specs.Listening.{taking_of};
 ghost use Rattle.relation_server.specs.Outcomes.{status_of, line_of};
 ghost use Rattle.status_lines.specs.Counts.{CountsNeverFall};
 ghost use Rattle.status_lines.specs.StatusLines.{IsReported};
+ghost use Rattle.relation_server.specs.RelationJobs.{ServesFile};
 ghost use Rattle.relation_server.specs.Program.{HasListened, HasNoRelations, HasRunListening, listen_surroundings, outcome_of};
 
-use crate::accept_loop::{ListenError, listen};
+use crate::accept_loop::listen;
 use crate::connection_job::ConnectionJob;
 use crate::outcome::Outcome;
 use crate::report::report;
 use conversation_runs::{Sink, Source};
+use many_clients::ListenError;
 use pg_cancel::{ConnectionManager, Door};
 use pg_messages::PgStr;
 use pg_serve::{Acceptor, KeySource, Spawner};
@@ -72,6 +74,11 @@ pub fn run_listen<
         × IsReported (status_of outcome) (line_of outcome) result (E.written err.old)
         (E.written err.new)
         (E.faults err.old) (E.faults err.new) }
+
+    // Each connection became the job of its own pid, in order, over the relations of the file.
+    ensures jobs { ServesFile (F.left file.old) (F.left file.new) 1000000000 (arc_value manager)
+        (A.coming acceptor.old) (P.started spawner.old) (P.started spawner.new)
+        (P.taken spawner.old) (P.taken spawner.new) }
     ensures never_falls { CountsNeverFall
         (F.faults file.old ∷ A.faults acceptor.old ∷ P.faults spawner.old ∷ E.faults err.old ∷ [])
         (F.faults file.new ∷ A.faults acceptor.new ∷ P.faults spawner.new ∷ E.faults err.new ∷ []) }
@@ -113,6 +120,9 @@ fn listen_over<
         (taking_of A.accepted A.faults P.started P.faults acceptor.old spawner.old) door.old.seen)
         (listen_surroundings (F.left file.new) (F.faults file.new)
         (taking_of A.accepted A.faults P.started P.faults acceptor.new spawner.new) door.new.seen) }
+    ensures jobs { ServesFile (F.left file.old) (F.left file.new) 1000000000 (arc_value manager)
+        (A.coming acceptor.old) (P.started spawner.old) (P.started spawner.new)
+        (P.taken spawner.old) (P.taken spawner.new) }
     ensures never_falls { CountsNeverFall
         (F.faults file.old ∷ A.faults acceptor.old ∷ P.faults spawner.old ∷ [])
         (F.faults file.new ∷ A.faults acceptor.new ∷ P.faults spawner.new ∷ []) }

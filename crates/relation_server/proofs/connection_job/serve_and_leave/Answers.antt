@@ -1,6 +1,6 @@
 use Rattle.std.proofs.Common.{subst}
 use Rattle.pg_engine.specs.Serving.{HasCause, counts_of}
-use Rattle.relation_server.proofs.Handles.{left_behind, since_made}
+use Rattle.many_clients.proofs.Handles.{left_behind, since_made}
 use Rattle.relation_server.proofs.connection_job.serve_and_leave.Goals as goal
 
 pub returns : goal.returns
