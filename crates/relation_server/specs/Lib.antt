@@ -3,3 +3,4 @@ pub mod Jobs
 pub mod Outcomes
 pub mod Program
 pub mod RelationJobs
+pub mod Running

@@ -14,6 +14,7 @@ mod spawner;
 
 pub use accept_loop::listen;
 pub use connection_job::ConnectionJob;
+pub use job_threads::Tries;
 pub use many_clients::ListenError;
 pub use many_clients_program::run_listen;
 pub use one_client_program::run;
@@ -24,4 +25,4 @@ pub use relation_serving::{
     serve_relations_on,
 };
 pub use relation_words::{ListenPlace, listen_place};
-pub use spawner::{JobThreads, StartJob, ThreadSpawner, Tries, jobs_cross_threads};
+pub use spawner::{JobThreads, StartJob, ThreadSpawner, jobs_cross_threads};

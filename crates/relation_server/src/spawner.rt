@@ -3,287 +3,32 @@
 ghost use Rattle.std.specs.Prelude.{◌≡◌};
 
 use crate::connection_job::ConnectionJob;
+use conversation_runs::{Sink, Source};
+use job_threads::{Ended, ThreadJob, Tries};
 use pg_cancel::ConnectionManager;
 use pg_serve::{MaybeTls, SpawnFailed, Spawner};
 use relation_handlers::RelationTable;
-use std::alloc::{AllocError, Global};
-use std::sync::{Arc, Condvar, CondvarTimeouts, Mutex, Wait};
-use std::thread::{Builder, Promise, Threads};
-use std::time::{Clock, Duration};
+use std::alloc::Global;
+use std::sync::Wait;
 
-/// The bytes of a thread's stack. Without a size a thread would reserve what the C library gives,
-/// mostly 8 MiB.
-const STACK: usize = 512 * 1024;
+/// The threads of jobs over sockets. Each job that was started has ended where its client was
+/// served and, but where memory ran out, its registration given back.
+pub type JobThreads = job_threads::JobThreads<ConnectionJob<MaybeTls, MaybeTls>>;
 
-/// How many milliseconds are waited before a thread is tried again. Meanwhile the thread of a job
-/// that has ended goes too, and a want of memory may pass.
-const PAUSE: u64 = 100;
+impl<S: Source + Drop, K: Sink + Drop> ThreadJob for ConnectionJob<S, K> {
+    ghost use Rattle.std.specs.Arc.{arc_value};
+    ghost use Rattle.pg_engine.specs.Serving.{counts_of};
+    ghost use Rattle.relation_server.specs.Running.{HasRun};
 
-/// How many tries in turn fail while no job runs, until a job is dropped. So one refused allocation
-/// is waited out, and a failure that stays is told.
-const TRIES: u64 = 5;
+    ghost has_run = { λ job _. HasRun job.handle (arc_value job.relations) job.turn_limit
+        (S.left job.source) (K.written job.sink)
+        (counts_of S.reads S.faults K.faults job.source job.sink) };
 
-/// How many milliseconds a thread whose job has ended waits for the next one, before it ends. It has
-/// ended before a thread that couldn't be made is tried again.
-const IDLE: u64 = 50;
-
-/// How many jobs run, and how many have ended, wrapping; and the stack of the thread that waits for
-/// a job, if one does, and the job that it is given.
-#[derive(Drop)]
-struct Count {
-    running: u64,
-    ended: u64,
-    idle: Option<usize>,
-    next: Option<ConnectionJob<MaybeTls, MaybeTls>>,
-}
-
-/// The count of jobs, and who waits until it changes.
-#[derive(Drop)]
-struct Running {
-    jobs: Mutex<Count>,
-    changed: Condvar,
-    given: Condvar,
-}
-
-impl Running {
-    /// One job more runs. It answers how many have ended.
-    fn enter<R: Wait>(&self, rt: &R) -> u64 {
-        let mut jobs = self.jobs.lock(rt);
-        jobs.running = jobs.running.saturating_add(1);
-        jobs.ended
-    }
-
-    /// Gives a job to the thread that waits for one, if one does that has so large a stack.
-    fn give<R: Wait>(
-        &self,
-        rt: &R,
-        stack: usize,
-        job: ConnectionJob<MaybeTls, MaybeTls>,
-    ) -> Option<ConnectionJob<MaybeTls, MaybeTls>> {
-        let mut jobs = self.jobs.lock(rt);
-        if jobs.idle != Some(stack) {
-            return Some(job);
-        }
-        jobs.idle = None;
-        jobs.next = Some(job);
-        jobs.running = jobs.running.saturating_add(1);
-        self.given.notify_all();
-        None
-    }
-
-    /// A job has ended. It answers the next one of its thread, which waits a while for it where no
-    /// other thread does.
-    fn leave<R: Wait + Clock>(
-        &self,
-        rt: &R,
-        stack: usize,
-    ) -> Option<ConnectionJob<MaybeTls, MaybeTls>> {
-        let mut jobs = self.jobs.lock(rt);
-        jobs.running = jobs.running.saturating_sub(1);
-        jobs.ended = jobs.ended.wrapping_add(1);
-        self.changed.notify_all();
-        if jobs.idle.is_some() || jobs.next.is_some() {
-            return None;
-        }
-        jobs.idle = Some(stack);
-        let (mut jobs, _timed_out) = self
-            .given
-            .wait_timeout_while(rt, jobs, Duration::from_millis(IDLE), |jobs| {
-                jobs.next.is_none()
-            });
-        jobs.idle = None;
-        jobs.next.take()
-    }
-
-    /// A job didn't come to run.
-    fn withdraw<R: Wait>(&self, rt: &R) {
-        let mut jobs = self.jobs.lock(rt);
-        jobs.running = jobs.running.saturating_sub(1);
-        self.changed.notify_all();
-    }
-
-    /// Waits until another number of jobs has ended than this, or none runs. It answers whether one
-    /// has ended.
-    fn wait_for_end<R: Wait>(&self, rt: &R, ended: u64) -> bool {
-        let jobs = self.changed.wait_while(rt, self.jobs.lock(rt), |jobs| {
-            jobs.running > 0 && jobs.ended == ended
-        });
-        jobs.ended != ended
-    }
-
-    /// Waits until no job runs.
-    fn wait<R: Wait>(&self, rt: &R) {
-        let _none = self
-            .changed
-            .wait_while(rt, self.jobs.lock(rt), |jobs| jobs.running > 0);
-    }
-}
-
-/// What came of starting a job.
-#[derive(Clone, Copy, Debug, PartialEq, Eq)]
-pub struct Tries {
-    /// Whether it was started. Where it wasn't, it was dropped.
-    pub is_started: bool,
-    /// How many tries failed.
-    pub failed: u64,
-}
-
-/// Jobs that run beside each other, each on a thread of its own. They are counted.
-#[derive(Drop)]
-pub struct JobThreads {
-    alloc: Global,
-    stack: usize,
-    running: Arc<Running>,
-}
-
-impl JobThreads {
-    /// No job runs yet. A thread has 512 KiB of stack.
-    pub fn new(alloc: Global) -> Result<JobThreads, AllocError> {
-        let count = Count {
-            running: 0,
-            ended: 0,
-            idle: None,
-            next: None,
-        };
-        let jobs = Mutex::new(count);
-        let changed = Condvar::new();
-        let given = Condvar::new();
-        let running = Arc::new(
-            alloc,
-            Running {
-                jobs,
-                changed,
-                given,
-            },
-        )?;
-        Ok(JobThreads {
-            alloc,
-            stack: STACK,
-            running,
-        })
-    }
-
-    /// The same threads, for another owner.
-    pub fn share(&self) -> Result<JobThreads, AllocError> {
-        self.share_with_stack(self.stack)
-    }
-
-    /// The same threads, for another owner, whose threads have so many bytes of stack. With more
-    /// than there can be, no thread can be started.
-    pub fn share_with_stack(&self, stack: usize) -> Result<JobThreads, AllocError> {
-        Ok(JobThreads {
-            alloc: self.alloc,
-            stack,
-            running: Arc::try_clone(&self.running)?,
-        })
-    }
-
-    /// Starts a thread that runs a job, and doesn't wait for it. Where no thread can be made, it
-    /// waits until one of the jobs that run has ended and tries again. Where none runs, it tries
-    /// again every 100 milliseconds, and drops the job behind the fifth such try in turn that
-    /// fails. The answer tells how many tries failed, and whether the job was dropped.
-    ///
-    /// A job that has ended leaves nothing behind: its sockets, its buffers and what its service
-    /// came to are dropped on its thread. That waits 50 milliseconds for another job with the same
-    /// stack, where no other thread waits so, and then ends. Nobody joins it.
-    pub fn start<R: Threads + Wait + Clock + Copy + Send + 'static>(
-        &self,
-        rt: R,
-        job: ConnectionJob<MaybeTls, MaybeTls>,
-    ) -> Tries {
-        let Some(job) = self.running.give(&rt, self.stack, job) else {
-            return Tries {
-                is_started: true,
-                failed: 0,
-            };
-        };
-        let alloc = self.alloc;
-        let stack = self.stack;
-        match Arc::try_clone(&self.running) {
-            Ok(running) => {
-                self.start_thread(&rt, move || run_jobs(&rt, alloc, &running, stack, job))
-            }
-            Err(AllocError) => Tries {
-                is_started: false,
-                failed: 1,
-            },
-        }
-    }
-
-    /// Starts a thread that does this, which tells that it has ended.
-    fn start_thread<R: Threads + Wait + Clock, F: FnOnce() + Send + Drop + 'static>(
-        &self,
-        rt: &R,
-        work: F,
-    ) -> Tries
-        requires { F.pre work }
-    {
-        let mut work = work;
-        let mut failed = 0u64;
-        let mut alone = 0u64;
-        for _ in rt.forever() {
-            let ended = self.running.enter(rt);
-            let thread = Builder::new().stack_size(self.stack);
-            match thread.spawn_with(rt, Apart, work) {
-                Ok(_apart) => {
-                    return Tries {
-                        is_started: true,
-                        failed,
-                    };
-                }
-                Err(refused) => work = refused.value,
-            }
-            failed = failed.saturating_add(1);
-            self.running.withdraw(rt);
-            let has_ended = self.running.wait_for_end(rt, ended);
-            alone = if has_ended {
-                0
-            } else {
-                alone.saturating_add(1)
-            };
-            if alone >= TRIES {
-                break;
-            }
-            rt.sleep(Duration::from_millis(PAUSE));
-        }
-        Tries {
-            is_started: false,
-            failed,
-        }
-    }
-
-    /// Waits until each job that was started has ended: its client was served, and, but where
-    /// memory ran out, its registration given back. It waits for as long as a client stays.
-    pub fn finish<R: Wait>(&self, rt: &R) {
-        self.running.wait(rt);
-    }
-}
-
-/// Nothing is promised of a thread.
-#[derive(Clone, Copy)]
-struct Apart;
-
-impl Promise<()> for Apart {
-    ghost use Rattle.std.specs.Prelude.{⊤};
-
-    ghost kept_by = { λ _ _. ⊤ };
-}
-
-/// Runs a job to its end, and tells that it has ended; then the next one that its thread is given.
-fn run_jobs<R: Wait + Clock>(
-    rt: &R,
-    alloc: Global,
-    running: &Running,
-    stack: usize,
-    job: ConnectionJob<MaybeTls, MaybeTls>,
-) {
-    let mut job = job;
-    for _ in rt.forever() {
-        drop(job.run(rt, alloc));
-        let Some(next) = running.leave(rt, stack) else {
-            return;
-        };
-        job = next;
+    /// Serves the connection and ends its registration, as [`ConnectionJob::run`] does. Its source
+    /// and sink are dropped.
+    fn run_whole<R: Wait>(self, rt: &R, alloc: Global) -> Ended {
+        drop(self.run(rt, alloc));
+        Ended {}
     }
 }
 

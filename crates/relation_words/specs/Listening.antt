@@ -2,8 +2,8 @@
 use Rattle.std.specs.Prelude.{ℕ, not, ◌==◌, ◌&&◌, length, List, [], ◌∷◌, codes, Option, Some, None, option_map, if◌then◌else◌}
 use Rattle.std.specs.Str.{bytes_eq}
 use Rattle.relation_words.specs.Numbers.{number_within}
-use Rattle.relation_words.specs.declared.listening.ListenPlace.{ListenPlace}
-use Rattle.relation_words.specs.declared.listening.ListenPlace.TheVariants.{Tcp, Unix}
+use Rattle.listening_places.specs.declared.place.ListenPlace.{ListenPlace}
+use Rattle.listening_places.specs.declared.place.ListenPlace.TheVariants.{Tcp, Unix}
 use Rattle.relation_words.specs.declared.listening.Listening.{Listening}
 
 -- A place to listen at: a port, or the text of a path.

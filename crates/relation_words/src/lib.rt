@@ -10,4 +10,5 @@ mod numbers;
 pub use commands::{Command, Load, Service, read_command, read_pid};
 pub use file::file_word;
 pub use keys::{KeyBytes, read_key};
-pub use listening::{ListenPlace, listen_count, listen_place};
+pub use listening::{listen_count, listen_place};
+pub use listening_places::ListenPlace;

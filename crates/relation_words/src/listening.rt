@@ -5,16 +5,8 @@ ghost use Rattle.std.specs.Str.{bytes_eq};
 ghost use Rattle.relation_words.specs.Listening.{told_place, told_listening, place_of, port_of, bound_of, listening, listening_of, listen_place_of, listen_count_of};
 
 use crate::numbers::read_within;
+use listening_places::ListenPlace;
 use pg_messages::PgStr;
-
-/// Where to listen.
-#[derive(Clone, Copy, Debug, PartialEq, Eq)]
-pub enum ListenPlace<'a> {
-    /// This port of 127.0.0.1.
-    Tcp(u16),
-    /// The socket of this path, which isn't empty.
-    Unix(&'a str),
-}
 
 /// What good words of `listen` tell beside their file.
 #[derive(Clone, Copy)]
