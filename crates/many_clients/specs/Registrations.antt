@@ -41,3 +41,16 @@ pub record HasConversedBy {T : Type 0} (rules : Rules T) (first : T) (h : Connec
   pub calm : OnOk answer (IsCalm before after)
   pub never_falls : FaultsNeverFall before after
   pub gave : ReadsGaveBytes left new_left before.reads after.reads
+
+-- A client's service was run to its end by these rules from this state on: the client was served, and its registration then ended,
+-- whatever came of it; and what is promised beside holds.
+pub record HasRunBy {T : Type 0} (rules : Rules T) (first : T)
+    (also : ℕ → Result EndKind ServeError → Option (List ℕ) → Counts → Counts → Type 0) (h : Connection) (turns : ℕ)
+    (left old : Option (List ℕ)) (before : Counts) : Type 0 where
+  pub answer : Result EndKind ServeError
+  pub new_left : Option (List ℕ)
+  pub new : Option (List ℕ)
+  pub after : Counts
+  pub note : Witness
+  pub conversed : HasConversedBy rules first h turns answer left new_left old new before after note
+  pub promised : also turns answer left before after

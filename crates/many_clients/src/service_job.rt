@@ -8,6 +8,7 @@ use crate::admitted::AdmittedClient;
 use crate::registered::{leave, serve_registered};
 use client_services::Service;
 use conversation_runs::{ServeError, Sink, Source};
+use job_threads::{Ended, ThreadJob};
 use pg_cancel::{ConnectionHandle, ConnectionManager, Note};
 use pg_client::EndKind;
 use pg_streams::Job;
@@ -102,4 +103,22 @@ impl<V: Service, S: Source + Drop, K: Sink + Drop> Job for ServiceJob<V, S, K> {
     ghost use Rattle.many_clients.specs.Registrations.{IsFresh};
 
     ghost is_fresh = { λ job. IsFresh (S.reads job.client.source) job.client.handle };
+}
+
+impl<V: Service, S: Source + Drop, K: Sink + Drop> ThreadJob for ServiceJob<V, S, K> {
+    ghost use Rattle.pg_engine.specs.Serving.{counts_of};
+    ghost use Rattle.many_clients.specs.Registrations.{HasRunBy};
+
+    ghost has_run = { λ job _. HasRunBy (V.rules job.service)
+        (V.first job.service job.client.handle.pid job.client.handle.key) (V.also job.service)
+        job.client.handle job.client.turn_limit (S.left job.client.source)
+        (K.written job.client.sink)
+        (counts_of S.reads S.faults K.faults job.client.source job.client.sink) };
+
+    /// Serves the client and ends its registration, as [`ServiceJob::run`] does. Its source and sink
+    /// are dropped.
+    fn run_whole<R: Wait>(self, rt: &R, alloc: Global) -> Ended {
+        drop(self.run(rt, alloc));
+        Ended {}
+    }
 }

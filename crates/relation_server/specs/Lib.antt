@@ -2,5 +2,5 @@ pub mod Demo
 pub mod Jobs
 pub mod Outcomes
 pub mod Program
-pub mod Running
 pub mod RelationJobs
+pub mod Running
