@@ -1,46 +1,79 @@
 -- What the words of a command line order.
-use Rattle.std.specs.Prelude.{ℕ, FitsSigned, ◌≡◌, ◌≢◌, ◌<◌, ◌⊎◌, List, [], ◌∷◌, Option, Some, None, Ok, length, codes}
-use Rattle.std.specs.Int.{w32}
-use Rattle.std.specs.Str.Parse.{IsNumeral, digits_value, signed_digits_value, without_leading_plus, without_leading_sign}
-use Rattle.hex.specs.Hex.{decode_of}
+use Rattle.std.specs.Prelude.{ℕ, ℤ, not, ◌==◌, ◌&&◌, length, List, [], ◌∷◌, codes, Option, Some, None, option_map, if◌then◌else◌}
+use Rattle.std.specs.Option.{option_or}
+use Rattle.std.specs.Str.{bytes_eq}
+use Rattle.relation_words.specs.Commands.{pid_of}
+use Rattle.relation_words.specs.Keys.{key_of}
+use Rattle.relation_words.specs.Listening.{Place, port, path, told_place, bound_of}
+use Rattle.relation_words.specs.Numbers.{number_within}
 use Rattle.handler_serving.specs.declared.orders.Order.{Order}
-use Rattle.handler_serving.specs.declared.orders.Order.TheVariants.{Listen, Serve}
+use Rattle.handler_serving.specs.declared.orders.Order.TheVariants as order
 
--- a number of sixteen bits in decimal, with or without a leading plus
-abbrev pub number_of : List ℕ → ℕ
-number_of text = digits_value 10 (without_leading_plus text)
+-- What is ordered: to serve the clients that come to a place, at most so many where there is a bound; to serve one client under a pid and a
+-- key; or to tell how the program is used, or its version.
+pub data Ordered : Type 0 where
+  listens : Place → Option ℕ → Ordered
+  serves : ℤ → List ℕ → Ordered
+  helps : Ordered
+  versions : Ordered
 
-abbrev pub IsNumber : List ℕ → Type 0
-IsNumber text = IsNumeral 10 (without_leading_plus text) × (number_of text < 65536)
+-- what the program's type holds
+abbrev pub told_order : Order → Ordered
+told_order (order.Listen place count) = listens (told_place place) count
+told_order (order.Serve pid key) = serves pid key
+told_order order.Help = helps
+told_order order.Version = versions
 
--- a number of 32 bits in decimal, with or without a leading sign
-abbrev pub IsSignedNumber : List ℕ → Type 0
-IsSignedNumber text = IsNumeral 10 (without_leading_sign text) × FitsSigned w32 (signed_digits_value 10 text)
+-- PORT: 0 to 65535, where 0 is any free port
+abbrev pub free_port_of : List ℕ → Option Place
+free_port_of word = option_map port (number_within 0 65535 word)
 
--- `PORT COUNT`: two numbers
-abbrev pub ListensSo : List ℕ → List ℕ → Option Order → Type 0
-ListensSo port count (Some (Listen p c)) = IsNumber port × (p ≡ number_of port) × IsNumber count × (c ≡ number_of count)
-ListensSo port count (Some (Serve pid key)) = ⊥
-ListensSo port count None = ¬ (IsNumber port × IsNumber count)
+-- `tcp PORT` or `unix PATH`, where PATH is not empty
+abbrev pub place_at : List ℕ → List ℕ → Option Place
+place_at kind word =
+    if bytes_eq kind (codes "tcp") then free_port_of word
+    else if bytes_eq kind (codes "unix") && not (length word == 0) then Some (path word)
+    else None
 
--- the bytes of hexadecimal digits, where they can be a key: 4 to 256 of them
-abbrev pub HasKey : List ℕ → Option (List ℕ) → Type 0
-HasKey digits (Some key) = (decode_of digits ≡ Ok key) × (3 < length key) × (length key < 257)
-HasKey digits None = (key : List ℕ) → decode_of digits ≡ Ok key → (length key < 4) ⊎ (256 < length key)
+-- a place with a bound or none, where both parts are good
+abbrev pub listening_at : Option Place → Option (Option ℕ) → Option Ordered
+listening_at (Some place) (Some count) = Some (listens place count)
+listening_at _ _ = None
 
--- `PID KEY`: a number and a key
-abbrev pub ServesSo : List ℕ → List ℕ → Option Order → Type 0
-ServesSo pid digits (Some (Serve p key)) = IsSignedNumber pid × (p ≡ signed_digits_value 10 pid) × HasKey digits (Some key)
-ServesSo pid digits (Some (Listen p c)) = ⊥
-ServesSo pid digits None = (¬ IsSignedNumber pid) ⊎ HasKey digits None
+-- a client, where both parts are good
+abbrev pub serving : Option ℤ → Option (List ℕ) → Option Ordered
+serving (Some pid) (Some key) = Some (serves pid key)
+serving _ _ = None
 
--- `listen PORT COUNT` or `serve PID KEY`; any other word orders nothing
-pub record IsOrderedBy (order first second : List ℕ) (found : Option Order) : Type 0 where
-  pub listen : order ≡ codes "listen" → ListensSo first second found
-  pub serve : order ≡ codes "serve" → ServesSo first second found
-  pub other : order ≢ codes "listen" → order ≢ codes "serve" → found ≡ None
+-- one word: `--help` or `--version`
+abbrev pub telling : List ℕ → Option Ordered
+telling word =
+    if bytes_eq word (codes "--help") then Some helps
+    else if bytes_eq word (codes "--version") then Some versions
+    else None
 
--- the same after the program's name; any other words order nothing
-abbrev pub IsOrdered : List (List ℕ) → Option Order → Type 0
-IsOrdered (name ∷ order ∷ first ∷ second ∷ []) found = IsOrderedBy order first second found
-IsOrdered words found = found ≡ None
+-- two words: `listen PORT`
+abbrev pub of_two : List ℕ → List ℕ → Option Ordered
+of_two command word = if bytes_eq command (codes "listen") then listening_at (free_port_of word) (Some None) else None
+
+-- three words: `serve PID KEY`, `listen tcp PORT`, `listen unix PATH`, or `listen PORT COUNT`
+abbrev pub of_three : List ℕ → List ℕ → List ℕ → Option Ordered
+of_three command first second =
+    if bytes_eq command (codes "serve") then serving (pid_of first) (key_of second)
+    else if bytes_eq command (codes "listen") then
+    option_or (listening_at (place_at first second) (Some None)) (listening_at (free_port_of first) (bound_of second))
+    else None
+
+-- four words: `listen tcp PORT COUNT` or `listen unix PATH COUNT`
+abbrev pub of_four : List ℕ → List ℕ → List ℕ → List ℕ → Option Ordered
+of_four command kind word count =
+    if bytes_eq command (codes "listen") then listening_at (place_at kind word) (bound_of count) else None
+
+-- `serve PID KEY`, `listen [tcp] PORT [COUNT]`, `listen unix PATH [COUNT]`, `--help` or `--version`, behind the program's name; any other
+-- words order nothing.
+abbrev pub order_of : List (List ℕ) → Option Ordered
+order_of (name ∷ word ∷ []) = telling word
+order_of (name ∷ command ∷ first ∷ []) = of_two command first
+order_of (name ∷ command ∷ first ∷ second ∷ []) = of_three command first second
+order_of (name ∷ command ∷ first ∷ second ∷ third ∷ []) = of_four command first second third
+order_of _ = None

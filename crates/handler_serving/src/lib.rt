@@ -1,13 +1,15 @@
-//! A program over any handlers: it serves the client on standard input, or clients at a port of this
-//! machine, one after another.
+//! A program over any handlers: it serves the client on standard input, or the clients that come to
+//! a port of this machine or to a Unix socket, each on a thread of its own.
 #![tactic(auto)]
 
-mod clients;
 mod one_client;
 mod orders;
 mod program;
+mod server;
+mod telling;
 
-pub use clients::serve_clients;
+pub use many_clients::{AdmittedClient, StartClient};
 pub use one_client::serve_client;
 pub use orders::{Order, order_of};
 pub use program::run_program;
+pub use server::{HandlerJob, HandlerServer};

@@ -1,79 +1,132 @@
 //! What the words of a command line order.
 
-ghost use Rattle.std.specs.Prelude.{IfOk, map, string_bytes};
-ghost use Rattle.handler_serving.specs.Orders.{IsOrdered, IsOrderedBy, ListensSo, ServesSo, HasKey};
+ghost use Rattle.std.specs.Prelude.{◌≡◌, map, option_map, string_bytes};
+ghost use Rattle.relation_words.specs.Listening.{told_place};
+ghost use Rattle.handler_serving.specs.Orders.{told_order, order_of, telling, of_two, of_three, of_four, free_port_of, place_at, listening_at, serving};
 
-use hex::FromHexError;
-use pg_messages::{KeyError, SecretKey};
-use std::alloc::{AllocError, Global};
+use listening_places::ListenPlace;
+use relation_words::{KeyBytes, read_bound, read_key, read_pid, read_within};
 
 /// What the words of a command line order.
 #[derive(Drop)]
-pub enum Order {
-    /// At this port of 127.0.0.1, this many clients are served, one after another.
-    Listen(u16, u16),
+pub enum Order<'w> {
+    /// The clients that come to this place are served, each on a thread of its own, at most so many
+    /// where there is a bound.
+    Listen(ListenPlace<'w>, Option<u64>),
     /// The client on standard input is served under this process id and key.
-    Serve(i32, SecretKey),
+    Serve(i32, KeyBytes),
+    /// Standard output is told how the program is used.
+    Help,
+    /// Standard output is told the program's version.
+    Version,
 }
 
-/// The order of the words `listen PORT COUNT` or `serve PID KEY`, after the program's name. PORT and
-/// COUNT are at most 65535, PID has 32 bits, and KEY is an even number of hexadecimal digits, 8 to
-/// 512 of them. None for any other words. The error comes where there is no memory for the key.
-pub fn order_of(alloc: Global, words: &[String]) -> Result<Option<Order>, AllocError>
-    ensures { IfOk result (IsOrdered (map string_bytes words.now)) }
+/// The order of the words behind the program's name: `serve PID KEY`, `listen [tcp] PORT [COUNT]`,
+/// `listen unix PATH [COUNT]`, `--help` or `--version`. PID is 1 to 2147483647, KEY an even number of
+/// hexadecimal digits, 8 to 512 of them, PORT 0 to 65535, where 0 is any free port, PATH isn't empty,
+/// and COUNT is 0 to 10000. Numbers are in decimal, without a sign or a leading zero. None for any
+/// other words.
+pub fn order_of<'w>(words: &'w [String]) -> Option<Order<'w>>
+    ensures { option_map told_order result ≡ order_of (map string_bytes words.now) }
 {
     match words {
-        [_, order, first, second] => {
-            order_by(alloc, order.as_str(), first.as_str(), second.as_str())
+        [_, word] => told_by(word.as_str()),
+        [_, command, first] => order_of_two(command.as_str(), first.as_str()),
+        [_, command, first, second] => {
+            order_of_three(command.as_str(), first.as_str(), second.as_str())
         }
-        _ => Ok(None),
+        [_, command, first, second, third] => order_of_four(
+            command.as_str(),
+            first.as_str(),
+            second.as_str(),
+            third.as_str(),
+        ),
+        _ => None,
     }
 }
 
-/// The order of this word, and of the two behind it.
-fn order_by(
-    alloc: Global,
-    order: &str,
-    first: &str,
-    second: &str,
-) -> Result<Option<Order>, AllocError>
-    ensures { IfOk result (IsOrderedBy order.now first.now second.now) }
+/// What one word orders.
+fn told_by<'w>(word: &'w str) -> Option<Order<'w>>
+    ensures { option_map told_order result ≡ telling word.now }
 {
-    match order {
-        "listen" => Ok(listen_order(first, second)),
-        "serve" => serve_order(alloc, first, second),
-        _ => Ok(None),
+    match word {
+        "--help" => Some(Order::Help),
+        "--version" => Some(Order::Version),
+        _ => None,
     }
 }
 
-fn listen_order(port: &str, count: &str) -> Option<Order>
-    ensures { ListensSo port.now count.now result }
+/// What two words order.
+fn order_of_two<'w>(command: &str, word: &'w str) -> Option<Order<'w>>
+    ensures { option_map told_order result ≡ of_two command.now word.now }
 {
-    Some(Order::Listen(port.parse().ok()?, count.parse().ok()?))
-}
-
-fn serve_order(alloc: Global, pid: &str, key: &str) -> Result<Option<Order>, AllocError>
-    ensures { IfOk result (ServesSo pid.now key.now) }
-{
-    let Ok(pid) = pid.parse() else {
-        return Ok(None);
-    };
-    let key = read_key(alloc, key)?;
-    Ok(key.map(|key| Order::Serve(pid, key)))
-}
-
-/// The key of these digits.
-fn read_key(alloc: Global, digits: &str) -> Result<Option<SecretKey>, AllocError>
-    ensures { IfOk result (HasKey digits.now) }
-{
-    let bytes = match hex::decode(alloc, digits) {
-        Ok(bytes) => bytes,
-        Err(FromHexError::OutOfMemory) => return Err(AllocError),
-        Err(_) => return Ok(None),
-    };
-    match SecretKey::try_new(alloc, bytes.as_slice()) {
-        Ok(key) => Ok(Some(key)),
-        Err(KeyError::BadLength(_)) => Ok(None),
-        Err(KeyError::NoMemory) => Err(AllocError),
+    if command == "listen" {
+        listen_at(read_port(word), Some(None))
+    } else {
+        None
     }
+}
+
+/// What three words order.
+fn order_of_three<'w>(command: &str, first: &'w str, second: &'w str) -> Option<Order<'w>>
+    ensures { option_map told_order result ≡ of_three command.now first.now second.now }
+{
+    if command == "serve" {
+        return serve_as(read_pid(first), read_key(second));
+    }
+    if command != "listen" {
+        return None;
+    }
+    match listen_at(read_place(first, second), Some(None)) {
+        Some(order) => Some(order),
+        None => listen_at(read_port(first), read_bound(second)),
+    }
+}
+
+/// What four words order.
+fn order_of_four<'w>(command: &str, kind: &str, place: &'w str, count: &str) -> Option<Order<'w>>
+    ensures { option_map told_order result
+        ≡ of_four command.now kind.now place.now count.now }
+{
+    if command == "listen" {
+        listen_at(read_place(kind, place), read_bound(count))
+    } else {
+        None
+    }
+}
+
+/// To listen, where the place and the bound are good.
+fn listen_at<'w>(place: Option<ListenPlace<'w>>, count: Option<Option<u64>>) -> Option<Order<'w>>
+    ensures { option_map told_order result ≡ listening_at (option_map told_place place) count }
+{
+    Some(Order::Listen(place?, count?))
+}
+
+/// To serve, where the pid and the key are good.
+fn serve_as<'w>(pid: Option<i32>, key: Option<KeyBytes>) -> Option<Order<'w>>
+    ensures { option_map told_order result ≡ serving pid key }
+{
+    Some(Order::Serve(pid?, key?))
+}
+
+/// The place: a port under `tcp`, a path under `unix`.
+fn read_place<'w>(kind: &str, place: &'w str) -> Option<ListenPlace<'w>>
+    ensures { option_map told_place result ≡ place_at kind.now place.now }
+{
+    if kind == "tcp" {
+        return read_port(place);
+    }
+    if kind == "unix" && !place.is_empty() {
+        Some(ListenPlace::Unix(place))
+    } else {
+        None
+    }
+}
+
+/// A port: 0 to 65535.
+fn read_port<'w>(word: &'w str) -> Option<ListenPlace<'w>>
+    ensures { option_map told_place result ≡ free_port_of word.now }
+{
+    let port = read_within(0, 65_535, word)?;
+    Some(ListenPlace::Tcp(port as u16))
 }

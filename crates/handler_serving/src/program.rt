@@ -1,13 +1,23 @@
 //! The program: it reads its words, and does what they order.
 
-use crate::clients::serve_clients;
-use crate::one_client::serve_client;
+ghost use Rattle.std.specs.Prelude.{◌≡◌, IfOk};
+ghost use Rattle.std.specs.Arc.{arc_value};
+
+use crate::one_client::{TURNS, serve_client};
 use crate::orders::{Order, order_of};
-use pg_messages::SecretKey;
-use pg_serve::{Listener, Listening, RandomKeys, ReaderSource, SocketAcceptor, WriterSink};
+use crate::server::HandlerServer;
+use crate::telling::{tell_help, tell_listened, tell_served, tell_usage, tell_version};
+use listening_places::{ListenPlace, bind_place, leave_place};
+use many_clients::{
+    AdmittedClient, AdmittedClients, ClientSpawner, ListenError, StartClient, listen_with,
+};
+use pg_cancel::{ConnectionManager, Door};
+use pg_serve::{Acceptor, MaybeTls, RandomKeys, ReaderSource, Spawner, WriterSink};
 use pg_session::PgWireServerHandlers;
-use std::alloc::Global;
+use relation_words::KeyBytes;
+use std::alloc::{AllocError, Global};
 use std::env::Env;
+use std::fs::Files;
 use std::io::{Eprint, Input, Write};
 use std::net::{Net, TcpListener, TcpStream};
 use std::process::ExitCode;
@@ -17,98 +27,128 @@ use std::time::Clock;
 use std::{env, io};
 
 /// Does what the words of the command line order (`order_of`) with these handlers, which all clients
-/// share. The replies of `serve` go to `writer`. The status is 0; 1 where the conversation of
-/// `serve` failed; and 2 where the words order nothing, and standard error tells how they are used.
-/// The error comes where the words can't be read, the line of their use can't be written, the port
-/// can't be bound, memory ran out, or there was no key or no connection for a client.
+/// share. `start` starts the service of a client that was taken in, on a thread of the server's: as
+/// `main` has the leave to start threads, it makes `start` (crates/styles_server shows how).
+///
+/// `listen` serves each connection on a thread of its own, tells `listening on ..` once it waits for
+/// the first one, and waits in the end for the clients that are served. The replies of `serve` go to
+/// `writer`. The status is 0 at a good end, and 2 where the words order nothing. Any other status has
+/// its cause, and comes with a line on standard error, as `--help` tells. The error comes where the
+/// words can't be read, the help or the line of use can't be written, or memory ran out for the words.
 pub fn run_program<
     R: Wait
         + Net<Stream = TcpStream, Listener = TcpListener>
+        + Files
         + Clock
         + RandomSource
         + Env
         + AllocGlobal
         + Input
+        + Print
         + Eprint
-        + Copy,
+        + Copy
+        + Drop,
     H: PgWireServerHandlers,
     W: Write + Drop,
->(rt: R, name: &str, handlers: Arc<H>, writer: W) -> io::Result<ExitCode> {
-    match read_order(&rt)? {
-        Some(order) => carry_out(rt, order, handlers, writer),
-        None => tell_usage(&rt, name),
-    }
-}
-
-/// What the words of the command line order.
-fn read_order<R: Env + AllocGlobal>(rt: &R) -> io::Result<Option<Order>> {
-    let words = env::args(rt)?.collect::<Vec<String>>(rt.alloc())?;
-    Ok(order_of(rt.alloc(), words.as_slice())?)
-}
-
-/// Tells standard error how the words are used.
-fn tell_usage(rt: &impl Eprint, name: &str) -> io::Result<ExitCode> {
-    eprintln!(rt; "usage: {name} listen PORT COUNT, serve PID KEY")?;
-    Ok(ExitCode::from(2))
-}
-
-/// Does what this order says with these handlers.
-fn carry_out<
-    R: Wait
-        + Net<Stream = TcpStream, Listener = TcpListener>
-        + Clock
-        + RandomSource
-        + AllocGlobal
-        + Input
-        + Copy,
-    H: PgWireServerHandlers,
-    W: Write + Drop,
->(rt: R, order: Order, handlers: Arc<H>, writer: W) -> io::Result<ExitCode> {
-    match order {
-        Order::Listen(port, count) => listen(rt, rt.alloc(), &handlers, port, count),
-        Order::Serve(pid, key) => Ok(serve_standard(&rt, handlers, pid, key, writer)),
-    }
-}
-
-/// Serves `count` clients at a port of 127.0.0.1.
-fn listen<
-    R: Wait + Net<Stream = TcpStream, Listener = TcpListener> + Clock + RandomSource + Copy,
-    H: PgWireServerHandlers,
->(rt: R, alloc: Global, handlers: &Arc<H>, port: u16, count: u16) -> io::Result<ExitCode> {
-    let listener = TcpListener::bind(&rt, ("127.0.0.1", port))?;
-    serve_from(rt, alloc, handlers, Listening::Tcp(listener), count)?;
-    Ok(ExitCode::SUCCESS)
-}
-
-/// Serves `count` clients, whose connections this listener takes, under random keys.
-fn serve_from<R: Wait + Clock + RandomSource + Copy, H: PgWireServerHandlers, L: Listener + Drop>(
+>(
     rt: R,
-    alloc: Global,
-    handlers: &Arc<H>,
-    listener: L,
-    count: u16,
-) -> io::Result<()> {
-    let mut acceptor = SocketAcceptor::new(listener, rt);
-    let mut keys = RandomKeys::new(alloc, rt);
-    serve_clients(&rt, alloc, handlers, &mut acceptor, &mut keys, count)
+    name: &str,
+    server: HandlerServer<H>,
+    writer: W,
+    start: StartClient,
+) -> io::Result<ExitCode>
+    requires ready { IsAlwaysCallable start }
+{
+    let words = env::args(&rt)?.collect::<Vec<String>>(rt.alloc())?;
+    match order_of(words.as_slice()) {
+        None => tell_usage(&rt, name),
+        Some(Order::Help) => {
+            tell_help(&rt, name)?;
+            Ok(ExitCode::SUCCESS)
+        }
+        Some(Order::Version) => {
+            tell_version(&rt, name)?;
+            Ok(ExitCode::SUCCESS)
+        }
+        Some(Order::Serve(pid, key)) => Ok(serve_standard(&rt, server.handlers, pid, &key, writer)),
+        Some(Order::Listen(place, count)) => Ok(listen(rt, server, place, count, start)),
+    }
 }
 
 /// Serves the client on standard input, whose replies go to the writer.
-fn serve_standard<R: Input + AllocGlobal, H: PgWireServerHandlers, W: Write + Drop>(
+fn serve_standard<R: Input + AllocGlobal + Eprint, H: PgWireServerHandlers, W: Write + Drop>(
     rt: &R,
     handlers: Arc<H>,
     pid: i32,
-    key: SecretKey,
+    key: &KeyBytes,
     writer: W,
 ) -> ExitCode {
+    let Ok(key) = key.secret_key(rt.alloc()) else {
+        return tell_listened(rt, &Err(ListenError::NoMemory));
+    };
     let mut source = ReaderSource {
         reader: rt.reader(),
         reads: 0,
         faults: 0,
     };
     let mut sink = WriterSink { writer, faults: 0 };
-    match serve_client(rt.alloc(), handlers, pid, key, &mut source, &mut sink) {
-        Ok(_) => ExitCode::SUCCESS,
-        Err(_) => ExitCode::FAILURE,
-    }
+    let answer = serve_client(rt.alloc(), handlers, pid, key, &mut source, &mut sink);
+    tell_served(rt, &answer)
+}
+
+/// Serves the clients that come to a place, each on a thread of its own, and waits for them in the
+/// end.
+fn listen<
+    R: Wait
+        + Net<Stream = TcpStream, Listener = TcpListener>
+        + Files
+        + Clock
+        + RandomSource
+        + AllocGlobal
+        + Print
+        + Eprint
+        + Copy
+        + Drop,
+    H: PgWireServerHandlers,
+>(
+    rt: R,
+    server: HandlerServer<H>,
+    place: ListenPlace<'_>,
+    count: Option<u64>,
+    start: StartClient,
+) -> ExitCode
+    requires ready { IsAlwaysCallable start }
+{
+    let mut spawner = ClientSpawner::new(server.threads, start);
+    let mut acceptor = bind_place(rt, place);
+    let answer = take_in_all(rt, &mut acceptor, &mut spawner, count);
+    leave_place(&rt, place, acceptor);
+    spawner.threads.finish(&rt);
+    tell_listened(&rt, &answer)
+}
+
+/// Takes in the clients that an acceptor gives, under random keys and a registry of their own.
+fn take_in_all<
+    R: Wait + RandomSource + AllocGlobal + Copy + Drop,
+    A: Acceptor<In = MaybeTls, Out = MaybeTls>,
+    P: Spawner<AdmittedClient<MaybeTls, MaybeTls>>,
+>(rt: R, acceptor: &mut A, spawner: &mut P, count: Option<u64>) -> Result<u64, ListenError>
+    requires accepted { A.accepted acceptor.old ≡ 0 }
+    requires started { P.started spawner.old ≡ 0 }
+{
+    let (manager, mut door) = shared_registry(rt.alloc())?;
+    let mut keys = RandomKeys::new(rt.alloc(), rt);
+    let clients = AdmittedClients { turn_limit: TURNS };
+    listen_with(
+        &rt, acceptor, spawner, &mut keys, manager, &mut door, &clients, count,
+    )
+}
+
+/// An empty registry that clients share, and its door.
+fn shared_registry(alloc: Global) -> Result<(Arc<ConnectionManager>, Door), AllocError>
+    ensures { IfOk result (λ registry. registry.1.issuer ≡ arc_value registry.0) }
+{
+    let (manager, door) = ConnectionManager::new(alloc)?;
+    let manager = Arc::new(alloc, manager)?;
+    Ok((manager, door))
 }

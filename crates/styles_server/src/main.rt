@@ -2,15 +2,18 @@
 //! is the text of an interval, and the reply is that interval in each of PostgreSQL's four styles.
 #![tactic(auto)]
 
-use handler_serving::run_program;
+use handler_serving::{HandlerServer, run_program};
 use row_handlers::RowHandlers;
 use std::io;
 use std::process::ExitCode;
-use std::sync::Arc;
 use styles::Styles;
 
 fn main(rt: HostRuntime) -> io::Result<ExitCode> {
-    let handlers = RowHandlers::new(rt.alloc(), Styles)?;
-    let handlers = Arc::new(rt.alloc(), handlers)?;
-    run_program(rt, "styles_server", handlers, rt.stdout())
+    let server = HandlerServer::new(rt.alloc(), RowHandlers::new(rt.alloc(), Styles)?)?;
+    let jobs = server.share()?;
+    let start = Box::new(
+        rt.alloc(),
+        move |client| jobs.threads.start_made(rt, jobs.job_of(client)),
+    )?;
+    run_program(rt, "styles_server", server, rt.stdout(), start)
 }
