@@ -11,9 +11,6 @@ import sys
 from explain import bind_trouble, open_trouble, run
 from programs import program, stop
 
-# As many as a program over handlers of one's own takes in.
-MOST_CLIENTS = "65535"
-
 
 def port_of(word):
     """The port that a word names; 0 takes one that is free."""
@@ -31,7 +28,7 @@ def main():
     if trouble := bind_trouble(port):
         stop(trouble)
     if handler := "".join(sys.argv[3:]):
-        return run(str(program(f"{handler}_server")), ["listen", str(port), MOST_CLIENTS])
+        return run(str(program(f"{handler}_server")), ["listen", str(port)])
     if trouble := open_trouble(sys.argv[2]) if sys.argv[2] else "FILE is empty: make serve FILE=data/rosters serves the sample":
         stop(trouble)
     return run(str(program("server")), ["listen", "tcp", str(port), sys.argv[2]])
