@@ -52,13 +52,21 @@ pub fn time_reply(rt: &HostRuntime, count: u32, reply: &PgWireBackendMessage) ->
     requires { IsEncodable reply.now }
 {
     let start = Instant::now(rt)?;
+    encode(rt.alloc(), count, reply)?;
+    show_time(rt, start, count)
+}
+
+/// Encodes a reply `count` times.
+fn encode(alloc: Global, count: u32, reply: &PgWireBackendMessage) -> Result<(), AllocError>
+    requires { IsEncodable reply.now }
+{
     let mut codec = PgWireMessageServerCodec::new();
-    let mut dst = BytesMut::new(rt.alloc());
+    let mut dst = BytesMut::new(alloc);
     for _ in 0..count {
         dst.clear();
         codec.encode(reply, &mut dst)?;
     }
-    show_time(rt, start, count)
+    Ok(())
 }
 
 /// Prints the nanoseconds of a frame of each stream.

@@ -1,5 +1,5 @@
 -- What the program owes: what comes of its words.
-use Rattle.std.specs.Prelude.{ℕ, true, false, List, [], ◌∷◌, ◌≡◌, ◌≤◌, ◌<◌, ◌+◌, ◌^◌, ◌⊎◌, Option, Some, None, Result, Err, IfSome, OnOk, length}
+use Rattle.std.specs.Prelude.{ℕ, true, false, List, ◌≡◌, ◌≤◌, ◌<◌, ◌+◌, ◌^◌, ◌⊎◌, Option, Some, None, Result, Err, IfSome, OnOk, length}
 use Rattle.std.specs.List.{AllByRecursion}
 use Rattle.pg_messages.specs.declared.frontend.PgWireFrontendMessage.{PgWireFrontendMessage}
 use Rattle.pg_messages.specs.Frames.{DividesInto, IsBad, IsUnfinished, awaits_startup_after_all}
@@ -45,10 +45,6 @@ surroundings left faults client_left reads read_faults written write_faults file
   out = written out;
   counts = counts_of reads read_faults write_faults client out;
 }
-
--- the counts of faults of the file, of the client and of what is written
-abbrev pub fault_counts : Surroundings → List ℕ
-fault_counts s = s.file_faults ∷ s.counts.read_faults ∷ s.counts.write_faults ∷ []
 
 -- the client and what was written for it stand as they stood
 abbrev pub IsClientUntouched : Surroundings → Surroundings → Type 0

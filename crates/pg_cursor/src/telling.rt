@@ -1,7 +1,8 @@
 //! What the program tells of an outcome: its status, and a line.
 
+ghost use Rattle.std.specs.Prelude.{◌≤◌};
 ghost use Rattle.pg_cursor.specs.Statuses.{status_of, line_of};
-ghost use Rattle.status_lines.specs.StatusLines.{Reports};
+ghost use Rattle.status_lines.specs.StatusLines.{IsReported};
 
 use crate::outcome::Outcome;
 use conversation_runs::Sink;
@@ -14,8 +15,9 @@ const USAGE: &str = "usage: pg_cursor serve FILE PID KEY [TURNS]\n";
 /// Writes the line of an outcome, where it has one, and answers its status, or 7 where there is no
 /// memory for the line or in the sink.
 pub(crate) fn tell<E: Sink>(alloc: Global, outcome: &Outcome, err: &mut E) -> u8
-    ensures { Reports (status_of outcome.now) (line_of outcome.now) result
+    ensures reported { IsReported (status_of outcome.now) (line_of outcome.now) result
         (E.written err.old) (E.written err.new) (E.faults err.old) (E.faults err.new) }
+    ensures never_falls { E.faults err.old ≤ E.faults err.new }
 {
     match outcome {
         Outcome::Usage => write_line(2, USAGE, err),

@@ -3,7 +3,7 @@
 ghost use Rattle.std.specs.List.{AllByRecursion};
 ghost use Rattle.pg_results.specs.Rows.{IsSendable};
 
-use crate::fixtures::{cursor, push_error, push_row, start};
+use crate::fixtures::{Items, cursor, push_error, push_row, start};
 use pg_messages::{DataRow, PgList, PgStr};
 use pg_portal::{FetchResult, ListRows, PgWireError, Portal};
 use std::alloc::{AllocError, Global};
@@ -62,14 +62,22 @@ fn refusal_in(told: &Result<FetchResult, PgWireError>) -> &'static str {
     }
 }
 
-/// Starts a portal with three rows, an error, and another row.
+/// Appends three rows, an error, and another row.
+fn push_all(alloc: Global, items: &mut Items) -> Result<(), AllocError>
+    requires { AllByRecursion IsSendable items.old }
+    ensures { AllByRecursion IsSendable items.new }
+{
+    push_row(alloc, items, 10)?;
+    push_row(alloc, items, 11)?;
+    push_row(alloc, items, 12)?;
+    push_error(items)?;
+    push_row(alloc, items, 13)
+}
+
+/// Starts a portal with all of these.
 fn start_all(portal: &mut Portal<PgStr, ListRows>, alloc: Global) -> Result<(), AllocError> {
     let mut items = PgList::new(alloc);
-    push_row(alloc, &mut items, 10)?;
-    push_row(alloc, &mut items, 11)?;
-    push_row(alloc, &mut items, 12)?;
-    push_error(&mut items)?;
-    push_row(alloc, &mut items, 13)?;
+    push_all(alloc, &mut items)?;
     start(alloc, portal, items)
 }
 

@@ -1,5 +1,5 @@
 -- What the program owes: what comes of its words.
-use Rattle.std.specs.Prelude.{ℕ, ℤ, false, List, [], ◌∷◌, ◌≡◌, ◌≤◌, ◌<◌, ◌⊎◌, ◌↔◌, Option, Some, None, Result, Ok, Err, length}
+use Rattle.std.specs.Prelude.{ℕ, ℤ, false, List, [], ◌≡◌, ◌≤◌, ◌<◌, ◌⊎◌, ◌↔◌, Option, Some, None, Result, Ok, Err, length}
 use Rattle.std.specs.List.{AllByRecursion}
 use Rattle.pg_client.specs.declared.desk.DeskCall.{DeskCall}
 use Rattle.pg_client.specs.declared.ends.EndKind.{EndKind}
@@ -48,10 +48,6 @@ surroundings left faults client_left reads read_faults written write_faults file
   out = written out;
   counts = counts_of reads read_faults write_faults client out;
 }
-
--- the counts of faults of the file, of the input and of what is written
-abbrev pub fault_counts : Surroundings → List ℕ
-fault_counts s = s.file_faults ∷ s.counts.read_faults ∷ s.counts.write_faults ∷ []
 
 -- the input and what was written stand as they stood
 abbrev pub IsClientUntouched : Surroundings → Surroundings → Type 0

@@ -1,13 +1,13 @@
 //! The program over a relation file and an input.
 
-ghost use Rattle.std.specs.Prelude.{[], ◌∷◌, IsErrOf, OnOk};
-ghost use Rattle.pg_replay.specs.Program.{HasRun, HasRecordedFile, HasVerifiedFile, HasRecorded, HasToldVerdict, HasVerified, HasWritten, IsRecordOutcome, fault_counts, surroundings};
+ghost use Rattle.std.specs.Prelude.{[], ◌∷◌, ◌≤◌, IsErrOf, OnOk};
+ghost use Rattle.pg_replay.specs.Program.{HasRun, HasRecordedFile, HasVerifiedFile, HasRecorded, HasToldVerdict, HasVerified, HasWritten, IsRecordOutcome, surroundings};
 ghost use Rattle.pg_replay.specs.Statuses.{status_of, line_of, verdict_line, verdict_outcome};
 ghost use Rattle.pg_replay.specs.Words.{order_of};
 ghost use Rattle.pg_replay.specs.declared.outcome.Outcome.{Outcome};
 ghost use Rattle.recording_text.specs.Text.{recording_text};
 ghost use Rattle.pg_engine.specs.Serving.{FaultsNeverFall, counts_of};
-ghost use Rattle.status_lines.specs.Counts.{CountsNeverFall, OnStream, Runs};
+ghost use Rattle.status_lines.specs.Counts.{CountsNeverFall};
 ghost use Rattle.status_lines.specs.StatusLines.{IsReported};
 
 use crate::input::read_input;
@@ -86,11 +86,14 @@ fn carry_out<F: Source, S: Source, K: Sink>(
     client: &mut S,
     out: &mut K,
 ) -> Outcome
-    ensures { Runs (HasRun (order_of words.now) result) fault_counts
+    ensures ran { HasRun (order_of words.now) result
         (surroundings F.left F.faults S.left S.reads S.faults K.written K.faults file.old client.old
         out.old)
         (surroundings F.left F.faults S.left S.reads S.faults K.written K.faults file.new client.new
         out.new) }
+    ensures never_falls { CountsNeverFall
+        (F.faults file.old ∷ S.faults client.old ∷ K.faults out.old ∷ [])
+        (F.faults file.new ∷ S.faults client.new ∷ K.faults out.new ∷ []) }
 {
     match read_order(words) {
         None => Outcome::Usage,
@@ -108,11 +111,14 @@ fn record_file<F: Source, S: Source, K: Sink>(
     client: &mut S,
     out: &mut K,
 ) -> Outcome
-    ensures { Runs (HasRecordedFile pid key.now result) fault_counts
+    ensures recorded { HasRecordedFile pid key.now result
         (surroundings F.left F.faults S.left S.reads S.faults K.written K.faults file.old client.old
         out.old)
         (surroundings F.left F.faults S.left S.reads S.faults K.written K.faults file.new client.new
         out.new) }
+    ensures never_falls { CountsNeverFall
+        (F.faults file.old ∷ S.faults client.old ∷ K.faults out.old ∷ [])
+        (F.faults file.new ∷ S.faults client.new ∷ K.faults out.new ∷ []) }
 {
     match read_relations(alloc, file) {
         Err(error) => Outcome::File(error),
@@ -127,11 +133,14 @@ fn verify_file<F: Source, S: Source, K: Sink>(
     client: &mut S,
     out: &mut K,
 ) -> Outcome
-    ensures { Runs (HasVerifiedFile result) fault_counts
+    ensures verified { HasVerifiedFile result
         (surroundings F.left F.faults S.left S.reads S.faults K.written K.faults file.old client.old
         out.old)
         (surroundings F.left F.faults S.left S.reads S.faults K.written K.faults file.new client.new
         out.new) }
+    ensures never_falls { CountsNeverFall
+        (F.faults file.old ∷ S.faults client.old ∷ K.faults out.old ∷ [])
+        (F.faults file.new ∷ S.faults client.new ∷ K.faults out.new ∷ []) }
 {
     match read_relations(alloc, file) {
         Err(error) => Outcome::File(error),
@@ -182,8 +191,9 @@ fn write_recorded<K: Sink>(
 ) -> Outcome
     requires in_memory { ¬ IsErrOf answer ServeError.WriteFault }
     requires ended { OnOk answer (¬ IsErrOf recorded.now RecordError.Unended) }
-    ensures { OnStream (IsRecordOutcome answer recorded.now result) (K.written out.old)
+    ensures told { IsRecordOutcome answer recorded.now result (K.written out.old)
         (K.written out.new) (K.faults out.old) (K.faults out.new) }
+    ensures never_falls { K.faults out.old ≤ K.faults out.new }
 {
     match answer {
         Err(ServeError::ReadFault) => Outcome::ReadFault,
@@ -202,8 +212,9 @@ fn write_recorded<K: Sink>(
 /// Writes the text of a recording. A recording of 2^32 calls or more has no text, and counts as want
 /// of memory.
 fn write_to<K: Sink>(alloc: Global, recording: &Recording, out: &mut K) -> Outcome
-    ensures { OnStream (HasWritten Outcome.Done (recording_text recording.now) result)
+    ensures written { HasWritten Outcome.Done (recording_text recording.now) result
         (K.written out.old) (K.written out.new) (K.faults out.old) (K.faults out.new) }
+    ensures never_falls { K.faults out.old ≤ K.faults out.new }
 {
     if recording.calls.len() > u32::MAX as usize {
         return Outcome::NoMemory;
@@ -216,8 +227,9 @@ fn write_to<K: Sink>(alloc: Global, recording: &Recording, out: &mut K) -> Outco
 
 /// Writes a text, and answers the outcome: `written` where all of it was written.
 fn send_to<K: Sink>(written: Outcome, text: &[u8], out: &mut K) -> Outcome
-    ensures { OnStream (HasWritten written text.now result) (K.written out.old) (K.written out.new)
+    ensures written { HasWritten written text.now result (K.written out.old) (K.written out.new)
         (K.faults out.old) (K.faults out.new) }
+    ensures never_falls { K.faults out.old ≤ K.faults out.new }
 {
     match out.send(text) {
         Ok(()) => written,
@@ -262,8 +274,9 @@ fn verify_recording<K: Sink>(
     recording: &Recording,
     out: &mut K,
 ) -> Outcome
-    ensures { OnStream (HasToldVerdict relations.now recording.now result) (K.written out.old)
+    ensures told { HasToldVerdict relations.now recording.now result (K.written out.old)
         (K.written out.new) (K.faults out.old) (K.faults out.new) }
+    ensures never_falls { K.faults out.old ≤ K.faults out.new }
 {
     match verify(alloc, relations, recording) {
         Ok(verdict) => write_verdict(alloc, verdict, out),
@@ -273,8 +286,9 @@ fn verify_recording<K: Sink>(
 
 /// Writes the line of a verdict.
 fn write_verdict<K: Sink>(alloc: Global, verdict: Verdict, out: &mut K) -> Outcome
-    ensures { OnStream (HasWritten (verdict_outcome verdict) (verdict_line verdict) result)
+    ensures written { HasWritten (verdict_outcome verdict) (verdict_line verdict) result
         (K.written out.old) (K.written out.new) (K.faults out.old) (K.faults out.new) }
+    ensures never_falls { K.faults out.old ≤ K.faults out.new }
 {
     match verdict {
         Verdict::Same => send_to(Outcome::Done, "same\n".as_bytes(), out),

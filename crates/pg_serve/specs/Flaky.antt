@@ -1,7 +1,7 @@
 -- A desk over a script, which fails the calls that it is told to fail.
-use Rattle.std.specs.Prelude.{ℕ, Bool, List, ◌≡◌, ◌==◌, Result, IsErr, IsTrue, OnErr}
+use Rattle.std.specs.Prelude.{ℕ, Bool, List, ◌≡◌, ◌==◌, Result, IsErr, IsTrue}
 use Rattle.std.specs.List.{list_any}
-use Rattle.pg_client.specs.Script.{Script, script_told}
+use Rattle.pg_client.specs.Script.{Script}
 use Rattle.pg_streams.specs.Counts.{raised}
 
 -- What such a desk has: the script, the numbers of the calls that fail, and how many calls there were, those that failed among them.
@@ -25,4 +25,3 @@ pub record IsFlakyCall {T E : Type 0} (old new : Flaky) (result : Result T E) : 
   pub next : IsNextCall old new
   pub refused : IsTrue (is_next_refused old) → IsErr result
   pub unchanged : IsTrue (is_next_refused old) → new.script ≡ old.script
-  pub uncalled : OnErr result (script_told new.script ≡ script_told old.script)

@@ -89,6 +89,7 @@ impl CancelDesk for FlakyDesk {
         ensures ok { OnOk result
             (script_told self.new.script ≡ after_calls (script_told self.old.script)
             (DeskCall.Start ∷ [])) }
+        ensures err { OnErr result (script_told self.new.script ≡ script_told self.old.script) }
     {
         if self.is_refused() {
             return Err(AllocError);
@@ -103,6 +104,7 @@ impl CancelDesk for FlakyDesk {
         ensures kept { OnErr result (self.new.script.answers ≡ self.old.script.answers) }
         ensures ok { IfOk result (λ yes. script_told self.new.script
             ≡ after_calls (script_told self.old.script) (DeskCall.Ask yes ∷ [])) }
+        ensures err { OnErr result (script_told self.new.script ≡ script_told self.old.script) }
     {
         if self.is_refused() {
             return Err(AllocError);
@@ -117,6 +119,7 @@ impl CancelDesk for FlakyDesk {
         ensures kept { OnErr result (self.new.script.answers ≡ self.old.script.answers) }
         ensures ok { IfOk result (λ yes. script_told self.new.script
             ≡ after_calls (script_told self.old.script) (DeskCall.Cancel pid key.now yes ∷ [])) }
+        ensures err { OnErr result (script_told self.new.script ≡ script_told self.old.script) }
     {
         if self.is_refused() {
             return Err(AllocError);
@@ -131,6 +134,7 @@ impl CancelDesk for FlakyDesk {
         ensures ok { OnOk result
             (script_told self.new.script ≡ after_calls (script_told self.old.script)
             (DeskCall.Narrow ∷ [])) }
+        ensures err { OnErr result (script_told self.new.script ≡ script_told self.old.script) }
     {
         if self.is_refused() {
             return Err(AllocError);

@@ -174,8 +174,21 @@ fn are_free<R: Wait>(rt: &R, registry: &mut Registry) -> bool {
     are_so
 }
 
-/// Whether all connections to a listener are taken in at a new registry, and the jobs run to their ends and have given their
-/// registrations back then.
+/// Whether all connections to a listener are taken in.
+fn are_taken_in_at<R: Wait + Clock + RandomSource + Copy + Drop>(
+    rt: R,
+    registry: &mut Registry,
+    listener: TcpListener,
+    spawner: &mut ThreadSpawner<JobThreads>,
+) -> bool
+    requires started { spawner.old.started ≡ 0 }
+{
+    let mut acceptor = SocketAcceptor::new(Listening::Tcp(listener), rt);
+    are_taken_in(rt, registry, &mut acceptor, spawner) == Some(true)
+}
+
+/// The same at a new registry; and the jobs run to their ends, and then have ended their
+/// registrations.
 fn are_served<R: Wait + Clock + RandomSource + Copy + Drop>(
     rt: R,
     alloc: Global,
@@ -186,9 +199,7 @@ fn are_served<R: Wait + Clock + RandomSource + Copy + Drop>(
 {
     match Registry::new(alloc) {
         Some(mut registry) => {
-            let mut acceptor = SocketAcceptor::new(Listening::Tcp(listener), rt);
-            let are_taken_in =
-                are_taken_in(rt, &mut registry, &mut acceptor, spawner) == Some(true);
+            let are_taken_in = are_taken_in_at(rt, &mut registry, listener, spawner);
             spawner.threads.finish(&rt);
             are_taken_in && are_free(&rt, &mut registry)
         }

@@ -11,7 +11,7 @@ ghost use Rattle.relation_files.specs.Reader.{IsRefusedFor};
 use crate::errors::FileError;
 use crate::lines::without_return;
 use crate::reader::Reader;
-use crate::reading::{FILE_LIMIT, READ_LEN, read_whole};
+use crate::reading::{FILE_LIMIT, read_whole};
 use conversation_runs::Source;
 use pg_messages::PgList;
 use relation_handlers::{RelationTable, TableError};
@@ -37,8 +37,7 @@ pub fn read_relations<F: Source>(alloc: Global, file: &mut F) -> Result<Relation
         (F.faults file.old) (F.faults file.new)) }
     ensures never_falls { F.faults file.old ≤ F.faults file.new }
 {
-    let mut buffer = [0u8; READ_LEN];
-    let text = read_whole(alloc, file, &mut buffer)?;
+    let text = read_whole(alloc, file)?;
     let relations = relations_in(alloc, text.as_slice())?;
     table_of(alloc, relations)
 }

@@ -12,15 +12,22 @@ use std::alloc::Global;
 pub(crate) const FILE_LIMIT: usize = 67_108_864;
 
 /// How many bytes a read asks for.
-pub(crate) const READ_LEN: usize = 65_536;
+const READ_LEN: usize = 65_536;
 
-/// All bytes of a file, up to its end, which are read into a buffer and gathered. TooLong comes once
-/// it gave more than `FILE_LIMIT` bytes.
-pub(crate) fn read_whole<F: Source>(
-    alloc: Global,
-    file: &mut F,
-    buffer: &mut [u8],
-) -> Result<Vec<u8>, FileError>
+/// All bytes of a file, up to its end. TooLong comes once it gave more than `FILE_LIMIT` bytes.
+pub(crate) fn read_whole<F: Source>(alloc: Global, file: &mut F) -> Result<Vec<u8>, FileError>
+    ensures whole { IfOk result (λ text. GaveAll (F.left file.old) (F.left file.new) text.items) }
+    ensures within { IfOk result (λ text. length text.items ≤ FILE_LIMIT) }
+    ensures cause { IfErr result (λ error. IsReadCause error (F.left file.old) (F.left file.new)
+        (F.faults file.old) (F.faults file.new)) }
+    ensures never_falls { F.faults file.old ≤ F.faults file.new }
+{
+    let mut buffer = [0u8; READ_LEN];
+    read_by(alloc, file, &mut buffer)
+}
+
+/// All bytes of a file, which are read into a buffer and gathered.
+fn read_by<F: Source>(alloc: Global, file: &mut F, buffer: &mut [u8]) -> Result<Vec<u8>, FileError>
     requires { 0 < length buffer.old }
     ensures whole { IfOk result (λ text. GaveAll (F.left file.old) (F.left file.new) text.items) }
     ensures within { IfOk result (λ text. length text.items ≤ FILE_LIMIT) }

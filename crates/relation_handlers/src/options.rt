@@ -129,7 +129,8 @@ impl SharedOptions {
     }
 
     /// The settings of a session that names this style. Where that is one of the four by its exact
-    /// name, the settings are shared, which takes no memory.
+    /// name, the settings are shared, which takes no memory. Those of another have memory of their
+    /// own.
     pub(crate) fn named(&self, alloc: Global, text: &str) -> Result<Settings, AllocError>
         requires { IsShortText text.now }
         ensures { IfOk result (λ settings.
@@ -143,7 +144,9 @@ impl SharedOptions {
                 return styled.settings();
             }
         }
-        own_settings(alloc, text)
+        let style = SessionStyle::named(alloc, text)?;
+        let options = options_in(alloc, text)?;
+        Ok(Settings { options, style })
     }
 }
 
@@ -175,19 +178,6 @@ fn name_of(style: IntervalStyle) -> &'static str
         IntervalStyle::SQLStandard => "sql_standard",
         IntervalStyle::PostgresVerbose => "postgres_verbose",
     }
-}
-
-/// The settings of a session that names this style, in memory of their own.
-#[cold]
-#[inline(never)]
-fn own_settings(alloc: Global, text: &str) -> Result<Settings, AllocError>
-    requires { IsShortText text.now }
-    ensures { IfOk result (λ settings.
-        settings ≡ record default_options { interval_style = text.now }) }
-{
-    let style = SessionStyle::named(alloc, text)?;
-    let options = options_in(alloc, text)?;
-    Ok(Settings { options, style })
 }
 
 /// The default options, but with the style of this text, in memory of their own.

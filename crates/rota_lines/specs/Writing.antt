@@ -1,5 +1,5 @@
 -- What comes of a text that is written to a sink.
-use Rattle.std.specs.Prelude.{ℕ, ◌≡◌, ◌≤◌, List, ◌++◌, Option, Result, Ok, Err}
+use Rattle.std.specs.Prelude.{ℕ, ◌≡◌, List, ◌++◌, Option, Result, Ok, Err}
 use Rattle.conversation_runs.specs.Streams.{GrowsBy, GrowsByFront, HasRisen}
 use Rattle.conversation_runs.specs.declared.streams.SinkError.{SinkError}
 use Rattle.conversation_runs.specs.declared.streams.SinkError.TheVariants.{Failed, NoMemory}
@@ -29,17 +29,3 @@ GoesOn (Ok done) piece waiting new_waiting old new faults new_faults =
 GoesOn (Err e) piece waiting new_waiting old new faults new_faults =
     ((first : Option (List ℕ)) (text : List ℕ) → IsOnItsWay first old text waiting → GrowsByFront first new (text ++ piece))
     × IsSinkCause e faults new_faults
-
--- What came of a piece that is put behind a text on its way: that goes on, and the count of faults never falls.
-pub record PutsOn (result : Result (Unit {0}) SinkError) (piece waiting new_waiting : List ℕ) (old new : Option (List ℕ))
-    (faults new_faults : ℕ) : Type 0 where
-  pub on : GoesOn result piece waiting new_waiting old new faults new_faults
-  pub never_falls : faults ≤ new_faults
-
--- What came of the end of a text on its way, whose whole text is made of what was on its way: the whole is written, and the count of faults
--- never falls.
-pub record Ends (result : Result (Unit {0}) SinkError) (ended : List ℕ → List ℕ) (waiting : List ℕ) (old new : Option (List ℕ))
-    (faults new_faults : ℕ) : Type 0 where
-  pub written : (first : Option (List ℕ)) (text : List ℕ) → IsOnItsWay first old text waiting
-      → HasWritten result (ended text) first new faults new_faults
-  pub never_falls : faults ≤ new_faults

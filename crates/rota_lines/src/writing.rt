@@ -1,10 +1,10 @@
 //! Lines that go to a sink through a buffer.
 
-ghost use Rattle.std.specs.Prelude.{◌≡◌, ◌≤◌, ◌<◌, ◌+◌, ◌^◌, ◌++◌, [], All, OnOk, IfOk, codes, decimal, length, string_bytes};
+ghost use Rattle.std.specs.Prelude.{◌≡◌, ◌≤◌, ◌<◌, ◌+◌, ◌^◌, ◌++◌, [], ℕ, List, Option, All, OnOk, IfOk, codes, decimal, length, string_bytes};
 ghost use Rattle.pg_text.specs.Words.{printed_style};
 ghost use Rattle.rota_moments.specs.Moments.{IsMoment};
 ghost use Rattle.rota_lines.specs.Lines.{line, clash_line, rota_text, clash_text, Stands};
-ghost use Rattle.rota_lines.specs.Writing.{HasWritten, PutsOn, Ends};
+ghost use Rattle.rota_lines.specs.Writing.{IsOnItsWay, HasWritten, GoesOn};
 
 use crate::lines::{put_clash, put_end, put_step};
 use conversation_runs::{Sink, SinkError};
@@ -75,10 +75,11 @@ fn write_step<K: Sink>(
     sink: &mut K,
 ) -> Result<(), SinkError>
     requires { IsMoment moment.now }
-    ensures on { PutsOn result (line (printed_style style) (decimal number) moment.now step.now)
+    ensures on { GoesOn result (line (printed_style style) (decimal number) moment.now step.now)
         (string_bytes text.old) (string_bytes text.new)
         (K.written sink.old) (K.written sink.new) (K.faults sink.old) (K.faults sink.new) }
     ensures stands { OnOk result (Stands (printed_style style) step.now) }
+    ensures never_falls { K.faults sink.old ≤ K.faults sink.new }
 {
     match put_step(text, number, moment, step, style) {
         Ok(()) => send_full(text, sink),
@@ -95,11 +96,12 @@ fn write_end<K: Sink>(
     sink: &mut K,
 ) -> Result<(), SinkError>
     requires { IsMoment moment.now }
-    ensures ended { Ends result
-        (λ text. text ++ line (printed_style style) (codes "end") moment.now total.now)
-        (string_bytes text.old)
-        (K.written sink.old) (K.written sink.new) (K.faults sink.old) (K.faults sink.new) }
+    ensures written { (first : Option (List ℕ)) (whole : List ℕ)
+        → IsOnItsWay first (K.written sink.old) whole (string_bytes text.old)
+        → HasWritten result (whole ++ line (printed_style style) (codes "end") moment.now total.now)
+        first (K.written sink.new) (K.faults sink.old) (K.faults sink.new) }
     ensures stands { OnOk result (Stands (printed_style style) total.now) }
+    ensures never_falls { K.faults sink.old ≤ K.faults sink.new }
 {
     match put_end(text, moment, total, style) {
         Ok(()) => write_rest(text, sink),
@@ -114,9 +116,10 @@ fn write_clash<K: Sink>(
     second: u32,
     sink: &mut K,
 ) -> Result<(), SinkError>
-    ensures { PutsOn result (clash_line (first, second))
+    ensures on { GoesOn result (clash_line (first, second))
         (string_bytes text.old) (string_bytes text.new)
         (K.written sink.old) (K.written sink.new) (K.faults sink.old) (K.faults sink.new) }
+    ensures never_falls { K.faults sink.old ≤ K.faults sink.new }
 {
     match put_clash(text, first, second) {
         Ok(()) => send_full(text, sink),
@@ -126,9 +129,10 @@ fn write_clash<K: Sink>(
 
 /// Sends a text where it is full, and empties it.
 fn send_full<K: Sink>(text: &mut String, sink: &mut K) -> Result<(), SinkError>
-    ensures { PutsOn result []
+    ensures on { GoesOn result []
         (string_bytes text.old) (string_bytes text.new)
         (K.written sink.old) (K.written sink.new) (K.faults sink.old) (K.faults sink.new) }
+    ensures never_falls { K.faults sink.old ≤ K.faults sink.new }
 {
     if text.len() < FULL {
         return Ok(());
@@ -144,8 +148,11 @@ fn send_full<K: Sink>(text: &mut String, sink: &mut K) -> Result<(), SinkError>
 
 /// Sends what waits.
 fn write_rest<K: Sink>(text: &String, sink: &mut K) -> Result<(), SinkError>
-    ensures { Ends result (λ text. text) (string_bytes text.now)
-        (K.written sink.old) (K.written sink.new) (K.faults sink.old) (K.faults sink.new) }
+    ensures written { (first : Option (List ℕ)) (whole : List ℕ)
+        → IsOnItsWay first (K.written sink.old) whole (string_bytes text.now)
+        → HasWritten result whole first
+        (K.written sink.new) (K.faults sink.old) (K.faults sink.new) }
+    ensures never_falls { K.faults sink.old ≤ K.faults sink.new }
 {
     sink.send(text.as_bytes())
 }

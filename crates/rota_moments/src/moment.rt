@@ -2,7 +2,7 @@
 
 ghost use Rattle.std.specs.Prelude.{◌≡◌, IfOk, IfSome};
 ghost use Rattle.std.specs.Option.{ok_or};
-ghost use Rattle.rota_moments.specs.Moments.{IsMoment, moment, after_days_and_time, moment_after, moment_at, instant};
+ghost use Rattle.rota_moments.specs.Moments.{IsMoment, moment, after_days_and_time, moment_after, moment_at, instant, after_time};
 
 use crate::calendar::{days_later, months_later};
 use pg_interval::Interval;
@@ -58,7 +58,16 @@ fn days_and_time_later(
     ensures valid { IfOk result IsMoment }
 {
     let day = days_later(day, days)?;
-    match instant_of(Moment { day, micro }).checked_add(microseconds) {
+    time_later(Moment { day, micro }, microseconds)
+}
+
+/// The moment `microseconds` microseconds later.
+fn time_later(start: Moment, microseconds: i64) -> Result<Moment, RangeError>
+    requires { IsMoment start }
+    ensures value { result ≡ ok_or (after_time start microseconds) RangeError.Time }
+    ensures valid { IfOk result IsMoment }
+{
+    match instant_of(start).checked_add(microseconds) {
         Some(instant) => moment_at(instant).ok_or(RangeError::Time),
         None => Err(RangeError::Time),
     }

@@ -1,8 +1,7 @@
 //! The clashes of two rotas whose steps were read.
 
-ghost use Rattle.std.specs.Prelude.{◌<◌, ◌+◌, ◌^◌, Some, length};
+ghost use Rattle.std.specs.Prelude.{◌≤◌, ◌<◌, ◌+◌, ◌^◌, Some, length};
 ghost use Rattle.rota_moments.specs.Moments.{IsMoment};
-ghost use Rattle.status_lines.specs.Counts.{OnStream};
 ghost use Rattle.rota_report.specs.Outcomes.{HasCompared};
 
 use crate::failure::Failure;
@@ -26,8 +25,9 @@ pub(crate) fn write_comparison<K: Sink>(
     requires other_valid { IsMoment other }
     requires few { length steps.now + 1 < 2 ^ 32 }
     requires others_few { length others.now + 1 < 2 ^ 32 }
-    ensures { OnStream (HasCompared start other (Some steps.now) (Some others.now) result)
+    ensures compared { HasCompared start other (Some steps.now) (Some others.now) result
         (K.written out.old) (K.written out.new) (K.faults out.old) (K.faults out.new) }
+    ensures never_falls { K.faults out.old ≤ K.faults out.new }
 {
     let first = rota(alloc, start, steps)?;
     let second = rota(alloc, other, others)?;

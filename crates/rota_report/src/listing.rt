@@ -1,9 +1,8 @@
 //! The report of a rota whose steps were read.
 
-ghost use Rattle.std.specs.Prelude.{Some};
+ghost use Rattle.std.specs.Prelude.{◌≤◌, Some};
 ghost use Rattle.pg_text.specs.Words.{printed_style};
 ghost use Rattle.rota_moments.specs.Moments.{IsMoment};
-ghost use Rattle.status_lines.specs.Counts.{OnStream};
 ghost use Rattle.rota_report.specs.Outcomes.{HasListed};
 
 use crate::failure::Failure;
@@ -23,8 +22,9 @@ pub(crate) fn write_report<K: Sink>(
     out: &mut K,
 ) -> Result<(), Failure>
     requires { IsMoment start }
-    ensures { OnStream (HasListed start (printed_style style) (Some steps.now) result)
+    ensures listed { HasListed start (printed_style style) (Some steps.now) result
         (K.written out.old) (K.written out.new) (K.faults out.old) (K.faults out.new) }
+    ensures never_falls { K.faults out.old ≤ K.faults out.new }
 {
     match report(alloc, start, steps, style, out) {
         Ok(()) => Ok(()),

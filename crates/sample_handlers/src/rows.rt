@@ -64,6 +64,16 @@ fn push_row(alloc: Global, payload: &[u8], items: &mut Items) -> Result<(), Allo
     push_item(items, Ok(row))
 }
 
+/// Appends an error in place of a row.
+fn push_error(alloc: Global, items: &mut Items) -> Result<(), AllocError>
+    ensures ok { OnOk result (items.new ≡ items.old ++ Err division_by_zero ∷ []) }
+    ensures sendable { OnOk result
+        (AllByRecursion IsSendable items.old → AllByRecursion IsSendable items.new) }
+{
+    let error = division_by_zero(alloc)?;
+    push_item(items, Err(error))
+}
+
 /// Both rows, the interval in this format.
 pub(crate) fn pair_rows(alloc: Global, format: FieldFormat) -> Result<ListRows, AllocError>
     ensures { IfOk result (λ rows. rows ≡ pair_items format) }
@@ -80,8 +90,7 @@ pub(crate) fn broken_rows(alloc: Global, format: FieldFormat) -> Result<ListRows
 {
     let mut items = PgList::new(alloc);
     push_first(alloc, format, &mut items)?;
-    let error = division_by_zero(alloc)?;
-    push_item(&mut items, Err(error))?;
+    push_error(alloc, &mut items)?;
     push_row(alloc, &NULL_ROW, &mut items)?;
     push_row(alloc, &NULL_ROW, &mut items)?;
     Ok(ListRows::new(items))
@@ -99,8 +108,7 @@ pub(crate) fn long_rows(
     for _ in 0..count {
         push_first(alloc, format, &mut items)?;
     }
-    let error = division_by_zero(alloc)?;
-    push_item(&mut items, Err(error))?;
+    push_error(alloc, &mut items)?;
     push_row(alloc, &NULL_ROW, &mut items)?;
     Ok(ListRows::new(items))
 }

@@ -1,5 +1,5 @@
 -- Each return is what `write_line` or `report_file` promised, at the outcome of its arm.
-use Rattle.std.proofs.Common.{◌≡◌, ◌≢◌, ◌∷◌, ℕ, List, [], Option, Some, None, inl, refl, sym, ap, subst, arith}
+use Rattle.std.proofs.Common.{◌≡◌, ◌≢◌, ◌∷◌, ℕ, List, [], Option, Some, None, inl, refl, sym, ap, subst}
 use Rattle.std.proofs.lemmas.List.{append-nil}
 use Rattle.status_lines.specs.StatusLines.{IsReported}
 use Rattle.pg_replay.specs.declared.outcome.Outcome.{Outcome}
@@ -41,21 +41,17 @@ returns-in-File g c =
       never_falls = told.ensures.never_falls;
     }
 
-pub returns-in-Done : goal.returns-in-Done
-returns-in-Done g c = record {
-  reported = told_at Done c.args.outcome.now 0 (g.E.Sink.written c.args.err.now) (g.E.Sink.written c.args.err.now)
-      (g.E.Sink.faults c.args.err.now) (g.E.Sink.faults c.args.err.now) c.in-Done.is
-      (nothing_told 0 (g.E.Sink.written c.args.err.now) (g.E.Sink.faults c.args.err.now));
-  never_falls = omega arith;
-}
+pub returns-in-Done-clause-reported : goal.returns-in-Done-clause-reported
+returns-in-Done-clause-reported g c =
+    told_at Done c.args.outcome.now 0 (g.E.Sink.written c.args.err.now) (g.E.Sink.written c.args.err.now)
+    (g.E.Sink.faults c.args.err.now) (g.E.Sink.faults c.args.err.now) c.in-Done.is
+    (nothing_told 0 (g.E.Sink.written c.args.err.now) (g.E.Sink.faults c.args.err.now))
 
-pub returns-in-Differs : goal.returns-in-Differs
-returns-in-Differs g c = record {
-  reported = told_at Differs c.args.outcome.now 20 (g.E.Sink.written c.args.err.now) (g.E.Sink.written c.args.err.now)
-      (g.E.Sink.faults c.args.err.now) (g.E.Sink.faults c.args.err.now) c.in-Differs.is
-      (nothing_told 20 (g.E.Sink.written c.args.err.now) (g.E.Sink.faults c.args.err.now));
-  never_falls = omega arith;
-}
+pub returns-in-Differs-clause-reported : goal.returns-in-Differs-clause-reported
+returns-in-Differs-clause-reported g c =
+    told_at Differs c.args.outcome.now 20 (g.E.Sink.written c.args.err.now) (g.E.Sink.written c.args.err.now)
+    (g.E.Sink.faults c.args.err.now) (g.E.Sink.faults c.args.err.now) c.in-Differs.is
+    (nothing_told 20 (g.E.Sink.written c.args.err.now) (g.E.Sink.faults c.args.err.now))
 
 pub returns-in-ReadFault : goal.returns-in-ReadFault
 returns-in-ReadFault g c =

@@ -12,7 +12,7 @@ use Rattle.rota_lines.proofs.writing.write_rota.Goals as goal
 
 pub loop-place-preserved : goal.loop-place-preserved
 loop-place-preserved g c =
-    let on = c.in-Ok.ensures.on.on in
+    let on = c.in-Ok.ensures.on in
     let before = c.loop-place.invariant in
     let first = g.K.Sink.written c.args.sink.now in
     let lines = before.0 in
@@ -28,7 +28,7 @@ loop-place-preserved g c =
 
 pub returns-in-Err-clause-written : goal.returns-in-Err-clause-written
 returns-in-Err-clause-written g c =
-    let on = c.in-Err.ensures.on.on in
+    let on = c.in-Err.ensures.on in
     let before = c.loop-place.invariant in
     let first = g.K.Sink.written c.args.sink.now in
     let new = g.K.Sink.written c.write_step.new.sink in
@@ -51,7 +51,7 @@ returns-clause-written g c =
     let Q : ℕ → Type 0 = λ k. rota_text (printed_style c.args.style) c.args.steps.now c.args.moments.now c.args.total.now
     ≡ lines ++ lines_from (printed_style c.args.style) c.args.total.now k (drop k c.args.steps.now) (drop k c.args.moments.now) in
     written_as c.write_end.result _ _ _ _ _ _ _ (subst Q n before.1 ∙ ap (λ l. lines ++ l) last) before.3
-    (c.write_end.ensures.ended.written first lines before.2)
+    (c.write_end.ensures.written first lines before.2)
 
 pub returns-clause-stand : goal.returns-clause-stand
 returns-clause-stand g c =

@@ -16,12 +16,12 @@ loop-preserved c = record {
 }
 
 pub new-requires : goal.new-requires
-new-requires c = c.in_ok-push_row.ensures.sendable (c.in_ok-push_item.ensures.sendable c.loop.invariant.sendable)
+new-requires c = c.in_ok-push_row.ensures.sendable (c.in_ok-push_error.ensures.sendable c.loop.invariant.sendable)
 
 pub returns : goal.returns
 returns c =
     let ended : c.loop.counter ≡ c.args.count = omega (arith, c.loop-test.false, c.loop.auto.counter-end) in
     let rows = c.loop.invariant.rows ∙ ap (λ n. replicate n (Ok (first_row c.args.format))) ended in
     c.new.ensures ∙ c.in_ok-push_row.ensures.ok
-    ∙ long_ended (replicate c.args.count (Ok (first_row c.args.format))) c.loop.items c.push_item.new.items c.in_ok-error.error
-    division_by_zero second_row second_row rows c.in_ok-push_item.ensures.ok c.in_ok-error.ensures.error refl
+    ∙ long_ended (replicate c.args.count (Ok (first_row c.args.format))) c.loop.items c.push_error.new.items division_by_zero
+    division_by_zero second_row second_row rows c.in_ok-push_error.ensures.ok refl refl

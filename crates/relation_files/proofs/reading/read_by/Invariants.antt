@@ -1,6 +1,6 @@
 use Rattle.std.proofs.Common.{◌≤◌, ◌-◌, ◌+◌, vec_len}
 use Rattle.relation_files.specs.Files.{Gave, file_limit}
-use Rattle.relation_files.proofs.reading.read_whole.Given as goal
+use Rattle.relation_files.proofs.reading.read_by.Given as goal
 
 -- what was read are the bytes that the file gave so far
 abbrev pub invariant-reads : goal.invariant-reads
