@@ -10,5 +10,6 @@ mod numbers;
 pub use commands::{Command, Load, Service, read_command, read_pid};
 pub use file::file_word;
 pub use keys::{KeyBytes, read_key};
-pub use listening::{listen_count, listen_place};
+pub use listening::{listen_count, listen_place, read_bound};
 pub use listening_places::ListenPlace;
+pub use numbers::read_within;

@@ -97,8 +97,8 @@ fn read_port(word: &str) -> Option<u16>
     Some(port as u16)
 }
 
-/// A bound on the connections: 0 to 10000.
-fn read_bound(word: &str) -> Option<Option<u64>>
+/// COUNT, a bound on the connections: 0 to 10000. None for any other word.
+pub fn read_bound(word: &str) -> Option<Option<u64>>
     ensures { result ≡ bound_of word.now }
 {
     let bound = read_within(0, 10_000, word)?;

@@ -17,8 +17,9 @@ pub(crate) fn read_number(word: &str) -> Option<u64>
     }
 }
 
-/// That number, where it is neither below `least` nor above `most`.
-pub(crate) fn read_within(least: u64, most: u64, word: &str) -> Option<u64>
+/// The number that the word writes in decimal, without a sign or a leading zero, where it is neither
+/// below `least` nor above `most`. None for any other word.
+pub fn read_within(least: u64, most: u64, word: &str) -> Option<u64>
     ensures value { result ≡ number_within least most word.now }
     ensures bounded { IfSome result (λ number. number ≤ most) }
 {
