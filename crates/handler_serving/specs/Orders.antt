@@ -69,11 +69,15 @@ abbrev pub of_four : List ℕ → List ℕ → List ℕ → List ℕ → Option 
 of_four command kind word count =
     if bytes_eq command (codes "listen") then listening_at (place_at kind word) (bound_of count) else None
 
+-- three or four words behind the program's name
+abbrev pub of_more : List (List ℕ) → Option Ordered
+of_more (name ∷ command ∷ first ∷ second ∷ []) = of_three command first second
+of_more (name ∷ command ∷ first ∷ second ∷ third ∷ []) = of_four command first second third
+of_more _ = None
+
 -- `serve PID KEY`, `listen [tcp] PORT [COUNT]`, `listen unix PATH [COUNT]`, `--help` or `--version`, behind the program's name; any other
 -- words order nothing.
 abbrev pub order_of : List (List ℕ) → Option Ordered
 order_of (name ∷ word ∷ []) = telling word
 order_of (name ∷ command ∷ first ∷ []) = of_two command first
-order_of (name ∷ command ∷ first ∷ second ∷ []) = of_three command first second
-order_of (name ∷ command ∷ first ∷ second ∷ third ∷ []) = of_four command first second third
-order_of _ = None
+order_of words = of_more words

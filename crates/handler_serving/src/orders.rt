@@ -1,10 +1,11 @@
 //! What the words of a command line order.
 
-ghost use Rattle.std.specs.Prelude.{◌≡◌, map, option_map, string_bytes};
-ghost use Rattle.relation_words.specs.Listening.{told_place};
-ghost use Rattle.handler_serving.specs.Orders.{told_order, order_of, telling, of_two, of_three, of_four, free_port_of, place_at, listening_at, serving};
+ghost use Rattle.std.specs.Prelude.{◌≡◌, Some, None, option_map};
+ghost use Rattle.relation_words.specs.Listening.{told_place, bound_of};
+ghost use Rattle.handler_serving.specs.Orders.{told_order, order_of, telling, of_two, of_more, of_three, of_four, free_port_of, place_at, listening_at, serving};
 
 use listening_places::ListenPlace;
+use pg_messages::PgStr;
 use relation_words::{KeyBytes, read_bound, read_key, read_pid, read_within};
 
 /// What the words of a command line order.
@@ -26,12 +27,21 @@ pub enum Order<'w> {
 /// hexadecimal digits, 8 to 512 of them, PORT 0 to 65535, where 0 is any free port, PATH isn't empty,
 /// and COUNT is 0 to 10000. Numbers are in decimal, without a sign or a leading zero. None for any
 /// other words.
-pub fn order_of<'w>(words: &'w [String]) -> Option<Order<'w>>
-    ensures { option_map told_order result ≡ order_of (map string_bytes words.now) }
+pub fn order_of<'w>(words: &'w [PgStr]) -> Option<Order<'w>>
+    ensures { option_map told_order result ≡ order_of words.now }
 {
     match words {
         [_, word] => told_by(word.as_str()),
         [_, command, first] => order_of_two(command.as_str(), first.as_str()),
+        _ => order_of_more(words),
+    }
+}
+
+/// What three or four words behind the program's name order.
+fn order_of_more<'w>(words: &'w [PgStr]) -> Option<Order<'w>>
+    ensures { option_map told_order result ≡ of_more words.now }
+{
+    match words {
         [_, command, first, second] => {
             order_of_three(command.as_str(), first.as_str(), second.as_str())
         }
@@ -60,11 +70,11 @@ fn told_by<'w>(word: &'w str) -> Option<Order<'w>>
 fn order_of_two<'w>(command: &str, word: &'w str) -> Option<Order<'w>>
     ensures { option_map told_order result ≡ of_two command.now word.now }
 {
-    if command == "listen" {
-        listen_at(read_port(word), Some(None))
-    } else {
-        None
+    if command != "listen" {
+        return None;
     }
+    let port = read_port(word)?;
+    Some(Order::Listen(port, None))
 }
 
 /// What three words order.
@@ -77,9 +87,9 @@ fn order_of_three<'w>(command: &str, first: &'w str, second: &'w str) -> Option<
     if command != "listen" {
         return None;
     }
-    match listen_at(read_place(first, second), Some(None)) {
+    match listen_unbounded(first, second) {
         Some(order) => Some(order),
-        None => listen_at(read_port(first), read_bound(second)),
+        None => listen_at_port(first, second),
     }
 }
 
@@ -89,17 +99,39 @@ fn order_of_four<'w>(command: &str, kind: &str, place: &'w str, count: &str) -> 
         ≡ of_four command.now kind.now place.now count.now }
 {
     if command == "listen" {
-        listen_at(read_place(kind, place), read_bound(count))
+        listen_bounded(kind, place, count)
     } else {
         None
     }
 }
 
-/// To listen, where the place and the bound are good.
-fn listen_at<'w>(place: Option<ListenPlace<'w>>, count: Option<Option<u64>>) -> Option<Order<'w>>
-    ensures { option_map told_order result ≡ listening_at (option_map told_place place) count }
+/// To listen at a place that is told by its kind, without a bound.
+fn listen_unbounded<'w>(kind: &str, place: &'w str) -> Option<Order<'w>>
+    ensures { option_map told_order result
+        ≡ listening_at (place_at kind.now place.now) (Some None) }
 {
-    Some(Order::Listen(place?, count?))
+    let place = read_place(kind, place)?;
+    Some(Order::Listen(place, None))
+}
+
+/// To listen at a place that is told by its kind, with a bound.
+fn listen_bounded<'w>(kind: &str, place: &'w str, count: &str) -> Option<Order<'w>>
+    ensures { option_map told_order result
+        ≡ listening_at (place_at kind.now place.now) (bound_of count.now) }
+{
+    let place = read_place(kind, place)?;
+    let count = read_bound(count)?;
+    Some(Order::Listen(place, count))
+}
+
+/// To listen at a port, with a bound.
+fn listen_at_port<'w>(port: &'w str, count: &str) -> Option<Order<'w>>
+    ensures { option_map told_order result
+        ≡ listening_at (free_port_of port.now) (bound_of count.now) }
+{
+    let port = read_port(port)?;
+    let count = read_bound(count)?;
+    Some(Order::Listen(port, count))
 }
 
 /// To serve, where the pid and the key are good.

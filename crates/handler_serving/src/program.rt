@@ -5,13 +5,12 @@ ghost use Rattle.std.specs.Arc.{arc_value};
 
 use crate::one_client::{TURNS, serve_client};
 use crate::orders::{Order, order_of};
-use crate::server::HandlerServer;
+use crate::server::ClientThreads;
 use crate::telling::{tell_help, tell_listened, tell_served, tell_usage, tell_version};
 use listening_places::{ListenPlace, bind_place, leave_place};
-use many_clients::{
-    AdmittedClient, AdmittedClients, ClientSpawner, ListenError, StartClient, listen_with,
-};
+use many_clients::{AdmittedClient, AdmittedClients, ListenError, listen_with};
 use pg_cancel::{ConnectionManager, Door};
+use pg_messages::{PgList, PgStr};
 use pg_serve::{Acceptor, MaybeTls, RandomKeys, ReaderSource, Spawner, WriterSink};
 use pg_session::PgWireServerHandlers;
 use relation_words::KeyBytes;
@@ -27,8 +26,8 @@ use std::time::Clock;
 use std::{env, io};
 
 /// Does what the words of the command line order (`order_of`) with these handlers, which all clients
-/// share. `start` starts the service of a client that was taken in, on a thread of the server's: as
-/// `main` has the leave to start threads, it makes `start` (crates/styles_server shows how).
+/// share. `threads` starts the service of a client that was taken in, on a thread of its own. `main`
+/// makes it, since it alone has the leave to start threads (crates/styles_server shows how).
 ///
 /// `listen` serves each connection on a thread of its own, tells `listening on ..` once it waits for
 /// the first one, and waits in the end for the clients that are served. The replies of `serve` go to
@@ -49,17 +48,12 @@ pub fn run_program<
         + Copy
         + Drop,
     H: PgWireServerHandlers,
+    T: ClientThreads + Drop,
     W: Write + Drop,
->(
-    rt: R,
-    name: &str,
-    server: HandlerServer<H>,
-    writer: W,
-    start: StartClient,
-) -> io::Result<ExitCode>
-    requires ready { IsAlwaysCallable start }
+>(rt: R, name: &str, handlers: Arc<H>, threads: T, writer: W) -> io::Result<ExitCode>
+    requires started { T.started threads ≡ 0 }
 {
-    let words = env::args(&rt)?.collect::<Vec<String>>(rt.alloc())?;
+    let words = read_words(&rt)?;
     match order_of(words.as_slice()) {
         None => tell_usage(&rt, name),
         Some(Order::Help) => {
@@ -70,9 +64,18 @@ pub fn run_program<
             tell_version(&rt, name)?;
             Ok(ExitCode::SUCCESS)
         }
-        Some(Order::Serve(pid, key)) => Ok(serve_standard(&rt, server.handlers, pid, &key, writer)),
-        Some(Order::Listen(place, count)) => Ok(listen(rt, server, place, count, start)),
+        Some(Order::Serve(pid, key)) => Ok(serve_standard(&rt, handlers, pid, &key, writer)),
+        Some(Order::Listen(place, count)) => Ok(listen(rt, threads, place, count)),
     }
+}
+
+/// The words of the command line.
+fn read_words<R: Env + AllocGlobal>(rt: &R) -> io::Result<PgList<PgStr>> {
+    let mut words = PgList::new(rt.alloc());
+    for word in env::args(rt)?.collect::<Vec<String>>(rt.alloc())? {
+        words.push(PgStr::from_string(word))?;
+    }
+    Ok(words)
 }
 
 /// Serves the client on standard input, whose replies go to the writer.
@@ -109,21 +112,15 @@ fn listen<
         + Eprint
         + Copy
         + Drop,
-    H: PgWireServerHandlers,
->(
-    rt: R,
-    server: HandlerServer<H>,
-    place: ListenPlace<'_>,
-    count: Option<u64>,
-    start: StartClient,
-) -> ExitCode
-    requires ready { IsAlwaysCallable start }
+    T: ClientThreads + Drop,
+>(rt: R, threads: T, place: ListenPlace<'_>, count: Option<u64>) -> ExitCode
+    requires started { T.started threads ≡ 0 }
 {
-    let mut spawner = ClientSpawner::new(server.threads, start);
+    let mut threads = threads;
     let mut acceptor = bind_place(rt, place);
-    let answer = take_in_all(rt, &mut acceptor, &mut spawner, count);
+    let answer = take_in_all(rt, &mut acceptor, &mut threads, count);
     leave_place(&rt, place, acceptor);
-    spawner.threads.finish(&rt);
+    threads.finish(&rt);
     tell_listened(&rt, &answer)
 }
 

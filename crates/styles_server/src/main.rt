@@ -2,7 +2,7 @@
 //! is the text of an interval, and the reply is that interval in each of PostgreSQL's four styles.
 #![tactic(auto)]
 
-use handler_serving::{HandlerServer, run_program};
+use handler_serving::{ClientSpawner, HandlerServer, run_program};
 use row_handlers::RowHandlers;
 use std::io;
 use std::process::ExitCode;
@@ -15,5 +15,6 @@ fn main(rt: HostRuntime) -> io::Result<ExitCode> {
         rt.alloc(),
         move |client| jobs.threads.start_made(rt, jobs.job_of(client)),
     )?;
-    run_program(rt, "styles_server", server, rt.stdout(), start)
+    let threads = ClientSpawner::new(server.threads, start);
+    run_program(rt, "styles_server", server.handlers, threads, rt.stdout())
 }
