@@ -239,6 +239,78 @@ fn finish_waits_for_a_client_that_stays(rt: HostRuntime) {
     assert!(rt; told == Some(true));
 }
 
+/// Serves a client under this pid, who goes away at once, and answers whether the pid is free then.
+fn serve_briefly<R: Threads + Wait + Clock + Net + Copy + Send + 'static>(
+    rt: R,
+    threads: &JobThreads,
+    registry: &mut Registry,
+    pid: i32,
+) -> Option<bool> {
+    let client = start_one(rt, threads, registry, pid)?;
+    drop(client);
+    threads.finish(&rt);
+    Some(registry.is_free(&rt, pid))
+}
+
+/// How many milliseconds behind the end of one job the next one is started. A thread waits 50 for
+/// the next job.
+const PAUSES: [u64; 20] = [
+    60, 61, 62, 63, 64, 65, 66, 67, 68, 69, 70, 71, 72, 73, 74, 75, 76, 77, 78, 80,
+];
+
+/// Serves clients in turn, with these pauses, and answers whether each pid is free then.
+fn serve_in_turn<R: Threads + Wait + Clock + Net + Copy + Send + 'static>(
+    rt: R,
+    threads: &JobThreads,
+    registry: &mut Registry,
+) -> Option<bool> {
+    let mut are_served = true;
+    let mut pid = 1;
+    for pause in PAUSES {
+        let is_served = serve_briefly(rt, threads, registry, pid)?;
+        are_served = are_served && is_served;
+        pid = pid.wrapping_add(1);
+        rt.sleep(Duration::from_millis(pause));
+    }
+    Some(are_served)
+}
+
+/// No job is given to a thread that has gone, so each one runs.
+#[test]
+fn jobs_behind_each_other_run(rt: HostRuntime) {
+    let told = match begun(rt.alloc()) {
+        Some((threads, mut registry)) => serve_in_turn(rt, &threads, &mut registry),
+        None => None,
+    };
+    assert!(rt; told == Some(true));
+}
+
+/// Serves a client and right behind it two at once, of whom one may take the thread of the first.
+/// It answers whether each pid is free then.
+fn serve_two_behind<R: Threads + Wait + Clock + Net + Copy + Send + 'static>(
+    rt: R,
+    threads: &JobThreads,
+    registry: &mut Registry,
+) -> Option<bool> {
+    let is_free = serve_briefly(rt, threads, registry, 3)?;
+    let first = start_one(rt, threads, registry, 1)?;
+    let second = start_one(rt, threads, registry, 2)?;
+    drop(first);
+    drop(second);
+    threads.finish(&rt);
+    Some(is_free && registry.is_free(&rt, 1) && registry.is_free(&rt, 2))
+}
+
+/// Of two jobs behind another one neither is given in the other's place, so both run.
+#[test]
+fn two_jobs_behind_another_run(rt: HostRuntime) {
+    let told = match begun(rt.alloc()) {
+        Some((threads, mut registry)) => serve_two_behind(rt, &threads, &mut registry),
+        None => None,
+    };
+    assert!(rt; told == Some(true));
+}
+
 /// A spawner that gives this answer to each job.
 fn answering(alloc: Global, tries: Tries) -> Option<ThreadSpawner<()>>
     ensures { IfSome result (λ spawner. spawner.started ≡ 0) }

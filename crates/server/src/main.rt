@@ -4,14 +4,13 @@
 
 ghost use Rattle.std.specs.Prelude.{◌≡◌, IfOk};
 ghost use Rattle.std.specs.Arc.{arc_value};
-ghost use Rattle.server.specs.Handed.{accepted_at};
+ghost use Rattle.listening_places.specs.Bound.{accepted_at};
 
 mod help;
-mod places;
 
 use crate::help::{HELP, VERSION};
-use crate::places::{BoundPlace, bind_place, leave_place};
 use conversation_runs::{Sink, Source};
+use listening_places::{BoundPlace, bind_place, leave_place};
 use pg_cancel::{ConnectionManager, Door};
 use pg_messages::PgStr;
 use pg_serve::{KeySource, MaybeTls, RandomKeys, Spawner};
