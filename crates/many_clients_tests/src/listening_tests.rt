@@ -76,7 +76,8 @@ fn are_clients(clients: &[SilentClient]) -> bool {
 #[test]
 fn each_connection_becomes_a_client(rt: HostRuntime) {
     let are_so = match Registry::new(rt.alloc()) {
-        Some(mut registry) => take_in(&rt, &mut registry, 3).is_some_and(|keeping| keeping.started == 3
+        Some(mut registry) => take_in(&rt, &mut registry, 3).is_some_and(|keeping| keeping.started
+            == 3
             && are_clients(keeping.jobs.as_slice())),
         None => false,
     };

@@ -106,7 +106,14 @@ fn are_served<R: Wait + Net>(
 /// registered.
 fn begun(
     alloc: Global,
-) -> Option<(JobThreads<SocketJob>, JobThreads<SocketJob>, Arc<Refusing>, Registry)> {
+) -> Option<
+    (
+        JobThreads<SocketJob>,
+        JobThreads<SocketJob>,
+        Arc<Refusing>,
+        Registry,
+    ),
+> {
     let threads = JobThreads::new(alloc).ok()?;
     let theirs = threads.share().ok()?;
     let handlers = Refusing {
