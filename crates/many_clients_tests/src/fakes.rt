@@ -53,12 +53,12 @@ pub(crate) struct Waiting {
 }
 
 impl Waiting {
-    /// No connection waits yet.
-    pub(crate) fn new(alloc: Global) -> Waiting
+    /// These connections wait.
+    pub(crate) fn new(connections: VecDeque<(Silence, Silence)>) -> Waiting
         ensures { result.accepted ≡ 0 }
     {
         Waiting {
-            connections: VecDeque::new(alloc),
+            connections,
             accepted: 0,
             faults: 0,
         }

@@ -8,4 +8,3 @@ mod listening_tests;
 #[cfg(test)]
 mod registry;
 #[cfg(test)]
-mod thread_tests;

@@ -7,6 +7,7 @@ use crate::registry::Registry;
 use many_clients::{AdmittedClient, AdmittedClients, HandlerService, ServiceJob, listen_with};
 use pg_session::{EndKind, NoopHandler, PgWireServerHandlers};
 use std::alloc::Global;
+use std::collections::VecDeque;
 use std::sync::{Arc, Wait};
 
 /// A client that sends nothing.
@@ -19,12 +20,12 @@ const TURNS: u64 = 5;
 fn three_waiting(alloc: Global) -> Option<Waiting>
     ensures { IfSome result (λ waiting. waiting.accepted ≡ 0) }
 {
-    let mut waiting = Waiting::new(alloc);
+    let mut connections = VecDeque::new(alloc);
     for number in 1..4u64 {
         let connection = (Silence { number }, Silence { number });
-        waiting.connections.push_back(connection).ok()?;
+        connections.push_back(connection).ok()?;
     }
-    Some(waiting)
+    Some(Waiting::new(connections))
 }
 
 /// Takes in the connections that wait, as many as `count`.
