@@ -7,4 +7,3 @@ mod fakes;
 mod listening_tests;
 #[cfg(test)]
 mod registry;
-#[cfg(test)]
