@@ -16,10 +16,11 @@ pub struct HandlerService<H> {
 }
 
 impl<H: PgWireServerHandlers> Service for HandlerService<H> {
-    ghost use Rattle.std.specs.Prelude.{⊤};
+    ghost use Rattle.std.specs.Prelude.{ℕ};
     ghost use Rattle.std.specs.Arc.{arc_value};
     ghost use Rattle.pg_client.specs.State.{State, first_state};
     ghost use Rattle.conversation_runs.specs.Session.{whole_rules};
+    ghost use Rattle.pg_engine.specs.Completeness.{IsCompleteWithin, OweAtMost};
 
     ghost At = { State H.Extended.Statement };
 
@@ -27,7 +28,10 @@ impl<H: PgWireServerHandlers> Service for HandlerService<H> {
 
     ghost first = { λ s pid key. first_state pid key };
 
-    ghost also = { λ s turns answer left before after. ⊤ };
+    // with turns enough for the polls that a query owes at most, the client is served to the end
+    ghost also = { λ s turns answer left before after.
+        (most : ℕ) → OweAtMost (H.told (arc_value s.handlers)) most
+        → IsCompleteWithin most turns answer left before after };
 
     fn serve<D: CancelDesk, S: Source, K: Sink>(
         &self,

@@ -1,10 +1,11 @@
 //! One client is served, whom no other can cancel.
 
-ghost use Rattle.std.specs.Prelude.{◌≡◌, List, OnOk};
+ghost use Rattle.std.specs.Prelude.{◌≡◌, ℕ, List, OnOk};
 ghost use Rattle.std.specs.Arc.{arc_value};
 ghost use Rattle.pg_client.specs.State.{first_state};
 ghost use Rattle.pg_client.specs.declared.desk.DeskCall.{DeskCall};
 ghost use Rattle.conversation_runs.specs.Session.{whole_rules};
+ghost use Rattle.pg_engine.specs.Completeness.{IsCompleteWithin, OweAtMost};
 ghost use Rattle.pg_engine.specs.Serving.{IsCalm, WentSo, counts_of};
 
 use pg_messages::{PgList, SecretKey};
@@ -33,6 +34,13 @@ pub fn serve_client<H: PgWireServerHandlers, S: Source, K: Sink>(
         (S.left source.old) (S.left source.new) (K.written sink.old) (K.written sink.new) calls }
     ensures calm { OnOk result (IsCalm (counts_of S.reads S.faults K.faults source.old sink.old)
         (counts_of S.reads S.faults K.faults source.new sink.new)) }
+
+    // With turns enough the client is served to the end: so many polls as a query owes at most, for
+    // each message that runs one.
+    ensures complete { (most : ℕ) → OweAtMost (H.told (arc_value handlers)) most
+        → IsCompleteWithin most 1000000000 result (S.left source.old)
+        (counts_of S.reads S.faults K.faults source.old sink.old)
+        (counts_of S.reads S.faults K.faults source.new sink.new) }
 {
     let mut desk = ScriptDesk::new(alloc, pid, key, PgList::new(alloc));
     let store = MemPortalStore::new(alloc);

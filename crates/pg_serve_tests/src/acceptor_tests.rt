@@ -8,10 +8,10 @@ use std::io;
 use std::net::{TcpListener, TcpStream};
 use std::time::{Clock, Duration};
 
-/// A clock that counts the pauses, and takes none.
+/// A clock that sums up the milliseconds of the pauses that it is asked for, and takes none.
 #[derive(Drop)]
 struct Pauses<'p> {
-    count: &'p Cell<u64>,
+    milliseconds: &'p Cell<u64>,
 }
 
 impl<'p> Clock for Pauses<'p> {
@@ -23,8 +23,11 @@ impl<'p> Clock for Pauses<'p> {
         Ok(Duration::ZERO)
     }
 
-    fn sleep(&self, _duration: Duration) {
-        self.count.set(self.count.get().saturating_add(1));
+    fn sleep(&self, duration: Duration) {
+        let pause = duration.as_secs().saturating_mul(1000);
+        let pause = pause.saturating_add(u64::from(duration.subsec_millis()));
+        self.milliseconds
+            .set(self.milliseconds.get().saturating_add(pause));
     }
 }
 
@@ -87,20 +90,23 @@ fn is_given(acceptor: &mut SocketAcceptor<Failing<'_>, Pauses<'_>>) -> bool
 }
 
 /// What an acceptor does: whether it gives a connection that sends without delay, how many calls
-/// failed, and how many pauses were taken.
+/// failed, and how many milliseconds it asked to pause.
 type Told = (bool, u64, u64);
 
 /// What an acceptor at this listener does where its calls fail with these numbers.
 fn told(listener: TcpListener, numbers: &[i32]) -> Told {
-    let count = Cell::new(0);
+    let milliseconds = Cell::new(0);
+    let pauses = Pauses {
+        milliseconds: &milliseconds,
+    };
     let failing = Failing {
         numbers,
         calls: Cell::new(0),
         listening: Listening::Tcp(listener),
     };
-    let mut acceptor = SocketAcceptor::new(failing, Pauses { count: &count });
+    let mut acceptor = SocketAcceptor::new(failing, pauses);
     let is_given = is_given(&mut acceptor);
-    (is_given, acceptor.faults, count.get())
+    (is_given, acceptor.faults, milliseconds.get())
 }
 
 /// The same where a client waits.
@@ -110,16 +116,29 @@ fn accepted(rt: &HostRuntime, numbers: &[i32]) -> io::Result<Told> {
     Ok(told(listener, numbers))
 }
 
-/// The calls that fail, by the system's numbers of their failures, and what comes of them.
-const FAILURES: [(&[i32], Told); 7] = [
+/// The calls that fail, by the system's numbers of their failures, and what comes of them. Each
+/// failure that passes is followed by a pause of 10 milliseconds.
+const FAILURES: [(&[i32], Told); 6] = [
     (&[], (true, 0, 0)),
-    (&[24, 23, 105, 12, MADE], (true, 4, 4)),
-    (&[4, 103, 71, 113, MADE, 24, 12], (true, 6, 6)),
-    (&[9], (false, 1, 0)),
-    (&[22], (false, 1, 0)),
-    (&[24, 88], (false, 2, 1)),
-    (&[MADE, 24, 9], (false, 2, 1)),
+    (&[24, 23, 105, 12, MADE], (true, 4, 40)),
+    (&[4, 103, 71, 113, MADE, 24, 12], (true, 6, 60)),
+    (&[24, 88], (false, 2, 10)),
+    (&[MADE, 24, 9], (false, 2, 10)),
+    (&[MADE, 104, 4, 110], (true, 3, 30)),
 ];
+
+/// What accept(2) lists of failures that may pass: a packet filter refused the connection (EPERM,
+/// EACCES), the call was interrupted (EINTR) or would block (EAGAIN), no memory (ENOMEM), no
+/// descriptor in the system or the process (ENFILE, EMFILE), no streams (ENOSR), and what a
+/// connection met before it was taken: ENONET, EPROTO, ENOPROTOOPT, ENETDOWN, ENETUNREACH,
+/// ECONNABORTED, ECONNRESET, ENOBUFS, ETIMEDOUT, EHOSTDOWN, EHOSTUNREACH.
+const PASSING: [i32; 19] = [
+    1, 13, 4, 11, 12, 23, 24, 63, 64, 71, 92, 100, 101, 103, 104, 105, 110, 112, 113,
+];
+
+/// What it lists of failures that stay: EBADF, EFAULT, EINVAL, ENOTSOCK, EPROTONOSUPPORT,
+/// ESOCKTNOSUPPORT, EOPNOTSUPP.
+const STAYING: [i32; 7] = [9, 14, 22, 88, 93, 94, 95];
 
 /// Whether each gives what it has to.
 fn are_waited_out(rt: &HostRuntime) -> bool {
@@ -130,10 +149,26 @@ fn are_waited_out(rt: &HostRuntime) -> bool {
     are_so
 }
 
+/// Whether one failure of each of these numbers comes to this.
+fn each_comes_to(rt: &HostRuntime, numbers: &[i32], told: Told) -> bool {
+    let mut are_so = true;
+    for number in numbers {
+        are_so = are_so && accepted(rt, &[*number]).is_ok_and(|answer| answer == told);
+    }
+    are_so
+}
+
 /// A call that fails for want of descriptors, buffers or memory, since it was interrupted, or since
 /// the connection was given up, is made again after a pause. One on a bad descriptor, or where
 /// nobody listens, is told at once.
 #[test]
 fn failures_that_pass_are_waited_out(rt: HostRuntime) {
     assert!(rt; are_waited_out(&rt));
+}
+
+/// Each failure that may pass is waited out, and no other is.
+#[test]
+fn each_failure_passes_or_stays(rt: HostRuntime) {
+    assert!(rt; each_comes_to(&rt, &PASSING, (true, 1, 10)));
+    assert!(rt; each_comes_to(&rt, &STAYING, (false, 1, 0)));
 }

@@ -2,7 +2,6 @@
 
 ghost use Rattle.std.specs.Prelude.{List, ◌≡◌, ◌++◌};
 ghost use Rattle.pg_cancel.specs.declared.entries.Entry.{Entry};
-ghost use Rattle.pg_client.specs.declared.desk.DeskCall.{DeskCall};
 ghost use Rattle.conversation_table.specs.Questions.{questions_since};
 ghost use Rattle.pg_serve.specs.Desk.{StaysUsable, desk_calls, desk_of};
 ghost use Rattle.pg_engine.specs.Around.{ServesSession, around};
@@ -12,9 +11,9 @@ ghost use Rattle.relation_serving.specs.Completeness.{IsComplete};
 ghost use Rattle.relation_serving.specs.Serving.{WentByTables};
 
 use conversation_runs::{ServeError, Sink, Source};
+use many_clients::{Service, serve_registered};
 use pg_cancel::{ConnectionHandle, ConnectionManager};
-use pg_client::EndKind;
-use pg_serve::HandleDesk;
+use pg_client::{CancelDesk, EndKind};
 use relation_handlers::RelationTable;
 use relation_serving::serve_relations_on;
 use std::alloc::Global;
@@ -62,47 +61,43 @@ pub fn serve_relations<R: Wait, S: Source, K: Sink>(
     // there under the connection's number is just its own calls.
     ensures usable { StaysUsable handle.old handle.new }
 {
-    let before = manager.note(handle);
-    let answer = serve_at_desk(
-        rt, alloc, manager, handle, relations, source, sink, turn_limit,
-    );
-    manager.take_in(handle, before);
-    answer
+    let _valid = relations.relations();
+    let service = Relations { relations };
+    serve_registered(
+        rt, alloc, manager, handle, &service, source, sink, turn_limit,
+    )
 }
 
-/// Serves a client with the connection's handle as the desk.
-fn serve_at_desk<R: Wait, S: Source, K: Sink>(
-    rt: &R,
-    alloc: Global,
-    manager: &ConnectionManager,
-    handle: &mut ConnectionHandle,
-    relations: &RelationTable,
-    source: &mut S,
-    sink: &mut K,
-    turn_limit: u64,
-) -> Result<EndKind, ServeError>
-    requires issued { handle.old.issuer ≡ manager.now }
-    ensures went { (calls : List DeskCall)
-        × (desk_calls handle.new.mine ≡ desk_calls handle.old.mine ++ calls)
-        × WentByTables relations.now (handle.old.pid, handle.old.key) result (S.left source.old) (S.left source.new)
-        (K.written sink.old) (K.written sink.new) calls }
-    ensures complete { IsComplete relations.now turn_limit result (S.left source.old)
-        (counts_of S.reads S.faults K.faults source.old sink.old)
-        (counts_of S.reads S.faults K.faults source.new sink.new) }
-    ensures serves { let round = around S.left S.reads S.faults S.origin K.written K.faults K.origin desk_of in
-        ServesSession (relation_handlers relations.now) turn_limit result
-        (round source.old sink.old handle.old) (round source.new sink.new handle.new) }
-{
-    let mut desk = HandleDesk {
-        runtime: rt,
-        manager,
-        handle,
-    };
-    let answer = serve_relations_on(alloc, &mut desk, relations, source, sink, turn_limit);
-    let HandleDesk {
-        runtime: _,
-        manager: _,
-        handle: _handle,
-    } = desk;
-    answer
+/// Relations as what a client is served, for as long as they are lent.
+#[derive(Drop)]
+struct Relations<'r> {
+    relations: &'r RelationTable,
+}
+
+impl Service for Relations<'_> {
+    ghost use Rattle.pg_client.specs.State.{State, first_state};
+    ghost use Rattle.conversation_runs.specs.Session.{whole_rules};
+    ghost use Rattle.relation_serving.specs.Completeness.{IsComplete};
+    ghost use Rattle.relation_tables.specs.RelationHandler.{relation_handlers};
+    ghost use Rattle.relation_tables.specs.declared.RelationStatement.{RelationStatement};
+
+    ghost At = { State RelationStatement };
+
+    ghost rules = { λ s. whole_rules (relation_handlers s.relations.now) };
+
+    ghost first = { λ s pid key. first_state pid key };
+
+    ghost also = { λ s turns answer left before after.
+        IsComplete s.relations.now turns answer left before after };
+
+    fn serve<D: CancelDesk, S: Source, K: Sink>(
+        &self,
+        alloc: Global,
+        desk: &mut D,
+        source: &mut S,
+        sink: &mut K,
+        turn_limit: u64,
+    ) -> Result<EndKind, ServeError> {
+        serve_relations_on(alloc, desk, self.relations, source, sink, turn_limit)
+    }
 }

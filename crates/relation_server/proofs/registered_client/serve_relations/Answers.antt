@@ -1,80 +1,18 @@
-use Rattle.std.proofs.Common.{◌≡◌, ◌++◌, ◌∙◌, List, sym, ap, subst}
-use mathlib.Core.List.{IsPrefix}
-use Rattle.pg_client.specs.State.{first_state}
-use Rattle.relation_tables.specs.RelationHandler.{relation_handlers}
-use Rattle.pg_cancel.specs.declared.entries.Entry.{Entry}
-use Rattle.pg_cancel.specs.Connections.{calls_of}
-use Rattle.conversation_runs.specs.Session.{whole_rules}
-use Rattle.pg_engine.specs.Around.{ServesSession, around}
-use Rattle.pg_serve.specs.Desk.{ConnectionGoesOn, desk_calls, desk_of}
-use Rattle.relation_serving.specs.Serving.{WentByTables}
-use Rattle.pg_serve.proofs.Calls.{calls_made, desk_goes_on, goes_on_as, served_as}
-use Rattle.relation_server.proofs.registered_client.serve_relations.Given.{Over}
+use Rattle.relation_handlers.proofs.EvenRows.{even}
+use Rattle.pg_serve.specs.Desk.{desk_calls}
+use Rattle.relation_serving.proofs.CoreServing.{went_by_tables}
 use Rattle.relation_server.proofs.registered_client.serve_relations.Goals as goal
-
--- the connection is the same behind the calls of its desk
-went_on : (g : Over) (c : goal.After-take_in g) → ConnectionGoesOn c.note-before.new.handle c.serve_at_desk-answer.new.handle
-went_on g c =
-    desk_goes_on 0 0 c.note-before.new.handle c.serve_at_desk-answer.new.handle c.serve_at_desk-answer.ensures.serves.registration
 
 pub returns-clause-went : goal.returns-clause-went
 returns-clause-went g c =
-    let note = c.note-before.result in
-    let old = c.note-before.new.handle in
-    let new = c.take_in.new.handle in
-    let went = c.serve_at_desk-answer.ensures.went in
-    let made = calls_made old.number note.seen new.seen old.mine new.mine went.0 c.take_in.ensures.told
-    (subst (λ h. calls_of h.number note.seen ≡ h.mine) (sym c.note-before.ensures.same) c.note-before.ensures.own)
-    (ap (λ n. calls_of n new.seen) (sym (c.take_in.ensures.same.1 ∙ (went_on g c).number)) ∙ c.take_in.ensures.own)
-    (ap desk_calls c.take_in.ensures.mine ∙ went.1) in
-    subst (λ h. (made : List Entry) × (new.mine ≡ h.mine ++ made)
-    × WentByTables c.args.relations.now (h.pid, h.key) c.serve_at_desk-answer.result (g.S.Source.left c.args.source.now)
-    (g.S.Source.left c.serve_at_desk-answer.new.source) (g.K.Sink.written c.args.sink.now)
-    (g.K.Sink.written c.serve_at_desk-answer.new.sink) (desk_calls made))
-    c.note-before.ensures.same (
-      made.0,
-      made.1,
-      subst (λ calls. WentByTables c.args.relations.now (old.pid, old.key) c.serve_at_desk-answer.result
-          (g.S.Source.left c.args.source.now)
-          (g.S.Source.left c.serve_at_desk-answer.new.source) (g.K.Sink.written c.args.sink.now)
-          (g.K.Sink.written c.serve_at_desk-answer.new.sink) calls) made.2 went.2,
+    let relations = c.args.relations.now in
+    let served = c.serve_registered in
+    let went = served.ensures.went in
+    (
+      went.0,
+      went.1,
+      went_by_tables relations (c.args.handle.now.pid, c.args.handle.now.key) c.relations-valid.ensures.within
+          (even relations c.relations-valid.ensures.valid) served.result (g.S.Source.left c.args.source.now)
+          (g.S.Source.left served.new.source) (g.K.Sink.written c.args.sink.now) (g.K.Sink.written served.new.sink)
+          (desk_calls went.0) went.2,
     )
-
-served : (g : Over) (c : goal.After-take_in g) → let round = around g.S.Source.left g.S.Source.reads g.S.Source.faults g.S.Source.origin
-    g.K.Sink.written g.K.Sink.faults g.K.Sink.origin desk_of in
-    ServesSession (relation_handlers c.args.relations.now) c.args.turn_limit c.serve_at_desk-answer.result
-    (round c.args.source.now c.args.sink.now c.args.handle.now)
-    (round c.serve_at_desk-answer.new.source c.serve_at_desk-answer.new.sink c.take_in.new.handle)
-served g c =
-    let handlers = relation_handlers c.args.relations.now in
-    let old = c.note-before.new.handle in
-    let between = c.serve_at_desk-answer.new.handle in
-    let new = c.take_in.new.handle in
-    let round = around g.S.Source.left g.S.Source.reads g.S.Source.faults g.S.Source.origin g.K.Sink.written g.K.Sink.faults
-    g.K.Sink.origin desk_of in
-    let after = round c.serve_at_desk-answer.new.source c.serve_at_desk-answer.new.sink in
-    subst (λ h. ServesSession handlers c.args.turn_limit c.serve_at_desk-answer.result (round c.args.source.now c.args.sink.now h) (after new))
-    c.note-before.ensures.same
-    (served_as (whole_rules handlers) (first_state old.pid old.key) c.args.turn_limit c.serve_at_desk-answer.result
-    (round c.args.source.now c.args.sink.now old) (after between) between new c.take_in.ensures.same c.take_in.ensures.mine
-    c.serve_at_desk-answer.ensures.serves)
-
-pub returns-clause-serves : goal.returns-clause-serves
-returns-clause-serves g c = served g c
-
-pub returns-clause-cause : goal.returns-clause-cause
-returns-clause-cause g c = (served g c).cause
-
-pub returns-clause-complete : goal.returns-clause-complete
-returns-clause-complete g c = c.serve_at_desk-answer.ensures.complete
-
-pub returns-clause-usable : goal.returns-clause-usable
-returns-clause-usable g c =
-    let on = subst (λ h. ConnectionGoesOn h c.serve_at_desk-answer.new.handle) c.note-before.ensures.same (went_on g c) in
-    record {
-      same = goes_on_as c.args.handle.now c.serve_at_desk-answer.new.handle c.take_in.new.handle on c.take_in.ensures.same
-          c.take_in.ensures.mine;
-      seen = subst (λ seen. IsPrefix seen c.take_in.new.handle.seen) c.note-before.ensures.seen c.take_in.ensures.told;
-      legal = c.take_in.ensures.legal;
-      own = c.take_in.ensures.own;
-    }
