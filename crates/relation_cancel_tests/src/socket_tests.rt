@@ -208,7 +208,7 @@ fn are_served<R: Wait + Clock + RandomSource + Copy + Drop>(
 }
 
 /// A listener at a free port, and its address.
-fn bound<R: Net<Stream = TcpStream, Listener = TcpListener>>(
+pub(crate) fn bound<R: Net<Stream = TcpStream, Listener = TcpListener>>(
     rt: &R,
 ) -> Option<(TcpListener, SocketAddr)> {
     let listener = TcpListener::bind(rt, "127.0.0.1:0").ok()?;
@@ -255,7 +255,7 @@ fn are_served_on<
 }
 
 /// Threads for jobs, for two owners.
-fn threads_of(alloc: Global) -> Result<(JobThreads, JobThreads), AllocError> {
+pub(crate) fn threads_of(alloc: Global) -> Result<(JobThreads, JobThreads), AllocError> {
     let threads = JobThreads::new(alloc)?;
     let theirs = threads.share()?;
     Ok((threads, theirs))

@@ -5,6 +5,7 @@ use Rattle.conversation_runs.specs.Session.{whole_rules}
 use Rattle.pg_engine.specs.Around.{around}
 use Rattle.pg_engine.proofs.Completing.{complete_at_want}
 use Rattle.pg_engine.proofs.Serving.{none_served}
+use Rattle.pg_engine.specs.Serving.{counts_of}
 use Rattle.client_services.proofs.handlers.HandlerServiceService.serve.Goals as goal
 
 pub returns-in_default-clause-serves : goal.returns-in_default-clause-serves
@@ -15,4 +16,6 @@ returns-in_default-clause-serves g c =
     g.D.CancelDesk.told c.args.source.now c.args.sink.now c.args.desk.now)
 
 pub returns-in_default-clause-also : goal.returns-in_default-clause-also
-returns-in_default-clause-also g c most owe = complete_at_want most _ _ _ _
+returns-in_default-clause-also g c most owe = 
+    let counts = counts_of g.S.Source.reads g.S.Source.faults g.K.Sink.faults c.args.source.now c.args.sink.now in
+    complete_at_want most c.args.turn_limit (g.S.Source.left c.args.source.now) counts counts
