@@ -8,8 +8,8 @@ mod program;
 mod server;
 mod telling;
 
-pub use many_clients::{AdmittedClient, ClientSpawner};
+pub use client_listening::{AdmittedClient, ClientSpawner, ClientThreads};
 pub use one_client::serve_client;
 pub use orders::{Order, order_of};
 pub use program::run_program;
-pub use server::{ClientThreads, HandlerJob, HandlerServer};
+pub use server::{HandlerJob, HandlerServer};

@@ -7,15 +7,13 @@ ghost use Rattle.pg_client.specs.declared.desk.DeskCall.{DeskCall};
 ghost use Rattle.conversation_runs.specs.Session.{whole_rules};
 ghost use Rattle.pg_engine.specs.Serving.{IsCalm, WentSo, counts_of};
 
+use client_listening::TURNS;
 use pg_messages::{PgList, SecretKey};
 use pg_portal::MemPortalStore;
 use pg_serve::serve_connection;
 use pg_session::{EndKind, PgWireServerHandlers, ScriptDesk, ServeError, Sink, Source};
 use std::alloc::Global;
 use std::sync::Arc;
-
-/// How many reads and polls a client has.
-pub(crate) const TURNS: u64 = 1_000_000_000;
 
 /// Serves the client of a source and a sink under a process id and a key. No other client can cancel
 /// its queries, since it is in no registry.

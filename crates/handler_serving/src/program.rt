@@ -1,20 +1,15 @@
 //! The program: it reads its words, and does what they order.
 
-ghost use Rattle.std.specs.Prelude.{◌≡◌, IfOk};
-ghost use Rattle.std.specs.Arc.{arc_value};
+ghost use Rattle.std.specs.Prelude.{◌≡◌};
 
-use crate::one_client::{TURNS, serve_client};
+use crate::one_client::serve_client;
 use crate::orders::{Order, order_of};
-use crate::server::ClientThreads;
 use crate::telling::{tell_help, tell_listened, tell_served, tell_usage, tell_version};
-use listening_places::{ListenPlace, bind_place, leave_place};
-use many_clients::{AdmittedClient, AdmittedClients, ListenError, listen_with};
-use pg_cancel::{ConnectionManager, Door};
+use client_listening::{ClientThreads, ListenError, TURNS, listen_at};
 use pg_messages::{PgList, PgStr};
-use pg_serve::{Acceptor, MaybeTls, RandomKeys, ReaderSource, Spawner, WriterSink};
+use pg_serve::{ReaderSource, WriterSink};
 use pg_session::PgWireServerHandlers;
 use relation_words::KeyBytes;
-use std::alloc::{AllocError, Global};
 use std::env::Env;
 use std::fs::Files;
 use std::io::{Eprint, Input, Write};
@@ -65,7 +60,10 @@ pub fn run_program<
             Ok(ExitCode::SUCCESS)
         }
         Some(Order::Serve(pid, key)) => Ok(serve_standard(&rt, handlers, pid, &key, writer)),
-        Some(Order::Listen(place, count)) => Ok(listen(rt, threads, place, count)),
+        Some(Order::Listen(place, count)) => {
+            let answer = listen_at(rt, place, count, TURNS, threads);
+            Ok(tell_listened(&rt, &answer))
+        }
     }
 }
 
@@ -97,55 +95,4 @@ fn serve_standard<R: Input + AllocGlobal + Eprint, H: PgWireServerHandlers, W: W
     let mut sink = WriterSink { writer, faults: 0 };
     let answer = serve_client(rt.alloc(), handlers, pid, key, &mut source, &mut sink);
     tell_served(rt, &answer)
-}
-
-/// Serves the clients that come to a place, each on a thread of its own, and waits for them in the
-/// end.
-fn listen<
-    R: Wait
-        + Net<Stream = TcpStream, Listener = TcpListener>
-        + Files
-        + Clock
-        + RandomSource
-        + AllocGlobal
-        + Print
-        + Eprint
-        + Copy
-        + Drop,
-    T: ClientThreads + Drop,
->(rt: R, threads: T, place: ListenPlace<'_>, count: Option<u64>) -> ExitCode
-    requires started { T.started threads ≡ 0 }
-{
-    let mut threads = threads;
-    let mut acceptor = bind_place(rt, place);
-    let answer = take_in_all(rt, &mut acceptor, &mut threads, count);
-    leave_place(&rt, place, acceptor);
-    threads.finish(&rt);
-    tell_listened(&rt, &answer)
-}
-
-/// Takes in the clients that an acceptor gives, under random keys and a registry of their own.
-fn take_in_all<
-    R: Wait + RandomSource + AllocGlobal + Copy + Drop,
-    A: Acceptor<In = MaybeTls, Out = MaybeTls>,
-    P: Spawner<AdmittedClient<MaybeTls, MaybeTls>>,
->(rt: R, acceptor: &mut A, spawner: &mut P, count: Option<u64>) -> Result<u64, ListenError>
-    requires accepted { A.accepted acceptor.old ≡ 0 }
-    requires started { P.started spawner.old ≡ 0 }
-{
-    let (manager, mut door) = shared_registry(rt.alloc())?;
-    let mut keys = RandomKeys::new(rt.alloc(), rt);
-    let clients = AdmittedClients { turn_limit: TURNS };
-    listen_with(
-        &rt, acceptor, spawner, &mut keys, manager, &mut door, &clients, count,
-    )
-}
-
-/// An empty registry that clients share, and its door.
-fn shared_registry(alloc: Global) -> Result<(Arc<ConnectionManager>, Door), AllocError>
-    ensures { IfOk result (λ registry. registry.1.issuer ≡ arc_value registry.0) }
-{
-    let (manager, door) = ConnectionManager::new(alloc)?;
-    let manager = Arc::new(alloc, manager)?;
-    Ok((manager, door))
 }

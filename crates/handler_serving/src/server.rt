@@ -3,11 +3,11 @@
 ghost use Rattle.std.specs.Prelude.{◌≡◌, IfOk};
 ghost use Rattle.std.specs.Arc.{arc_value};
 
-use many_clients::{AdmittedClient, ClientSpawner, HandlerService, JobThreads, ServiceJob};
-use pg_serve::{MaybeTls, Spawner};
+use many_clients::{AdmittedClient, HandlerService, JobThreads, ServiceJob};
+use pg_serve::MaybeTls;
 use pg_session::PgWireServerHandlers;
 use std::alloc::{AllocError, Global};
-use std::sync::{Arc, Wait};
+use std::sync::Arc;
 
 /// A client at a socket, which is served by handlers.
 pub type HandlerJob<H> = ServiceJob<HandlerService<H>, MaybeTls, MaybeTls>;
@@ -57,17 +57,5 @@ impl<H: PgWireServerHandlers> HandlerServer<H> {
             service: HandlerService { handlers },
             client,
         })
-    }
-}
-
-/// What starts the services of clients at sockets, and waits for them.
-pub trait ClientThreads: Spawner<AdmittedClient<MaybeTls, MaybeTls>> {
-    /// Waits until each service that was started has ended.
-    fn finish<R: Wait>(&self, rt: &R);
-}
-
-impl<J: Drop> ClientThreads for ClientSpawner<JobThreads<J>> {
-    fn finish<R: Wait>(&self, rt: &R) {
-        self.threads.finish(rt);
     }
 }

@@ -1,0 +1,61 @@
+//! Relations as what clients are served.
+
+use client_listening::SharedService;
+use client_services::Service;
+use pg_session::{CancelDesk, EndKind, ServeError, Sink, Source};
+use relation_handlers::RelationTable;
+use relation_serving::serve_relations_on;
+use std::alloc::{AllocError, Global};
+use std::sync::Arc;
+
+/// Relations that clients share. Each client is served as [`serve_relations_on`] does.
+#[derive(Drop)]
+pub struct SharedRelations {
+    /// The relations.
+    pub relations: Arc<RelationTable>,
+}
+
+impl Service for SharedRelations {
+    ghost use Rattle.std.specs.Arc.{arc_value};
+    ghost use Rattle.pg_client.specs.State.{State, first_state};
+    ghost use Rattle.conversation_runs.specs.Session.{whole_rules};
+    ghost use Rattle.relation_serving.specs.Completeness.{IsComplete};
+    ghost use Rattle.relation_tables.specs.declared.RelationStatement.{RelationStatement};
+    ghost use Rattle.relation_tables.specs.RelationHandler.{relation_handlers};
+
+    ghost At = { State RelationStatement };
+
+    ghost rules = { λ s. whole_rules (relation_handlers (arc_value s.relations)) };
+
+    ghost first = { λ s pid key. first_state pid key };
+
+    ghost also = { λ s turns answer left before after.
+        IsComplete (arc_value s.relations) turns answer left before after };
+
+    fn serve<D: CancelDesk, S: Source, K: Sink>(
+        &self,
+        alloc: Global,
+        desk: &mut D,
+        source: &mut S,
+        sink: &mut K,
+        turn_limit: u64,
+    ) -> Result<EndKind, ServeError> {
+        serve_relations_on(alloc, desk, &self.relations, source, sink, turn_limit)
+    }
+}
+
+impl SharedService for SharedRelations {
+    ghost use Rattle.std.specs.Prelude.{List};
+    ghost use Rattle.std.specs.Arc.{arc_value};
+    ghost use Rattle.relation_tables.specs.declared.Relation.{Relation};
+
+    ghost Shared = { List Relation };
+
+    ghost shared = { λ s. arc_value s.relations };
+
+    fn share(&self) -> Result<SharedRelations, AllocError> {
+        Ok(SharedRelations {
+            relations: Arc::try_clone(&self.relations)?,
+        })
+    }
+}
