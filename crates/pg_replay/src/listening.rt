@@ -8,7 +8,7 @@ use pg_messages::PgStr;
 use relation_words::{ListenPlace, listen_place, read_bound};
 
 /// What good words of `listen` tell.
-#[derive(Clone, Copy, Debug, PartialEq, Eq)]
+#[derive(Clone, Copy)]
 pub struct Listening<'w> {
     /// Where clients come to.
     pub place: ListenPlace<'w>,

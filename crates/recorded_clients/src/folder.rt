@@ -126,3 +126,10 @@ fn write_file<R: Files>(rt: &R, part: &str, file: &str, text: &[u8]) -> io::Resu
     drop(made);
     fs::rename(rt, part, file)
 }
+
+fn may_be_sent<T: Send>() {}
+
+/// A keeper may be sent to another thread where what it reaches files by may be.
+pub fn keepers_cross_threads<R: Send>() {
+    may_be_sent::<FolderKeeper<R>>();
+}

@@ -7,7 +7,7 @@ mod keeper;
 mod service;
 mod unkept;
 
-pub use folder::FolderKeeper;
+pub use folder::{FolderKeeper, keepers_cross_threads};
 pub use keeper::Keeper;
 pub use service::RecordedService;
 pub use unkept::Unkept;
