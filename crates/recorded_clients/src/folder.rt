@@ -53,7 +53,9 @@ impl<R: Drop> FolderKeeper<R> {
 
     /// Notes an exit status, unless another is noted.
     fn note(&self, status: u8) {
-        let _noted = self.noted.compare_exchange(0, status, Ordering::SeqCst, Ordering::SeqCst);
+        let _noted = self
+            .noted
+            .compare_exchange(0, status, Ordering::SeqCst, Ordering::SeqCst);
     }
 }
 

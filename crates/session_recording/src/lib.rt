@@ -1,6 +1,6 @@
-//! Sessions, recorded, over relations or by any service: what the source gave, what the sink took, and the registry's
-//! calls with their answers. A source, a sink and a desk that are recorded keep what passes: the
-//! first bytes, as many as there is room for, the number of all, and the calls.
+//! Sessions, recorded, over relations or by any service: what the source gave, what the sink took,
+//! and the registry's calls with their answers. A source, a sink and a desk that are recorded keep
+//! what passes: the first bytes, as many as there is room for, the number of all, and the calls.
 #![tactic(auto)]
 
 mod desk;

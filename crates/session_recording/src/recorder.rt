@@ -77,9 +77,7 @@ pub fn record_session<D: CancelDesk, S: Source, K: Sink>(
         return (Err(ServeError::NoMemory), Err(RecordError::NoMemory));
     };
     let service = Relations { relations };
-    record_in(
-        alloc, &service, desk, source, sink, turn_limit, room, space,
-    )
+    record_in(alloc, &service, desk, source, sink, turn_limit, room, space)
 }
 
 /// What is taken before a session is served.
@@ -92,7 +90,11 @@ pub(crate) struct Space {
 }
 
 /// Makes room, and copies the registration.
-pub(crate) fn reserve<D: CancelDesk>(alloc: Global, room: usize, desk: &D) -> Result<Space, AllocError>
+pub(crate) fn reserve<D: CancelDesk>(
+    alloc: Global,
+    room: usize,
+    desk: &D,
+) -> Result<Space, AllocError>
     ensures { IfOk result (IsSpaceFor (D.told desk.now).registration room) }
 {
     let (pid, key) = desk.identity();

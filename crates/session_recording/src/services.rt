@@ -56,7 +56,5 @@ pub fn record_service<V: Service, D: CancelDesk, S: Source, K: Sink>(
         let answer = service.serve(alloc, desk, source, sink, turn_limit);
         return (answer, Err(RecordError::NoMemory));
     };
-    record_in(
-        alloc, service, desk, source, sink, turn_limit, room, space,
-    )
+    record_in(alloc, service, desk, source, sink, turn_limit, room, space)
 }
