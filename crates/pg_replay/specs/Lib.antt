@@ -1,3 +1,4 @@
+pub mod Listening
 pub mod Words
 pub mod Statuses
 pub mod Program

@@ -3,11 +3,13 @@
 #![tactic(auto)]
 
 mod input;
+mod listening;
 mod outcome;
 mod running;
 mod telling;
 mod words;
 
+pub use listening::{Listening, read_listening};
 pub use recording_text::{ReadError, Recording, read_recording, write_recording};
 pub use running::run_replay;
 pub use session_recording::{RecordError, record_session};

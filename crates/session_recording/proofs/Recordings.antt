@@ -223,6 +223,12 @@ faithful_so relations registration kind (Some text) new_left (Some before) new c
     (subst (λ b. IsRun rules (first_state registration.0 registration.1) r.client b called kind) same_written
     (subst (λ t. IsRun rules (first_state registration.0 registration.1) t replies called kind) same_text run.2.2.2))))
 
+-- where there was no memory, nothing is owed of a recording
+pub unrecorded_answer : (registration : ℤ × List ℕ) (room : ℕ) (answer : Result EndKind ServeError) (p : Passage) (calls : List DeskCall)
+    → IsRecorded registration room answer (Err refusal.NoMemory) p calls
+unrecorded_answer registration room (Ok kind) p calls = tt
+unrecorded_answer registration room (Err e) p calls = tt
+
 pub faithful_answer : (relations : List Relation) (registration : ℤ × List ℕ) (room : ℕ) (answer : Result EndKind ServeError)
     (result : Result Recording RecordError) (left new_left old new : Option (List ℕ)) (calls new_calls made : List DeskCall)
     → new_calls ≡ calls ++ made

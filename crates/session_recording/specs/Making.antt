@@ -1,5 +1,5 @@
 -- How a recording is made of what was kept of a session.
-use Rattle.std.specs.Prelude.{ℕ, ℤ, true, false, List, [], Result, Ok, Err, ◌≡◌, ◌≤◌, ◌<◌, max}
+use Rattle.std.specs.Prelude.{ℕ, ℤ, true, false, List, [], Result, Ok, Err, ◌≡◌, ◌≤◌, ◌<◌, ◌^◌, max}
 use Rattle.pg_client.specs.declared.ends.EndKind.{EndKind}
 use Rattle.conversation_runs.specs.declared.ends.ServeError.{ServeError}
 use Rattle.conversation_runs.specs.declared.ends.ServeError.TheVariants.{WriteFault, NoMemory}
@@ -8,12 +8,21 @@ use Rattle.session_recording.specs.declared.keeping.FirstBytes.{FirstBytes}
 use Rattle.session_recording.specs.declared.error.RecordError.{RecordError}
 use Rattle.session_recording.specs.declared.error.RecordError.TheVariants as refusal
 use Rattle.session_recording.specs.declared.recorder.Kept.{Kept}
+use Rattle.session_recording.specs.declared.recorder.Space.{Space}
 
 -- there is room for `room` bytes, and none of it is used
 pub record IsUnused (first : FirstBytes) (room : ℕ) : Type 0 where
   pub room_for : first.room ≡ room
   pub bytes : first.bytes.items ≡ []
   pub count : first.count ≡ 0
+
+-- there is space for the recording of a session under this registration: the registration itself, and room for so many bytes each way
+pub record IsSpaceFor (registration : ℤ × List ℕ) (room : ℕ) (space : Space) : Type 0 where
+  pub pid : space.pid ≡ registration.0
+  pub key : space.key ≡ registration.1
+  pub client : IsUnused space.client room
+  pub replies : IsUnused space.replies room
+  pub small : room < 2 ^ 63
 
 -- a session with this answer may have met a send that was refused
 abbrev pub MayMeetRefusal : Result EndKind ServeError → Type 0

@@ -1,33 +1,34 @@
 //! A session over relations is served and recorded.
 
-ghost use Rattle.std.specs.Prelude.{◌≡◌, ◌++◌, ◌<◌, ◌^◌, ◌↔◌, ℕ, Option, List, IfOk, OnOk, IfErr, IfSome, IsTrue};
+ghost use Rattle.std.specs.Prelude.{◌≡◌, ◌++◌, ◌↔◌, ℕ, Option, List, IfOk, IfErr, IfSome, IsTrue};
 ghost use Rattle.conversation_table.specs.Questions.{questions_since};
 ghost use Rattle.pg_client.specs.declared.desk.DeskCall.{DeskCall};
-ghost use Rattle.pg_engine.specs.Around.{ServesSession, around};
+ghost use Rattle.pg_engine.specs.Around.{Serves, ServesSession, around};
 ghost use Rattle.pg_engine.specs.Serving.{HasCause, counts_of};
 ghost use Rattle.relation_serving.specs.Completeness.{IsComplete};
-ghost use Rattle.relation_serving.specs.Serving.{ServesRelations, WentByTables};
+ghost use Rattle.relation_serving.specs.Serving.{WentByTables};
 ghost use Rattle.relation_tables.specs.RelationHandler.{relation_handlers};
 ghost use Rattle.session_recording.specs.Kept.{IsTakenOf, IsSentTo};
-ghost use Rattle.session_recording.specs.Making.{IsMadeOf, IsRefusedOf, IsUnused, MayMeetRefusal};
+ghost use Rattle.session_recording.specs.Making.{IsMadeOf, IsRefusedOf, IsSpaceFor, IsUnused, MayMeetRefusal};
 ghost use Rattle.session_recording.specs.Recorded.{IsRecorded, IsFaithful, passage};
 
 use crate::desk::RecordingDesk;
 use crate::error::RecordError;
 use crate::keeping::FirstBytes;
+use crate::relations::Relations;
 use crate::sink::RecordingSink;
 use crate::source::RecordingSource;
+use client_services::Service;
 use conversation_runs::{ServeError, Sink, Source};
 use pg_handlers::{CancelDesk, DeskCall, EndKind};
 use pg_messages::{PgBytes, PgList, SecretKey};
 use recording_text::Recording;
 use relation_handlers::RelationTable;
-use relation_serving::serve_relations_on;
 use std::alloc::{AllocError, Global};
 
-/// Serves a client over relations, as [`serve_relations_on`] does, and records the session. The
-/// first answer is that of serving; the second is the recording, whose `pid` and `key` are those
-/// that the desk had before.
+/// Serves a client over relations, as `serve_relations_on` of relation_serving does, and records the
+/// session. The first answer is that of serving; the second is the recording, whose `pid` and `key`
+/// are those that the desk had before.
 ///
 /// Room for `room` bytes of the client, and for `room` bytes of the replies, is taken before
 /// anything is served. Where there isn't enough memory, both answers are NoMemory. Then each byte is
@@ -75,21 +76,13 @@ pub fn record_session<D: CancelDesk, S: Source, K: Sink>(
     let Ok(space) = reserve(alloc, room, desk) else {
         return (Err(ServeError::NoMemory), Err(RecordError::NoMemory));
     };
-    let Space {
-        pid,
-        key,
-        client,
-        replies,
-    } = space;
-    let (answer, kept) = serve_recorded(
-        alloc, relations, desk, source, sink, turn_limit, client, replies,
-    );
-    (answer, recording_of(answer, room, pid, key, kept))
+    let service = Relations { relations };
+    record_in(alloc, &service, desk, source, sink, turn_limit, room, space)
 }
 
 /// What is taken before a session is served.
 #[derive(Drop)]
-struct Space {
+pub(crate) struct Space {
     pid: i32,
     key: SecretKey,
     client: FirstBytes,
@@ -97,12 +90,12 @@ struct Space {
 }
 
 /// Makes room, and copies the registration.
-fn reserve<D: CancelDesk>(alloc: Global, room: usize, desk: &D) -> Result<Space, AllocError>
-    ensures pid { IfOk result (λ space. space.pid ≡ (D.told desk.now).registration.0) }
-    ensures key { IfOk result (λ space. space.key ≡ (D.told desk.now).registration.1) }
-    ensures client { IfOk result (λ space. IsUnused space.client room) }
-    ensures replies { IfOk result (λ space. IsUnused space.replies room) }
-    ensures small { OnOk result (room < 2 ^ 63) }
+pub(crate) fn reserve<D: CancelDesk>(
+    alloc: Global,
+    room: usize,
+    desk: &D,
+) -> Result<Space, AllocError>
+    ensures { IfOk result (IsSpaceFor (D.told desk.now).registration room) }
 {
     let (pid, key) = desk.identity();
     Ok(Space {
@@ -111,6 +104,43 @@ fn reserve<D: CancelDesk>(alloc: Global, room: usize, desk: &D) -> Result<Space,
         client: FirstBytes::with_room(alloc, room)?,
         replies: FirstBytes::with_room(alloc, room)?,
     })
+}
+
+/// Serves a client by a service, and records the session in the space that was made.
+pub(crate) fn record_in<V: Service, D: CancelDesk, S: Source, K: Sink>(
+    alloc: Global,
+    service: &V,
+    desk: &mut D,
+    source: &mut S,
+    sink: &mut K,
+    turn_limit: u64,
+    room: usize,
+    space: Space,
+) -> (Result<EndKind, ServeError>, Result<Recording, RecordError>)
+    requires { IsSpaceFor (D.told desk.old).registration room space }
+    ensures recorded { (calls : List DeskCall)
+        × ((D.told desk.new).calls ≡ (D.told desk.old).calls ++ calls)
+        × IsRecorded (D.told desk.old).registration room result.0 result.1
+        (passage S.left K.written source.old sink.old source.new sink.new) calls }
+    ensures serves { let round = around S.left S.reads S.faults S.origin K.written K.faults K.origin D.told in
+        Serves (V.rules service.now)
+        (V.first service.now (D.told desk.old).registration.0 (D.told desk.old).registration.1)
+        turn_limit result.0
+        (round source.old sink.old desk.old) (round source.new sink.new desk.new) }
+    ensures also { V.also service.now turn_limit result.0 (S.left source.old)
+        (counts_of S.reads S.faults K.faults source.old sink.old)
+        (counts_of S.reads S.faults K.faults source.new sink.new) }
+{
+    let Space {
+        pid,
+        key,
+        client,
+        replies,
+    } = space;
+    let (answer, kept) = serve_recorded(
+        alloc, service, desk, source, sink, turn_limit, client, replies,
+    );
+    (answer, recording_of(answer, room, pid, key, kept))
 }
 
 /// What was kept of a session.
@@ -122,10 +152,10 @@ struct Kept {
     calls: Vec<DeskCall>,
 }
 
-/// Serves a client, and keeps what passes in the room that there is.
-fn serve_recorded<D: CancelDesk, S: Source, K: Sink>(
+/// Serves a client by a service, and keeps what passes in the room that there is.
+fn serve_recorded<V: Service, D: CancelDesk, S: Source, K: Sink>(
     alloc: Global,
-    relations: &RelationTable,
+    service: &V,
     desk: &mut D,
     source: &mut S,
     sink: &mut K,
@@ -144,20 +174,18 @@ fn serve_recorded<D: CancelDesk, S: Source, K: Sink>(
     ensures replies_room { result.1.replies.room ≡ replies.room }
     ensures calls { (D.told desk.new).calls ≡ (D.told desk.old).calls ++ result.1.calls.items }
     ensures serves { let round = around S.left S.reads S.faults S.origin K.written K.faults K.origin D.told in
-        ServesRelations relations.now turn_limit result.0
+        Serves (V.rules service.now)
+        (V.first service.now (D.told desk.old).registration.0 (D.told desk.old).registration.1)
+        turn_limit result.0
         (round source.old sink.old desk.old) (round source.new sink.new desk.new) }
+    ensures also { V.also service.now turn_limit result.0 (S.left source.old)
+        (counts_of S.reads S.faults K.faults source.old sink.old)
+        (counts_of S.reads S.faults K.faults source.new sink.new) }
 {
     let mut desk = RecordingDesk::new(alloc, desk);
     let mut source = RecordingSource::new(source, client);
     let mut sink = RecordingSink::new(sink, replies);
-    let answer = serve_relations_on(
-        alloc,
-        &mut desk,
-        relations,
-        &mut source,
-        &mut sink,
-        turn_limit,
-    );
+    let answer = service.serve(alloc, &mut desk, &mut source, &mut sink, turn_limit);
     let RecordingDesk { desk, kept: calls } = desk;
     give_back(desk);
     let RecordingSource {

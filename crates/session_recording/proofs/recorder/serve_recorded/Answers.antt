@@ -1,7 +1,7 @@
 use Rattle.std.proofs.Common.{◌≡◌, ◌∙◌, ◌∷◌, ◌++◌, ℕ, ap, drop, sym}
 use Rattle.pg_client.specs.Desk.{DeskTold, GoesOn, narrowed}
-use Rattle.pg_engine.specs.Around.{around}
-use Rattle.relation_serving.specs.Serving.{ServesRelations}
+use Rattle.pg_engine.specs.Around.{Serves, around}
+use Rattle.pg_engine.specs.Serving.{counts_of}
 use Rattle.session_recording.specs.declared.keeping.FirstBytes.{FirstBytes}
 use Rattle.session_recording.proofs.Origins.{IsSameRecorder, known_again, made_are_kept, same_head}
 use Rattle.session_recording.proofs.Recordings.{of_same, sent_again, taken_again}
@@ -25,45 +25,45 @@ goes_on_under old new name new_name n new_n over =
     }
 
 -- the source's recorder is known again
-source_known : (g : Over) (c : goal.After-sink-2-1 g) → let new = c.serve_relations_on-answer.new.source in
+source_known : (g : Over) (c : goal.After-sink-2-1 g) → let new = c.serve-answer.new.source in
     let old = c.new-source.result in
     IsSameRecorder old.source.ghost_name new.source.ghost_name old.kept.room new.kept.room (g.S.Source.origin old.source.now)
     (g.S.Source.origin new.source.now) (g.S.Source.left old.before.value) (g.S.Source.left new.before.value)
 source_known g c =
-    let new = c.serve_relations_on-answer.new.source in
+    let new = c.serve-answer.new.source in
     let old = c.new-source.result in
     known_again old.source.ghost_name new.source.ghost_name old.kept.room new.kept.room (g.S.Source.origin old.source.now)
     (g.S.Source.origin new.source.now) (g.S.Source.left old.before.value) (g.S.Source.left new.before.value)
-    c.serve_relations_on-answer.ensures.serves.source
+    c.serve-answer.ensures.serves.source
 
 -- and so is the sink's
-sink_known : (g : Over) (c : goal.After-sink-2-1 g) → let new = c.serve_relations_on-answer.new.sink in
+sink_known : (g : Over) (c : goal.After-sink-2-1 g) → let new = c.serve-answer.new.sink in
     let old = c.new-sink.result in
     IsSameRecorder old.sink.ghost_name new.sink.ghost_name old.kept.room new.kept.room (g.K.Sink.origin old.sink.now)
     (g.K.Sink.origin new.sink.now) (g.K.Sink.written old.before.value) (g.K.Sink.written new.before.value)
 sink_known g c =
-    let new = c.serve_relations_on-answer.new.sink in
+    let new = c.serve-answer.new.sink in
     let old = c.new-sink.result in
     known_again old.sink.ghost_name new.sink.ghost_name old.kept.room new.kept.room (g.K.Sink.origin old.sink.now)
     (g.K.Sink.origin new.sink.now) (g.K.Sink.written old.before.value) (g.K.Sink.written new.before.value)
-    c.serve_relations_on-answer.ensures.serves.sink
+    c.serve-answer.ensures.serves.sink
 
 -- so each was left as its recorder has it
-source_left : (g : Over) (c : goal.After-sink-2-1 g) → c.source-2-1.given.0 ≡ c.serve_relations_on-answer.new.source.source.now
+source_left : (g : Over) (c : goal.After-sink-2-1 g) → c.source-2-1.given.0 ≡ c.serve-answer.new.source.source.now
 source_left g c =
     c.source-2-1.given.1 (sym ((source_known g c).same_name ∙ c.new-source.ensures.same_reference)) ∙ c.give_back-2.ensures
 
-sink_left : (g : Over) (c : goal.After-sink-2-1 g) → c.sink-2-1.given.0 ≡ c.serve_relations_on-answer.new.sink.sink.now
+sink_left : (g : Over) (c : goal.After-sink-2-1 g) → c.sink-2-1.given.0 ≡ c.serve-answer.new.sink.sink.now
 sink_left g c = c.sink-2-1.given.1 (sym ((sink_known g c).same_name ∙ c.new-sink.ensures.same_reference)) ∙ c.give_back-3.ensures
 
-desk_left : (g : Over) (c : goal.After-sink-2-1 g) → c.desk-2-1.given.0 ≡ c.serve_relations_on-answer.new.desk.desk.now
+desk_left : (g : Over) (c : goal.After-sink-2-1 g) → c.desk-2-1.given.0 ≡ c.serve-answer.new.desk.desk.now
 desk_left g c =
-    let origins = ap (λ (d : DeskTold). d.origin) c.serve_relations_on-answer.ensures.serves.registration.grown in
+    let origins = ap (λ (d : DeskTold). d.origin) c.serve-answer.ensures.serves.registration.grown in
     c.desk-2-1.given.1 (sym c.new-desk.ensures.same_reference ∙ same_head _ _ _ _ origins) ∙ c.give_back.ensures
 
 pub returns-clause-client : goal.returns-clause-client
 returns-clause-client g c =
-    let new = c.serve_relations_on-answer.new.source in
+    let new = c.serve-answer.new.source in
     let k = source_known g c in
     taken_again (g.S.Source.left c.args.source.now) (g.S.Source.left new.before.value) (g.S.Source.left new.source.now)
     (g.S.Source.left c.source-2-1.given.0) c.args.client.room new.kept.room new.kept.bytes.items new.kept.count
@@ -72,7 +72,7 @@ returns-clause-client g c =
 
 pub returns-clause-replies : goal.returns-clause-replies
 returns-clause-replies g c =
-    let new = c.serve_relations_on-answer.new.sink in
+    let new = c.serve-answer.new.sink in
     let k = sink_known g c in
     sent_again (g.K.Sink.written c.args.sink.now) (g.K.Sink.written new.before.value) (g.K.Sink.written new.until.value)
     (g.K.Sink.written new.sink.now) (g.K.Sink.written c.sink-2-1.given.0) c.args.replies.room new.kept.room new.kept.bytes.items
@@ -87,42 +87,56 @@ returns-clause-replies_room g c = (sink_known g c).same_room ∙ ap (λ (b : Fir
 
 pub returns-clause-calls : goal.returns-clause-calls
 returns-clause-calls g c =
-    let new = c.serve_relations_on-answer.new.desk in
+    let new = c.serve-answer.new.desk in
     let old = c.new-desk.result in
-    let went = c.serve_relations_on-answer.ensures.went in
-    let origins = ap (λ (d : DeskTold). d.origin) c.serve_relations_on-answer.ensures.serves.registration.grown in
+    let went = c.serve-answer.ensures.serves.went in
+    let origins = ap (λ (d : DeskTold). d.origin) c.serve-answer.ensures.serves.registration.grown in
     let kept = made_are_kept _ _ _ _ (g.D.CancelDesk.told old.desk.now).calls (g.D.CancelDesk.told new.desk.now).calls went.0
     old.kept.items new.kept.items origins c.new-desk.ensures.kept went.1 new.recorded in
     ap (λ d. (g.D.CancelDesk.told d).calls) (desk_left g c) ∙ went.1
     ∙ ap (λ d. (g.D.CancelDesk.told d).calls ++ went.0) c.new-desk.ensures.desk
     ∙ ap (λ k. (g.D.CancelDesk.told c.args.desk.now).calls ++ k) kept
 
+-- what is promised of the recorders is promised of what they stand over
+abbrev unrecorded : (g : Over) (c : goal.After-sink-2-1 g)
+    → (g.D → g.D → g.S → g.S → g.K → g.K → Type 0) → Type 0
+unrecorded g c P =
+    P c.new-desk.result.desk.now c.serve-answer.new.desk.desk.now c.new-source.result.source.now c.serve-answer.new.source.source.now
+    c.new-sink.result.sink.now c.serve-answer.new.sink.sink.now
+    → P c.args.desk.now c.desk-2-1.given.0 c.args.source.now c.source-2-1.given.0 c.args.sink.now c.sink-2-1.given.0
+
+as_unrecorded : (g : Over) (c : goal.After-sink-2-1 g) (P : g.D → g.D → g.S → g.S → g.K → g.K → Type 0) → unrecorded g c P
+as_unrecorded g c P =
+    of_same P c.new-desk.result.desk.now c.args.desk.now c.serve-answer.new.desk.desk.now c.desk-2-1.given.0 c.new-source.result.source.now
+    c.args.source.now c.serve-answer.new.source.source.now c.source-2-1.given.0 c.new-sink.result.sink.now c.args.sink.now
+    c.serve-answer.new.sink.sink.now c.sink-2-1.given.0 c.new-desk.ensures.desk (sym (desk_left g c)) c.new-source.ensures.source
+    (sym (source_left g c)) c.new-sink.ensures.sink (sym (sink_left g c))
+
 -- the client was served as without recorders
 pub returns-clause-serves : goal.returns-clause-serves
 returns-clause-serves g c =
-    let relations = c.args.relations.now in
-    let served = c.serve_relations_on-answer.ensures in
-    let through = served.serves in
+    let service = c.args.service.now in
+    let through = c.serve-answer.ensures.serves in
+    let told = g.D.CancelDesk.told in
     let round = around g.S.Source.left g.S.Source.reads g.S.Source.faults g.S.Source.origin g.K.Sink.written g.K.Sink.faults
-    g.K.Sink.origin g.D.CancelDesk.told in
-    of_same (λ d e s t k l. ServesRelations relations c.args.turn_limit c.serve_relations_on-answer.result (round s k d) (round t l e))
-    c.new-desk.result.desk.now c.args.desk.now
-    c.serve_relations_on-answer.new.desk.desk.now c.desk-2-1.given.0 c.new-source.result.source.now c.args.source.now
-    c.serve_relations_on-answer.new.source.source.now c.source-2-1.given.0 c.new-sink.result.sink.now c.args.sink.now
-    c.serve_relations_on-answer.new.sink.sink.now c.sink-2-1.given.0 c.new-desk.ensures.desk (sym (desk_left g c))
-    c.new-source.ensures.source (sym (source_left g c)) c.new-sink.ensures.sink (sym (sink_left g c)) (record {
-      went = served.went;
-      complete = served.complete;
-      serves = record {
-        went = through.went;
-        cause = through.cause;
-        last = through.last;
-        taken = through.taken;
-        calm = through.calm;
-        never_falls = through.never_falls;
-        reads = through.reads;
-        registration = goes_on_under _ _ _ _ _ _ through.registration;
-        source = (source_known g c).same_origin;
-        sink = (sink_known g c).same_origin;
-      };
+    g.K.Sink.origin told in
+    as_unrecorded g c (λ d e s t k l. Serves (g.V.Service.rules service)
+    (g.V.Service.first service (told d).registration.0 (told d).registration.1) c.args.turn_limit c.serve-answer.result (round s k d)
+    (round t l e)) (record {
+      went = through.went;
+      cause = through.cause;
+      last = through.last;
+      taken = through.taken;
+      calm = through.calm;
+      never_falls = through.never_falls;
+      reads = through.reads;
+      registration = goes_on_under _ _ _ _ _ _ through.registration;
+      source = (source_known g c).same_origin;
+      sink = (sink_known g c).same_origin;
     })
+
+pub returns-clause-also : goal.returns-clause-also
+returns-clause-also g c =
+    as_unrecorded g c (λ d e s t k l. g.V.Service.also c.args.service.now c.args.turn_limit c.serve-answer.result (g.S.Source.left s)
+    (counts_of g.S.Source.reads g.S.Source.faults g.K.Sink.faults s k) (counts_of g.S.Source.reads g.S.Source.faults g.K.Sink.faults t l))
+    c.serve-answer.ensures.also
