@@ -2,14 +2,13 @@
 
 ghost use Rattle.std.specs.Prelude.{List, ◌≡◌, ◌++◌};
 ghost use Rattle.pg_cancel.specs.declared.entries.Entry.{Entry};
-ghost use Rattle.pg_client.specs.declared.desk.DeskCall.{DeskCall};
 ghost use Rattle.conversation_table.specs.Questions.{questions_since};
 ghost use Rattle.pg_serve.specs.Desk.{StaysUsable, desk_calls, desk_of};
 ghost use Rattle.pg_engine.specs.Around.{ServesSession, around};
 ghost use Rattle.pg_engine.specs.Serving.{HasCause, counts_of};
 ghost use Rattle.relation_tables.specs.RelationHandler.{relation_handlers};
 ghost use Rattle.relation_serving.specs.Completeness.{IsComplete};
-ghost use Rattle.relation_serving.specs.Serving.{WentByTables};
+ghost use Rattle.relation_serving.specs.Serving.{ServesRelations, WentByTables};
 
 use conversation_runs::{ServeError, Sink, Source};
 use pg_cancel::{ConnectionHandle, ConnectionManager};
@@ -82,15 +81,8 @@ fn serve_at_desk<R: Wait, S: Source, K: Sink>(
     turn_limit: u64,
 ) -> Result<EndKind, ServeError>
     requires issued { handle.old.issuer ≡ manager.now }
-    ensures went { (calls : List DeskCall)
-        × (desk_calls handle.new.mine ≡ desk_calls handle.old.mine ++ calls)
-        × WentByTables relations.now (handle.old.pid, handle.old.key) result (S.left source.old) (S.left source.new)
-        (K.written sink.old) (K.written sink.new) calls }
-    ensures complete { IsComplete relations.now turn_limit result (S.left source.old)
-        (counts_of S.reads S.faults K.faults source.old sink.old)
-        (counts_of S.reads S.faults K.faults source.new sink.new) }
-    ensures serves { let round = around S.left S.reads S.faults S.origin K.written K.faults K.origin desk_of in
-        ServesSession (relation_handlers relations.now) turn_limit result
+    ensures { let round = around S.left S.reads S.faults S.origin K.written K.faults K.origin desk_of in
+        ServesRelations relations.now turn_limit result
         (round source.old sink.old handle.old) (round source.new sink.new handle.new) }
 {
     let mut desk = HandleDesk {

@@ -7,8 +7,9 @@ use Rattle.conversation_runs.specs.Run.{Rules}
 use Rattle.conversation_runs.specs.Session.{whole_rules}
 use Rattle.conversation_runs.specs.declared.ends.ServeError.{ServeError}
 use Rattle.relation_tables.specs.RelationHandler.{relation_handlers}
-use Rattle.pg_engine.specs.Around.{Around, Serves, ServesSession, around}
+use Rattle.pg_engine.specs.Around.{Around, Serves, around}
 use Rattle.pg_serve.specs.Desk.{desk_of, desk_over}
+use Rattle.relation_serving.specs.Serving.{ServesRelations}
 use Rattle.pg_serve.proofs.Calls.{desk_goes_on}
 use Rattle.relation_server.proofs.registered_client.serve_at_desk.Goals as goal
 
@@ -49,8 +50,8 @@ renamed rules first turns result b a old new name new_name x =
       sink = x.sink;
     }
 
-pub returns-clause-serves : goal.returns-clause-serves
-returns-clause-serves g c =
+pub returns : goal.returns
+returns g c =
     let round = around g.S.Source.left g.S.Source.reads g.S.Source.faults g.S.Source.origin g.K.Sink.written g.K.Sink.faults
     g.K.Sink.origin desk_of in
     let told = c.serve_relations_on-answer in
@@ -59,7 +60,11 @@ returns-clause-serves g c =
     let new = told.new.desk.handle.now in
     let serves = told.ensures.serves in
     let back = c.handle-1.given.1 (sym (ap (λ d. name_in d.origin) serves.registration.grown)) in
-    subst (λ h. ServesSession handlers c.args.turn_limit told.result (round c.args.source.now c.args.sink.now old)
-    (round told.new.source told.new.sink h)) (sym back)
-    (renamed (whole_rules handlers) (first_state old.pid old.key) c.args.turn_limit told.result (round c.args.source.now c.args.sink.now old)
-    (round told.new.source told.new.sink new) old new c.desk-1.given told.new.desk.handle.ghost_name serves)
+    subst (λ h. ServesRelations c.args.relations.now c.args.turn_limit told.result (round c.args.source.now c.args.sink.now old)
+    (round told.new.source told.new.sink h)) (sym back) (record {
+      went = told.ensures.went;
+      complete = told.ensures.complete;
+      serves = renamed (whole_rules handlers) (first_state old.pid old.key) c.args.turn_limit told.result
+          (round c.args.source.now c.args.sink.now old)
+          (round told.new.source told.new.sink new) old new c.desk-1.given told.new.desk.handle.ghost_name serves;
+    })
