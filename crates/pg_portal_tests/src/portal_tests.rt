@@ -6,6 +6,7 @@ ghost use Rattle.pg_results.specs.Rows.{IsSendable};
 use crate::fixtures::{Items, cursor, push_row, start};
 use pg_messages::{DataRow, PgList, PgStr};
 use pg_portal::{FetchResult, ListRows, PgWireError, Portal};
+use pg_text::CellError;
 use std::alloc::{AllocError, Global};
 use std::test::Fail;
 

@@ -2,9 +2,7 @@
 
 ghost use Rattle.std.specs.Prelude.{◌≡◌};
 
-use crate::clients::{
-    CANCELED, STARTUP, STARTUP_3_2, is_at_its_end, reads, sends, shared_over,
-};
+use crate::clients::{CANCELED, STARTUP, STARTUP_3_2, is_at_its_end, reads, sends, shared_over};
 use crate::relations::endless_table;
 use pg_serve::{Listening, RandomKeys, SocketAcceptor};
 use relation_server::{JobThreads, StartJob, ThreadSpawner, jobs_cross_threads, listen};

@@ -1,8 +1,5 @@
 //! The service of a connection as a value, over memory.
 
-ghost use Rattle.std.specs.Prelude.{◌≡◌, IfSome};
-ghost use Rattle.std.specs.Arc.{arc_value};
-
 use crate::clients::{FIRST_PATH, FIRST_REPLIES, shared_over};
 use pg_messages::{PgBytes, PgList};
 use pg_serve::{MemorySink, MemorySource};

@@ -28,11 +28,13 @@ returns-in-Err g c =
     let new = g.K.Sink.written c.write_clash.new.sink in
     let i = c.loop-pair.pair-index in
     let rest = clash_text (drop (i + 1) c.args.pairs.now) in
-    let P : List ℕ → Type 0 = λ t. GrowsByFront first new t in record { written = (
-      subst P (sym (clash_split c.args.pairs.now i _ c.loop-pair-test.true))
-          (front_more first new _ rest (on.0 first (clash_text (take i c.args.pairs.now)) way.0)),
-      cause_as c.in-Err.error _ _ _ way.1 on.1,
-    ) }
+    let P : List ℕ → Type 0 = λ t. GrowsByFront first new t in record {
+      written = (
+        subst P (sym (clash_split c.args.pairs.now i _ c.loop-pair-test.true))
+            (front_more first new _ rest (on.0 first (clash_text (take i c.args.pairs.now)) way.0)),
+        cause_as c.in-Err.error _ _ _ way.1 on.1,
+      );
+    }
 
 pub loop-pair-init : goal.loop-pair-init
 loop-pair-init g c =
