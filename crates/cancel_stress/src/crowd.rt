@@ -60,7 +60,7 @@ fn heard_at<R: Threads + Wait + Sync>(
     door: &mut Door,
     calls: u64,
 ) -> Option<(Heard, u64)>
-    requires { door.old.issuer ≡ manager.now }
+    requires issued { door.old.issuer ≡ manager.now }
 {
     let heard = called(rt, alloc, manager, door, calls)?;
     let entries = entries_so_far(rt, alloc, manager, door)?;
@@ -75,7 +75,7 @@ fn entries_so_far<R: Wait>(
     manager: &ConnectionManager,
     door: &mut Door,
 ) -> Option<u64>
-    requires { door.old.issuer ≡ manager.now }
+    requires issued { door.old.issuer ≡ manager.now }
 {
     match registered(rt, alloc, manager, door, 0) {
         Ok(last) => Some(last.number()),
@@ -98,7 +98,7 @@ fn in_turn_at<R: Wait>(
     door: &mut Door,
     calls: u64,
 ) -> Result<bool, AllocError>
-    requires { door.old.issuer ≡ manager.now }
+    requires issued { door.old.issuer ≡ manager.now }
 {
     match workers(rt, alloc, manager, door, THREADS) {
         Some(mut all) => are_legal_too(rt, alloc, all.as_mut_slice(), calls),
@@ -164,8 +164,8 @@ fn called<R: Threads + Wait + Sync>(
     door: &mut Door,
     calls: u64,
 ) -> Option<Heard>
-    requires { door.old.issuer ≡ manager.now }
-    ensures { door.new.issuer ≡ door.old.issuer }
+    requires issued { door.old.issuer ≡ manager.now }
+    ensures issued { door.new.issuer ≡ door.old.issuer }
 {
     let all = workers(rt, alloc, manager, door, THREADS)?;
     match after_all(rt, all, Mix::All, calls) {
@@ -246,8 +246,8 @@ fn longer<'a, R: Wait>(
     threads: u32,
     entries: u64,
 ) -> Option<Vec<Worker<'a>>>
-    requires { door.old.issuer ≡ manager.now }
-    ensures { door.new.issuer ≡ door.old.issuer }
+    requires issued { door.old.issuer ≡ manager.now }
+    ensures issued { door.new.issuer ≡ door.old.issuer }
 {
     let mut all = workers(rt, alloc, manager, door, threads)?;
     if let Some(first) = all.first_mut() {

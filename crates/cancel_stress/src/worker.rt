@@ -159,8 +159,8 @@ pub fn workers<'a, R: Wait>(
     door: &mut Door,
     count: u32,
 ) -> Option<Vec<Worker<'a>>>
-    requires { door.old.issuer ≡ manager.now }
-    ensures { door.new.issuer ≡ door.old.issuer }
+    requires issued { door.old.issuer ≡ manager.now }
+    ensures issued { door.new.issuer ≡ door.old.issuer }
 {
     let mut all = Vec::new(alloc);
     for place in 0..count {
@@ -181,7 +181,7 @@ fn worker_at<'a, R: Wait>(
 ) -> Option<Worker<'a>>
     requires issued { door.old.issuer ≡ manager.now }
     requires within { place < count }
-    ensures { door.new.issuer ≡ door.old.issuer }
+    ensures issued { door.new.issuer ≡ door.old.issuer }
 {
     let pid = (place % 1000) as i32 + 1;
     let other = if place + 1 < count { pid + 1 } else { 1 };

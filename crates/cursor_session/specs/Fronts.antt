@@ -74,6 +74,12 @@ pub record IsQuiet {H S : Type 0} (v : SessionValue H S) : Type 0 where
   pub opened : v.is_open ≡ true
   pub sent : v.unsent ≡ []
 
+-- The front is between two frames: the session behind takes more, no reply waits, and neither has begun a frame.
+pub record IsBetween {H S : Type 0} (v : FrontValue H S) : Type 0 where
+  pub quiet : IsQuiet v.inner
+  pub none : v.inner.rest ≡ []
+  pub owed : v.owed ≡ 0
+
 -- The front is between two frames, where it may hold bytes of the next, or within a frame that the session has begun.
 abbrev pub IsPlaced : {H S : Type 0} → FrontValue H S → Type 0
 IsPlaced v = ((v.owed ≡ 0) × (v.inner.rest ≡ []))

@@ -8,7 +8,7 @@ ghost use Rattle.conversation_table.specs.Table.{is_startup_phase};
 ghost use Rattle.cursor_commands.specs.Asking.{CanBeSent};
 ghost use Rattle.cursor_commands.specs.Cursors.{messages_of};
 ghost use Rattle.cursor_table.specs.CursorTable.{asked_command, is_ready_phase};
-ghost use Rattle.cursor_session.specs.Fronts.{around, rest_of, told_by, IsStanding, IsQuiet, IsPart, IsBegun, FitsFrame};
+ghost use Rattle.cursor_session.specs.Fronts.{around, rest_of, told_by, IsStanding, IsQuiet, IsBetween, IsPart, IsBegun, FitsFrame};
 ghost use Rattle.cursor_session.specs.Seen.{FrontTakes, front_seen};
 
 use crate::asking::{ask, send_replies};
@@ -121,9 +121,7 @@ impl<C: FrontedSession> Front<C> {
         sink: &mut K,
         turns: &mut Turns,
     ) -> Result<Progress, ServeError>
-        requires quiet { IsQuiet (C.seen self.old.inner) }
-        requires none { (C.seen self.old.inner).rest ≡ [] }
-        requires owed { self.old.owed ≡ 0 }
+        requires between { IsBetween (front_seen C.seen self.old) }
         requires fits { FitsFrame (is_startup_phase (C.seen self.old.inner).state.info.state)
             (self.old.held.items ++ part.now) }
         ensures { FrontTakes C.told (front_seen C.seen self.old)
@@ -148,9 +146,7 @@ impl<C: FrontedSession> Front<C> {
         sink: &mut K,
         turns: &mut Turns,
     ) -> Result<Progress, ServeError>
-        requires quiet { IsQuiet (C.seen self.old.inner) }
-        requires none { (C.seen self.old.inner).rest ≡ [] }
-        requires owed { self.old.owed ≡ 0 }
+        requires between { IsBetween (front_seen C.seen self.old) }
         requires held { self.old.held.items ≡ [] }
         requires fits { FitsFrame (is_startup_phase (C.seen self.old.inner).state.info.state)
             bytes.now }
@@ -208,9 +204,7 @@ impl<C: FrontedSession> Front<C> {
         sink: &mut K,
         turns: &mut Turns,
     ) -> Result<Progress, ServeError>
-        requires quiet { IsQuiet (C.seen self.old.inner) }
-        requires none { (C.seen self.old.inner).rest ≡ [] }
-        requires owed { self.old.owed ≡ 0 }
+        requires between { IsBetween (front_seen C.seen self.old) }
         requires held { self.old.held.items ≡ [] }
         requires ready { is_ready_phase (C.seen self.old.inner).state.info.state ≡ true }
         requires sent { AllByRecursion CanBeSent (messages_of command.now) }

@@ -5,5 +5,3 @@
 mod fakes;
 #[cfg(test)]
 mod listening_tests;
-#[cfg(test)]
-mod registry;

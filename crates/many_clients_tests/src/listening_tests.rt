@@ -3,9 +3,9 @@
 ghost use Rattle.std.specs.Prelude.{◌≡◌, IfSome};
 
 use crate::fakes::{Keeping, OneKey, Refusing, Silence, Waiting};
-use crate::registry::Registry;
 use many_clients::{AdmittedClient, AdmittedClients, HandlerService, ServiceJob, listen_with};
 use pg_session::{EndKind, NoopHandler, PgWireServerHandlers};
+use sample_registry::Registry;
 use std::alloc::Global;
 use std::collections::VecDeque;
 use std::sync::{Arc, Wait};

@@ -185,15 +185,11 @@ fn show_reply(
     }
     match times {
         Some(count) => time_reply(rt, count, reply),
-        None => show_encoded(rt, reply),
+        None => {
+            print!(rt; "body {},", reply.body_len())?;
+            show_line(rt, encoded_behind(rt.alloc(), reply)?)
+        }
     }
-}
-
-fn show_encoded(rt: &HostRuntime, reply: &PgWireBackendMessage) -> io::Result<()>
-    requires { IsEncodable reply.now }
-{
-    print!(rt; "body {},", reply.body_len())?;
-    show_line(rt, encoded_behind(rt.alloc(), reply)?)
 }
 
 /// A byte, and the bytes of a reply.

@@ -98,8 +98,8 @@ fn register<R: Wait>(
     pid: i32,
     key: Key,
 ) -> Result<ConnectionHandle, RegisterError>
-    requires { door.old.issuer ≡ manager.now }
-    ensures door { door.new.issuer ≡ door.old.issuer }
+    requires issued { door.old.issuer ≡ manager.now }
+    ensures issued { door.new.issuer ≡ door.old.issuer }
     ensures handle { IfOk result (λ handle. handle.issuer ≡ manager.now) }
 {
     match key.secret(alloc) {
@@ -118,8 +118,8 @@ fn player_at<'m, R: Wait>(
     pid: i32,
     key: Key,
 ) -> Option<Player<'m>>
-    requires { door.old.issuer ≡ manager.now }
-    ensures { door.new.issuer ≡ door.old.issuer }
+    requires issued { door.old.issuer ≡ manager.now }
+    ensures issued { door.new.issuer ≡ door.old.issuer }
 {
     let handle = register(rt, alloc, manager, door, pid, key).ok()?;
     if handle.number() == number {
@@ -167,8 +167,8 @@ fn opening<'m, R: Wait>(
     door: &mut Door,
     key: Key,
 ) -> Option<(Player<'m>, Player<'m>)>
-    requires { door.old.issuer ≡ manager.now }
-    ensures { door.new.issuer ≡ door.old.issuer }
+    requires issued { door.old.issuer ≡ manager.now }
+    ensures issued { door.new.issuer ≡ door.old.issuer }
 {
     let first = player_at(rt, alloc, manager, door, 0, 7, key)?;
     if !is_taken(rt, alloc, manager, door) {
@@ -180,8 +180,8 @@ fn opening<'m, R: Wait>(
 
 /// Whether the pid 7 is refused under another key, since the registration at 0 has it.
 fn is_taken<R: Wait>(rt: &R, alloc: Global, manager: &ConnectionManager, door: &mut Door) -> bool
-    requires { door.old.issuer ≡ manager.now }
-    ensures { door.new.issuer ≡ door.old.issuer }
+    requires issued { door.old.issuer ≡ manager.now }
+    ensures issued { door.new.issuer ≡ door.old.issuer }
 {
     matches!(
         register(rt, alloc, manager, door, 7, Key::B),
@@ -210,8 +210,8 @@ fn is_told_by<R: Threads + Wait + Sync>(
     door: &mut Door,
     story: Story,
 ) -> Option<bool>
-    requires { door.old.issuer ≡ manager.now }
-    ensures { door.new.issuer ≡ door.old.issuer }
+    requires issued { door.old.issuer ≡ manager.now }
+    ensures issued { door.new.issuer ≡ door.old.issuer }
 {
     let (first, second) = opening(rt, alloc, manager, door, story.key)?;
     let (first, second) = both(rt, alloc, first, second, story);
@@ -227,7 +227,7 @@ fn is_told<R: Threads + Wait + Sync>(
     door: &mut Door,
     story: Story,
 ) -> bool
-    requires { door.old.issuer ≡ manager.now }
+    requires issued { door.old.issuer ≡ manager.now }
 {
     is_told_by(rt, alloc, manager, door, story) == Some(true)
         && player_at(rt, alloc, manager, door, story.entries, 7, Key::A).is_some()

@@ -1,14 +1,14 @@
 // Cells both ways, equality and copies.
-ghost use Rattle.std.specs.Prelude.{◌≡◌, ◌↔◌, IfOk, IsTrue};
+ghost use Rattle.std.specs.Prelude.{◌≡◌, IfOk};
 
+use crate::compared::Compared;
 use pg_interval::Interval;
 use std::alloc::AllocError;
 
-/// `==` is equality of the three numbers.
-fn is_equal(a: &Interval, b: &Interval) -> bool
-    ensures { IsTrue result ↔ (a.now ≡ b.now) }
-{
-    a == b
+impl Compared for Interval {
+    fn is_equal(&self, other: &Interval) -> bool {
+        self == other
+    }
 }
 
 /// A clone is equal.
@@ -57,7 +57,7 @@ fn is_read(cell: &[u8], interval: Interval) -> bool {
 /// Is the interval's clone equal to it?
 fn is_cloned(interval: Interval) -> bool {
     match clone_of(&interval) {
-        Ok(clone) => is_equal(&interval, &clone),
+        Ok(clone) => interval.is_equal(&clone),
         Err(_) => false,
     }
 }

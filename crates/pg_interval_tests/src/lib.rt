@@ -5,6 +5,8 @@
 #[cfg(test)]
 mod cell_tests;
 #[cfg(test)]
+mod compared;
+#[cfg(test)]
 mod difference_tests;
 #[cfg(test)]
 mod duration_tests;

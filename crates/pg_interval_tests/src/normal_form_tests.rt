@@ -1,13 +1,12 @@
 // Normal forms.
-ghost use Rattle.std.specs.Prelude.{◌≡◌, ◌↔◌, IsTrue};
 
+use crate::compared::Compared;
 use pg_interval::{Interval, IntervalNorm, ParseError, Reason};
 
-/// `==` of normal forms is equality of all fields.
-fn is_equal(a: &IntervalNorm, b: &IntervalNorm) -> bool
-    ensures { IsTrue result ↔ (a.now ≡ b.now) }
-{
-    a == b
+impl Compared for IntervalNorm {
+    fn is_equal(&self, other: &IntervalNorm) -> bool {
+        self == other
+    }
 }
 
 #[test]
@@ -15,7 +14,7 @@ fn normal_forms_compare(rt: HostRuntime) {
     let zero = IntervalNorm::default();
     let mut day = IntervalNorm::default();
     day.days = 1;
-    assert!(rt; is_equal(&zero, &zero) && !is_equal(&zero, &day));
+    assert!(rt; zero.is_equal(&zero) && !zero.is_equal(&day));
 }
 
 /// Do the fields add up to this interval?

@@ -1,45 +1,41 @@
 // Equality of refusals.
-ghost use Rattle.std.specs.Prelude.{◌≡◌, ◌↔◌, IsTrue};
 
+use crate::compared::Compared;
 use pg_interval::{DecimalError, IntError, ParseError, Reason};
 use std::test::Fail;
 
-/// `==` of refusals is equality.
-fn is_equal(a: &ParseError, b: &ParseError) -> bool
-    ensures { IsTrue result ↔ (a.now ≡ b.now) }
-{
-    a == b
+impl Compared for ParseError {
+    fn is_equal(&self, other: &ParseError) -> bool {
+        self == other
+    }
 }
 
-/// `==` of reasons is equality.
-fn is_equal_reason(a: &Reason, b: &Reason) -> bool
-    ensures { IsTrue result ↔ (a.now ≡ b.now) }
-{
-    a == b
+impl Compared for Reason {
+    fn is_equal(&self, other: &Reason) -> bool {
+        self == other
+    }
 }
 
-/// `==` of the errors of whole numbers is equality.
-fn is_equal_int_error(a: &IntError, b: &IntError) -> bool
-    ensures { IsTrue result ↔ (a.now ≡ b.now) }
-{
-    a == b
+impl Compared for IntError {
+    fn is_equal(&self, other: &IntError) -> bool {
+        self == other
+    }
 }
 
-/// `==` of the errors of decimals is equality.
-fn is_equal_decimal_error(a: &DecimalError, b: &DecimalError) -> bool
-    ensures { IsTrue result ↔ (a.now ≡ b.now) }
-{
-    a == b
+impl Compared for DecimalError {
+    fn is_equal(&self, other: &DecimalError) -> bool {
+        self == other
+    }
 }
 
 #[test]
 fn refusals_compare(rt: HostRuntime) -> Result<(), Fail> {
     let shape = ParseError::from_invalid_interval(Reason::Shape);
     let empty = ParseError::from(IntError::Empty);
-    assert!(rt; is_equal(&shape, &shape));
-    assert!(rt; !is_equal(&shape, &empty));
-    assert!(rt; is_equal_reason(&Reason::Shape, &Reason::Shape));
-    assert!(rt; is_equal_int_error(&IntError::Empty, &IntError::Empty));
-    assert!(rt; is_equal_decimal_error(&DecimalError::Empty, &DecimalError::Empty));
+    assert!(rt; shape.is_equal(&shape));
+    assert!(rt; !shape.is_equal(&empty));
+    assert!(rt; Reason::Shape.is_equal(&Reason::Shape));
+    assert!(rt; IntError::Empty.is_equal(&IntError::Empty));
+    assert!(rt; DecimalError::Empty.is_equal(&DecimalError::Empty));
     Ok(())
 }

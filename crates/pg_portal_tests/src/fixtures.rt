@@ -5,7 +5,6 @@ ghost use Rattle.pg_results.specs.Rows.{IsSendable};
 
 use pg_messages::{DataRow, PgBytes, PgList, PgStr};
 use pg_portal::{ListRows, PgWireError, Portal, QueryResponse, StoredStatement};
-use pg_text::CellError;
 use std::alloc::{AllocError, Global};
 use std::sync::Arc;
 
@@ -29,14 +28,6 @@ pub(crate) fn push_row(alloc: Global, items: &mut Items, byte: u8) -> Result<(),
         payload,
         field_count: 1,
     }))
-}
-
-/// Appends an error.
-pub(crate) fn push_error(items: &mut Items) -> Result<(), AllocError>
-    requires { AllByRecursion IsSendable items.old }
-    ensures { AllByRecursion IsSendable items.new }
-{
-    items.push(Err(PgWireError::FailedToParseParameter(CellError::WrongType)))
 }
 
 /// The cursor `p`, which wasn't started.

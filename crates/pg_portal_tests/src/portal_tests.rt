@@ -3,9 +3,10 @@
 ghost use Rattle.std.specs.List.{AllByRecursion};
 ghost use Rattle.pg_results.specs.Rows.{IsSendable};
 
-use crate::fixtures::{Items, cursor, push_error, push_row, start};
+use crate::fixtures::{Items, cursor, push_row, start};
 use pg_messages::{DataRow, PgList, PgStr};
 use pg_portal::{FetchResult, ListRows, PgWireError, Portal};
+use pg_text::CellError;
 use std::alloc::{AllocError, Global};
 use std::test::Fail;
 
@@ -70,7 +71,7 @@ fn push_all(alloc: Global, items: &mut Items) -> Result<(), AllocError>
     push_row(alloc, items, 10)?;
     push_row(alloc, items, 11)?;
     push_row(alloc, items, 12)?;
-    push_error(items)?;
+    items.push(Err(PgWireError::FailedToParseParameter(CellError::WrongType)))?;
     push_row(alloc, items, 13)
 }
 

@@ -1,10 +1,10 @@
 //! A cancel by another connection, while a query is being made or polled. The client waits for its
 //! replies before it asks.
 
-ghost use Rattle.std.specs.Prelude.{◌≡◌, IfSome};
+ghost use Rattle.std.specs.Prelude.{◌≡◌};
 ghost use Rattle.std.specs.Arc.{arc_value};
 
-use pg_cancel::{ConnectionHandle, ConnectionManager, Door};
+use pg_cancel::{ConnectionHandle, ConnectionManager};
 use pg_handlers::{NoRows, NoopHandler, PolledQuery, QueryState, SimpleQueryHandler, Turn};
 use pg_messages::{PgList, SecretKey};
 use pg_portal::{ClientInfo, MemPortalStore, PgWireError, Response};
@@ -12,6 +12,7 @@ use pg_serve::{HandleDesk, MemorySink, serve_connection};
 use pg_session::{
     EndKind, PgWireServerHandlers, ServeError, Sink, SinkError, Source, SourceFailed,
 };
+use sample_registry::Registry;
 use std::alloc::{AllocError, Global};
 use std::cell::Cell;
 use std::sync::{Arc, Wait};
@@ -236,48 +237,18 @@ impl<'f> Sink for NotingSink<'f> {
     }
 }
 
-/// The key of each registration.
-fn key(alloc: Global) -> Option<SecretKey> {
-    SecretKey::try_new(alloc, &[1, 2, 3, 4]).ok()
-}
-
-/// A registry that is shared, and its door.
-#[derive(Drop)]
-struct Registry {
-    manager: Arc<ConnectionManager>,
-    door: Door,
-    ghost issued: { door.issuer ≡ arc_value manager },
-}
-
-impl Registry {
-    fn new(alloc: Global) -> Option<Registry> {
-        let (manager, door) = ConnectionManager::new(alloc).ok()?;
-        let manager = Arc::new(alloc, manager).ok()?;
-        Some(Registry { manager, door })
-    }
-
-    /// The connection of a pid.
-    fn register<R: Wait>(&mut self, rt: &R, alloc: Global, pid: i32) -> Option<ConnectionHandle>
-        ensures manager { self.new.manager ≡ self.old.manager }
-        ensures issued { IfSome result (λ handle. handle.issuer ≡ arc_value self.old.manager) }
-    {
-        let key = key(alloc)?;
-        self.manager.register(rt, &mut self.door, pid, key).ok()
-    }
-
-    /// The connection of pid 8, which cancels.
-    fn canceler<R: Wait>(&mut self, rt: &R, alloc: Global) -> Option<Canceler>
-        ensures manager { self.new.manager ≡ self.old.manager }
-    {
-        let handle = self.register(rt, alloc, 8)?;
-        let key = key(alloc)?;
-        let manager = Arc::try_clone(&self.manager).ok()?;
-        Some(Canceler {
-            manager,
-            handle,
-            key,
-        })
-    }
+/// The connection of pid 8, which cancels.
+fn canceler<R: Wait>(rt: &R, registry: &mut Registry) -> Option<Canceler>
+    ensures manager { registry.new.manager ≡ registry.old.manager }
+{
+    let handle = registry.register(rt, 8)?;
+    let key = registry.key()?;
+    let manager = Arc::try_clone(&registry.manager).ok()?;
+    Some(Canceler {
+        manager,
+        handle,
+        key,
+    })
 }
 
 /// Serves a client through its connection, by any handlers.
@@ -351,8 +322,8 @@ fn is_heard<R: Wait + Copy>(
     registry: &mut Registry,
     moment: Moment,
 ) -> Option<bool> {
-    let mut handle = registry.register(&rt, alloc, 7)?;
-    let canceler = registry.canceler(&rt, alloc)?;
+    let mut handle = registry.register(&rt, 7)?;
+    let canceler = canceler(&rt, registry)?;
     let stage = Stage {
         rt,
         moment,

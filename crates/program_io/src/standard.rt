@@ -7,8 +7,7 @@ use std::io::{Input, Write};
 
 /// The standard input.
 pub fn standard_input<R: Input>(rt: &R) -> ReaderSource<R::Reader>
-    ensures reads { result.reads ≡ 0 }
-    ensures faults { result.faults ≡ 0 }
+    ensures unread { (result.reads ≡ 0) × (result.faults ≡ 0) }
 {
     ReaderSource {
         reader: rt.reader(),
@@ -19,8 +18,7 @@ pub fn standard_input<R: Input>(rt: &R) -> ReaderSource<R::Reader>
 
 /// A sink over a writer, such as the standard output or the error output.
 pub fn sink_over<W: Write>(writer: W) -> WriterSink<W>
-    ensures writer { result.writer ≡ writer }
-    ensures faults { result.faults ≡ 0 }
+    ensures { result ≡ record { writer = writer; faults = 0 } }
 {
     WriterSink { writer, faults: 0 }
 }

@@ -3,13 +3,14 @@
 ghost use Rattle.std.specs.Prelude.{◌≡◌};
 ghost use Rattle.std.specs.Arc.{arc_value};
 
-use crate::clients::{BEGUN, CANCELED, Registry, STARTUP};
+use crate::clients::{BEGUN, CANCELED, STARTUP};
 use conversation_runs::{Source, SourceFailed};
 use pg_cancel::{ConnectionHandle, ConnectionManager};
 use pg_client::EndKind;
 use pg_messages::{PgList, SecretKey};
 use pg_serve::MemorySink;
 use relation_server::{built_in_table, serve_relations};
+use sample_registry::Registry;
 use std::alloc::Global;
 use std::sync::{Arc, Wait};
 use std::thread;

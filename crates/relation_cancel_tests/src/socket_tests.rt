@@ -2,10 +2,11 @@
 
 ghost use Rattle.std.specs.Prelude.{◌≡◌};
 
-use crate::clients::{CANCELED, Registry, STARTUP, STARTUP_3_2, is_at_its_end, reads, sends};
+use crate::clients::{CANCELED, STARTUP, STARTUP_3_2, is_at_its_end, reads, sends, shared_over};
 use crate::relations::endless_table;
 use pg_serve::{Listening, RandomKeys, SocketAcceptor};
 use relation_server::{JobThreads, StartJob, ThreadSpawner, jobs_cross_threads, listen};
+use sample_registry::Registry;
 use std::alloc::{AllocError, Global};
 use std::io::Read;
 use std::net::{Net, SocketAddr, TcpListener, TcpStream};
@@ -138,22 +139,22 @@ fn are_canceled<R: Net<Stream = TcpStream> + Clock>(rt: &R, server: SocketAddr) 
     is_one_canceled(rt, server, true) && is_canceled
 }
 
-/// Whether all connections are taken in, over a relation whose query finds as many polls unready as
-/// there can be.
+/// Whether all connections to a listener are taken in, over a relation whose query finds as many
+/// polls unready as there can be.
 fn are_taken_in<R: Wait + Clock + RandomSource + Copy + Drop>(
     rt: R,
     registry: &mut Registry,
-    acceptor: &mut SocketAcceptor<Listening, R>,
+    listener: TcpListener,
     spawner: &mut ThreadSpawner<JobThreads>,
 ) -> Option<bool>
-    requires accepted { acceptor.old.accepted ≡ 0 }
     requires started { spawner.old.started ≡ 0 }
 {
     let table = endless_table(registry.alloc).ok()?;
-    let (manager, relations) = registry.shared(table)?;
+    let (manager, relations) = shared_over(registry, table)?;
+    let mut acceptor = SocketAcceptor::new(Listening::Tcp(listener), rt);
     let answer = listen(
         &rt,
-        acceptor,
+        &mut acceptor,
         spawner,
         &mut RandomKeys::new(registry.alloc, rt),
         manager,
@@ -174,19 +175,6 @@ fn are_free<R: Wait>(rt: &R, registry: &mut Registry) -> bool {
     are_so
 }
 
-/// Whether all connections to a listener are taken in.
-fn are_taken_in_at<R: Wait + Clock + RandomSource + Copy + Drop>(
-    rt: R,
-    registry: &mut Registry,
-    listener: TcpListener,
-    spawner: &mut ThreadSpawner<JobThreads>,
-) -> bool
-    requires started { spawner.old.started ≡ 0 }
-{
-    let mut acceptor = SocketAcceptor::new(Listening::Tcp(listener), rt);
-    are_taken_in(rt, registry, &mut acceptor, spawner) == Some(true)
-}
-
 /// The same at a new registry; and the jobs run to their ends, and then have ended their
 /// registrations.
 fn are_served<R: Wait + Clock + RandomSource + Copy + Drop>(
@@ -199,9 +187,9 @@ fn are_served<R: Wait + Clock + RandomSource + Copy + Drop>(
 {
     match Registry::new(alloc) {
         Some(mut registry) => {
-            let are_taken_in = are_taken_in_at(rt, &mut registry, listener, spawner);
+            let are_taken_in = are_taken_in(rt, &mut registry, listener, spawner);
             spawner.threads.finish(&rt);
-            are_taken_in && are_free(&rt, &mut registry)
+            are_taken_in == Some(true) && are_free(&rt, &mut registry)
         }
         None => false,
     }

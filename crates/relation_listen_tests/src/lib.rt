@@ -3,8 +3,6 @@
 #![tactic(auto)]
 
 #[cfg(test)]
-mod clients;
-#[cfg(test)]
 mod listening_tests;
 #[cfg(test)]
 mod spawner_tests;

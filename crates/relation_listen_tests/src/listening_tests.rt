@@ -2,11 +2,11 @@
 
 ghost use Rattle.std.specs.Prelude.{◌≡◌};
 
-use crate::clients::Registry;
 use conversation_runs::{Sink, SinkError, Source, SourceFailed};
 use pg_messages::{PgBytes, PgList, PgStr, SecretKey};
 use pg_serve::{AcceptFailed, Acceptor, KeySource, MemorySink, MemorySource, SpawnFailed, Spawner};
 use relation_server::{ConnectionJob, RelationTable, run_listen};
+use sample_registry::Registry;
 use std::alloc::{AllocError, Global};
 use std::sync::{Arc, Wait};
 

@@ -5,11 +5,11 @@ ghost use Rattle.std.specs.Arc.{arc_value};
 ghost use Rattle.many_clients.specs.Registrations.{IsFresh};
 ghost use Rattle.pg_streams.specs.Sockets.{reads_of};
 
-use crate::clients::Registry;
 use pg_cancel::ConnectionManager;
 use pg_messages::PgList;
 use pg_serve::{Counted, MaybeTls, Spawner};
 use relation_server::{ConnectionJob, JobThreads, RelationTable, ThreadSpawner, Tries};
+use sample_registry::Registry;
 use std::alloc::Global;
 use std::net::Net;
 use std::os::unix::net::UnixStream;

@@ -1,5 +1,5 @@
 -- What the program owes: what comes of each of its commands.
-use Rattle.std.specs.Prelude.{ℕ, ℤ, pos, List, [], ◌++◌, ◌∷◌, ◌≡◌, ◌<◌, ◌≤◌, ◌+◌, ◌^◌, ◌⊎◌, true, Option, Some, None, Result, Ok, Err, IfSome, length, codes, decimal}
+use Rattle.std.specs.Prelude.{ℕ, ℤ, pos, List, [], ◌++◌, ◌∷◌, ◌≡◌, ◌<◌, ◌≤◌, ◌+◌, ◌^◌, ◌⊎◌, true, Option, Some, None, Result, Ok, Err, IfSome, IfOk, IfErr, length, codes, decimal}
 use Rattle.pg_cancel.specs.declared.entries.Entry.{Entry}
 use Rattle.pg_cancel.specs.declared.entries.RegistryCall.TheVariants.{Register}
 use Rattle.pg_cancel.specs.declared.entries.RegistryAnswer.TheVariants.{Registered, Taken}
@@ -212,6 +212,14 @@ abbrev pub HasNoRelations : Outcome → Option (List ℕ) → Option (List ℕ) 
 HasNoRelations (File e) left new_left faults new_faults = IsFileCause e left new_left faults new_faults
 HasNoRelations (Conversation (Err NoMemory)) left new_left faults new_faults = (relations : List Relation) × IsToldBy left new_left relations
 HasNoRelations outcome left new_left faults new_faults = ⊥
+
+-- What came of reading relations that jobs share: they are those that the file told, or there are none. The count of the file's faults
+-- doesn't fall.
+pub record SharesRelations {A : Type 0} (relations_of : A → List Relation) (result : Result A Outcome) (left new_left : Option (List ℕ))
+    (faults new_faults : ℕ) : Type 0 where
+  pub ok : IfOk result (λ shared. IsToldBy left new_left (relations_of shared))
+  pub err : IfErr result (λ outcome. HasNoRelations outcome left new_left faults new_faults)
+  pub never_falls : faults ≤ new_faults
 
 -- What came of listening for `count` connections: the file was refused; or connections were taken in over its relations; or memory ran
 -- out before.

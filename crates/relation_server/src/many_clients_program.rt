@@ -1,8 +1,7 @@
 //! The program over many clients: its command `listen`.
 
-ghost use Rattle.std.specs.Prelude.{◌≡◌, [], ◌∷◌, ◌≤◌, ◌<◌, ◌^◌, IfErr, IfOk};
+ghost use Rattle.std.specs.Prelude.{◌≡◌, [], ◌∷◌};
 ghost use Rattle.std.specs.Arc.{arc_value};
-ghost use Rattle.relation_files.specs.Files.{IsToldBy};
 ghost use Rattle.relation_words.specs.Listening.{listen_count_of};
 ghost use Rattle.relation_server.specs.declared.outcome.Outcome.{Outcome};
 ghost use mathlib.Core.List.{IsPrefix};
@@ -10,8 +9,8 @@ ghost use Rattle.many_clients.specs.Listening.{taking_of};
 ghost use Rattle.relation_server.specs.Outcomes.{status_of, line_of};
 ghost use Rattle.status_lines.specs.Counts.{CountsNeverFall};
 ghost use Rattle.status_lines.specs.StatusLines.{IsReported};
-ghost use Rattle.relation_server.specs.RelationJobs.{ServesFile};
-ghost use Rattle.relation_server.specs.Program.{HasListened, HasNoRelations, HasRunListening, listen_surroundings, outcome_of};
+ghost use Rattle.relation_server.specs.RelationJobs.{HasRoom, ServesFile};
+ghost use Rattle.relation_server.specs.Program.{HasListened, HasRunListening, SharesRelations, listen_surroundings, outcome_of};
 
 use crate::accept_loop::listen;
 use crate::connection_job::ConnectionJob;
@@ -64,8 +63,7 @@ pub fn run_listen<
     err: &mut E,
 ) -> u8
     requires issued { door.old.issuer ≡ arc_value manager }
-    requires accepted { A.accepted acceptor.old < 2 ^ 63 }
-    requires started { P.started spawner.old < 2 ^ 63 }
+    requires room { HasRoom (A.accepted acceptor.old) (P.started spawner.old) }
     ensures ran { (outcome : Outcome) × HasRunListening (listen_count_of words.now) outcome
         (listen_surroundings (F.left file.old) (F.faults file.old)
         (taking_of A.accepted A.faults P.started P.faults acceptor.old spawner.old) door.old.seen)
@@ -113,8 +111,7 @@ fn listen_over<
     keys: &mut G,
 ) -> Outcome
     requires issued { door.old.issuer ≡ arc_value manager }
-    requires accepted { A.accepted acceptor.old < 2 ^ 63 }
-    requires started { P.started spawner.old < 2 ^ 63 }
+    requires room { HasRoom (A.accepted acceptor.old) (P.started spawner.old) }
     ensures listened { HasListened count result
         (listen_surroundings (F.left file.old) (F.faults file.old)
         (taking_of A.accepted A.faults P.started P.faults acceptor.old spawner.old) door.old.seen)
@@ -139,11 +136,8 @@ fn listen_over<
 
 /// Reads the relations of the file, for the jobs to share.
 fn shared_relations<F: Source>(alloc: Global, file: &mut F) -> Result<Arc<RelationTable>, Outcome>
-    ensures ok { IfOk result (λ relations. IsToldBy (F.left file.old) (F.left file.new)
-        (arc_value relations)) }
-    ensures err { IfErr result (λ outcome. HasNoRelations outcome (F.left file.old)
-        (F.left file.new) (F.faults file.old) (F.faults file.new)) }
-    ensures never_falls { F.faults file.old ≤ F.faults file.new }
+    ensures { SharesRelations arc_value result (F.left file.old) (F.left file.new)
+        (F.faults file.old) (F.faults file.new) }
 {
     let relations = match read_relations(alloc, file) {
         Err(error) => return Err(Outcome::File(error)),

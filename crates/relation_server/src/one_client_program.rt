@@ -1,7 +1,7 @@
 //! The program over one client: its commands `serve` and `demo`.
 
 ghost use Rattle.std.specs.Prelude.{◌≡◌, [], ◌∷◌, List, ℕ, Option};
-ghost use Rattle.pg_engine.specs.Serving.{FaultsNeverFall, counts_of};
+ghost use Rattle.pg_engine.specs.Serving.{counts_of};
 ghost use Rattle.relation_server.specs.Outcomes.{status_of, line_of};
 ghost use Rattle.status_lines.specs.Counts.{CountsNeverFall};
 ghost use Rattle.status_lines.specs.StatusLines.{IsReported};
@@ -155,8 +155,8 @@ fn serve_table<R: Wait, S: Source, K: Sink>(
         (counts_of S.reads S.faults K.faults client.old out.old) door.old.seen)
         (surroundings new_left new_faults (S.left client.new) (K.written out.new)
         (counts_of S.reads S.faults K.faults client.new out.new) door.new.seen) }
-    ensures never_falls { FaultsNeverFall (counts_of S.reads S.faults K.faults client.old out.old)
-        (counts_of S.reads S.faults K.faults client.new out.new) }
+    ensures never_falls { CountsNeverFall (S.faults client.old ∷ K.faults out.old ∷ [])
+        (S.faults client.new ∷ K.faults out.new ∷ []) }
     ensures issued { door.new.issuer ≡ door.old.issuer }
 {
     match manager.register(rt, door, service.pid, service.key) {

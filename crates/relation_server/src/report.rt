@@ -1,8 +1,7 @@
 //! What the program tells of a command's outcome: its status, and a line.
 
-ghost use Rattle.std.specs.Prelude.{◌≤◌};
 ghost use Rattle.relation_server.specs.Outcomes.{status_of, line_of};
-ghost use Rattle.status_lines.specs.StatusLines.{IsReported};
+ghost use Rattle.status_lines.specs.StatusLines.{Reports};
 
 use crate::outcome::Outcome;
 use conversation_runs::Sink;
@@ -16,10 +15,8 @@ const USAGE: &str =
 /// Writes the line of an outcome, where it has one, and answers its status, or 7 where there is no
 /// memory for the line or in the sink.
 pub(crate) fn report<E: Sink>(alloc: Global, outcome: &Outcome, err: &mut E) -> u8
-    ensures reported { IsReported (status_of outcome.now) (line_of outcome.now) result
-        (E.written err.old)
-        (E.written err.new) (E.faults err.old) (E.faults err.new) }
-    ensures never_falls { E.faults err.old ≤ E.faults err.new }
+    ensures { Reports (status_of outcome.now) (line_of outcome.now) result
+        (E.written err.old) (E.written err.new) (E.faults err.old) (E.faults err.new) }
 {
     match outcome {
         Outcome::Done => 0,

@@ -53,8 +53,7 @@ impl<T> ThreadSpawner<T> {
     /// A spawner that has started no job yet.
     pub fn new(threads: T, start: StartJob) -> ThreadSpawner<T>
         requires ready { IsAlwaysCallable start }
-        ensures started { result.started ≡ 0 }
-        ensures faults { result.faults ≡ 0 }
+        ensures unused { (result.started ≡ 0) × (result.faults ≡ 0) }
     {
         ThreadSpawner {
             threads,

@@ -1,14 +1,13 @@
-//! What clients send, and what they are answered; and a registry.
+//! What clients send, and what they are answered; and what their jobs share.
 
 ghost use Rattle.std.specs.Prelude.{◌≡◌, IfSome};
 ghost use Rattle.std.specs.Arc.{arc_value};
 
-use pg_cancel::{ConnectionHandle, ConnectionManager, Door};
-use pg_messages::SecretKey;
+use pg_cancel::ConnectionManager;
 use relation_server::RelationTable;
-use std::alloc::Global;
+use sample_registry::Registry;
 use std::io::{Read, Write};
-use std::sync::{Arc, Wait};
+use std::sync::Arc;
 
 /// A startup packet of 3.0; a statement, a portal and all rows of `shifts`, as binary; Sync; Terminate.
 pub(crate) const FIRST_PATH: &[u8] = b"\0\0\0\x13\0\x03\0\0user\0demo\0\0\
@@ -51,48 +50,14 @@ pub(crate) fn is_at_its_end<S: Read>(stream: &mut S) -> bool {
     matches!(stream.read(&mut [0u8; 1]), Ok(0))
 }
 
-/// A registry that is shared, and its door.
-#[derive(Drop)]
-pub(crate) struct Registry {
-    /// Where its keys take their memory.
-    pub(crate) alloc: Global,
-    /// The registry.
-    pub(crate) manager: Arc<ConnectionManager>,
-    /// Its door.
-    pub(crate) door: Door,
-    ghost issued: { door.issuer ≡ arc_value manager },
-}
-
-impl Registry {
-    /// A registry at which nobody is registered.
-    pub(crate) fn new(alloc: Global) -> Option<Registry> {
-        let (manager, door) = ConnectionManager::new(alloc).ok()?;
-        let manager = Arc::new(alloc, manager).ok()?;
-        Some(Registry {
-            alloc,
-            manager,
-            door,
-        })
-    }
-
-    /// The connection of a pid.
-    pub(crate) fn register<R: Wait>(&mut self, rt: &R, pid: i32) -> Option<ConnectionHandle>
-        ensures manager { self.new.manager ≡ self.old.manager }
-        ensures issued { IfSome result (λ handle. handle.issuer ≡ arc_value self.old.manager) }
-    {
-        let key = SecretKey::try_new(self.alloc, &[1, 2, 3, 4]).ok()?;
-        self.manager.register(rt, &mut self.door, pid, key).ok()
-    }
-
-    /// What jobs share: the registry, and these relations.
-    pub(crate) fn shared(
-        &self,
-        table: RelationTable,
-    ) -> Option<(Arc<ConnectionManager>, Arc<RelationTable>)>
-        ensures { IfSome result (λ both. arc_value both.0 ≡ arc_value self.now.manager) }
-    {
-        let relations = Arc::new(self.alloc, table).ok()?;
-        let manager = Arc::try_clone(&self.manager).ok()?;
-        Some((manager, relations))
-    }
+/// What jobs share: the registry, and these relations.
+pub(crate) fn shared_over(
+    registry: &Registry,
+    table: RelationTable,
+) -> Option<(Arc<ConnectionManager>, Arc<RelationTable>)>
+    ensures { IfSome result (λ both. arc_value both.0 ≡ arc_value registry.now.manager) }
+{
+    let relations = Arc::new(registry.alloc, table).ok()?;
+    let manager = Arc::try_clone(&registry.manager).ok()?;
+    Some((manager, relations))
 }

@@ -1,16 +1,13 @@
 //! The service of a connection as a value, over memory.
 
-ghost use Rattle.std.specs.Prelude.{◌≡◌, IfSome};
-ghost use Rattle.std.specs.Arc.{arc_value};
-
-use crate::clients::{FIRST_PATH, FIRST_REPLIES, Registry};
-use pg_cancel::ConnectionManager;
+use crate::clients::{FIRST_PATH, FIRST_REPLIES, shared_over};
 use pg_messages::{PgBytes, PgList};
 use pg_serve::{MemorySink, MemorySource};
 use pg_session::EndKind;
-use relation_server::{ConnectionJob, RelationTable, built_in_table};
+use relation_server::{ConnectionJob, built_in_table};
+use sample_registry::Registry;
 use std::alloc::Global;
-use std::sync::{Arc, Wait};
+use std::sync::Wait;
 
 /// A job over memory.
 type MemoryJob = ConnectionJob<MemorySource, MemorySink>;
@@ -22,18 +19,12 @@ fn client(alloc: Global) -> Option<MemorySource> {
     Some(MemorySource::new(bytes, pieces, fails))
 }
 
-/// What jobs share: the registry, and the sample relations.
-fn shared(registry: &Registry) -> Option<(Arc<ConnectionManager>, Arc<RelationTable>)>
-    ensures { IfSome result (λ both. arc_value both.0 ≡ arc_value registry.now.manager) }
-{
-    registry.shared(built_in_table(registry.alloc).ok()?)
-}
-
 /// The job of that client over the sample relations, under the pid 7, with 100 turns.
 fn first_path<R: Wait>(rt: &R, registry: &mut Registry) -> Option<MemoryJob> {
     let source = client(registry.alloc)?;
     let handle = registry.register(rt, 7)?;
-    let (manager, relations) = shared(registry)?;
+    let table = built_in_table(registry.alloc).ok()?;
+    let (manager, relations) = shared_over(registry, table)?;
     Some(ConnectionJob {
         manager,
         relations,

@@ -2,7 +2,7 @@
 
 ghost use Rattle.std.specs.Prelude.{◌≡◌};
 
-use crate::clients::{FIRST_PATH, FIRST_REPLIES, Registry, is_at_its_end, reads, sends};
+use crate::clients::{FIRST_PATH, FIRST_REPLIES, is_at_its_end, reads, sends};
 use pg_cancel::{ConnectionHandle, ConnectionManager};
 use pg_portal::MemPortalStore;
 use pg_serve::{
@@ -10,6 +10,7 @@ use pg_serve::{
 };
 use pg_session::{EndKind, NoopHandler, PgWireServerHandlers, ServeError};
 use relation_server::{RelationHandler, built_in_table};
+use sample_registry::Registry;
 use std::alloc::Global;
 use std::io::{Read, Write};
 use std::net::{TcpListener, TcpStream};

@@ -1,5 +1,5 @@
 -- A text that is on its way to a sink.
-use Rattle.std.proofs.Common.{◌≡◌, ℕ, List, [], ◌++◌, Option, Some, None, refl, sym, ap, subst, ◌∙◌, append_assoc, append-nil}
+use Rattle.std.proofs.Common.{◌≡◌, ◌≤◌, ℕ, arith, List, [], ◌++◌, Option, Some, None, refl, sym, ap, subst, ◌∙◌, append_assoc, append-nil}
 use Rattle.std.proofs.Common.{Result, Ok, Err, OnOk, IsErrOf}
 use Rattle.conversation_runs.specs.declared.streams.SinkError.{SinkError}
 use Rattle.conversation_runs.specs.declared.streams.SinkError.TheVariants.{Failed, NoMemory}
@@ -112,6 +112,11 @@ is_ok_with (Err e) p = tt
 
 -- the cause of an error, by what a sink ensures of it
 pub cause_of : (error : SinkError) (faults new_faults : ℕ) → (IsErrOf {T = Unit {0}} (Err error) Failed → HasRisen faults new_faults)
-    → (IsErrOf {T = Unit {0}} (Err error) NoMemory → new_faults ≡ faults) → IsSinkCause error faults new_faults
-cause_of Failed faults new_faults failed no_memory = failed refl
-cause_of NoMemory faults new_faults failed no_memory = no_memory refl
+    → (IsErrOf {T = Unit {0}} (Err error) NoMemory → new_faults ≡ faults) → faults ≤ new_faults → IsSinkCause error faults new_faults
+cause_of Failed faults new_faults failed no_memory never_falls = (failed refl, never_falls)
+cause_of NoMemory faults new_faults failed no_memory never_falls = no_memory refl
+
+-- the count of a sink's faults doesn't fall at an error
+pub never_falls_at : (error : SinkError) (faults new_faults : ℕ) → IsSinkCause error faults new_faults → faults ≤ new_faults
+never_falls_at Failed faults new_faults cause = cause.1
+never_falls_at NoMemory faults new_faults cause = omega arith

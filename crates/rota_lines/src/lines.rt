@@ -11,6 +11,15 @@ use rota_moments::Moment;
 use std::alloc::AllocError;
 use std::fmt::Write;
 
+/// What a line tells behind its label: a moment, and an interval in a style.
+#[derive(Clone, Copy)]
+pub(crate) struct Told {
+    pub(crate) moment: Moment,
+    pub(crate) interval: Interval,
+    pub(crate) style: IntervalStyle,
+    ghost valid: { IsMoment moment },
+}
+
 /// Puts the line of a step at the end of a text: its number, the moment that it starts from, and
 /// its interval in the style, split by tabs. After AllocError, which comes where memory ran out, a
 /// front of the line may stand there.
@@ -28,7 +37,12 @@ pub fn put_step(
     ensures stands { OnOk result (Stands (printed_style style) step.now) }
 {
     write!(text, "{number}")?;
-    put_rest(text, moment, step, style)
+    let told = Told {
+        moment: *moment,
+        interval: *step,
+        style,
+    };
+    put_rest(text, told)
 }
 
 /// Puts the last line of a rota: `end`, the last moment, and the total of the steps in the style,
@@ -46,26 +60,25 @@ pub fn put_end(
     ensures stands { OnOk result (Stands (printed_style style) total.now) }
 {
     text.push_str("end")?;
-    put_rest(text, moment, total, style)
+    let told = Told {
+        moment: *moment,
+        interval: *total,
+        style,
+    };
+    put_rest(text, told)
 }
 
 /// Puts what stands behind a line's label.
 #[tactic(auto, unfolding(crate::specs::Lines::line_rest))]
-fn put_rest(
-    text: &mut String,
-    moment: &Moment,
-    interval: &Interval,
-    style: IntervalStyle,
-) -> Result<(), AllocError>
-    requires { IsMoment moment.now }
+fn put_rest(text: &mut String, told: Told) -> Result<(), AllocError>
     ensures rest { OnOk result (string_bytes text.new
-        ≡ string_bytes text.old ++ line_rest (printed_style style) moment.now interval.now) }
-    ensures stands { OnOk result (Stands (printed_style style) interval.now) }
+        ≡ string_bytes text.old ++ line_rest (printed_style told.style) told.moment told.interval) }
+    ensures stands { OnOk result (Stands (printed_style told.style) told.interval) }
 {
     text.push('\t')?;
-    moment.put(text)?;
+    told.moment.put(text)?;
     text.push('\t')?;
-    let interval = style.text(interval);
+    let interval = told.style.text(&told.interval);
     text.push_str(interval.as_str())?;
     text.push('\n')
 }

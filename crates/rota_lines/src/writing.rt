@@ -6,7 +6,7 @@ ghost use Rattle.rota_moments.specs.Moments.{IsMoment};
 ghost use Rattle.rota_lines.specs.Lines.{line, clash_line, rota_text, clash_text, Stands};
 ghost use Rattle.rota_lines.specs.Writing.{IsOnItsWay, HasWritten, GoesOn};
 
-use crate::lines::{put_clash, put_end, put_step};
+use crate::lines::{Told, put_clash, put_end, put_step};
 use conversation_runs::{Sink, SinkError};
 use pg_interval::Interval;
 use pg_text::IntervalStyle;
@@ -32,16 +32,25 @@ pub(crate) fn write_rota<K: Sink>(
         (K.written sink.old) (K.written sink.new) (K.faults sink.old) (K.faults sink.new) }
     ensures stand { OnOk result (All (Stands (printed_style style)) steps.now) }
     ensures total_stands { OnOk result (Stands (printed_style style) total.now) }
-    ensures never_falls { K.faults sink.old ≤ K.faults sink.new }
 {
     let mut text = String::new(alloc);
     for (place, step) in steps.iter().enumerate() {
-        match write_step(&mut text, place as u64, &moments[place], step, style, sink) {
+        let told = Told {
+            moment: moments[place],
+            interval: *step,
+            style,
+        };
+        match write_step(&mut text, place as u64, told, sink) {
             Ok(()) => {}
             Err(error) => return Err(error),
         }
     }
-    write_end(&mut text, &moments[steps.len()], total, style, sink)
+    let told = Told {
+        moment: moments[steps.len()],
+        interval: *total,
+        style,
+    };
+    write_end(&mut text, told, sink)
 }
 
 /// Writes the lines of clashes, by pieces of some 64 KiB. Failed comes only where the sink's count
@@ -53,7 +62,6 @@ pub fn write_clashes<K: Sink>(
 ) -> Result<(), SinkError>
     ensures written { HasWritten result (clash_text pairs.now)
         (K.written sink.old) (K.written sink.new) (K.faults sink.old) (K.faults sink.new) }
-    ensures never_falls { K.faults sink.old ≤ K.faults sink.new }
 {
     let mut text = String::new(alloc);
     for pair in pairs {
@@ -69,41 +77,32 @@ pub fn write_clashes<K: Sink>(
 fn write_step<K: Sink>(
     text: &mut String,
     number: u64,
-    moment: &Moment,
-    step: &Interval,
-    style: IntervalStyle,
+    told: Told,
     sink: &mut K,
 ) -> Result<(), SinkError>
-    requires { IsMoment moment.now }
-    ensures on { GoesOn result (line (printed_style style) (decimal number) moment.now step.now)
+    ensures on { GoesOn result (line (printed_style told.style) (decimal number) told.moment
+        told.interval)
         (string_bytes text.old) (string_bytes text.new)
         (K.written sink.old) (K.written sink.new) (K.faults sink.old) (K.faults sink.new) }
-    ensures stands { OnOk result (Stands (printed_style style) step.now) }
-    ensures never_falls { K.faults sink.old ≤ K.faults sink.new }
+    ensures stands { OnOk result (Stands (printed_style told.style) told.interval) }
 {
-    match put_step(text, number, moment, step, style) {
+    match put_step(text, number, &told.moment, &told.interval, told.style) {
         Ok(()) => send_full(text, sink),
         Err(AllocError) => Err(SinkError::NoMemory),
     }
 }
 
 /// Puts the last line of a rota behind the text, and sends that.
-fn write_end<K: Sink>(
-    text: &mut String,
-    moment: &Moment,
-    total: &Interval,
-    style: IntervalStyle,
-    sink: &mut K,
-) -> Result<(), SinkError>
-    requires { IsMoment moment.now }
+fn write_end<K: Sink>(text: &mut String, told: Told, sink: &mut K) -> Result<(), SinkError>
     ensures written { (first : Option (List ℕ)) (whole : List ℕ)
         → IsOnItsWay first (K.written sink.old) whole (string_bytes text.old)
-        → HasWritten result (whole ++ line (printed_style style) (codes "end") moment.now total.now)
+        → HasWritten result (whole ++ line (printed_style told.style) (codes "end") told.moment
+        told.interval)
         first (K.written sink.new) (K.faults sink.old) (K.faults sink.new) }
-    ensures stands { OnOk result (Stands (printed_style style) total.now) }
+    ensures stands { OnOk result (Stands (printed_style told.style) told.interval) }
     ensures never_falls { K.faults sink.old ≤ K.faults sink.new }
 {
-    match put_end(text, moment, total, style) {
+    match put_end(text, &told.moment, &told.interval, told.style) {
         Ok(()) => write_rest(text, sink),
         Err(AllocError) => Err(SinkError::NoMemory),
     }
@@ -119,7 +118,6 @@ fn write_clash<K: Sink>(
     ensures on { GoesOn result (clash_line (first, second))
         (string_bytes text.old) (string_bytes text.new)
         (K.written sink.old) (K.written sink.new) (K.faults sink.old) (K.faults sink.new) }
-    ensures never_falls { K.faults sink.old ≤ K.faults sink.new }
 {
     match put_clash(text, first, second) {
         Ok(()) => send_full(text, sink),
@@ -132,7 +130,6 @@ fn send_full<K: Sink>(text: &mut String, sink: &mut K) -> Result<(), SinkError>
     ensures on { GoesOn result []
         (string_bytes text.old) (string_bytes text.new)
         (K.written sink.old) (K.written sink.new) (K.faults sink.old) (K.faults sink.new) }
-    ensures never_falls { K.faults sink.old ≤ K.faults sink.new }
 {
     if text.len() < FULL {
         return Ok(());

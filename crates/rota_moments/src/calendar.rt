@@ -1,9 +1,8 @@
 //! Days of the calendar, by the dates of `jiff`.
 
-ghost use Rattle.std.specs.Prelude.{◌≡◌, ◌≤◌, pos, IfOk, IfSome};
+ghost use Rattle.std.specs.Prelude.{◌≡◌, IfOk, IfSome};
 ghost use Rattle.std.specs.Option.{ok_or};
 ghost use Rattle.rota_moments.specs.Moments.{IsDay, day_if_any, after_days, after_months};
-ghost use Rattle.rota_moments.specs.Calendar.{date_of};
 ghost use Rattle.jiff.specs.Words.{epoch_day};
 
 use crate::moment::RangeError;
@@ -17,22 +16,11 @@ const MOST_MONTHS: u32 = 119_987;
 const MOST_DAYS: u32 = 3_652_058;
 
 /// The date of a day.
-fn date_at(day: i32) -> Date
+pub(crate) fn date_at(day: i32) -> Date
     requires { IsDay day }
     ensures { epoch_day result ≡ day }
 {
     Date::from_plain(jiff_core::civil::Date::from_unix_epoch_day(day as i64).unwrap())
-}
-
-/// The parts of a day's date.
-pub(crate) fn civil_at(day: i32) -> jiff_core::civil::Date
-    requires { IsDay day }
-    ensures year { result.year ≡ pos (date_of day).year }
-    ensures high { (date_of day).year ≤ 9999 }
-    ensures month { result.month ≡ (date_of day).month }
-    ensures day { result.day ≡ (date_of day).day }
-{
-    date_at(day).to_plain()
 }
 
 /// The day of a date, if it is one of the years 1 to 9999.

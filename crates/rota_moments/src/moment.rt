@@ -1,7 +1,6 @@
 //! Moments, and the moment after an interval.
 
 ghost use Rattle.std.specs.Prelude.{◌≡◌, IfOk, IfSome};
-ghost use Rattle.std.specs.Option.{ok_or};
 ghost use Rattle.rota_moments.specs.Moments.{IsMoment, moment, after_days_and_time, moment_after, moment_at, instant, after_time};
 
 use crate::calendar::{days_later, months_later};
@@ -58,18 +57,18 @@ fn days_and_time_later(
     ensures valid { IfOk result IsMoment }
 {
     let day = days_later(day, days)?;
-    time_later(Moment { day, micro }, microseconds)
+    time_later(Moment { day, micro }, microseconds).ok_or(RangeError::Time)
 }
 
-/// The moment `microseconds` microseconds later.
-fn time_later(start: Moment, microseconds: i64) -> Result<Moment, RangeError>
+/// The moment `microseconds` microseconds later, if its day is one of the years 1 to 9999.
+fn time_later(start: Moment, microseconds: i64) -> Option<Moment>
     requires { IsMoment start }
-    ensures value { result ≡ ok_or (after_time start microseconds) RangeError.Time }
-    ensures valid { IfOk result IsMoment }
+    ensures value { result ≡ after_time start microseconds }
+    ensures valid { IfSome result IsMoment }
 {
     match instant_of(start).checked_add(microseconds) {
-        Some(instant) => moment_at(instant).ok_or(RangeError::Time),
-        None => Err(RangeError::Time),
+        Some(instant) => moment_at(instant),
+        None => None,
     }
 }
 

@@ -3,10 +3,10 @@
 ghost use Rattle.std.specs.Prelude.{◌≡◌, ◌<◌, ◌+◌, ◌++◌, ◌∷◌, [], IfOk, OnOk, string_bytes};
 ghost use Rattle.pg_interval.specs.Printed.{last_digits};
 ghost use Rattle.rota_moments.specs.Calendar.{date_of};
-ghost use Rattle.rota_moments.specs.Moments.{IsDay, IsMoment};
+ghost use Rattle.rota_moments.specs.Moments.{IsMoment};
 ghost use Rattle.rota_moments.specs.Texts.{clock_of, date_text, clock_text, fraction_text, moment_text};
 
-use crate::calendar::civil_at;
+use crate::calendar::date_at;
 use crate::moment::Moment;
 use pg_messages::PgStr;
 use std::alloc::{AllocError, Global};
@@ -34,25 +34,25 @@ impl Moment {
         ensures { OnOk result (string_bytes text.new
             ≡ string_bytes text.old ++ moment_text self.now) }
     {
-        put_date(text, self.day)?;
+        self.put_date(text)?;
         text.push(' ')?;
         put_clock(text, self.micro)?;
         put_fraction(text, self.micro % SECOND_MICROS)
     }
-}
 
-/// Puts the date of a day: `YYYY-MM-DD`.
-fn put_date(text: &mut String, day: i32) -> Result<(), AllocError>
-    requires { IsDay day }
-    ensures { OnOk result (string_bytes text.new
-        ≡ string_bytes text.old ++ date_text (date_of day)) }
-{
-    let date = civil_at(day);
-    put_year(text, date.year as u64)?;
-    text.push('-')?;
-    put_two(text, u64::from(date.month))?;
-    text.push('-')?;
-    put_two(text, u64::from(date.day))
+    /// Puts its date: `YYYY-MM-DD`.
+    fn put_date(&self, text: &mut String) -> Result<(), AllocError>
+        requires { IsMoment self.now }
+        ensures { OnOk result (string_bytes text.new
+            ≡ string_bytes text.old ++ date_text (date_of self.now.day)) }
+    {
+        let date = date_at(self.day).to_plain();
+        put_year(text, date.year as u64)?;
+        text.push('-')?;
+        put_two(text, u64::from(date.month))?;
+        text.push('-')?;
+        put_two(text, u64::from(date.day))
+    }
 }
 
 /// Puts the time of day, to the second: `HH:MM:SS`.

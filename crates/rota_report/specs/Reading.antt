@@ -1,5 +1,5 @@
 -- What comes of reading the columns that rotas name. No public contract cites it.
-use Rattle.std.specs.Prelude.{ℕ, ◌≡◌, ◌⊎◌, List, Option, Some, None, Result, Ok, Err}
+use Rattle.std.specs.Prelude.{ℕ, ◌≡◌, ◌≤◌, ◌<◌, ◌+◌, ◌^◌, ◌⊎◌, IfOk, length, List, Option, Some, None, Result, Ok, Err}
 use Rattle.pg_interval.specs.declared.pg_interval.Interval.{Interval}
 use Rattle.relation_files.specs.Files.{IsToldBy, IsFileCause}
 use Rattle.relation_tables.specs.declared.Relation.{Relation}
@@ -28,3 +28,16 @@ HasReadColumns n m (Err NoColumn) left new_left faults new_faults =
     Tells left new_left (λ relations. (steps_of relations n ≡ None) ⊎ (steps_of relations m ≡ None))
 HasReadColumns n m (Err NoMemory) left new_left faults new_faults = Tells left new_left (λ _. Unit {0})
 HasReadColumns n m (Err failure) left new_left faults new_faults = ⊥
+
+-- The same of one column, where the count of the file's faults doesn't fall.
+pub record ReadsColumn (n : Named) (result : Result (List Interval) Failure) (left new_left : Option (List ℕ)) (faults new_faults : ℕ) : Type 0 where
+  pub read : HasReadColumn n result left new_left faults new_faults
+  pub never_falls : faults ≤ new_faults
+
+-- The same of two columns, each of which has fewer than 2^32 - 1 intervals.
+pub record ReadsColumns (n m : Named) (result : Result (List Interval × List Interval) Failure) (left new_left : Option (List ℕ))
+    (faults new_faults : ℕ) : Type 0 where
+  pub read : HasReadColumns n m result left new_left faults new_faults
+  pub few : IfOk result (λ columns. length columns.0 + 1 < 2 ^ 32)
+  pub others_few : IfOk result (λ columns. length columns.1 + 1 < 2 ^ 32)
+  pub never_falls : faults ≤ new_faults

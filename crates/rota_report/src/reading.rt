@@ -1,8 +1,7 @@
 //! The columns of a relation file.
 
-ghost use Rattle.std.specs.Prelude.{◌≤◌, ◌<◌, ◌+◌, ◌^◌, IfOk, length};
 ghost use Rattle.rota_words.specs.Orders.{told_words};
-ghost use Rattle.rota_report.specs.Reading.{HasReadColumn, HasReadColumns};
+ghost use Rattle.rota_report.specs.Reading.{ReadsColumn, ReadsColumns};
 
 use crate::columns::named_column;
 use crate::failure::Failure;
@@ -19,9 +18,8 @@ pub(crate) fn read_column<F: Source>(
     file: &mut F,
     rota: RotaWords<'_>,
 ) -> Result<PgList<Interval>, Failure>
-    ensures read { HasReadColumn (told_words rota.entry) result (F.left file.old) (F.left file.new)
+    ensures { ReadsColumn (told_words rota.entry) result (F.left file.old) (F.left file.new)
         (F.faults file.old) (F.faults file.new) }
-    ensures never_falls { F.faults file.old ≤ F.faults file.new }
 {
     let relations = read_relations(alloc, file)?;
     named_column(alloc, &relations, rota.relation, rota.column)
@@ -34,11 +32,8 @@ pub(crate) fn read_columns<F: Source>(
     first: RotaWords<'_>,
     second: RotaWords<'_>,
 ) -> Result<(PgList<Interval>, PgList<Interval>), Failure>
-    ensures read { HasReadColumns (told_words first.entry) (told_words second.entry) result
+    ensures { ReadsColumns (told_words first.entry) (told_words second.entry) result
         (F.left file.old) (F.left file.new) (F.faults file.old) (F.faults file.new) }
-    ensures few { IfOk result (λ columns. length columns.0 + 1 < 2 ^ 32) }
-    ensures others_few { IfOk result (λ columns. length columns.1 + 1 < 2 ^ 32) }
-    ensures never_falls { F.faults file.old ≤ F.faults file.new }
 {
     let relations = read_relations(alloc, file)?;
     let steps = named_column(alloc, &relations, first.relation, first.column)?;

@@ -94,7 +94,7 @@ fn list<F: Source, K: Sink>(
         (F.faults file.new ∷ K.faults out.new ∷ []) }
 {
     match read_column(alloc, file, rota) {
-        Ok(steps) => write_report(alloc, rota.start, steps.as_slice(), style, out),
+        Ok(steps) => write_report(alloc, rota, steps.as_slice(), style, out),
         Err(failure) => Err(failure),
     }
 }

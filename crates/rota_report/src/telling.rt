@@ -1,7 +1,6 @@
 //! What the program tells of an order: its status, and a line.
 
-ghost use Rattle.std.specs.Prelude.{◌≤◌};
-ghost use Rattle.status_lines.specs.StatusLines.{IsReported};
+ghost use Rattle.status_lines.specs.StatusLines.{Reports};
 ghost use Rattle.rota_report.specs.Statuses.{status_of, line_of};
 
 use crate::failure::Failure;
@@ -16,9 +15,8 @@ const USAGE: &str =
 /// Writes the line of an order's answer, where it has one, and answers its status, or 7 where there
 /// is no memory for the line or in the sink.
 pub(crate) fn tell<E: Sink>(alloc: Global, answer: &Result<(), Failure>, err: &mut E) -> u8
-    ensures reported { IsReported (status_of answer.now) (line_of answer.now) result
+    ensures { Reports (status_of answer.now) (line_of answer.now) result
         (E.written err.old) (E.written err.new) (E.faults err.old) (E.faults err.new) }
-    ensures never_falls { E.faults err.old ≤ E.faults err.new }
 {
     match answer {
         Ok(()) => 0,

@@ -1,5 +1,5 @@
 -- How programs report an outcome: by a status, and by a line on their error output where there is one.
-use Rattle.std.specs.Prelude.{ℕ, List, [], ◌++◌, ◌∷◌, ◌≡◌, ◌≢◌, ◌⊎◌, Option, Result, Ok, Err, codes, decimal}
+use Rattle.std.specs.Prelude.{ℕ, List, [], ◌++◌, ◌∷◌, ◌≡◌, ◌≢◌, ◌≤◌, ◌⊎◌, Option, Result, Ok, Err, codes, decimal}
 use Rattle.pg_client.specs.declared.ends.EndKind.{EndKind}
 use Rattle.pg_client.specs.declared.ends.EndKind.TheVariants.{Terminate, InputEnd, BadFrame, Fatal, CancelServed}
 use Rattle.conversation_runs.specs.declared.ends.ServeError.{ServeError}
@@ -73,3 +73,8 @@ abbrev pub IsReported : ℕ → List ℕ → ℕ → Option (List ℕ) → Optio
 IsReported status text ended old new faults new_faults =
     (((ended ≡ status) × GrowsBy old new text) ⊎ ((ended ≡ status) × GrowsByFront old new text × HasRisen faults new_faults))
     ⊎ ((ended ≡ 7) × (text ≢ []) × GrowsByFront old new text × (new_faults ≡ faults))
+
+-- A line of an error was written, and this status answered, as above. The count of faults doesn't fall.
+pub record Reports (status : ℕ) (text : List ℕ) (ended : ℕ) (old new : Option (List ℕ)) (faults new_faults : ℕ) : Type 0 where
+  pub reported : IsReported status text ended old new faults new_faults
+  pub never_falls : faults ≤ new_faults

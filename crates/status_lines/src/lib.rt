@@ -1,8 +1,8 @@
 //! How programs report an outcome: by a status, and by a line on their error output.
 #![tactic(auto)]
 
-ghost use Rattle.std.specs.Prelude.{◌≡◌, ◌≢◌, ◌≤◌, [], string_bytes, IfOk};
-ghost use Rattle.status_lines.specs.StatusLines.{status_of_conversation, status_of_file, line_of_conversation, line_of_file, bad_line, reason_text, IsReported};
+ghost use Rattle.std.specs.Prelude.{◌≡◌, ◌≢◌, [], string_bytes, IfOk};
+ghost use Rattle.status_lines.specs.StatusLines.{status_of_conversation, status_of_file, line_of_conversation, line_of_file, bad_line, reason_text, Reports};
 
 use conversation_runs::{ServeError, Sink, SinkError};
 use pg_client::EndKind;
@@ -16,10 +16,8 @@ pub const OUT_OF_MEMORY: u8 = 7;
 /// too long or a line of it is bad, 9 where a read failed, 7 where memory ran out, also for the
 /// line or in the sink.
 pub fn report_file<E: Sink>(alloc: Global, error: &FileError, err: &mut E) -> u8
-    ensures reported { IsReported (status_of_file error.now) (line_of_file error.now) result
-        (E.written err.old)
-        (E.written err.new) (E.faults err.old) (E.faults err.new) }
-    ensures never_falls { E.faults err.old ≤ E.faults err.new }
+    ensures { Reports (status_of_file error.now) (line_of_file error.now) result
+        (E.written err.old) (E.written err.new) (E.faults err.old) (E.faults err.new) }
 {
     match error {
         FileError::BadLine(number, reason) => match bad_line(alloc, *number, reason) {
@@ -59,10 +57,8 @@ fn reason_text(reason: &LineReason) -> &'static str
 /// good end, 10 at a bad frame, 11 at a fatal error, 4, 5 and 6 where a read failed, a write failed
 /// or the turns were spent, 7 where memory ran out, also in the sink.
 pub fn report_conversation<E: Sink>(answer: Result<EndKind, ServeError>, err: &mut E) -> u8
-    ensures reported { IsReported (status_of_conversation answer) (line_of_conversation answer)
-        result (E.written err.old)
-        (E.written err.new) (E.faults err.old) (E.faults err.new) }
-    ensures never_falls { E.faults err.old ≤ E.faults err.new }
+    ensures { Reports (status_of_conversation answer) (line_of_conversation answer) result
+        (E.written err.old) (E.written err.new) (E.faults err.old) (E.faults err.new) }
 {
     match answer {
         Ok(EndKind::Terminate) | Ok(EndKind::InputEnd) | Ok(EndKind::CancelServed) => 0,
@@ -79,9 +75,8 @@ pub fn report_conversation<E: Sink>(answer: Result<EndKind, ServeError>, err: &m
 /// failed, a front of the line was written, and the status is the same.
 pub fn write_line<E: Sink>(status: u8, line: &str, err: &mut E) -> u8
     requires { line.now ≢ [] }
-    ensures reported { IsReported status line.now result (E.written err.old) (E.written err.new)
+    ensures { Reports status line.now result (E.written err.old) (E.written err.new)
         (E.faults err.old) (E.faults err.new) }
-    ensures never_falls { E.faults err.old ≤ E.faults err.new }
 {
     match err.send(line.as_bytes()) {
         Ok(()) | Err(SinkError::Failed) => status,

@@ -72,19 +72,7 @@ fn put_rota<'t>(alloc: Global, answer: &mut String, given: &'t str) -> Result<()
     let (start, steps) = next_part(given)?;
     let start = moment(start)?;
     let steps = intervals(alloc, steps)?;
-    put_rota_of(alloc, answer, start, steps.as_slice())
-}
-
-/// Puts the moments of a rota, or the first step that is refused.
-fn put_rota_of<'t>(
-    alloc: Global,
-    answer: &mut String,
-    start: Moment,
-    steps: &[Interval],
-) -> Result<(), Fault<'t>>
-    requires { IsMoment start }
-{
-    match rota(alloc, start, steps) {
+    match rota(alloc, start, steps.as_slice()) {
         Ok(moments) => Ok(put_moments(answer, moments.as_slice())?),
         Err(RotaError::OutOfRange(place, reason)) => {
             let word = reason_text(reason);
@@ -138,28 +126,31 @@ fn lines_of<'t>(alloc: Global, given: &'t str) -> Result<Option<String>, Fault<'
     let start = moment(start)?;
     let style = style_of(alloc, style)?;
     let steps = intervals(alloc, steps)?;
-    Ok(rota_lines(alloc, start, steps.as_slice(), style)?)
+    match rota(alloc, start, steps.as_slice()) {
+        Ok(moments) => Ok(rota_lines(alloc, steps.as_slice(), moments.as_slice(), style)?),
+        Err(_) => Ok(None),
+    }
 }
 
-/// The lines of a rota, and its end's; None where it is refused.
+/// The lines of a rota of these steps and moments, and its end's; None where there is no total.
 fn rota_lines(
     alloc: Global,
-    start: Moment,
     steps: &[Interval],
+    moments: &[Moment],
     style: IntervalStyle,
 ) -> Result<Option<String>, AllocError>
-    requires { IsMoment start }
+    requires { All IsMoment moments.now }
 {
-    let Ok(moments) = rota(alloc, start, steps) else {
+    let Ok(sum) = total(steps) else {
         return Ok(None);
     };
-    let mut text = String::new(alloc);
-    put_steps(&mut text, steps, moments.as_slice(), style)?;
-    if put_last(&mut text, steps, moments.as_slice(), style)? {
-        Ok(Some(text))
-    } else {
-        Ok(None)
+    if moments.is_empty() {
+        return Ok(None);
     }
+    let mut text = String::new(alloc);
+    put_steps(&mut text, steps, moments, style)?;
+    put_end(&mut text, &moments[moments.len() - 1], &sum, style)?;
+    Ok(Some(text))
 }
 
 /// Puts the lines of these steps.
@@ -177,25 +168,6 @@ fn put_steps(
         }
     }
     Ok(())
-}
-
-/// Puts the line of the end, with the last moment and the total; false where there is none.
-fn put_last(
-    text: &mut String,
-    steps: &[Interval],
-    moments: &[Moment],
-    style: IntervalStyle,
-) -> Result<bool, AllocError>
-    requires { All IsMoment moments.now }
-{
-    let Ok(sum) = total(steps) else {
-        return Ok(false);
-    };
-    if moments.is_empty() {
-        return Ok(false);
-    }
-    put_end(text, &moments[moments.len() - 1], &sum, style)?;
-    Ok(true)
 }
 
 /// Puts a text with `\t` and `\n` for tabs and line ends.

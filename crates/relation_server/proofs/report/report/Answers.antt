@@ -1,5 +1,5 @@
 -- Each return is what `write_line`, `report_file` or `report_conversation` promised, at the outcome of its arm.
-use Rattle.std.proofs.Common.{◌≡◌, ◌≢◌, ◌∷◌, ℕ, List, [], Option, Some, None, inl, refl, sym, ap, subst}
+use Rattle.std.proofs.Common.{◌≡◌, ◌≢◌, ◌∷◌, ℕ, List, [], Option, Some, None, inl, refl, sym, ap, subst, arith}
 use Rattle.std.proofs.lemmas.List.{append-nil}
 use Rattle.status_lines.specs.StatusLines.{IsReported}
 use Rattle.relation_server.specs.declared.outcome.Outcome.{Outcome}
@@ -23,11 +23,13 @@ nothing_told status (Some before) faults = inl (inl (refl, ap Some (sym (append-
 no_empty_line : (byte : ℕ) (rest : List ℕ) → byte ∷ rest ≢ []
 no_empty_line byte rest = λ e. cc
 
-pub returns-in-Done-clause-reported : goal.returns-in-Done-clause-reported
-returns-in-Done-clause-reported g c =
-    told_at Done c.args.outcome.now 0 (g.E.Sink.written c.args.err.now) (g.E.Sink.written c.args.err.now)
-    (g.E.Sink.faults c.args.err.now) (g.E.Sink.faults c.args.err.now) c.in-Done.is
-    (nothing_told 0 (g.E.Sink.written c.args.err.now) (g.E.Sink.faults c.args.err.now))
+pub returns-in-Done : goal.returns-in-Done
+returns-in-Done g c = record {
+  reported = told_at Done c.args.outcome.now 0 (g.E.Sink.written c.args.err.now) (g.E.Sink.written c.args.err.now)
+      (g.E.Sink.faults c.args.err.now) (g.E.Sink.faults c.args.err.now) c.in-Done.is
+      (nothing_told 0 (g.E.Sink.written c.args.err.now) (g.E.Sink.faults c.args.err.now));
+  never_falls = omega arith;
+}
 
 pub returns-in-Usage : goal.returns-in-Usage
 returns-in-Usage g c =

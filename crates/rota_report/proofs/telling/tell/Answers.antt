@@ -1,5 +1,5 @@
 -- An answer is told as what it is, and each line has a first byte.
-use Rattle.std.proofs.Common.{◌≡◌, ◌≢◌, ◌∙◌, ℕ, List, [], ◌∷◌, Option, Some, None, Result, Ok, Err, inl, refl, sym, ap, subst, append-nil}
+use Rattle.std.proofs.Common.{◌≡◌, ◌≢◌, ◌∙◌, ℕ, List, [], ◌∷◌, Option, Some, None, Result, Ok, Err, inl, refl, sym, ap, subst, append-nil, arith}
 use Rattle.conversation_runs.specs.Streams.{GrowsBy}
 use Rattle.status_lines.specs.StatusLines.{IsReported}
 use Rattle.rota_report.specs.declared.failure.Failure.{Failure}
@@ -21,75 +21,99 @@ nothing_more (Some written) = ap Some (sym (append-nil written))
 some_byte : (byte : ℕ) (bytes : List ℕ) → byte ∷ bytes ≢ []
 some_byte byte bytes e = cc
 
-pub returns-in-Ok-clause-reported : goal.returns-in-Ok-clause-reported
-returns-in-Ok-clause-reported g c =
+pub returns-in-Ok : goal.returns-in-Ok
+returns-in-Ok g c =
     let old = g.E.Sink.written c.args.err.now in
     let faults = g.E.Sink.faults c.args.err.now in
-    told c.args.answer.now (Ok c.in-Ok.field-0) 0 old old faults faults c.in-Ok.is (inl (inl (refl, nothing_more old)))
+    record {
+      reported = told c.args.answer.now (Ok c.in-Ok.field-0) 0 old old faults faults c.in-Ok.is (inl (inl (refl, nothing_more old)));
+      never_falls = omega arith;
+    }
 
 pub write_line-requires : goal.write_line-requires
 write_line-requires g c = some_byte _ _
 
-pub returns-in-Err-Usage-clause-reported : goal.returns-in-Err-Usage-clause-reported
-returns-in-Err-Usage-clause-reported g c =
+pub returns-in-Err-Usage : goal.returns-in-Err-Usage
+returns-in-Err-Usage g c =
     let call = c.write_line in
-    told c.args.answer.now (Err Usage) call.result (g.E.Sink.written c.args.err.now) (g.E.Sink.written call.new.err)
-    (g.E.Sink.faults c.args.err.now) (g.E.Sink.faults call.new.err) (c.in-Err-Usage.is ∙ ap Err (rw c.in-Err-Usage.is at c.in-Err-Usage.field-0-is))
-    call.ensures.reported
+    record {
+      reported = told c.args.answer.now (Err Usage) call.result (g.E.Sink.written c.args.err.now) (g.E.Sink.written call.new.err)
+          (g.E.Sink.faults c.args.err.now) (g.E.Sink.faults call.new.err) (c.in-Err-Usage.is ∙ ap Err (rw c.in-Err-Usage.is at c.in-Err-Usage.field-0-is))
+          call.ensures.reported;
+      never_falls = call.ensures.never_falls;
+    }
 
-pub returns-in-Err-File-clause-reported : goal.returns-in-Err-File-clause-reported
-returns-in-Err-File-clause-reported g c =
+pub returns-in-Err-File : goal.returns-in-Err-File
+returns-in-Err-File g c =
     let call = c.report_file in
-    told c.args.answer.now (Err (File c.in-Err-File.error)) call.result (g.E.Sink.written c.args.err.now) (g.E.Sink.written call.new.err)
-    (g.E.Sink.faults c.args.err.now) (g.E.Sink.faults call.new.err) (c.in-Err-File.is ∙ ap Err (rw c.in-Err-File.is at c.in-Err-File.field-0-is))
-    call.ensures.reported
+    record {
+      reported = told c.args.answer.now (Err (File c.in-Err-File.error)) call.result (g.E.Sink.written c.args.err.now) (g.E.Sink.written call.new.err)
+          (g.E.Sink.faults c.args.err.now) (g.E.Sink.faults call.new.err) (c.in-Err-File.is ∙ ap Err (rw c.in-Err-File.is at c.in-Err-File.field-0-is))
+          call.ensures.reported;
+      never_falls = call.ensures.never_falls;
+    }
 
 pub write_line-requires-in-Err-NoColumn : goal.write_line-requires-in-Err-NoColumn
 write_line-requires-in-Err-NoColumn g c = some_byte _ _
 
-pub returns-in-Err-NoColumn-clause-reported : goal.returns-in-Err-NoColumn-clause-reported
-returns-in-Err-NoColumn-clause-reported g c =
+pub returns-in-Err-NoColumn : goal.returns-in-Err-NoColumn
+returns-in-Err-NoColumn g c =
     let call = c.write_line-in-Err-NoColumn in
-    told c.args.answer.now (Err NoColumn) call.result (g.E.Sink.written c.args.err.now) (g.E.Sink.written call.new.err)
-    (g.E.Sink.faults c.args.err.now) (g.E.Sink.faults call.new.err) (c.in-Err-NoColumn.is ∙ ap Err (rw c.in-Err-NoColumn.is at c.in-Err-NoColumn.field-0-is))
-    call.ensures.reported
+    record {
+      reported = told c.args.answer.now (Err NoColumn) call.result (g.E.Sink.written c.args.err.now) (g.E.Sink.written call.new.err)
+          (g.E.Sink.faults c.args.err.now) (g.E.Sink.faults call.new.err) (c.in-Err-NoColumn.is ∙ ap Err (rw c.in-Err-NoColumn.is at c.in-Err-NoColumn.field-0-is))
+          call.ensures.reported;
+      never_falls = call.ensures.never_falls;
+    }
 
 pub write_line-requires-in-Err-OutOfRange : goal.write_line-requires-in-Err-OutOfRange
 write_line-requires-in-Err-OutOfRange g c = some_byte _ _
 
-pub returns-in-Err-OutOfRange-clause-reported : goal.returns-in-Err-OutOfRange-clause-reported
-returns-in-Err-OutOfRange-clause-reported g c =
+pub returns-in-Err-OutOfRange : goal.returns-in-Err-OutOfRange
+returns-in-Err-OutOfRange g c =
     let call = c.write_line-in-Err-OutOfRange in
-    told c.args.answer.now (Err OutOfRange) call.result (g.E.Sink.written c.args.err.now) (g.E.Sink.written call.new.err)
-    (g.E.Sink.faults c.args.err.now) (g.E.Sink.faults call.new.err) (c.in-Err-OutOfRange.is ∙ ap Err (rw c.in-Err-OutOfRange.is at c.in-Err-OutOfRange.field-0-is))
-    call.ensures.reported
+    record {
+      reported = told c.args.answer.now (Err OutOfRange) call.result (g.E.Sink.written c.args.err.now) (g.E.Sink.written call.new.err)
+          (g.E.Sink.faults c.args.err.now) (g.E.Sink.faults call.new.err) (c.in-Err-OutOfRange.is ∙ ap Err (rw c.in-Err-OutOfRange.is at c.in-Err-OutOfRange.field-0-is))
+          call.ensures.reported;
+      never_falls = call.ensures.never_falls;
+    }
 
 pub write_line-requires-in-Err-TotalOverflow : goal.write_line-requires-in-Err-TotalOverflow
 write_line-requires-in-Err-TotalOverflow g c = some_byte _ _
 
-pub returns-in-Err-TotalOverflow-clause-reported : goal.returns-in-Err-TotalOverflow-clause-reported
-returns-in-Err-TotalOverflow-clause-reported g c =
+pub returns-in-Err-TotalOverflow : goal.returns-in-Err-TotalOverflow
+returns-in-Err-TotalOverflow g c =
     let call = c.write_line-in-Err-TotalOverflow in
-    told c.args.answer.now (Err TotalOverflow) call.result (g.E.Sink.written c.args.err.now) (g.E.Sink.written call.new.err)
-    (g.E.Sink.faults c.args.err.now) (g.E.Sink.faults call.new.err) (c.in-Err-TotalOverflow.is ∙ ap Err (rw c.in-Err-TotalOverflow.is at c.in-Err-TotalOverflow.field-0-is))
-    call.ensures.reported
+    record {
+      reported = told c.args.answer.now (Err TotalOverflow) call.result (g.E.Sink.written c.args.err.now) (g.E.Sink.written call.new.err)
+          (g.E.Sink.faults c.args.err.now) (g.E.Sink.faults call.new.err) (c.in-Err-TotalOverflow.is ∙ ap Err (rw c.in-Err-TotalOverflow.is at c.in-Err-TotalOverflow.field-0-is))
+          call.ensures.reported;
+      never_falls = call.ensures.never_falls;
+    }
 
 pub write_line-requires-in-Err-WriteFault : goal.write_line-requires-in-Err-WriteFault
 write_line-requires-in-Err-WriteFault g c = some_byte _ _
 
-pub returns-in-Err-WriteFault-clause-reported : goal.returns-in-Err-WriteFault-clause-reported
-returns-in-Err-WriteFault-clause-reported g c =
+pub returns-in-Err-WriteFault : goal.returns-in-Err-WriteFault
+returns-in-Err-WriteFault g c =
     let call = c.write_line-in-Err-WriteFault in
-    told c.args.answer.now (Err WriteFault) call.result (g.E.Sink.written c.args.err.now) (g.E.Sink.written call.new.err)
-    (g.E.Sink.faults c.args.err.now) (g.E.Sink.faults call.new.err) (c.in-Err-WriteFault.is ∙ ap Err (rw c.in-Err-WriteFault.is at c.in-Err-WriteFault.field-0-is))
-    call.ensures.reported
+    record {
+      reported = told c.args.answer.now (Err WriteFault) call.result (g.E.Sink.written c.args.err.now) (g.E.Sink.written call.new.err)
+          (g.E.Sink.faults c.args.err.now) (g.E.Sink.faults call.new.err) (c.in-Err-WriteFault.is ∙ ap Err (rw c.in-Err-WriteFault.is at c.in-Err-WriteFault.field-0-is))
+          call.ensures.reported;
+      never_falls = call.ensures.never_falls;
+    }
 
 pub write_line-requires-in-Err-NoMemory : goal.write_line-requires-in-Err-NoMemory
 write_line-requires-in-Err-NoMemory g c = some_byte _ _
 
-pub returns-in-Err-NoMemory-clause-reported : goal.returns-in-Err-NoMemory-clause-reported
-returns-in-Err-NoMemory-clause-reported g c =
+pub returns-in-Err-NoMemory : goal.returns-in-Err-NoMemory
+returns-in-Err-NoMemory g c =
     let call = c.write_line-in-Err-NoMemory in
-    told c.args.answer.now (Err NoMemory) call.result (g.E.Sink.written c.args.err.now) (g.E.Sink.written call.new.err)
-    (g.E.Sink.faults c.args.err.now) (g.E.Sink.faults call.new.err) (c.in-Err-NoMemory.is ∙ ap Err (rw c.in-Err-NoMemory.is at c.in-Err-NoMemory.field-0-is))
-    call.ensures.reported
+    record {
+      reported = told c.args.answer.now (Err NoMemory) call.result (g.E.Sink.written c.args.err.now) (g.E.Sink.written call.new.err)
+          (g.E.Sink.faults c.args.err.now) (g.E.Sink.faults call.new.err) (c.in-Err-NoMemory.is ∙ ap Err (rw c.in-Err-NoMemory.is at c.in-Err-NoMemory.field-0-is))
+          call.ensures.reported;
+      never_falls = call.ensures.never_falls;
+    }

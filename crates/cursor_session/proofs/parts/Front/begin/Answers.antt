@@ -29,7 +29,7 @@ pass-requires-clause-begun g c =
     c.owed_by-owed.ensures ∙ ap (λ b. told_len b bytes - length bytes) (c.awaits_startup.ensures ∙ ap is_startup_phase st) in
     let plain = subst (λ p. BeginsNoCommand p bytes) st
     (if_none c.in_ok-command.field-0 c.in-None.is c.in_ok-command.ensures.none) in
-    subst (λ r. IsBegun now (r ++ bytes) c.owed_by-owed.result) (sym c.requires.none)
+    subst (λ r. IsBegun now (r ++ bytes) c.owed_by-owed.result) (sym c.requires.between.none)
     (begins_so now bytes c.owed_by-owed.result c.requires.header c.requires.fits
     (owed_so (told_len (is_startup_phase now) bytes) (length bytes) c.owed_by-owed.result owed) plain)
 

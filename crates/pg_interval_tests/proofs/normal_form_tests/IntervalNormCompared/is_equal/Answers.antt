@@ -2,7 +2,7 @@ use Rattle.std.proofs.Common.{◌≡◌, ◌∙◌, ◌&&◌, ℤ, Bool, true, f
 use Rattle.std.specs.Ordering.{int_eq}
 use Rattle.std.proofs.lemmas.Bool.Decides.{Decides-int_eq}
 use Rattle.pg_interval.specs.declared.interval_norm.IntervalNorm.{IntervalNorm}
-use Rattle.pg_interval_tests.proofs.normal_form_tests.is_equal.Goals as goal
+use Rattle.pg_interval_tests.proofs.normal_form_tests.IntervalNormCompared.is_equal.Goals as goal
 
 both : (p q : Bool) → (p && q) ≡ true → (p ≡ true) × (q ≡ true)
 both true q e = (refl, e)
@@ -43,6 +43,6 @@ reflexive a = joined _ _ (itself a.years) (joined _ _ (itself a.months) (joined 
 
 pub returns : goal.returns
 returns c = (
-  λ t. equal c.args.a.now c.args.b.now (sym c.eq.ensures ∙ t),
-  λ e. c.eq.ensures ∙ subst (λ x. compared c.args.a.now x ≡ true) e (reflexive c.args.a.now),
+  λ t. equal c.args.self.now c.args.other.now (sym c.eq.ensures ∙ t),
+  λ e. c.eq.ensures ∙ subst (λ x. compared c.args.self.now x ≡ true) e (reflexive c.args.self.now),
 )
