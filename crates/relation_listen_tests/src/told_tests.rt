@@ -117,9 +117,10 @@ impl KeySource for OneKey {
     }
 }
 
-/// How many connections wait, and how many turns each has.
+/// How many connections wait.
 const CONNECTIONS: u64 = 3;
 
+/// How many turns each has.
 const TURNS: u64 = 5;
 
 /// Connections wait, with numbers from 1 on.
@@ -152,15 +153,18 @@ fn take_in<R: Wait>(
         started: 0,
         faults: 0,
     };
+    let mut keys = OneKey { alloc };
     let table = RelationTable::try_new(alloc, PgList::new(alloc)).ok()?;
+    let relations = Arc::new(alloc, table).ok()?;
+    let manager = Arc::try_clone(&registry.manager).ok()?;
     let taken = listen(
         rt,
         &mut waiting,
         &mut keeping,
-        &mut OneKey { alloc },
-        Arc::try_clone(&registry.manager).ok()?,
+        &mut keys,
+        manager,
         &mut registry.door,
-        Arc::new(alloc, table).ok()?,
+        relations,
         TURNS,
         count,
     );
