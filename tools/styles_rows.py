@@ -68,9 +68,14 @@ def describe(target):
     return frame("D", target.encode() + string(""))
 
 
+def startup():
+    """The packet of a client of 3.0."""
+    packet = struct.pack(">i", 196608) + string("user") + string("demo") + b"\0"
+    return struct.pack(">i", len(packet) + 4) + packet
+
+
 def client():
-    startup = struct.pack(">i", 196608) + string("user") + string("demo") + b"\0"
-    yield struct.pack(">i", len(startup) + 4) + startup
+    yield startup()
     for query in SIMPLE:
         yield frame("Q", string(query))
     execute, sync = frame("E", string("") + struct.pack(">i", 0)), frame("S")
@@ -161,12 +166,17 @@ def given(formats, data):
         return error.args[0]
 
 
-def replies():
-    ready, parsed, bound = frame("Z", b"I"), frame("1"), frame("2")
+def greeted():
+    """What the packet of a client of 3.0 is answered."""
     yield frame("R", struct.pack(">i", 0))
     for name, told in [("server_version", "16.0"), ("server_encoding", "UTF8"), ("client_encoding", "UTF8"), ("integer_datetimes", "on")]:
         yield frame("S", string(name) + string(told))
-    yield frame("K", struct.pack(">i", PID) + KEY) + ready
+    yield frame("K", struct.pack(">i", PID) + KEY) + frame("Z", b"I")
+
+
+def replies():
+    ready, parsed, bound = frame("Z", b"I"), frame("1"), frame("2")
+    yield from greeted()
     for query in SIMPLE:
         yield simple(query) + ready
     for formats, data in PARAMETERS:

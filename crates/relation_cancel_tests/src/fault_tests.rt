@@ -2,13 +2,11 @@
 
 ghost use Rattle.std.specs.Prelude.{◌≡◌};
 
-use crate::clients::{Registry, STARTUP, is_at_its_end, reads, sends};
-use crate::relations::endless_table;
-use crate::socket_tests::{bound, threads_of};
-use pg_serve::{Listening, MaybeTls, RandomKeys, SocketAcceptor};
-use relation_server::{
-    ConnectionJob, JobThreads, ListenError, StartJob, ThreadSpawner, Tries, listen,
-};
+use crate::clients::{STARTUP, is_at_its_end, reads, sends};
+use crate::socket_tests::{bound, taken_in, threads_of};
+use pg_serve::MaybeTls;
+use relation_server::{ConnectionJob, JobThreads, ListenError, StartJob, ThreadSpawner, Tries};
+use sample_registry::Registry;
 use std::alloc::Global;
 use std::net::{Net, SocketAddr, TcpListener, TcpStream};
 use std::random::RandomSource;
@@ -59,51 +57,9 @@ fn start_first<R: Threads + Wait + Clock + Copy + Send + 'static>(
     threads.start(rt, job)
 }
 
-/// Whether a server of three connections stops with SpawnFault.
-fn is_stopped<R: Wait + Clock + RandomSource + Copy + Drop>(
-    rt: R,
-    registry: &mut Registry,
-    acceptor: &mut SocketAcceptor<Listening, R>,
-    spawner: &mut ThreadSpawner<JobThreads>,
-) -> Option<bool>
-    requires accepted { acceptor.old.accepted ≡ 0 }
-    requires started { spawner.old.started ≡ 0 }
-{
-    let table = endless_table(registry.alloc).ok()?;
-    let (manager, relations) = registry.shared(table)?;
-    let mut keys = RandomKeys::new(registry.alloc, rt);
-    let answer = listen(
-        &rt,
-        acceptor,
-        spawner,
-        &mut keys,
-        manager,
-        &mut registry.door,
-        relations,
-        1000,
-        Some(3),
-    );
-    Some(answer == Err(ListenError::SpawnFault))
-}
-
-/// Whether it stops so, and its one job runs to its end. Then the job has ended its registration,
-/// and that of the connection without a job stays.
-fn is_left_so<R: Wait + Clock + RandomSource + Copy + Drop>(
-    rt: R,
-    alloc: Global,
-    listener: TcpListener,
-    spawner: &mut ThreadSpawner<JobThreads>,
-) -> Option<bool>
-    requires started { spawner.old.started ≡ 0 }
-{
-    let mut registry = Registry::new(alloc)?;
-    let mut acceptor = SocketAcceptor::new(Listening::Tcp(listener), rt);
-    let is_stopped = is_stopped(rt, &mut registry, &mut acceptor, spawner)?;
-    spawner.threads.finish(&rt);
-    Some(is_stopped && registry.is_free(&rt, 1) && !registry.is_free(&rt, 2))
-}
-
-/// Whether all of that is so, with the clients on a thread of their own.
+/// Whether a server of three connections stops with SpawnFault at the second, while the first client
+/// is served on. Behind that client's end its registration has ended, and that of the connection
+/// without a job stays.
 fn is_kept_beside<
     R: Threads
         + Wait
@@ -114,15 +70,17 @@ fn is_kept_beside<
         + Drop
         + Send
         + 'static,
->(rt: R, alloc: Global, threads: JobThreads, start: StartJob) -> Option<bool>
-    requires ready { IsAlwaysCallable start }
+>(rt: R, alloc: Global, spawner: &mut ThreadSpawner<JobThreads>) -> Option<bool>
+    requires started { spawner.old.started ≡ 0 }
 {
     let (listener, server) = bound(&rt)?;
     let clients = thread::spawn(&rt, move || is_kept(&rt, server)).ok()?;
-    let mut spawner = ThreadSpawner::new(threads, start);
-    let is_left_so = is_left_so(rt, alloc, listener, &mut spawner);
-    let is_kept = clients.join(&rt);
-    Some(is_left_so == Some(true) && is_kept == Some(true))
+    let mut registry = Registry::new(alloc)?;
+    let answer = taken_in(rt, &mut registry, listener, spawner, 3);
+    spawner.threads.finish(&rt);
+    let is_kept = clients.join(&rt) == Some(true);
+    let is_stopped = answer == Some(Err(ListenError::SpawnFault));
+    Some(is_stopped && is_kept && registry.is_free(&rt, 1) && !registry.is_free(&rt, 2))
 }
 
 /// Where the job of a connection can't be started, the jobs that run are served to their ends.
@@ -133,6 +91,7 @@ fn a_client_is_served_behind_a_spawn_fault(rt: HostRuntime) -> Result<(), Fail> 
     let start: StartJob = Box::new(rt.alloc(), move |job| {
         start_first(rt, &theirs, &has_started, job)
     })?;
-    assert!(rt; is_kept_beside(rt, rt.alloc(), threads, start) == Some(true));
+    let mut spawner = ThreadSpawner::new(threads, start);
+    assert!(rt; is_kept_beside(rt, rt.alloc(), &mut spawner) == Some(true));
     Ok(())
 }

@@ -5,7 +5,9 @@ ghost use Rattle.std.specs.Prelude.{◌≡◌};
 use crate::clients::{CANCELED, STARTUP, STARTUP_3_2, is_at_its_end, reads, sends, shared_over};
 use crate::relations::endless_table;
 use pg_serve::{Listening, RandomKeys, SocketAcceptor};
-use relation_server::{JobThreads, StartJob, ThreadSpawner, jobs_cross_threads, listen};
+use relation_server::{
+    JobThreads, ListenError, StartJob, ThreadSpawner, jobs_cross_threads, listen,
+};
 use sample_registry::Registry;
 use std::alloc::{AllocError, Global};
 use std::io::Read;
@@ -139,14 +141,15 @@ fn are_canceled<R: Net<Stream = TcpStream> + Clock>(rt: &R, server: SocketAddr) 
     is_one_canceled(rt, server, true) && is_canceled
 }
 
-/// Whether all connections to a listener are taken in, over a relation whose query finds as many
-/// polls unready as there can be.
-fn are_taken_in<R: Wait + Clock + RandomSource + Copy + Drop>(
+/// What comes of taking in so many connections to a listener, over a relation whose query finds as
+/// many polls unready as there can be.
+pub(crate) fn taken_in<R: Wait + Clock + RandomSource + Copy + Drop>(
     rt: R,
     registry: &mut Registry,
     listener: TcpListener,
     spawner: &mut ThreadSpawner<JobThreads>,
-) -> Option<bool>
+    count: u64,
+) -> Option<Result<u64, ListenError>>
     requires started { spawner.old.started ≡ 0 }
 {
     let table = endless_table(registry.alloc).ok()?;
@@ -161,9 +164,9 @@ fn are_taken_in<R: Wait + Clock + RandomSource + Copy + Drop>(
         &mut registry.door,
         relations,
         500_000_000,
-        Some(CONNECTIONS),
+        Some(count),
     );
-    Some(answer == Ok(CONNECTIONS))
+    Some(answer)
 }
 
 /// Whether the pids of both clients and the last are free.
@@ -175,26 +178,6 @@ fn are_free<R: Wait>(rt: &R, registry: &mut Registry) -> bool {
     are_so
 }
 
-/// The same at a new registry; and the jobs run to their ends, and then have ended their
-/// registrations.
-fn are_served<R: Wait + Clock + RandomSource + Copy + Drop>(
-    rt: R,
-    alloc: Global,
-    listener: TcpListener,
-    spawner: &mut ThreadSpawner<JobThreads>,
-) -> bool
-    requires started { spawner.old.started ≡ 0 }
-{
-    match Registry::new(alloc) {
-        Some(mut registry) => {
-            let are_taken_in = are_taken_in(rt, &mut registry, listener, spawner);
-            spawner.threads.finish(&rt);
-            are_taken_in == Some(true) && are_free(&rt, &mut registry)
-        }
-        None => false,
-    }
-}
-
 /// A listener at a free port, and its address.
 pub(crate) fn bound<R: Net<Stream = TcpStream, Listener = TcpListener>>(
     rt: &R,
@@ -204,7 +187,8 @@ pub(crate) fn bound<R: Net<Stream = TcpStream, Listener = TcpListener>>(
     Some((listener, server))
 }
 
-/// Whether all connections are served while another thread cancels the queries of two clients.
+/// Whether all connections are taken in while another thread cancels the queries of two clients; and
+/// the jobs run to their ends, and then have ended their registrations.
 fn are_served_beside<
     R: Threads
         + Wait
@@ -220,8 +204,11 @@ fn are_served_beside<
 {
     let (listener, server) = bound(&rt)?;
     let client = thread::spawn(&rt, move || are_canceled(&rt, server)).ok()?;
-    let are_served = are_served(rt, alloc, listener, spawner);
-    Some(client.join(&rt) && are_served)
+    let mut registry = Registry::new(alloc)?;
+    let answer = taken_in(rt, &mut registry, listener, spawner, CONNECTIONS);
+    spawner.threads.finish(&rt);
+    let are_canceled = client.join(&rt);
+    Some(are_canceled && answer == Some(Ok(CONNECTIONS)) && are_free(&rt, &mut registry))
 }
 
 /// The same where jobs are started in this way.

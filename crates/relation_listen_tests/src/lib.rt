@@ -6,3 +6,5 @@
 mod listening_tests;
 #[cfg(test)]
 mod spawner_tests;
+#[cfg(test)]
+mod told_tests;
